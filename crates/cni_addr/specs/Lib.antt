@@ -1,0 +1,4 @@
+pub mod Codes
+pub mod Equal
+pub mod TextLaws
+pub mod Value

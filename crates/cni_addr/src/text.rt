@@ -1,0 +1,85 @@
+//! Texts, seen as the lists of their bytes.
+
+ghost use Rattle.std.specs.Prelude.{◌≡◌, IfOk};
+
+use crate::memory::{Duplicate, NoMemory};
+use std::alloc::Global;
+use std::hash::{Hash, Hasher};
+use std::marker::Model;
+use std::sync::ArcStr;
+
+/// A text in UTF-8. Contracts see it as the list of its bytes.
+///
+/// It is one pointer to bytes that its copies share, since the history of a run holds millions of texts.
+#[derive(Drop)]
+pub struct Text {
+    text: ArcStr,
+}
+
+impl Model for Text {
+    ghost use Rattle.std.specs.Prelude.{List, ℕ};
+    ghost use Rattle.std.specs.Arc.{arc_str_bytes};
+
+    ghost Value = { List ℕ };
+
+    ghost view = { λ t. arc_str_bytes t.text };
+}
+
+impl Text {
+    /// The text, in memory of its own.
+    pub fn of(alloc: Global, text: &str) -> Result<Text, NoMemory>
+        ensures { IfOk result (λ t. t ≡ text.now) }
+    {
+        Ok(Text {
+            text: ArcStr::from_str(alloc, text)?,
+        })
+    }
+
+    /// The text as it is read. Takes no memory.
+    pub fn as_str(&self) -> &str
+        ensures { result.now ≡ self.now }
+    {
+        self.text.as_str()
+    }
+}
+
+impl Duplicate for Text {
+    fn copy(&self) -> Result<Text, NoMemory> {
+        Ok(Text {
+            text: self.text.clone()?,
+        })
+    }
+}
+
+impl PartialEq for Text {
+    ghost use Rattle.std.specs.Str.{bytes_eq};
+    ghost use Rattle.std.specs.Cmp.{partial_equiv_from_equiv};
+    ghost use Rattle.std.specs.Cmp.Lexicographic.{nat_list_eq_equiv};
+
+    ghost eq = { bytes_eq };
+
+    ghost laws = { partial_equiv_from_equiv nat_list_eq_equiv };
+
+    fn eq(&self, other: &Text) -> bool {
+        self.as_str() == other.as_str()
+    }
+}
+
+impl Eq for Text {
+    ghost use Rattle.std.specs.Cmp.Lexicographic.{nat_list_eq_equiv};
+
+    ghost laws = { nat_list_eq_equiv };
+}
+
+impl Hash for Text {
+    ghost use Rattle.cni_addr.specs.TextLaws.{one_write, write-respects_eq};
+
+    ghost hash_input = { one_write };
+
+    ghost respects_eq = { write-respects_eq };
+
+    // One write of all bytes: std's derived way feeds a hasher byte by byte.
+    fn hash<H: Hasher>(&self, state: &mut H) {
+        state.write(self.as_str().as_bytes());
+    }
+}
