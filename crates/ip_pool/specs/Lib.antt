@@ -1,0 +1,2 @@
+pub mod NextAddress
+pub mod Pool

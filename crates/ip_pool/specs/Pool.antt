@@ -1,0 +1,49 @@
+-- The candidates of a range set, and the one that is leased next (the `host-local` plugin, `ranges`).
+use Rattle.std.specs.Prelude.{ℕ, zero, suc, ◌+◌, ◌-◌, Bool, true, not, ◌&&◌, ◌||◌, nat_lt, List, [], ◌∷◌, ◌++◌, filter, find, take, Option, Some, None}
+use Rattle.std.specs.List.{list_any, list_all, flat_map, after_first, position_or_len}
+use Rattle.cni_addr.specs.declared.address.Family.{Family}
+use Rattle.cni_addr.specs.declared.address.Addr.{Addr}
+use Rattle.cni_addr.specs.declared.range.Range.{Range}
+use Rattle.cni_addr.specs.declared.range.RangeSet.{RangeSet}
+use Rattle.cni_addr.specs.Codes.{family_eq}
+use Rattle.cni_addr.specs.Equal.{addr_eq}
+
+-- so many addresses from this one on
+abbrev pub run_of : Family → ℕ → ℕ → List Addr
+run_of family bits zero = []
+run_of family bits (suc n) = record { family = family; bits = bits } ∷ run_of family (bits + 1) n
+
+-- the addresses from the range's start to its end, without its gateway
+abbrev pub candidates_in : Range → List Addr
+candidates_in r = filter (λ a. not (addr_eq a r.gateway)) (run_of r.start.family r.start.bits (r.end.bits + 1 - r.start.bits))
+
+-- the ranges' candidates, range by range
+abbrev pub candidates_of : RangeSet → List Addr
+candidates_of set = flat_map candidates_in set.ranges
+
+-- the order in which addresses are tried: those after the last one, then those up to it
+abbrev pub after_last_first : Option Addr → List Addr → List Addr
+after_last_first None addrs = addrs
+after_last_first (Some last) addrs = after_first (addr_eq last) addrs ++ take (position_or_len (addr_eq last) addrs + 1) addrs
+
+abbrev pub is_free : List Addr → Addr → Bool
+is_free taken addr = not (list_any (λ a. addr_eq a addr) taken)
+
+-- the first candidate that is free, tried from the last one on
+abbrev pub pick_of : RangeSet → Option Addr → List Addr → Option Addr
+pick_of set last taken = find (is_free taken) (after_last_first last (candidates_of set))
+
+-- some candidate is free
+abbrev pub has_free_of : RangeSet → List Addr → Bool
+has_free_of set taken = list_any (is_free taken) (candidates_of set)
+
+-- ---- which sets are well formed
+
+-- no address is between start and end of both
+abbrev pub is_apart : Range → Range → Bool
+is_apart r s = not (family_eq r.start.family s.start.family) || (nat_lt r.end.bits s.start.bits || nat_lt s.end.bits r.start.bits)
+
+-- no two ranges share an address
+abbrev pub are_apart : List Range → Bool
+are_apart [] = true
+are_apart (r ∷ rs) = list_all (is_apart r) rs && are_apart rs
