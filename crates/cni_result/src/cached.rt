@@ -1,0 +1,66 @@
+//! What the runtime keeps of an attachment for DEL, CHECK and GC (CNI specification 1.1.0, section 3, "Cached results").
+
+use crate::result::AddResult;
+use cni_addr::{Addr, Duplicate, Items, NoMemory, Text};
+
+/// A transport protocol of a published port.
+#[derive(Clone, Copy, Debug)]
+pub enum Proto {
+    Tcp,
+    Udp,
+    Sctp,
+}
+
+impl PartialEq for Proto {
+    ghost use Rattle.std.specs.Cmp.{partial_equiv_from_equiv, on_equiv, nat_eq_equiv};
+    ghost use Rattle.cni_result.specs.Codes.{proto_eq, proto_code};
+
+    ghost eq = { proto_eq };
+
+    ghost laws = { partial_equiv_from_equiv (on_equiv proto_code nat_eq_equiv) };
+
+    fn eq(&self, other: &Proto) -> bool {
+        *self as u8 == *other as u8
+    }
+}
+
+impl Eq for Proto {
+    ghost use Rattle.std.specs.Cmp.{on_equiv, nat_eq_equiv};
+    ghost use Rattle.cni_result.specs.Codes.{proto_code};
+
+    ghost laws = { on_equiv proto_code nat_eq_equiv };
+}
+
+/// A port of the host that is published to a port of the container (the `portMappings` capability). Without
+/// `host_ip` every address of the host is meant.
+#[derive(Clone, Copy, PartialEq, Eq)]
+pub struct PortMapping {
+    pub host_port: u16,
+    pub container_port: u16,
+    pub protocol: Proto,
+    pub host_ip: Option<Addr>,
+}
+
+impl Duplicate for PortMapping {
+    fn copy(&self) -> Result<PortMapping, NoMemory> {
+        Ok(*self)
+    }
+}
+
+/// A cached entry: the namespace and the mappings that the ADD was given, and its result.
+#[derive(PartialEq, Eq, Drop)]
+pub struct Cached {
+    pub netns: Text,
+    pub mappings: Items<PortMapping>,
+    pub result: AddResult,
+}
+
+impl Duplicate for Cached {
+    fn copy(&self) -> Result<Cached, NoMemory> {
+        Ok(Cached {
+            netns: self.netns.copy()?,
+            mappings: self.mappings.copy()?,
+            result: self.result.copy()?,
+        })
+    }
+}
