@@ -1,0 +1,319 @@
+-- One equation a call: the host after it and the reply, on whole lists.
+use Rattle.std.specs.Prelude.{ℕ, Bool, true, false, not, ◌&&◌, ◌||◌, ◌==◌, List, [], ◌∷◌, ◌++◌, map, filter, find, Option, Some, None, unwrap_or, if◌then◌else◌, codes}
+use Rattle.std.specs.List.{list_any, filter_map}
+use Rattle.std.specs.Option.{option_map, option_or}
+use Rattle.std.specs.Str.{bytes_eq}
+use Rattle.cni_addr.specs.declared.address.Addr.{Addr}
+use Rattle.cni_addr.specs.declared.address.Cidr.{Cidr}
+use Rattle.cni_addr.specs.declared.address.Family.{Family}
+use Rattle.cni_addr.specs.declared.address.Family.TheVariants.{V4, V6}
+use Rattle.cni_addr.specs.declared.mac.Mac.{Mac}
+use Rattle.cni_addr.specs.declared.range.RangeSet.{RangeSet}
+use Rattle.cni_result.specs.declared.cached.Cached.{Cached}
+use Rattle.kernel_types.specs.Equal.{att_eq, addr_eq, cidr_eq, mac_eq, link_eq, addr_obj_eq, route_eq, rule_eq, setting_eq, lease_eq, table_eq}
+use Rattle.kernel_types.specs.Lists.{without_first, firsts}
+use Rattle.ip_pool.specs.Pool.{pick_of, has_free_of}
+use Rattle.kernel_types.specs.Names.{link_mac_of}
+use Rattle.kernel_types.specs.Words.{is_host_ns, is_host_or_ns, is_own, is_owned, is_bridge, is_at, is_peer_at, has_named_ns, link_at, is_host_link, is_host_bridge, has_host_bridge, has_objects, is_link_of}
+use Rattle.kernel_types.specs.declared.object.Att.{Att}
+use Rattle.kernel_types.specs.declared.object.LinkKey.{LinkKey}
+use Rattle.kernel_types.specs.declared.object.Tag.{Tag}
+use Rattle.kernel_types.specs.declared.object.Tag.TheVariants.{Outside, Base, Own}
+use Rattle.kernel_types.specs.declared.object.LinkKind.TheVariants.{Bridge}
+use Rattle.kernel_types.specs.declared.object.Table.{Table}
+use Rattle.kernel_types.specs.declared.object.Link.{Link}
+use Rattle.kernel_types.specs.declared.object.AddrObj.{AddrObj}
+use Rattle.kernel_types.specs.declared.object.RouteObj.{RouteObj}
+use Rattle.kernel_types.specs.declared.object.Rule.{Rule}
+use Rattle.kernel_types.specs.declared.object.Setting.{Setting}
+use Rattle.kernel_types.specs.declared.object.Last.{Last}
+use Rattle.kernel_types.specs.declared.object.Host.{Host}
+use Rattle.kernel_types.specs.declared.call.Kind.{Kind}
+use Rattle.kernel_types.specs.declared.call.Kind.TheVariants as kinds
+use Rattle.kernel_types.specs.declared.call.Object.TheVariants as objects
+use Rattle.kernel_types.specs.declared.call.Probe.{Probe}
+use Rattle.kernel_types.specs.declared.call.Probe.TheVariants.{Whole, BridgeAt, Master}
+use Rattle.kernel_types.specs.declared.call.Reply.{Reply}
+use Rattle.kernel_types.specs.declared.call.Reply.TheVariants.{Done, NoNs, NoLink, Taken, Empty, Leased, Gone, Has, Owners, Entry}
+
+-- the tag of what stands in the way, if anything does; else the host goes on to the next
+abbrev pub append_unless_taken : Option Tag → Host → Host → Host × Reply
+append_unless_taken None host next = (next, Done)
+append_unless_taken (Some tag) host next = (host, Taken tag)
+
+-- ---- before an attachment
+
+abbrev pub begin_of : Host → Att → List ℕ → Host × Reply
+begin_of host att netns =
+    (host, if is_host_or_ns host.namespaces netns then (if has_objects host att then Taken (Own att) else Done) else NoNs)
+
+-- ---- what the attachments of a host share
+
+abbrev pub new_bridge : List ℕ → ℕ → Bool → Link
+new_bridge name mtu promisc = record {
+  ns = [];
+  name = name;
+  kind = Bridge;
+  master = None;
+  peer = None;
+  mac = link_mac_of name;
+  mtu = mtu;
+  hairpin = false;
+  promisc = promisc;
+  allmulti = false;
+  tx_qlen = 1000;
+  tag = Base;
+}
+
+abbrev pub bridge_or_new : Host → Option Link → Link → Host × Reply
+bridge_or_new host (Some link) bridge = (host, if is_bridge link.kind then Done else Taken link.tag)
+bridge_or_new host None bridge = (record host { links = host.links ++ bridge ∷ [] }, Done)
+
+abbrev pub bridge_ensure_of : Host → List ℕ → ℕ → Bool → Host × Reply
+bridge_ensure_of host name mtu promisc = bridge_or_new host (find (is_host_link name) host.links) (new_bridge name mtu promisc)
+
+abbrev pub gateway_ensure_of : Host → List ℕ → Cidr → Host × Reply
+gateway_ensure_of host bridge cidr =
+    if has_host_bridge host bridge
+    then (if list_any (λ a. is_host_ns a.ns && bytes_eq a.link bridge && addr_eq a.cidr.addr cidr.addr) host.addresses
+    then (host, Done)
+    else (record host { addresses = host.addresses ++ record { ns = []; link = bridge; cidr = cidr; tag = Base } ∷ [] }, Done))
+    else (host, NoLink)
+
+-- the switch that lets the host forward between its links (Linux `ip-sysctl`)
+abbrev pub forward_key : Family → List ℕ
+forward_key V4 = codes "net.ipv4.ip_forward"
+forward_key V6 = codes "net.ipv6.conf.all.forwarding"
+
+abbrev pub forward_ensure_of : Host → Family → Host × Reply
+forward_ensure_of host family =
+    if list_any (λ s. is_host_ns s.ns && bytes_eq s.key (forward_key family)) host.settings
+    then (host, Done)
+    else (record host { settings = host.settings ++ record { ns = []; key = forward_key family; value = codes "1"; tag = Base } ∷ [] }, Done)
+
+-- ---- the objects of one attachment
+
+-- the link's master, if it has one, is a bridge of the host
+abbrev pub has_bridge_as_master : Host → Option (List ℕ) → Bool
+has_bridge_as_master host None = true
+has_bridge_as_master host (Some master) = has_host_bridge host master
+
+abbrev pub veth_add_of : Host → Link → Link → Host × Reply
+veth_add_of host host_end inner_end =
+    if has_named_ns host inner_end.ns
+    then (if has_bridge_as_master host host_end.master
+    then append_unless_taken
+    (option_map (λ l. l.tag) (option_or (link_at host inner_end.ns inner_end.name) (link_at host host_end.ns host_end.name)))
+    host (record host { links = host.links ++ host_end ∷ inner_end ∷ [] })
+    else (host, NoLink))
+    else (host, NoNs)
+
+-- a link of the host of this name that no attachment owns
+abbrev pub is_free_master : List ℕ → Link → Bool
+is_free_master name link = is_host_link name link && not (is_owned link.tag)
+
+abbrev pub has_master : Host → Option (List ℕ) → Bool
+has_master host None = false
+has_master host (Some name) = list_any (is_free_master name) host.links
+
+abbrev pub macvlan_add_of : Host → Link → Host × Reply
+macvlan_add_of host link =
+    if has_named_ns host link.ns
+    then (if has_master host link.master
+    then append_unless_taken (option_map (λ l. l.tag) (link_at host link.ns link.name)) host (record host { links = host.links ++ link ∷ [] })
+    else (host, NoLink))
+    else (host, NoNs)
+
+abbrev pub with_values : Option Mac → Option ℕ → Option ℕ → Bool → Bool → Link → Link
+with_values mac mtu tx_qlen promisc allmulti link = record link {
+  mac = unwrap_or mac link.mac;
+  mtu = unwrap_or mtu link.mtu;
+  tx_qlen = unwrap_or tx_qlen link.tx_qlen;
+  promisc = promisc || link.promisc;
+  allmulti = allmulti || link.allmulti;
+}
+
+abbrev pub is_own_at : Att → LinkKey → Link → Bool
+is_own_at att key link = is_at key.ns key.name link && is_own att link.tag
+
+-- the attachment's link at that place gets the values
+abbrev pub set_link : Att → LinkKey → Option Mac → Option ℕ → Option ℕ → Bool → Bool → Link → Link
+set_link att key mac mtu tx_qlen promisc allmulti link = if is_own_at att key link then with_values mac mtu tx_qlen promisc allmulti link else link
+
+abbrev pub link_set_of : Host → Att → LinkKey → Option Mac → Option ℕ → Option ℕ → Bool → Bool → Host × Reply
+link_set_of host att key mac mtu tx_qlen promisc allmulti =
+    if list_any (is_own_at att key) host.links
+    then (record host { links = map (set_link att key mac mtu tx_qlen promisc allmulti) host.links }, Done)
+    else (host, NoLink)
+
+-- a link of this tag is there to lie on
+abbrev pub has_link_of : Host → List ℕ → List ℕ → Tag → Bool
+has_link_of host ns name tag = list_any (is_link_of ns name tag) host.links
+
+abbrev pub is_same_addr : AddrObj → AddrObj → Bool
+is_same_addr new a = bytes_eq a.ns new.ns && bytes_eq a.link new.link && addr_eq a.cidr.addr new.cidr.addr
+
+abbrev pub addr_add_of : Host → AddrObj → Host × Reply
+addr_add_of host obj =
+    if has_link_of host obj.ns obj.link obj.tag
+    then append_unless_taken (option_map (λ a. a.tag) (find (is_same_addr obj) host.addresses)) host (record host { addresses = host.addresses ++ obj ∷ [] })
+    else (host, NoLink)
+
+abbrev pub is_same_route : RouteObj → RouteObj → Bool
+is_same_route new r = bytes_eq r.ns new.ns && cidr_eq r.dst new.dst && bytes_eq r.link new.link
+
+abbrev pub route_add_of : Host → RouteObj → Host × Reply
+route_add_of host obj =
+    if has_link_of host obj.ns obj.link obj.tag
+    then append_unless_taken (option_map (λ r. r.tag) (find (is_same_route obj) host.routes)) host (record host { routes = host.routes ++ obj ∷ [] })
+    else (host, NoLink)
+
+abbrev pub rule_append_of : Host → Rule → Host × Reply
+rule_append_of host rule =
+    if list_any (λ r. rule_eq r rule) host.rules then (host, Taken rule.tag) else (record host { rules = host.rules ++ rule ∷ [] }, Done)
+
+abbrev pub is_same_setting : Setting → Setting → Bool
+is_same_setting new s = bytes_eq s.ns new.ns && bytes_eq s.key new.key
+
+abbrev pub setting_set_of : Host → Setting → Host × Reply
+setting_set_of host setting =
+    if has_named_ns host setting.ns
+    then append_unless_taken (option_map (λ s. s.tag) (find (is_same_setting setting) host.settings)) host (record host { settings = host.settings ++ setting ∷ [] })
+    else (host, NoNs)
+
+-- ---- addresses of a pool
+
+abbrev pub leased_addresses : Host → List ℕ → List Addr
+leased_addresses host network = map (λ l. l.addr) (filter (λ l. bytes_eq l.network network) host.leases)
+
+abbrev pub is_of_pool : List ℕ → ℕ → Last → Bool
+is_of_pool network number last = bytes_eq last.network network && last.set == number
+
+abbrev pub last_leased : Host → List ℕ → ℕ → Option Addr
+last_leased host network number = option_map (λ l. l.addr) (find (is_of_pool network number) host.lasts)
+
+abbrev pub moved_last : List ℕ → ℕ → Addr → Last → Last
+moved_last network number addr last = if is_of_pool network number last then record last { addr = addr } else last
+
+-- the last of that pool, in its place where there was one
+abbrev pub with_last : Host → List ℕ → ℕ → Addr → Host
+with_last host network number addr =
+    if list_any (is_of_pool network number) host.lasts
+    then record host { lasts = map (moved_last network number addr) host.lasts }
+    else record host { lasts = host.lasts ++ record { network = network; set = number; addr = addr } ∷ [] }
+
+abbrev pub lease_taken : Host → Att → ℕ → Option Addr → Host × Reply
+lease_taken host att number None = (host, Empty)
+lease_taken host att number (Some addr) =
+    (with_last (record host { leases = host.leases ++ record { network = att.network; addr = addr; tag = Own att } ∷ [] }) att.network number addr, Leased addr)
+
+abbrev pub lease_next_of : Host → Att → ℕ → RangeSet → Host × Reply
+lease_next_of host att number set =
+    lease_taken host att number (pick_of set (last_leased host att.network number) (leased_addresses host att.network))
+
+abbrev pub pool_free_of : Host → List ℕ → RangeSet → Host × Reply
+pool_free_of host network set = (host, Has (has_free_of set (leased_addresses host network)))
+
+-- ---- kept results
+
+abbrev pub cache_put_of : Host → Att → Cached → Host × Reply
+cache_put_of host att cached =
+    if list_any (λ c. is_own att c.tag) host.cached
+    then (host, Taken (Own att))
+    else (record host { cached = host.cached ++ record { cached = cached; tag = Own att } ∷ [] }, Done)
+
+abbrev pub cache_get_of : Host → Att → Host × Reply
+cache_get_of host att = (host, Entry (option_map (λ c. c.cached) (find (λ c. is_own att c.tag) host.cached)))
+
+-- ---- deletions
+
+-- the links that go with a place: the one there, and the one whose peer is there
+abbrev pub goes_with : List ℕ → List ℕ → Link → Bool
+goes_with ns name link = is_at ns name link || is_peer_at ns name link.peer
+
+-- the host without these links, and without the addresses and routes on them
+abbrev pub without_links : (Link → Bool) → Host → Host
+without_links gone host = record host {
+  links = filter (λ l. not (gone l)) host.links;
+  addresses = filter (λ a. not (list_any (λ l. gone l && is_at a.ns a.link l) host.links)) host.addresses;
+  routes = filter (λ r. not (list_any (λ l. gone l && is_at r.ns r.link l) host.links)) host.routes;
+}
+
+abbrev pub without_link : Host → Option Link → Host × Reply
+without_link host None = (host, Gone false)
+without_link host (Some link) = (without_links (goes_with link.ns link.name) host, Gone true)
+
+abbrev pub link_del_of : Host → Att → Host × Reply
+link_del_of host att = without_link host (find (λ l. is_own att l.tag) host.links)
+
+abbrev pub rule_del_of : Host → Att → Host × Reply
+rule_del_of host att = (record host { rules = without_first (λ r. is_own att r.tag) host.rules }, Gone (list_any (λ r. is_own att r.tag) host.rules))
+
+abbrev pub setting_del_of : Host → Att → Host × Reply
+setting_del_of host att = (record host { settings = without_first (λ s. is_own att s.tag) host.settings }, Gone (list_any (λ s. is_own att s.tag) host.settings))
+
+abbrev pub lease_del_of : Host → Att → Host × Reply
+lease_del_of host att = (record host { leases = without_first (λ l. is_own att l.tag) host.leases }, Gone (list_any (λ l. is_own att l.tag) host.leases))
+
+abbrev pub cache_del_of : Host → Att → Host × Reply
+cache_del_of host att = (record host { cached = without_first (λ c. is_own att c.tag) host.cached }, Gone (list_any (λ c. is_own att c.tag) host.cached))
+
+-- ---- questions
+
+abbrev pub has_object : Host → Probe → Bool
+has_object host (Whole (objects.Link link)) = list_any (λ l. link_eq l link) host.links
+has_object host (Whole (objects.Address addr)) = list_any (λ a. addr_obj_eq a addr) host.addresses
+has_object host (Whole (objects.Route route)) = list_any (λ r. route_eq r route) host.routes
+has_object host (Whole (objects.Rule rule)) = list_any (λ r. rule_eq r rule) host.rules
+has_object host (Whole (objects.Setting setting)) = list_any (λ s. setting_eq s setting) host.settings
+has_object host (Whole (objects.Lease lease)) = list_any (λ l. lease_eq l lease) host.leases
+has_object host (BridgeAt name mac) = list_any (λ l. is_host_bridge name l && mac_eq l.mac mac) host.links
+has_object host (Master name) = list_any (is_free_master name) host.links
+
+abbrev pub has_obj_of : Host → Probe → Host × Reply
+has_obj_of host probe = (host, Has (has_object host probe))
+
+abbrev pub tags_of : Host → Kind → List Tag
+tags_of host kinds.Links = map (λ l. l.tag) host.links
+tags_of host kinds.Rules = map (λ r. r.tag) host.rules
+tags_of host kinds.Settings = map (λ s. s.tag) host.settings
+tags_of host kinds.Leases = map (λ l. l.tag) host.leases
+tags_of host kinds.Cached = map (λ c. c.tag) host.cached
+
+-- the attachment of this network that the tag names
+abbrev pub owner_in : List ℕ → Tag → Option Att
+owner_in network Outside = None
+owner_in network Base = None
+owner_in network (Own att) = if bytes_eq att.network network then Some att else None
+
+abbrev pub owners_of : Host → List ℕ → Kind → Host × Reply
+owners_of host network kind = (host, Owners (firsts att_eq (filter_map (owner_in network) (tags_of host kind))))
+
+-- ---- what the world outside does
+
+abbrev pub ns_add_of : Host → List ℕ → Host × Reply
+ns_add_of host name =
+    if has_named_ns host name then (host, Taken Outside) else (record host { namespaces = host.namespaces ++ record { name = name; tag = Outside } ∷ [] }, Done)
+
+-- the links of a namespace, and their peers
+abbrev pub has_peer_in : List ℕ → Option LinkKey → Bool
+has_peer_in name None = false
+has_peer_in name (Some key) = bytes_eq key.ns name
+
+abbrev pub goes_with_ns : List ℕ → Link → Bool
+goes_with_ns name link = bytes_eq link.ns name || has_peer_in name link.peer
+
+abbrev pub without_ns : List ℕ → Host → Host
+without_ns name host = record host {
+  namespaces = filter (λ n. not (bytes_eq n.name name)) host.namespaces;
+  settings = filter (λ s. not (bytes_eq s.ns name)) host.settings;
+}
+
+abbrev pub ns_del_of : Host → List ℕ → Host × Reply
+ns_del_of host name = if has_named_ns host name then (without_ns name (without_links (goes_with_ns name) host), Done) else (host, NoNs)
+
+abbrev pub drop_link_of : Host → LinkKey → Host × Reply
+drop_link_of host key = if has_named_ns host key.ns then without_link host (link_at host key.ns key.name) else (host, NoNs)
+
+abbrev pub flush_of : Host → Table → Host × Reply
+flush_of host table = (record host { rules = filter (λ r. not (table_eq r.table table)) host.rules }, Done)

@@ -1,0 +1,12 @@
+pub mod Allowed
+pub mod Apply
+pub mod Codes
+pub mod Equal
+pub mod GivenAddress
+pub mod Lists
+pub mod Names
+pub mod Parts
+pub mod Replies
+pub mod Sound
+pub mod Touch
+pub mod Words

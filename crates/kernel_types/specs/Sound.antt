@@ -1,0 +1,135 @@
+-- What holds of every host: keys are distinct, and tags, places and peers fit.
+use Rattle.std.specs.Prelude.{◌≡◌, ℕ, Bool, true, false, not, ◌&&◌, ◌||◌, List, Option, Some, None}
+use Rattle.std.specs.List.{list_any, list_all}
+use Rattle.kernel_types.specs.Lists.{distinct}
+use Rattle.std.specs.Str.{bytes_eq}
+use Rattle.kernel_types.specs.Equal.{addr_eq, rule_eq, tag_eq}
+use Rattle.kernel_types.specs.Words.{is_host_ns, is_host_or_ns, is_owned, is_bridge, is_veth, is_at, is_peer_at, is_link_of}
+use Rattle.kernel_types.specs.Apply.Calls.{is_same_addr, is_same_route, is_same_setting, is_of_pool}
+use Rattle.kernel_types.specs.declared.object.LinkKey.{LinkKey}
+use Rattle.kernel_types.specs.declared.object.Tag.{Tag}
+use Rattle.kernel_types.specs.declared.object.Tag.TheVariants.{Outside, Base, Own}
+use Rattle.kernel_types.specs.declared.object.LinkKind.{LinkKind}
+use Rattle.kernel_types.specs.declared.object.LinkKind.TheVariants.{Device, Bridge, Veth, Macvlan}
+use Rattle.kernel_types.specs.declared.object.NsObj.{NsObj}
+use Rattle.kernel_types.specs.declared.object.Link.{Link}
+use Rattle.kernel_types.specs.declared.object.AddrObj.{AddrObj}
+use Rattle.kernel_types.specs.declared.object.RouteObj.{RouteObj}
+use Rattle.kernel_types.specs.declared.object.Rule.{Rule}
+use Rattle.kernel_types.specs.declared.object.Setting.{Setting}
+use Rattle.kernel_types.specs.declared.object.Lease.{Lease}
+use Rattle.kernel_types.specs.declared.object.CachedObj.{CachedObj}
+use Rattle.kernel_types.specs.declared.object.Last.{Last}
+use Rattle.kernel_types.specs.declared.object.Host.{Host}
+
+-- no two elements are the same by the test
+abbrev pub HasDistinct : {X : Type 0} → (X → X → Bool) → List X → Type 0
+HasDistinct same xs = distinct same xs ≡ true
+
+-- each element passes
+abbrev pub AllPassTest : {X : Type 0} → (X → Bool) → List X → Type 0
+AllPassTest test xs = list_all test xs ≡ true
+
+-- ---- namespaces
+
+pub record AreNamespaces (namespaces : List NsObj) : Type 0 where
+  pub keys : HasDistinct (λ a b. bytes_eq a.name b.name) namespaces
+  pub named : AllPassTest (λ n. not (is_host_ns n.name)) namespaces
+  pub tags : AllPassTest (λ n. tag_eq n.tag Outside) namespaces
+
+-- ---- links
+
+-- a kind that an attachment's link may have in that namespace, and one that another link may have
+abbrev pub is_owned_kind : List ℕ → LinkKind → Bool
+is_owned_kind ns Device = false
+is_owned_kind ns Bridge = false
+is_owned_kind ns Veth = true
+is_owned_kind ns (Macvlan mode) = not (is_host_ns ns)
+
+abbrev pub is_shared_kind : LinkKind → Bool
+is_shared_kind Device = true
+is_shared_kind Bridge = true
+is_shared_kind Veth = false
+is_shared_kind (Macvlan mode) = false
+
+abbrev pub link_fits_tag : Link → Tag → Bool
+link_fits_tag link Outside = is_shared_kind link.kind
+link_fits_tag link Base = is_shared_kind link.kind && is_host_ns link.ns
+link_fits_tag link (Own att) = is_owned_kind link.ns link.kind
+
+-- the link at the peer's place names this one as its peer, has its tag, and one of the two is in the host
+abbrev pub peers_back : Link → LinkKey → Link → Bool
+peers_back link key peer = is_at key.ns key.name peer && is_peer_at link.ns link.name peer.peer && tag_eq peer.tag link.tag
+
+-- exactly a veth end has a peer, and it is there, names this one as its peer and has its tag; one end is in the host
+abbrev pub peer_fits : List Link → Link → Option LinkKey → Bool
+peer_fits links link None = not (is_veth link.kind)
+peer_fits links link (Some key) =
+    is_veth link.kind && list_any (peers_back link key) links && not (is_host_ns link.ns && is_host_ns key.ns) && (is_host_ns link.ns || is_host_ns key.ns)
+
+pub record AreLinks (namespaces : List NsObj) (links : List Link) : Type 0 where
+  pub keys : HasDistinct (λ a b. is_at b.ns b.name a) links
+  pub tags : AllPassTest (λ l. link_fits_tag l l.tag) links
+  pub places : AllPassTest (λ l. is_host_or_ns namespaces l.ns) links
+  pub peers : AllPassTest (λ l. peer_fits links l l.peer) links
+
+-- ---- what lies on links
+
+abbrev pub is_bridge_at : List ℕ → List ℕ → Link → Bool
+is_bridge_at ns name l = is_at ns name l && is_bridge l.kind
+
+abbrev pub address_fits_tag : List Link → AddrObj → Tag → Bool
+address_fits_tag links a Outside = false
+address_fits_tag links a Base = is_host_ns a.ns && list_any (is_bridge_at a.ns a.link) links
+address_fits_tag links a (Own att) = list_any (is_link_of a.ns a.link (Own att)) links
+
+pub record AreAddresses (links : List Link) (addresses : List AddrObj) : Type 0 where
+  pub keys : HasDistinct (λ a b. is_same_addr b a) addresses
+  pub lie : AllPassTest (λ a. address_fits_tag links a a.tag) addresses
+
+pub record AreRoutes (links : List Link) (routes : List RouteObj) : Type 0 where
+  pub keys : HasDistinct (λ a b. is_same_route b a) routes
+  pub lie : AllPassTest (λ r. list_any (is_link_of r.ns r.link r.tag) links) routes
+
+-- ---- the rest
+
+pub record AreRules (rules : List Rule) : Type 0 where
+  pub keys : HasDistinct (λ a b. rule_eq a b) rules
+  pub tags : AllPassTest (λ r. is_owned r.tag) rules
+
+abbrev pub setting_fits_tag : List NsObj → Setting → Tag → Bool
+setting_fits_tag namespaces s Outside = false
+setting_fits_tag namespaces s Base = is_host_ns s.ns
+setting_fits_tag namespaces s (Own att) = is_host_or_ns namespaces s.ns
+
+pub record AreSettings (namespaces : List NsObj) (settings : List Setting) : Type 0 where
+  pub keys : HasDistinct (λ a b. is_same_setting b a) settings
+  pub tags : AllPassTest (λ s. setting_fits_tag namespaces s s.tag) settings
+
+-- an attachment of the network
+abbrev pub is_of_network : List ℕ → Tag → Bool
+is_of_network network Outside = false
+is_of_network network Base = false
+is_of_network network (Own att) = bytes_eq att.network network
+
+pub record AreLeases (leases : List Lease) : Type 0 where
+  pub keys : HasDistinct (λ a b. bytes_eq a.network b.network && addr_eq a.addr b.addr) leases
+  pub tags : AllPassTest (λ l. is_of_network l.network l.tag) leases
+
+pub record AreCached (cached : List CachedObj) : Type 0 where
+  pub keys : HasDistinct (λ a b. tag_eq a.tag b.tag) cached
+  pub tags : AllPassTest (λ c. is_owned c.tag) cached
+
+pub record AreLasts (lasts : List Last) : Type 0 where
+  pub keys : HasDistinct (λ a b. is_of_pool b.network b.set a) lasts
+
+pub record IsSound (host : Host) : Type 0 where
+  pub namespaces : AreNamespaces host.namespaces
+  pub links : AreLinks host.namespaces host.links
+  pub addresses : AreAddresses host.links host.addresses
+  pub routes : AreRoutes host.links host.routes
+  pub rules : AreRules host.rules
+  pub settings : AreSettings host.namespaces host.settings
+  pub leases : AreLeases host.leases
+  pub cached : AreCached host.cached
+  pub lasts : AreLasts host.lasts

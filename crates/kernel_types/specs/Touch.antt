@@ -1,0 +1,119 @@
+-- What a call may change.
+use Rattle.std.specs.Prelude.{◌≡◌, ℕ, Bool, true, false, not, List, [], ◌∷◌, ◌++◌, ◌⊎◌, filter}
+use Rattle.std.specs.List.{list_all}
+use Rattle.kernel_types.specs.Apply.Calls.{is_of_pool}
+use Rattle.kernel_types.specs.Words.{is_own}
+use Rattle.kernel_types.specs.declared.object.AddrObj.{AddrObj}
+use Rattle.kernel_types.specs.declared.object.Att.{Att}
+use Rattle.kernel_types.specs.declared.object.Host.{Host}
+use Rattle.kernel_types.specs.declared.object.Link.{Link}
+use Rattle.kernel_types.specs.declared.object.NsObj.{NsObj}
+use Rattle.kernel_types.specs.declared.object.Setting.{Setting}
+use Rattle.kernel_types.specs.declared.object.Tag.{Tag}
+use Rattle.kernel_types.specs.declared.object.Tag.TheVariants as tags
+use Rattle.kernel_types.specs.declared.call.Call.{Call}
+use Rattle.kernel_types.specs.declared.call.Call.TheVariants.{Begin, BridgeEnsure, GatewayEnsure, ForwardEnsure, VethAdd, MacvlanAdd, LinkSet, AddrAdd, RouteAdd, RuleAppend, SettingSet, LeaseNext, CachePut, LinkDel, RuleDel, SettingDel, LeaseDel, CacheDel, HasObj, CacheGet, OwnersOf, PoolFree, NsChange, Outside}
+
+-- ---- one list
+
+-- objects that pass are dropped or replaced by others that pass, and others that pass stand at the end; all else stands as it stood
+abbrev pub ChangesOnly : {X : Type 0} → (X → Bool) → List X → List X → Type 0
+ChangesOnly own [] new = list_all own new ≡ true
+ChangesOnly own (x ∷ old) [] = (own x ≡ true) × ChangesOnly own old []
+ChangesOnly own (x ∷ old) (y ∷ new) =
+    ((x ≡ y) × ChangesOnly own old new) ⊎ (((own x ≡ true) × (own y ≡ true) × ChangesOnly own old new) ⊎ ((own x ≡ true) × ChangesOnly own old (y ∷ new)))
+
+-- objects that pass are dropped; all else stands as it stood
+abbrev pub DropsOnly : {X : Type 0} → (X → Bool) → List X → List X → Type 0
+DropsOnly gone [] new = new ≡ []
+DropsOnly gone (x ∷ old) [] = (gone x ≡ true) × DropsOnly gone old []
+DropsOnly gone (x ∷ old) (y ∷ new) = ((x ≡ y) × DropsOnly gone old new) ⊎ ((gone x ≡ true) × DropsOnly gone old (y ∷ new))
+
+-- ---- a host
+
+-- only objects of the attachment are changed, removed or appended
+pub record TouchesOwn (att : Att) (old new : Host) : Type 0 where
+  pub namespaces : new.namespaces ≡ old.namespaces
+  pub links : ChangesOnly (λ l. is_own att l.tag) old.links new.links
+  pub addresses : ChangesOnly (λ a. is_own att a.tag) old.addresses new.addresses
+  pub routes : ChangesOnly (λ r. is_own att r.tag) old.routes new.routes
+  pub rules : ChangesOnly (λ r. is_own att r.tag) old.rules new.rules
+  pub settings : ChangesOnly (λ s. is_own att s.tag) old.settings new.settings
+  pub leases : ChangesOnly (λ l. is_own att l.tag) old.leases new.leases
+  pub cached : ChangesOnly (λ c. is_own att c.tag) old.cached new.cached
+
+-- and no last is moved
+pub record TouchesOwnAlone (att : Att) (old new : Host) : Type 0 where
+  pub own : TouchesOwn att old new
+  pub lasts : new.lasts ≡ old.lasts
+
+-- and no last is moved but that of the pool
+pub record TouchesOwnAndLast (att : Att) (network : List ℕ) (number : ℕ) (old new : Host) : Type 0 where
+  pub own : TouchesOwn att old new
+  pub lasts : ChangesOnly (is_of_pool network number) old.lasts new.lasts
+
+-- the same by the tag of an object that is made
+abbrev pub TouchesTag : Tag → Host → Host → Type 0
+TouchesTag tags.Outside old new = new ≡ old
+TouchesTag tags.Base old new = new ≡ old
+TouchesTag (tags.Own att) old new = TouchesOwnAlone att old new
+
+-- at most one shared object is appended
+abbrev pub AddsBridge : Host → Host → Type 0
+AddsBridge old new = (new ≡ old) ⊎ ((bridge : Link) × (bridge.tag ≡ tags.Base) × (new ≡ record old { links = old.links ++ bridge ∷ [] }))
+
+abbrev pub AddsAddress : Host → Host → Type 0
+AddsAddress old new = (new ≡ old) ⊎ ((addr : AddrObj) × (addr.tag ≡ tags.Base) × (new ≡ record old { addresses = old.addresses ++ addr ∷ [] }))
+
+abbrev pub AddsSetting : Host → Host → Type 0
+AddsSetting old new = (new ≡ old) ⊎ ((setting : Setting) × (setting.tag ≡ tags.Base) × (new ≡ record old { settings = old.settings ++ setting ∷ [] }))
+
+-- at most one namespace is appended
+abbrev pub AddsNamespace : Host → Host → Type 0
+AddsNamespace old new = (new ≡ old) ⊎ ((namespace : NsObj) × (namespace.tag ≡ tags.Outside) × (new ≡ record old { namespaces = old.namespaces ++ namespace ∷ [] }))
+
+abbrev pub is_base : Tag → Bool
+is_base tags.Outside = false
+is_base tags.Base = true
+is_base (tags.Own att) = false
+
+-- objects are removed, none of them shared, and nothing else changes
+pub record RemovesUnshared (old new : Host) : Type 0 where
+  pub namespaces : DropsOnly (λ n. not (is_base n.tag)) old.namespaces new.namespaces
+  pub links : DropsOnly (λ l. not (is_base l.tag)) old.links new.links
+  pub addresses : DropsOnly (λ a. not (is_base a.tag)) old.addresses new.addresses
+  pub routes : DropsOnly (λ r. not (is_base r.tag)) old.routes new.routes
+  pub rules : DropsOnly (λ r. not (is_base r.tag)) old.rules new.rules
+  pub settings : DropsOnly (λ s. not (is_base s.tag)) old.settings new.settings
+  pub leases : new.leases ≡ old.leases
+  pub cached : new.cached ≡ old.cached
+  pub lasts : new.lasts ≡ old.lasts
+
+-- ---- each call
+
+abbrev pub Touches : Call → Host → Host → Type 0
+Touches (Begin att netns) old new = new ≡ old
+Touches (BridgeEnsure name mtu promisc) old new = AddsBridge old new
+Touches (GatewayEnsure bridge cidr) old new = AddsAddress old new
+Touches (ForwardEnsure family) old new = AddsSetting old new
+Touches (VethAdd host_end inner_end) old new = TouchesTag host_end.tag old new
+Touches (MacvlanAdd link) old new = TouchesTag link.tag old new
+Touches (LinkSet att key mac mtu tx_qlen promisc allmulti) old new = TouchesOwnAlone att old new
+Touches (AddrAdd obj) old new = TouchesTag obj.tag old new
+Touches (RouteAdd obj) old new = TouchesTag obj.tag old new
+Touches (RuleAppend rule) old new = TouchesTag rule.tag old new
+Touches (SettingSet setting) old new = TouchesTag setting.tag old new
+Touches (LeaseNext att number set) old new = TouchesOwnAndLast att att.network number old new
+Touches (CachePut att cached) old new = TouchesOwnAlone att old new
+Touches (LinkDel att) old new = TouchesOwnAlone att old new
+Touches (RuleDel att) old new = TouchesOwnAlone att old new
+Touches (SettingDel att) old new = TouchesOwnAlone att old new
+Touches (LeaseDel att) old new = TouchesOwnAlone att old new
+Touches (CacheDel att) old new = TouchesOwnAlone att old new
+Touches (HasObj probe) old new = new ≡ old
+Touches (CacheGet att) old new = new ≡ old
+Touches (OwnersOf network kind) old new = new ≡ old
+Touches (PoolFree network set) old new = new ≡ old
+Touches (NsChange name true) old new = AddsNamespace old new
+Touches (NsChange name false) old new = RemovesUnshared old new
+Touches (Outside change) old new = RemovesUnshared old new

@@ -1,0 +1,86 @@
+-- What is asked of a host.
+use Rattle.std.specs.Prelude.{ℕ, Bool, true, false, ◌&&◌, ◌||◌, ◌==◌, List, length, Option, Some, None, find}
+use Rattle.std.specs.List.{list_any}
+use Rattle.std.specs.Str.{bytes_eq}
+use Rattle.kernel_types.specs.Equal.{att_eq, tag_eq}
+use Rattle.kernel_types.specs.declared.object.Att.{Att}
+use Rattle.kernel_types.specs.declared.object.LinkKey.{LinkKey}
+use Rattle.kernel_types.specs.declared.object.Tag.{Tag}
+use Rattle.kernel_types.specs.declared.object.Tag.TheVariants.{Outside, Base, Own}
+use Rattle.kernel_types.specs.declared.object.LinkKind.{LinkKind}
+use Rattle.kernel_types.specs.declared.object.LinkKind.TheVariants.{Device, Bridge, Veth, Macvlan}
+use Rattle.kernel_types.specs.declared.object.Link.{Link}
+use Rattle.kernel_types.specs.declared.object.NsObj.{NsObj}
+use Rattle.kernel_types.specs.declared.object.Host.{Host}
+
+-- the host's own namespace has the empty name
+abbrev pub is_host_ns : List ℕ → Bool
+is_host_ns ns = length ns == 0
+
+abbrev pub is_own : Att → Tag → Bool
+is_own att Outside = false
+is_own att Base = false
+is_own att (Own own) = att_eq own att
+
+abbrev pub is_bridge : LinkKind → Bool
+is_bridge Device = false
+is_bridge Bridge = true
+is_bridge Veth = false
+is_bridge (Macvlan mode) = false
+
+abbrev pub is_veth : LinkKind → Bool
+is_veth Device = false
+is_veth Bridge = false
+is_veth Veth = true
+is_veth (Macvlan mode) = false
+
+-- the link stands at this place
+abbrev pub is_at : List ℕ → List ℕ → Link → Bool
+is_at ns name link = bytes_eq link.ns ns && bytes_eq link.name name
+
+-- the link's peer stands at this place
+abbrev pub is_peer_at : List ℕ → List ℕ → Option LinkKey → Bool
+is_peer_at ns name None = false
+is_peer_at ns name (Some key) = bytes_eq key.ns ns && bytes_eq key.name name
+
+-- a namespace of this name
+abbrev pub has_named_ns : Host → List ℕ → Bool
+has_named_ns host name = list_any (λ n. bytes_eq n.name name) host.namespaces
+
+-- the host, which is always there, or a namespace of this name
+abbrev pub is_host_or_ns : List NsObj → List ℕ → Bool
+is_host_or_ns namespaces ns = is_host_ns ns || list_any (λ n. bytes_eq n.name ns) namespaces
+
+abbrev pub link_at : Host → List ℕ → List ℕ → Option Link
+link_at host ns name = find (is_at ns name) host.links
+
+-- the link stands in the host under this name
+abbrev pub is_host_link : List ℕ → Link → Bool
+is_host_link name link = is_host_ns link.ns && bytes_eq link.name name
+
+abbrev pub is_host_bridge : List ℕ → Link → Bool
+is_host_bridge name link = is_host_link name link && is_bridge link.kind
+
+abbrev pub has_host_bridge : Host → List ℕ → Bool
+has_host_bridge host name = list_any (is_host_bridge name) host.links
+
+-- some object is the attachment's
+abbrev pub has_objects : Host → Att → Bool
+has_objects host att =
+    list_any (λ n. is_own att n.tag) host.namespaces
+    || list_any (λ l. is_own att l.tag) host.links
+    || list_any (λ a. is_own att a.tag) host.addresses
+    || list_any (λ r. is_own att r.tag) host.routes
+    || list_any (λ r. is_own att r.tag) host.rules
+    || list_any (λ s. is_own att s.tag) host.settings
+    || list_any (λ l. is_own att l.tag) host.leases
+    || list_any (λ c. is_own att c.tag) host.cached
+
+abbrev pub is_owned : Tag → Bool
+is_owned Outside = false
+is_owned Base = false
+is_owned (Own att) = true
+
+-- the link stands at this place and has this tag
+abbrev pub is_link_of : List ℕ → List ℕ → Tag → Link → Bool
+is_link_of ns name tag link = is_at ns name link && tag_eq link.tag tag

@@ -1,0 +1,18 @@
+//! The objects, calls and replies of the modelled kernel, and what they mean.
+//!
+//! A [`Host`] is nine lists: eight of objects that carry an owner's [`Tag`], and the addresses that were leased last.
+//! What a [`Call`] does to a host, and its [`Reply`], is the definition `apply` in `specs/Apply.antt`, one equation a
+//! call; `IsSound` says what holds of every host, `IsAllowed` when a call may be made, `Touches` what it may change.
+//! Crates above make plans of calls; the crate `kernel_model` has a kernel that carries them out.
+#![tactic(auto)]
+
+pub mod call;
+pub mod names;
+pub mod object;
+
+pub use call::{Call, Change, Given, Kind, Object, Probe, Reply};
+pub use names::link_mac;
+pub use object::{
+    AddrObj, Att, CachedObj, Chain, Host, Last, Lease, Link, LinkKey, LinkKind, NsObj, RouteObj,
+    Rule, Setting, Table, Tag, Target,
+};

@@ -1,0 +1,73 @@
+//! Names and hardware addresses that are derived from SHA-256 (FIPS 180-4).
+//!
+//! Two attachments may derive one host name; the later ADD is then told that the name is taken.
+
+ghost use Rattle.std.specs.Prelude.{◌≡◌, IfOk};
+ghost use Rattle.kernel_types.specs.Names.{link_mac_of};
+
+use crate::object::Att;
+use cni_addr::{Mac, NoMemory, Text};
+use sha2::{Digest, Sha256};
+use std::alloc::Global;
+
+impl Att {
+    ghost use Rattle.kernel_types.specs.Names.{digest_of, host_name_of, host_mac_of, inner_mac_of};
+
+    /// The digest of the attachment: of its network, container and interface name, joined by line feeds.
+    #[tactic(auto, unfolding(crate::specs::Names::digest_of))]
+    pub fn digest(&self) -> [u8; 32]
+        ensures { result ≡ digest_of self.now }
+    {
+        let mut hasher = Sha256::new();
+        hasher.update(self.network.as_str());
+        hasher.update(b"\n");
+        hasher.update(self.container.as_str());
+        hasher.update(b"\n");
+        hasher.update(self.ifname.as_str());
+        hasher.finalize()
+    }
+
+    /// The name of the host's end of the attachment's veth pair: twelve bytes, so within the kernel's fifteen.
+    pub fn host_name(&self, alloc: Global) -> Result<Text, NoMemory>
+        ensures { IfOk result (λ name. name ≡ host_name_of self.now) }
+    {
+        let digest = self.digest();
+        let digits = hex::encode(alloc, &digest[..4])?;
+        let mut name = String::from_str(alloc, "veth")?;
+        name.push_str(digits.as_str())?;
+        Text::of(alloc, name.as_str())
+    }
+
+    /// The hardware address of the host's end.
+    pub fn host_mac(&self) -> Mac
+        ensures { result ≡ host_mac_of self.now }
+    {
+        let digest = self.digest();
+        Mac {
+            bytes: [
+                10, digest[9], digest[10], digest[11], digest[12], digest[13],
+            ],
+        }
+    }
+
+    /// The hardware address of the container's end, and of a macvlan link.
+    pub fn inner_mac(&self) -> Mac
+        ensures { result ≡ inner_mac_of self.now }
+    {
+        let digest = self.digest();
+        Mac {
+            bytes: [10, digest[4], digest[5], digest[6], digest[7], digest[8]],
+        }
+    }
+}
+
+/// The hardware address of a link of this name that no attachment owns.
+#[tactic(auto, unfolding(crate::specs::Names::link_mac_of))]
+pub fn link_mac(name: &str) -> Mac
+    ensures { result ≡ link_mac_of name.now }
+{
+    let digest = Sha256::digest(name);
+    Mac {
+        bytes: [10, digest[0], digest[1], digest[2], digest[3], digest[4]],
+    }
+}
