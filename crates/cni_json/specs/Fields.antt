@@ -1,0 +1,59 @@
+-- A member of an object, by the kind that is wanted.
+use Rattle.std.specs.Prelude.{ℕ, List, Bool, Option, Some, None, option_and_then}
+use Rattle.serde_json.specs.Data.{Data, null, boolean, number, string, array, object, Items}
+use Rattle.serde_json.specs.Find.{get, as_str, as_bool, as_number, as_u64, as_array, as_object}
+use Rattle.cni_json.specs.declared.fields.Field.{Field}
+use Rattle.cni_json.specs.declared.fields.Field.TheVariants.{Absent, WrongKind, Here}
+
+-- the field with its value under f
+abbrev pub field_map : {A B : Type 0} → (A → B) → Field A → Field B
+field_map f Absent = Absent
+field_map f WrongKind = WrongKind
+field_map f (Here x) = Here (f x)
+
+-- a value that is there, of the wanted kind or of another
+abbrev pub of_kind : {A : Type 0} → Option A → Field A
+of_kind None = WrongKind
+of_kind (Some x) = Here x
+
+-- a member that is null is as an absent one
+abbrev pub unless_null : {A : Type 0} → (Data → Option A) → Data → Field A
+unless_null kind null = Absent
+unless_null kind (boolean b) = of_kind (kind (boolean b))
+unless_null kind (number n) = of_kind (kind (number n))
+unless_null kind (string s) = of_kind (kind (string s))
+unless_null kind (array ds) = of_kind (kind (array ds))
+unless_null kind (object ms) = of_kind (kind (object ms))
+
+-- what was found at a key, by the wanted kind
+abbrev pub field_of : {A : Type 0} → (Data → Option A) → Option Data → Field A
+field_of kind None = Absent
+field_of kind (Some d) = unless_null kind d
+
+-- the number, where it is a u64
+abbrev pub u64_of : Data → Option ℕ
+u64_of d = option_and_then as_u64 (as_number d)
+
+-- the value itself, where it is an object
+abbrev pub object_of : Data → Option Data
+object_of d = option_and_then (λ _. Some d) (as_object d)
+
+-- the member of d at the key that is a text
+abbrev pub text_field : List ℕ → Data → Field (List ℕ)
+text_field key d = field_of as_str (get key d)
+
+-- the member that is a boolean
+abbrev pub bool_field : List ℕ → Data → Field Bool
+bool_field key d = field_of as_bool (get key d)
+
+-- the member that is a u64
+abbrev pub u64_field : List ℕ → Data → Field ℕ
+u64_field key d = field_of u64_of (get key d)
+
+-- the member that is a list
+abbrev pub list_field : List ℕ → Data → Field Items
+list_field key d = field_of as_array (get key d)
+
+-- the member that is an object
+abbrev pub object_field : List ℕ → Data → Field Data
+object_field key d = field_of object_of (get key d)

@@ -1,0 +1,4 @@
+pub mod Fields
+pub mod Json
+pub mod Outcome
+pub mod ReadEnds

@@ -1,0 +1,73 @@
+ghost use Rattle.std.specs.Prelude.{◌≡◌};
+ghost use Rattle.serde_json.specs.View.{view, items_view};
+ghost use Rattle.cni_json.specs.Fields.{field_map, text_field, bool_field, u64_field, list_field, object_field};
+
+use serde_json::Value;
+
+/// A member of an object: not there or null, of another kind, or of the kind that was asked for.
+#[derive(Clone, Copy, Debug, PartialEq, Eq, Drop)]
+pub enum Field<T> {
+    /// There is no such member, it is null, or the value asked is no object.
+    Absent,
+    /// The member is there and of another kind.
+    WrongKind,
+    /// The member.
+    Here(T),
+}
+
+/// The member that is a text. It takes no memory, as each call of this file.
+pub fn field_str<'a>(object: &'a Value, key: &str) -> Field<&'a str>
+    ensures { field_map (λ s. s.now) result ≡ text_field key.now (view object.entry.now) }
+{
+    match object.get(key) {
+        None | Some(Value::Null) => Field::Absent,
+        Some(Value::String(text)) => Field::Here(text.as_str()),
+        Some(_) => Field::WrongKind,
+    }
+}
+
+/// The member that is a boolean.
+pub fn field_bool(object: &Value, key: &str) -> Field<bool>
+    ensures { result ≡ bool_field key.now (view object.now) }
+{
+    match object.get(key) {
+        None | Some(Value::Null) => Field::Absent,
+        Some(Value::Bool(flag)) => Field::Here(*flag),
+        Some(_) => Field::WrongKind,
+    }
+}
+
+/// The member that is a whole number from 0 to 2^64 - 1. A number below 0 is another kind.
+pub fn field_u64(object: &Value, key: &str) -> Field<u64>
+    ensures { result ≡ u64_field key.now (view object.now) }
+{
+    match object.get(key) {
+        None | Some(Value::Null) => Field::Absent,
+        Some(value) => match value.as_u64() {
+            Some(number) => Field::Here(number),
+            None => Field::WrongKind,
+        },
+    }
+}
+
+/// The member that is a list, as the slice of its items.
+pub fn field_list<'a>(object: &'a Value, key: &str) -> Field<&'a [Value]>
+    ensures { field_map (λ s. items_view s.now) result ≡ list_field key.now (view object.entry.now) }
+{
+    match object.get(key) {
+        None | Some(Value::Null) => Field::Absent,
+        Some(Value::Array(items)) => Field::Here(items.as_slice()),
+        Some(_) => Field::WrongKind,
+    }
+}
+
+/// The member that is an object.
+pub fn field_object<'a>(object: &'a Value, key: &str) -> Field<&'a Value>
+    ensures { field_map (λ v. view v.now) result ≡ object_field key.now (view object.entry.now) }
+{
+    match object.get(key) {
+        None | Some(Value::Null) => Field::Absent,
+        Some(value) if value.is_object() => Field::Here(value),
+        Some(_) => Field::WrongKind,
+    }
+}

@@ -1,0 +1,35 @@
+//! JSON texts (RFC 8259) as values, the members of an object by their kind, and a value as a line.
+//!
+//! The reading and the text are `serde_json`'s. This crate adds what each reader of configuration
+//! asks besides: each number of a value is a `u64` or an `i64`, and a member that is null is as an
+//! absent one. To the crates above it promises:
+//!
+//! - `read` gives `json_of` of the bytes, in both directions: `Decode` exactly where they have no
+//!   reading, and `Number` exactly where a number of the reading is neither a `u64` nor an `i64`.
+//! - `field_str` and its kin give `text_field` and its kin of the value, and take no memory.
+//! - `line` writes `line_of` of the value.
+//!
+//! Each of these words is a definition in `specs/` that computes on literals. `GivesAs` of
+//! `specs/Outcome.antt` says that an outcome is the wanted one or want of memory. Each enum of
+//! errors can use it, by its own test of which of its errors are want of memory.
+//!
+//! ```text
+//! let list = read(alloc, b"{\"name\":\"pods\",\"mtu\":1500,\"dns\":null}")?;
+//! field_str(&list, "name")   // Field::Here("pods")
+//! field_u64(&list, "name")   // Field::WrongKind
+//! field_u64(&list, "mtu")    // Field::Here(1500)
+//! field_object(&list, "dns") // Field::Absent
+//! line(alloc, &list)?        // {"dns":null,"mtu":1500,"name":"pods"} and a line feed
+//! ```
+#![tactic(auto)]
+
+mod fields;
+mod reading;
+#[cfg(test)]
+mod tests;
+mod writing;
+
+pub use fields::{Field, field_bool, field_list, field_object, field_str, field_u64};
+pub use reading::{ReadEnd, read};
+pub use serde_json::{Map, Value};
+pub use writing::{LineNoMemory, line};

@@ -1,0 +1,29 @@
+ghost use Rattle.std.specs.Prelude.{◌≡◌, false, IfOk};
+ghost use Rattle.serde_json.specs.View.{view};
+ghost use Rattle.serde_json.specs.Written.{has_float};
+ghost use Rattle.cni_json.specs.Json.{line_of};
+
+use serde_json::Value;
+use std::alloc::Global;
+
+/// Memory ran out while a line was written.
+#[derive(Clone, Copy, Debug, PartialEq, Eq)]
+pub struct LineNoMemory;
+
+/// The value on one line: its compact text, which has no space outside texts, and a line feed.
+///
+/// The members of an object stand in ascending byte order of their keys, as a `Map` keeps them.
+/// It takes time and memory in proportion to the line. It asks that each number be a `u64` or an
+/// `i64`, as in each value that `read` gives.
+pub fn line(alloc: Global, value: &Value) -> Result<Vec<u8>, LineNoMemory>
+    requires { has_float (view value.now) ≡ false }
+    ensures { IfOk result (λ text. text.items ≡ line_of (view value.now)) }
+{
+    let Ok(mut text) = value.to_vec(alloc) else {
+        return Err(LineNoMemory);
+    };
+    if text.push(b'\n').is_err() {
+        return Err(LineNoMemory);
+    }
+    Ok(text)
+}

@@ -1,0 +1,52 @@
+//! The plugin that makes the interface, the first of a list.
+
+use cni_addr::{Items, MacvlanMode, RangeSet, Text};
+use cni_result::{Dns, RouteEntry};
+
+/// The configuration of `host-local`: an attachment gets one address of each set. There are at most 65,536 sets.
+#[derive(PartialEq, Eq, Drop)]
+pub struct HostLocalConf {
+    pub sets: Items<RangeSet>,
+    pub routes: Items<RouteEntry>,
+}
+
+/// The configuration of `bridge`. The MTU is 68 to 65535, and `is_default_gateway` comes with `is_gateway`.
+#[derive(PartialEq, Eq, Drop)]
+pub struct BridgeConf {
+    pub bridge: Text,
+    pub is_gateway: bool,
+    pub is_default_gateway: bool,
+    pub ip_masq: bool,
+    pub mtu: u32,
+    pub hairpin: bool,
+    pub promisc: bool,
+    pub ipam: Option<HostLocalConf>,
+    pub dns: Dns,
+}
+
+/// The configuration of `ptp`. The MTU is 68 to 65535.
+#[derive(PartialEq, Eq, Drop)]
+pub struct PtpConf {
+    pub ip_masq: bool,
+    pub mtu: u32,
+    pub ipam: HostLocalConf,
+    pub dns: Dns,
+}
+
+/// The configuration of `macvlan`. The MTU is 68 to 65535.
+#[derive(PartialEq, Eq, Drop)]
+pub struct MacvlanConf {
+    pub master: Text,
+    pub mode: MacvlanMode,
+    pub mtu: u32,
+    pub ipam: Option<HostLocalConf>,
+    pub dns: Dns,
+}
+
+/// The first plugin of a list.
+#[derive(PartialEq, Eq, Drop)]
+pub enum First {
+    Bridge(BridgeConf),
+    Ptp(PtpConf),
+    Macvlan(MacvlanConf),
+}

@@ -1,0 +1,10 @@
+//! Network lists: the configuration of a network, as an engine wrote it.
+#![tactic(auto)]
+
+pub mod chained;
+pub mod first;
+pub mod list;
+
+pub use chained::{Chained, FirewallConf, PortmapConf, Sysctl, TuningConf};
+pub use first::{BridgeConf, First, HostLocalConf, MacvlanConf, PtpConf};
+pub use list::NetList;

@@ -1,0 +1,18 @@
+//! A network list.
+
+use crate::chained::Chained;
+use crate::first::First;
+use cni_addr::{Items, Text};
+use cni_result::Version;
+
+/// A network: its name, the version that its plugins are asked in, and the plugins in the order of ADD (CNI
+/// specification 1.1.0, section 1, "Configuration format").
+#[derive(PartialEq, Eq, Drop)]
+pub struct NetList {
+    pub version: Version,
+    pub name: Text,
+    pub disable_check: bool,
+    pub disable_gc: bool,
+    pub first: First,
+    pub chained: Items<Chained>,
+}

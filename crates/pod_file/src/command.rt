@@ -1,0 +1,72 @@
+//! Commands of a pod file.
+
+use cni_addr::{Items, Text};
+use kernel_types::Table;
+
+/// What a command does: a verb of the CNI specification (section 2, "Execution Protocol"), or a change from outside.
+#[derive(Clone, Copy)]
+pub enum Verb {
+    Add,
+    Check,
+    Del,
+    Gc,
+    Status,
+    Version,
+    NsAdd,
+    NsDel,
+    Drop,
+    Flush,
+}
+
+impl PartialEq for Verb {
+    ghost use Rattle.std.specs.Cmp.{partial_equiv_from_equiv, on_equiv, nat_eq_equiv};
+    ghost use Rattle.pod_file.specs.Codes.{verb_eq, verb_code};
+
+    ghost eq = { verb_eq };
+
+    ghost laws = { partial_equiv_from_equiv (on_equiv verb_code nat_eq_equiv) };
+
+    fn eq(&self, other: &Verb) -> bool {
+        *self as u8 == *other as u8
+    }
+}
+
+impl Eq for Verb {
+    ghost use Rattle.std.specs.Cmp.{on_equiv, nat_eq_equiv};
+    ghost use Rattle.pod_file.specs.Codes.{verb_code};
+
+    ghost laws = { on_equiv verb_code nat_eq_equiv };
+}
+
+/// A port mapping as it was written: numbers and texts that an ADD tests when it runs.
+#[derive(PartialEq, Eq, Drop)]
+pub struct RawMapping {
+    pub host_port: u64,
+    pub container_port: u64,
+    pub protocol: Text,
+    pub host_ip: Text,
+}
+
+/// An attachment that a GC is to keep.
+#[derive(PartialEq, Eq, Drop)]
+pub struct ValidAtt {
+    pub container: Text,
+    pub ifname: Text,
+}
+
+/// One command. `number` counts from 1 in file order. What a verb doesn't use is kept and not used.
+#[derive(PartialEq, Eq, Drop)]
+pub struct Command {
+    pub number: u32,
+    pub verb: Verb,
+    pub network: Text,
+    pub container: Text,
+    pub netns: Text,
+    pub ifname: Text,
+    pub args: Text,
+    pub mappings: Items<RawMapping>,
+    pub valid: Items<ValidAtt>,
+    pub table: Option<Table>,
+    pub stop: Option<u32>,
+    pub faults: Items<u32>,
+}

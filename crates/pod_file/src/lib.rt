@@ -1,0 +1,8 @@
+//! Pod files: an opening host, and rounds of commands for containers' attachments.
+#![tactic(auto)]
+
+pub mod command;
+pub mod pods;
+
+pub use command::{Command, RawMapping, ValidAtt, Verb};
+pub use pods::Pods;
