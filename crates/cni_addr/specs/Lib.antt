@@ -1,4 +1,5 @@
 pub mod Codes
 pub mod Equal
+pub mod Network
 pub mod TextLaws
 pub mod Value

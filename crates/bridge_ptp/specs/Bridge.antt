@@ -1,0 +1,63 @@
+-- The plan of the `bridge` plugin: the container's end of a veth pair, whose other end has a bridge of the host as master.
+use Rattle.std.specs.Prelude.{ℕ, Bool, List, [], ◌∷◌, ◌++◌, map, Option, Some, None, if◌then◌else◌}
+use Rattle.cni_addr.specs.Equal.{addr_eq}
+use Rattle.cni_addr.specs.declared.address.Cidr.{Cidr}
+use Rattle.net_conf.specs.declared.first.BridgeConf.{BridgeConf}
+use Rattle.net_conf.specs.declared.first.HostLocalConf.{HostLocalConf}
+use Rattle.kernel_types.specs.declared.object.Att.{Att}
+use Rattle.kernel_types.specs.declared.call.Given.{Given}
+use Rattle.kernel_types.specs.declared.call.Kind.{Kind}
+use Rattle.kernel_types.specs.declared.call.Kind.TheVariants.{Links, Rules, Leases}
+use Rattle.kernel_types.specs.declared.call.Call.{Call}
+use Rattle.kernel_types.specs.declared.call.Call.TheVariants.{BridgeEnsure, GatewayEnsure, VethAdd, AddrAdd, RouteAdd, RuleAppend}
+use Rattle.plan_words.specs.Keys.{each_key_once}
+use Rattle.plan_words.specs.Shapes.{host_end, inner_end, addresses_on, routes_on, masquerade_rules, forward_calls}
+use Rattle.plan_words.specs.Share.{Share, no_objects}
+use Rattle.host_local.specs.Conf.{routes_of}
+use Rattle.host_local.specs.Results.{ip_of}
+use Rattle.bridge_ptp.specs.Results.{bridge_routes}
+
+-- ---- the share
+
+abbrev pub bridge_share_before : BridgeConf → Att → List ℕ → Share
+bridge_share_before conf att netns = record no_objects { links = host_end att netns (Some conf.bridge) conf.mtu conf.hairpin ∷ inner_end att netns conf.mtu ∷ [] }
+
+abbrev pub bridge_share_after : BridgeConf → Att → List ℕ → List Given → Share
+bridge_share_after conf att netns given = record no_objects {
+  addresses = addresses_on att netns given;
+  routes = routes_on att netns given (bridge_routes conf.is_default_gateway (routes_of conf.ipam) (map ip_of given));
+  rules = masquerade_rules conf.ip_masq att given;
+}
+
+-- ---- the calls
+
+-- each gateway each_key_once, with its subnet's prefix
+abbrev pub gateway_on : Given → Cidr
+gateway_on g = record { addr = g.gateway; prefix = g.subnet.prefix }
+
+abbrev pub gateways : List Given → List Cidr
+gateways given = each_key_once (λ x y. addr_eq x.addr y.addr) (map gateway_on given)
+
+abbrev pub gateway_calls : BridgeConf → List Given → List Call
+gateway_calls conf given = if conf.is_gateway then map (GatewayEnsure conf.bridge) (gateways given) ++ forward_calls given else []
+
+abbrev pub bridge_calls_before : BridgeConf → Att → List ℕ → List Call
+bridge_calls_before conf att netns =
+    BridgeEnsure conf.bridge conf.mtu conf.promisc ∷ VethAdd (host_end att netns (Some conf.bridge) conf.mtu conf.hairpin) (inner_end att netns conf.mtu) ∷ []
+
+abbrev pub bridge_calls_after : BridgeConf → Att → List ℕ → List Given → List Call
+bridge_calls_after conf att netns given =
+    map AddrAdd (addresses_on att netns given)
+    ++ (map RouteAdd (routes_on att netns given (bridge_routes conf.is_default_gateway (routes_of conf.ipam) (map ip_of given))) ++ (gateway_calls conf given ++ map RuleAppend (masquerade_rules conf.ip_masq att given)))
+
+-- ---- the kinds of objects that DEL takes back
+
+abbrev pub rule_kinds : Bool → List Kind
+rule_kinds ip_masq = if ip_masq then Rules ∷ [] else []
+
+abbrev pub lease_kinds : Option HostLocalConf → List Kind
+lease_kinds None = []
+lease_kinds (Some ipam) = Leases ∷ []
+
+abbrev pub bridge_kinds_of : BridgeConf → List Kind
+bridge_kinds_of conf = Links ∷ (rule_kinds conf.ip_masq ++ lease_kinds conf.ipam)

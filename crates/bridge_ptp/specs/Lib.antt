@@ -1,0 +1,3 @@
+pub mod Bridge
+pub mod Ptp
+pub mod Results

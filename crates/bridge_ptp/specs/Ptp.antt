@@ -1,0 +1,75 @@
+-- The plan of the `ptp` plugin: a veth pair with routes on both ends and no bridge.
+use Rattle.std.specs.Prelude.{ℕ, Bool, false, List, [], ◌∷◌, ◌++◌, map, flat_map, filter_map, Option, Some, None}
+use Rattle.cni_addr.specs.Network.{whole}
+use Rattle.net_conf.specs.declared.first.PtpConf.{PtpConf}
+use Rattle.kernel_types.specs.Apply.Calls.{is_same_addr, is_same_route}
+use Rattle.kernel_types.specs.Names.{host_name_of}
+use Rattle.kernel_types.specs.declared.object.Att.{Att}
+use Rattle.kernel_types.specs.declared.object.Tag.TheVariants.{Own}
+use Rattle.kernel_types.specs.declared.object.AddrObj.{AddrObj}
+use Rattle.kernel_types.specs.declared.object.RouteObj.{RouteObj}
+use Rattle.kernel_types.specs.declared.call.Given.{Given}
+use Rattle.kernel_types.specs.declared.call.Kind.{Kind}
+use Rattle.kernel_types.specs.declared.call.Kind.TheVariants.{Links, Leases}
+use Rattle.kernel_types.specs.declared.call.Call.{Call}
+use Rattle.kernel_types.specs.declared.call.Call.TheVariants.{VethAdd, AddrAdd, RouteAdd, RuleAppend}
+use Rattle.plan_words.specs.Keys.{each_key_once}
+use Rattle.plan_words.specs.Shapes.{host_end, inner_end, address_on, route_on, masquerade_rules, forward_calls}
+use Rattle.plan_words.specs.Share.{Share, no_objects}
+use Rattle.bridge_ptp.specs.Bridge.{rule_kinds}
+
+-- an address or a route, in the order in which they are call_for for
+pub data AddressOrRoute : Type 0 where
+  Address : (obj : AddrObj) → AddressOrRoute
+  Route : (obj : RouteObj) → AddressOrRoute
+
+abbrev pub same_key : AddressOrRoute → AddressOrRoute → Bool
+same_key (Address a) (Address b) = is_same_addr a b
+same_key (Route a) (Route b) = is_same_route a b
+same_key (Address a) (Route b) = false
+same_key (Route a) (Address b) = false
+
+abbrev pub address_in : AddressOrRoute → Option AddrObj
+address_in (Address obj) = Some obj
+address_in (Route obj) = None
+
+abbrev pub route_in : AddressOrRoute → Option RouteObj
+route_in (Address obj) = None
+route_in (Route obj) = Some obj
+
+abbrev pub call_for : AddressOrRoute → Call
+call_for (Address obj) = AddrAdd obj
+call_for (Route obj) = RouteAdd obj
+
+-- what lies on both ends for one address
+abbrev pub ptp_objects_for : Att → List ℕ → Given → List AddressOrRoute
+ptp_objects_for att netns g =
+    Address (address_on att netns g)
+    ∷ Route (record { ns = netns; dst = whole g.gateway; link = att.ifname; gw = None; tag = Own att })
+    ∷ Route (record { ns = netns; dst = g.subnet; link = att.ifname; gw = Some g.gateway; tag = Own att })
+    ∷ Address (record { ns = []; link = host_name_of att; cidr = whole g.gateway; tag = Own att })
+    ∷ Route (record { ns = []; dst = whole g.address.addr; link = host_name_of att; gw = None; tag = Own att })
+    ∷ []
+
+abbrev pub ptp_objects : PtpConf → Att → List ℕ → List Given → List AddressOrRoute
+ptp_objects conf att netns given = each_key_once same_key (flat_map (ptp_objects_for att netns) given ++ map (λ r. Route (route_on att netns given r)) conf.ipam.routes)
+
+abbrev pub ptp_share_before : PtpConf → Att → List ℕ → Share
+ptp_share_before conf att netns = record no_objects { links = host_end att netns None conf.mtu false ∷ inner_end att netns conf.mtu ∷ [] }
+
+abbrev pub ptp_share_after : PtpConf → Att → List ℕ → List Given → Share
+ptp_share_after conf att netns given = record no_objects {
+  addresses = filter_map address_in (ptp_objects conf att netns given);
+  routes = filter_map route_in (ptp_objects conf att netns given);
+  rules = masquerade_rules conf.ip_masq att given;
+}
+
+abbrev pub ptp_calls_before : PtpConf → Att → List ℕ → List Call
+ptp_calls_before conf att netns = VethAdd (host_end att netns None conf.mtu false) (inner_end att netns conf.mtu) ∷ []
+
+abbrev pub ptp_calls_after : PtpConf → Att → List ℕ → List Given → List Call
+ptp_calls_after conf att netns given = map call_for (ptp_objects conf att netns given) ++ (forward_calls given ++ map RuleAppend (masquerade_rules conf.ip_masq att given))
+
+-- the kinds of objects that DEL takes back
+abbrev pub ptp_kinds_of : PtpConf → List Kind
+ptp_kinds_of conf = Links ∷ (rule_kinds conf.ip_masq ++ Leases ∷ [])

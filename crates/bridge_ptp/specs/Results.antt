@@ -1,0 +1,76 @@
+-- What `bridge` and `ptp` answer (CNI specification, section 5, ADD Success).
+use Rattle.std.specs.Prelude.{ℕ, Bool, List, [], ◌∷◌, ◌++◌, map, find, Option, Some, None, if◌then◌else◌}
+use Rattle.std.specs.List.{list_any}
+use Rattle.cni_addr.specs.Codes.{family_eq}
+use Rattle.cni_addr.specs.Equal.{cidr_eq}
+use Rattle.cni_addr.specs.declared.address.Family.{Family}
+use Rattle.cni_addr.specs.declared.address.Family.TheVariants.{V4, V6}
+use Rattle.cni_result.specs.declared.version.Version.{Version}
+use Rattle.cni_result.specs.declared.version.Version.TheVariants.{V1_0, V1_1}
+use Rattle.cni_result.specs.declared.result.Interface.{Interface}
+use Rattle.cni_result.specs.declared.result.IpEntry.{IpEntry}
+use Rattle.cni_result.specs.declared.result.RouteEntry.{RouteEntry}
+use Rattle.cni_result.specs.declared.result.AddResult.{AddResult}
+use Rattle.net_conf.specs.declared.first.BridgeConf.{BridgeConf}
+use Rattle.net_conf.specs.declared.first.PtpConf.{PtpConf}
+use Rattle.kernel_types.specs.Names.{host_name_of, host_mac_of, inner_mac_of, link_mac_of}
+use Rattle.kernel_types.specs.declared.object.Att.{Att}
+use Rattle.plan_words.specs.Shapes.{default_route}
+
+-- ---- interfaces
+
+-- the MTU is told since 1.1.0
+abbrev pub mtu_since_1_1 : Version → ℕ → Option ℕ
+mtu_since_1_1 V1_0 mtu = None
+mtu_since_1_1 V1_1 mtu = Some mtu
+
+abbrev pub bridge_interface : List ℕ → Interface
+bridge_interface name = record { name = name; mac = Some (link_mac_of name); mtu = None; sandbox = None }
+
+abbrev pub host_interface : Att → ℕ → Version → Interface
+host_interface att mtu version = record { name = host_name_of att; mac = Some (host_mac_of att); mtu = mtu_since_1_1 version mtu; sandbox = None }
+
+abbrev pub inner_interface : Att → List ℕ → ℕ → Version → Interface
+inner_interface att netns mtu version = record { name = att.ifname; mac = Some (inner_mac_of att); mtu = mtu_since_1_1 version mtu; sandbox = Some netns }
+
+-- the address is on the interface of this index
+abbrev pub at_interface : ℕ → IpEntry → IpEntry
+at_interface index ip = record { address = ip.address; gateway = ip.gateway; interface = Some index }
+
+-- ---- routes
+
+abbrev pub default_by : Family → Option IpEntry → List RouteEntry
+default_by family None = []
+default_by family (Some ip) = record { dst = default_route family; gw = ip.gateway } ∷ []
+
+-- the default route by the gateway of the family's first address, unless one is configured
+abbrev pub missing_default : Family → List RouteEntry → List IpEntry → List RouteEntry
+missing_default family routes ips =
+    if list_any (λ r. cidr_eq r.dst (default_route family)) routes
+    then []
+    else default_by family (find (λ ip. family_eq ip.address.addr.family family) ips)
+
+-- `isDefaultGateway` adds the default routes at the end, IPv4 first
+abbrev pub bridge_routes : Bool → List RouteEntry → List IpEntry → List RouteEntry
+bridge_routes is_default_gateway routes ips =
+    if is_default_gateway then routes ++ (missing_default V4 routes ips ++ missing_default V6 routes ips) else routes
+
+-- ---- the results
+
+abbrev pub bridge_result_of : BridgeConf → Att → List ℕ → AddResult → AddResult
+bridge_result_of conf att netns ipam = record {
+  version = ipam.version;
+  interfaces = bridge_interface conf.bridge ∷ host_interface att conf.mtu ipam.version ∷ inner_interface att netns conf.mtu ipam.version ∷ [];
+  ips = map (at_interface 2) ipam.ips;
+  routes = bridge_routes conf.is_default_gateway ipam.routes ipam.ips;
+  dns = conf.dns;
+}
+
+abbrev pub ptp_result_of : PtpConf → Att → List ℕ → AddResult → AddResult
+ptp_result_of conf att netns ipam = record {
+  version = ipam.version;
+  interfaces = host_interface att conf.mtu ipam.version ∷ inner_interface att netns conf.mtu ipam.version ∷ [];
+  ips = map (at_interface 1) ipam.ips;
+  routes = ipam.routes;
+  dns = conf.dns;
+}

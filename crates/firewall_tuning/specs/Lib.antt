@@ -1,0 +1,2 @@
+pub mod Firewall
+pub mod Tuning

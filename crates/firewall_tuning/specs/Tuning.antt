@@ -1,0 +1,57 @@
+-- The plan and the result of the `tuning` plugin: kernel settings of the container's namespace, and values of its link.
+use Rattle.std.specs.Prelude.{ℕ, Bool, ◌||◌, List, [], ◌∷◌, ◌++◌, map, Option, is_some, if◌then◌else◌}
+use Rattle.std.specs.Option.{option_or}
+use Rattle.cni_result.specs.declared.version.Version.{Version}
+use Rattle.cni_result.specs.declared.version.Version.TheVariants.{V1_0, V1_1}
+use Rattle.cni_result.specs.declared.result.Interface.{Interface}
+use Rattle.cni_result.specs.declared.result.AddResult.{AddResult}
+use Rattle.net_conf.specs.declared.chained.Sysctl.{Sysctl}
+use Rattle.net_conf.specs.declared.chained.TuningConf.{TuningConf}
+use Rattle.kernel_types.specs.Apply.Calls.{is_same_setting, set_link}
+use Rattle.kernel_types.specs.declared.object.Att.{Att}
+use Rattle.kernel_types.specs.declared.object.Link.{Link}
+use Rattle.kernel_types.specs.declared.object.Setting.{Setting}
+use Rattle.kernel_types.specs.declared.object.Tag.TheVariants.{Own}
+use Rattle.kernel_types.specs.declared.call.Call.{Call}
+use Rattle.kernel_types.specs.declared.call.Call.TheVariants.{LinkSet, SettingSet}
+use Rattle.plan_words.specs.Keys.{each_key_once}
+
+-- ---- settings
+
+abbrev pub setting_of : Att → List ℕ → Sysctl → Setting
+setting_of att netns s = record { ns = netns; key = s.key; value = s.value; tag = Own att }
+
+abbrev pub tuning_settings : TuningConf → Att → List ℕ → List Setting
+tuning_settings conf att netns = each_key_once is_same_setting (map (setting_of att netns) conf.sysctl)
+
+-- ---- the container's link
+
+abbrev pub sets_any : TuningConf → Bool
+sets_any conf = is_some conf.mac || (is_some conf.mtu || (is_some conf.tx_qlen || (conf.promisc || conf.allmulti)))
+
+abbrev pub link_set_calls : TuningConf → Att → List ℕ → List Call
+link_set_calls conf att netns =
+    if sets_any conf then LinkSet att (record { ns = netns; name = att.ifname }) conf.mac conf.mtu conf.tx_qlen conf.promisc conf.allmulti ∷ [] else []
+
+-- the links after it
+abbrev pub tuned : TuningConf → Att → List ℕ → List Link → List Link
+tuned conf att netns links =
+    if sets_any conf then map (set_link att (record { ns = netns; name = att.ifname }) conf.mac conf.mtu conf.tx_qlen conf.promisc conf.allmulti) links else links
+
+abbrev pub tuning_calls_of : TuningConf → Att → List ℕ → List Call
+tuning_calls_of conf att netns = map SettingSet (tuning_settings conf att netns) ++ link_set_calls conf att netns
+
+-- ---- the result
+
+abbrev pub new_mtu : Version → Option ℕ → Option ℕ → Option ℕ
+new_mtu V1_0 mtu old = old
+new_mtu V1_1 mtu old = option_or mtu old
+
+-- the container's end alone has a sandbox
+abbrev pub tuned_interface : TuningConf → Version → Interface → Interface
+tuned_interface conf version i =
+    if is_some i.sandbox then record { name = i.name; mac = option_or conf.mac i.mac; mtu = new_mtu version conf.mtu i.mtu; sandbox = i.sandbox } else i
+
+abbrev pub tuning_result_of : TuningConf → AddResult → AddResult
+tuning_result_of conf prev =
+    record { version = prev.version; interfaces = map (tuned_interface conf prev.version) prev.interfaces; ips = prev.ips; routes = prev.routes; dns = prev.dns }

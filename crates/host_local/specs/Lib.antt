@@ -1,0 +1,3 @@
+pub mod Conf
+pub mod Leases
+pub mod Results

@@ -1,0 +1,18 @@
+-- The result of `host-local`, which the plugin that makes the interface completes (CNI specification, section 4, "IPAM plugins").
+use Rattle.std.specs.Prelude.{List, [], map, Option, Some, None}
+use Rattle.cni_result.specs.declared.version.Version.{Version}
+use Rattle.cni_result.specs.declared.result.IpEntry.{IpEntry}
+use Rattle.cni_result.specs.declared.result.Dns.{Dns}
+use Rattle.cni_result.specs.declared.result.AddResult.{AddResult}
+use Rattle.net_conf.specs.declared.first.HostLocalConf.{HostLocalConf}
+use Rattle.kernel_types.specs.declared.call.Given.{Given}
+use Rattle.host_local.specs.Conf.{routes_of}
+
+abbrev pub no_dns : Dns
+no_dns = record { nameservers = []; domain = []; search = []; options = [] }
+
+abbrev pub ip_of : Given → IpEntry
+ip_of g = record { address = g.address; gateway = Some g.gateway; interface = None }
+
+abbrev pub ipam_result_of : Option HostLocalConf → List Given → Version → AddResult
+ipam_result_of ipam given version = record { version = version; interfaces = []; ips = map ip_of given; routes = routes_of ipam; dns = no_dns }

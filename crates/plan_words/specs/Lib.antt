@@ -1,0 +1,4 @@
+pub mod Keys
+pub mod PlanCalls
+pub mod Shapes
+pub mod Share

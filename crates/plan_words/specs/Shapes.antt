@@ -1,0 +1,137 @@
+-- The objects of an attachment, as the plugins make them (documentation of `bridge`, `ptp`, `macvlan`; the rule sets are this project's own, after iptables).
+use Rattle.std.specs.Prelude.{ℕ, ◌*◌, ◌^◌, Bool, true, false, List, [], ◌∷◌, ◌++◌, map, flat_map, find, Option, Some, None, option_map, if◌then◌else◌}
+use Rattle.std.specs.List.{list_any}
+use Rattle.std.specs.Option.{option_or}
+use Rattle.cni_addr.specs.Codes.{family_eq}
+use Rattle.cni_addr.specs.declared.address.Addr.{Addr}
+use Rattle.cni_addr.specs.declared.address.Cidr.{Cidr}
+use Rattle.cni_addr.specs.declared.address.Family.{Family}
+use Rattle.cni_addr.specs.declared.address.Family.TheVariants.{V4, V6}
+use Rattle.cni_addr.specs.Network.{whole}
+use Rattle.cni_addr.specs.declared.macvlan.MacvlanMode.{MacvlanMode}
+use Rattle.cni_result.specs.declared.result.RouteEntry.{RouteEntry}
+use Rattle.kernel_types.specs.declared.object.Att.{Att}
+use Rattle.kernel_types.specs.declared.object.Tag.TheVariants.{Own}
+use Rattle.kernel_types.specs.declared.object.LinkKind.TheVariants.{Veth, Macvlan}
+use Rattle.kernel_types.specs.declared.object.Link.{Link}
+use Rattle.kernel_types.specs.declared.object.AddrObj.{AddrObj}
+use Rattle.kernel_types.specs.declared.object.RouteObj.{RouteObj}
+use Rattle.kernel_types.specs.declared.object.Rule.{Rule}
+use Rattle.kernel_types.specs.declared.object.Lease.{Lease}
+use Rattle.kernel_types.specs.declared.object.Table.TheVariants.{Nat}
+use Rattle.kernel_types.specs.declared.object.Chain.TheVariants.{Masq}
+use Rattle.kernel_types.specs.declared.object.Target.TheVariants.{Accept, Masquerade}
+use Rattle.kernel_types.specs.Apply.Calls.{is_same_addr, is_same_route}
+use Rattle.kernel_types.specs.Equal.{rule_eq}
+use Rattle.kernel_types.specs.declared.call.Call.{Call}
+use Rattle.kernel_types.specs.declared.call.Call.TheVariants.{ForwardEnsure}
+use Rattle.kernel_types.specs.declared.call.Given.{Given}
+use Rattle.plan_words.specs.Keys.{each_key_once}
+use Rattle.kernel_types.specs.Names.{host_name_of, host_mac_of, inner_mac_of}
+
+-- ---- networks that rules and routes speak of
+
+-- every address
+abbrev pub default_route : Family → Cidr
+default_route family = record { addr = record { family = family; bits = 0 }; prefix = 0 }
+
+-- `224.0.0.0/4` (RFC 5771) and `ff00::/8` (RFC 4291)
+abbrev pub multicast : Family → Cidr
+multicast V4 = record { addr = record { family = V4; bits = 14 * 2 ^ 28 }; prefix = 4 }
+multicast V6 = record { addr = record { family = V6; bits = 255 * 2 ^ 120 }; prefix = 8 }
+
+-- ---- links
+
+abbrev pub host_end : Att → List ℕ → Option (List ℕ) → ℕ → Bool → Link
+host_end att netns master mtu hairpin = record {
+  ns = [];
+  name = host_name_of att;
+  kind = Veth;
+  master = master;
+  peer = Some (record { ns = netns; name = att.ifname });
+  mac = host_mac_of att;
+  mtu = mtu;
+  hairpin = hairpin;
+  promisc = false;
+  allmulti = false;
+  tx_qlen = 1000;
+  tag = Own att;
+}
+
+abbrev pub inner_end : Att → List ℕ → ℕ → Link
+inner_end att netns mtu = record {
+  ns = netns;
+  name = att.ifname;
+  kind = Veth;
+  master = None;
+  peer = Some (record { ns = []; name = host_name_of att });
+  mac = inner_mac_of att;
+  mtu = mtu;
+  hairpin = false;
+  promisc = false;
+  allmulti = false;
+  tx_qlen = 1000;
+  tag = Own att;
+}
+
+abbrev pub macvlan_link : Att → List ℕ → List ℕ → MacvlanMode → ℕ → Link
+macvlan_link att netns master mode mtu = record {
+  ns = netns;
+  name = att.ifname;
+  kind = Macvlan mode;
+  master = Some master;
+  peer = None;
+  mac = inner_mac_of att;
+  mtu = mtu;
+  hairpin = false;
+  promisc = false;
+  allmulti = false;
+  tx_qlen = 1000;
+  tag = Own att;
+}
+
+-- ---- on the container end
+
+abbrev pub address_on : Att → List ℕ → Given → AddrObj
+address_on att netns g = record { ns = netns; link = att.ifname; cidr = g.address; tag = Own att }
+
+-- the route's own gateway, else the first given address's of its family
+abbrev pub gateway_for : List Given → RouteEntry → Option Addr
+gateway_for given r = option_or r.gw (option_map (λ g. g.gateway) (find (λ g. family_eq g.address.addr.family r.dst.addr.family) given))
+
+abbrev pub route_on : Att → List ℕ → List Given → RouteEntry → RouteObj
+route_on att netns given r = record { ns = netns; dst = r.dst; link = att.ifname; gw = gateway_for given r; tag = Own att }
+
+abbrev pub lease_of : Att → Addr → Lease
+lease_of att addr = record { network = att.network; addr = addr; tag = Own att }
+
+-- ---- rules
+
+-- from the address into its subnet: as it is
+abbrev pub no_masquerade_in_subnet : Att → Given → Rule
+no_masquerade_in_subnet att g = record { table = Nat; chain = Masq; src = Some (whole g.address.addr); dst = Some g.subnet; not_dst = false; protocol = None; dport = None; established = false; target = Accept; tag = Own att }
+
+-- from the address to anywhere but multicast: masqueraded
+abbrev pub masquerade_out : Att → Given → Rule
+masquerade_out att g = record { table = Nat; chain = Masq; src = Some (whole g.address.addr); dst = Some (multicast g.address.addr.family); not_dst = true; protocol = None; dport = None; established = false; target = Masquerade; tag = Own att }
+
+abbrev pub masquerade_of : Att → Given → List Rule
+masquerade_of att g = no_masquerade_in_subnet att g ∷ masquerade_out att g ∷ []
+
+-- ---- for all given addresses
+
+abbrev pub addresses_on : Att → List ℕ → List Given → List AddrObj
+addresses_on att netns given = each_key_once is_same_addr (map (address_on att netns) given)
+
+abbrev pub routes_on : Att → List ℕ → List Given → List RouteEntry → List RouteObj
+routes_on att netns given entries = each_key_once is_same_route (map (route_on att netns given) entries)
+
+abbrev pub masquerade_rules : Bool → Att → List Given → List Rule
+masquerade_rules ip_masq att given = if ip_masq then each_key_once rule_eq (flat_map (masquerade_of att) given) else []
+
+-- the host forwards for the families of the given addresses, IPv4 first
+abbrev pub forward_for : Family → List Given → List Call
+forward_for family given = if list_any (λ g. family_eq g.address.addr.family family) given then ForwardEnsure family ∷ [] else []
+
+abbrev pub forward_calls : List Given → List Call
+forward_calls given = forward_for V4 given ++ forward_for V6 given

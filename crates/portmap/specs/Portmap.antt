@@ -1,0 +1,87 @@
+-- The plan of the `portmap` plugin: ports of the host that lead to the container. The rule sets are this project's own, after iptables.
+use Rattle.std.specs.Prelude.{ℕ, ◌+◌, ◌*◌, ◌^◌, Bool, true, false, List, [], ◌∷◌, ◌++◌, map, find, flat_map, Option, Some, None, option_map, if◌then◌else◌}
+use Rattle.cni_addr.specs.Codes.{family_eq}
+use Rattle.cni_addr.specs.Network.{whole, network_of}
+use Rattle.cni_addr.specs.declared.address.Family.{Family}
+use Rattle.cni_addr.specs.declared.address.Family.TheVariants.{V4, V6}
+use Rattle.cni_addr.specs.declared.address.Addr.{Addr}
+use Rattle.cni_addr.specs.declared.address.Cidr.{Cidr}
+use Rattle.cni_result.specs.declared.cached.PortMapping.{PortMapping}
+use Rattle.cni_result.specs.declared.result.IpEntry.{IpEntry}
+use Rattle.net_conf.specs.declared.chained.PortmapConf.{PortmapConf}
+use Rattle.kernel_types.specs.Equal.{rule_eq}
+use Rattle.kernel_types.specs.declared.object.Att.{Att}
+use Rattle.kernel_types.specs.declared.object.Tag.TheVariants.{Own}
+use Rattle.kernel_types.specs.declared.object.Rule.{Rule}
+use Rattle.kernel_types.specs.declared.object.Table.TheVariants.{Nat}
+use Rattle.kernel_types.specs.declared.object.Chain.TheVariants as chains
+use Rattle.kernel_types.specs.declared.object.Target.TheVariants as targets
+use Rattle.kernel_types.specs.declared.call.Call.{Call}
+use Rattle.kernel_types.specs.declared.call.Call.TheVariants.{RuleAppend}
+use Rattle.plan_words.specs.Keys.{each_key_once}
+
+-- `127.0.0.1/32`
+abbrev pub loopback : Cidr
+loopback = record { addr = record { family = V4; bits = 127 * 2 ^ 24 + 1 }; prefix = 32 }
+
+-- the mapping doesn't ask for a host address of the other family
+abbrev pub host_ip_allows : Option Addr → Addr → Bool
+host_ip_allows None addr = true
+host_ip_allows (Some host_ip) addr = family_eq host_ip.family addr.family
+
+-- to the port of the host: on to the container
+abbrev pub dnat_of : Att → PortMapping → Addr → Rule
+dnat_of att m addr = record {
+  table = Nat;
+  chain = chains.Dnat;
+  src = None;
+  dst = option_map whole m.host_ip;
+  not_dst = false;
+  protocol = Some m.protocol;
+  dport = Some m.host_port;
+  established = false;
+  target = targets.Dnat addr m.container_port;
+  tag = Own att;
+}
+
+-- to the container's port from its own network, or from the host itself: masqueraded, so that replies come back this way
+abbrev pub hostport_masquerade : Att → PortMapping → Addr → Cidr → Rule
+hostport_masquerade att m addr src = record {
+  table = Nat;
+  chain = chains.HostMasq;
+  src = Some src;
+  dst = Some (whole addr);
+  not_dst = false;
+  protocol = Some m.protocol;
+  dport = Some m.container_port;
+  established = false;
+  target = targets.Masquerade;
+  tag = Own att;
+}
+
+abbrev pub from_host : Att → PortMapping → Addr → Family → List Rule
+from_host att m addr V4 = hostport_masquerade att m addr loopback ∷ []
+from_host att m addr V6 = []
+
+abbrev pub masquerades_of : Bool → Att → IpEntry → PortMapping → List Rule
+masquerades_of snat att ip m =
+    if snat
+    then hostport_masquerade att m ip.address.addr (network_of ip.address) ∷ from_host att m ip.address.addr ip.address.addr.family
+    else []
+
+abbrev pub rules_for : Bool → Att → PortMapping → Option IpEntry → List Rule
+rules_for snat att m None = []
+rules_for snat att m (Some ip) =
+    if host_ip_allows m.host_ip ip.address.addr then dnat_of att m ip.address.addr ∷ masquerades_of snat att ip m else []
+
+-- for the first address of each family, IPv4 first
+abbrev pub mapping_rules : Bool → Att → List IpEntry → PortMapping → List Rule
+mapping_rules snat att ips m =
+    rules_for snat att m (find (λ ip. family_eq ip.address.addr.family V4) ips)
+    ++ rules_for snat att m (find (λ ip. family_eq ip.address.addr.family V6) ips)
+
+abbrev pub portmap_rules : PortmapConf → Att → List PortMapping → List IpEntry → List Rule
+portmap_rules conf att mappings ips = each_key_once rule_eq (flat_map (mapping_rules conf.snat att ips) mappings)
+
+abbrev pub portmap_calls_of : PortmapConf → Att → List PortMapping → List IpEntry → List Call
+portmap_calls_of conf att mappings ips = map RuleAppend (portmap_rules conf att mappings ips)
