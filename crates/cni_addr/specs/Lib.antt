@@ -1,3 +1,4 @@
+pub mod AddrText
 pub mod Codes
 pub mod Equal
 pub mod Network

@@ -8,5 +8,6 @@ pub mod Names
 pub mod Parts
 pub mod Replies
 pub mod Sound
+pub mod Texts
 pub mod Touch
 pub mod Words

@@ -1,0 +1,38 @@
+-- Addresses as texts, in the grammar and the spelling of std's addresses.
+use Rattle.std.specs.Prelude.{ℕ, List, Option, option_map}
+use Rattle.std.specs.Int.{w32, w128, to_be_bytes, from_be_bytes}
+use Rattle.std.specs.Net.Addr.{segments_of}
+use Rattle.std.specs.Net.Grammar.{IsDotted, IsColonHex}
+use Rattle.std.specs.Net.Reader.{read_ipv4, whole_value}
+use Rattle.std.specs.Net.Text.{ipv4_text, ipv6_text}
+use Rattle.cni_addr.specs.declared.address.Family.{Family}
+use Rattle.cni_addr.specs.declared.address.Family.TheVariants.{V4, V6}
+use Rattle.cni_addr.specs.Value.{AddrValue, IsAddr}
+
+-- the text spells the number as an address of the family: four decimal numbers without leading zeros, joined by
+-- dots (RFC 3986, 3.2.2, IPv4address), or groups of hex digits (RFC 4291, 2.2)
+abbrev pub Spells : List ℕ → Family → ℕ → Type 0
+Spells text V4 bits = IsDotted text (to_be_bytes w32 bits)
+Spells text V6 bits = IsColonHex text (segments_of (to_be_bytes w128 bits))
+
+-- the text spells the address, which is of a family that is built
+pub record IsAddrText (text : List ℕ) (a : AddrValue) : Type 0 where
+  pub fits : IsAddr a
+  pub spelled : Spells text a.family a.bits
+
+-- the address of four octets, the first the highest
+abbrev pub address_of_octets : List ℕ → AddrValue
+address_of_octets octets = record { family = V4; bits = from_be_bytes w32 octets }
+
+-- the address that the whole text spells
+unfoldable pub addr_of_text : List ℕ → Option AddrValue
+addr_of_text text = option_map address_of_octets (whole_value (read_ipv4 text))
+
+-- the number as an address of the family is written (RFC 5952 for IPv6)
+abbrev pub bits_text : Family → ℕ → List ℕ
+bits_text V4 bits = ipv4_text (to_be_bytes w32 bits)
+bits_text V6 bits = ipv6_text (segments_of (to_be_bytes w128 bits))
+
+-- the text that is written of an address
+unfoldable pub addr_text : AddrValue → List ℕ
+addr_text a = bits_text a.family a.bits

@@ -1,0 +1,5 @@
+pub mod Answers
+pub mod Codes
+pub mod CommandWords
+pub mod Script
+pub mod Wanted

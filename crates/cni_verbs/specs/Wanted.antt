@@ -1,0 +1,184 @@
+-- The calls of an ADD, the objects that it wants, and its result (CNI specification, section 3, "Adding an attachment").
+use Rattle.std.specs.Prelude.{ℕ, List, [], ◌∷◌, ◌++◌, map, reverse, flat_map}
+use Rattle.cni_addr.specs.declared.address.Addr.{Addr}
+use Rattle.cni_addr.specs.declared.range.RangeSet.{RangeSet}
+use Rattle.cni_result.specs.declared.cached.PortMapping.{PortMapping}
+use Rattle.cni_result.specs.declared.cached.Cached.{Cached}
+use Rattle.cni_result.specs.declared.result.AddResult.{AddResult}
+use Rattle.cni_result.specs.declared.result.IpEntry.{IpEntry}
+use Rattle.net_conf.specs.declared.first.First.{First}
+use Rattle.net_conf.specs.declared.first.First.TheVariants as firsts
+use Rattle.net_conf.specs.declared.chained.Chained.{Chained}
+use Rattle.net_conf.specs.declared.chained.Chained.TheVariants.{Portmap, Firewall, Tuning}
+use Rattle.net_conf.specs.declared.list.NetList.{NetList}
+use Rattle.kernel_types.specs.declared.object.Att.{Att}
+use Rattle.kernel_types.specs.declared.object.Link.{Link}
+use Rattle.kernel_types.specs.declared.object.Rule.{Rule}
+use Rattle.kernel_types.specs.declared.object.Setting.{Setting}
+use Rattle.kernel_types.specs.declared.object.Tag.TheVariants.{Own}
+use Rattle.kernel_types.specs.declared.call.Given.{Given}
+use Rattle.kernel_types.specs.declared.call.Kind.{Kind}
+use Rattle.kernel_types.specs.declared.call.Kind.TheVariants as kinds
+use Rattle.kernel_types.specs.declared.call.Call.{Call}
+use Rattle.kernel_types.specs.declared.call.Call.TheVariants.{Begin, LinkDel, RuleDel, SettingDel, LeaseDel, CacheDel, CachePut}
+use Rattle.plan_words.specs.Shapes.{lease_of}
+use Rattle.plan_words.specs.Share.{Share}
+use Rattle.host_local.specs.Conf.{ipam_of, range_sets_of}
+use Rattle.host_local.specs.Leases.{given_of, lease_calls_of}
+use Rattle.host_local.specs.Results.{ipam_result_of}
+use Rattle.bridge_ptp.specs.Bridge.{bridge_share_before, bridge_share_after, bridge_calls_before, bridge_calls_after, bridge_kinds_of}
+use Rattle.bridge_ptp.specs.Ptp.{ptp_share_before, ptp_share_after, ptp_calls_before, ptp_calls_after, ptp_kinds_of}
+use Rattle.bridge_ptp.specs.Results.{bridge_result_of, ptp_result_of}
+use Rattle.macvlan.specs.Macvlan.{macvlan_share_before, macvlan_share_after, macvlan_calls_before, macvlan_calls_after, macvlan_kinds_of, macvlan_result_of}
+use Rattle.portmap.specs.Portmap.{portmap_rules, portmap_calls_of}
+use Rattle.firewall_tuning.specs.Firewall.{firewall_rules, firewall_calls_of}
+use Rattle.firewall_tuning.specs.Tuning.{tuning_settings, tuned, tuning_calls_of, tuning_result_of}
+
+-- ---- the first plugin
+
+abbrev pub share_before : First → Att → List ℕ → Share
+share_before (firsts.Bridge conf) att netns = bridge_share_before conf att netns
+share_before (firsts.Ptp conf) att netns = ptp_share_before conf att netns
+share_before (firsts.Macvlan conf) att netns = macvlan_share_before conf att netns
+
+abbrev pub share_after : First → Att → List ℕ → List Given → Share
+share_after (firsts.Bridge conf) att netns given = bridge_share_after conf att netns given
+share_after (firsts.Ptp conf) att netns given = ptp_share_after conf att netns given
+share_after (firsts.Macvlan conf) att netns given = macvlan_share_after conf att netns given
+
+abbrev pub calls_before : First → Att → List ℕ → List Call
+calls_before (firsts.Bridge conf) att netns = bridge_calls_before conf att netns
+calls_before (firsts.Ptp conf) att netns = ptp_calls_before conf att netns
+calls_before (firsts.Macvlan conf) att netns = macvlan_calls_before conf att netns
+
+abbrev pub calls_after : First → Att → List ℕ → List Given → List Call
+calls_after (firsts.Bridge conf) att netns given = bridge_calls_after conf att netns given
+calls_after (firsts.Ptp conf) att netns given = ptp_calls_after conf att netns given
+calls_after (firsts.Macvlan conf) att netns given = macvlan_calls_after conf att netns given
+
+abbrev pub first_result : First → Att → List ℕ → AddResult → AddResult
+first_result (firsts.Bridge conf) att netns ipam = bridge_result_of conf att netns ipam
+first_result (firsts.Ptp conf) att netns ipam = ptp_result_of conf att netns ipam
+first_result (firsts.Macvlan conf) att netns ipam = macvlan_result_of conf att netns ipam
+
+abbrev pub first_kinds : First → List Kind
+first_kinds (firsts.Bridge conf) = bridge_kinds_of conf
+first_kinds (firsts.Ptp conf) = ptp_kinds_of conf
+first_kinds (firsts.Macvlan conf) = macvlan_kinds_of conf
+
+-- ---- the chained plugins
+
+abbrev pub rules_of : Chained → Att → List PortMapping → List IpEntry → List Rule
+rules_of (Portmap conf) att mappings ips = portmap_rules conf att mappings ips
+rules_of (Firewall conf) att mappings ips = firewall_rules att ips
+rules_of (Tuning conf) att mappings ips = []
+
+abbrev pub settings_of : Chained → Att → List ℕ → List Setting
+settings_of (Portmap conf) att netns = []
+settings_of (Firewall conf) att netns = []
+settings_of (Tuning conf) att netns = tuning_settings conf att netns
+
+abbrev pub links_after : Chained → Att → List ℕ → List Link → List Link
+links_after (Portmap conf) att netns links = links
+links_after (Firewall conf) att netns links = links
+links_after (Tuning conf) att netns links = tuned conf att netns links
+
+abbrev pub chained_calls : Chained → Att → List ℕ → List PortMapping → List IpEntry → List Call
+chained_calls (Portmap conf) att netns mappings ips = portmap_calls_of conf att mappings ips
+chained_calls (Firewall conf) att netns mappings ips = firewall_calls_of att ips
+chained_calls (Tuning conf) att netns mappings ips = tuning_calls_of conf att netns
+
+abbrev pub chained_result : Chained → AddResult → AddResult
+chained_result (Portmap conf) prev = prev
+chained_result (Firewall conf) prev = prev
+chained_result (Tuning conf) prev = tuning_result_of conf prev
+
+abbrev pub chained_kinds : Chained → List Kind
+chained_kinds (Portmap conf) = kinds.Rules ∷ []
+chained_kinds (Firewall conf) = kinds.Rules ∷ []
+chained_kinds (Tuning conf) = kinds.Settings ∷ []
+
+-- each is handed the result of the one before
+abbrev pub all_chained_results : List Chained → AddResult → AddResult
+all_chained_results [] prev = prev
+all_chained_results (c ∷ cs) prev = all_chained_results cs (chained_result c prev)
+
+abbrev pub all_chained_calls : List Chained → Att → List ℕ → List PortMapping → AddResult → List Call
+all_chained_calls [] att netns mappings prev = []
+all_chained_calls (c ∷ cs) att netns mappings prev =
+    chained_calls c att netns mappings prev.ips ++ all_chained_calls cs att netns mappings (chained_result c prev)
+
+abbrev pub all_links_after : List Chained → Att → List ℕ → List Link → List Link
+all_links_after [] att netns links = links
+all_links_after (c ∷ cs) att netns links = all_links_after cs att netns (links_after c att netns links)
+
+-- ---- the result
+
+abbrev pub sets_of : NetList → List RangeSet
+sets_of list = range_sets_of (ipam_of list.first)
+
+abbrev pub given_by_list : NetList → List Addr → List Given
+given_by_list list addrs = given_of (sets_of list) addrs
+
+abbrev pub first_plugin_result : NetList → Att → List ℕ → List Addr → AddResult
+first_plugin_result list att netns addrs =
+    first_result list.first att netns (ipam_result_of (ipam_of list.first) (given_by_list list addrs) list.version)
+
+-- the result of the last plugin
+unfoldable pub result_of_add : NetList → Att → List ℕ → List Addr → AddResult
+result_of_add list att netns addrs = all_chained_results list.chained (first_plugin_result list att netns addrs)
+
+-- ---- the wanted objects
+
+abbrev pub cached_of : NetList → Att → List ℕ → List PortMapping → List Addr → Cached
+cached_of list att netns mappings addrs = record { netns = netns; mappings = mappings; result = result_of_add list att netns addrs }
+
+-- the links as they are before `tuning` sets its values
+abbrev pub untuned : NetList → Att → List ℕ → List Link
+untuned list att netns = (share_before list.first att netns).links
+
+-- all objects of the attachment, where these addresses were leased
+abbrev pub wanted : NetList → Att → List ℕ → List PortMapping → List Addr → Share
+wanted list att netns mappings addrs =
+    let first = share_after list.first att netns (given_by_list list addrs) in
+    let ips = (first_plugin_result list att netns addrs).ips in
+    record {
+      links = all_links_after list.chained att netns (untuned list att netns);
+      addresses = first.addresses;
+      routes = first.routes;
+      rules = first.rules ++ flat_map (λ c. rules_of c att mappings ips) list.chained;
+      settings = flat_map (λ c. settings_of c att netns) list.chained;
+      leases = map (lease_of att) addrs;
+      cached = record { cached = cached_of list att netns mappings addrs; tag = Own att } ∷ [];
+    }
+
+-- ---- the calls
+
+-- after the last lease
+abbrev pub back_calls : NetList → Att → List ℕ → List PortMapping → List Addr → List Call
+back_calls list att netns mappings addrs =
+    calls_after list.first att netns (given_by_list list addrs)
+    ++ (all_chained_calls list.chained att netns mappings (first_plugin_result list att netns addrs) ++ CachePut att (cached_of list att netns mappings addrs) ∷ [])
+
+-- all of them, where none is refused: what a run makes one by one
+abbrev pub add_calls : NetList → Att → List ℕ → List PortMapping → List Addr → List Call
+add_calls list att netns mappings addrs =
+    Begin att netns ∷ (calls_before list.first att netns ++ (lease_calls_of (sets_of list) att ++ back_calls list att netns mappings addrs))
+
+-- ---- deletions (CNI specification, section 3, "Deleting an attachment")
+
+-- the kinds of the chained plugins, the last one's first
+abbrev pub chained_kinds_reversed : List Chained → List Kind
+chained_kinds_reversed [] = []
+chained_kinds_reversed (c ∷ cs) = chained_kinds_reversed cs ++ chained_kinds c
+
+-- the kinds of all plugins, the last plugin's first, and the cached entry
+abbrev pub kinds_of : NetList → List Kind
+kinds_of list = chained_kinds_reversed list.chained ++ (first_kinds list.first ++ kinds.Cached ∷ [])
+
+abbrev pub deletion : Att → Kind → Call
+deletion att kinds.Links = LinkDel att
+deletion att kinds.Rules = RuleDel att
+deletion att kinds.Settings = SettingDel att
+deletion att kinds.Leases = LeaseDel att
+deletion att kinds.Cached = CacheDel att
