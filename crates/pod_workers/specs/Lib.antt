@@ -1,0 +1,5 @@
+pub mod Extends
+pub mod Facts
+pub mod Legal
+pub mod Plans
+pub mod World

@@ -1,0 +1,151 @@
+-- A plan, its history and answers, and what one step makes of them.
+use Rattle.std.specs.Prelude.{◌≡◌, ℕ, ◌+◌, ◌-◌, ◌<◌, ◌==◌, Bool, true, false, ◌||◌, ◌&&◌, List, [], ◌∷◌, ◌++◌, length, Option, Some, None, slice_get, slice_set, nat_le, if◌then◌else◌}
+use Rattle.std.specs.List.{list_any}
+use Rattle.cni_verbs.specs.Answers.{answer_of}
+use Rattle.cni_verbs.specs.Script.{Turn, Calls, Finishes, Finish, script}
+use Rattle.cni_verbs.specs.declared.answer.Answer.{Answer}
+use Rattle.cni_verbs.specs.declared.answer.Answer.TheVariants.{Yes, Stopped}
+use Rattle.cni_verbs.specs.declared.answer.Ending.TheVariants as endings
+use Rattle.kernel_types.specs.Apply.{apply}
+use Rattle.kernel_types.specs.Replies.{is_fault}
+use Rattle.kernel_types.specs.declared.object.Host.{Host}
+use Rattle.kernel_types.specs.declared.call.Call.{Call}
+use Rattle.kernel_types.specs.declared.call.Reply.{Reply}
+use Rattle.kernel_types.specs.declared.call.Reply.TheVariants.{Fault}
+use Rattle.net_conf.specs.declared.list.NetList.{NetList}
+use Rattle.pod_file.specs.declared.command.Command.{Command}
+use Rattle.pod_workers.specs.Plans.{Placed, commands_of, list_for}
+use Rattle.pod_workers.specs.declared.plan.Plan.{Plan}
+use Rattle.pod_workers.specs.declared.plan.Entry.{Entry}
+use Rattle.pod_workers.specs.declared.plan.Next.{Next}
+use Rattle.pod_workers.specs.declared.plan.Next.TheVariants as next
+use Rattle.pod_workers.specs.declared.plan.StepEnd.{StepEnd}
+use Rattle.pod_workers.specs.declared.plan.StepEnd.TheVariants.{Went, Over}
+
+-- all that is known of a book; the host and each run's state follow from it
+pub record World : Type 0 where
+  pub plan : Plan
+  pub history : List Entry
+  pub answers : List (Option Answer)
+  pub round : ℕ
+
+-- ---- the history
+
+-- the replies of the command at place n, in order
+abbrev pub replies_of : ℕ → List Entry → List Reply
+replies_of n [] = []
+replies_of n (e ∷ es) = if e.command == n + 1 then e.reply ∷ replies_of n es else replies_of n es
+
+-- the host after a call that was given this reply; a fault leaves it
+abbrev pub host_on : Host → Entry → Host
+host_on host e = if is_fault e.reply then host else (apply host e.call).0
+
+-- the host after these entries
+abbrev pub after : Host → List Entry → Host
+after host [] = host
+after host (e ∷ es) = after (host_on host e) es
+
+abbrev pub host_of : World → Host
+host_of w = after w.plan.pods.opening w.history
+
+abbrev pub own_replies : World → ℕ → List Reply
+own_replies w n = replies_of n w.history
+
+-- ---- a step
+
+-- the reply to a call: the kernel's, or the listed fault
+abbrev pub reply_to : Host → Call → Bool → Reply
+reply_to host call faulty = if faulty then Fault else (apply host call).1
+
+-- the call after so many is listed as a fault
+abbrev pub is_faulty : Command → ℕ → Bool
+is_faulty c made = list_any (λ k. k == made + 1) c.faults
+
+-- the command was to make no more than so many calls
+abbrev pub is_stop : Option ℕ → ℕ → Bool
+is_stop None made = false
+is_stop (Some most) made = nat_le most made
+
+abbrev pub last_entry : List Entry → Option Entry
+last_entry [] = None
+last_entry (e ∷ []) = Some e
+last_entry (e ∷ f ∷ es) = last_entry (f ∷ es)
+
+abbrev pub is_in_round : ℕ → Option Placed → Bool
+is_in_round round None = false
+is_in_round round (Some c) = c.round == round
+
+-- the entry of the plan's `stop_at` is the last one, and it is of the current round
+abbrev pub is_cut_at : Option ℕ → World → Option Entry → Bool
+is_cut_at None w e = false
+is_cut_at (Some number) w None = false
+is_cut_at (Some number) w (Some e) = length w.history == number && is_in_round w.round (slice_get (commands_of w.plan) (e.command - 1))
+
+abbrev pub is_cut : World → Bool
+is_cut w = is_cut_at w.plan.stop_at w (last_entry w.history)
+
+-- the script of a command; one of no network has nothing to do
+abbrev pub turn_by : Option NetList → Command → List Reply → Turn
+turn_by None c rs = Finishes (record { ending = endings.Yes; given = [] })
+turn_by (Some list) c rs = script list c rs
+
+abbrev pub answer_by : Option NetList → Command → Finish → Answer
+answer_by None c finish = Yes
+answer_by (Some list) c finish = answer_of list c finish
+
+-- the script's answer, else a stop, else a call
+abbrev pub next_by : Option NetList → Command → ℕ → Bool → Turn → Next
+next_by list c made cut (Finishes finish) = next.Answer (answer_by list c finish)
+next_by list c made cut (Calls call) = if is_stop c.stop made || cut then next.Answer (Stopped made) else next.Call call (is_faulty c made)
+
+abbrev pub next_of : World → Command → List Reply → Next
+next_of w c rs = next_by (list_for w.plan c) c (length rs) (is_cut w) (turn_by (list_for w.plan c) c rs)
+
+abbrev pub entry_of : Host → ℕ → Call → Bool → Entry
+entry_of host n call faulty = record { command = n + 1; call = call; reply = reply_to host call faulty }
+
+abbrev pub with_entry : World → Entry → World
+with_entry w e = record { plan = w.plan; history = w.history ++ e ∷ []; answers = w.answers; round = w.round }
+
+abbrev pub answered : World → ℕ → Answer → World
+answered w n a = record { plan = w.plan; history = w.history; answers = slice_set w.answers n (Some a); round = w.round }
+
+abbrev pub done : World → ℕ → Next → World
+done w n (next.Answer a) = answered w n a
+done w n (next.Call call faulty) = with_entry w (entry_of (host_of w) n call faulty)
+
+-- what a step of the command at place n makes: its answer, or one entry
+abbrev pub stepped : World → ℕ → Command → World
+stepped w n c = done w n (next_of w c (own_replies w n))
+
+abbrev pub end_of : Next → StepEnd
+end_of (next.Answer a) = Over
+end_of (next.Call call faulty) = Went
+
+abbrev pub next_round : World → World
+next_round w = record { plan = w.plan; history = w.history; answers = w.answers; round = w.round + 1 }
+
+-- ---- who may step
+
+abbrev pub IsAnswered : World → ℕ → Type 0
+IsAnswered w n = (a : Answer) × (slice_get w.answers n ≡ Some (Some a))
+
+abbrev pub AllNone : {T : Type 0} → List (Option T) → Type 0
+AllNone {T} xs = (n : ℕ) (o : Option T) → slice_get xs n ≡ Some o → o ≡ None
+
+-- a command of this round and container that has no answer (CNI specification, section 3, "Lifecycle & Ordering")
+abbrev pub Blocks : Placed → Option Answer → ℕ → List ℕ → Type 0
+Blocks d o round container = (d.round ≡ round) × (d.command.container ≡ container) × (o ≡ None)
+
+-- the command at place n is of the current round and has no answer, and each earlier one of its container in the round has one
+pub record MayStep (commands : List Placed) (answers : List (Option Answer)) (round n : ℕ) (c : Placed) : Type 0 where
+  pub there : slice_get commands n ≡ Some c
+  pub current : c.round ≡ round
+  pub unanswered : slice_get answers n ≡ Some None
+  pub first : (m : ℕ) (d : Placed) (o : Option Answer) → m < n → slice_get commands m ≡ Some d → slice_get answers m ≡ Some o → ¬ Blocks d o round c.command.container
+
+abbrev pub IsReady : World → ℕ → Placed → Type 0
+IsReady w n c = MayStep (commands_of w.plan) w.answers w.round n c
+
+abbrev pub IsRoundOver : World → Type 0
+IsRoundOver w = (n : ℕ) (c : Placed) → slice_get (commands_of w.plan) n ≡ Some c → c.round ≡ w.round → IsAnswered w n
