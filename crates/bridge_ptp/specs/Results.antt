@@ -39,16 +39,16 @@ at_interface index ip = record { address = ip.address; gateway = ip.gateway; int
 
 -- ---- routes
 
-abbrev pub default_by : Family → Option IpEntry → List RouteEntry
-default_by family None = []
-default_by family (Some ip) = record { dst = default_route family; gw = ip.gateway } ∷ []
+abbrev pub default_unless_there : List RouteEntry → Option IpEntry → List RouteEntry
+default_unless_there routes None = []
+default_unless_there routes (Some ip) =
+    if list_any (λ r. cidr_eq r.dst (default_route ip.address.addr.family)) routes
+    then []
+    else record { dst = default_route ip.address.addr.family; gw = ip.gateway } ∷ []
 
 -- the default route by the gateway of the family's first address, unless one is configured
 abbrev pub missing_default : Family → List RouteEntry → List IpEntry → List RouteEntry
-missing_default family routes ips =
-    if list_any (λ r. cidr_eq r.dst (default_route family)) routes
-    then []
-    else default_by family (find (λ ip. family_eq ip.address.addr.family family) ips)
+missing_default family routes ips = default_unless_there routes (find (λ ip. family_eq ip.address.addr.family family) ips)
 
 -- `isDefaultGateway` adds the default routes at the end, IPv4 first
 abbrev pub bridge_routes : Bool → List RouteEntry → List IpEntry → List RouteEntry

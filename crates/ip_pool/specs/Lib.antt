@@ -1,2 +1,3 @@
+pub mod Laws
 pub mod NextAddress
 pub mod Pool

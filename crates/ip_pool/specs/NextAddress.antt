@@ -44,6 +44,10 @@ pub record IsNextAddress (set : RangeSet) (last : Option Addr) (taken : List Add
   pub free : is_taken taken a ≡ false
   pub first : (b : Addr) → is_candidate set b ≡ true → is_passed set last a b ≡ true → is_taken taken b ≡ true
 
+-- some candidate is free
+abbrev pub HasFree : RangeSet → List Addr → Type 0
+HasFree set taken = (a : Addr) × (is_candidate set a ≡ true) × (is_taken taken a ≡ false)
+
 -- every candidate is taken
 abbrev pub IsExhausted : RangeSet → List Addr → Type 0
 IsExhausted set taken = (a : Addr) → is_candidate set a ≡ true → is_taken taken a ≡ true

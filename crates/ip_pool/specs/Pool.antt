@@ -1,5 +1,5 @@
 -- The candidates of a range set, and the one that is leased next (the `host-local` plugin, `ranges`).
-use Rattle.std.specs.Prelude.{ℕ, zero, suc, ◌+◌, ◌-◌, Bool, true, not, ◌&&◌, ◌||◌, nat_lt, List, [], ◌∷◌, ◌++◌, filter, find, take, Option, Some, None}
+use Rattle.std.specs.Prelude.{ℕ, zero, suc, ◌+◌, ◌-◌, Bool, true, not, ◌&&◌, ◌||◌, nat_lt, min, max, List, [], ◌∷◌, ◌++◌, filter, find, take, Option, Some, None}
 use Rattle.std.specs.List.{list_any, list_all, flat_map, after_first, position_or_len}
 use Rattle.cni_addr.specs.declared.address.Family.{Family}
 use Rattle.cni_addr.specs.declared.address.Addr.{Addr}
@@ -13,13 +13,21 @@ abbrev pub run_of : Family → ℕ → ℕ → List Addr
 run_of family bits zero = []
 run_of family bits (suc n) = record { family = family; bits = bits } ∷ run_of family (bits + 1) n
 
+-- the range's family's addresses from the number low to below high, without the range's gateway
+abbrev pub candidates_between : Range → ℕ → ℕ → List Addr
+candidates_between r low high = filter (λ a. not (addr_eq a r.gateway)) (run_of r.start.family low (high - low))
+
 -- the addresses from the range's start to its end, without its gateway
 abbrev pub candidates_in : Range → List Addr
-candidates_in r = filter (λ a. not (addr_eq a r.gateway)) (run_of r.start.family r.start.bits (r.end.bits + 1 - r.start.bits))
+candidates_in r = candidates_between r r.start.bits (r.end.bits + 1)
 
 -- the ranges' candidates, range by range
 abbrev pub candidates_of : RangeSet → List Addr
 candidates_of set = flat_map candidates_in set.ranges
+
+-- the candidates of a range after the number last, those of the later and of the earlier ranges, and the range's up to last
+abbrev pub way_round : Range → List Range → List Range → ℕ → List Addr
+way_round r earlier later last = candidates_between r (last + 1) (r.end.bits + 1) ++ (flat_map candidates_in later ++ (flat_map candidates_in earlier ++ candidates_between r r.start.bits (last + 1)))
 
 -- the order in which addresses are tried: those after the last one, then those up to it
 abbrev pub after_last_first : Option Addr → List Addr → List Addr
@@ -39,9 +47,9 @@ has_free_of set taken = list_any (is_free taken) (candidates_of set)
 
 -- ---- which sets are well formed
 
--- no address is between start and end of both
+-- no address is between start and end of both: the higher start is above the lower end
 abbrev pub is_apart : Range → Range → Bool
-is_apart r s = not (family_eq r.start.family s.start.family) || (nat_lt r.end.bits s.start.bits || nat_lt s.end.bits r.start.bits)
+is_apart r s = not (family_eq r.start.family s.start.family) || nat_lt (min r.end.bits s.end.bits) (max r.start.bits s.start.bits)
 
 -- no two ranges share an address
 abbrev pub are_apart : List Range → Bool

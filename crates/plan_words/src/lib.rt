@@ -1,1 +1,15 @@
+//! Words that the plans of all plugins share: an attachment's objects, lists in which each key stands once, and the
+//! calls that ask for objects.
+//!
+//! A plugin's plan defines its objects once. Its share of what an ADD wants (`specs/Share.antt`) and its calls both
+//! cite them, so that "the calls append the share" (`AppendsShare` in `specs/PlanCalls.antt`) is a fact about lists.
 #![tactic(auto)]
+
+pub mod asked;
+pub mod shapes;
+
+pub use asked::{Asked, ask_all, push_unless_there};
+pub use shapes::{
+    address_on, addresses_on, ask_forward, default_route, host_end, inner_end, lease_of,
+    macvlan_link, masquerade_rules, route_on, routes_on,
+};

@@ -1,0 +1,149 @@
+-- What is read of a network's text is its grammar, both ways, and what is written is read again.
+use Rattle.std.proofs.Common.{◌≡◌, ◌≢◌, ℕ, ◌^◌, ◌<◌, ◌≤◌, ◌==◌, Bool, true, false, cond, not, ◌&&◌, ◌||◌, List, [], ◌∷◌, ◌++◌, inl, inr, ◌+◌, ◌-◌, ap₂, take, drop, length-drop, lt-ltb, le-leb, length, get_or, Option, Some, None, Result, Ok, Err, decimal, refl, sym, ap, ◌∙◌, subst, arith, append-nil, lit≤}
+use Rattle.std.proofs.lemmas.Option.{none-some}
+use Rattle.std.proofs.lemmas.List.{drop_all, take_all}
+use Rattle.std.proofs.lemmas.Bool.{cases_lt, ltb-true, lt-leb}
+use Rattle.std.proofs.lemmas.Bool.Decides.{nat_tests}
+use Rattle.std.proofs.lemmas.Fmt.{decimal_is_IsNumeral, decimal_digit, first_decimal, decimal-digits_value, IsAscii-decimal}
+use Rattle.std.proofs.lemmas.Str.{IsUtf8-from_ascii}
+use Rattle.std.proofs.lemmas.Str.Parse.{numerals_by_value, tells_digits, without_leading_plus_none}
+use Rattle.std.specs.Result.{result_ok, OkIff}
+use Rattle.std.specs.Str.{IsUtf8}
+use Rattle.std.specs.Str.Parse.{IsNumeral, digits_value, ParsesUnsigned, without_leading_plus}
+use Rattle.std.specs.Net.Reader.{Read, read_number, read_octet, whole_value}
+use Rattle.std.proofs.NetLemmas.Ipv4.{read_octet_complete, read_octet_sound}
+use Rattle.cni_addr.specs.CidrText.{is_slash, begins_plainly, prefix_of_text, with_prefix, cidr_of_parts, cidr_of_text, cidr_text}
+use Rattle.cni_addr.proofs.Networks.{at_prefix}
+use Rattle.std.specs.Prelude.{if◌then◌else◌}
+use Rattle.cni_addr.specs.AddrText.{addr_of_text, addr_text}
+use Rattle.cni_addr.specs.Value.{AddrValue, CidrValue, longest_prefix}
+use Rattle.std.specs.List.{position, position_or_len, before_first, after_first}
+use Rattle.std.proofs.NetLemmas.Options.{cond_some}
+use Rattle.cni_addr.proofs.AddrTexts.{whole_some, none_of}
+
+-- the decimal text of a number is read
+pub read_decimal : (n : ℕ) → n < 256 → prefix_of_text (decimal n) ≡ Some n
+unfolding prefix_of_text
+read_decimal n fits =
+    let read : read_octet (decimal n) ≡ Some (n, []) = subst (λ t. read_octet t ≡ Some (n, [])) (append-nil (decimal n)) (read_octet_complete n [] fits (lit≤ tt)) in
+    ap (λ (r : Read ℕ). whole_value r) read
+
+-- what is read is a number, in decimal
+pub decimal_read : (text : List ℕ) (n : ℕ) → prefix_of_text text ≡ Some n → (n < 256) × (text ≡ decimal n)
+unfolding prefix_of_text
+decimal_read text n e =
+    let (fits, split, stop) = read_octet_sound text [] n (whole_some (read_octet text) n e) in
+    (fits, split ∙ append-nil (decimal n))
+
+-- nothing is read where the text is no number's
+pub none_decimal : (text : List ℕ) → ((n : ℕ) → n < 256 → text ≡ decimal n → ⊥) → prefix_of_text text ≡ None
+none_decimal text apart = none_of (prefix_of_text text) λ n e. let (fits, is) = decimal_read text n e in apart n fits is
+
+-- a plain text has no sign
+unsigned : (text : List ℕ) → begins_plainly text ≡ true → get_or text 0 0 ≢ 43
+unsigned text plain = grind (arith, nat_tests, plain)
+
+-- and a zero in front stands alone
+unpadded : (text : List ℕ) → begins_plainly text ≡ true → get_or text 0 0 ≡ 48 → length text ≡ 1
+unpadded text plain zero_first = grind (arith, nat_tests, plain, zero_first)
+
+begins_at_digit : (d : ℕ) → d < 10 → begins_plainly ((48 + d) ∷ []) ≡ true
+begins_at_digit d fits = grind (arith, nat_tests)
+
+begins_above : (text : List ℕ) → 48 < get_or text 0 0 → begins_plainly text ≡ true
+begins_above text above = grind (arith, nat_tests)
+
+-- the decimal text of a number is plain
+plain_decimal : (n : ℕ) → n < 256 → begins_plainly (decimal n) ≡ true
+plain_decimal n fits =
+    let small : n < 2 ^ 64 = omega arith in
+    elim (cases_lt n 10) [
+      | inl one ↦ rw (decimal_digit n one) (begins_at_digit n one)
+      | inr more ↦ begins_above (decimal n) (first_decimal n (omega arith) small)
+    ]
+
+-- what `parse` gives of a plain text
+pub parsed_plain : {E : Type 0} (text : List ℕ) (r : Result ℕ E) → begins_plainly text ≡ true → ParsesUnsigned 8 10 text r → result_ok r ≡ prefix_of_text text
+parsed_plain text (Ok n) plain h =
+    let bare = without_leading_plus_none text (unsigned text plain) in
+    let (number, fits) = subst (λ t. IsNumeral 10 t × (digits_value 10 t < 2 ^ 8)) bare h.0 in
+    let value = subst (λ t. n ≡ digits_value 10 t) bare h.1 in
+    let spelled = decimal-digits_value (numerals_by_value _ tells_digits) text number.1 number.0 (unpadded text plain) (omega arith) in
+    ap Some value ∙ sym (read_decimal (digits_value 10 text) (omega arith)) ∙ ap prefix_of_text spelled
+parsed_plain text (Err e) plain h =
+    sym (none_decimal text λ n fits is.
+    let (numeral, value) = decimal_is_IsNumeral n (omega arith) in
+    h (rw (without_leading_plus_none text (unsigned text plain), is) (numeral, omega (arith, value))))
+
+-- a text that is no UTF-8 is no number's
+pub none_unless_utf8 : (text : List ℕ) → ¬ (IsUtf8 text) → prefix_of_text text ≡ None
+none_unless_utf8 text not_text = none_decimal text λ n fits is. not_text (rw is (IsUtf8-from_ascii (decimal n) (IsAscii-decimal n (omega arith))))
+
+-- nor is one that is not plain
+pub none_unless_plain : (text : List ℕ) → begins_plainly text ≡ false → prefix_of_text text ≡ None
+none_unless_plain text not_plain = none_decimal text λ n fits is. cc (sym not_plain ∙ ap begins_plainly is ∙ plain_decimal n fits)
+
+-- ---- the parts of a network's text
+
+-- where a list has a first element that passes
+found_at : {A : Type 0} (p : A → Bool) (xs : List A) (i : ℕ) → Some i ≡ position p xs → (i ≡ position_or_len p xs) × (i < length xs)
+found_at p xs i e =
+    let (test, same) = cond_some _ _ _ (sym e) in
+    (sym same, let within = ltb-true (position_or_len p xs) (length xs) test in omega arith)
+
+-- and where it has none
+found_nowhere : {A : Type 0} (p : A → Bool) (xs : List A) → None ≡ position p xs → length xs ≤ position_or_len p xs
+found_nowhere p xs e =
+    elim (cases_lt (position_or_len p xs) (length xs)) [
+      | inl within ↦
+          let test = lt-ltb (position_or_len p xs) (length xs) within in
+          absurd (none-some (position_or_len p xs) (e ∙ ap (λ b. cond b (Some (position_or_len p xs)) None) test))
+      | inr beyond ↦ beyond
+    ]
+
+-- an empty text is no number's
+no_digits : prefix_of_text [] ≡ None
+unfolding prefix_of_text read_octet read_number
+no_digits = refl
+
+-- without a prefix there is no network
+pub without_prefix : (addr : Option AddrValue) → cidr_of_parts addr None ≡ None
+without_prefix None = refl
+without_prefix (Some a) = refl
+
+-- a text without a slash is no network's
+pub none_without_slash : (text : List ℕ) → None ≡ position is_slash text → cidr_of_text text ≡ None
+unfolding cidr_of_text
+none_without_slash text e =
+    let beyond = found_nowhere is_slash text e in
+    let nothing : after_first is_slash text ≡ [] = drop_all (position_or_len is_slash text + 1) text (omega arith) in
+    ap (λ t. cidr_of_parts (addr_of_text (before_first is_slash text)) (prefix_of_text t)) nothing
+    ∙ ap (cidr_of_parts (addr_of_text (before_first is_slash text))) no_digits
+    ∙ without_prefix (addr_of_text (before_first is_slash text))
+
+-- what is read of a text with a slash
+pub read_parts : (text : List ℕ) (i : ℕ) (addr : Option AddrValue) (prefix : Option ℕ) → Some i ≡ position is_slash text
+    → addr ≡ addr_of_text (take i text) → prefix ≡ prefix_of_text (take (length text - (i + 1)) (drop (i + 1) text))
+    → cidr_of_parts addr prefix ≡ cidr_of_text text
+unfolding cidr_of_text
+read_parts text i addr prefix e is_addr is_prefix =
+    let (place, within) = found_at is_slash text i e in
+    let rest : take (length text - (i + 1)) (drop (i + 1) text) ≡ drop (i + 1) text = take_all _ (drop (i + 1) text) (omega (arith, length-drop (i + 1) text)) in
+    ap₂ cidr_of_parts is_addr (is_prefix ∙ ap prefix_of_text rest)
+    ∙ ap₂ (λ (j k : ℕ). cidr_of_parts (addr_of_text (take j text)) (prefix_of_text (drop (k + 1) text))) place place
+
+-- a prefix that the family has, and one that it has not
+pub fitting_prefix : (a : AddrValue) (prefix : ℕ) → prefix ≤ longest_prefix a.family → Some (record { addr = a; prefix = prefix }) ≡ with_prefix a prefix
+fitting_prefix a prefix fits = sym (ap (λ b. if b then Some (at_prefix prefix a) else None) (le-leb prefix (longest_prefix a.family) fits))
+
+pub long_prefix : (a : AddrValue) (prefix : ℕ) → longest_prefix a.family < prefix → None ≡ with_prefix a prefix
+long_prefix a prefix long = sym (ap (λ b. if b then Some (at_prefix prefix a) else None) (lt-leb prefix (longest_prefix a.family) long))
+
+-- ---- what is written
+
+-- the text of a network, whose parts are known by other names
+pub written_parts : (c : CidrValue) (addr : AddrValue) (prefix : ℕ) (text : List ℕ) → at_prefix prefix addr ≡ c → text ≡ addr_text addr → text ++ 47 ∷ decimal prefix ≡ cidr_text c
+unfolding cidr_text
+written_parts c addr prefix text parts is =
+    let here : text ++ 47 ∷ decimal prefix ≡ cidr_text (at_prefix prefix addr) = ap (λ t. t ++ 47 ∷ decimal prefix) is in
+    here ∙ ap cidr_text parts

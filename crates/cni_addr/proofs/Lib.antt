@@ -1,0 +1,4 @@
+pub mod AddrTexts
+pub mod CidrTexts
+pub mod MacTexts
+pub mod Networks

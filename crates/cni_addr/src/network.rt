@@ -1,0 +1,72 @@
+//! Networks as numbers. No call here takes memory.
+
+ghost use Rattle.std.specs.Prelude.{◌≡◌, ◌-◌, ◌^◌};
+ghost use Rattle.cni_addr.specs.Network as network;
+ghost use Rattle.cni_addr.specs.Value.{longest_prefix};
+
+use crate::address::{Addr, Cidr, Family};
+
+impl Family {
+    /// The longest prefix of a network: the length of an address in bits.
+    pub fn longest_prefix(self) -> u8
+        ensures { result ≡ longest_prefix self }
+    {
+        match self {
+            Family::V4 => 32,
+            Family::V6 => 128,
+        }
+    }
+}
+
+/// Whether the address is of the network: it has the same family, and the same bits as far as the prefix goes.
+pub fn contains(cidr: &Cidr, addr: &Addr) -> bool
+    ensures { result ≡ network.contains cidr.now addr.now }
+{
+    let size = network_size(cidr);
+    let inside = cidr.addr;
+    inside.family == addr.family && addr.bits / size == inside.bits / size
+}
+
+/// The network itself: the host bits are cleared.
+pub fn network_of(cidr: &Cidr) -> Cidr
+    ensures { result ≡ network.network_of cidr.now }
+{
+    let size = network_size(cidr);
+    let addr = cidr.addr;
+    Cidr {
+        addr: Addr {
+            family: addr.family,
+            bits: addr.bits - addr.bits % size,
+        },
+        prefix: cidr.prefix,
+    }
+}
+
+/// The last address of the network: the host bits are set. In IPv4 it is the broadcast address.
+pub fn last_of(cidr: &Cidr) -> Addr
+    ensures { result ≡ network.last_of cidr.now }
+{
+    let size = network_size(cidr);
+    let addr = cidr.addr;
+    Addr {
+        family: addr.family,
+        bits: addr.bits - addr.bits % size + (size - 1),
+    }
+}
+
+// How many addresses share the prefix.
+fn network_size(cidr: &Cidr) -> u128
+    ensures { result ≡ network.network_size cidr.now }
+{
+    2u128.pow(u32::from(cidr.addr.family.longest_prefix() - cidr.prefix))
+}
+
+/// The address with its family's full prefix: the network of this address alone.
+pub fn whole(addr: &Addr) -> Cidr
+    ensures { result ≡ network.whole addr.now }
+{
+    Cidr {
+        addr: *addr,
+        prefix: addr.family.longest_prefix(),
+    }
+}

@@ -1,0 +1,29 @@
+-- Calls that are numbered from 1, some of which fail.
+use Rattle.std.specs.Prelude.{ℕ, zero, suc, ◌+◌, ◌-◌, ◌^◌, ◌==◌, ◌&&◌, List, nat_lt, Bool, if◌then◌else◌}
+use Rattle.std.specs.List.{list_any}
+
+-- the numbers of the calls that fail, and how many calls were numbered
+pub record CallsState : Type 0 where
+  pub failing : List ℕ
+  pub calls : ℕ
+
+-- the call of this number fails
+abbrev pub is_failing : List ℕ → ℕ → Bool
+is_failing failing number = list_any (λ k. k == number) failing
+
+-- the next call has a number, which the greatest u64 bounds, and fails
+abbrev pub fails_next : CallsState → Bool
+fails_next s = nat_lt s.calls (2 ^ 64 - 1) && is_failing s.failing (s.calls + 1)
+
+-- the next call takes its number, if there is one
+abbrev pub next_call : CallsState → CallsState
+next_call s = record s { calls = (if nat_lt s.calls (2 ^ 64 - 1) then s.calls + 1 else s.calls) }
+
+-- how many of the first calls fail
+abbrev pub failures_among : List ℕ → ℕ → ℕ
+failures_among failing zero = 0
+failures_among failing (suc calls) = failures_among failing calls + (if is_failing failing (suc calls) then 1 else 0)
+
+-- how many of the calls so far have failed
+abbrev pub failures : CallsState → ℕ
+failures s = failures_among s.failing s.calls

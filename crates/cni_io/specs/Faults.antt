@@ -1,0 +1,16 @@
+-- Counts of faults, kept in a u64.
+use Rattle.std.specs.Prelude.{◌≡◌, ℕ, ◌+◌, ◌-◌, ◌^◌, ◌<◌, ◌≤◌, ◌⊎◌, min}
+
+-- a count of one more, which stays at the greatest u64
+abbrev pub counted : ℕ → ℕ
+counted faults = min (faults + 1) (2 ^ 64 - 1)
+
+-- in a call the count rose: it is higher at the end than at the start, or stands at the greatest u64
+abbrev pub Rose : ℕ → ℕ → Type 0
+Rose before now = (before < now) ⊎ (now ≡ 2 ^ 64 - 1)
+
+-- The count does not fall and is a u64, and where the call had a fault it rose.
+pub record CountsFault (before now : ℕ) (fault : Type 0) : Type 0 where
+  pub later : before ≤ now
+  pub bounded : now < 2 ^ 64
+  pub rose : fault → Rose before now

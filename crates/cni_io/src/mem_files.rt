@@ -1,0 +1,193 @@
+ghost use Rattle.std.specs.Prelude.{◌≡◌, ◌≢◌, ℕ, ◌≤◌, List, [], Option, Some, IfSome, IfErr, OnOk, OnErr, option_map, filter, not, vec_len};
+ghost use Rattle.std.specs.Str.{bytes_eq};
+ghost use Rattle.std.specs.Vec.{vec_capacity};
+ghost use Rattle.cni_io.specs.Faults.{CountsFault};
+ghost use Rattle.cni_io.specs.Files.{ReadsTold, IsFailed, GivesOrNoMemory, KeepsToLimit, bytes_of, file_of, answer_within};
+ghost use Rattle.cni_io.specs.FailingCalls.{next_call, failures};
+ghost use Rattle.cni_io.specs.Memory.{FilesState, stored_with, HasEachNameOnce, next_read};
+
+use crate::failing_calls::FailingCalls;
+use crate::files::{FileFault, Files};
+use crate::text::Text1;
+use std::alloc::Global;
+use std::marker::Model;
+
+#[derive(Drop)]
+struct StoredFile {
+    name: Text1,
+    bytes: Vec<u8>,
+}
+
+impl Model for StoredFile {
+    ghost use Rattle.std.specs.Prelude.{ℕ, List};
+
+    ghost Value = { List ℕ × List ℕ };
+
+    ghost view = { λ file. (file.name, file.bytes.items) };
+}
+
+impl StoredFile {
+    fn new(name: Text1, bytes: Vec<u8>) -> StoredFile
+        ensures { result ≡ (name, bytes.items) }
+    {
+        StoredFile { name, bytes }
+    }
+
+    fn name(&self) -> &str
+        ensures { result.now ≡ self.now.0 }
+    {
+        self.name.as_str()
+    }
+
+    fn bytes(&self) -> &[u8]
+        ensures { result.now ≡ self.now.1 }
+    {
+        self.bytes.as_slice()
+    }
+}
+
+/// Files in memory, which are told, and some of whose reads fail.
+///
+/// Reads are numbered from 1 up to `u64::MAX`. A read whose number is among the failing ones
+/// answers `Failed`, whatever its file is, and later reads do not fail.
+#[derive(Drop)]
+pub struct MemFiles {
+    files: Vec<StoredFile>,
+    reads: FailingCalls,
+    faults: u64,
+}
+
+impl Model for MemFiles {
+    ghost use Rattle.std.specs.Prelude.{◌≡◌};
+    ghost use Rattle.cni_io.specs.FailingCalls.{failures};
+    ghost use Rattle.cni_io.specs.Memory.{FilesState, HasEachNameOnce};
+
+    ghost Value = { FilesState };
+
+    ghost view = { λ s. record { stored = s.files.items; reads = s.reads } };
+
+    // the count is the number of the reads that failed, and no name stands twice
+    ghost invariant = { λ s. (s.faults ≡ failures s.reads) × HasEachNameOnce s.files.items };
+}
+
+impl MemFiles {
+    /// No file, and the numbers of the reads that are to fail, in any order. It takes no memory.
+    pub fn new(alloc: Global, failing: Vec<u64>) -> MemFiles
+        ensures { result ≡ record { stored = []; reads = record { failing = failing.items; calls = 0 } } }
+    {
+        MemFiles {
+            files: Vec::new(alloc),
+            reads: FailingCalls::new(failing),
+            faults: 0,
+        }
+    }
+
+    /// Stores a file, in place of the one of that name if there is one.
+    ///
+    /// The one error is `NoMemory`, and nothing is stored then. It takes a time that grows with the
+    /// number of files.
+    pub fn add(&mut self, name: Text1, bytes: Vec<u8>) -> Result<(), FileFault>
+        ensures stores { OnOk result (self.new
+            ≡ record self.old { stored = stored_with self.old.stored name bytes.items }) }
+        ensures file { OnOk result (bytes_of self.new.stored name ≡ Some bytes.items) }
+        ensures others { (other : List ℕ) → other ≢ name
+            → bytes_of self.new.stored other ≡ bytes_of self.old.stored other }
+        ensures once { HasEachNameOnce self.new.stored }
+        ensures unchanged { OnErr result (self.new ≡ self.old) }
+        ensures no_memory { IfErr result (λ fault. fault ≡ FileFault.NoMemory) }
+    {
+        if self.files.reserve(1).is_err() {
+            return Err(FileFault::NoMemory);
+        }
+        remove_named(&mut self.files, name.as_str());
+        match self.files.push(StoredFile::new(name, bytes)) {
+            Ok(()) => Ok(()),
+            Err(_) => unreachable!(),
+        }
+    }
+}
+
+impl Files for MemFiles {
+    ghost use Rattle.std.specs.Prelude.{Some};
+    ghost use Rattle.cni_io.specs.FailingCalls.{failures};
+
+    ghost files = { λ s. Some s.stored };
+
+    ghost faults = { λ s. failures s.reads };
+
+    fn read(&mut self, alloc: Global, name: &str, limit: u64) -> Result<Vec<u8>, FileFault>
+        ensures told { IfSome (Some self.old.stored) (λ stored. ReadsTold result (file_of stored limit name.now)) }
+        ensures keeps { Some self.new.stored ≡ Some self.old.stored }
+        ensures limited { KeepsToLimit limit result }
+        ensures cause { CountsFault (failures self.old.reads) (failures self.new.reads) (IsFailed result) }
+        ensures exact { GivesOrNoMemory result (next_read self.old limit name.now) }
+        ensures leaves { self.new ≡ record self.old { reads = next_call self.old.reads } }
+    {
+        let faults = self.faults;
+        if self.reads.next_fails() {
+            self.faults = faults + 1;
+            return Err(FileFault::Failed);
+        }
+        copy_within(alloc, find_file(&self.files, name), limit)
+    }
+}
+
+fn remove_named(files: &mut Vec<StoredFile>, name: &str)
+    ensures others { files.new.items ≡ filter (λ file. not (bytes_eq file.0 name.now)) files.old.items }
+    ensures fewer { vec_len files.new ≤ vec_len files.old }
+    ensures capacity { vec_capacity files.new ≡ vec_capacity files.old }
+{
+    files.retain(|file| file.name() != name);
+}
+
+fn find_file<'f>(files: &'f [StoredFile], name: &str) -> Option<&'f [u8]>
+    ensures { option_map (λ bytes. bytes.now) result ≡ bytes_of files.entry.now name.now }
+{
+    for file in files {
+        if file.name() == name {
+            return Some(file.bytes());
+        }
+    }
+    None
+}
+
+fn copy_within(alloc: Global, found: Option<&[u8]>, limit: u64) -> Result<Vec<u8>, FileFault>
+    ensures answers { GivesOrNoMemory result (answer_within limit (option_map (λ bytes. bytes.now) found.entry)) }
+    ensures not_failed { ¬ IsFailed result }
+{
+    match found {
+        None => Err(FileFault::Missing),
+        Some(bytes) if bytes.len() as u64 > limit => Err(FileFault::TooLarge { limit }),
+        Some(bytes) => match Vec::from_slice(alloc, bytes) {
+            Ok(copy) => Ok(copy),
+            Err(_) => Err(FileFault::NoMemory),
+        },
+    }
+}
+
+#[cfg(test)]
+mod tests {
+    use super::*;
+    use std::test::Fail;
+
+    #[test]
+    fn the_second_read_fails(rt: HostRuntime) -> Result<(), Fail> {
+        let mut files = MemFiles::new(rt.alloc(), vec![in rt.alloc(); 2]?);
+        for text in ["first", "bytes"] {
+            files.add(Text1::of(rt.alloc(), "a")?, text.as_bytes().to_vec(rt.alloc())?)?;
+        }
+        assert_eq!(rt; files.files.len(), 1);
+        let read = files.read(rt.alloc(), "a", 5)?;
+        assert_eq!(rt; read.as_slice(), b"bytes".as_slice());
+        for (name, limit, fault, faults) in [
+            ("a", 5, FileFault::Failed, 1),
+            ("b", 5, FileFault::Missing, 1),
+            ("a", 4, FileFault::TooLarge { limit: 4 }, 1),
+        ] {
+            let answer = files.read(rt.alloc(), name, limit);
+            assert_eq!(rt; answer.err(), Some(fault), "{name} of {limit}");
+            assert_eq!(rt; files.faults, faults);
+        }
+        Ok(())
+    }
+}

@@ -1,0 +1,134 @@
+ghost use Rattle.std.specs.Prelude.{◌≡◌, is_ok, if◌then◌else◌};
+ghost use Rattle.cni_io.specs.Faults.{CountsFault, counted};
+ghost use Rattle.cni_io.specs.Files.{IsFailed, KeepsToLimit};
+
+use crate::files::{FileFault, Files};
+use std::alloc::Global;
+use std::fs::File;
+use std::io::{ErrorKind, Read};
+use std::marker::Model;
+use std::rt;
+
+/// The file system. A name is a path, and nothing is told of its file.
+///
+/// A contract sees the count of faults, which each error raises.
+#[derive(Drop)]
+pub struct RealFiles<R> {
+    rt: R,
+    faults: u64,
+}
+
+impl<R> Model for RealFiles<R> {
+    ghost use Rattle.std.specs.Prelude.{ℕ};
+
+    ghost Value = { ℕ };
+
+    ghost view = { λ s. s.faults };
+}
+
+impl<R: rt::Files + Drop> RealFiles<R> {
+    pub fn new(rt: R) -> RealFiles<R>
+        ensures { result ≡ 0 }
+    {
+        RealFiles { rt, faults: 0 }
+    }
+}
+
+impl<R: rt::Files> Files for RealFiles<R> {
+    ghost use Rattle.std.specs.Prelude.{None};
+
+    ghost files = { λ _. None };
+
+    ghost faults = { λ count. count };
+
+    /// Reads at most one byte more than the limit.
+    ///
+    /// `Missing` comes where the system says that there is no such file (POSIX `ENOENT`). Every other
+    /// error of the system but want of memory is `Failed`, as for a directory, a path that leads
+    /// through a file, a name that is too long and a file that may not be read.
+    fn read(&mut self, alloc: Global, name: &str, limit: u64) -> Result<Vec<u8>, FileFault>
+        ensures limited { KeepsToLimit limit result }
+        ensures cause { CountsFault self.old self.new (IsFailed result) }
+        ensures counts { self.new ≡ (if is_ok result then self.old else counted self.old) }
+    {
+        let faults = self.faults;
+        match read_within(&self.rt, alloc, name, limit) {
+            Ok(bytes) => Ok(bytes),
+            Err(fault) => {
+                self.faults = faults.saturating_add(1);
+                Err(fault)
+            }
+        }
+    }
+}
+
+fn read_within<R: rt::Files>(
+    rt: &R,
+    alloc: Global,
+    name: &str,
+    limit: u64,
+) -> Result<Vec<u8>, FileFault>
+    ensures { KeepsToLimit limit result }
+{
+    let mut bytes = Vec::new(alloc);
+    match read_up_to(rt, name, limit.saturating_add(1), &mut bytes) {
+        Ok(()) if bytes.len() as u64 <= limit => Ok(bytes),
+        Ok(()) => Err(FileFault::TooLarge { limit }),
+        Err(ErrorKind::NotFound) => Err(FileFault::Missing),
+        Err(ErrorKind::OutOfMemory) => Err(FileFault::NoMemory),
+        Err(_) => Err(FileFault::Failed),
+    }
+}
+
+fn read_up_to<R: rt::Files>(
+    rt: &R,
+    name: &str,
+    most: u64,
+    bytes: &mut Vec<u8>,
+) -> Result<(), ErrorKind> {
+    match File::open(rt, name) {
+        Ok(file) => match file.take(most).read_to_end(bytes) {
+            Ok(_) => Ok(()),
+            Err(error) => Err(error.kind()),
+        },
+        Err(error) => Err(error.kind()),
+    }
+}
+
+#[cfg(test)]
+mod tests {
+    use super::*;
+    use crate::real_sink::RealSink;
+    use crate::whole::write_whole;
+    use std::fs;
+    use std::test::Fail;
+
+    #[test]
+    fn reads_back_what_was_written(rt: HostRuntime) -> Result<(), Fail> {
+        let name = "reads_back_what_was_written.txt";
+        let mut sink = RealSink::new(File::create(&rt, name)?);
+        write_whole(&mut sink, b"c1 c2")?;
+        drop(sink);
+
+        let mut files = RealFiles::new(&rt);
+        let read = files.read(rt.alloc(), name, 5);
+        let too_large = files.read(rt.alloc(), name, 4).err();
+        let through_a_file = files.read(rt.alloc(), "reads_back_what_was_written.txt/a", 5).err();
+        fs::remove_file(&rt, name)?;
+        assert_eq!(rt; read?.as_slice(), b"c1 c2".as_slice());
+        assert_eq!(rt; too_large, Some(FileFault::TooLarge { limit: 4 }));
+        assert_eq!(rt; through_a_file, Some(FileFault::Failed));
+
+        for (name, fault) in [
+            (name, FileFault::Missing),
+            ("", FileFault::Missing),
+            (".", FileFault::Failed),
+            ("a\0b", FileFault::Failed),
+        ] {
+            let answer = files.read(rt.alloc(), name, 5);
+            assert_eq!(rt; answer.err(), Some(fault), "{name}");
+        }
+        assert_eq!(rt; files.faults, 6);
+        Ok(())
+    }
+}

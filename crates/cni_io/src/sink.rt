@@ -1,0 +1,47 @@
+ghost use Rattle.std.specs.Prelude.{◌≡◌};
+ghost use Rattle.cni_io.specs.Sink.{faults_after};
+
+use thiserror::Error;
+
+/// Why a piece was not written.
+#[derive(Clone, Copy, Debug, PartialEq, Eq, Error)]
+pub enum SinkFault {
+    #[error("the write failed")]
+    Failed,
+}
+
+/// What takes bytes, a piece at a time.
+pub trait Sink {
+    ghost use Rattle.std.specs.Prelude.{◌≡◌, ℕ, ◌≤◌, List, Option, Result, IfOk, length, take};
+    ghost use Rattle.std.specs.Io.KnownBytes.{append_known};
+    ghost use Rattle.cni_io.specs.Faults.{CountsFault};
+    ghost use Rattle.cni_io.specs.Sink.{taken_of, IsFault};
+    ghost use Rattle.cni_io.specs.declared.sink.SinkFault.{SinkFault};
+
+    // the bytes written so far, where they are told
+    ghost written: { Self → Option (List ℕ) };
+
+    // how many writes have failed, or took nothing of a piece that is not empty
+    ghost faults: { Self → ℕ };
+
+    // what a write of these bytes may answer, and the sink that it may leave
+    ghost write_gives: { Self → List ℕ → Result ℕ SinkFault → Self → Type 0 };
+
+    /// Writes some of the bytes, from the first on, and says how many. It takes no memory.
+    fn write(&mut self, bytes: &[u8]) -> Result<usize, SinkFault>
+        ensures bound { IfOk result (λ taken. taken ≤ length bytes.now) }
+        ensures appended { written self.new
+            ≡ append_known (written self.old) (take (taken_of result) bytes.now) }
+        ensures cause { CountsFault (faults self.old) (faults self.new) (IsFault result (length bytes.now)) }
+        ensures gives { write_gives self.old bytes.now result self.new };
+}
+
+/// The count of faults after a write of a piece of this length.
+pub(crate) fn count_fault(faults: u64, outcome: &Result<usize, SinkFault>, len: usize) -> u64
+    ensures { result ≡ faults_after faults outcome.now len }
+{
+    match outcome {
+        Ok(taken) if *taken > 0 || len == 0 => faults,
+        Ok(_) | Err(SinkFault::Failed) => faults.saturating_add(1),
+    }
+}

@@ -1,0 +1,72 @@
+ghost use Rattle.std.specs.Prelude.{◌≡◌, ◌≤◌, ◌<◌, ◌^◌, OnErr, length, take};
+ghost use Rattle.std.specs.Io.KnownBytes.{append_known};
+ghost use Rattle.cni_io.specs.Faults.{Rose};
+ghost use Rattle.cni_io.specs.Whole.{written_of, IsRunOfWrites};
+
+use crate::sink::{Sink, SinkFault};
+use thiserror::Error;
+
+/// How a write of the whole ended early, after so many bytes.
+#[derive(Clone, Copy, Debug, PartialEq, Eq, Error)]
+pub enum WriteEnd {
+    /// A write failed.
+    #[error("a write failed after {written} bytes")]
+    Failed { written: u64 },
+    /// A write took nothing of what was left.
+    #[error("nothing was taken after {written} bytes")]
+    TookNothing { written: u64 },
+}
+
+/// Writes all the bytes, each time what is left of them, and stops at the first write that fails or
+/// takes nothing. It takes no memory.
+pub fn write_whole<S: Sink>(sink: &mut S, bytes: &[u8]) -> Result<(), WriteEnd>
+    ensures appended { S.written sink.new
+        ≡ append_known (S.written sink.old) (take (written_of (length bytes.now) result) bytes.now) }
+    ensures writes { IsRunOfWrites S.write_gives bytes.now sink.old sink.new result }
+    ensures cause { OnErr result (Rose (S.faults sink.old) (S.faults sink.new)) }
+    ensures later { S.faults sink.old ≤ S.faults sink.new }
+    ensures bounded { S.faults sink.old < 2 ^ 64 → S.faults sink.new < 2 ^ 64 }
+{
+    let mut done = 0;
+    while done < bytes.len() {
+        match sink.write(&bytes[done..]) {
+            Ok(0) => {
+                return Err(WriteEnd::TookNothing {
+                    written: done as u64,
+                });
+            }
+            Ok(taken) => done += taken,
+            Err(SinkFault::Failed) => {
+                return Err(WriteEnd::Failed {
+                    written: done as u64,
+                });
+            }
+        }
+    }
+    Ok(())
+}
+
+#[cfg(test)]
+mod tests {
+    use super::*;
+    use crate::mem_sink::MemSink;
+    use std::test::Fail;
+
+    #[test]
+    fn writes_until_a_write_ends_it(rt: HostRuntime) -> Result<(), Fail> {
+        for (failing, most, room, end, written) in [
+            (9, 5, 5, Ok(()), "c1 c2"),
+            (3, 3, 8, Ok(()), "c1 c2"),
+            (2, 3, 5, Err(WriteEnd::Failed { written: 3 }), "c1 "),
+            (1, 3, 5, Err(WriteEnd::Failed { written: 0 }), ""),
+            (9, 5, 4, Err(WriteEnd::TookNothing { written: 4 }), "c1 c"),
+            (9, 0, 5, Err(WriteEnd::TookNothing { written: 0 }), ""),
+        ] {
+            let failing = vec![in rt.alloc(); failing]?;
+            let mut sink = MemSink::new(rt.alloc(), failing, most, room).expect(&rt, "room");
+            assert_eq!(rt; write_whole(&mut sink, b"c1 c2"), end);
+            assert_eq!(rt; sink.written(), written.as_bytes());
+        }
+        Ok(())
+    }
+}

@@ -1,0 +1,55 @@
+//! The plugin's result.
+
+ghost use Rattle.std.specs.Prelude.{◌≡◌, map, IfOk, Some};
+ghost use Rattle.host_local.specs.Results as results;
+
+use cni_addr::{Duplicate, Items, NoMemory, Text};
+use cni_result::{AddResult, Dns, IpEntry, Version};
+use kernel_types::Given;
+use net_conf::HostLocalConf;
+use std::alloc::Global;
+
+/// Name resolution of which nothing is said.
+pub fn no_dns(alloc: Global) -> Result<Dns, NoMemory>
+    ensures { IfOk result (λ dns. dns ≡ results.no_dns) }
+{
+    Ok(Dns {
+        nameservers: Items::new(alloc),
+        domain: Text::of(alloc, "")?,
+        search: Items::new(alloc),
+        options: Items::new(alloc),
+    })
+}
+
+fn ips_of(alloc: Global, given: &[Given]) -> Result<Items<IpEntry>, NoMemory>
+    ensures { IfOk result (λ ips. ips ≡ map results.ip_of given.now) }
+{
+    let mut ips = Vec::with_capacity(alloc, given.len())?;
+    for g in given {
+        ips.push(IpEntry {
+            address: g.address,
+            gateway: Some(g.gateway),
+            interface: None,
+        })?;
+    }
+    Ok(Items::of_vec(ips))
+}
+
+/// The given addresses with their gateways, and the configured routes: what the plugin that makes the interface
+/// completes (CNI specification, section 4, "IPAM").
+pub fn ipam_result(
+    alloc: Global,
+    conf: &HostLocalConf,
+    given: &[Given],
+    version: Version,
+) -> Result<AddResult, NoMemory>
+    ensures { IfOk result (λ r. r ≡ results.ipam_result_of (Some conf.now) given.now version) }
+{
+    Ok(AddResult {
+        version,
+        interfaces: Items::new(alloc),
+        ips: ips_of(alloc, given)?,
+        routes: conf.routes.copy()?,
+        dns: no_dns(alloc)?,
+    })
+}

@@ -1,0 +1,10 @@
+pub mod Addresses
+pub mod Choice
+pub mod Disjoint
+pub mod InOrder
+pub mod Lists
+pub mod Membership
+pub mod Passing
+pub mod Places
+pub mod Stretches
+pub mod WayRound

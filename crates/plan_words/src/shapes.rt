@@ -1,0 +1,311 @@
+//! The objects of an attachment, as the plugins make them.
+
+ghost use Rattle.std.specs.Prelude.{◌≡◌, ◌++◌, find, option_map, flat_map, IfOk, OnOk};
+ghost use Rattle.std.specs.List.{list_any};
+ghost use Rattle.cni_addr.specs.Codes.{family_eq};
+ghost use Rattle.cni_addr.specs.declared.address.Family.TheVariants.{V4};
+ghost use Rattle.kernel_types.specs.Equal.{rule_eq};
+ghost use Rattle.plan_words.specs.Keys.{each_key_once};
+ghost use Rattle.plan_words.specs.Shapes as shapes;
+
+use crate::asked::push_unless_there;
+use cni_addr::{Addr, Cidr, Duplicate, Family, MacvlanMode, NoMemory, Text, whole};
+use cni_result::RouteEntry;
+use kernel_types::{
+    AddrObj, Att, Call, Chain, Given, Lease, Link, LinkKey, LinkKind, RouteObj, Rule, Table, Tag,
+    Target,
+};
+use std::alloc::Global;
+
+// ---- networks
+
+/// Every address of the family.
+pub fn default_route(family: Family) -> Cidr
+    requires { family ≡ V4 }
+    ensures { result ≡ shapes.default_route family }
+{
+    Cidr {
+        addr: Addr { family, bits: 0 },
+        prefix: 0,
+    }
+}
+
+/// `224.0.0.0/4` (RFC 5771).
+fn multicast(family: Family) -> Cidr
+    requires { family ≡ V4 }
+    ensures { result ≡ shapes.multicast family }
+{
+    match family {
+        Family::V4 => Cidr {
+            addr: Addr {
+                family,
+                bits: 14 << 28,
+            },
+            prefix: 4,
+        },
+        Family::V6 => unreachable!(),
+    }
+}
+
+// ---- links
+
+/// The host's end of the attachment's veth pair, under this master.
+pub fn host_end(
+    alloc: Global,
+    att: &Att,
+    netns: &Text,
+    master: Option<Text>,
+    mtu: u32,
+    hairpin: bool,
+) -> Result<Link, NoMemory>
+    ensures { IfOk result (λ link. link ≡ shapes.host_end att.now netns.now master mtu hairpin) }
+{
+    Ok(Link {
+        ns: Text::of(alloc, "")?,
+        name: att.host_name(alloc)?,
+        kind: LinkKind::Veth,
+        master,
+        peer: Some(LinkKey {
+            ns: netns.copy()?,
+            name: att.ifname.copy()?,
+        }),
+        mac: att.host_mac(),
+        mtu,
+        hairpin,
+        promisc: false,
+        allmulti: false,
+        tx_qlen: 1000,
+        tag: Tag::Own(att.copy()?),
+    })
+}
+
+/// The container's end of the attachment's veth pair.
+pub fn inner_end(alloc: Global, att: &Att, netns: &Text, mtu: u32) -> Result<Link, NoMemory>
+    ensures { IfOk result (λ link. link ≡ shapes.inner_end att.now netns.now mtu) }
+{
+    Ok(Link {
+        ns: netns.copy()?,
+        name: att.ifname.copy()?,
+        kind: LinkKind::Veth,
+        master: None,
+        peer: Some(LinkKey {
+            ns: Text::of(alloc, "")?,
+            name: att.host_name(alloc)?,
+        }),
+        mac: att.inner_mac(),
+        mtu,
+        hairpin: false,
+        promisc: false,
+        allmulti: false,
+        tx_qlen: 1000,
+        tag: Tag::Own(att.copy()?),
+    })
+}
+
+/// The attachment's macvlan link over a master of the host.
+pub fn macvlan_link(
+    att: &Att,
+    netns: &Text,
+    master: &Text,
+    mode: MacvlanMode,
+    mtu: u32,
+) -> Result<Link, NoMemory>
+    ensures { IfOk result (λ link. link ≡ shapes.macvlan_link att.now netns.now master.now mode mtu) }
+{
+    Ok(Link {
+        ns: netns.copy()?,
+        name: att.ifname.copy()?,
+        kind: LinkKind::Macvlan(mode),
+        master: Some(master.copy()?),
+        peer: None,
+        mac: att.inner_mac(),
+        mtu,
+        hairpin: false,
+        promisc: false,
+        allmulti: false,
+        tx_qlen: 1000,
+        tag: Tag::Own(att.copy()?),
+    })
+}
+
+// ---- on the container's end
+
+/// The given address on the container's end.
+pub fn address_on(att: &Att, netns: &Text, given: &Given) -> Result<AddrObj, NoMemory>
+    ensures { IfOk result (λ obj. obj ≡ shapes.address_on att.now netns.now given.now) }
+{
+    Ok(AddrObj {
+        ns: netns.copy()?,
+        link: att.ifname.copy()?,
+        cidr: given.address,
+        tag: Tag::Own(att.copy()?),
+    })
+}
+
+/// The given addresses on the container's end, each once.
+pub fn addresses_on(
+    alloc: Global,
+    att: &Att,
+    netns: &Text,
+    given: &[Given],
+) -> Result<Vec<AddrObj>, NoMemory>
+    ensures { IfOk result (λ objects. objects.items ≡ shapes.addresses_on att.now netns.now given.now) }
+{
+    let mut objects = Vec::new(alloc);
+    for g in given {
+        push_unless_there(&mut objects, address_on(att, netns, g)?)?;
+    }
+    Ok(objects)
+}
+
+fn family_gateway(given: &[Given], family: Family) -> Option<Addr>
+    ensures { result ≡ option_map (λ g. g.gateway) (find (λ g. family_eq g.address.addr.family family) given.now) }
+{
+    match given.iter().find(|g| g.address.addr.family == family) {
+        Some(g) => Some(g.gateway),
+        None => None,
+    }
+}
+
+fn gateway_for(given: &[Given], route: &RouteEntry) -> Option<Addr>
+    ensures { result ≡ shapes.gateway_for given.now route.now }
+{
+    match route.gw {
+        Some(gw) => Some(gw),
+        None => family_gateway(given, route.dst.addr.family),
+    }
+}
+
+/// The route from the container's end: by its own gateway, else by that of the first given address of its family.
+pub fn route_on(
+    att: &Att,
+    netns: &Text,
+    given: &[Given],
+    route: &RouteEntry,
+) -> Result<RouteObj, NoMemory>
+    ensures { IfOk result (λ obj. obj ≡ shapes.route_on att.now netns.now given.now route.now) }
+{
+    Ok(RouteObj {
+        ns: netns.copy()?,
+        dst: route.dst,
+        link: att.ifname.copy()?,
+        gw: gateway_for(given, route),
+        tag: Tag::Own(att.copy()?),
+    })
+}
+
+/// The routes from the container's end, each destination once.
+pub fn routes_on(
+    alloc: Global,
+    att: &Att,
+    netns: &Text,
+    given: &[Given],
+    entries: &[RouteEntry],
+) -> Result<Vec<RouteObj>, NoMemory>
+    ensures { IfOk result (λ objects. objects.items ≡ shapes.routes_on att.now netns.now given.now entries.now) }
+{
+    let mut objects = Vec::new(alloc);
+    for entry in entries {
+        push_unless_there(&mut objects, route_on(att, netns, given, entry)?)?;
+    }
+    Ok(objects)
+}
+
+/// The lease of an address.
+pub fn lease_of(att: &Att, addr: Addr) -> Result<Lease, NoMemory>
+    ensures { IfOk result (λ lease. lease ≡ shapes.lease_of att.now addr) }
+{
+    Ok(Lease {
+        network: att.network.copy()?,
+        addr,
+        tag: Tag::Own(att.copy()?),
+    })
+}
+
+// ---- masquerading and forwarding
+
+fn no_masquerade_in_subnet(att: &Att, given: &Given) -> Result<Rule, NoMemory>
+    ensures { IfOk result (λ rule. rule ≡ shapes.no_masquerade_in_subnet att.now given.now) }
+{
+    Ok(Rule {
+        table: Table::Nat,
+        chain: Chain::Masq,
+        src: Some(whole(&given.address.addr)),
+        dst: Some(given.subnet),
+        not_dst: false,
+        protocol: None,
+        dport: None,
+        established: false,
+        target: Target::Accept,
+        tag: Tag::Own(att.copy()?),
+    })
+}
+
+fn masquerade_out(att: &Att, given: &Given) -> Result<Rule, NoMemory>
+    ensures { IfOk result (λ rule. rule ≡ shapes.masquerade_out att.now given.now) }
+{
+    let family = given.address.addr.family;
+    Ok(Rule {
+        table: Table::Nat,
+        chain: Chain::Masq,
+        src: Some(whole(&given.address.addr)),
+        dst: Some(multicast(family)),
+        not_dst: true,
+        protocol: None,
+        dport: None,
+        established: false,
+        target: Target::Masquerade,
+        tag: Tag::Own(att.copy()?),
+    })
+}
+
+fn all_masquerade_rules(alloc: Global, att: &Att, given: &[Given]) -> Result<Vec<Rule>, NoMemory>
+    ensures { IfOk result (λ rules. rules.items ≡ each_key_once rule_eq (flat_map (shapes.masquerade_of att.now) given.now)) }
+{
+    let mut rules = Vec::new(alloc);
+    for g in given {
+        push_unless_there(&mut rules, no_masquerade_in_subnet(att, g)?)?;
+        push_unless_there(&mut rules, masquerade_out(att, g)?)?;
+    }
+    Ok(rules)
+}
+
+/// With `ipMasq`, two rules for each given address: none is masqueraded inside its subnet, all else but multicast is.
+pub fn masquerade_rules(
+    alloc: Global,
+    ip_masq: bool,
+    att: &Att,
+    given: &[Given],
+) -> Result<Vec<Rule>, NoMemory>
+    ensures { IfOk result (λ rules. rules.items ≡ shapes.masquerade_rules ip_masq att.now given.now) }
+{
+    if ip_masq {
+        all_masquerade_rules(alloc, att, given)
+    } else {
+        Ok(Vec::new(alloc))
+    }
+}
+
+fn has_family(given: &[Given], family: Family) -> bool
+    ensures { result ≡ list_any (λ g. family_eq g.address.addr.family family) given.now }
+{
+    given.iter().any(|g| g.address.addr.family == family)
+}
+
+fn ask_forward_for(calls: &mut Vec<Call>, family: Family, given: &[Given]) -> Result<(), NoMemory>
+    ensures { OnOk result (calls.new.items ≡ calls.old.items ++ shapes.forward_for family given.now) }
+{
+    if has_family(given, family) {
+        calls.push(Call::ForwardEnsure { family })?;
+    }
+    Ok(())
+}
+
+/// Puts the calls at the end that make the host forward for the families of the given addresses.
+pub fn ask_forward(calls: &mut Vec<Call>, given: &[Given]) -> Result<(), NoMemory>
+    ensures { OnOk result (calls.new.items ≡ calls.old.items ++ shapes.forward_calls given.now) }
+{
+    ask_forward_for(calls, Family::V4, given)?;
+    ask_forward_for(calls, Family::V6, given)?;
+    Ok(())
+}
