@@ -1,8 +1,8 @@
 -- What is read of a network's text is its grammar, both ways, and what is written is read again.
-use Rattle.std.proofs.Common.{◌≡◌, ◌≢◌, ℕ, ◌^◌, ◌<◌, ◌≤◌, ◌==◌, Bool, true, false, cond, not, ◌&&◌, ◌||◌, List, [], ◌∷◌, ◌++◌, inl, inr, ◌+◌, ◌-◌, ap₂, take, drop, length-drop, lt-ltb, le-leb, length, get_or, Option, Some, None, Result, Ok, Err, decimal, refl, sym, ap, ◌∙◌, subst, arith, append-nil, lit≤}
+use Rattle.std.proofs.Common.{◌≡◌, ◌≢◌, ℕ, ◌^◌, ◌<◌, ◌≤◌, ◌==◌, Bool, true, false, cond, not, ◌&&◌, ◌||◌, List, [], ◌∷◌, ◌++◌, inl, inr, ◌+◌, ◌-◌, ap₂, take, drop, length-drop, length-append, take_at, drop_at, append_assoc, ne_eqb, eqb-true, suc, All, lt-ltb, le-leb, length, get_or, Option, Some, None, Result, Ok, Err, decimal, refl, sym, ap, ◌∙◌, subst, arith, append-nil, lit≤}
 use Rattle.std.proofs.lemmas.Option.{none-some}
 use Rattle.std.proofs.lemmas.List.{drop_all, take_all}
-use Rattle.std.proofs.lemmas.Bool.{cases_lt, ltb-true, lt-leb}
+use Rattle.std.proofs.lemmas.Bool.{cases_lt, ltb-true, leb-true, lt-leb}
 use Rattle.std.proofs.lemmas.Bool.Decides.{nat_tests}
 use Rattle.std.proofs.lemmas.Fmt.{decimal_is_IsNumeral, decimal_digit, first_decimal, decimal-digits_value, IsAscii-decimal}
 use Rattle.std.proofs.lemmas.Str.{IsUtf8-from_ascii}
@@ -12,14 +12,21 @@ use Rattle.std.specs.Str.{IsUtf8}
 use Rattle.std.specs.Str.Parse.{IsNumeral, digits_value, ParsesUnsigned, without_leading_plus}
 use Rattle.std.specs.Net.Reader.{Read, read_number, read_octet, whole_value}
 use Rattle.std.proofs.NetLemmas.Ipv4.{read_octet_complete, read_octet_sound}
-use Rattle.cni_addr.specs.CidrText.{is_slash, begins_plainly, prefix_of_text, with_prefix, cidr_of_parts, cidr_of_text, cidr_text}
+use Rattle.cni_addr.specs.CidrText.{slash, is_slash, begins_plainly, prefix_of_text, with_prefix, cidr_of_parts, cidr_of_text, cidr_text}
+use Rattle.cni_addr.specs.AddrText.{IsAddrText}
+use Rattle.cni_addr.specs.CidrText.{IsCidrText}
+use Rattle.cni_addr.specs.Network.{IsCidr}
 use Rattle.cni_addr.proofs.Networks.{at_prefix}
+use Rattle.cni_addr.specs.Value.{IsAddr}
+use Rattle.std.proofs.lemmas.List.Elements.{All-get_or}
+use Rattle.std.proofs.lemmas.List.Sums.{split_at_first, passes_at_first}
+use Rattle.std.proofs.NetLemmas.Alphabet.{IsDigitOrDot, All-ipv4_text}
 use Rattle.std.specs.Prelude.{if◌then◌else◌}
 use Rattle.cni_addr.specs.AddrText.{addr_of_text, addr_text}
 use Rattle.cni_addr.specs.Value.{AddrValue, CidrValue, longest_prefix}
 use Rattle.std.specs.List.{position, position_or_len, before_first, after_first}
 use Rattle.std.proofs.NetLemmas.Options.{cond_some}
-use Rattle.cni_addr.proofs.AddrTexts.{whole_some, none_of}
+use Rattle.cni_addr.proofs.AddrTexts.{whole_some, none_of, some_same, octet_fits, address_dotted, spelled_is_read, read_is_spelled, written_is_spelled}
 
 -- the decimal text of a number is read
 pub read_decimal : (n : ℕ) → n < 256 → prefix_of_text (decimal n) ≡ Some n
@@ -147,3 +154,109 @@ unfolding cidr_text
 written_parts c addr prefix text parts is =
     let here : text ++ 47 ∷ decimal prefix ≡ cidr_text (at_prefix prefix addr) = ap (λ t. t ++ 47 ∷ decimal prefix) is in
     here ∙ ap cidr_text parts
+
+-- ---- the grammar, both ways
+
+-- what is spelled as a network is one
+pub spelled_is_cidr : (text : List ℕ) (c : CidrValue) → IsCidrText text c → IsCidr c
+spelled_is_cidr text c h = record { addr = h.address_spelled.fits; prefix = h.fits }
+
+-- no digit and no dot is a slash
+digit_or_dot : (c : ℕ) → IsDigitOrDot c → is_slash c ≡ false
+digit_or_dot c (inl digit) = ne_eqb c slash (λ e. omega arith)
+digit_or_dot c (inr dot) = ne_eqb c slash (λ e. omega arith)
+
+-- the text of an address has no slash
+no_slash : (text : List ℕ) (a : AddrValue) → IsAddrText text a → (k : ℕ) → k < length text → is_slash (get_or text k 0) ≡ false
+no_slash text a h k within =
+    let dotted = address_dotted text a h in
+    let octets = dotted.a ∷ dotted.b ∷ dotted.c ∷ dotted.d ∷ [] in
+    let all = All-ipv4_text octets (λ i. octet_fits dotted.a dotted.b dotted.c dotted.d i dotted.fit) in
+    digit_or_dot (get_or text k 0) (All-get_or IsDigitOrDot text k 0 within (subst (λ t. All IsDigitOrDot t) (sym dotted.spelled) all))
+
+-- the first slash, where none stands before it
+slash_place : (front rest : List ℕ) → ((k : ℕ) → k < length front → is_slash (get_or front k 0) ≡ false) → position_or_len is_slash (front ++ slash ∷ rest) ≡ length front
+slash_place [] rest clear = refl
+slash_place (c ∷ front) rest clear =
+    let more = slash_place front rest (λ k within. clear (suc k) (omega arith)) in
+    ap (λ b. cond (not b) (1 + position_or_len is_slash (front ++ slash ∷ rest)) 0) (clear 0 (omega arith)) ∙ omega (arith, more)
+
+-- a prefix of a family that is built is a small number
+prefix_small : (a : AddrValue) (prefix : ℕ) → IsAddr a → prefix ≤ longest_prefix a.family → prefix < 256
+prefix_small a prefix kept fits = let here = subst (λ f. prefix ≤ longest_prefix f) kept.built fits in omega arith
+
+one_by_one : (front : List ℕ) (c : ℕ) (rest : List ℕ) → front ++ c ∷ rest ≡ (front ++ c ∷ []) ++ rest
+one_by_one front c rest = sym (append_assoc front (c ∷ []) rest)
+
+-- a text of which a prefix is read has a slash
+slash_within : (text : List ℕ) (prefix : ℕ) → prefix_of_text (after_first is_slash text) ≡ Some prefix → position_or_len is_slash text < length text
+slash_within text prefix e =
+    elim (cases_lt (position_or_len is_slash text) (length text)) [
+      | inl within ↦ within
+      | inr beyond ↦
+          let nothing : after_first is_slash text ≡ [] = drop_all (position_or_len is_slash text + 1) text (omega arith) in
+          absurd (none-some prefix (sym no_digits ∙ ap prefix_of_text (sym nothing) ∙ e))
+    ]
+
+-- what is spelled is read
+pub network_spelled_is_read : (text : List ℕ) (c : CidrValue) → IsCidrText text c → cidr_of_text text ≡ Some c
+unfolding cidr_of_text
+network_spelled_is_read text c h =
+    let rest = decimal c.prefix in
+    let place : position_or_len is_slash text ≡ length h.address =
+    ap (λ t. position_or_len is_slash t) h.spelled ∙ slash_place h.address rest (no_slash h.address c.addr h.address_spelled) in
+    let before : before_first is_slash text ≡ h.address = ap₂ (λ (i : ℕ) (t : List ℕ). take i t) place h.spelled ∙ take_at h.address (slash ∷ rest) (length h.address) refl in
+    let after : after_first is_slash text ≡ rest =
+    ap₂ (λ (i : ℕ) (t : List ℕ). drop (i + 1) t) place (h.spelled ∙ one_by_one h.address slash rest)
+    ∙ drop_at (h.address ++ slash ∷ []) rest (length h.address + 1) (omega (arith, length-append h.address (slash ∷ []))) in
+    let small = prefix_small c.addr c.prefix h.address_spelled.fits h.fits in
+    ap₂ cidr_of_parts (ap addr_of_text before ∙ spelled_is_read h.address c.addr h.address_spelled) (ap prefix_of_text after ∙ read_decimal c.prefix small)
+    ∙ sym (fitting_prefix c.addr c.prefix h.fits)
+
+-- the parts that were read
+parts_read : (addr : Option AddrValue) (prefix : Option ℕ) (c : CidrValue) → cidr_of_parts addr prefix ≡ Some c
+    → (addr ≡ Some c.addr) × (prefix ≡ Some c.prefix) × (c.prefix ≤ longest_prefix c.addr.family)
+parts_read None prefix c e = absurd (none-some c e)
+parts_read (Some a) None c e = absurd (none-some c e)
+parts_read (Some a) (Some p) c e =
+    let (test, same) = cond_some _ _ _ e in
+    let within : p ≤ longest_prefix a.family = leb-true p (longest_prefix a.family) test in (
+      ap (λ (x : CidrValue). Some x.addr) same,
+      ap (λ (x : CidrValue). Some x.prefix) same,
+      subst (λ (x : CidrValue). x.prefix ≤ longest_prefix x.addr.family) same within,
+    )
+
+-- what is read is spelled
+pub network_read_is_spelled : (text : List ℕ) (c : CidrValue) → cidr_of_text text ≡ Some c → IsCidrText text c
+unfolding cidr_of_text
+network_read_is_spelled text c e =
+    let (addr_read, prefix_read, fits) = parts_read (addr_of_text (before_first is_slash text)) (prefix_of_text (after_first is_slash text)) c e in
+    let (small, digits) = decimal_read (after_first is_slash text) c.prefix prefix_read in
+    let within = slash_within text c.prefix prefix_read in
+    let split = split_at_first is_slash text 0 within in
+    let here = eqb-true (get_or text (position_or_len is_slash text) 0) slash (passes_at_first is_slash text 0 within) in
+    record {
+      address = before_first is_slash text;
+      address_spelled = read_is_spelled (before_first is_slash text) c.addr addr_read;
+      fits = fits;
+      spelled = split ∙ ap₂ (λ (b : ℕ) (t : List ℕ). before_first is_slash text ++ b ∷ t) here digits;
+    }
+
+-- what is written is spelled
+pub network_written_is_spelled : (c : CidrValue) → IsCidr c → IsCidrText (cidr_text c) c
+unfolding cidr_text
+network_written_is_spelled c kept = record {
+  address = addr_text c.addr;
+  address_spelled = written_is_spelled c.addr kept.addr;
+  fits = kept.prefix;
+  spelled = refl;
+}
+
+-- a text is one network at most
+pub cidr_text_unique : (text : List ℕ) (a b : CidrValue) → IsCidrText text a → IsCidrText text b → a ≡ b
+cidr_text_unique text a b h k = some_same a b (sym (network_spelled_is_read text a h) ∙ network_spelled_is_read text b k)
+
+-- and a network has a text of its own
+pub cidr_text_injective : (a b : CidrValue) → IsCidr a → IsCidr b → cidr_text a ≡ cidr_text b → a ≡ b
+cidr_text_injective a b kept_a kept_b same =
+    cidr_text_unique (cidr_text b) a b (subst (λ t. IsCidrText t a) same (network_written_is_spelled a kept_a)) (network_written_is_spelled b kept_b)

@@ -1,12 +1,17 @@
 -- Networks as numbers.
-use Rattle.std.proofs.Common.{◌==◌, ◌&&◌, true, ◌≡◌, ℕ, ◌+◌, ◌-◌, ◌*◌, ◌/◌, ◌%◌, ◌^◌, ◌<◌, ◌≤◌, sym, ap, ◌∙◌, subst, arith}
+use Rattle.std.proofs.Common.{◌==◌, ◌&&◌, true, refl, eqb-true, eq-eqb, ne_eqb, Bool, Option, Some, None, inl, inr, ◌≡◌, ℕ, ◌+◌, ◌-◌, ◌*◌, ◌/◌, ◌%◌, ◌^◌, ◌<◌, ◌≤◌, sym, ap, ◌∙◌, subst, arith}
 use Rattle.std.proofs.Math.Nat.{mul-le-mul_left}
-use Rattle.std.proofs.lemmas.Nat.{pow_pos, pow-add, div_below}
+use Rattle.std.proofs.lemmas.Nat.{pow_pos, pow-add, div_below, le-div, mod-mul-add}
+use Rattle.std.proofs.lemmas.Bool.{and_parts, and_from, cases_eq}
+use Rattle.std.proofs.lemmas.Option.{none-some}
+use Rattle.std.specs.Prelude.{if◌then◌else◌}
+use Rattle.cni_addr.proofs.AddrTexts.{some_same}
+use Rattle.std.specs.Prelude.{◌↔◌}
 use Rattle.cni_addr.specs.declared.address.Family.{Family}
-use Rattle.cni_addr.specs.declared.address.Family.TheVariants.{V4}
+use Rattle.cni_addr.specs.declared.address.Family.TheVariants.{V4, V6}
 use Rattle.cni_addr.specs.Value.{AddrValue, CidrValue, IsAddr, bits_below, longest_prefix}
 use Rattle.cni_addr.specs.Codes.{family_eq}
-use Rattle.cni_addr.specs.Network.{network_size, network_bits, network_of, last_of, contains, whole}
+use Rattle.cni_addr.specs.Network.{network_size, network_bits, network_of, last_of, contains, whole, next_addr, IsCidr}
 
 -- the highest number with the bits of n above the lowest h is below a bound that is a multiple of 2 ^ h
 pub last_below : (n h w : ℕ) → h ≤ w → n < 2 ^ w → n - n % 2 ^ h + (2 ^ h - 1) < 2 ^ w
@@ -73,3 +78,193 @@ module _ (c : CidrValue) (a addr : AddrValue) (prefix size : ℕ) (kept : IsAddr
 pub whole_is : (a addr : AddrValue) (prefix : ℕ) → a ≡ addr → prefix ≡ longest_prefix a.family → at_prefix prefix a ≡ whole addr
 unfolding whole
 whole_is a addr prefix same longest = ap (λ p. at_prefix p a) longest ∙ ap whole same
+
+-- ---- what a network is
+
+-- the families are told apart by their codes
+family_test : (f g : Family) → family_eq f g ≡ true → f ≡ g
+family_test V4 V4 e = refl
+family_test V4 V6 e = absurd (cc e)
+family_test V6 V4 e = absurd (cc e)
+family_test V6 V6 e = refl
+
+same_family : (f : Family) → family_eq f f ≡ true
+same_family V4 = refl
+same_family V6 = refl
+
+-- numbers with one quotient are between two multiples
+same_row : (n a s : ℕ) → 0 < s → a / s ≡ n / s → (n - n % s ≤ a) × (a ≤ n - n % s + (s - 1))
+same_row n a s some e =
+    let row : s * (a / s) ≡ s * (n / s) = ap (λ q. s * q) e in
+    (omega (arith, row), omega (arith, row))
+
+-- and the other way round
+row_between : (n a s : ℕ) → 0 < s → n - n % s ≤ a → a ≤ n - n % s + (s - 1) → a / s ≡ n / s
+row_between n a s some from_first to_last =
+    let start : n - n % s ≡ n / s * s = omega arith in
+    let next : (n / s + 1) * s ≡ n / s * s + s = omega arith in
+    let least : n / s ≤ a / s = le-div (n / s) a s some (omega arith) in
+    let most : a / s < n / s + 1 = div_below a s (n / s + 1) some (omega arith) in
+    omega arith
+
+-- a number without its lowest bits has none
+cleared : (n s : ℕ) → 0 < s → (n - n % s) % s ≡ 0
+cleared n s some =
+    let start : n - n % s ≡ n / s * s + 0 = omega arith in
+    ap (λ m. m % s) start ∙ mod-mul-add (n / s) s 0 some
+
+some_address : (c : CidrValue) → 0 < network_size c
+some_address c = pow_pos (longest_prefix c.addr.family - c.prefix)
+
+-- an address is in the network exactly where its family is the network's, and it is from its first to its last
+pub contains_between : (c : CidrValue) (a : AddrValue)
+    → (contains c a ≡ true) ↔ ((c.addr.family ≡ a.family) × ((network_of c).addr.bits ≤ a.bits) × (a.bits ≤ (last_of c).bits))
+unfolding contains network_of last_of
+contains_between c a = (
+  λ inside.
+      let (family, row) = and_parts (family_eq c.addr.family a.family) _ inside in
+      let (from_first, to_last) = same_row c.addr.bits a.bits (network_size c) (some_address c) (eqb-true (a.bits / network_size c) (c.addr.bits / network_size c) row) in
+      (family_test c.addr.family a.family family, from_first, to_last),
+  λ between.
+      let family = subst (λ f. family_eq c.addr.family f ≡ true) between.0 (same_family c.addr.family) in
+      let row = row_between c.addr.bits a.bits (network_size c) (some_address c) between.1 between.2 in
+      and_from (family_eq c.addr.family a.family) (a.bits / network_size c == c.addr.bits / network_size c) family (eq-eqb (a.bits / network_size c) (c.addr.bits / network_size c) row),
+)
+
+-- a network has no host bits
+pub network_cleared : (c : CidrValue) → (network_of c).addr.bits % network_size c ≡ 0
+unfolding network_of
+network_cleared c = cleared c.addr.bits (network_size c) (some_address c)
+
+-- the network of a network is the network
+pub network_of_network : (c : CidrValue) → network_of (network_of c) ≡ network_of c
+unfolding network_of
+network_of_network c =
+    let none = network_cleared c in
+    ap (λ bits. at_prefix c.prefix (at_bits c.addr.family bits)) (omega (arith, none))
+
+-- the network has the address, and its first and its last
+pub contains_own : (c : CidrValue) → contains c c.addr ≡ true
+unfolding contains
+contains_own c = and_from (family_eq c.addr.family c.addr.family) _ (same_family c.addr.family) (eq-eqb (c.addr.bits / network_size c) (c.addr.bits / network_size c) refl)
+
+first_before_last : (c : CidrValue) → (network_of c).addr.bits ≤ (last_of c).bits
+unfolding network_of last_of
+first_before_last c = omega arith
+
+network_family : (c : CidrValue) → c.addr.family ≡ (network_of c).addr.family
+unfolding network_of
+network_family c = refl
+
+last_family : (c : CidrValue) → c.addr.family ≡ (last_of c).family
+unfolding last_of
+last_family c = refl
+
+pub contains_first : (c : CidrValue) → contains c (network_of c).addr ≡ true
+contains_first c = (contains_between c (network_of c).addr).1 (network_family c, omega arith, first_before_last c)
+
+pub contains_last : (c : CidrValue) → contains c (last_of c) ≡ true
+contains_last c = (contains_between c (last_of c)).1 (last_family c, first_before_last c, omega arith)
+
+-- a network has the addresses that its network has
+pub contains_of_network : (c : CidrValue) (a : AddrValue) → contains (network_of c) a ≡ contains c a
+unfolding contains network_of
+contains_of_network c a =
+    let row : (c.addr.bits - c.addr.bits % network_size c) / network_size c ≡ c.addr.bits / network_size c =
+    row_between c.addr.bits (c.addr.bits - c.addr.bits % network_size c) (network_size c) (some_address c) (omega arith) (omega arith) in
+    ap (λ q. family_eq c.addr.family a.family && (a.bits / network_size c == q)) row
+
+-- and ends where its network ends
+pub last_of_network : (c : CidrValue) → last_of (network_of c) ≡ last_of c
+unfolding last_of network_of
+last_of_network c =
+    let none : (c.addr.bits - c.addr.bits % network_size c) % network_size c ≡ 0 = cleared c.addr.bits (network_size c) (some_address c) in
+    ap (λ bits. at_bits c.addr.family (bits + (network_size c - 1))) (omega (arith, none))
+
+-- the network and its last address are of the family that is built
+pub IsCidr-network_of : (c : CidrValue) → IsCidr c → IsCidr (network_of c)
+unfolding network_of
+IsCidr-network_of c kept = record { addr = network_fits c c.addr c.addr c.prefix (network_size c) kept.addr refl refl kept.prefix refl; prefix = kept.prefix }
+
+pub IsAddr-last_of : (c : CidrValue) → IsCidr c → IsAddr (last_of c)
+unfolding last_of
+IsAddr-last_of c kept = last_fits c c.addr c.addr c.prefix (network_size c) kept.addr refl refl kept.prefix refl
+
+-- ---- one address alone
+
+pub IsCidr-whole : (a : AddrValue) → IsAddr a → IsCidr (whole a)
+unfolding whole
+IsCidr-whole a kept = record { addr = kept; prefix = omega arith }
+
+one_address : (a : AddrValue) → network_size (whole a) ≡ 1
+unfolding whole
+one_address a = let none : longest_prefix a.family - longest_prefix a.family ≡ 0 = omega arith in ap (λ k. 2 ^ k) none
+
+pub network_of_whole : (a : AddrValue) → network_of (whole a) ≡ whole a
+unfolding whole network_of
+network_of_whole a =
+    let one = one_address a in
+    ap (λ s. at_prefix (longest_prefix a.family) (at_bits a.family (a.bits - a.bits % s))) one
+    ∙ ap (λ bits. at_prefix (longest_prefix a.family) (at_bits a.family bits)) (omega arith)
+
+pub last_of_whole : (a : AddrValue) → last_of (whole a) ≡ a
+unfolding whole last_of
+last_of_whole a =
+    let one = one_address a in
+    ap (λ s. at_bits a.family (a.bits - a.bits % s + (s - 1))) one ∙ ap (λ bits. at_bits a.family bits) (omega arith)
+
+whole_here : (a : AddrValue) → (whole a).addr ≡ a
+unfolding whole
+whole_here a = refl
+
+-- it has itself and no other
+pub contains_whole : (a b : AddrValue) → (contains (whole a) b ≡ true) ↔ (a ≡ b)
+contains_whole a b = (
+  λ inside.
+      let between = (contains_between (whole a) b).0 inside in
+      let first = ap (λ (c : CidrValue). c.addr.bits) (network_of_whole a) in
+      let last = ap (λ (x : AddrValue). x.bits) (last_of_whole a) in
+      let here = ap (λ (x : AddrValue). x.bits) (whole_here a) in
+      let family = sym (ap (λ (x : AddrValue). x.family) (whole_here a)) ∙ between.0 in
+      let bits : a.bits ≡ b.bits = omega (arith, between.1, between.2) in
+      λ i. record { family = family i; bits = bits i },
+  λ same. subst (λ x. contains (whole a) x ≡ true) (whole_here a ∙ same) (contains_own (whole a)),
+)
+
+-- ---- the next address
+
+abbrev next_by : Bool → AddrValue → Option AddrValue
+next_by at_end a = if at_end then None else Some (at_bits a.family (a.bits + 1))
+
+-- at the last address there is none
+pub none_at_end : (a addr : AddrValue) → a ≡ addr → a.bits + 1 ≡ bits_below a.family → None ≡ next_addr addr
+unfolding next_addr
+none_at_end a addr same end = sym (ap (λ b. next_by b a) (eq-eqb (a.bits + 1) (bits_below a.family) end)) ∙ ap next_addr same
+
+-- at any other it is one higher
+pub next_before_end : (a addr : AddrValue) → a ≡ addr → (a.bits + 1 ≡ bits_below a.family → ⊥) → Some (at_bits a.family (a.bits + 1)) ≡ next_addr addr
+unfolding next_addr
+next_before_end a addr same before = sym (ap (λ b. next_by b a) (ne_eqb (a.bits + 1) (bits_below a.family) before)) ∙ ap next_addr same
+
+-- there is none just at the last address
+pub none_just_at_end : (a : AddrValue) → (next_addr a ≡ None) ↔ (a.bits + 1 ≡ bits_below a.family)
+none_just_at_end a = (
+  λ none.
+      elim (cases_eq (a.bits + 1) (bits_below a.family)) [
+        | inl end ↦ end
+        | inr before ↦ absurd (none-some (at_bits a.family (a.bits + 1)) (sym none ∙ sym (next_before_end a a refl before)))
+      ],
+  λ end. sym (none_at_end a a refl end),
+)
+
+-- the next address is one higher, of the same family, and an address
+pub next_is_higher : (a b : AddrValue) → IsAddr a → next_addr a ≡ Some b → IsAddr b × (b.family ≡ a.family) × (b.bits ≡ a.bits + 1)
+next_is_higher a b kept found =
+    elim (cases_eq (a.bits + 1) (bits_below a.family)) [
+      | inl end ↦ absurd (none-some b (none_at_end a a refl end ∙ found))
+      | inr before ↦
+          let same : at_bits a.family (a.bits + 1) ≡ b = some_same (at_bits a.family (a.bits + 1)) b (next_before_end a a refl before ∙ found) in
+          let within = kept.within in
+          let next : IsAddr (at_bits a.family (a.bits + 1)) = record { within = omega arith; built = kept.built } in
+          (subst IsAddr same next, ap (λ (x : AddrValue). x.family) (sym same), ap (λ (x : AddrValue). x.bits) (sym same))
+    ]

@@ -1,6 +1,7 @@
 -- Networks as texts: an address, a slash, and the length of the prefix (RFC 4632, 3.1).
 use Rattle.std.specs.Prelude.{◌≡◌, ℕ, ◌≤◌, ◌==◌, nat_le, Bool, not, ◌&&◌, ◌||◌, slice_index, length, if◌then◌else◌, List, ◌++◌, Option, Some, None, option_and_then, codes, decimal}
 use Rattle.std.specs.List.{before_first, after_first}
+use Rattle.std.specs.Str.{byte}
 use Rattle.std.specs.Net.Reader.{read_octet, whole_value}
 use Rattle.cni_addr.specs.Value.{AddrValue, CidrValue, longest_prefix}
 use Rattle.cni_addr.specs.AddrText.{IsAddrText, addr_of_text, addr_text}
@@ -14,15 +15,15 @@ pub record IsCidrText (text : List ℕ) (c : CidrValue) : Type 0 where
 
 -- `/`
 abbrev pub slash : ℕ
-slash = 47
+slash = byte "/"
 
 -- whether the byte is a slash
 abbrev pub is_slash : ℕ → Bool
-is_slash byte = byte == slash
+is_slash c = c == slash
 
 -- no plus sign stands in front, and no zero stands in front of more
 abbrev pub begins_plainly : List ℕ → Bool
-begins_plainly text = not (slice_index text 0 == 43) && (not (slice_index text 0 == 48) || length text == 1)
+begins_plainly text = not (slice_index text 0 == byte "+") && (not (slice_index text 0 == byte "0") || length text == 1)
 
 -- the number below 256 that the whole text writes in decimal, without leading zeros
 unfoldable pub prefix_of_text : List ℕ → Option ℕ

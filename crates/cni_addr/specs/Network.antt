@@ -1,7 +1,12 @@
 -- Networks as numbers: addresses that share the first bits, the network's prefix (RFC 4632, 3.1).
-use Rattle.std.specs.Prelude.{ℕ, ◌+◌, ◌-◌, ◌*◌, ◌/◌, ◌%◌, ◌^◌, ◌==◌, nat_lt, ◌&&◌, Bool, if◌then◌else◌, Option, Some, None}
+use Rattle.std.specs.Prelude.{ℕ, ◌+◌, ◌-◌, ◌*◌, ◌/◌, ◌%◌, ◌^◌, ◌≤◌, ◌==◌, ◌&&◌, Bool, if◌then◌else◌, Option, Some, None}
 use Rattle.cni_addr.specs.Codes.{family_eq}
-use Rattle.cni_addr.specs.Value.{AddrValue, CidrValue, bits_below, longest_prefix}
+use Rattle.cni_addr.specs.Value.{AddrValue, CidrValue, IsAddr, bits_below, longest_prefix}
+
+-- an address that is built, with a prefix of its family
+pub record IsCidr (c : CidrValue) : Type 0 where
+  pub addr : IsAddr c.addr
+  pub prefix : c.prefix ≤ longest_prefix c.addr.family
 
 -- how many addresses share the prefix: each host bit may be 0 or 1
 abbrev pub network_size : CidrValue → ℕ
@@ -27,6 +32,6 @@ contains c a = family_eq c.addr.family a.family && a.bits / network_size c == c.
 unfoldable pub whole : AddrValue → CidrValue
 whole a = record { addr = a; prefix = longest_prefix a.family }
 
--- the address one higher, if the family has one
+-- the address one higher, where this is not the family's last
 unfoldable pub next_addr : AddrValue → Option AddrValue
-next_addr a = if nat_lt (a.bits + 1) (bits_below a.family) then Some (record { family = a.family; bits = a.bits + 1 }) else None
+next_addr a = if a.bits + 1 == bits_below a.family then None else Some (record { family = a.family; bits = a.bits + 1 })

@@ -7,6 +7,7 @@
 
 pub mod address;
 pub mod items;
+pub mod laws;
 pub mod mac;
 pub mod macvlan;
 pub mod memory;
@@ -21,8 +22,8 @@ pub use items::Items;
 pub use mac::Mac;
 pub use macvlan::MacvlanMode;
 pub use memory::{Duplicate, NoMemory};
-pub use network::{contains, last_of, network_of, whole};
+pub use network::{contains, last_of, network_of, next_addr, whole};
 pub use range::{Range, RangeSet};
-pub use read::{read_addr, read_cidr};
+pub use read::{read_addr, read_cidr, read_mac};
 pub use text::Text;
-pub use write::{write_addr, write_cidr};
+pub use write::{write_addr, write_cidr, write_mac};

@@ -1,8 +1,8 @@
 //! Networks as numbers. No call here takes memory.
 
-ghost use Rattle.std.specs.Prelude.{◌≡◌, ◌-◌, ◌^◌};
+ghost use Rattle.std.specs.Prelude.{◌≡◌, ◌+◌};
 ghost use Rattle.cni_addr.specs.Network as network;
-ghost use Rattle.cni_addr.specs.Value.{longest_prefix};
+ghost use Rattle.cni_addr.specs.Value.{bits_below, longest_prefix};
 
 use crate::address::{Addr, Cidr, Family};
 
@@ -14,6 +14,16 @@ impl Family {
         match self {
             Family::V4 => 32,
             Family::V6 => 128,
+        }
+    }
+
+    // The number of the family's last address.
+    fn last_bits(self) -> u128
+        ensures { result + 1 ≡ bits_below self }
+    {
+        match self {
+            Family::V4 => u128::from(u32::MAX),
+            Family::V6 => u128::MAX,
         }
     }
 }
@@ -69,4 +79,17 @@ pub fn whole(addr: &Addr) -> Cidr
         addr: *addr,
         prefix: addr.family.longest_prefix(),
     }
+}
+
+/// The address one higher. None comes exactly at the family's last address.
+pub fn next_addr(addr: &Addr) -> Option<Addr>
+    ensures { result ≡ network.next_addr addr.now }
+{
+    if addr.bits == addr.family.last_bits() {
+        return None;
+    }
+    Some(Addr {
+        family: addr.family,
+        bits: addr.bits + 1,
+    })
 }

@@ -1,11 +1,13 @@
 //! Readers of texts, each exactly its grammar.
 
-ghost use Rattle.std.specs.Prelude.{◌≡◌};
+ghost use Rattle.std.specs.Prelude.{◌≡◌, length};
 ghost use Rattle.cni_addr.specs.AddrText.{addr_of_text};
 ghost use Rattle.cni_addr.specs.CidrText.{is_slash, begins_plainly, prefix_of_text, cidr_of_text};
+ghost use Rattle.cni_addr.specs.MacText.{has_colons, digits_in, mac_of_text};
 ghost use Rattle.std.specs.List.{position};
 
 use crate::address::{Addr, Cidr, Family};
+use crate::mac::Mac;
 use std::net::Ipv4Addr;
 use std::str;
 
@@ -36,6 +38,44 @@ pub fn read_cidr(text: &[u8]) -> Option<Cidr>
     } else {
         None
     }
+}
+
+/// The hardware address that the text spells: six pairs of hex digits of either case, joined by colons. None comes
+/// exactly outside the grammar. Takes no memory.
+pub fn read_mac(text: &[u8]) -> Option<Mac>
+    ensures { result ≡ mac_of_text text.now }
+{
+    if !has_colons(text) {
+        return None;
+    }
+    let mut bytes = [0; 6];
+    match hex::decode_to_slice(digits_in(text), &mut bytes) {
+        Ok(()) => Some(Mac { bytes }),
+        Err(_) => None,
+    }
+}
+
+// Whether the text has the length of six pairs with a colon between each two, and has the colons.
+fn has_colons(text: &[u8]) -> bool
+    ensures { result ≡ has_colons text.now }
+{
+    text.len() == 17
+        && text[2] == b':'
+        && text[5] == b':'
+        && text[8] == b':'
+        && text[11] == b':'
+        && text[14] == b':'
+}
+
+// What stands around the colons.
+fn digits_in(text: &[u8]) -> [u8; 12]
+    requires { length text.now ≡ 17 }
+    ensures { result ≡ digits_in text.now }
+{
+    [
+        text[0], text[1], text[3], text[4], text[6], text[7], text[9], text[10], text[12],
+        text[13], text[15], text[16],
+    ]
 }
 
 // The place of the first slash.

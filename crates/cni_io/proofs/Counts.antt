@@ -6,10 +6,6 @@ use Rattle.std.proofs.lemmas.Bool.{cases_Bool, cases_lt}
 use Rattle.cni_io.specs.Faults.{Rose, CountsFault, counted}
 use Rattle.cni_io.specs.FailingCalls.{CallsState, failures, failures_among, is_failing, fails_next, next_call}
 
--- a count of one more rose
-pub Rose-counted : (faults : ℕ) → faults < 2 ^ 64 → Rose faults (counted faults)
-Rose-counted faults fits = elim (cases_lt faults (2 ^ 64 - 1)) [ inl below ↦ inl (omega arith) | inr last ↦ inr (omega arith) ]
-
 -- what rose later rose from the start on
 pub Rose-from_start : (start before now : ℕ) → start ≤ before → Rose before now → Rose start now
 Rose-from_start start before now earlier (inl higher) = inl (omega arith)

@@ -11,7 +11,7 @@ pub record CallsState : Type 0 where
 abbrev pub is_failing : List ℕ → ℕ → Bool
 is_failing failing number = list_any (λ k. k == number) failing
 
--- the next call has a number, which the greatest u64 bounds, and fails
+-- the next call has a number, since numbers end at the greatest u64, and fails
 abbrev pub fails_next : CallsState → Bool
 fails_next s = nat_lt s.calls (2 ^ 64 - 1) && is_failing s.failing (s.calls + 1)
 
@@ -22,8 +22,9 @@ next_call s = record s { calls = (if nat_lt s.calls (2 ^ 64 - 1) then s.calls + 
 -- how many of the first calls fail
 abbrev pub failures_among : List ℕ → ℕ → ℕ
 failures_among failing zero = 0
-failures_among failing (suc calls) = failures_among failing calls + (if is_failing failing (suc calls) then 1 else 0)
+failures_among failing (suc calls) =
+    failures_among failing calls + (if is_failing failing (suc calls) then 1 else 0)
 
--- how many of the calls so far have failed
+-- how many of the calls so far failed
 abbrev pub failures : CallsState → ℕ
 failures s = failures_among s.failing s.calls

@@ -5,7 +5,7 @@ use Rattle.std.specs.Prelude.{◌≡◌, ℕ, ◌+◌, ◌-◌, ◌^◌, ◌<◌
 abbrev pub counted : ℕ → ℕ
 counted faults = min (faults + 1) (2 ^ 64 - 1)
 
--- in a call the count rose: it is higher at the end than at the start, or stands at the greatest u64
+-- in a call the count rose: it is higher at the end than at the start, or is the greatest u64
 abbrev pub Rose : ℕ → ℕ → Type 0
 Rose before now = (before < now) ⊎ (now ≡ 2 ^ 64 - 1)
 

@@ -16,7 +16,8 @@ bytes_of stored name = option_map (λ file. file.1) (find (λ file. bytes_eq fil
 -- a file that is to have at most `limit` bytes: its bytes, or what is wrong with it
 abbrev pub answer_within : ℕ → Option (List ℕ) → Result (List ℕ) FileFault
 answer_within limit None = Err Missing
-answer_within limit (Some bytes) = if nat_le (length bytes) limit then Ok bytes else Err (TooLarge limit)
+answer_within limit (Some bytes) =
+    if nat_le (length bytes) limit then Ok bytes else Err (TooLarge limit)
 
 -- the bytes of the file of this name, or why it is not read
 abbrev pub file_of : StoredFiles → ℕ → List ℕ → Result (List ℕ) FileFault

@@ -20,13 +20,15 @@ HasEachNameOnce stored = (name : List ℕ) → length (filter (λ file. bytes_eq
 
 -- the files of other names, and then this one
 abbrev pub stored_with : StoredFiles → List ℕ → List ℕ → StoredFiles
-stored_with stored name bytes = filter (λ file. not (bytes_eq file.0 name)) stored ++ (name, bytes) ∷ []
+stored_with stored name bytes =
+    filter (λ file. not (bytes_eq file.0 name)) stored ++ (name, bytes) ∷ []
 
 -- what the next read answers
 abbrev pub next_read : FilesState → ℕ → List ℕ → Result (List ℕ) FileFault
-next_read s limit name = if fails_next s.reads then Err file_fault.Failed else file_of s.stored limit name
+next_read s limit name =
+    if fails_next s.reads then Err file_fault.Failed else file_of s.stored limit name
 
--- what `MemSink` holds: `most` is what one write takes at most, and `room` what all later ones take
+-- what `MemSink` holds: one write takes `most` bytes at most, and all later ones together `room`
 pub record SinkState : Type 0 where
   pub written : List ℕ
   pub most : ℕ

@@ -30,12 +30,13 @@ pub trait Files {
     // the files, where they are told
     ghost files: { Self → Option StoredFiles };
 
-    // how many reads have failed
+    // a count of faults, which each read that fails raises
     ghost faults: { Self → ℕ };
 
     /// Reads the file `name`, which is to have at most `limit` bytes.
     fn read(&mut self, alloc: Global, name: &str, limit: u64) -> Result<Vec<u8>, FileFault>
-        ensures told { IfSome (files self.old) (λ stored. ReadsTold result (file_of stored limit name.now)) }
+        ensures told { IfSome (files self.old)
+            (λ stored. ReadsTold result (file_of stored limit name.now)) }
         ensures keeps { files self.new ≡ files self.old }
         ensures limited { KeepsToLimit limit result }
         ensures cause { CountsFault (faults self.old) (faults self.new) (IsFailed result) };

@@ -4,8 +4,8 @@
 //! a count of faults that never falls, so a caller that tells of a failed read or write can prove
 //! that there was one. Where files tell what they hold and a sink tells what it was given, as
 //! [`MemFiles`] and [`MemSink`] do, the bytes that were read and written are known too.
-//! [`RealFiles`] and [`RealSink`] adapt the file system and standard output. They tell no bytes, since
-//! no proof reaches what the system does.
+//! [`RealFiles`] and [`RealSink`] adapt the file system and standard output. They tell no bytes,
+//! since no proof reaches what the system does.
 //!
 //! A file goes to the sink, three bytes a write at most, and the second write fails:
 //!

@@ -73,7 +73,10 @@ impl Model for MemFiles {
 impl MemFiles {
     /// No file, and the numbers of the reads that are to fail, in any order. It takes no memory.
     pub fn new(alloc: Global, failing: Vec<u64>) -> MemFiles
-        ensures { result ≡ record { stored = []; reads = record { failing = failing.items; calls = 0 } } }
+        ensures { result ≡ record {
+          stored = [];
+          reads = record { failing = failing.items; calls = 0 };
+        } }
     {
         MemFiles {
             files: Vec::new(alloc),
@@ -116,10 +119,12 @@ impl Files for MemFiles {
     ghost faults = { λ s. failures s.reads };
 
     fn read(&mut self, alloc: Global, name: &str, limit: u64) -> Result<Vec<u8>, FileFault>
-        ensures told { IfSome (Some self.old.stored) (λ stored. ReadsTold result (file_of stored limit name.now)) }
+        ensures told { IfSome (Some self.old.stored)
+            (λ stored. ReadsTold result (file_of stored limit name.now)) }
         ensures keeps { Some self.new.stored ≡ Some self.old.stored }
         ensures limited { KeepsToLimit limit result }
-        ensures cause { CountsFault (failures self.old.reads) (failures self.new.reads) (IsFailed result) }
+        ensures cause { CountsFault (failures self.old.reads) (failures self.new.reads)
+            (IsFailed result) }
         ensures exact { GivesOrNoMemory result (next_read self.old limit name.now) }
         ensures leaves { self.new ≡ record self.old { reads = next_call self.old.reads } }
     {
@@ -133,7 +138,8 @@ impl Files for MemFiles {
 }
 
 fn remove_named(files: &mut Vec<StoredFile>, name: &str)
-    ensures others { files.new.items ≡ filter (λ file. not (bytes_eq file.0 name.now)) files.old.items }
+    ensures others { files.new.items
+        ≡ filter (λ file. not (bytes_eq file.0 name.now)) files.old.items }
     ensures fewer { vec_len files.new ≤ vec_len files.old }
     ensures capacity { vec_capacity files.new ≡ vec_capacity files.old }
 {
@@ -152,7 +158,8 @@ fn find_file<'f>(files: &'f [StoredFile], name: &str) -> Option<&'f [u8]>
 }
 
 fn copy_within(alloc: Global, found: Option<&[u8]>, limit: u64) -> Result<Vec<u8>, FileFault>
-    ensures answers { GivesOrNoMemory result (answer_within limit (option_map (λ bytes. bytes.now) found.entry)) }
+    ensures answers { GivesOrNoMemory result
+        (answer_within limit (option_map (λ bytes. bytes.now) found.entry)) }
     ensures not_failed { ¬ IsFailed result }
 {
     match found {
@@ -174,7 +181,10 @@ mod tests {
     fn the_second_read_fails(rt: HostRuntime) -> Result<(), Fail> {
         let mut files = MemFiles::new(rt.alloc(), vec![in rt.alloc(); 2]?);
         for text in ["first", "bytes"] {
-            files.add(Text1::of(rt.alloc(), "a")?, text.as_bytes().to_vec(rt.alloc())?)?;
+            files.add(
+                Text1::of(rt.alloc(), "a")?,
+                text.as_bytes().to_vec(rt.alloc())?,
+            )?;
         }
         assert_eq!(rt; files.files.len(), 1);
         let read = files.read(rt.alloc(), "a", 5)?;

@@ -87,7 +87,8 @@ impl Sink for MemSink {
     ghost faults = { λ s. s.faults };
 
     // a write answers so, and leaves this sink
-    ghost write_gives = { λ s bytes answer t. (answer ≡ next_write s (length bytes)) × (t ≡ sink_after s bytes) };
+    ghost write_gives = { λ s bytes answer t.
+        (answer ≡ next_write s (length bytes)) × (t ≡ sink_after s bytes) };
 
     fn write(&mut self, bytes: &[u8]) -> Result<usize, SinkFault> {
         let outcome = if self.writes.next_fails() {

@@ -43,9 +43,9 @@ impl<R: rt::Files> Files for RealFiles<R> {
 
     /// Reads at most one byte more than the limit.
     ///
-    /// `Missing` comes where the system says that there is no such file (POSIX `ENOENT`). Every other
-    /// error of the system but want of memory is `Failed`, as for a directory, a path that leads
-    /// through a file, a name that is too long and a file that may not be read.
+    /// `Missing` comes where the system says that there is no such file (POSIX `ENOENT`). Every
+    /// other error of the system but want of memory is `Failed`, as for a directory, a path that
+    /// leads through a file, a name that is too long and a file that may not be read.
     fn read(&mut self, alloc: Global, name: &str, limit: u64) -> Result<Vec<u8>, FileFault>
         ensures limited { KeepsToLimit limit result }
         ensures cause { CountsFault self.old self.new (IsFailed result) }
@@ -113,7 +113,9 @@ mod tests {
         let mut files = RealFiles::new(&rt);
         let read = files.read(rt.alloc(), name, 5);
         let too_large = files.read(rt.alloc(), name, 4).err();
-        let through_a_file = files.read(rt.alloc(), "reads_back_what_was_written.txt/a", 5).err();
+        let through_a_file = files
+            .read(rt.alloc(), "reads_back_what_was_written.txt/a", 5)
+            .err();
         fs::remove_file(&rt, name)?;
         assert_eq!(rt; read?.as_slice(), b"c1 c2".as_slice());
         assert_eq!(rt; too_large, Some(FileFault::TooLarge { limit: 4 }));

@@ -40,7 +40,8 @@ impl<W: Write> Sink for RealSink<W> {
     ghost faults = { λ count. count };
 
     // a write leaves this count
-    ghost write_gives = { λ before bytes answer now. now ≡ faults_after before answer (length bytes) };
+    ghost write_gives = { λ before bytes answer now.
+        now ≡ faults_after before answer (length bytes) };
 
     fn write(&mut self, bytes: &[u8]) -> Result<usize, SinkFault> {
         let outcome = match self.writer.write(bytes) {

@@ -21,7 +21,8 @@ pub trait Sink {
     // the bytes written so far, where they are told
     ghost written: { Self → Option (List ℕ) };
 
-    // how many writes have failed, or took nothing of a piece that is not empty
+    // a count of faults, which each write raises that fails, or takes nothing of a piece that is
+    // not empty
     ghost faults: { Self → ℕ };
 
     // what a write of these bytes may answer, and the sink that it may leave
@@ -32,7 +33,8 @@ pub trait Sink {
         ensures bound { IfOk result (λ taken. taken ≤ length bytes.now) }
         ensures appended { written self.new
             ≡ append_known (written self.old) (take (taken_of result) bytes.now) }
-        ensures cause { CountsFault (faults self.old) (faults self.new) (IsFault result (length bytes.now)) }
+        ensures cause { CountsFault (faults self.old) (faults self.new)
+            (IsFault result (length bytes.now)) }
         ensures gives { write_gives self.old bytes.now result self.new };
 }
 

@@ -20,8 +20,8 @@ pub enum WriteEnd {
 /// Writes all the bytes, each time what is left of them, and stops at the first write that fails or
 /// takes nothing. It takes no memory.
 pub fn write_whole<S: Sink>(sink: &mut S, bytes: &[u8]) -> Result<(), WriteEnd>
-    ensures appended { S.written sink.new
-        ≡ append_known (S.written sink.old) (take (written_of (length bytes.now) result) bytes.now) }
+    ensures appended { let written = written_of (length bytes.now) result in
+        S.written sink.new ≡ append_known (S.written sink.old) (take written bytes.now) }
     ensures writes { IsRunOfWrites S.write_gives bytes.now sink.old sink.new result }
     ensures cause { OnErr result (Rose (S.faults sink.old) (S.faults sink.new)) }
     ensures later { S.faults sink.old ≤ S.faults sink.new }

@@ -1,3 +1,8 @@
+pub mod Ascending
+pub mod Building
+pub mod LineFeed
+pub mod Lines
+pub mod OnLiterals
 pub mod OutcomeLemmas
 pub mod ReadingLemmas
 pub mod WholeNumbers

@@ -4,12 +4,11 @@ use Rattle.std.proofs.lemmas.Bool.{or_parts}
 use Rattle.std.specs.Cmp.Lexicographic.{slice_cmp}
 use Rattle.std.specs.Ordering.{match_ordering}
 use Rattle.serde_json.specs.Data.{Data, null, boolean, number, string, array, object, Items, Members, no_members, member}
-use Rattle.serde_json.specs.Find.{get, get_member}
+use Rattle.serde_json.specs.Find.{get, get_member, as_array}
 use Rattle.serde_json.specs.View.{view, items_view}
 use Rattle.serde_json.specs.Written.{has_float, items_have_float, members_have_float}
 use Rattle.serde_json.specs.declared.value.Value.{Value}
 use Rattle.cni_json.specs.Fields.{list_field, object_field, object_of, field_of}
-use Rattle.serde_json.specs.Find.{as_array}
 use Rattle.cni_json.specs.declared.fields.Field.TheVariants.{Here}
 
 member_whole : (o : Ordering) (x y : Option Data) (e v : Data) → match_ordering o x (Some e) y ≡ Some v → (x ≡ Some v → has_float v ≡ false) → (y ≡ Some v → has_float v ≡ false) → has_float e ≡ false → has_float v ≡ false

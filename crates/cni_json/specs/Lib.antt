@@ -1,4 +1,6 @@
 pub mod Fields
 pub mod Json
+pub mod Laws
 pub mod Outcome
 pub mod ReadEnds
+pub mod WellFormed

@@ -4,18 +4,18 @@ ghost use Rattle.cni_json.specs.Fields.{field_map, text_field, bool_field, u64_f
 
 use serde_json::Value;
 
-/// A member of an object: not there or null, of another kind, or of the kind that was asked for.
+/// What an object has under a key, by the kind that was asked for.
 #[derive(Clone, Copy, Debug, PartialEq, Eq, Drop)]
 pub enum Field<T> {
-    /// There is no such member, it is null, or the value asked is no object.
+    /// The value that was asked is no object, has no such key, or has null there.
     Absent,
     /// The member is there and of another kind.
     WrongKind,
-    /// The member.
+    /// The member, of the kind that was asked for.
     Here(T),
 }
 
-/// The member that is a text. It takes no memory, as each call of this file.
+/// The member that is a text. It is one look-up of the key and takes no memory, as its kin.
 pub fn field_str<'a>(object: &'a Value, key: &str) -> Field<&'a str>
     ensures { field_map (λ s. s.now) result ≡ text_field key.now (view object.entry.now) }
 {

@@ -8,10 +8,13 @@
 //!   reading, and `Number` exactly where a number of the reading is neither a `u64` nor an `i64`.
 //! - `field_str` and its kin give `text_field` and its kin of the value, and take no memory.
 //! - `line` writes `line_of` of the value.
+//! - What a line was written for is what it is read as (`a_line_is_read_again`), and the keys of
+//!   each object that is read ascend (`keys_ascend`).
 //!
-//! Each of these words is a definition in `specs/` that computes on literals. `GivesAs` of
-//! `specs/Outcome.antt` says that an outcome is the wanted one or want of memory. Each enum of
-//! errors can use it, by its own test of which of its errors are want of memory.
+//! Each of these words is a definition in `specs/` that computes on literals, under `unfolding
+//! cni_json_on_literals`. `GivesAs` of `specs/Outcome.antt` says that an outcome is the wanted one
+//! or want of memory. Each enum of errors can use it, by its own test of which of its errors are
+//! want of memory.
 //!
 //! ```text
 //! let list = read(alloc, b"{\"name\":\"pods\",\"mtu\":1500,\"dns\":null}")?;
@@ -24,12 +27,14 @@
 #![tactic(auto)]
 
 mod fields;
+mod laws;
 mod reading;
 #[cfg(test)]
 mod tests;
 mod writing;
 
 pub use fields::{Field, field_bool, field_list, field_object, field_str, field_u64};
+pub use laws::{a_line_feed_is_space, a_line_is_read_again, keys_ascend};
 pub use reading::{ReadEnd, read};
 pub use serde_json::{Map, Value};
 pub use writing::{LineNoMemory, line};

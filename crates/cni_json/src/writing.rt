@@ -1,7 +1,10 @@
-ghost use Rattle.std.specs.Prelude.{◌≡◌, false, IfOk};
+ghost use Rattle.std.specs.Prelude.{◌≡◌, ◌≤◌, false, Ok, IfOk};
+ghost use Rattle.serde_json.specs.Data.{depth};
+ghost use Rattle.serde_json.specs.Read.{max_depth};
 ghost use Rattle.serde_json.specs.View.{view};
 ghost use Rattle.serde_json.specs.Written.{has_float};
-ghost use Rattle.cni_json.specs.Json.{line_of};
+ghost use Rattle.cni_json.specs.Json.{json_of, line_of};
+ghost use Rattle.cni_json.specs.WellFormed.{KeysAscend};
 
 use serde_json::Value;
 use std::alloc::Global;
@@ -17,7 +20,13 @@ pub struct LineNoMemory;
 /// `i64`, as in each value that `read` gives.
 pub fn line(alloc: Global, value: &Value) -> Result<Vec<u8>, LineNoMemory>
     requires { has_float (view value.now) ≡ false }
-    ensures { IfOk result (λ text. text.items ≡ line_of (view value.now)) }
+    ensures text { IfOk result (λ text. text.items ≡ line_of (view value.now)) }
+
+    // A line that doesn't nest too deep for a reader is read again, and has its keys in order.
+    ensures again { IfOk result (λ text. depth (view value.now) ≤ max_depth
+        → json_of text.items ≡ Ok (view value.now)) }
+    ensures keys { IfOk result (λ text. depth (view value.now) ≤ max_depth
+        → KeysAscend (view value.now)) }
 {
     let Ok(mut text) = value.to_vec(alloc) else {
         return Err(LineNoMemory);

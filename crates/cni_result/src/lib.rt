@@ -6,10 +6,13 @@
 
 pub mod cached;
 pub mod error;
+pub mod members;
+pub mod printing;
 pub mod result;
 pub mod version;
 
 pub use cached::{Cached, PortMapping, Proto};
 pub use error::CniError;
+pub use members::JsonObject;
 pub use result::{AddResult, Dns, Interface, IpEntry, RouteEntry};
 pub use version::Version;

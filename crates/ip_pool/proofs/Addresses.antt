@@ -1,11 +1,10 @@
 -- Equal addresses are one address, and what holds of each member of a list holds of each address that is in it.
-use Rattle.std.proofs.Common.{◌≡◌, ℕ, Bool, true, false, ◌&&◌, ◌||◌, ◌==◌, List, [], ◌∷◌, refl, ap, arith}
-use Rattle.std.specs.List.{list_any, list_all}
+use Rattle.std.proofs.Common.{◌≡◌, ℕ, true, refl, arith}
 use Rattle.std.proofs.lemmas.Bool.Decides.{nat_tests}
 use Rattle.cni_addr.specs.declared.address.Family.{Family}
 use Rattle.cni_addr.specs.declared.address.Family.TheVariants.{V4, V6}
 use Rattle.cni_addr.specs.declared.address.Addr.{Addr}
-use Rattle.cni_addr.specs.Codes.{family_eq, family_code}
+use Rattle.cni_addr.specs.Codes.{family_eq}
 use Rattle.cni_addr.specs.Equal.{addr_eq}
 
 same-family : (f g : Family) → family_eq f g ≡ true → f ≡ g

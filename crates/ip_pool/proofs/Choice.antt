@@ -1,5 +1,5 @@
 -- The choice by a search in order is the choice by the relation.
-use Rattle.std.proofs.Common.{◌≡◌, ◌↔◌, ℕ, ◌+◌, ◌<◌, ◌≤◌, Bool, true, false, not, ◌&&◌, ◌||◌, ◌==◌, nat_lt, cond, min, max, Option, Some, None, List, [], ◌∷◌, ◌++◌, take, drop, find, MatchBool, refl, ap, sym, ◌∙◌, arith}
+use Rattle.std.proofs.Common.{◌≡◌, ◌↔◌, ℕ, ◌+◌, Bool, true, false, not, ◌&&◌, ◌||◌, ◌==◌, nat_lt, cond, max, Option, Some, None, List, [], ◌∷◌, take, drop, MatchBool, refl, ap, sym, ◌∙◌, arith}
 use Rattle.std.specs.List.{list_any, list_all, position_or_len}
 use Rattle.std.proofs.lemmas.Bool.Decides.{nat_tests}
 use Rattle.std.proofs.lemmas.List.{take-append-drop}
@@ -7,13 +7,12 @@ use Rattle.std.proofs.lemmas.List.Folds.{list_any-append}
 use Rattle.cni_addr.specs.declared.address.Addr.{Addr}
 use Rattle.cni_addr.specs.declared.range.Range.{Range}
 use Rattle.cni_addr.specs.declared.range.RangeSet.{RangeSet}
-use Rattle.cni_addr.specs.Codes.{family_eq}
 use Rattle.cni_addr.specs.Equal.{addr_eq}
 use Rattle.ip_pool.specs.Laws.{are_distinct, is_between}
 use Rattle.ip_pool.specs.NextAddress.{is_in, is_candidate, is_candidate_or_none, is_below, is_passed, is_taken, range_place, HasFree, IsNextAddress, IsExhausted, IsPick}
 use Rattle.ip_pool.specs.Pool.{candidates_of, after_last_first, is_free, pick_of, has_free_of, is_apart, are_apart}
 use Rattle.ip_pool.proofs.Addresses.{same-address, addr_eq-itself}
-use Rattle.ip_pool.proofs.InOrder.{in_order, find-none, find-passes, find-member, find-in_order, member-passes, list_all-members}
+use Rattle.ip_pool.proofs.InOrder.{in_order, find-none, find-passes, find-member, find-in_order, member-passes}
 use Rattle.ip_pool.proofs.Membership.{list_any-candidates}
 use Rattle.ip_pool.proofs.Passing.{never_passes, passed-not_itself, tried-in_order}
 use Rattle.ip_pool.proofs.Places.{below_in, candidates-ascend}

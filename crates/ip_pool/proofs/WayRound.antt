@@ -1,6 +1,6 @@
 -- The way round from the last address is the candidates in the order in which they are tried.
-use Rattle.std.proofs.Common.{◌≡◌, ℕ, ◌+◌, ◌<◌, ◌≤◌, Bool, true, false, not, ◌&&◌, ◌||◌, Option, Some, None, List, [], ◌∷◌, ◌++◌, length, get_or, take, drop, refl, ap, sym, ◌∙◌, arith, append_assoc}
-use Rattle.std.specs.List.{list_any, flat_map, position, position_or_len, after_first}
+use Rattle.std.proofs.Common.{◌≡◌, ℕ, ◌+◌, ◌<◌, ◌≤◌, true, false, Some, None, List, [], ◌∷◌, ◌++◌, length, get_or, take, drop, refl, ap, sym, ◌∙◌, arith, append_assoc}
+use Rattle.std.specs.List.{list_any, flat_map, position}
 use Rattle.std.proofs.lemmas.Bool.Decides.{nat_tests}
 use Rattle.std.proofs.lemmas.List.{drop_more, take-append-drop}
 use Rattle.std.proofs.lemmas.List.Concat.{flat_map-append}
@@ -10,7 +10,8 @@ use Rattle.cni_addr.specs.declared.address.Addr.{Addr}
 use Rattle.cni_addr.specs.declared.range.Range.{Range}
 use Rattle.cni_addr.specs.Equal.{addr_eq}
 use Rattle.ip_pool.specs.NextAddress.{is_in}
-use Rattle.ip_pool.specs.Pool.{candidates_between, candidates_in, after_last_first, way_round}
+use Rattle.ip_pool.specs.Pool.{candidates_between, candidates_in, after_last_first}
+use Rattle.ip_pool.specs.WayRound.{way_round}
 use Rattle.ip_pool.proofs.Lists.{round-absent, round-split, list_any-take_position, list_any-no_position}
 use Rattle.ip_pool.proofs.Membership.{list_any-candidates_between, list_any-candidates}
 use Rattle.ip_pool.proofs.Stretches.{address_at, candidates_between-split, candidates_between-first, candidates_between-empty}

@@ -6,7 +6,7 @@ use Rattle.cni_addr.specs.declared.range.Range.{Range}
 use Rattle.cni_addr.specs.declared.range.RangeSet.{RangeSet}
 use Rattle.cni_addr.specs.Codes.{family_eq}
 use Rattle.cni_addr.specs.Equal.{addr_eq}
-use Rattle.ip_pool.specs.NextAddress.{is_candidate, is_candidate_or_none, is_taken, HasFree, IsExhausted, IsPick}
+use Rattle.ip_pool.specs.NextAddress.{is_candidate, is_candidate_or_none, is_taken, IsExhausted, IsPick}
 use Rattle.ip_pool.specs.Pool.{candidates_of, pick_of, has_free_of, is_apart, are_apart}
 
 -- an address is listed exactly where it is a candidate

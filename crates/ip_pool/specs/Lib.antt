@@ -1,3 +1,4 @@
 pub mod Laws
 pub mod NextAddress
 pub mod Pool
+pub mod WayRound

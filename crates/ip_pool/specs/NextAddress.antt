@@ -15,6 +15,7 @@ is_in a r = family_eq a.family r.start.family && (not (nat_lt a.bits r.start.bit
 abbrev pub is_candidate : RangeSet → Addr → Bool
 is_candidate set a = list_any (is_in a) set.ranges
 
+-- where there is an address, it is a candidate
 abbrev pub is_candidate_or_none : RangeSet → Option Addr → Bool
 is_candidate_or_none set None = true
 is_candidate_or_none set (Some a) = is_candidate set a
@@ -35,6 +36,7 @@ is_passed set (Some last) a b =
     then is_below set last b && is_below set b a
     else is_below set last b || is_below set b a
 
+-- it is among the taken ones
 abbrev pub is_taken : List Addr → Addr → Bool
 is_taken taken a = list_any (λ b. addr_eq b a) taken
 

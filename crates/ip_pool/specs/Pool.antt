@@ -1,4 +1,5 @@
--- The candidates of a range set, and the one that is leased next (the `host-local` plugin, `ranges`).
+-- The candidates of a range set, and the one that is leased next (the `host-local` plugin: `ranges`, `rangeStart`,
+-- `rangeEnd`, `gateway`).
 use Rattle.std.specs.Prelude.{ℕ, zero, suc, ◌+◌, ◌-◌, Bool, true, not, ◌&&◌, ◌||◌, nat_lt, min, max, List, [], ◌∷◌, ◌++◌, filter, find, take, Option, Some, None}
 use Rattle.std.specs.List.{list_any, list_all, flat_map, after_first, position_or_len}
 use Rattle.cni_addr.specs.declared.address.Family.{Family}
@@ -25,15 +26,12 @@ candidates_in r = candidates_between r r.start.bits (r.end.bits + 1)
 abbrev pub candidates_of : RangeSet → List Addr
 candidates_of set = flat_map candidates_in set.ranges
 
--- the candidates of a range after the number last, those of the later and of the earlier ranges, and the range's up to last
-abbrev pub way_round : Range → List Range → List Range → ℕ → List Addr
-way_round r earlier later last = candidates_between r (last + 1) (r.end.bits + 1) ++ (flat_map candidates_in later ++ (flat_map candidates_in earlier ++ candidates_between r r.start.bits (last + 1)))
-
 -- the order in which addresses are tried: those after the last one, then those up to it
 abbrev pub after_last_first : Option Addr → List Addr → List Addr
 after_last_first None addrs = addrs
 after_last_first (Some last) addrs = after_first (addr_eq last) addrs ++ take (position_or_len (addr_eq last) addrs + 1) addrs
 
+-- it is not among the taken ones
 abbrev pub is_free : List Addr → Addr → Bool
 is_free taken addr = not (list_any (λ a. addr_eq a addr) taken)
 

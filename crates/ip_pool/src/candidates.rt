@@ -1,4 +1,4 @@
-//! Which addresses are candidates.
+//! Tests of addresses and ranges. None of them takes memory.
 
 ghost use Rattle.std.specs.Prelude.{◌≡◌};
 ghost use Rattle.std.specs.List.{list_all, position};
@@ -7,7 +7,8 @@ ghost use Rattle.ip_pool.specs.Pool.{is_apart, are_apart};
 
 use cni_addr::{Addr, Range, RangeSet};
 
-/// Whether the address is a candidate of the range: between its start and end, and not its gateway.
+/// Whether the address is a candidate of the range: of its family, not below its start, not above its end, and not
+/// its gateway.
 pub fn is_in_range(addr: &Addr, range: &Range) -> bool
     ensures { result ≡ is_in addr.now range.now }
 {
@@ -17,7 +18,7 @@ pub fn is_in_range(addr: &Addr, range: &Range) -> bool
         && *addr != range.gateway
 }
 
-/// Whether the address is a candidate of the set.
+/// Whether the address is a candidate of the set, that is of one of its ranges. Takes a step a range.
 pub fn contains_candidate(set: &RangeSet, addr: &Addr) -> bool
     ensures { result ≡ is_candidate set.now addr.now }
 {
@@ -27,7 +28,8 @@ pub fn contains_candidate(set: &RangeSet, addr: &Addr) -> bool
         .any(|range| is_in_range(addr, range))
 }
 
-/// Whether no address is between start and end of both ranges. The gateways do not matter.
+/// Whether no address is between start and end of both ranges. The gateways do not matter, and a range whose start
+/// is above its end has no address. [`laws::apart_shares_none`](crate::laws::apart_shares_none) says it of all addresses.
 pub fn is_apart(range: &Range, other: &Range) -> bool
     ensures { result ≡ is_apart range.now other.now }
 {
@@ -35,13 +37,14 @@ pub fn is_apart(range: &Range, other: &Range) -> bool
         || range.end.bits.min(other.end.bits) < range.start.bits.max(other.start.bits)
 }
 
+/// Whether the range shares no address with any of the others.
 fn is_apart_from_all(range: &Range, others: &[Range]) -> bool
     ensures { result ≡ list_all (is_apart range.now) others.now }
 {
     others.iter().all(|other| is_apart(range, other))
 }
 
-/// Whether no two of the ranges share an address. Takes the square of their number in steps.
+/// Whether no two of the ranges share an address. The steps are the square of their number.
 pub fn are_apart(ranges: &[Range]) -> bool
     ensures { result ≡ are_apart ranges.now }
 {

@@ -1,10 +1,10 @@
-//! The first free candidate of a stretch.
+//! The search for a free candidate, one address after the other.
 
-ghost use Rattle.std.specs.Prelude.{◌≡◌, not, ◌&&◌, ◌≤◌, ◌<◌, ◌+◌, ◌++◌, find, take, drop, length, Some};
-ghost use Rattle.std.specs.List.{flat_map, position};
+ghost use Rattle.std.specs.Prelude.{◌≡◌, not, ◌&&◌, ◌≤◌, ◌+◌, find};
+ghost use Rattle.std.specs.List.{flat_map};
 ghost use Rattle.cni_addr.specs.Equal.{addr_eq};
-ghost use Rattle.ip_pool.specs.NextAddress.{is_in};
-ghost use Rattle.ip_pool.specs.Pool.{candidates_between, candidates_in, is_free, after_last_first, way_round};
+ghost use Rattle.ip_pool.specs.Pool.{candidates_between, candidates_in, is_free, after_last_first};
+ghost use Rattle.ip_pool.specs.WayRound.{way_round};
 
 use crate::Taken;
 use crate::candidates::place_of;

@@ -12,22 +12,23 @@ pub fn candidates_are_distinct()
     ensures { CandidatesAreDistinct }
 {}
 
-/// Two ranges lie apart exactly where no address is between start and end of both.
+/// [`is_apart`](crate::is_apart) means that: two ranges lie apart exactly where no address is between start and end of both.
 pub fn apart_shares_none()
     ensures { ApartSharesNone }
 {}
 
-/// What is picked is the next address.
+/// What a search in order picks is the next address, or none where none is left, for ranges that lie apart and a
+/// last address that is a candidate.
 pub fn pick_is_the_next_address()
     ensures { PickIsNextAddress }
 {}
 
-/// At most one answer is the next address.
+/// There is one next address at most: two answers that are right are the same.
 pub fn next_address_is_one()
     ensures { NextAddressIsOne }
 {}
 
-/// What is picked is a candidate and free.
+/// What is picked is a candidate and free, for every set and every last address.
 pub fn pick_is_a_free_candidate()
     ensures { PickIsFreeCandidate }
 {}

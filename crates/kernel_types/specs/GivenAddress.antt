@@ -3,7 +3,7 @@ use Rattle.std.specs.Prelude.{◌≡◌}
 use Rattle.cni_addr.specs.declared.address.Addr.{Addr}
 use Rattle.cni_addr.specs.declared.address.Cidr.{Cidr}
 
--- a lease_taken address, the gateway and the subnet of its range
+-- a leased address, the gateway and the subnet of its range
 pub record GivenValue : Type 0 where
   pub address : Cidr
   pub gateway : Addr

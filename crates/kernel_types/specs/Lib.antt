@@ -3,8 +3,10 @@ pub mod Apply
 pub mod Codes
 pub mod Equal
 pub mod GivenAddress
+pub mod Isolation
 pub mod Lists
 pub mod Names
+pub mod Opening
 pub mod Parts
 pub mod Replies
 pub mod Sound

@@ -46,3 +46,17 @@ needs_no_memory (PoolFree network set) = true
 needs_no_memory (NsChange name true) = false
 needs_no_memory (NsChange name false) = true
 needs_no_memory (Outside change) = true
+
+-- a reply that holds a text or a list, and so takes memory
+abbrev pub holds_text_or_list : Reply → Bool
+holds_text_or_list Done = false
+holds_text_or_list NoNs = false
+holds_text_or_list NoLink = false
+holds_text_or_list (Taken tag) = true
+holds_text_or_list Empty = false
+holds_text_or_list (Leased addr) = false
+holds_text_or_list (Gone gone) = false
+holds_text_or_list (Has has) = false
+holds_text_or_list (Owners owners) = true
+holds_text_or_list (Entry cached) = true
+holds_text_or_list Fault = false

@@ -5,7 +5,7 @@ use Rattle.kernel_types.specs.Lists.{distinct}
 use Rattle.std.specs.Str.{bytes_eq}
 use Rattle.kernel_types.specs.Equal.{addr_eq, rule_eq, tag_eq}
 use Rattle.kernel_types.specs.Words.{is_host_ns, is_host_or_ns, is_owned, is_bridge, is_veth, is_at, is_peer_at, is_link_of}
-use Rattle.kernel_types.specs.Apply.Calls.{is_same_addr, is_same_route, is_same_setting, is_of_pool}
+use Rattle.kernel_types.specs.Apply.Calls.{is_same_addr, is_same_route, is_same_setting, is_of_pool, leased_addresses}
 use Rattle.kernel_types.specs.declared.object.LinkKey.{LinkKey}
 use Rattle.kernel_types.specs.declared.object.Tag.{Tag}
 use Rattle.kernel_types.specs.declared.object.Tag.TheVariants.{Outside, Base, Own}
@@ -133,3 +133,24 @@ pub record IsSound (host : Host) : Type 0 where
   pub leases : AreLeases host.leases
   pub cached : AreCached host.cached
   pub lasts : AreLasts host.lasts
+
+-- ---- what follows of a sound host
+
+-- each object that has a place is in the host or in a namespace that is there
+pub record AreInPlaces (host : Host) : Type 0 where
+  pub links : AllPassTest (λ l. is_host_or_ns host.namespaces l.ns) host.links
+  pub addresses : AllPassTest (λ a. is_host_or_ns host.namespaces a.ns) host.addresses
+  pub routes : AllPassTest (λ r. is_host_or_ns host.namespaces r.ns) host.routes
+  pub settings : AllPassTest (λ s. is_host_or_ns host.namespaces s.ns) host.settings
+
+-- no attachment owns a namespace
+abbrev pub NoNamespaceOwned : Host → Type 0
+NoNamespaceOwned host = list_any (λ n. is_owned n.tag) host.namespaces ≡ false
+
+-- no two leases of the network have one address
+abbrev pub NoAddressTwice : List ℕ → Host → Type 0
+NoAddressTwice network host = HasDistinct addr_eq (leased_addresses host network)
+
+-- the other link stands at this one's place, or at that of its peer
+abbrev pub is_link_or_peer : Link → Link → Bool
+is_link_or_peer link other = is_at link.ns link.name other || is_peer_at other.ns other.name link.peer

@@ -1,5 +1,5 @@
 -- What a call may change.
-use Rattle.std.specs.Prelude.{◌≡◌, ℕ, Bool, true, false, not, List, [], ◌∷◌, ◌++◌, ◌⊎◌, filter}
+use Rattle.std.specs.Prelude.{◌≡◌, ℕ, Bool, true, false, not, List, [], ◌∷◌, ◌++◌, ◌⊎◌}
 use Rattle.std.specs.List.{list_all}
 use Rattle.kernel_types.specs.Apply.Calls.{is_of_pool}
 use Rattle.kernel_types.specs.Words.{is_own}

@@ -3,10 +3,12 @@
 //! A [`Host`] is nine lists: eight of objects that carry an owner's [`Tag`], and the addresses that were leased last.
 //! What a [`Call`] does to a host, and its [`Reply`], is the definition `apply` in `specs/Apply.antt`, one equation a
 //! call; `IsSound` says what holds of every host, `IsAllowed` when a call may be made, `Touches` what it may change.
+//! The laws that join these are carried by the functions of [`laws`].
 //! Crates above make plans of calls; the crate `kernel_model` has a kernel that carries them out.
 #![tactic(auto)]
 
 pub mod call;
+pub mod laws;
 pub mod names;
 pub mod object;
 

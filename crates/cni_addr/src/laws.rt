@@ -1,0 +1,66 @@
+//! Laws of the definitions that the calls of this crate are equal to. Each function does nothing: what it ensures is
+//! the law, and a proof above this crate gets it by calling the function, or by the lemma that its answer names.
+
+ghost use Rattle.std.specs.Prelude.{◌≡◌, ◌↔◌, ◌+◌, ◌%◌, ◌≤◌, ℕ, List, Some, None, true};
+ghost use Rattle.cni_addr.specs.Value.{AddrValue, CidrValue, IsAddr, bits_below};
+ghost use Rattle.cni_addr.specs.AddrText.{IsAddrText, addr_of_text, addr_text};
+ghost use Rattle.cni_addr.specs.CidrText.{IsCidrText, cidr_of_text, cidr_text};
+ghost use Rattle.cni_addr.specs.MacText.{IsMac, IsMacText, mac_of_text, mac_text};
+ghost use Rattle.cni_addr.specs.Network.{IsCidr, contains, last_of, network_of, network_size, next_addr, whole};
+ghost use Rattle.cni_addr.specs.declared.mac.Mac.{Mac};
+
+/// What is read of an address's text is its grammar, both ways; what is written is read again as the same address; no
+/// text is two addresses, and no two addresses have one text.
+pub fn addr_text_laws()
+    ensures grammar { (text : List ℕ) (a : AddrValue) → IsAddrText text a ↔ (addr_of_text text ≡ Some a) }
+    ensures written { (a : AddrValue) → IsAddr a → addr_of_text (addr_text a) ≡ Some a }
+    ensures one_value { (text : List ℕ) (a b : AddrValue) → IsAddrText text a → IsAddrText text b → a ≡ b }
+    ensures one_text { (a b : AddrValue) → IsAddr a → IsAddr b → addr_text a ≡ addr_text b → a ≡ b }
+{}
+
+/// The same of a network's text. What is read is a network that a [`Cidr`](crate::Cidr) can be.
+pub fn cidr_text_laws()
+    ensures grammar { (text : List ℕ) (c : CidrValue) → IsCidrText text c ↔ (cidr_of_text text ≡ Some c) }
+    ensures kept { (text : List ℕ) (c : CidrValue) → IsCidrText text c → IsCidr c }
+    ensures written { (c : CidrValue) → IsCidr c → cidr_of_text (cidr_text c) ≡ Some c }
+    ensures one_value { (text : List ℕ) (b c : CidrValue) → IsCidrText text b → IsCidrText text c → b ≡ c }
+    ensures one_text { (b c : CidrValue) → IsCidr b → IsCidr c → cidr_text b ≡ cidr_text c → b ≡ c }
+{}
+
+/// The same of a hardware address's text, which may have digits of either case, and is written in lower case.
+pub fn mac_text_laws()
+    ensures grammar { (text : List ℕ) (m : Mac) → IsMacText text m ↔ (mac_of_text text ≡ Some m) }
+    ensures written { (m : Mac) → IsMac m → mac_of_text (mac_text m) ≡ Some m }
+    ensures one_value { (text : List ℕ) (m n : Mac) → IsMacText text m → IsMacText text n → m ≡ n }
+    ensures one_text { (m n : Mac) → IsMac m → IsMac n → mac_text m ≡ mac_text n → m ≡ n }
+{}
+
+/// A network has just the addresses of its family from its first to its last, these two among them. Its first has no
+/// host bits, and the network of a network is that network.
+pub fn network_laws()
+    ensures between { (c : CidrValue) (a : AddrValue) → (contains c a ≡ true)
+        ↔ ((c.addr.family ≡ a.family) × ((network_of c).addr.bits ≤ a.bits) × (a.bits ≤ (last_of c).bits)) }
+    ensures own { (c : CidrValue) → contains c c.addr ≡ true }
+    ensures first { (c : CidrValue) → contains c (network_of c).addr ≡ true }
+    ensures last { (c : CidrValue) → contains c (last_of c) ≡ true }
+    ensures cleared { (c : CidrValue) → (network_of c).addr.bits % network_size c ≡ 0 }
+    ensures again { (c : CidrValue) → network_of (network_of c) ≡ network_of c }
+    ensures same_addresses { (c : CidrValue) (a : AddrValue) → contains (network_of c) a ≡ contains c a }
+    ensures same_last { (c : CidrValue) → last_of (network_of c) ≡ last_of c }
+    ensures kept { (c : CidrValue) → IsCidr c → IsCidr (network_of c) × IsAddr (last_of c) }
+{}
+
+/// The full prefix is the network of one address: it has that address and no other, first and last.
+pub fn whole_laws()
+    ensures only { (a b : AddrValue) → (contains (whole a) b ≡ true) ↔ (a ≡ b) }
+    ensures network { (a : AddrValue) → network_of (whole a) ≡ whole a }
+    ensures last { (a : AddrValue) → last_of (whole a) ≡ a }
+    ensures kept { (a : AddrValue) → IsAddr a → IsCidr (whole a) }
+{}
+
+/// The next address is one higher, of the same family; there is none just at the family's last address.
+pub fn next_addr_laws()
+    ensures none { (a : AddrValue) → (next_addr a ≡ None) ↔ (a.bits + 1 ≡ bits_below a.family) }
+    ensures higher { (a b : AddrValue) → IsAddr a → next_addr a ≡ Some b
+        → IsAddr b × (b.family ≡ a.family) × (b.bits ≡ a.bits + 1) }
+{}

@@ -1,0 +1,15 @@
+use Rattle.std.proofs.Common.{◌≡◌, rules, [], ◌∷◌, ◌++◌, ap, ◌∙◌}
+use Rattle.serde_json.specs.View.{view}
+use Rattle.cni_json.specs.Json.{json_of}
+use Rattle.cni_json.proofs.Ascending.{KeysAscend-json_of}
+use Rattle.cni_json.proofs.Lines.{json_of-text}
+use Rattle.cni_json.proofs.writing.line.Goals as goal
+
+pub returns-clause-again : goal.returns-clause-again
+returns-clause-again c =
+    let whole : c.push.new.self.items ≡ c.in-Ok.text.items ++ 10 ∷ [] = search rules in
+    λ shallow. ap json_of whole ∙ json_of-text c.in-Ok.text.items (view c.args.value.now) c.in-Ok.ensures.utf8 c.in-Ok.ensures.reads_back c.requires shallow
+
+pub returns-clause-keys : goal.returns-clause-keys
+returns-clause-keys c =
+    λ shallow. KeysAscend-json_of _ (view c.args.value.now) (json_of-text c.in-Ok.text.items (view c.args.value.now) c.in-Ok.ensures.utf8 c.in-Ok.ensures.reads_back c.requires shallow)

@@ -1,0 +1,89 @@
+-- Results and errors as JSON (CNI specification 1.1.0, section 5).
+use Rattle.std.specs.Prelude.{ℕ, List, codes, Option, None}
+use Rattle.serde_json.specs.Data.{Data, object, Members, no_members, put}
+use Rattle.cni_addr.specs.AddrText.{addr_text}
+use Rattle.cni_addr.specs.CidrText.{cidr_text}
+use Rattle.cni_addr.specs.MacText.{mac_text}
+use Rattle.cni_addr.specs.Value.{AddrValue, CidrValue}
+use Rattle.cni_addr.specs.declared.mac.Mac.{Mac}
+use Rattle.cni_result.specs.Members.{text_data, number_data, list_data, ◌▷◌, put_if, put_text_unless_empty, put_list_unless_empty, put_object_unless_empty}
+use Rattle.cni_result.specs.declared.error.CniError.{CniError}
+use Rattle.cni_result.specs.declared.result.AddResult.{AddResult}
+use Rattle.cni_result.specs.declared.result.Dns.{Dns}
+use Rattle.cni_result.specs.declared.result.Interface.{Interface}
+use Rattle.cni_result.specs.declared.result.IpEntry.{IpEntry}
+use Rattle.cni_result.specs.declared.result.RouteEntry.{RouteEntry}
+use Rattle.cni_result.specs.declared.version.Version.{Version}
+use Rattle.cni_result.specs.declared.version.Version.TheVariants.{V1_0, V1_1}
+
+-- a version as `cniVersion` names it
+abbrev pub version_text : Version → List ℕ
+version_text V1_0 = codes "1.0.0"
+version_text V1_1 = codes "1.1.0"
+
+abbrev pub version_data : Version → Data
+version_data version = text_data (version_text version)
+
+abbrev pub addr_data : AddrValue → Data
+addr_data a = text_data (addr_text a)
+
+abbrev pub cidr_data : CidrValue → Data
+cidr_data c = text_data (cidr_text c)
+
+abbrev pub mac_data : Mac → Data
+mac_data m = text_data (mac_text m)
+
+-- `mtu` came to results with 1.1.0
+abbrev pub mtu_at : Version → Option ℕ → Option ℕ
+mtu_at V1_0 mtu = None
+mtu_at V1_1 mtu = mtu
+
+-- an entry of `interfaces`
+unfoldable pub interface_data : Version → Interface → Data
+interface_data version i = object (no_members
+    ▷ put_if mac_data (codes "mac") i.mac
+    ▷ put_if number_data (codes "mtu") (mtu_at version i.mtu)
+    ▷ put (codes "name") (text_data i.name)
+    ▷ put_if text_data (codes "sandbox") i.sandbox)
+
+-- an entry of `ips`
+unfoldable pub ip_data : IpEntry → Data
+ip_data ip = object (no_members
+    ▷ put (codes "address") (cidr_data ip.address)
+    ▷ put_if addr_data (codes "gateway") ip.gateway
+    ▷ put_if number_data (codes "interface") ip.interface)
+
+-- an entry of `routes`
+unfoldable pub route_data : RouteEntry → Data
+route_data route = object (no_members
+    ▷ put (codes "dst") (cidr_data route.dst)
+    ▷ put_if addr_data (codes "gw") route.gw)
+
+-- the members of `dns`
+unfoldable pub dns_members : Dns → Members
+dns_members dns = no_members
+    ▷ put_text_unless_empty (codes "domain") dns.domain
+    ▷ put_list_unless_empty text_data (codes "nameservers") dns.nameservers
+    ▷ put_list_unless_empty text_data (codes "options") dns.options
+    ▷ put_list_unless_empty text_data (codes "search") dns.search
+
+-- the members of the result of an ADD; `interfaces` is always there
+unfoldable pub result_members : AddResult → Members
+result_members result = no_members
+    ▷ put (codes "cniVersion") (version_data result.version)
+    ▷ put_object_unless_empty (codes "dns") (dns_members result.dns)
+    ▷ put (codes "interfaces") (list_data (interface_data result.version) result.interfaces)
+    ▷ put_list_unless_empty ip_data (codes "ips") result.ips
+    ▷ put_list_unless_empty route_data (codes "routes") result.routes
+
+-- the result of an ADD
+abbrev pub result_data : AddResult → Data
+result_data result = object (result_members result)
+
+-- an error
+unfoldable pub error_data : CniError → Data
+error_data error = object (no_members
+    ▷ put (codes "cniVersion") (version_data error.version)
+    ▷ put (codes "code") (number_data error.code)
+    ▷ put (codes "details") (text_data error.details)
+    ▷ put (codes "msg") (text_data error.msg))

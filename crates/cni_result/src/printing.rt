@@ -1,0 +1,172 @@
+//! Results and errors as JSON (CNI specification 1.1.0, section 5).
+
+ghost use Rattle.std.specs.Prelude.{◌≡◌, false, IfOk};
+ghost use Rattle.serde_json.specs.View.{view};
+ghost use Rattle.serde_json.specs.Written.{has_float};
+ghost use Rattle.cni_result.specs.Members.{list_data, members_of};
+ghost use Rattle.cni_result.specs.Results.{version_text, version_data, addr_data, cidr_data, mac_data, mtu_at, interface_data, ip_data, route_data, dns_members, result_members, result_data, error_data};
+
+use crate::error::CniError;
+use crate::members::{JsonObject, ToJson};
+use crate::result::{AddResult, Dns, Interface, IpEntry, RouteEntry};
+use crate::version::Version;
+use cni_addr::{Addr, Cidr, Mac, NoMemory, write_addr, write_cidr, write_mac};
+use serde_json::Value;
+use std::alloc::Global;
+
+/// The version as `cniVersion` names it. Takes no memory.
+pub fn version_text(version: Version) -> &'static str
+    ensures { result.now ≡ version_text version }
+{
+    match version {
+        Version::V1_0 => "1.0.0",
+        Version::V1_1 => "1.1.0",
+    }
+}
+
+impl ToJson for Version {
+    ghost json = { version_data };
+
+    fn to_json(&self, alloc: Global) -> Result<Value, NoMemory> {
+        Ok(Value::try_from_str(alloc, version_text(*self))?)
+    }
+}
+
+impl ToJson for Addr {
+    ghost json = { addr_data };
+
+    fn to_json(&self, alloc: Global) -> Result<Value, NoMemory> {
+        write_addr(alloc, self)?.to_json(alloc)
+    }
+}
+
+impl ToJson for Cidr {
+    ghost json = { cidr_data };
+
+    fn to_json(&self, alloc: Global) -> Result<Value, NoMemory> {
+        write_cidr(alloc, self)?.to_json(alloc)
+    }
+}
+
+impl ToJson for Mac {
+    ghost json = { mac_data };
+
+    fn to_json(&self, alloc: Global) -> Result<Value, NoMemory> {
+        write_mac(alloc, self)?.to_json(alloc)
+    }
+}
+
+// `mtu` came to results with 1.1.0.
+fn mtu_at(version: Version, mtu: Option<u32>) -> Option<u32>
+    ensures { result ≡ mtu_at version mtu }
+{
+    match version {
+        Version::V1_0 => None,
+        Version::V1_1 => mtu,
+    }
+}
+
+#[tactic(auto, unfolding(crate::specs::Results::interface_data))]
+fn interface_value(
+    alloc: Global,
+    version: Version,
+    interface: &Interface,
+) -> Result<Value, NoMemory>
+    ensures { IfOk result (λ v. view v ≡ interface_data version interface.now) }
+{
+    let mut object = JsonObject::new(alloc);
+    object.put_if("mac", &interface.mac)?;
+    object.put_if("mtu", &mtu_at(version, interface.mtu))?;
+    object.put("name", &interface.name)?;
+    object.put_if("sandbox", &interface.sandbox)?;
+    Ok(object.into_value())
+}
+
+fn interfaces_value(
+    alloc: Global,
+    version: Version,
+    interfaces: &[Interface],
+) -> Result<Value, NoMemory>
+    ensures { IfOk result (λ v. view v ≡ list_data (interface_data version) interfaces.now) }
+{
+    let mut values = Vec::with_capacity(alloc, interfaces.len())?;
+    for interface in interfaces {
+        values.push(interface_value(alloc, version, interface)?)?;
+    }
+    Ok(Value::Array(values))
+}
+
+impl ToJson for IpEntry {
+    ghost json = { ip_data };
+
+    #[tactic(auto, unfolding(crate::specs::Results::ip_data))]
+    fn to_json(&self, alloc: Global) -> Result<Value, NoMemory> {
+        let mut object = JsonObject::new(alloc);
+        object.put("address", &self.address)?;
+        object.put_if("gateway", &self.gateway)?;
+        object.put_if("interface", &self.interface)?;
+        Ok(object.into_value())
+    }
+}
+
+impl ToJson for RouteEntry {
+    ghost json = { route_data };
+
+    #[tactic(auto, unfolding(crate::specs::Results::route_data))]
+    fn to_json(&self, alloc: Global) -> Result<Value, NoMemory> {
+        let mut object = JsonObject::new(alloc);
+        object.put("dst", &self.dst)?;
+        object.put_if("gw", &self.gw)?;
+        Ok(object.into_value())
+    }
+}
+
+#[tactic(auto, unfolding(crate::specs::Results::dns_members))]
+fn dns_object(alloc: Global, dns: &Dns) -> Result<JsonObject, NoMemory>
+    ensures { IfOk result (λ o. members_of o ≡ dns_members dns.now) }
+{
+    let mut object = JsonObject::new(alloc);
+    object.put_text_unless_empty("domain", &dns.domain)?;
+    object.put_list_unless_empty("nameservers", dns.nameservers.as_slice())?;
+    object.put_list_unless_empty("options", dns.options.as_slice())?;
+    object.put_list_unless_empty("search", dns.search.as_slice())?;
+    Ok(object)
+}
+
+#[tactic(auto, unfolding(crate::specs::Results::result_members))]
+fn result_object(alloc: Global, added: &AddResult) -> Result<JsonObject, NoMemory>
+    ensures { IfOk result (λ o. members_of o ≡ result_members added.now) }
+{
+    let mut object = JsonObject::new(alloc);
+    object.put("cniVersion", &added.version)?;
+    object.put_object_unless_empty("dns", dns_object(alloc, &added.dns)?)?;
+    let interfaces = interfaces_value(alloc, added.version, added.interfaces.as_slice())?;
+    object.put_value("interfaces", interfaces)?;
+    object.put_list_unless_empty("ips", added.ips.as_slice())?;
+    object.put_list_unless_empty("routes", added.routes.as_slice())?;
+    Ok(object)
+}
+
+/// The result as JSON. Lists that are empty, but for `interfaces`, and members that are absent are left out, and so
+/// is `mtu` before 1.1.0. It takes time and memory in proportion to the result.
+#[tactic(auto, using(crate::proofs::ResultLemmas::result_is_whole))]
+pub fn to_value(alloc: Global, added: &AddResult) -> Result<Value, NoMemory>
+    ensures json { IfOk result (λ v. view v ≡ result_data added.now) }
+    ensures numbers { IfOk result (λ v. has_float (view v) ≡ false) }
+{
+    Ok(result_object(alloc, added)?.into_value())
+}
+
+/// The error as JSON.
+#[tactic(auto, using(crate::proofs::ResultLemmas::error_is_whole), unfolding(crate::specs::Results::error_data))]
+pub fn error_value(alloc: Global, error: &CniError) -> Result<Value, NoMemory>
+    ensures json { IfOk result (λ v. view v ≡ error_data error.now) }
+    ensures numbers { IfOk result (λ v. has_float (view v) ≡ false) }
+{
+    let mut object = JsonObject::new(alloc);
+    object.put("cniVersion", &error.version)?;
+    object.put("code", &error.code)?;
+    object.put("details", &error.details)?;
+    object.put("msg", &error.msg)?;
+    Ok(object.into_value())
+}

@@ -1,0 +1,30 @@
+-- Links that leave by their own place, and by a place that is named.
+use Rattle.std.proofs.Common.{◌≡◌, ℕ, true, List, [], ◌∷◌, Some, refl, sym, ap, arith}
+use Rattle.std.specs.Prelude.{◌&&◌, find}
+use Rattle.std.specs.Cmp.Lexicographic.{nat_list_eq_equiv}
+use Rattle.std.proofs.lemmas.Slice.Eq.{bytes_eq-Decides}
+use Rattle.kernel_types.specs.Words.{is_own, is_at, has_named_ns, link_at}
+use Rattle.kernel_types.specs.Apply.Calls.{goes_with, without_link, without_links, link_del_of, drop_link_of}
+use Rattle.kernel_types.specs.declared.call.Reply.TheVariants.{Gone}
+use Rattle.kernel_types.specs.declared.object.Att.{Att}
+use Rattle.kernel_types.specs.declared.object.Link.{Link}
+use Rattle.kernel_types.specs.declared.object.LinkKey.{LinkKey}
+use Rattle.kernel_types.specs.declared.object.Host.{Host}
+use Rattle.kernel_model.proofs.FirstFound.{passes-find}
+
+pub goes_with-itself : (l : Link) → goes_with l.ns l.name l ≡ true
+goes_with-itself l = grind (arith, nat_list_eq_equiv.refl l.ns, nat_list_eq_equiv.refl l.name)
+
+pub link_del-found : (host : Host) (att : Att) (link : Link) → find (λ l. is_own att l.tag) host.links ≡ Some link → (without_links (goes_with link.ns link.name) host, Gone true) ≡ link_del_of host att
+link_del-found host att link found = ap (without_link host) (sym found)
+
+-- the link that stands at a place has that place
+place-found : (ns name : List ℕ) (links : List Link) (link : Link) → find (is_at ns name) links ≡ Some link → is_at ns name link ≡ true
+place-found ns name links link found = passes-find (is_at ns name) links link found
+
+pub drop_link-found : (host : Host) (key : LinkKey) (link : Link) → has_named_ns host key.ns ≡ true → link_at host key.ns key.name ≡ Some link → (without_links (goes_with key.ns key.name) host, Gone true) ≡ drop_link_of host key
+drop_link-found host key link named found =
+    let here = place-found key.ns key.name host.links link found in
+    let ns : link.ns ≡ key.ns = (bytes_eq-Decides link.ns key.ns).0 (grind (arith, here)) in
+    let name : link.name ≡ key.name = (bytes_eq-Decides link.name key.name).0 (grind (arith, here)) in
+    rw (named, found, ns, name) refl

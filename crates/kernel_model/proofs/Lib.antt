@@ -1,0 +1,5 @@
+pub mod FirstFound
+pub mod ListTests
+pub mod LeavingLinks
+pub mod EachOnce
+pub mod NeverFault

@@ -1,0 +1,20 @@
+use Rattle.std.proofs.Common.{◌≡◌, ◌&&◌, Bool, true, false, refl, rules, ◌∙◌}
+use Rattle.std.specs.Str.{bytes_eq}
+use Rattle.std.specs.Option.{option_eq}
+use Rattle.kernel_types.specs.Equal.{addr_eq, cidr_eq, tag_eq}
+use Rattle.kernel_model.proofs.compared.RouteObjCompared.is_same.Goals as goal
+
+-- five tests, from the right and from the left
+five_tests : (a b c d e : Bool) → (a && (b && (c && (d && e)))) ≡ (a && b && c && d && e)
+five_tests true true true true e = refl
+five_tests true true true false e = refl
+five_tests true true false d e = refl
+five_tests true false c d e = refl
+five_tests false b c d e = refl
+
+pub returns : goal.returns
+returns c =
+    let a = c.args.self.now in
+    let b = c.args.other.now in
+    let right : c.eq.result ≡ (bytes_eq a.ns b.ns && (cidr_eq a.dst b.dst && (bytes_eq a.link b.link && (option_eq addr_eq a.gw b.gw && tag_eq a.tag b.tag)))) = search rules in
+    right ∙ five_tests (bytes_eq a.ns b.ns) (cidr_eq a.dst b.dst) (bytes_eq a.link b.link) (option_eq addr_eq a.gw b.gw) (tag_eq a.tag b.tag)

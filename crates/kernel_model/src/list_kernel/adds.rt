@@ -1,0 +1,151 @@
+//! Objects of one attachment.
+
+ghost use Rattle.std.specs.Prelude.{◌≡◌, IfOk, OnErr, find};
+ghost use Rattle.std.specs.Option.{option_copied};
+ghost use Rattle.kernel_types.specs.Apply.Calls.{veth_add_of, has_bridge_as_master, macvlan_add_of, has_master, addr_add_of, is_same_addr, route_add_of, is_same_route, rule_append_of, setting_set_of, is_same_setting};
+
+use super::ListKernel;
+use crate::compared::contains;
+use crate::lists::push_both;
+use crate::words::{
+    copy_tag, has_free_master, has_host_bridge, has_link_of, has_named_ns, link_at,
+};
+use cni_addr::{Duplicate, NoMemory, Text};
+use kernel_types::{AddrObj, Link, Reply, RouteObj, Rule, Setting};
+
+/// The address of the same place and number.
+fn same_addr<'a>(addresses: &'a [AddrObj], obj: &AddrObj) -> Option<&'a AddrObj>
+    ensures { option_copied result ≡ find (is_same_addr obj.now) addresses.now }
+{
+    addresses.iter().find(|a| a.ns == obj.ns && a.link == obj.link && a.cidr.addr == obj.cidr.addr)
+}
+
+/// The route of the same place, destination and link.
+fn same_route<'a>(routes: &'a [RouteObj], obj: &RouteObj) -> Option<&'a RouteObj>
+    ensures { option_copied result ≡ find (is_same_route obj.now) routes.now }
+{
+    routes
+        .iter()
+        .find(|r| r.ns == obj.ns && r.dst == obj.dst && r.link == obj.link)
+}
+
+/// The setting of the same place and key.
+fn same_setting<'a>(settings: &'a [Setting], obj: &Setting) -> Option<&'a Setting>
+    ensures { option_copied result ≡ find (is_same_setting obj.now) settings.now }
+{
+    settings
+        .iter()
+        .find(|s| s.ns == obj.ns && s.key == obj.key)
+}
+
+impl ListKernel {
+    fn has_bridge_as_master(&self, master: &Option<Text>) -> bool
+        ensures { result ≡ has_bridge_as_master self.now master.now }
+    {
+        match master {
+            Some(name) => has_host_bridge(&self.links, name),
+            None => true,
+        }
+    }
+
+    pub(crate) fn veth_add(&mut self, host_end: &Link, inner_end: &Link) -> Result<Reply, NoMemory>
+        ensures ok { IfOk result (λ reply. (self.new, reply) ≡ veth_add_of self.old host_end.now inner_end.now) }
+        ensures err { OnErr result (self.new ≡ self.old) }
+    {
+        if !has_named_ns(&self.namespaces, &inner_end.ns) {
+            return Ok(Reply::NoNs);
+        }
+        if !self.has_bridge_as_master(&host_end.master) {
+            return Ok(Reply::NoLink);
+        }
+        if let Some(tag) = copy_tag(link_at(&self.links, &inner_end.ns, &inner_end.name))? {
+            return Ok(Reply::Taken(tag));
+        }
+        if let Some(tag) = copy_tag(link_at(&self.links, &host_end.ns, &host_end.name))? {
+            return Ok(Reply::Taken(tag));
+        }
+        let first = host_end.copy()?;
+        let second = inner_end.copy()?;
+        push_both(&mut self.links, first, second)?;
+        Ok(Reply::Done)
+    }
+
+    fn has_master(&self, master: &Option<Text>) -> bool
+        ensures { result ≡ has_master self.now master.now }
+    {
+        match master {
+            Some(name) => has_free_master(&self.links, name),
+            None => false,
+        }
+    }
+
+    pub(crate) fn macvlan_add(&mut self, link: &Link) -> Result<Reply, NoMemory>
+        ensures ok { IfOk result (λ reply. (self.new, reply) ≡ macvlan_add_of self.old link.now) }
+        ensures err { OnErr result (self.new ≡ self.old) }
+    {
+        if !has_named_ns(&self.namespaces, &link.ns) {
+            return Ok(Reply::NoNs);
+        }
+        if !self.has_master(&link.master) {
+            return Ok(Reply::NoLink);
+        }
+        if let Some(tag) = copy_tag(link_at(&self.links, &link.ns, &link.name))? {
+            return Ok(Reply::Taken(tag));
+        }
+        self.links.push(link.copy()?)?;
+        Ok(Reply::Done)
+    }
+
+    pub(crate) fn addr_add(&mut self, obj: &AddrObj) -> Result<Reply, NoMemory>
+        ensures ok { IfOk result (λ reply. (self.new, reply) ≡ addr_add_of self.old obj.now) }
+        ensures err { OnErr result (self.new ≡ self.old) }
+    {
+        if !has_link_of(&self.links, &obj.ns, &obj.link, &obj.tag) {
+            return Ok(Reply::NoLink);
+        }
+        if let Some(tag) = copy_tag(same_addr(&self.addresses, obj))? {
+            return Ok(Reply::Taken(tag));
+        }
+        self.addresses.push(obj.copy()?)?;
+        Ok(Reply::Done)
+    }
+
+    pub(crate) fn route_add(&mut self, obj: &RouteObj) -> Result<Reply, NoMemory>
+        ensures ok { IfOk result (λ reply. (self.new, reply) ≡ route_add_of self.old obj.now) }
+        ensures err { OnErr result (self.new ≡ self.old) }
+    {
+        if !has_link_of(&self.links, &obj.ns, &obj.link, &obj.tag) {
+            return Ok(Reply::NoLink);
+        }
+        if let Some(tag) = copy_tag(same_route(&self.routes, obj))? {
+            return Ok(Reply::Taken(tag));
+        }
+        self.routes.push(obj.copy()?)?;
+        Ok(Reply::Done)
+    }
+
+    pub(crate) fn rule_append(&mut self, rule: &Rule) -> Result<Reply, NoMemory>
+        ensures ok { IfOk result (λ reply. (self.new, reply) ≡ rule_append_of self.old rule.now) }
+        ensures err { OnErr result (self.new ≡ self.old) }
+    {
+        if contains(&self.rules, rule) {
+            return Ok(Reply::Taken(rule.tag.copy()?));
+        }
+        self.rules.push(rule.copy()?)?;
+        Ok(Reply::Done)
+    }
+
+    pub(crate) fn setting_set(&mut self, setting: &Setting) -> Result<Reply, NoMemory>
+        ensures ok { IfOk result (λ reply. (self.new, reply) ≡ setting_set_of self.old setting.now) }
+        ensures err { OnErr result (self.new ≡ self.old) }
+    {
+        if !has_named_ns(&self.namespaces, &setting.ns) {
+            return Ok(Reply::NoNs);
+        }
+        if let Some(tag) = copy_tag(same_setting(&self.settings, setting))? {
+            return Ok(Reply::Taken(tag));
+        }
+        self.settings.push(setting.copy()?)?;
+        Ok(Reply::Done)
+    }
+}

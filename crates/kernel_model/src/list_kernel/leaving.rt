@@ -1,0 +1,139 @@
+//! Links that leave the host, with the addresses and routes on them.
+
+ghost use Rattle.std.specs.Prelude.{◌≡◌, ◌&&◌, not, filter, find, Some};
+ghost use Rattle.std.specs.List.{list_any};
+ghost use Rattle.kernel_types.specs.Words.{is_at, is_own};
+ghost use Rattle.kernel_types.specs.Apply.Calls.{goes_with, has_peer_in, without_links, link_del_of};
+ghost use Rattle.kernel_types.specs.declared.object.Link.{Link};
+
+use super::ListKernel;
+use crate::lists::{find_own, take_own};
+use crate::words::{is_at, is_peer_at};
+use cni_addr::Text;
+use kernel_types::{AddrObj, Att, Link, LinkKey, Reply, RouteObj};
+
+/// A test of which links leave.
+pub(super) trait Leaving {
+    ghost use Rattle.std.specs.Prelude.{Bool};
+    ghost use Rattle.kernel_types.specs.declared.object.Link.{Link};
+
+    ghost leaving: { Self → Link → Bool };
+
+    fn is_leaving(&self, link: &Link) -> bool
+        ensures { result ≡ leaving self.now link.now };
+}
+
+/// The link at a place, and its peer.
+#[derive(Clone, Copy)]
+pub(super) struct AtPlace<'a> {
+    pub(super) ns: &'a Text,
+    pub(super) name: &'a Text,
+}
+
+impl Leaving for AtPlace<'_> {
+    ghost use Rattle.kernel_types.specs.Apply.Calls.{goes_with};
+
+    ghost leaving = { λ place. goes_with place.ns.now place.name.now };
+
+    fn is_leaving(&self, link: &Link) -> bool {
+        is_at(self.ns, self.name, link) || is_peer_at(self.ns, self.name, &link.peer)
+    }
+}
+
+/// The links in a namespace, and their peers.
+#[derive(Clone, Copy)]
+pub(super) struct InNamespace<'a> {
+    pub(super) name: &'a Text,
+}
+
+impl Leaving for InNamespace<'_> {
+    ghost use Rattle.kernel_types.specs.Apply.Calls.{goes_with_ns};
+
+    ghost leaving = { λ ns. goes_with_ns ns.name.now };
+
+    fn is_leaving(&self, link: &Link) -> bool {
+        link.ns == *self.name || has_peer_in(self.name, &link.peer)
+    }
+}
+
+fn has_peer_in(name: &Text, peer: &Option<LinkKey>) -> bool
+    ensures { result ≡ has_peer_in name.now peer.now }
+{
+    match peer {
+        Some(key) => key.ns == *name,
+        None => false,
+    }
+}
+
+/// Whether a link that stands at the place leaves.
+fn is_left<L: Leaving>(links: &[Link], leaving: &L, ns: &Text, name: &Text) -> bool
+    ensures { result ≡ list_any (λ l. L.leaving leaving.now l && is_at ns.now name.now l) links.now }
+{
+    links
+        .iter()
+        .any(|l| leaving.is_leaving(l) && is_at(ns, name, l))
+}
+
+/// Drops the addresses on links that leave.
+fn drop_addresses<L: Leaving>(addresses: &mut Vec<AddrObj>, links: &[Link], leaving: &L)
+    ensures { addresses.new.items ≡ filter (λ a. not (list_any (λ l. L.leaving leaving.now l && is_at a.ns a.link l) links.now)) addresses.old.items }
+{
+    addresses.retain(|a| !is_left(links, leaving, &a.ns, &a.link));
+}
+
+/// Drops the routes on links that leave.
+fn drop_routes<L: Leaving>(routes: &mut Vec<RouteObj>, links: &[Link], leaving: &L)
+    ensures { routes.new.items ≡ filter (λ r. not (list_any (λ l. L.leaving leaving.now l && is_at r.ns r.link l) links.now)) routes.old.items }
+{
+    routes.retain(|r| !is_left(links, leaving, &r.ns, &r.link));
+}
+
+fn drop_links<L: Leaving>(links: &mut Vec<Link>, leaving: &L)
+    ensures { links.new.items ≡ filter (λ l. not (L.leaving leaving.now l)) links.old.items }
+{
+    links.retain(|l| !leaving.is_leaving(l));
+}
+
+/// Drops the first link of the attachment, and its peer. The link is taken out first, since its own place is the
+/// test.
+fn drop_own(links: &mut Vec<Link>, att: &Att)
+    ensures { (link : Link) → find (λ l. is_own att.now l.tag) links.old.items ≡ Some link
+        → links.new.items ≡ filter (λ l. not (goes_with link.ns link.name l)) links.old.items }
+{
+    if let Some(link) = take_own(links, att) {
+        let place = AtPlace {
+            ns: &link.ns,
+            name: &link.name,
+        };
+        drop_links(links, &place);
+    }
+}
+
+impl ListKernel {
+    /// Drops the links that leave, with the addresses and routes on them.
+    pub(super) fn drop_leaving<L: Leaving>(&mut self, leaving: &L)
+        ensures { self.new ≡ without_links (L.leaving leaving.now) self.old }
+    {
+        drop_addresses(&mut self.addresses, &self.links, leaving);
+        drop_routes(&mut self.routes, &self.links, leaving);
+        drop_links(&mut self.links, leaving);
+    }
+
+    pub(crate) fn link_del(&mut self, att: &Att) -> Reply
+        ensures { (self.new, result) ≡ link_del_of self.old att.now }
+    {
+        match find_own(&self.links, att) {
+            Some(link) => {
+                let place = AtPlace {
+                    ns: &link.ns,
+                    name: &link.name,
+                };
+                drop_addresses(&mut self.addresses, &self.links, &place);
+                drop_routes(&mut self.routes, &self.links, &place);
+                drop_own(&mut self.links, att);
+                Reply::Gone(true)
+            }
+            None => Reply::Gone(false),
+        }
+    }
+}

@@ -1,0 +1,178 @@
+//! Addresses of a pool.
+
+ghost use Rattle.std.specs.Prelude.{◌≡◌, true, ◌&&◌, [], ◌∷◌, ◌++◌, map, find, IfOk, OnOk, OnErr};
+ghost use Rattle.std.specs.List.{list_any};
+ghost use Rattle.std.specs.Option.{option_copied, option_map};
+ghost use Rattle.std.specs.Str.{bytes_eq};
+ghost use Rattle.cni_addr.specs.Equal.{addr_eq};
+ghost use Rattle.ip_pool.specs.NextAddress.{is_candidate_or_none};
+ghost use Rattle.kernel_types.specs.Allowed.{IsPool};
+ghost use Rattle.kernel_types.specs.Apply.Calls.{is_of_pool, last_leased, leased_addresses, moved_last, with_last, lease_next_of, pool_free_of};
+ghost use Rattle.ip_pool.specs.Pool.{pick_of};
+ghost use Rattle.kernel_types.specs.declared.object.Tag.TheVariants.{Own};
+
+use super::ListKernel;
+use cni_addr::{Addr, Duplicate, NoMemory, RangeSet, Text};
+use ip_pool::{Taken, has_free, pick};
+use kernel_types::{Att, Last, Lease, Reply, Tag};
+
+/// The addresses that are leased in a network.
+#[derive(Clone, Copy)]
+struct NetworkLeases<'a> {
+    leases: &'a [Lease],
+    network: &'a Text,
+}
+
+impl Taken for NetworkLeases<'_> {
+    ghost use Rattle.std.specs.Prelude.{map, filter};
+    ghost use Rattle.std.specs.Str.{bytes_eq};
+
+    ghost taken = { λ t. map (λ l. l.addr) (filter (λ l. bytes_eq l.network t.network.now) t.leases.now) };
+
+    fn has(&self, addr: &Addr) -> bool {
+        is_leased(self.leases, self.network, addr)
+    }
+}
+
+fn is_leased(leases: &[Lease], network: &Text, addr: &Addr) -> bool
+    ensures { result ≡ list_any (λ l. bytes_eq l.network network.now && addr_eq l.addr addr.now) leases.now }
+{
+    leases
+        .iter()
+        .any(|l| l.network == *network && l.addr == *addr)
+}
+
+fn is_of_pool(network: &Text, number: u32, last: &Last) -> bool
+    ensures { result ≡ is_of_pool network.now number last.now }
+{
+    last.network == *network && last.set == number
+}
+
+fn last_of<'a>(lasts: &'a [Last], network: &Text, number: u32) -> Option<&'a Last>
+    ensures { option_copied result ≡ find (is_of_pool network.now number) lasts.now }
+{
+    lasts.iter().find(|l| is_of_pool(network, number, l))
+}
+
+fn last_leased(lasts: &[Last], network: &Text, number: u32) -> Option<Addr>
+    ensures { result ≡ option_map (λ l. l.addr) (find (is_of_pool network.now number) lasts.now) }
+{
+    match last_of(lasts, network, number) {
+        Some(last) => Some(last.addr),
+        None => None,
+    }
+}
+
+fn has_last(lasts: &[Last], network: &Text, number: u32) -> bool
+    ensures { result ≡ list_any (is_of_pool network.now number) lasts.now }
+{
+    lasts.iter().any(|l| is_of_pool(network, number, l))
+}
+
+fn move_last(last: &mut Last, network: &Text, number: u32, addr: Addr)
+    ensures { last.new ≡ moved_last network.now number addr last.old }
+{
+    if is_of_pool(network, number, last) {
+        last.addr = addr;
+    }
+}
+
+/// Sets the last address of a pool that has one.
+fn move_lasts(lasts: &mut Vec<Last>, network: &Text, number: u32, addr: Addr)
+    ensures { lasts.new.items ≡ map (moved_last network.now number addr) lasts.old.items }
+{
+    for last in lasts.iter_mut() {
+        move_last(last, network, number, addr);
+    }
+}
+
+/// Puts each at the end of its list, or neither.
+fn push_lease_and_last(
+    leases: &mut Vec<Lease>,
+    lasts: &mut Vec<Last>,
+    lease: Lease,
+    last: Last,
+) -> Result<(), NoMemory>
+    ensures leases { OnOk result (leases.new.items ≡ leases.old.items ++ lease ∷ []) }
+    ensures lasts { OnOk result (lasts.new.items ≡ lasts.old.items ++ last ∷ []) }
+    ensures no_lease { OnErr result (leases.new.items ≡ leases.old.items) }
+    ensures no_last { OnErr result (lasts.new.items ≡ lasts.old.items) }
+{
+    leases.push(lease)?;
+    match lasts.push(last) {
+        Ok(()) => Ok(()),
+        Err(_) => {
+            let _undone = leases.pop();
+            Err(NoMemory)
+        }
+    }
+}
+
+impl ListKernel {
+    /// Leases the address, which becomes the last of its pool.
+    fn lease(&mut self, att: &Att, number: u32, addr: Addr) -> Result<(), NoMemory>
+        ensures ok { OnOk result (self.new ≡ with_last (record self.old { leases = self.old.leases ++ record { network = att.now.network; addr = addr; tag = Own att.now } ∷ [] }) att.now.network number addr) }
+        ensures err { OnErr result (self.new ≡ self.old) }
+    {
+        let lease = Lease {
+            network: att.network.copy()?,
+            addr,
+            tag: Tag::Own(att.copy()?),
+        };
+        if has_last(&self.lasts, &att.network, number) {
+            self.leases.push(lease)?;
+            move_lasts(&mut self.lasts, &att.network, number, addr);
+            return Ok(());
+        }
+        let last = Last {
+            network: att.network.copy()?,
+            set: number,
+            addr,
+        };
+        push_lease_and_last(&mut self.leases, &mut self.lasts, lease, last)
+    }
+
+    /// The address that is leased next.
+    fn next_address(&self, network: &Text, number: u32, set: &RangeSet) -> Option<Addr>
+        requires pool { IsPool set.now }
+        requires last { is_candidate_or_none set.now (last_leased self.now network.now number) ≡ true }
+        ensures { result ≡ pick_of set.now (last_leased self.now network.now number) (leased_addresses self.now network.now) }
+    {
+        let taken = NetworkLeases {
+            leases: &self.leases,
+            network,
+        };
+        pick(set, last_leased(&self.lasts, network, number), &taken)
+    }
+
+    pub(crate) fn lease_next(
+        &mut self,
+        att: &Att,
+        number: u32,
+        set: &RangeSet,
+    ) -> Result<Reply, NoMemory>
+        requires pool { IsPool set.now }
+        requires last { is_candidate_or_none set.now (last_leased self.old att.now.network number) ≡ true }
+        ensures ok { IfOk result (λ reply. (self.new, reply) ≡ lease_next_of self.old att.now number set.now) }
+        ensures err { OnErr result (self.new ≡ self.old) }
+    {
+        match self.next_address(&att.network, number, set) {
+            Some(addr) => {
+                self.lease(att, number, addr)?;
+                Ok(Reply::Leased(addr))
+            }
+            None => Ok(Reply::Empty),
+        }
+    }
+
+    pub(crate) fn pool_free(&self, network: &Text, set: &RangeSet) -> Reply
+        requires { IsPool set.now }
+        ensures { (self.now, result) ≡ pool_free_of self.now network.now set.now }
+    {
+        let taken = NetworkLeases {
+            leases: &self.leases,
+            network,
+        };
+        Reply::Has(has_free(set, &taken))
+    }
+}

@@ -1,0 +1,225 @@
+-- Laws of the words on lists. Nearly each is an induction that one call of `grind` closes.
+use Rattle.std.proofs.Common.{◌≡◌, ℕ, suc, ◌+◌, Bool, true, false, not, cond, ap, List, [], ◌∷◌, ◌++◌, Option, Some, None, refl, sym, ◌∙◌, length, get_or, arith}
+use Rattle.std.specs.Prelude.{filter, find, map, remove, ◌&&◌, ◌||◌, if◌then◌else◌, nat_lt, position}
+use Rattle.std.specs.List.{list_any, list_all, position_or_len}
+use Rattle.std.proofs.lemmas.Bool.Decides.{nat_tests}
+use Rattle.kernel_types.specs.Lists.{without_first, distinct}
+
+-- ---- the first that passes
+
+remove-step : {X : Type 0} (b : Bool) (x : X) (xs : List X) (n : ℕ) (w : List X) → (b ≡ false → remove xs n ≡ w) → remove (x ∷ xs) (cond (not b) (1 + n) 0) ≡ (if b then xs else x ∷ w)
+remove-step true x xs n w h = refl
+remove-step false x xs n w h = let e : 1 + n ≡ suc n = omega arith in rw e (ap (λ l. x ∷ l) (h refl))
+
+pub remove-position_or_len : {X : Type 0} (p : X → Bool) (xs : List X) → list_any p xs ≡ true → remove xs (position_or_len p xs) ≡ without_first p xs
+remove-position_or_len p [] h = grind arith
+remove-position_or_len p (x ∷ xs) h =
+    remove-step (p x) x xs (position_or_len p xs) (without_first p xs) (λ e. remove-position_or_len p xs (grind (arith, h, e)))
+
+pub without_first-none : {X : Type 0} (p : X → Bool) (xs : List X) → list_any p xs ≡ false → without_first p xs ≡ xs
+without_first-none p [] h = refl
+without_first-none p (x ∷ xs) h = grind (arith, without_first-none p xs)
+
+any-step : (b : Bool) (n l : ℕ) (a : Bool) → a ≡ nat_lt n l → (b || a) ≡ nat_lt (cond (not b) (1 + n) 0) (suc l)
+any-step true n l a h = grind (arith, nat_tests)
+any-step false n l a h = grind (arith, nat_tests)
+
+list_any-position_or_len : {X : Type 0} (p : X → Bool) (xs : List X) → list_any p xs ≡ nat_lt (position_or_len p xs) (length xs)
+list_any-position_or_len p [] = refl
+list_any-position_or_len p (x ∷ xs) = any-step (p x) (position_or_len p xs) (length xs) (list_any p xs) (list_any-position_or_len p xs)
+
+place-step : (t : Bool) (n i : ℕ) → cond t (Some n) None ≡ Some i → (t ≡ true) × (n ≡ i)
+place-step true n i h = (refl, cc)
+place-step false n i h = cc
+
+no_place-step : (t : Bool) (n : ℕ) → cond t (Some n) None ≡ None → t ≡ false
+no_place-step true n h = cc
+no_place-step false n h = refl
+
+-- what `position` and `remove` make together
+pub without_first-position : {X : Type 0} (p : X → Bool) (xs : List X) (i : ℕ) → position p xs ≡ Some i → (remove xs i ≡ without_first p xs) × (list_any p xs ≡ true)
+without_first-position p xs i h =
+    let e = place-step (nat_lt (position_or_len p xs) (length xs)) (position_or_len p xs) i h in
+    let there = list_any-position_or_len p xs ∙ e.0 in
+    (ap (λ k. remove xs k) (sym e.1) ∙ remove-position_or_len p xs there, there)
+
+pub without_first-no_position : {X : Type 0} (p : X → Bool) (xs : List X) → position p xs ≡ None → (without_first p xs ≡ xs) × (list_any p xs ≡ false)
+without_first-no_position p xs h =
+    let none = list_any-position_or_len p xs ∙ no_place-step (nat_lt (position_or_len p xs) (length xs)) (position_or_len p xs) h in
+    (without_first-none p xs none, none)
+
+pub list_any-find_none : {X : Type 0} (p : X → Bool) (xs : List X) → find p xs ≡ None → list_any p xs ≡ false
+list_any-find_none p [] h = refl
+list_any-find_none p (x ∷ xs) h = grind (arith, list_any-find_none p xs)
+
+pub passes-find : {X : Type 0} (p : X → Bool) (xs : List X) (y : X) → find p xs ≡ Some y → p y ≡ true
+passes-find p [] y h = grind arith
+passes-find p (x ∷ xs) y h = grind (arith, passes-find p xs y)
+
+-- ---- each element passes
+
+pub list_all-push : {X : Type 0} (p : X → Bool) (xs : List X) (y : X) → list_all p xs ≡ true → p y ≡ true → list_all p (xs ++ y ∷ []) ≡ true
+list_all-push p [] y h g = grind arith
+list_all-push p (x ∷ xs) y h g = grind (arith, list_all-push p xs y)
+
+pub list_all-weaker : {X : Type 0} (p q : X → Bool) → ((x : X) → p x ≡ true → q x ≡ true) → (xs : List X) → list_all p xs ≡ true → list_all q xs ≡ true
+list_all-weaker p q w [] h = refl
+list_all-weaker p q w (x ∷ xs) h = grind (arith, w x, list_all-weaker p q w xs)
+
+-- what passes and is kept passes another test
+pub list_all-kept : {X : Type 0} (p q keep : X → Bool) → ((x : X) → p x ≡ true → keep x ≡ true → q x ≡ true) → (xs : List X) → list_all p xs ≡ true → list_all q (filter keep xs) ≡ true
+list_all-kept p q keep w [] h = refl
+list_all-kept p q keep w (x ∷ xs) h = grind (arith, w x, list_all-kept p q keep w xs)
+
+pub list_all-filter : {X : Type 0} (p keep : X → Bool) (xs : List X) → list_all p xs ≡ true → list_all p (filter keep xs) ≡ true
+list_all-filter p keep [] h = refl
+list_all-filter p keep (x ∷ xs) h = grind (arith, list_all-filter p keep xs)
+
+pub list_all-without_first : {X : Type 0} (p gone : X → Bool) (xs : List X) → list_all p xs ≡ true → list_all p (without_first gone xs) ≡ true
+list_all-without_first p gone [] h = refl
+list_all-without_first p gone (x ∷ xs) h = grind (arith, list_all-without_first p gone xs)
+
+pub passes-list_all : {X : Type 0} (p q : X → Bool) (xs : List X) (y : X) → list_all p xs ≡ true → find q xs ≡ Some y → p y ≡ true
+passes-list_all p q [] y h g = grind arith
+passes-list_all p q (x ∷ xs) y h g = grind (arith, passes-list_all p q xs y)
+
+-- ---- some element passes
+
+pub list_any-push : {X : Type 0} (p : X → Bool) (xs : List X) (y : X) → list_any p xs ≡ true → list_any p (xs ++ y ∷ []) ≡ true
+list_any-push p [] y h = grind arith
+list_any-push p (x ∷ xs) y h = grind (arith, list_any-push p xs y)
+
+pub list_any-kept : {X : Type 0} (p keep : X → Bool) → (xs : List X) → list_any p xs ≡ true → list_any (λ x. p x && not (keep x)) xs ≡ false → list_any p (filter keep xs) ≡ true
+list_any-kept p keep [] h g = grind arith
+list_any-kept p keep (x ∷ xs) h g = grind (arith, list_any-kept p keep xs)
+
+pub list_any-weaker : {X : Type 0} (p q : X → Bool) → ((x : X) → p x ≡ true → q x ≡ true) → (xs : List X) → list_any p xs ≡ true → list_any q xs ≡ true
+list_any-weaker p q w [] h = grind arith
+list_any-weaker p q w (x ∷ xs) h = grind (arith, w x, list_any-weaker p q w xs)
+
+pub list_any-none : {X : Type 0} (p q : X → Bool) → ((x : X) → p x ≡ true → q x ≡ true) → (xs : List X) → list_any q xs ≡ false → list_any p xs ≡ false
+list_any-none p q w [] h = refl
+list_any-none p q w (x ∷ xs) h = grind (arith, w x, list_any-none p q w xs)
+
+-- ---- distinct keys
+
+list_any-last : {X : Type 0} (p : X → Bool) (xs : List X) (y : X) → list_any p xs ≡ false → p y ≡ false → list_any p (xs ++ y ∷ []) ≡ false
+list_any-last p [] y h g = grind arith
+list_any-last p (x ∷ xs) y h g = grind (arith, list_any-last p xs y)
+
+list_any-filter : {X : Type 0} (p keep : X → Bool) (xs : List X) → list_any p xs ≡ false → list_any p (filter keep xs) ≡ false
+list_any-filter p keep [] h = refl
+list_any-filter p keep (x ∷ xs) h = grind (arith, list_any-filter p keep xs)
+
+list_any-without_first : {X : Type 0} (p gone : X → Bool) (xs : List X) → list_any p xs ≡ false → list_any p (without_first gone xs) ≡ false
+list_any-without_first p gone [] h = refl
+list_any-without_first p gone (x ∷ xs) h = grind (arith, list_any-without_first p gone xs)
+
+pub distinct-push : {X : Type 0} (same : X → X → Bool) (xs : List X) (y : X) → distinct same xs ≡ true → list_any (λ x. same x y) xs ≡ false → distinct same (xs ++ y ∷ []) ≡ true
+distinct-push same [] y h g = grind arith
+distinct-push same (x ∷ xs) y h g = grind (arith, distinct-push same xs y, list_any-last (same x) xs y)
+
+pub distinct-filter : {X : Type 0} (same : X → X → Bool) (keep : X → Bool) (xs : List X) → distinct same xs ≡ true → distinct same (filter keep xs) ≡ true
+distinct-filter same keep [] h = refl
+distinct-filter same keep (x ∷ xs) h = grind (arith, distinct-filter same keep xs, list_any-filter (same x) keep xs)
+
+pub distinct-without_first : {X : Type 0} (same : X → X → Bool) (gone : X → Bool) (xs : List X) → distinct same xs ≡ true → distinct same (without_first gone xs) ≡ true
+distinct-without_first same gone [] h = refl
+distinct-without_first same gone (x ∷ xs) h = grind (arith, distinct-without_first same gone xs, list_any-without_first (same x) gone xs)
+
+-- ---- what `position` finds
+
+find-step : {X : Type 0} (b : Bool) (x : X) (xs : List X) (n : ℕ) (y : X) (o : Option X) → y ≡ get_or (x ∷ xs) (cond (not b) (1 + n) 0) y → (b ≡ false → y ≡ get_or xs n y → o ≡ Some y) → cond b (Some x) o ≡ Some y
+find-step true x xs n y o e h = ap Some (sym e)
+find-step false x xs n y o e h = let s : 1 + n ≡ suc n = omega arith in h refl (rw s at e)
+
+find-position_or_len : {X : Type 0} (p : X → Bool) (xs : List X) (y : X) → list_any p xs ≡ true → y ≡ get_or xs (position_or_len p xs) y → find p xs ≡ Some y
+find-position_or_len p [] y h e = grind arith
+find-position_or_len p (x ∷ xs) y h e =
+    find-step (p x) x xs (position_or_len p xs) y (find p xs) e (λ no g. find-position_or_len p xs y (grind (arith, h, no)) g)
+
+pub find-position : {X : Type 0} (p : X → Bool) (xs : List X) (i : ℕ) (y : X) → position p xs ≡ Some i → y ≡ get_or xs i y → find p xs ≡ Some y
+find-position p xs i y h e =
+    let at = place-step (nat_lt (position_or_len p xs) (length xs)) (position_or_len p xs) i h in
+    find-position_or_len p xs y (list_any-position_or_len p xs ∙ at.0) (e ∙ ap (λ k. get_or xs k y) (sym at.1))
+
+find-list_any_none : {X : Type 0} (p : X → Bool) (xs : List X) → list_any p xs ≡ false → find p xs ≡ None
+find-list_any_none p [] h = refl
+find-list_any_none p (x ∷ xs) h = grind (arith, find-list_any_none p xs)
+
+pub find-no_position : {X : Type 0} (p : X → Bool) (xs : List X) → position p xs ≡ None → find p xs ≡ None
+find-no_position p xs h = find-list_any_none p xs (without_first-no_position p xs h).1
+
+-- ---- the first that passes goes along with others
+
+pub filter-without_first_gone : {X : Type 0} (p gone : X → Bool) (xs : List X) (y : X) → find p xs ≡ Some y → gone y ≡ true → filter (λ x. not (gone x)) (without_first p xs) ≡ filter (λ x. not (gone x)) xs
+filter-without_first_gone p gone [] y h g = refl
+filter-without_first_gone p gone (x ∷ xs) y h g = grind (arith, filter-without_first_gone p gone xs y)
+
+-- by a test that is the same for the link that was found
+pub filter-without_first_of : {X : Type 0} (p : X → Bool) (gone : X → X → Bool) → ((x : X) → gone x x ≡ true) → (xs : List X) (y z : X) → find p xs ≡ Some y → find p xs ≡ Some z → filter (λ x. not (gone y x)) (without_first p xs) ≡ filter (λ x. not (gone z x)) xs
+filter-without_first_of p gone self xs y z f g =
+    let same : y ≡ z = cc in
+    filter-without_first_gone p (gone y) xs y f (self y) ∙ ap (λ v. filter (λ x. not (gone v x)) xs) same
+
+-- ---- lists one after the other
+
+pub list_any-append_left : {X : Type 0} (p : X → Bool) (xs ys : List X) → list_any p xs ≡ true → list_any p (xs ++ ys) ≡ true
+list_any-append_left p [] ys h = grind arith
+list_any-append_left p (x ∷ xs) ys h = grind (arith, list_any-append_left p xs ys)
+
+pub list_any-append_right : {X : Type 0} (p : X → Bool) (xs ys : List X) → list_any p ys ≡ true → list_any p (xs ++ ys) ≡ true
+list_any-append_right p [] ys h = h
+list_any-append_right p (x ∷ xs) ys h = grind (arith, list_any-append_right p xs ys)
+
+pub list_any-append_none : {X : Type 0} (p : X → Bool) (xs ys : List X) → list_any p xs ≡ false → list_any p ys ≡ false → list_any p (xs ++ ys) ≡ false
+list_any-append_none p [] ys h g = g
+list_any-append_none p (x ∷ xs) ys h g = grind (arith, list_any-append_none p xs ys)
+
+pub list_all-append : {X : Type 0} (p : X → Bool) (xs ys : List X) → list_all p xs ≡ true → list_all p ys ≡ true → list_all p (xs ++ ys) ≡ true
+list_all-append p [] ys h g = g
+list_all-append p (x ∷ xs) ys h g = grind (arith, list_all-append p xs ys)
+
+-- none of ys is the same as one of xs
+abbrev pub are_new : {X : Type 0} → (X → X → Bool) → List X → List X → Bool
+are_new same xs ys = list_all (λ y. not (list_any (λ x. same x y) xs)) ys
+
+are_new-head : {X : Type 0} (same : X → X → Bool) (x : X) (xs ys : List X) → are_new same (x ∷ xs) ys ≡ true → list_any (same x) ys ≡ false
+are_new-head same x xs [] h = refl
+are_new-head same x xs (y ∷ ys) h = grind (arith, are_new-head same x xs ys)
+
+are_new-tail : {X : Type 0} (same : X → X → Bool) (x : X) (xs ys : List X) → are_new same (x ∷ xs) ys ≡ true → are_new same xs ys ≡ true
+are_new-tail same x xs [] h = refl
+are_new-tail same x xs (y ∷ ys) h = grind (arith, are_new-tail same x xs ys)
+
+pub distinct-append : {X : Type 0} (same : X → X → Bool) (xs ys : List X) → distinct same xs ≡ true → distinct same ys ≡ true → are_new same xs ys ≡ true → distinct same (xs ++ ys) ≡ true
+distinct-append same [] ys h g n = g
+distinct-append same (x ∷ xs) ys h g n =
+    let tail : distinct same (xs ++ ys) ≡ true = distinct-append same xs ys (grind (arith, h)) g (are_new-tail same x xs ys n) in
+    let head : list_any (same x) (xs ++ ys) ≡ false = list_any-append_none (same x) xs ys (grind (arith, h)) (are_new-head same x xs ys n) in
+    grind (arith, head, tail)
+
+-- ---- lists changed in place
+
+pub list_any-map : {A B : Type 0} (p : B → Bool) (f : A → B) (xs : List A) → list_any p (map f xs) ≡ list_any (λ x. p (f x)) xs
+list_any-map p f [] = refl
+list_any-map p f (x ∷ xs) = grind (arith, list_any-map p f xs)
+
+pub list_all-map : {A B : Type 0} (p : B → Bool) (f : A → B) (xs : List A) → list_all p (map f xs) ≡ list_all (λ x. p (f x)) xs
+list_all-map p f [] = refl
+list_all-map p f (x ∷ xs) = grind (arith, list_all-map p f xs)
+
+pub list_any-same_test : {X : Type 0} (p q : X → Bool) → ((x : X) → p x ≡ q x) → (xs : List X) → list_any p xs ≡ list_any q xs
+list_any-same_test p q e [] = refl
+list_any-same_test p q e (x ∷ xs) = grind (arith, e x, list_any-same_test p q e xs)
+
+pub distinct-map : {X : Type 0} (same : X → X → Bool) (f : X → X) → ((x y : X) → same (f x) (f y) ≡ same x y) → (xs : List X) → distinct same (map f xs) ≡ distinct same xs
+distinct-map same f e [] = refl
+distinct-map same f e (x ∷ xs) =
+    let head : list_any (same (f x)) (map f xs) ≡ list_any (same x) xs = list_any-map (same (f x)) f xs ∙ list_any-same_test (λ y. same (f x) (f y)) (same x) (e x) xs in
+    grind (arith, head, distinct-map same f e xs)
+
+-- a test of what is left of a list, and then changed
+pub list_any-map_filter : {A B : Type 0} (p : B → Bool) (f : A → B) (keep : A → Bool) (xs : List A) → list_any p (map f (filter keep xs)) ≡ list_any (λ x. keep x && p (f x)) xs
+list_any-map_filter p f keep [] = refl
+list_any-map_filter p f keep (x ∷ xs) = grind (arith, list_any-map_filter p f keep xs)

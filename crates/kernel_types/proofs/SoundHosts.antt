@@ -1,0 +1,178 @@
+-- What follows of a sound host.
+use Rattle.std.proofs.Common.{◌≡◌, ℕ, zero, suc, ◌<◌, Bool, true, false, List, [], ◌∷◌, ◌⊎◌, inl, inr, Option, Some, None, length, refl, sym, ◌∙◌, ap, arith}
+use Rattle.std.specs.Prelude.{filter, map, ◌&&◌, ◌||◌, if◌then◌else◌}
+use Rattle.std.specs.List.{list_any, list_all, Contains, slice_index_or}
+use Rattle.std.specs.Str.{bytes_eq}
+use Rattle.std.specs.Cmp.Lexicographic.{nat_list_eq_equiv}
+use Rattle.std.proofs.lemmas.Slice.Eq.{bytes_eq-Decides}
+use Rattle.kernel_types.specs.Equal.{addr_eq, tag_eq}
+use Rattle.kernel_types.specs.Lists.{distinct}
+use Rattle.kernel_types.specs.Parts.{part_of}
+use Rattle.kernel_types.specs.Words.{is_host_or_ns, is_own, is_owned, is_at, is_peer_at, is_link_of}
+use Rattle.kernel_types.specs.Apply.Calls.{goes_with}
+use Rattle.kernel_types.specs.Sound.{IsSound, AreInPlaces, NoNamespaceOwned, NoAddressTwice, is_link_or_peer, address_fits_tag, peer_fits, peers_back, setting_fits_tag}
+use Rattle.kernel_types.proofs.ListLemmas.{list_all-weaker, list_any-none, list_any-map_filter}
+use Rattle.kernel_types.proofs.TouchRemoval.{is_at-symm}
+use Rattle.kernel_types.specs.declared.object.Att.{Att}
+use Rattle.kernel_types.specs.declared.object.LinkKey.{LinkKey}
+use Rattle.kernel_types.specs.declared.object.Tag.{Tag}
+use Rattle.kernel_types.specs.declared.object.Tag.TheVariants.{Outside, Base, Own}
+use Rattle.kernel_types.specs.declared.object.NsObj.{NsObj}
+use Rattle.kernel_types.specs.declared.object.Link.{Link}
+use Rattle.kernel_types.specs.declared.object.AddrObj.{AddrObj}
+use Rattle.kernel_types.specs.declared.object.Setting.{Setting}
+use Rattle.kernel_types.specs.declared.object.Lease.{Lease}
+use Rattle.kernel_types.specs.declared.object.Host.{Host}
+
+-- ---- places
+
+-- what lies on a link is where the link is
+place_of_link : (namespaces : List NsObj) (ns name : List ℕ) (p : Link → Bool) (links : List Link) → ((l : Link) → p l ≡ true → is_at ns name l ≡ true) → list_any p links ≡ true → list_all (λ l. is_host_or_ns namespaces l.ns) links ≡ true → is_host_or_ns namespaces ns ≡ true
+place_of_link namespaces ns name p [] w h places = cc
+place_of_link namespaces ns name p (l ∷ ls) w h places =
+    let here : is_at ns name l ≡ true → is_host_or_ns namespaces l.ns ≡ is_host_or_ns namespaces ns = λ at. ap (is_host_or_ns namespaces) ((bytes_eq-Decides l.ns ns).0 (grind (arith, at))) in
+    grind (arith, h, places, w l, here, place_of_link namespaces ns name p ls w)
+
+place_of_address : (namespaces : List NsObj) (links : List Link) → list_all (λ l. is_host_or_ns namespaces l.ns) links ≡ true → (a : AddrObj) (t : Tag) → address_fits_tag links a t ≡ true → is_host_or_ns namespaces a.ns ≡ true
+place_of_address namespaces links places a Outside h = cc
+place_of_address namespaces links places a Base h = grind (arith, h)
+place_of_address namespaces links places a (Own att) h =
+    place_of_link namespaces a.ns a.link (is_link_of a.ns a.link (Own att)) links (λ l g. grind (arith, g)) h places
+
+place_of_setting : (namespaces : List NsObj) (s : Setting) (t : Tag) → setting_fits_tag namespaces s t ≡ true → is_host_or_ns namespaces s.ns ≡ true
+place_of_setting namespaces s Outside h = cc
+place_of_setting namespaces s Base h = grind (arith, h)
+place_of_setting namespaces s (Own att) h = h
+
+pub AreInPlaces-sound : (host : Host) → IsSound host → AreInPlaces host
+AreInPlaces-sound host sound = record {
+  links = sound.links.places;
+  addresses = list_all-weaker (λ a. address_fits_tag host.links a a.tag) (λ a. is_host_or_ns host.namespaces a.ns) (λ a h. place_of_address host.namespaces host.links sound.links.places a a.tag h) host.addresses sound.addresses.lie;
+  routes = list_all-weaker (λ r. list_any (is_link_of r.ns r.link r.tag) host.links) (λ r. is_host_or_ns host.namespaces r.ns)
+      (λ r h. place_of_link host.namespaces r.ns r.link (is_link_of r.ns r.link r.tag) host.links (λ l g. grind (arith, g)) h sound.links.places) host.routes sound.routes.lie;
+  settings = list_all-weaker (λ s. setting_fits_tag host.namespaces s s.tag) (λ s. is_host_or_ns host.namespaces s.ns) (λ s h. place_of_setting host.namespaces s s.tag h) host.settings sound.settings.tags;
+}
+
+-- ---- namespaces
+
+outside-not_owned : (t : Tag) → tag_eq t Outside ≡ true → is_owned t ≡ false
+outside-not_owned Outside h = refl
+outside-not_owned Base h = refl
+outside-not_owned (Own att) h = cc
+
+none_owned : (namespaces : List NsObj) → list_all (λ n. tag_eq n.tag Outside) namespaces ≡ true → list_any (λ n. is_owned n.tag) namespaces ≡ false
+none_owned [] h = refl
+none_owned (n ∷ ns) h = grind (arith, h, outside-not_owned n.tag, none_owned ns)
+
+pub NoNamespaceOwned-sound : (host : Host) → IsSound host → NoNamespaceOwned host
+NoNamespaceOwned-sound host sound = none_owned host.namespaces sound.namespaces.tags
+
+not_owned-not_own : (att : Att) (t : Tag) → is_owned t ≡ false → is_own att t ≡ false
+not_owned-not_own att Outside h = refl
+not_owned-not_own att Base h = refl
+not_owned-not_own att (Own a) h = cc
+
+none-filter : (att : Att) (namespaces : List NsObj) → list_any (λ n. is_owned n.tag) namespaces ≡ false → filter (λ n. is_own att n.tag) namespaces ≡ []
+none-filter att [] h = refl
+none-filter att (n ∷ ns) h = grind (arith, h, not_owned-not_own att n.tag, none-filter att ns)
+
+pub part_of-namespaces : (att : Att) (host : Host) → IsSound host → (part_of att host).namespaces ≡ []
+part_of-namespaces att host sound = none-filter att host.namespaces (NoNamespaceOwned-sound host sound)
+
+-- ---- leases
+
+distinct-step : (b : Bool) (x : Lease) (kept : List Lease) → (b ≡ true → list_any (addr_eq x.addr) (map (λ l. l.addr) kept) ≡ false) → distinct addr_eq (map (λ l. l.addr) kept) ≡ true → distinct addr_eq (map (λ l. l.addr) (if b then x ∷ kept else kept)) ≡ true
+distinct-step true x kept new h = grind (arith, h, new refl)
+distinct-step false x kept new h = h
+
+distinct-addresses : (network : List ℕ) (leases : List Lease) → distinct (λ a b. bytes_eq a.network b.network && addr_eq a.addr b.addr) leases ≡ true → distinct addr_eq (map (λ l. l.addr) (filter (λ l. bytes_eq l.network network) leases)) ≡ true
+distinct-addresses network [] h = refl
+distinct-addresses network (x ∷ xs) h =
+    let same_network : (l : Lease) → bytes_eq x.network network ≡ true → bytes_eq l.network network ≡ true → bytes_eq x.network l.network ≡ true =
+    λ l a b. let xn : x.network ≡ network = (bytes_eq-Decides x.network network).0 a in let ln : l.network ≡ network = (bytes_eq-Decides l.network network).0 b in rw (xn, ln) (nat_list_eq_equiv.refl network) in
+    let new : bytes_eq x.network network ≡ true → list_any (addr_eq x.addr) (map (λ l. l.addr) (filter (λ l. bytes_eq l.network network) xs)) ≡ false =
+    λ a. list_any-map_filter (addr_eq x.addr) (λ l. l.addr) (λ l. bytes_eq l.network network) xs
+    ∙ list_any-none (λ l. bytes_eq l.network network && addr_eq x.addr l.addr) (λ l. bytes_eq x.network l.network && addr_eq x.addr l.addr) (λ l g. grind (arith, g, same_network l a)) xs (grind (arith, h)) in
+    distinct-step (bytes_eq x.network network) x (filter (λ l. bytes_eq l.network network) xs) new (distinct-addresses network xs (grind (arith, h)))
+
+pub NoAddressTwice-sound : (network : List ℕ) (host : Host) → IsSound host → NoAddressTwice network host
+NoAddressTwice-sound network host sound = distinct-addresses network host.leases sound.leases.keys
+
+-- ---- peers
+
+-- x is in the list, by recursion
+abbrev pub Among : {X : Type 0} → X → List X → Type 0
+Among x [] = ⊥
+Among x (y ∷ ys) = (y ≡ x) ⊎ Among x ys
+
+among_at : {X : Type 0} (x : X) (xs : List X) (k : ℕ) → k < length xs → slice_index_or xs k x ≡ x → Among x xs
+among_at x [] k lt e = absurd (omega arith)
+among_at x (y ∷ ys) zero lt e = inl e
+among_at x (y ∷ ys) (suc k) lt e = inr (among_at x ys k (omega arith) e)
+
+pub Among-Contains : {X : Type 0} (x : X) (xs : List X) → Contains xs x → Among x xs
+Among-Contains x xs c = among_at x xs c.0 c.1 c.2
+
+among-passes : {X : Type 0} (p : X → Bool) (x : X) (xs : List X) → Among x xs → list_all p xs ≡ true → p x ≡ true
+among-passes p x [] at h = absurd at
+among-passes p x (y ∷ ys) at h =
+    elim at [ inl e ↦ ap p (sym e) ∙ grind (arith, h) | inr later ↦ among-passes p x ys later (grind (arith, h)) ]
+
+among-fails : {X : Type 0} (p : X → Bool) (x : X) (xs : List X) → Among x xs → list_any p xs ≡ false → p x ≡ false
+among-fails p x [] at h = absurd at
+among-fails p x (y ∷ ys) at h =
+    elim at [ inl e ↦ ap p (sym e) ∙ grind (arith, h) | inr later ↦ among-fails p x ys later (grind (arith, h)) ]
+
+-- where no two are the same, two that are the same are one
+one_among : {X : Type 0} (same : X → X → Bool) → ((x y : X) → same x y ≡ same y x) → (x y : X) (xs : List X) → distinct same xs ≡ true → Among x xs → Among y xs → same x y ≡ true → x ≡ y
+one_among same s x y [] d at_x at_y h = absurd at_x
+one_among same s x y (z ∷ zs) d at_x at_y h =
+    let none : list_any (same z) zs ≡ false = grind (arith, d) in
+    elim at_x [
+      | inl ex ↦ elim at_y [
+        | inl ey ↦ sym ex ∙ ey
+        | inr ly ↦ let differ : same z y ≡ false = among-fails (same z) y zs ly none in let alike : same z y ≡ true = ap (λ w. same w y) ex ∙ h in absurd (cc (differ, alike))
+      ]
+      | inr lx ↦ elim at_y [
+        | inl ey ↦ let differ : same z x ≡ false = among-fails (same z) x zs lx none in let alike : same z x ≡ true = ap (λ w. same w x) ey ∙ s y x ∙ h in absurd (cc (differ, alike))
+        | inr ly ↦ one_among same s x y zs (grind (arith, d)) lx ly h
+      ]
+    ]
+
+-- what each element that passes gives, where some element does
+from_among : {X : Type 0} (p : X → Bool) (c : Bool) (xs : List X) → ((x : X) → Among x xs → p x ≡ true → c ≡ true) → list_any p xs ≡ true → c ≡ true
+from_among p c [] w h = cc
+from_among p c (x ∷ xs) w h =
+    let here : p x ≡ true → c ≡ true = w x (inl refl) in
+    let later : list_any p xs ≡ true → c ≡ true = from_among p c xs (λ y at. w y (inr at)) in
+    grind (arith, h, here, later)
+
+-- a link that stands at the place of another's peer names that other as its peer
+peer_names_back : (links : List Link) (l m : Link) (o : Option LinkKey) → distinct (λ a b. is_at b.ns b.name a) links ≡ true → Among m links → peer_fits links l o ≡ true → is_peer_at m.ns m.name o ≡ true → is_peer_at l.ns l.name m.peer ≡ true
+peer_names_back links l m None keys at fits p = cc
+peer_names_back links l m (Some key) keys at fits p =
+    let ns : key.ns ≡ m.ns = (bytes_eq-Decides key.ns m.ns).0 (grind (arith, p)) in
+    let name : key.name ≡ m.name = (bytes_eq-Decides key.name m.name).0 (grind (arith, p)) in
+    from_among (peers_back l key) (is_peer_at l.ns l.name m.peer) links
+    (λ x there back.
+    let here : is_at m.ns m.name x ≡ true = rw (← ns, ← name) (grind (arith, back)) in
+    let one : x ≡ m = one_among (λ a b. is_at b.ns b.name a) is_at-symm x m links keys there at here in
+    ap (λ y. is_peer_at l.ns l.name y.peer) (sym one) ∙ grind (arith, back))
+    (grind (arith, fits))
+
+same_answer : (a b : Bool) → (a ≡ true → b ≡ true) → (b ≡ true → a ≡ true) → a ≡ b
+same_answer true b h g = sym (h refl)
+same_answer false true h g = g refl
+same_answer false false h g = refl
+
+-- in a sound host a link goes with another exactly where it stands at its place, or is its peer
+pub goes_with-sound : (host : Host) (link other : Link) → IsSound host → Contains host.links link → Contains host.links other → goes_with link.ns link.name other ≡ is_link_or_peer link other
+goes_with-sound host link other sound link_there other_there =
+    let at_link : Among link host.links = Among-Contains link host.links link_there in
+    let at_other : Among other host.links = Among-Contains other host.links other_there in
+    let fits_link : peer_fits host.links link link.peer ≡ true = among-passes (λ l. peer_fits host.links l l.peer) link host.links at_link sound.links.peers in
+    let fits_other : peer_fits host.links other other.peer ≡ true = among-passes (λ l. peer_fits host.links l l.peer) other host.links at_other sound.links.peers in
+    ap (λ b. is_at link.ns link.name other || b)
+    (same_answer (is_peer_at link.ns link.name other.peer) (is_peer_at other.ns other.name link.peer)
+    (peer_names_back host.links other link other.peer sound.links.keys at_link fits_other)
+    (peer_names_back host.links link other link.peer sound.links.keys at_other fits_link))

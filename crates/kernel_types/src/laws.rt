@@ -1,0 +1,121 @@
+//! Laws of the modelled kernel, each carried by a function that does nothing.
+//!
+//! A caller that has a sound host, and a call that may be made in it, calls the function where its proof wants the law.
+//! The lemmas behind them stand in `proofs/`: `EveryCall` has the laws over all calls, `Isolation`, `SoundHosts` and
+//! `LeasedAddress` what follows.
+
+ghost use Rattle.std.specs.Prelude.{◌≡◌, true, false, Contains, Some};
+ghost use Rattle.ip_pool.specs.NextAddress.{is_candidate, is_taken};
+ghost use Rattle.kernel_types.specs.Allowed.{IsAllowed};
+ghost use Rattle.kernel_types.specs.Apply.{apply};
+ghost use Rattle.kernel_types.specs.Apply.Calls.{goes_with, last_leased, lease_next_of, leased_addresses};
+ghost use Rattle.kernel_types.specs.Isolation.{deletes_for, ensures_shared, is_from_outside, KeepsPart, KeepsUnowned, names_att, RemovesOwn};
+ghost use Rattle.kernel_types.specs.Opening.{opening_of, opening_with, AreNamespaceNames, AreOutsideLinks};
+ghost use Rattle.kernel_types.specs.Replies.{is_fault, holds_text_or_list};
+ghost use Rattle.kernel_types.specs.Sound.{AreInPlaces, IsSound, is_link_or_peer, NoAddressTwice, NoNamespaceOwned};
+ghost use Rattle.kernel_types.specs.Touch.{Touches};
+
+use crate::call::{Call, Reply};
+use crate::object::{Att, Host, Link};
+use cni_addr::{Addr, Items, RangeSet, Text};
+
+/// A host that has namespaces alone, each made outside, with a name that isn't empty and that no other has, is sound.
+pub fn an_opening_is_sound(names: &Items<Text>)
+    requires { AreNamespaceNames names.now }
+    ensures { IsSound (opening_of names.now) }
+{}
+
+/// So is one that has, besides, devices and bridges made outside, in the host or in these namespaces, each at a place of
+/// its own.
+pub fn an_opening_with_links_is_sound(names: &Items<Text>, links: &Items<Link>)
+    requires names { AreNamespaceNames names.now }
+    requires links { AreOutsideLinks names.now links.now }
+    ensures { IsSound (opening_with names.now links.now) }
+{}
+
+/// Every call that may be made leaves a sound host sound: keys stay distinct, and tags, places and peers go on to fit.
+pub fn every_call_keeps_a_host_sound(host: &Host, call: &Call)
+    requires sound { IsSound host.now }
+    requires allowed { IsAllowed host.now call.now }
+    ensures { IsSound (apply host.now call.now).0 }
+{}
+
+/// A call that names an attachment changes, removes and appends only that attachment's objects, and of the addresses
+/// that were leased last only LeaseNext moves one, that of its pool. The calls that ensure something shared append at
+/// most that. What the world outside does removes nothing that is shared.
+pub fn every_call_touches_its_own_alone(host: &Host, call: &Call)
+    requires sound { IsSound host.now }
+    requires allowed { IsAllowed host.now call.now }
+    ensures { Touches call.now host.now (apply host.now call.now).0 }
+{}
+
+/// A kernel never replies with a fault, and where its reply holds a text or a list the host is as before.
+pub fn no_call_replies_fault(host: &Host, call: &Call)
+    ensures no_fault { is_fault (apply host.now call.now).1 ≡ false }
+    ensures leaves { holds_text_or_list (apply host.now call.now).1 ≡ true → (apply host.now call.now).0 ≡ host.now }
+{}
+
+/// A call of the runtime that doesn't name an attachment leaves that attachment's objects as they are, list by list.
+pub fn no_call_changes_another_attachment(host: &Host, call: &Call, other: &Att)
+    requires sound { IsSound host.now }
+    requires allowed { IsAllowed host.now call.now }
+    requires inside { is_from_outside call.now ≡ false }
+    requires other { names_att other.now call.now ≡ false }
+    ensures { KeepsPart other.now host.now (apply host.now call.now).0 }
+{}
+
+/// A call of the runtime, unless it ensures something shared, leaves the objects that no attachment owns as they are.
+pub fn no_call_changes_what_none_owns(host: &Host, call: &Call)
+    requires sound { IsSound host.now }
+    requires allowed { IsAllowed host.now call.now }
+    requires inside { is_from_outside call.now ≡ false }
+    requires unshared { ensures_shared call.now ≡ false }
+    ensures { KeepsUnowned host.now (apply host.now call.now).0 }
+{}
+
+/// A deletion removes objects of its attachment, and changes nothing else.
+pub fn a_deletion_only_removes(host: &Host, call: &Call, att: &Att)
+    requires sound { IsSound host.now }
+    requires deletes { deletes_for call.now ≡ Some att.now }
+    ensures { RemovesOwn att.now host.now (apply host.now call.now).0 }
+{}
+
+/// In a sound host each link, address, route and setting is in the host or in a namespace that is there.
+pub fn every_object_is_in_its_place(host: &Host)
+    requires { IsSound host.now }
+    ensures { AreInPlaces host.now }
+{}
+
+/// In a sound host no attachment owns a namespace.
+pub fn no_namespace_is_owned(host: &Host)
+    requires { IsSound host.now }
+    ensures { NoNamespaceOwned host.now }
+{}
+
+/// In a sound host no network has an address leased twice.
+pub fn no_address_is_leased_twice(host: &Host, network: &Text)
+    requires { IsSound host.now }
+    ensures { NoAddressTwice network.now host.now }
+{}
+
+/// In a sound host exactly the peer of a link goes with it.
+pub fn only_the_peer_goes_with_a_link(host: &Host, link: &Link, other: &Link)
+    requires sound { IsSound host.now }
+    requires link { Contains host.now.links link.now }
+    requires other { Contains host.now.links other.now }
+    ensures { goes_with link.now.ns link.now.name other.now ≡ is_link_or_peer link.now other.now }
+{}
+
+/// The address that LeaseNext replies was free and is a candidate of its set, and it is then the last of its pool.
+pub fn a_leased_address_was_free(
+    host: &Host,
+    att: &Att,
+    number: u32,
+    set: &RangeSet,
+    address: &Addr,
+)
+    requires { (lease_next_of host.now att.now number set.now).1 ≡ Reply.Leased address.now }
+    ensures candidate { is_candidate set.now address.now ≡ true }
+    ensures free { is_taken (leased_addresses host.now att.now.network) address.now ≡ false }
+    ensures last { last_leased (lease_next_of host.now att.now number set.now).0 att.now.network number ≡ Some address.now }
+{}
