@@ -1,7 +1,8 @@
 //! Leases and given addresses.
 
-ghost use Rattle.std.specs.Prelude.{◌≡◌, ◌+◌, ◌∷◌, [], ◌≤◌, ◌++◌, true, find, length, option_map, slice_get, Some, IfOk, OnOk};
+ghost use Rattle.std.specs.Prelude.{◌≡◌, ◌+◌, ◌∷◌, [], ◌≤◌, ◌++◌, true, find, length, option_to_list, slice_get, Some, IfOk, OnOk};
 ghost use Rattle.ip_pool.specs.NextAddress.{is_candidate};
+ghost use Rattle.cni_addr.specs.declared.range.RangeSet.{RangeSet};
 ghost use Rattle.kernel_types.specs.declared.call.Kind.TheVariants.{Leases};
 ghost use Rattle.host_local.specs.Leases as leases;
 
@@ -31,7 +32,9 @@ pub fn lease_calls(alloc: Global, conf: &HostLocalConf, att: &Att) -> Result<Ite
 fn is_between(range: &Range, addr: &Addr) -> bool
     ensures { result ≡ leases.range_contains addr.now range.now }
 {
-    addr.family == range.start.family && range.start.bits <= addr.bits && addr.bits <= range.end.bits
+    addr.family == range.start.family
+        && range.start.bits <= addr.bits
+        && addr.bits <= range.end.bits
 }
 
 fn range_with(ranges: &[Range], addr: &Addr) -> Option<Range>
