@@ -57,10 +57,13 @@ bridge_routes is_default_gateway routes ips =
 
 -- ---- the results
 
+abbrev pub bridge_interfaces : BridgeConf → Att → List ℕ → Version → List Interface
+bridge_interfaces conf att netns version = bridge_interface conf.bridge ∷ host_interface att conf.mtu version ∷ inner_interface att netns conf.mtu version ∷ []
+
 abbrev pub bridge_result_of : BridgeConf → Att → List ℕ → AddResult → AddResult
 bridge_result_of conf att netns ipam = record {
   version = ipam.version;
-  interfaces = bridge_interface conf.bridge ∷ host_interface att conf.mtu ipam.version ∷ inner_interface att netns conf.mtu ipam.version ∷ [];
+  interfaces = bridge_interfaces conf att netns ipam.version;
   ips = map (at_interface 2) ipam.ips;
   routes = bridge_routes conf.is_default_gateway ipam.routes ipam.ips;
   dns = conf.dns;

@@ -1,1 +1,11 @@
+//! The plugins `bridge` and `ptp`: a veth pair between a container and the host.
+//!
+//! To the verbs each promises four lists as values: the calls before an address is leased, the calls after it, the
+//! result, and the kinds of objects that DEL takes back. They are those of `specs/Bridge.antt`, `specs/Ptp.antt` and
+//! `specs/Results.antt`, and the calls append the plugin's share of the objects that an ADD wants.
 #![tactic(auto)]
+
+pub mod bridge;
+pub mod interfaces;
+
+pub use bridge::{bridge_after, bridge_before, bridge_kinds, bridge_result};

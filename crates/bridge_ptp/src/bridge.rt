@@ -1,0 +1,284 @@
+//! The `bridge` plugin.
+
+ghost use Rattle.std.specs.Prelude.{◌≡◌, ◌++◌, map, find, IfOk, OnOk};
+ghost use Rattle.std.specs.List.{list_any};
+ghost use Rattle.cni_addr.specs.Codes.{family_eq};
+ghost use Rattle.cni_addr.specs.Equal.{addr_eq, cidr_eq};
+ghost use Rattle.host_local.specs.Conf.{routes_of};
+ghost use Rattle.host_local.specs.Results.{ip_of};
+ghost use Rattle.kernel_types.specs.declared.call.Call.TheVariants.{GatewayEnsure};
+ghost use Rattle.plan_words.specs.Keys.{push_unless_there};
+ghost use Rattle.bridge_ptp.specs.Bridge as plan;
+ghost use Rattle.bridge_ptp.specs.Results as results;
+
+use crate::interfaces::{bridge_interface, host_interface, inner_interface, ips_at};
+use cni_addr::{Cidr, Duplicate, Family, Items, NoMemory, Text};
+use cni_result::{AddResult, Interface, IpEntry, RouteEntry, Version};
+use kernel_types::{Att, Call, Given, Kind};
+use net_conf::{BridgeConf, HostLocalConf};
+use plan_words::{
+    addresses_on, ask_all, ask_forward, default_route, host_end, inner_end, masquerade_rules,
+    routes_on,
+};
+use std::alloc::Global;
+
+// ---- before the addresses
+
+fn calls_before(
+    alloc: Global,
+    conf: &BridgeConf,
+    att: &Att,
+    netns: &Text,
+) -> Result<Items<Call>, NoMemory>
+    ensures { IfOk result (λ calls. calls ≡ plan.bridge_calls_before conf.now att.now netns.now) }
+{
+    let mut calls = Items::new(alloc);
+    calls.push(Call::BridgeEnsure {
+        name: conf.bridge.copy()?,
+        mtu: conf.mtu,
+        promisc: conf.promisc,
+    })?;
+    let master = Some(conf.bridge.copy()?);
+    let host_end = host_end(alloc, att, netns, master, conf.mtu, conf.hairpin)?;
+    let inner_end = inner_end(alloc, att, netns, conf.mtu)?;
+    calls.push(Call::VethAdd {
+        host_end,
+        inner_end,
+    })?;
+    Ok(calls)
+}
+
+/// The calls before an address is leased: the bridge, and the veth pair under it.
+pub fn bridge_before(
+    alloc: Global,
+    conf: &BridgeConf,
+    att: &Att,
+    netns: &Text,
+) -> Result<Items<Call>, NoMemory>
+    ensures { IfOk result (λ calls. calls ≡ plan.bridge_calls_before conf.now att.now netns.now) }
+{
+    calls_before(alloc, conf, att, netns)
+}
+
+// ---- routes
+
+fn configured(alloc: Global, ipam: &Option<HostLocalConf>) -> Result<Items<RouteEntry>, NoMemory>
+    ensures { IfOk result (λ entries. entries ≡ routes_of ipam.now) }
+{
+    match ipam {
+        Some(conf) => conf.routes.copy(),
+        None => Ok(Items::new(alloc)),
+    }
+}
+
+fn has_destination(entries: &[RouteEntry], dst: &Cidr) -> bool
+    ensures { result ≡ list_any (λ r. cidr_eq r.dst dst.now) entries.now }
+{
+    entries.iter().any(|r| r.dst == *dst)
+}
+
+fn first_of_family(ips: &[IpEntry], family: Family) -> Option<IpEntry>
+    ensures { result ≡ find (λ ip. family_eq ip.address.addr.family family) ips.now }
+{
+    match ips.iter().find(|ip| ip.address.addr.family == family) {
+        Some(ip) => Some(*ip),
+        None => None,
+    }
+}
+
+/// Puts the family's default route at the end, unless one is configured.
+fn push_default(
+    entries: &mut Items<RouteEntry>,
+    configured: &[RouteEntry],
+    family: Family,
+    ips: &[IpEntry],
+) -> Result<(), NoMemory>
+    ensures { OnOk result (entries.new ≡ entries.old ++ results.missing_default family configured.now ips.now) }
+{
+    if let Some(ip) = first_of_family(ips, family) {
+        let dst = default_route(ip.address.addr.family);
+        if !has_destination(configured, &dst) {
+            entries.push(RouteEntry {
+                dst,
+                gw: ip.gateway,
+            })?;
+        }
+    }
+    Ok(())
+}
+
+/// The configured routes, and with `isDefaultGateway` the default routes that they lack.
+fn result_routes(
+    is_default_gateway: bool,
+    configured: &Items<RouteEntry>,
+    ips: &[IpEntry],
+) -> Result<Items<RouteEntry>, NoMemory>
+    ensures { IfOk result (λ entries. entries ≡ results.bridge_routes is_default_gateway configured.now ips.now) }
+{
+    let mut entries = configured.copy()?;
+    if is_default_gateway {
+        push_default(&mut entries, configured.as_slice(), Family::V4, ips)?;
+        push_default(&mut entries, configured.as_slice(), Family::V6, ips)?;
+    }
+    Ok(entries)
+}
+
+// ---- gateways
+
+fn gateway_on(given: &Given) -> Cidr
+    ensures { result ≡ plan.gateway_on given.now }
+{
+    Cidr {
+        addr: given.gateway,
+        prefix: given.subnet.prefix,
+    }
+}
+
+fn has_gateway(cidrs: &[Cidr], new: &Cidr) -> bool
+    ensures { result ≡ list_any (λ c. addr_eq new.now.addr c.addr) cidrs.now }
+{
+    cidrs.iter().any(|c| new.addr == c.addr)
+}
+
+fn push_gateway(cidrs: &mut Vec<Cidr>, new: Cidr) -> Result<(), NoMemory>
+    ensures { OnOk result (cidrs.new.items ≡ push_unless_there (λ x y. addr_eq x.addr y.addr) cidrs.old.items new) }
+{
+    if has_gateway(cidrs, &new) {
+        return Ok(());
+    }
+    cidrs.push(new)?;
+    Ok(())
+}
+
+fn gateways(alloc: Global, given: &[Given]) -> Result<Vec<Cidr>, NoMemory>
+    ensures { IfOk result (λ cidrs. cidrs.items ≡ plan.gateways given.now) }
+{
+    let mut cidrs = Vec::new(alloc);
+    for g in given {
+        push_gateway(&mut cidrs, gateway_on(g))?;
+    }
+    Ok(cidrs)
+}
+
+fn ask_each_gateway(calls: &mut Vec<Call>, bridge: &Text, cidrs: &[Cidr]) -> Result<(), NoMemory>
+    ensures { OnOk result (calls.new.items ≡ calls.old.items ++ map (GatewayEnsure bridge.now) cidrs.now) }
+{
+    for cidr in cidrs {
+        calls.push(Call::GatewayEnsure {
+            bridge: bridge.copy()?,
+            cidr: *cidr,
+        })?;
+    }
+    Ok(())
+}
+
+fn ask_gateways(
+    alloc: Global,
+    calls: &mut Vec<Call>,
+    conf: &BridgeConf,
+    given: &[Given],
+) -> Result<(), NoMemory>
+    ensures { OnOk result (calls.new.items ≡ calls.old.items ++ plan.gateway_calls conf.now given.now) }
+{
+    if conf.is_gateway {
+        let cidrs = gateways(alloc, given)?;
+        ask_each_gateway(calls, &conf.bridge, cidrs.as_slice())?;
+        ask_forward(calls, given)?;
+    }
+    Ok(())
+}
+
+// ---- after the addresses
+
+fn ips_of(alloc: Global, given: &[Given]) -> Result<Vec<IpEntry>, NoMemory>
+    ensures { IfOk result (λ ips. ips.items ≡ map ip_of given.now) }
+{
+    let mut ips = Vec::with_capacity(alloc, given.len())?;
+    for g in given {
+        ips.push(IpEntry {
+            address: g.address,
+            gateway: Some(g.gateway),
+            interface: None,
+        })?;
+    }
+    Ok(ips)
+}
+
+/// The calls for the given addresses: addresses and routes of the container, with `isGateway` the gateways on the
+/// bridge and forwarding, with `ipMasq` the masquerade rules.
+pub fn bridge_after(
+    alloc: Global,
+    conf: &BridgeConf,
+    att: &Att,
+    netns: &Text,
+    given: &[Given],
+) -> Result<Items<Call>, NoMemory>
+    ensures { IfOk result (λ calls. calls ≡ plan.bridge_calls_after conf.now att.now netns.now given.now) }
+{
+    let configured = configured(alloc, &conf.ipam)?;
+    let ips = ips_of(alloc, given)?;
+    let entries = result_routes(conf.is_default_gateway, &configured, ips.as_slice())?;
+    let addresses = addresses_on(alloc, att, netns, given)?;
+    let routes = routes_on(alloc, att, netns, given, entries.as_slice())?;
+    let rules = masquerade_rules(alloc, conf.ip_masq, att, given)?;
+    let mut calls = Vec::new(alloc);
+    ask_all(&mut calls, addresses.as_slice())?;
+    ask_all(&mut calls, routes.as_slice())?;
+    ask_gateways(alloc, &mut calls, conf, given)?;
+    ask_all(&mut calls, rules.as_slice())?;
+    Ok(Items::of_vec(calls))
+}
+
+// ---- the result
+
+fn interfaces(
+    alloc: Global,
+    conf: &BridgeConf,
+    att: &Att,
+    netns: &Text,
+    version: Version,
+) -> Result<Items<Interface>, NoMemory>
+    ensures { IfOk result (λ all. all ≡ results.bridge_interfaces conf.now att.now netns.now version) }
+{
+    let mut all = Vec::with_capacity(alloc, 3)?;
+    all.push(bridge_interface(&conf.bridge)?)?;
+    all.push(host_interface(alloc, att, conf.mtu, version)?)?;
+    all.push(inner_interface(att, netns, conf.mtu, version)?)?;
+    Ok(Items::of_vec(all))
+}
+
+/// The result of the address plugin with the bridge's interfaces, the index of the container's end, and the routes.
+pub fn bridge_result(
+    alloc: Global,
+    conf: &BridgeConf,
+    att: &Att,
+    netns: &Text,
+    ipam: &AddResult,
+) -> Result<AddResult, NoMemory>
+    ensures { IfOk result (λ r. r ≡ results.bridge_result_of conf.now att.now netns.now ipam.now) }
+{
+    Ok(AddResult {
+        version: ipam.version,
+        interfaces: interfaces(alloc, conf, att, netns, ipam.version)?,
+        ips: ips_at(alloc, 2, ipam.ips.as_slice())?,
+        routes: result_routes(conf.is_default_gateway, &ipam.routes, ipam.ips.as_slice())?,
+        dns: conf.dns.copy()?,
+    })
+}
+
+// ---- the kinds
+
+/// The kinds of objects that DEL takes back.
+pub fn bridge_kinds(alloc: Global, conf: &BridgeConf) -> Result<Items<Kind>, NoMemory>
+    ensures { IfOk result (λ kinds. kinds ≡ plan.bridge_kinds_of conf.now) }
+{
+    let mut kinds = Items::new(alloc);
+    kinds.push(Kind::Links)?;
+    if conf.ip_masq {
+        kinds.push(Kind::Rules)?;
+    }
+    if conf.ipam.is_some() {
+        kinds.push(Kind::Leases)?;
+    }
+    Ok(kinds)
+}

@@ -1,0 +1,46 @@
+-- A candidate of a set has a range that holds it, and lists of given addresses end with the shorter of the two lists.
+use Rattle.std.proofs.Common.{◌≡◌, ℕ, ◌≤◌, ◌<◌, Bool, true, false, cond, List, [], ◌∷◌, Option, Some, None, refl, sym, ◌∙◌, ap, arith, drop, inl, inr}
+use Rattle.std.specs.Prelude.{find, ◌⊎◌, length, slice_get, option_map, option_to_list, nat_le, nat_lt, not, ◌&&◌, min}
+use Rattle.std.specs.List.{list_any}
+use Rattle.std.proofs.lemmas.Bool.Decides.{nat_tests}
+use Rattle.std.proofs.lemmas.List.{drop_all}
+use Rattle.cni_addr.specs.declared.address.Addr.{Addr}
+use Rattle.cni_addr.specs.declared.range.Range.{Range}
+use Rattle.cni_addr.specs.declared.range.RangeSet.{RangeSet}
+use Rattle.ip_pool.specs.NextAddress.{is_in, is_candidate}
+use Rattle.kernel_types.specs.declared.call.Given.{Given}
+use Rattle.host_local.specs.Leases.{range_contains, given_by, given_in, given_of}
+
+found-step : {X : Type 0} (b : Bool) (x : X) (o : Option X) → (b ≡ false → (y : X) × (o ≡ Some y)) → (y : X) × (cond b (Some x) o ≡ Some y)
+found-step true x o h = (x, refl)
+found-step false x o h = h refl
+
+range_contains-is_in : (a : Addr) (r : Range) → is_in a r ≡ true → range_contains a r ≡ true
+range_contains-is_in a r h = grind (arith, nat_tests, h)
+
+range-found : (a : Addr) (rs : List Range) → list_any (is_in a) rs ≡ true → (r : Range) × (find (range_contains a) rs ≡ Some r)
+range-found a [] h = absurd (grind (arith, h))
+range-found a (r ∷ rs) h =
+    found-step (range_contains a r) r (find (range_contains a) rs)
+    (λ no_r. range-found a rs (grind (arith, h, no_r, range_contains-is_in a r)))
+
+-- what a candidate is given
+pub given_in-candidate : (set : RangeSet) (a : Addr) → is_candidate set a ≡ true → (g : Given) × (given_in set a ≡ g ∷ [])
+given_in-candidate set a h =
+    let f = range-found a set.ranges h in
+    (given_by a f.0, ap (λ o. option_to_list (option_map (given_by a) o)) f.1)
+
+pub given_of-no_addrs : (sets : List RangeSet) → given_of sets [] ≡ []
+given_of-no_addrs [] = refl
+given_of-no_addrs (s ∷ ss) = refl
+
+pub given_of-end : (sets : List RangeSet) (addrs : List Addr) (n : ℕ) → (length sets ≤ n) ⊎ (length addrs ≤ n) → given_of (drop n sets) (drop n addrs) ≡ []
+given_of-end sets addrs n (inl h) = rw (drop_all n sets h) refl
+given_of-end sets addrs n (inr h) = rw (drop_all n addrs h) (given_of-no_addrs (drop n sets))
+
+min-step : (b : Bool) (m n k : ℕ) → b ≡ nat_lt m n → min m n ≤ k → (m ≤ k) ⊎ (n ≤ k)
+min-step true m n k is h = inl (grind (arith, nat_tests, is, h))
+min-step false m n k is h = inr (grind (arith, nat_tests, is, h))
+
+pub one_is_over : (m n k : ℕ) → min m n ≤ k → (m ≤ k) ⊎ (n ≤ k)
+one_is_over m n k h = min-step (nat_lt m n) m n k refl h
