@@ -1,7 +1,8 @@
 //! The `bridge` plugin.
 
-ghost use Rattle.std.specs.Prelude.{◌≡◌, ◌++◌, map, find, IfOk, OnOk};
+ghost use Rattle.std.specs.Prelude.{◌≡◌, ◌++◌, ◌∷◌, [], map, find, Some, IfOk, OnOk};
 ghost use Rattle.std.specs.List.{list_any};
+ghost use Rattle.std.specs.Option.{option_copied};
 ghost use Rattle.cni_addr.specs.Codes.{family_eq};
 ghost use Rattle.cni_addr.specs.Equal.{addr_eq, cidr_eq};
 ghost use Rattle.host_local.specs.Conf.{routes_of};
@@ -77,12 +78,35 @@ fn has_destination(entries: &[RouteEntry], dst: &Cidr) -> bool
     entries.iter().any(|r| r.dst == *dst)
 }
 
-fn first_of_family(ips: &[IpEntry], family: Family) -> Option<IpEntry>
-    ensures { result ≡ find (λ ip. family_eq ip.address.addr.family family) ips.now }
+fn first_of_family<'a>(ips: &'a [IpEntry], family: Family) -> Option<&'a IpEntry>
+    ensures { option_copied result ≡ find (λ ip. family_eq ip.address.addr.family family) ips.now }
 {
-    match ips.iter().find(|ip| ip.address.addr.family == family) {
-        Some(ip) => Some(*ip),
-        None => None,
+    ips.iter().find(|ip| ip.address.addr.family == family)
+}
+
+fn push_route(entries: &mut Items<RouteEntry>, dst: Cidr, ip: &IpEntry) -> Result<(), NoMemory>
+    ensures { OnOk result (entries.new ≡ entries.old ++ record { dst = dst; gw = ip.now.gateway } ∷ []) }
+{
+    entries.push(RouteEntry {
+        dst,
+        gw: ip.gateway,
+    })
+}
+
+/// Puts the default route by the address's gateway at the end, unless one is configured.
+fn push_default_by(
+    entries: &mut Items<RouteEntry>,
+    configured: &[RouteEntry],
+    ip: &IpEntry,
+) -> Result<(), NoMemory>
+    ensures { OnOk result (entries.new ≡ entries.old ++ results.default_unless_there configured.now (Some ip.now)) }
+{
+    let family = ip.address.addr.family;
+    let dst = default_route(family);
+    if has_destination(configured, &dst) {
+        Ok(())
+    } else {
+        push_route(entries, dst, ip)
     }
 }
 
@@ -95,16 +119,10 @@ fn push_default(
 ) -> Result<(), NoMemory>
     ensures { OnOk result (entries.new ≡ entries.old ++ results.missing_default family configured.now ips.now) }
 {
-    if let Some(ip) = first_of_family(ips, family) {
-        let dst = default_route(ip.address.addr.family);
-        if !has_destination(configured, &dst) {
-            entries.push(RouteEntry {
-                dst,
-                gw: ip.gateway,
-            })?;
-        }
+    match first_of_family(ips, family) {
+        Some(ip) => push_default_by(entries, configured, ip),
+        None => Ok(()),
     }
-    Ok(())
 }
 
 /// The configured routes, and with `isDefaultGateway` the default routes that they lack.
