@@ -2,6 +2,7 @@
 #![tactic(auto)]
 
 pub mod chained;
+mod copies;
 pub mod first;
 pub mod list;
 

@@ -2,6 +2,7 @@
 #![tactic(auto)]
 
 pub mod command;
+mod copies;
 pub mod pods;
 
 pub use command::{Command, RawMapping, ValidAtt, Verb};
