@@ -1,6 +1,6 @@
 -- What is read of an address's text is its grammar, both ways, and what is written is read again.
-use Rattle.std.proofs.Common.{◌≡◌, ℕ, ◌/◌, ◌%◌, ◌^◌, ◌<◌, zero, suc, List, [], ◌∷◌, ◌++◌, length, get_or, Option, Some, None, refl, sym, ap, ◌∙◌, subst, arith, append-nil, lit≤, ne_eqb}
-use Rattle.std.specs.Prelude.{option_map, ◌↔◌}
+use Rattle.std.proofs.Common.{◌≡◌, ℕ, ◌/◌, ◌%◌, ◌^◌, ◌<◌, zero, suc, List, [], ◌∷◌, length, get_or, Option, Some, None, refl, sym, ap, ◌∙◌, subst, arith, append-nil, lit≤, ne_eqb}
+use Rattle.std.specs.Prelude.{option_map}
 use Rattle.std.proofs.lemmas.Option.{none-some}
 use Rattle.std.proofs.lemmas.Nat.{be_bytes_4, from_be_bytes-to_be_bytes_4}
 use Rattle.std.specs.Int.{w32, to_be_bytes, from_be_bytes}
@@ -10,8 +10,6 @@ use Rattle.std.specs.Net.Text.{ipv4_text}
 use Rattle.std.proofs.NetLemmas.Options.{map_some}
 use Rattle.std.proofs.NetLemmas.Ipv4.{read_ipv4_complete, read_ipv4_sound}
 use Rattle.std.proofs.NetLemmas.Texts.{IsDotted-ipv4_text}
-use Rattle.cni_addr.specs.declared.address.Family.{Family}
-use Rattle.cni_addr.specs.declared.address.Family.TheVariants.{V4}
 use Rattle.cni_addr.specs.Value.{AddrValue, IsAddr, bits_below}
 use Rattle.cni_addr.specs.AddrText.{Spells, IsAddrText, address_of_octets, addr_of_text, bits_text, addr_text}
 
@@ -72,6 +70,7 @@ spelled_is_read text a h =
 pub address_dotted : (text : List ℕ) (a : AddrValue) → IsAddrText text a → IsDotted text (to_be_bytes w32 a.bits)
 address_dotted text a h = subst (λ f. Spells text f a.bits) h.fits.built h.spelled
 
+-- each of four octets fits
 pub octet_fits : (a b c d i : ℕ) → (a < 256) × (b < 256) × (c < 256) × (d < 256) → get_or (a ∷ b ∷ c ∷ d ∷ []) i 0 < 256
 octet_fits a b c d zero h = h.0
 octet_fits a b c d (suc zero) h = h.1

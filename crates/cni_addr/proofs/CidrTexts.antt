@@ -1,5 +1,5 @@
 -- What is read of a network's text is its grammar, both ways, and what is written is read again.
-use Rattle.std.proofs.Common.{◌≡◌, ◌≢◌, ℕ, ◌^◌, ◌<◌, ◌≤◌, ◌==◌, Bool, true, false, cond, not, ◌&&◌, ◌||◌, List, [], ◌∷◌, ◌++◌, inl, inr, ◌+◌, ◌-◌, ap₂, take, drop, length-drop, length-append, take_at, drop_at, append_assoc, ne_eqb, eqb-true, suc, All, lt-ltb, le-leb, length, get_or, Option, Some, None, Result, Ok, Err, decimal, refl, sym, ap, ◌∙◌, subst, arith, append-nil, lit≤}
+use Rattle.std.proofs.Common.{◌≡◌, ◌≢◌, ℕ, ◌^◌, ◌<◌, ◌≤◌, Bool, true, false, cond, not, List, [], ◌∷◌, ◌++◌, inl, inr, ◌+◌, ◌-◌, ap₂, take, drop, length-drop, length-append, take_at, drop_at, append_assoc, ne_eqb, eqb-true, suc, All, lt-ltb, le-leb, length, get_or, Option, Some, None, Result, Ok, Err, decimal, refl, sym, ap, ◌∙◌, subst, arith, append-nil, lit≤}
 use Rattle.std.proofs.lemmas.Option.{none-some}
 use Rattle.std.proofs.lemmas.List.{drop_all, take_all}
 use Rattle.std.proofs.lemmas.Bool.{cases_lt, ltb-true, leb-true, lt-leb}
@@ -7,9 +7,9 @@ use Rattle.std.proofs.lemmas.Bool.Decides.{nat_tests}
 use Rattle.std.proofs.lemmas.Fmt.{decimal_is_IsNumeral, decimal_digit, first_decimal, decimal-digits_value, IsAscii-decimal}
 use Rattle.std.proofs.lemmas.Str.{IsUtf8-from_ascii}
 use Rattle.std.proofs.lemmas.Str.Parse.{numerals_by_value, tells_digits, without_leading_plus_none}
-use Rattle.std.specs.Result.{result_ok, OkIff}
+use Rattle.std.specs.Result.{result_ok}
 use Rattle.std.specs.Str.{IsUtf8}
-use Rattle.std.specs.Str.Parse.{IsNumeral, digits_value, ParsesUnsigned, without_leading_plus}
+use Rattle.std.specs.Str.Parse.{IsNumeral, digits_value, ParsesUnsigned}
 use Rattle.std.specs.Net.Reader.{Read, read_number, read_octet, whole_value}
 use Rattle.std.proofs.NetLemmas.Ipv4.{read_octet_complete, read_octet_sound}
 use Rattle.cni_addr.specs.CidrText.{slash, is_slash, begins_plainly, prefix_of_text, with_prefix, cidr_of_parts, cidr_of_text, cidr_text}
@@ -54,9 +54,11 @@ unsigned text plain = grind (arith, nat_tests, plain)
 unpadded : (text : List ℕ) → begins_plainly text ≡ true → get_or text 0 0 ≡ 48 → length text ≡ 1
 unpadded text plain zero_first = grind (arith, nat_tests, plain, zero_first)
 
+-- one digit is plain
 begins_at_digit : (d : ℕ) → d < 10 → begins_plainly ((48 + d) ∷ []) ≡ true
 begins_at_digit d fits = grind (arith, nat_tests)
 
+-- and so is what begins above a zero
 begins_above : (text : List ℕ) → 48 < get_or text 0 0 → begins_plainly text ≡ true
 begins_above text above = grind (arith, nat_tests)
 
@@ -139,10 +141,11 @@ read_parts text i addr prefix e is_addr is_prefix =
     ap₂ cidr_of_parts is_addr (is_prefix ∙ ap prefix_of_text rest)
     ∙ ap₂ (λ (j k : ℕ). cidr_of_parts (addr_of_text (take j text)) (prefix_of_text (drop (k + 1) text))) place place
 
--- a prefix that the family has, and one that it has not
+-- a prefix that the family has
 pub fitting_prefix : (a : AddrValue) (prefix : ℕ) → prefix ≤ longest_prefix a.family → Some (record { addr = a; prefix = prefix }) ≡ with_prefix a prefix
 fitting_prefix a prefix fits = sym (ap (λ b. if b then Some (at_prefix prefix a) else None) (le-leb prefix (longest_prefix a.family) fits))
 
+-- and one that it has not
 pub long_prefix : (a : AddrValue) (prefix : ℕ) → longest_prefix a.family < prefix → None ≡ with_prefix a prefix
 long_prefix a prefix long = sym (ap (λ b. if b then Some (at_prefix prefix a) else None) (lt-leb prefix (longest_prefix a.family) long))
 
@@ -185,6 +188,7 @@ slash_place (c ∷ front) rest clear =
 prefix_small : (a : AddrValue) (prefix : ℕ) → IsAddr a → prefix ≤ longest_prefix a.family → prefix < 256
 prefix_small a prefix kept fits = let here = subst (λ f. prefix ≤ longest_prefix f) kept.built fits in omega arith
 
+-- an item moves from the back to the front
 one_by_one : (front : List ℕ) (c : ℕ) (rest : List ℕ) → front ++ c ∷ rest ≡ (front ++ c ∷ []) ++ rest
 one_by_one front c rest = sym (append_assoc front (c ∷ []) rest)
 

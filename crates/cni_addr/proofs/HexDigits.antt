@@ -1,5 +1,5 @@
 -- Hex digits of either case: what decodes is, in lower case, the encoding of what it decodes to.
-use Rattle.std.proofs.Common.{◌≡◌, ℕ, zero, suc, ◌+◌, ◌*◌, ◌/◌, ◌%◌, ◌<◌, ◌==◌, nat_lt, Bool, true, false, ◌&&◌, List, [], ◌∷◌, length, slice_index, Option, Some, None, Result, Ok, Err, refl, sym, ap, ap₂, ◌∙◌, arith, inl, inr, eqb-true}
+use Rattle.std.proofs.Common.{◌≡◌, ℕ, zero, suc, ◌+◌, ◌*◌, ◌/◌, ◌%◌, ◌<◌, ◌==◌, nat_lt, Bool, true, ◌&&◌, List, [], ◌∷◌, slice_index, Option, Some, None, Result, Ok, Err, refl, sym, ap, ap₂, ◌∙◌, arith, inl, inr, eqb-true}
 use Rattle.std.specs.Prelude.{if◌then◌else◌}
 use Rattle.std.proofs.lemmas.Bool.{and_parts, cases_lt}
 use Rattle.std.proofs.lemmas.Bool.Decides.{nat_tests}
@@ -19,6 +19,7 @@ abbrev is_table : ℕ → Bool
 is_table zero = true
 is_table (suc n) = slice_index lower_digits n == glyph n && is_table n
 
+-- what the test of the table shows of one place
 table_at : (n d : ℕ) → is_table n ≡ true → d < n → slice_index lower_digits d ≡ glyph d
 table_at zero d test fits = absurd (omega arith)
 table_at (suc n) d test fits =
@@ -30,6 +31,7 @@ table_at (suc n) d test fits =
           ap (λ k. slice_index lower_digits k) (sym same) ∙ eqb-true (slice_index lower_digits n) (glyph n) here ∙ ap glyph same
     ]
 
+-- each place of the table has the digit of its number
 pub lower_digit : (d : ℕ) → d < 16 → slice_index lower_digits d ≡ glyph d
 lower_digit d fits = table_at 16 d refl fits
 
@@ -61,6 +63,7 @@ step_ok : {A B : Type 0} (r : Result A FromHexError) (f : A → Result B FromHex
 step_ok (Ok x) f y e = (x, refl, e)
 step_ok (Err d) f y e = absurd (cc e)
 
+-- a digit that was taken has a value
 digit_ok : (c i v : ℕ) (o : Option ℕ) → digit_or_error c i o ≡ Ok v → o ≡ Some v
 digit_ok c i v (Some w) e = cc e
 digit_ok c i v None e = absurd (cc e)

@@ -28,13 +28,14 @@ join_more c [] x some = absurd (omega arith)
 join_more c (y ∷ []) x some = refl
 join_more c (y ∷ z ∷ xs) x some = ap (λ t. y ++ (c ∷ t)) (join_more c (z ∷ xs) x (omega arith)) ∙ sym (append_assoc y (c ∷ join_with_byte c (z ∷ xs)) (c ∷ x))
 
--- one byte more is written: the first alone, and each other after a colon
+-- one byte more is written: the first alone
 pub first_byte : (bytes text : List ℕ) (place : ℕ) → place ≡ 0 → 0 < length bytes → text ≡ join_with_byte colon (map byte_text (take place bytes))
     → text ++ byte_text (get_or bytes place 0) ≡ join_with_byte colon (map byte_text (take (place + 1) bytes))
 first_byte bytes text place none some is =
     let empty : text ≡ [] = is ∙ ap (λ n. join_with_byte colon (map byte_text (take n bytes))) none in
     rw (empty, none, take_more bytes 0 0 some)
 
+-- each other byte after a colon
 pub next_byte : (bytes text : List ℕ) (place : ℕ) → 0 < place → place < length bytes → text ≡ join_with_byte colon (map byte_text (take place bytes))
     → (text ++ colon ∷ []) ++ byte_text (get_or bytes place 0) ≡ join_with_byte colon (map byte_text (take (place + 1) bytes))
 next_byte bytes text place some within is =
@@ -58,7 +59,7 @@ pub around_colons : (text : List ℕ) → has_colons text ≡ true → mac_of_te
 unfolding mac_of_text
 around_colons text there = ap (λ b. if b then mac_of_digits (digits_in text) else None) there
 
--- what decoding into six bytes answers
+-- what decoding into six bytes answers: that it wrote them
 pub decoded : (digits out : List ℕ) (r : Result Unit FromHexError) → MatchResult (decode_sized digits 6) (λ bytes. (r ≡ Ok tt) × (out ≡ bytes)) (λ e. r ≡ Err e)
     → r ≡ Ok tt → Some (record { bytes = out }) ≡ mac_of_digits digits
 decoded digits out r h ok = decoded_by out r (decode_sized digits 6) h ok
@@ -68,6 +69,7 @@ decoded digits out r h ok = decoded_by out r (decode_sized digits 6) h ok
     decoded_by out r (Ok bytes) h ok = ap (λ bs. Some (mac_of_bytes bs)) h.1
     decoded_by out r (Err e) h ok = cc
 
+-- or that it is refused
 pub undecoded : (digits out : List ℕ) (r : Result Unit FromHexError) (e : FromHexError) → MatchResult (decode_sized digits 6) (λ bytes. (r ≡ Ok tt) × (out ≡ bytes)) (λ e. r ≡ Err e)
     → r ≡ Err e → None ≡ mac_of_digits digits
 undecoded digits out r e h err = undecoded_by out r e (decode_sized digits 6) h err
@@ -79,6 +81,7 @@ undecoded digits out r e h err = undecoded_by out r e (decode_sized digits 6) h 
 
 -- ---- the grammar, both ways
 
+-- lists with one head and one tail are one
 same_head : {x y : ℕ} {xs ys : List ℕ} → x ≡ y → xs ≡ ys → x ∷ xs ≡ y ∷ ys
 same_head e es = ap₂ (λ (a : ℕ) (t : List ℕ). a ∷ t) e es
 
@@ -86,6 +89,7 @@ same_head e es = ap₂ (λ (a : ℕ) (t : List ℕ). a ∷ t) e es
 colon_if_lower : (c : ℕ) → to_ascii_lowercase c ≡ colon → c ≡ colon
 colon_if_lower c e = grind (arith, nat_tests)
 
+-- six items, one by one
 six_items : (xs : List ℕ) → length xs ≡ 6 → xs ≡ get_or xs 0 0 ∷ get_or xs 1 0 ∷ get_or xs 2 0 ∷ get_or xs 3 0 ∷ get_or xs 4 0 ∷ get_or xs 5 0 ∷ []
 six_items xs six = text_from_reads xs _ six (refl, (refl, (refl, (refl, (refl, (refl, tt))))))
 
@@ -93,6 +97,7 @@ six_items xs six = text_from_reads xs _ six (refl, (refl, (refl, (refl, (refl, (
 lower_at : (text : List ℕ) (k : ℕ) → get_or (str_to_ascii_lowercase text) k 0 ≡ to_ascii_lowercase (get_or text k 0)
 lower_at text k = get_or-map to_ascii_lowercase text k 0
 
+-- where the length and the colons are, the test is met
 colons_there : (text : List ℕ) → length text ≡ 17 → get_or text 2 0 ≡ colon → get_or text 5 0 ≡ colon → get_or text 8 0 ≡ colon
     → get_or text 11 0 ≡ colon → get_or text 14 0 ≡ colon → has_colons text ≡ true
 colons_there text len second fifth eighth eleventh fourteenth = rw (len, second, fifth, eighth, eleventh, fourteenth) refl
@@ -118,6 +123,7 @@ module _ (text : List ℕ) (a b c d e f : ℕ) where
       text_from_reads (str_to_ascii_lowercase text) _ (length-map text to_ascii_lowercase ∙ there.0)
       (lower_at text 0 ∙ ap (λ t. get_or t 0 0) digits, (lower_at text 1 ∙ ap (λ t. get_or t 1 0) digits, (lower_at text 2 ∙ ap to_ascii_lowercase there.1, (lower_at text 3 ∙ ap (λ t. get_or t 2 0) digits, (lower_at text 4 ∙ ap (λ t. get_or t 3 0) digits, (lower_at text 5 ∙ ap to_ascii_lowercase there.2, (lower_at text 6 ∙ ap (λ t. get_or t 4 0) digits, (lower_at text 7 ∙ ap (λ t. get_or t 5 0) digits, (lower_at text 8 ∙ ap to_ascii_lowercase there.3, (lower_at text 9 ∙ ap (λ t. get_or t 6 0) digits, (lower_at text 10 ∙ ap (λ t. get_or t 7 0) digits, (lower_at text 11 ∙ ap to_ascii_lowercase there.4, (lower_at text 12 ∙ ap (λ t. get_or t 8 0) digits, (lower_at text 13 ∙ ap (λ t. get_or t 9 0) digits, (lower_at text 14 ∙ ap to_ascii_lowercase there.5, (lower_at text 15 ∙ ap (λ t. get_or t 10 0) digits, (lower_at text 16 ∙ ap (λ t. get_or t 11 0) digits, tt)))))))))))))))))
 
+-- and the other way round
 colons_found : (text : List ℕ) → has_colons text ≡ true
     → (length text ≡ 17) × (get_or text 2 0 ≡ colon) × (get_or text 5 0 ≡ colon) × (get_or text 8 0 ≡ colon) × (get_or text 11 0 ≡ colon) × (get_or text 14 0 ≡ colon)
 colons_found text test =
@@ -171,10 +177,11 @@ mac_spelled_is_read text m h =
     let spelled = h.spelled ∙ ap (λ bs. mac_text (mac_of_bytes bs)) items in
     read_if_lower text _ _ _ _ _ _ (subst IsBytes items h.fits.bytes) spelled ∙ ap (λ bs. Some (mac_of_bytes bs)) (sym items)
 
--- the two digits of a byte are in lower case
+-- the high digit of a byte is in lower case
 high : (v : ℕ) → v < 256 → to_ascii_lowercase (slice_index lower_digits (v / 16)) ≡ slice_index lower_digits (v / 16)
 high v fits = lower_of_digit (v / 16) (omega arith)
 
+-- the low digit too
 low : (v : ℕ) → v < 256 → to_ascii_lowercase (slice_index lower_digits (v % 16)) ≡ slice_index lower_digits (v % 16)
 low v fits = lower_of_digit (v % 16) (omega arith)
 

@@ -11,7 +11,7 @@ use Rattle.cni_addr.specs.declared.address.Family.{Family}
 use Rattle.cni_addr.specs.declared.address.Family.TheVariants.{V4, V6}
 use Rattle.cni_addr.specs.Value.{AddrValue, CidrValue, IsAddr, bits_below, longest_prefix}
 use Rattle.cni_addr.specs.Codes.{family_eq}
-use Rattle.cni_addr.specs.Network.{network_size, network_bits, network_of, last_of, contains, whole, next_addr, IsCidr}
+use Rattle.cni_addr.specs.Network.{network_size, network_of, last_of, contains, whole, next_addr, IsCidr}
 
 -- the highest number with the bits of n above the lowest h is below a bound that is a multiple of 2 ^ h
 pub last_below : (n h w : ℕ) → h ≤ w → n < 2 ^ w → n - n % 2 ^ h + (2 ^ h - 1) < 2 ^ w
@@ -48,9 +48,11 @@ module _ (c : CidrValue) (a addr : AddrValue) (prefix size : ℕ) (kept : IsAddr
   below_v4 : a.bits < 2 ^ 32
   below_v4 = subst (λ f. a.bits < bits_below f) kept.built kept.within
 
+  -- the network's address is one
   pub network_fits : IsAddr (at_bits a.family (a.bits - a.bits % size))
   network_fits = record { within = subst (λ f. a.bits - a.bits % size < bits_below f) (sym kept.built) (let below = below_v4 in omega arith); built = kept.built }
 
+  -- and so is its last
   pub last_fits : IsAddr (record { family = a.family; bits = a.bits - a.bits % size + (size - 1) })
   last_fits = record {
     within =
@@ -59,14 +61,17 @@ module _ (c : CidrValue) (a addr : AddrValue) (prefix size : ℕ) (kept : IsAddr
     built = kept.built;
   }
 
+  -- what the code computes is the network
   pub network_is : at_prefix prefix (at_bits a.family (a.bits - a.bits % size)) ≡ network_of c
   unfolding network_of
   network_is = ap (λ s. at_prefix prefix (at_bits a.family (a.bits - a.bits % s))) sized_here ∙ ap network_of same_network
 
+  -- and its last address
   pub last_is : at_bits a.family (a.bits - a.bits % size + (size - 1)) ≡ last_of c
   unfolding last_of
   last_is = ap (λ s. at_bits a.family (a.bits - a.bits % s + (s - 1))) sized_here ∙ ap last_of same_network
 
+  -- and whether it has an address of its family
   pub contains_is : (b other : AddrValue) → b ≡ other → family_eq a.family b.family ≡ true → (b.bits / size == a.bits / size) ≡ contains c other
   unfolding contains
   contains_is b other is test =
@@ -88,6 +93,7 @@ family_test V4 V6 e = absurd (cc e)
 family_test V6 V4 e = absurd (cc e)
 family_test V6 V6 e = refl
 
+-- a family is its own
 same_family : (f : Family) → family_eq f f ≡ true
 same_family V4 = refl
 same_family V6 = refl
@@ -113,6 +119,7 @@ cleared n s some =
     let start : n - n % s ≡ n / s * s + 0 = omega arith in
     ap (λ m. m % s) start ∙ mod-mul-add (n / s) s 0 some
 
+-- a network has an address
 some_address : (c : CidrValue) → 0 < network_size c
 some_address c = pow_pos (longest_prefix c.addr.family - c.prefix)
 
@@ -148,10 +155,12 @@ pub contains_own : (c : CidrValue) → contains c c.addr ≡ true
 unfolding contains
 contains_own c = and_from (family_eq c.addr.family c.addr.family) _ (same_family c.addr.family) (eq-eqb (c.addr.bits / network_size c) (c.addr.bits / network_size c) refl)
 
+-- the first address is no higher than the last
 first_before_last : (c : CidrValue) → (network_of c).addr.bits ≤ (last_of c).bits
 unfolding network_of last_of
 first_before_last c = omega arith
 
+-- both are of the network's family
 network_family : (c : CidrValue) → c.addr.family ≡ (network_of c).addr.family
 unfolding network_of
 network_family c = refl
@@ -160,9 +169,11 @@ last_family : (c : CidrValue) → c.addr.family ≡ (last_of c).family
 unfolding last_of
 last_family c = refl
 
+-- so the network has its first address
 pub contains_first : (c : CidrValue) → contains c (network_of c).addr ≡ true
 contains_first c = (contains_between c (network_of c).addr).1 (network_family c, omega arith, first_before_last c)
 
+-- and its last
 pub contains_last : (c : CidrValue) → contains c (last_of c) ≡ true
 contains_last c = (contains_between c (last_of c)).1 (last_family c, first_before_last c, omega arith)
 
@@ -186,20 +197,24 @@ pub IsCidr-network_of : (c : CidrValue) → IsCidr c → IsCidr (network_of c)
 unfolding network_of
 IsCidr-network_of c kept = record { addr = network_fits c c.addr c.addr c.prefix (network_size c) kept.addr refl refl kept.prefix refl; prefix = kept.prefix }
 
+-- and so is its last address
 pub IsAddr-last_of : (c : CidrValue) → IsCidr c → IsAddr (last_of c)
 unfolding last_of
 IsAddr-last_of c kept = last_fits c c.addr c.addr c.prefix (network_size c) kept.addr refl refl kept.prefix refl
 
 -- ---- one address alone
 
+-- the full prefix is one that the family has
 pub IsCidr-whole : (a : AddrValue) → IsAddr a → IsCidr (whole a)
 unfolding whole
 IsCidr-whole a kept = record { addr = kept; prefix = omega arith }
 
+-- and leaves room for one address
 one_address : (a : AddrValue) → network_size (whole a) ≡ 1
 unfolding whole
 one_address a = let none : longest_prefix a.family - longest_prefix a.family ≡ 0 = omega arith in ap (λ k. 2 ^ k) none
 
+-- which is the network's first
 pub network_of_whole : (a : AddrValue) → network_of (whole a) ≡ whole a
 unfolding whole network_of
 network_of_whole a =
@@ -207,12 +222,14 @@ network_of_whole a =
     ap (λ s. at_prefix (longest_prefix a.family) (at_bits a.family (a.bits - a.bits % s))) one
     ∙ ap (λ bits. at_prefix (longest_prefix a.family) (at_bits a.family bits)) (omega arith)
 
+-- and its last
 pub last_of_whole : (a : AddrValue) → last_of (whole a) ≡ a
 unfolding whole last_of
 last_of_whole a =
     let one = one_address a in
     ap (λ s. at_bits a.family (a.bits - a.bits % s + (s - 1))) one ∙ ap (λ bits. at_bits a.family bits) (omega arith)
 
+-- the address itself is kept
 whole_here : (a : AddrValue) → (whole a).addr ≡ a
 unfolding whole
 whole_here a = refl
@@ -233,6 +250,7 @@ contains_whole a b = (
 
 -- ---- the next address
 
+-- the next address, by the test for the last
 abbrev next_by : Bool → AddrValue → Option AddrValue
 next_by at_end a = if at_end then None else Some (at_bits a.family (a.bits + 1))
 

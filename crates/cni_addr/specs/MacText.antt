@@ -1,4 +1,4 @@
--- Hardware addresses as texts: pairs of hex digits joined by colons (RFC 7042, 2.1, with colons as `ip link` writes them).
+-- Hardware addresses as texts: six pairs of hex digits joined by colons, as `ip link` writes them (IEEE 802, EUI-48).
 use Rattle.std.specs.Prelude.{◌≡◌, ℕ, ◌==◌, ◌&&◌, Bool, if◌then◌else◌, List, [], ◌∷◌, map, length, slice_index, Option, None, option_map}
 use Rattle.std.specs.List.{join_with_byte, list_all}
 use Rattle.std.specs.Result.{result_ok}

@@ -1,8 +1,24 @@
 //! Texts, lists and network addresses: the words that every other crate of the runtime speaks in.
 //!
-//! What it promises above: a [`Text`] is the list of its bytes and an [`Items`] the list of its items, whatever
-//! they share inside; an address is a family and a number below the family's bound; want of memory is
-//! [`NoMemory`] and nothing else; and a copy equals what was copied.
+//! What it promises above:
+//!
+//! - A [`Text`] is the list of its bytes and an [`Items`] the list of its items, whatever they share inside; a copy
+//!   equals what was copied.
+//! - An address is a family and a number below the family's bound. IPv4 alone is built.
+//! - Each reader is equal to a definition, which [`laws`] tie to a grammar both ways: what is spelled is read, and what
+//!   is read is spelled. What a writer writes is read again as the same value.
+//! - A network has just the addresses of its family from its first to its last.
+//! - Want of memory is [`NoMemory`] and nothing else, and only calls that take an allocator, or copy, answer it.
+//!
+//! A worked example, of an address that a pool of 10.88.0.0/16 leased:
+//!
+//! ```text
+//! let cidr = read_cidr(b"10.88.0.2/16")?;       // the address 10.88.0.2, bits 0x0a580002, and the prefix 16
+//! write_cidr(alloc, &network_of(&cidr))?        // 10.88.0.0/16
+//! write_addr(alloc, &last_of(&cidr))?           // 10.88.255.255
+//! contains(&cidr, &read_addr(b"10.89.0.1")?)    // false
+//! read_cidr(b"10.0.0.0/33")                     // None
+//! ```
 #![tactic(auto)]
 
 pub mod address;
@@ -27,3 +43,6 @@ pub use range::{Range, RangeSet};
 pub use read::{read_addr, read_cidr, read_mac};
 pub use text::Text;
 pub use write::{write_addr, write_cidr, write_mac};
+
+#[cfg(test)]
+mod tests;

@@ -33,8 +33,8 @@ pub fn contains(cidr: &Cidr, addr: &Addr) -> bool
     ensures { result ≡ network.contains cidr.now addr.now }
 {
     let size = network_size(cidr);
-    let inside = cidr.addr;
-    inside.family == addr.family && addr.bits / size == inside.bits / size
+    let own = cidr.addr;
+    own.family == addr.family && addr.bits / size == own.bits / size
 }
 
 /// The network itself: the host bits are cleared.

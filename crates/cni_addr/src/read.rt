@@ -89,7 +89,7 @@ fn first_slash(text: &[u8]) -> Option<usize>
 fn read_prefix(text: &[u8]) -> Option<u8>
     ensures { result ≡ prefix_of_text text.now }
 {
-    if !is_plain(text) {
+    if !begins_plainly(text) {
         return None;
     }
     match str::from_utf8(text) {
@@ -99,7 +99,7 @@ fn read_prefix(text: &[u8]) -> Option<u8>
 }
 
 // Whether the text begins as a plain number does. `parse` takes a sign and leading zeros too.
-fn is_plain(text: &[u8]) -> bool
+fn begins_plainly(text: &[u8]) -> bool
     ensures { result ≡ begins_plainly text.now }
 {
     match text {

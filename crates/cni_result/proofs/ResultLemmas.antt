@@ -2,7 +2,9 @@
 use Rattle.std.proofs.Common.{◌≡◌, false, refl}
 use Rattle.serde_json.specs.Written.{has_float, members_have_float}
 use Rattle.cni_result.proofs.WholeNumbers.{puts_are_whole}
+use Rattle.cni_result.specs.Mappings.{mapping_data}
 use Rattle.cni_result.specs.Results.{interface_data, ip_data, route_data, dns_members, result_members, error_data}
+use Rattle.cni_result.specs.declared.cached.PortMapping.{PortMapping}
 use Rattle.cni_result.specs.declared.error.CniError.{CniError}
 use Rattle.cni_result.specs.declared.result.AddResult.{AddResult}
 use Rattle.cni_result.specs.declared.result.Dns.{Dns}
@@ -34,3 +36,7 @@ result_is_whole result = search (puts_are_whole, interface_is_whole, ip_is_whole
 pub error_is_whole : (error : CniError) → has_float (error_data error) ≡ false
 unfolding error_data
 error_is_whole error = search puts_are_whole depth 8
+
+pub mapping_is_whole : (mapping : PortMapping) → has_float (mapping_data mapping) ≡ false
+unfolding mapping_data
+mapping_is_whole mapping = search puts_are_whole depth 8

@@ -1,26 +1,13 @@
 -- What is printed has no number outside u64 and i64: what `line` of `cni_json` asks for.
-use Rattle.std.proofs.Common.{◌≡◌, ℕ, List, [], ◌∷◌, map, Bool, true, false, Option, Some, None, Ordering, Less, Equal, Greater, nat_cmp, refl}
-use Rattle.std.proofs.lemmas.Bool.{or_parts}
-use Rattle.std.specs.Cmp.Lexicographic.{slice_cmp}
-use Rattle.std.specs.Ordering.{match_ordering}
+use Rattle.std.proofs.Common.{◌≡◌, ℕ, List, [], ◌∷◌, map, Bool, true, false, Option, Some, None, refl}
 use Rattle.serde_json.specs.Data.{Data, object, Members, no_members, member, put}
 use Rattle.serde_json.specs.View.{items_of}
 use Rattle.serde_json.specs.Written.{has_float, items_have_float, members_have_float}
+use Rattle.cni_json.proofs.Building.{members_have_float-put}
 use Rattle.cni_result.specs.Members.{list_data, put_if, put_if_true, put_text_unless_empty, put_list_unless_empty, put_object_unless_empty}
 
-by_order : (o : Ordering) (a b c : Members) → members_have_float a ≡ false → members_have_float b ≡ false → members_have_float c ≡ false → members_have_float (match_ordering o a b c) ≡ false
-by_order Less a b c x y z = x
-by_order Equal a b c x y z = y
-by_order Greater a b c x y z = z
-
-both : (d : Data) (ms : Members) (k : List ℕ) → has_float d ≡ false → members_have_float ms ≡ false → members_have_float (member k d ms) ≡ false
-both d ms k here rest = rw here rest
-
 pub put_is_whole : (k : List ℕ) (d : Data) (ms : Members) → has_float d ≡ false → members_have_float ms ≡ false → members_have_float (put k d ms) ≡ false
-put_is_whole k d no_members here rest = both d no_members k here refl
-put_is_whole k d (member l e ms) here rest =
-    let parts = or_parts (has_float e) _ rest in
-    by_order (slice_cmp nat_cmp k l) _ _ _ (both d (member l e ms) k here rest) (both d ms l here parts.1) (both e (put k d ms) l parts.0 (put_is_whole k d ms here parts.1))
+put_is_whole k d ms here rest = members_have_float-put k d ms here rest
 
 pub items_are_whole : {A : Type 0} (f : A → Data) (xs : List A) → ((x : A) → has_float (f x) ≡ false) → items_have_float (items_of (map f xs)) ≡ false
 items_are_whole f [] each = refl

@@ -5,14 +5,23 @@
 #![tactic(auto)]
 
 pub mod cached;
+mod dns;
+mod entries;
 pub mod error;
+mod fields;
+pub mod laws;
 pub mod members;
 pub mod printing;
+pub mod reading;
+pub mod refusal;
 pub mod result;
 pub mod version;
 
 pub use cached::{Cached, PortMapping, Proto};
 pub use error::CniError;
-pub use members::JsonObject;
+pub use members::{JsonObject, ToJson, list_value};
+pub use printing::{error_value, proto_text, result_line, to_value, version_text};
+pub use reading::read_result;
+pub use refusal::ResultError;
 pub use result::{AddResult, Dns, Interface, IpEntry, RouteEntry};
 pub use version::Version;

@@ -43,6 +43,14 @@ impl ToJson for u32 {
     }
 }
 
+impl ToJson for u64 {
+    ghost json = { number_data };
+
+    fn to_json(&self, _alloc: Global) -> Result<Value, NoMemory> {
+        Ok(Value::from(*self))
+    }
+}
+
 impl ToJson for bool {
     ghost json = { boolean };
 

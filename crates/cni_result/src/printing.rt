@@ -1,16 +1,22 @@
 //! Results and errors as JSON (CNI specification 1.1.0, section 5).
 
-ghost use Rattle.std.specs.Prelude.{◌≡◌, false, IfOk};
+ghost use Rattle.std.specs.Prelude.{◌≡◌, false, IfOk, Ok};
 ghost use Rattle.serde_json.specs.View.{view};
 ghost use Rattle.serde_json.specs.Written.{has_float};
 ghost use Rattle.cni_result.specs.Members.{list_data, members_of};
+ghost use Rattle.cni_json.specs.Json.{line_of};
+ghost use Rattle.cni_result.specs.Laws.{IsReadable};
+ghost use Rattle.cni_result.specs.Mappings.{proto_text, proto_data, mapping_data};
+ghost use Rattle.cni_result.specs.Reading.{result_of_bytes};
 ghost use Rattle.cni_result.specs.Results.{version_text, version_data, addr_data, cidr_data, mac_data, mtu_at, interface_data, ip_data, route_data, dns_members, result_members, result_data, error_data};
 
+use crate::cached::{PortMapping, Proto};
 use crate::error::CniError;
 use crate::members::{JsonObject, ToJson};
 use crate::result::{AddResult, Dns, Interface, IpEntry, RouteEntry};
 use crate::version::Version;
 use cni_addr::{Addr, Cidr, Mac, NoMemory, write_addr, write_cidr, write_mac};
+use cni_json::{LineNoMemory, line};
 use serde_json::Value;
 use std::alloc::Global;
 
@@ -157,6 +163,19 @@ pub fn to_value(alloc: Global, added: &AddResult) -> Result<Value, NoMemory>
     Ok(result_object(alloc, added)?.into_value())
 }
 
+/// The result on a line of its own, as a plugin prints it. [`read_result`](crate::read_result) reads it again as the same
+/// result, if there is no `mtu` before 1.1.0 and each address is on an interface of the list or on none.
+pub fn result_line(alloc: Global, added: &AddResult) -> Result<Vec<u8>, NoMemory>
+    ensures text { IfOk result (λ text. text.items ≡ line_of (result_data added.now)) }
+    ensures again { IfOk result (λ text. IsReadable added.now → result_of_bytes text.items ≡ Ok added.now) }
+{
+    let value = to_value(alloc, added)?;
+    match line(alloc, &value) {
+        Ok(text) => Ok(text),
+        Err(LineNoMemory) => Err(NoMemory),
+    }
+}
+
 /// The error as JSON.
 #[tactic(auto, using(crate::proofs::ResultLemmas::error_is_whole), unfolding(crate::specs::Results::error_data))]
 pub fn error_value(alloc: Global, error: &CniError) -> Result<Value, NoMemory>
@@ -169,4 +188,37 @@ pub fn error_value(alloc: Global, error: &CniError) -> Result<Value, NoMemory>
     object.put("details", &error.details)?;
     object.put("msg", &error.msg)?;
     Ok(object.into_value())
+}
+
+/// The protocol as the `portmap` plugin is configured with it. Takes no memory.
+pub fn proto_text(protocol: Proto) -> &'static str
+    ensures { result.now ≡ proto_text protocol }
+{
+    match protocol {
+        Proto::Tcp => "tcp",
+        Proto::Udp => "udp",
+        Proto::Sctp => "sctp",
+    }
+}
+
+impl ToJson for Proto {
+    ghost json = { proto_data };
+
+    fn to_json(&self, alloc: Global) -> Result<Value, NoMemory> {
+        Ok(Value::try_from_str(alloc, proto_text(*self))?)
+    }
+}
+
+impl ToJson for PortMapping {
+    ghost json = { mapping_data };
+
+    #[tactic(auto, unfolding(crate::specs::Mappings::mapping_data))]
+    fn to_json(&self, alloc: Global) -> Result<Value, NoMemory> {
+        let mut object = JsonObject::new(alloc);
+        object.put("containerPort", &self.container_port)?;
+        object.put_if("hostIP", &self.host_ip)?;
+        object.put("hostPort", &self.host_port)?;
+        object.put("protocol", &self.protocol)?;
+        Ok(object.into_value())
+    }
 }

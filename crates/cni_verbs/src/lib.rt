@@ -2,5 +2,11 @@
 #![tactic(auto)]
 
 pub mod answer;
+mod counts;
+pub mod laws;
+mod leased;
+mod phase;
+pub mod run;
 
 pub use answer::{Answer, Cause, Ending, Skip, WordFaults};
+pub use run::Run;

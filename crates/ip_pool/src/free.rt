@@ -23,7 +23,8 @@ fn address_at(range: &Range, bits: u128) -> Addr
 
 /// Whether the address is free and not the range's gateway.
 fn may_lease<T: Taken>(range: &Range, addr: &Addr, taken: &T) -> bool
-    ensures { result ≡ (not (addr_eq addr.now range.now.gateway) && is_free (T.taken taken.now) addr.now) }
+    ensures { result ≡ (not (addr_eq addr.now range.now.gateway)
+        && is_free (T.taken taken.now) addr.now) }
 {
     *addr != range.gateway && !taken.has(addr)
 }
@@ -31,7 +32,8 @@ fn may_lease<T: Taken>(range: &Range, addr: &Addr, taken: &T) -> bool
 /// The first free candidate of the range from the number `low` to below `high`.
 fn first_free_between<T: Taken>(range: &Range, low: u128, high: u128, taken: &T) -> Option<Addr>
     requires { high ≤ range.now.end.bits + 1 }
-    ensures { result ≡ find (is_free (T.taken taken.now)) (candidates_between range.now low high) }
+    ensures { result ≡ find (is_free (T.taken taken.now))
+        (candidates_between range.now low high) }
 {
     for bits in low..high {
         let addr = address_at(range, bits);
@@ -71,7 +73,8 @@ pub(crate) fn first_free_round<T: Taken>(
     taken: &T,
 ) -> Option<Addr>
     requires { last.now.bits ≤ range.now.end.bits }
-    ensures { result ≡ find (is_free (T.taken taken.now)) (way_round range.now earlier.now later.now last.now.bits) }
+    ensures { result ≡ find (is_free (T.taken taken.now))
+        (way_round range.now earlier.now later.now last.now.bits) }
 {
     first_free_between(range, last.bits + 1, range.end.bits + 1, taken)
         .or_else(|| first_free(later, taken))

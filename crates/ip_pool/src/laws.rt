@@ -1,6 +1,8 @@
 //! Laws of the candidates and of the choice, as functions without a body: a caller learns the law by the call.
 
-ghost use Rattle.ip_pool.specs.Laws.{CandidatesAreListed, CandidatesAreDistinct, ApartSharesNone, PickIsNextAddress, NextAddressIsOne, PickIsFreeCandidate, NoneWhereExhausted};
+ghost use Rattle.ip_pool.specs.Laws.{CandidatesAreListed, CandidatesAreDistinct, ApartSharesNone};
+ghost use Rattle.ip_pool.specs.Laws.{PickIsNextAddress, PickIsFreeCandidate, NoneWhereExhausted};
+ghost use Rattle.ip_pool.specs.Laws.{NextAddressIsOne};
 
 /// An address is listed among the candidates exactly where it is one.
 pub fn candidates_are_listed()

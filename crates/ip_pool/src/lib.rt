@@ -78,7 +78,8 @@ pub fn pick<T: Taken>(set: &RangeSet, last: Option<Addr>, taken: &T) -> Option<A
 /// Takes no memory, and at most as many questions to `taken` as there are candidates.
 pub fn has_free<T: Taken>(set: &RangeSet, taken: &T) -> bool
     ensures free { result ≡ has_free_of set.now (T.taken taken.now) }
-    ensures left { MatchBool result (HasFree set.now (T.taken taken.now)) (IsExhausted set.now (T.taken taken.now)) }
+    ensures left { MatchBool result
+        (HasFree set.now (T.taken taken.now)) (IsExhausted set.now (T.taken taken.now)) }
 {
     first_free(set.ranges.as_slice(), taken).is_some()
 }

@@ -91,7 +91,7 @@ pub(crate) fn has_host_bridge(links: &[Link], name: &Text) -> bool
 }
 
 /// Whether some attachment owns what has this tag.
-fn is_owned(tag: &Tag) -> bool
+pub(crate) fn is_owned(tag: &Tag) -> bool
     ensures { result ≡ is_owned tag.now }
 {
     matches!(tag, Tag::Own(_))

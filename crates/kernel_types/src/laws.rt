@@ -5,7 +5,7 @@
 //! `LeasedAddress` what follows.
 
 ghost use Rattle.std.specs.Prelude.{◌≡◌, true, false, Contains, Some};
-ghost use Rattle.ip_pool.specs.NextAddress.{is_candidate, is_taken};
+ghost use Rattle.ip_pool.specs.NextAddress.{is_candidate, is_taken, IsExhausted, IsNextAddress};
 ghost use Rattle.kernel_types.specs.Allowed.{IsAllowed};
 ghost use Rattle.kernel_types.specs.Apply.{apply};
 ghost use Rattle.kernel_types.specs.Apply.Calls.{goes_with, last_leased, lease_next_of, leased_addresses};
@@ -118,4 +118,23 @@ pub fn a_leased_address_was_free(
     ensures candidate { is_candidate set.now address.now ≡ true }
     ensures free { is_taken (leased_addresses host.now att.now.network) address.now ≡ false }
     ensures last { last_leased (lease_next_of host.now att.now number set.now).0 att.now.network number ≡ Some address.now }
+{}
+
+/// The address that LeaseNext replies is the next after the pool's last one: every candidate on the way to it is leased.
+pub fn a_leased_address_is_the_next(
+    host: &Host,
+    att: &Att,
+    number: u32,
+    set: &RangeSet,
+    address: &Addr,
+)
+    requires allowed { IsAllowed host.now (Call.LeaseNext att.now number set.now) }
+    requires leased { (lease_next_of host.now att.now number set.now).1 ≡ Reply.Leased address.now }
+    ensures { IsNextAddress set.now (last_leased host.now att.now.network number) (leased_addresses host.now att.now.network) address.now }
+{}
+
+/// Where LeaseNext replies that none is left, every candidate of the set is leased.
+pub fn no_address_is_left_where_empty(host: &Host, att: &Att, number: u32, set: &RangeSet)
+    requires { (lease_next_of host.now att.now number set.now).1 ≡ Reply.Empty }
+    ensures { IsExhausted set.now (leased_addresses host.now att.now.network) }
 {}

@@ -24,18 +24,14 @@ fn same_addr<'a>(addresses: &'a [AddrObj], obj: &AddrObj) -> Option<&'a AddrObj>
 fn same_route<'a>(routes: &'a [RouteObj], obj: &RouteObj) -> Option<&'a RouteObj>
     ensures { option_copied result ≡ find (is_same_route obj.now) routes.now }
 {
-    routes
-        .iter()
-        .find(|r| r.ns == obj.ns && r.dst == obj.dst && r.link == obj.link)
+    routes.iter().find(|r| r.ns == obj.ns && r.dst == obj.dst && r.link == obj.link)
 }
 
 /// The setting of the same place and key.
 fn same_setting<'a>(settings: &'a [Setting], obj: &Setting) -> Option<&'a Setting>
     ensures { option_copied result ≡ find (is_same_setting obj.now) settings.now }
 {
-    settings
-        .iter()
-        .find(|s| s.ns == obj.ns && s.key == obj.key)
+    settings.iter().find(|s| s.ns == obj.ns && s.key == obj.key)
 }
 
 impl ListKernel {

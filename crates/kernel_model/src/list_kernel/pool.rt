@@ -54,7 +54,7 @@ fn last_of<'a>(lasts: &'a [Last], network: &Text, number: u32) -> Option<&'a Las
     lasts.iter().find(|l| is_of_pool(network, number, l))
 }
 
-fn last_leased(lasts: &[Last], network: &Text, number: u32) -> Option<Addr>
+pub(super) fn last_leased(lasts: &[Last], network: &Text, number: u32) -> Option<Addr>
     ensures { result ≡ option_map (λ l. l.addr) (find (is_of_pool network.now number) lasts.now) }
 {
     match last_of(lasts, network, number) {

@@ -37,9 +37,7 @@ fn new_bridge(alloc: Global, name: &Text, mtu: u32, promisc: bool) -> Result<Lin
 fn has_host_address(addresses: &[AddrObj], link: &Text, addr: &Addr) -> bool
     ensures { result ≡ list_any (λ a. is_host_ns a.ns && bytes_eq a.link link.now && addr_eq a.cidr.addr addr.now) addresses.now }
 {
-    addresses
-        .iter()
-        .any(|a| is_host_ns(&a.ns) && a.link == *link && a.cidr.addr == *addr)
+    addresses.iter().any(|a| is_host_ns(&a.ns) && a.link == *link && a.cidr.addr == *addr)
 }
 
 /// The host's switch that lets it forward packets of the family (Linux, `ip-sysctl`).

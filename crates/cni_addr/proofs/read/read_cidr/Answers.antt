@@ -1,4 +1,4 @@
-use Rattle.std.proofs.Common.{◌≡◌, ◌≤◌, ◌<◌, ℕ, Some, None, refl, sym, ap, ◌∙◌, subst, arith}
+use Rattle.std.proofs.Common.{◌≡◌, ◌≤◌, ◌<◌, ℕ, Some, None, refl, sym, ap, ◌∙◌, subst}
 use Rattle.cni_addr.specs.Value.{AddrValue, longest_prefix}
 use Rattle.cni_addr.proofs.CidrTexts.{none_without_slash, read_parts, without_prefix, fitting_prefix, long_prefix}
 use Rattle.cni_addr.proofs.read.read_cidr.Goals as goal

@@ -1,4 +1,4 @@
-use Rattle.std.proofs.Common.{◌≡◌, ◌++◌, get_or, ap, ◌∙◌, arith}
+use Rattle.std.proofs.Common.{◌++◌, get_or, ap, ◌∙◌, arith}
 use Rattle.std.specs.String.{string_bytes}
 use Rattle.cni_addr.specs.MacText.{byte_text}
 use Rattle.cni_addr.proofs.MacTexts.{first_byte, next_byte}

@@ -1,7 +1,6 @@
 use Rattle.std.proofs.Common.{◌≡◌, ◌∙◌, sym, ◌++◌, ◌∷◌, [], ap, rules, true, false}
 use Rattle.std.specs.List.{list_any}
 use Rattle.kernel_types.specs.Equal.{att_eq}
-use Rattle.kernel_types.specs.Lists.{firsts}
 use Rattle.kernel_model.proofs.EachOnce.{firsts-known, firsts-new}
 use Rattle.kernel_model.proofs.owners.add_owner.Goals as goal
 

@@ -1,0 +1,149 @@
+//! Values from outside, and each public call once.
+
+use super::*;
+use std::test::Fail;
+
+fn v4(bits: u32) -> Addr {
+    Addr {
+        family: Family::V4,
+        bits: u128::from(bits),
+    }
+}
+
+fn slash_16(bits: u32) -> Cidr {
+    Cidr {
+        addr: v4(bits),
+        prefix: 16,
+    }
+}
+
+#[test]
+fn reads_and_writes_addresses(rt: HostRuntime) -> Result<(), Fail> {
+    assert_eq!(rt; read_addr(b"10.88.0.2"), Some(v4(173_539_330)));
+    assert_eq!(rt; read_addr(b"0.0.0.0"), Some(v4(0)));
+    assert_eq!(rt; read_addr(b"255.255.255.255"), Some(v4(0xffff_ffff)));
+    assert_eq!(rt;
+        write_addr(rt.alloc(), &v4(0x0a58_0002))?.as_str(),
+        "10.88.0.2"
+    );
+    assert_eq!(rt;
+        write_addr(rt.alloc(), &v4(0xc0a8_64ff))?.as_str(),
+        "192.168.100.255"
+    );
+    Ok(())
+}
+
+#[test]
+fn refuses_other_addresses(rt: HostRuntime) {
+    for text in [
+        "",
+        "10.0.0.01",
+        "256.0.0.1",
+        "10.0.0",
+        "10.0.0.1.",
+        " 10.0.0.1",
+        "10.0.0.1/8",
+        "::1",
+    ] {
+        assert_eq!(rt; read_addr(text.as_bytes()), None, "{text}");
+    }
+}
+
+#[test]
+fn reads_and_writes_networks(rt: HostRuntime) -> Result<(), Fail> {
+    assert_eq!(rt; read_cidr(b"10.88.0.2/16"), Some(slash_16(0x0a58_0002)));
+    for text in [
+        "10.88.0.2/16",
+        "0.0.0.0/0",
+        "10.0.0.1/9",
+        "255.255.255.255/32",
+    ] {
+        let cidr = read_cidr(text.as_bytes()).ok_or("no network")?;
+        assert_eq!(rt; write_cidr(rt.alloc(), &cidr)?.as_str(), text);
+    }
+    for text in [
+        "",
+        "/",
+        "10.0.0.0",
+        "10.0.0.0/",
+        "/8",
+        "10.0.0.0/33",
+        "10.0.0.0/08",
+        "10.0.0.0/+8",
+        "10.0.0.0/00",
+        "10.0.0.0/256",
+        "10.0.0.0/8/8",
+        "10.0.0.0/8 ",
+        "::/0",
+    ] {
+        assert_eq!(rt; read_cidr(text.as_bytes()), None, "{text}");
+    }
+    assert_eq!(rt; read_cidr(b"10.0.0.0/\xff"), None);
+    Ok(())
+}
+
+#[test]
+fn reads_and_writes_hardware_addresses(rt: HostRuntime) -> Result<(), Fail> {
+    let mac = read_mac(b"0A:BA:78:16:BF:8F").ok_or("no hardware address")?;
+    assert_eq!(rt;
+        mac,
+        Mac {
+            bytes: [0x0a, 0xba, 0x78, 0x16, 0xbf, 0x8f]
+        }
+    );
+    assert_eq!(rt; write_mac(rt.alloc(), &mac)?.as_str(), "0a:ba:78:16:bf:8f");
+    assert_eq!(rt; read_mac(b"0a:bA:78:16:bf:8f"), Some(mac));
+    for text in [
+        "",
+        "0a:ba:78:16:bf",
+        "0a:ba:78:16:bf:8f:",
+        "0a-ba-78-16-bf-8f",
+        "0a:ba:78:16:bf-8f",
+        "0a:ba:78:16:bf:8g",
+        "a:ba:78:16:bf:8ff",
+        "0abb:78:16:bf:8f:",
+    ] {
+        assert_eq!(rt; read_mac(text.as_bytes()), None, "{text}");
+    }
+    Ok(())
+}
+
+#[test]
+fn finds_the_ends_of_networks(rt: HostRuntime) {
+    let cidr = slash_16(0x0a58_0002);
+    assert_eq!(rt; network_of(&cidr), slash_16(0x0a58_0000));
+    assert_eq!(rt; last_of(&cidr), v4(0x0a58_ffff));
+    assert!(rt; contains(&cidr, &v4(0x0a58_ffff)));
+    assert!(rt; !contains(&cidr, &v4(0x0a59_0000)));
+    let all = Cidr {
+        addr: v4(0x0a58_0002),
+        prefix: 0,
+    };
+    assert_eq!(rt; network_of(&all).addr, v4(0));
+    assert_eq!(rt; last_of(&all), v4(0xffff_ffff));
+    let one = whole(&v4(0x0a58_0002));
+    assert_eq!(rt; one.prefix, 32);
+    assert_eq!(rt; network_of(&one), one);
+    assert_eq!(rt; last_of(&one), v4(0x0a58_0002));
+}
+
+#[test]
+fn steps_to_the_next_address(rt: HostRuntime) {
+    assert_eq!(rt; next_addr(&v4(0x0a00_00ff)), Some(v4(0x0a00_0100)));
+    assert_eq!(rt; next_addr(&v4(0xffff_ffff)), None);
+}
+
+#[test]
+fn keeps_texts_and_lists(rt: HostRuntime) -> Result<(), Fail> {
+    let text = Text::of(rt.alloc(), "a")?;
+    assert_eq!(rt; text.as_str(), "a");
+    assert!(rt; text.copy()? == text);
+    let mut numbers = Items::new(rt.alloc());
+    numbers.push(1u8)?;
+    assert_eq!(rt; numbers.as_slice(), [1].as_slice());
+    let mut items = Items::new(rt.alloc());
+    items.push(text)?;
+    let twin = Items::of_vec(items.copy()?.into_vec());
+    assert!(rt; twin == items);
+    Ok(())
+}

@@ -1,0 +1,158 @@
+-- The entries of a result that were printed are read again.
+use Rattle.std.proofs.Common.{◌≡◌, ℕ, List, Option, Some, None, option_map, Ok, refl, ap, sym, ◌∙◌}
+use Rattle.std.specs.Prelude.{codes, IfSome}
+use Rattle.serde_json.specs.Data.{Data, object, Members, no_members, put}
+use Rattle.serde_json.specs.Find.{as_str, get_member}
+use Rattle.cni_addr.proofs.AddrTexts.{spelled_is_read, written_is_spelled}
+use Rattle.cni_addr.proofs.CidrTexts.{network_spelled_is_read, network_written_is_spelled}
+use Rattle.cni_addr.proofs.MacTexts.{mac_spelled_is_read, mac_written_is_spelled}
+use Rattle.cni_addr.specs.AddrText.{addr_text, addr_of_text}
+use Rattle.cni_addr.specs.CidrText.{cidr_text, cidr_of_text}
+use Rattle.cni_addr.specs.MacText.{mac_text, mac_of_text, IsMac}
+use Rattle.cni_addr.specs.Network.{IsCidr}
+use Rattle.cni_addr.specs.Value.{AddrValue, CidrValue, IsAddr}
+use Rattle.cni_addr.specs.declared.mac.Mac.{Mac}
+use Rattle.cni_json.specs.Fields.{field_of, u64_of}
+use Rattle.cni_result.proofs.Lookups.{at_other, at_other_if, at_key, at_key_if}
+use Rattle.cni_result.proofs.ReadAgain.{needed_again, optional_again, number_again}
+use Rattle.cni_result.specs.Fields.{needed, optional, as_it_is, in_32_bits}
+use Rattle.cni_result.specs.Laws.{HasMtuOf, IsInterfaceOf, IsIpEntry, IsRouteEntry}
+use Rattle.cni_result.specs.Members.{text_data, number_data, ◌▷◌, put_if}
+use Rattle.cni_result.specs.Reading.{text_at, text_if_at, cidr_at, addr_if_at, mac_if_at, number_if_at, mtu_if_at, interface_at, ip_at, route_at}
+use Rattle.cni_result.specs.Results.{mac_data, addr_data, cidr_data, mtu_at, interface_data, ip_data, route_data}
+use Rattle.cni_result.specs.declared.result.Interface.{Interface}
+use Rattle.cni_result.specs.declared.result.IpEntry.{IpEntry}
+use Rattle.cni_result.specs.declared.result.RouteEntry.{RouteEntry}
+use Rattle.cni_result.specs.declared.version.Version.{Version}
+use Rattle.cni_result.specs.declared.version.Version.TheVariants.{V1_0, V1_1}
+
+-- ---- addresses
+
+pub cidr_read : (c : CidrValue) → IsCidr c → cidr_of_text (cidr_text c) ≡ Some c
+cidr_read c kept = network_spelled_is_read (cidr_text c) c (network_written_is_spelled c kept)
+
+addr_if_read : (o : Option AddrValue) → IfSome o IsAddr → IfSome o (λ a. addr_of_text (addr_text a) ≡ Some a)
+addr_if_read None kept = tt
+addr_if_read (Some a) kept = spelled_is_read (addr_text a) a (written_is_spelled a kept)
+
+mac_if_read : (o : Option Mac) → IfSome o IsMac → IfSome o (λ m. mac_of_text (mac_text m) ≡ Some m)
+mac_if_read None kept = tt
+mac_if_read (Some m) kept = mac_spelled_is_read (mac_text m) m (mac_written_is_spelled m kept)
+
+text_if_read : (o : Option (List ℕ)) → IfSome o (λ t. as_it_is t ≡ Some t)
+text_if_read None = tt
+text_if_read (Some t) = refl
+
+-- ---- an interface
+
+-- its members up to one
+abbrev up_to_mac : Interface → Members
+up_to_mac i = no_members ▷ put_if mac_data (codes "mac") i.mac
+
+abbrev up_to_mtu : Version → Interface → Members
+up_to_mtu version i = up_to_mac i ▷ put_if number_data (codes "mtu") (mtu_at version i.mtu)
+
+abbrev up_to_name : Version → Interface → Members
+up_to_name version i = up_to_mtu version i ▷ put (codes "name") (text_data i.name)
+
+name_again : (version : Version) (i : Interface) → text_at (codes "interfaces") (codes "name") (interface_data version i) ≡ Ok i.name
+unfolding text_at interface_data
+name_again version i =
+    ap (λ g. needed (codes "interfaces") as_it_is (field_of as_str g))
+        (at_other_if text_data (codes "name") (codes "sandbox") i.sandbox (up_to_name version i) refl ∙ at_key (codes "name") (text_data i.name) (up_to_mtu version i))
+
+mac_again : (version : Version) (i : Interface) → IfSome i.mac IsMac → mac_if_at (codes "interfaces") (codes "mac") (interface_data version i) ≡ Ok i.mac
+unfolding mac_if_at interface_data
+mac_again version i kept =
+    ap (λ g. optional (codes "interfaces") mac_of_text (field_of as_str g))
+        (at_other_if text_data (codes "mac") (codes "sandbox") i.sandbox (up_to_name version i) refl
+            ∙ at_other (codes "mac") (codes "name") (text_data i.name) (up_to_mtu version i) refl
+            ∙ at_other_if number_data (codes "mac") (codes "mtu") (mtu_at version i.mtu) (up_to_mac i) refl
+            ∙ at_key_if mac_data (codes "mac") i.mac no_members refl)
+        ∙ optional_again (codes "interfaces") mac_of_text mac_text i.mac (mac_if_read i.mac kept)
+
+sandbox_again : (version : Version) (i : Interface) → text_if_at (codes "interfaces") (codes "sandbox") (interface_data version i) ≡ Ok i.sandbox
+unfolding text_if_at interface_data
+sandbox_again version i =
+    ap (λ g. optional (codes "interfaces") as_it_is (field_of as_str g))
+        (at_key_if text_data (codes "sandbox") i.sandbox (up_to_name version i)
+            (at_other (codes "sandbox") (codes "name") (text_data i.name) (up_to_mtu version i) refl
+                ∙ at_other_if number_data (codes "sandbox") (codes "mtu") (mtu_at version i.mtu) (up_to_mac i) refl
+                ∙ at_other_if mac_data (codes "sandbox") (codes "mac") i.mac no_members refl))
+        ∙ optional_again (codes "interfaces") as_it_is (λ t. t) i.sandbox (text_if_read i.sandbox)
+
+mtu_again : (version : Version) (i : Interface) → HasMtuOf version i → mtu_if_at version (interface_data version i) ≡ Ok i.mtu
+unfolding number_if_at interface_data
+mtu_again V1_0 i has = ap Ok (sym has)
+mtu_again V1_1 i has =
+    ap (λ g. optional (codes "interfaces") in_32_bits (field_of u64_of g))
+        (at_other_if text_data (codes "mtu") (codes "sandbox") i.sandbox (up_to_name V1_1 i) refl
+            ∙ at_other (codes "mtu") (codes "name") (text_data i.name) (up_to_mtu V1_1 i) refl
+            ∙ at_key_if number_data (codes "mtu") i.mtu (up_to_mac i) (at_other_if mac_data (codes "mtu") (codes "mac") i.mac no_members refl))
+        ∙ number_again (codes "interfaces") i.mtu has
+
+pub interface_again : (version : Version) (i : Interface) → IsInterfaceOf version i → interface_at version (interface_data version i) ≡ Ok i
+unfolding interface_at
+interface_again version i kept =
+    rw (name_again version i, mac_again version i kept.mac, mtu_again version i kept.mtu, sandbox_again version i) refl
+
+-- ---- an address
+
+abbrev up_to_address : IpEntry → Members
+up_to_address ip = no_members ▷ put (codes "address") (cidr_data ip.address)
+
+abbrev up_to_gateway : IpEntry → Members
+up_to_gateway ip = up_to_address ip ▷ put_if addr_data (codes "gateway") ip.gateway
+
+address_again : (ip : IpEntry) → IsCidr ip.address → cidr_at (codes "ips") (codes "address") (ip_data ip) ≡ Ok ip.address
+unfolding cidr_at ip_data
+address_again ip kept =
+    ap (λ g. needed (codes "ips") cidr_of_text (field_of as_str g))
+        (at_other_if number_data (codes "address") (codes "interface") ip.interface (up_to_gateway ip) refl
+            ∙ at_other_if addr_data (codes "address") (codes "gateway") ip.gateway (up_to_address ip) refl
+            ∙ at_key (codes "address") (cidr_data ip.address) no_members)
+        ∙ needed_again (codes "ips") cidr_of_text (cidr_text ip.address) ip.address (cidr_read ip.address kept)
+
+gateway_again : (ip : IpEntry) → IfSome ip.gateway IsAddr → addr_if_at (codes "ips") (codes "gateway") (ip_data ip) ≡ Ok ip.gateway
+unfolding addr_if_at ip_data
+gateway_again ip kept =
+    ap (λ g. optional (codes "ips") addr_of_text (field_of as_str g))
+        (at_other_if number_data (codes "gateway") (codes "interface") ip.interface (up_to_gateway ip) refl
+            ∙ at_key_if addr_data (codes "gateway") ip.gateway (up_to_address ip) (at_other (codes "gateway") (codes "address") (cidr_data ip.address) no_members refl))
+        ∙ optional_again (codes "ips") addr_of_text addr_text ip.gateway (addr_if_read ip.gateway kept)
+
+index_again : (ip : IpEntry) → IsIpEntry ip → number_if_at (codes "ips") (codes "interface") (ip_data ip) ≡ Ok ip.interface
+unfolding number_if_at ip_data
+index_again ip kept =
+    ap (λ g. optional (codes "ips") in_32_bits (field_of u64_of g))
+        (at_key_if number_data (codes "interface") ip.interface (up_to_gateway ip)
+            (at_other_if addr_data (codes "interface") (codes "gateway") ip.gateway (up_to_address ip) refl
+                ∙ at_other (codes "interface") (codes "address") (cidr_data ip.address) no_members refl))
+        ∙ number_again (codes "ips") ip.interface kept.interface
+
+pub ip_again : (ip : IpEntry) → IsIpEntry ip → ip_at (ip_data ip) ≡ Ok ip
+unfolding ip_at
+ip_again ip kept = rw (address_again ip kept.address, gateway_again ip kept.gateway, index_again ip kept) refl
+
+-- ---- a route
+
+abbrev up_to_dst : RouteEntry → Members
+up_to_dst route = no_members ▷ put (codes "dst") (cidr_data route.dst)
+
+dst_again : (route : RouteEntry) → IsCidr route.dst → cidr_at (codes "routes") (codes "dst") (route_data route) ≡ Ok route.dst
+unfolding cidr_at route_data
+dst_again route kept =
+    ap (λ g. needed (codes "routes") cidr_of_text (field_of as_str g))
+        (at_other_if addr_data (codes "dst") (codes "gw") route.gw (up_to_dst route) refl ∙ at_key (codes "dst") (cidr_data route.dst) no_members)
+        ∙ needed_again (codes "routes") cidr_of_text (cidr_text route.dst) route.dst (cidr_read route.dst kept)
+
+gw_again : (route : RouteEntry) → IfSome route.gw IsAddr → addr_if_at (codes "routes") (codes "gw") (route_data route) ≡ Ok route.gw
+unfolding addr_if_at route_data
+gw_again route kept =
+    ap (λ g. optional (codes "routes") addr_of_text (field_of as_str g))
+        (at_key_if addr_data (codes "gw") route.gw (up_to_dst route) (at_other (codes "gw") (codes "dst") (cidr_data route.dst) no_members refl))
+        ∙ optional_again (codes "routes") addr_of_text addr_text route.gw (addr_if_read route.gw kept)
+
+pub route_again : (route : RouteEntry) → IsRouteEntry route → route_at (route_data route) ≡ Ok route
+unfolding route_at
+route_again route kept = rw (dst_again route kept.dst, gw_again route kept.gw) refl

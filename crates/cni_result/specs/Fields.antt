@@ -1,0 +1,58 @@
+-- Members of an object that is read, each with the key that is to blame where it is wrong.
+use Rattle.std.specs.Prelude.{ℕ, ◌^◌, List, [], ◌∷◌, ◌++◌, nat_lt, if◌then◌else◌, Option, Some, None, Result, Ok, Err}
+use Rattle.serde_json.specs.Data.{Data, Items, no_items, item}
+use Rattle.cni_json.specs.Outcome.{◌>>=◌}
+use Rattle.cni_json.specs.declared.fields.Field.{Field}
+use Rattle.cni_json.specs.declared.fields.Field.TheVariants.{Absent, WrongKind, Here}
+use Rattle.cni_result.specs.Refusals.{invalid}
+use Rattle.cni_result.specs.declared.refusal.ResultError.{ResultError}
+
+-- the value that was read, if one was
+abbrev pub read_or : {A : Type 0} → List ℕ → Option A → Result A ResultError
+read_or blamed None = invalid blamed
+read_or blamed (Some x) = Ok x
+
+-- the same of a member that is there
+abbrev pub given : {A : Type 0} → List ℕ → Option A → Result (Option A) ResultError
+given blamed None = invalid blamed
+given blamed (Some x) = Ok (Some x)
+
+-- a member that must be there
+abbrev pub needed : {A B : Type 0} → List ℕ → (A → Option B) → Field A → Result B ResultError
+needed blamed read Absent = invalid blamed
+needed blamed read WrongKind = invalid blamed
+needed blamed read (Here x) = read_or blamed (read x)
+
+-- a member that may be absent
+abbrev pub optional : {A B : Type 0} → List ℕ → (A → Option B) → Field A → Result (Option B) ResultError
+optional blamed read Absent = Ok None
+optional blamed read WrongKind = invalid blamed
+optional blamed read (Here x) = given blamed (read x)
+
+-- each item is read, up to the first refusal
+abbrev pub each : {A : Type 0} → (Data → Result A ResultError) → Items → Result (List A) ResultError
+each read no_items = Ok []
+each read (item d ds) = do
+  first ← read d
+  rest ← each read ds
+  Ok (first ∷ rest)
+
+-- these first, and then those that are read
+abbrev pub with_front : {A : Type 0} → List A → Result (List A) ResultError → Result (List A) ResultError
+with_front front r = do
+  rest ← r
+  Ok (front ++ rest)
+
+-- a list that may be absent, and is empty then
+abbrev pub list_of : {A : Type 0} → List ℕ → (Data → Result A ResultError) → Field Items → Result (List A) ResultError
+list_of blamed read Absent = Ok []
+list_of blamed read WrongKind = invalid blamed
+list_of blamed read (Here ds) = each read ds
+
+-- any text
+abbrev pub as_it_is : List ℕ → Option (List ℕ)
+as_it_is text = Some text
+
+-- a number of 32 bits
+abbrev pub in_32_bits : ℕ → Option ℕ
+in_32_bits n = if nat_lt n (2 ^ 32) then Some n else None

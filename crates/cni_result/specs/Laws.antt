@@ -1,0 +1,47 @@
+-- When a result that was printed is read again as the same result.
+use Rattle.std.specs.Prelude.{◌≡◌, ℕ, ◌^◌, ◌<◌, length, true, IfSome, None, Ok}
+use Rattle.std.specs.List.{AllByRecursion}
+use Rattle.cni_addr.specs.MacText.{IsMac}
+use Rattle.cni_addr.specs.Network.{IsCidr}
+use Rattle.cni_addr.specs.Value.{IsAddr}
+use Rattle.cni_result.specs.Reading.{are_on, result_at}
+use Rattle.cni_result.specs.Results.{result_data}
+use Rattle.cni_result.specs.declared.result.AddResult.{AddResult}
+use Rattle.cni_result.specs.declared.result.Interface.{Interface}
+use Rattle.cni_result.specs.declared.result.IpEntry.{IpEntry}
+use Rattle.cni_result.specs.declared.result.RouteEntry.{RouteEntry}
+use Rattle.cni_result.specs.declared.version.Version.{Version}
+use Rattle.cni_result.specs.declared.version.Version.TheVariants.{V1_0, V1_1}
+
+-- there is no `mtu` before 1.1.0, and from then on one of 32 bits
+abbrev pub HasMtuOf : Version → Interface → Type 0
+HasMtuOf V1_0 i = i.mtu ≡ None
+HasMtuOf V1_1 i = IfSome i.mtu (λ n. n < 2 ^ 32)
+
+-- an interface as its type keeps it, with no `mtu` that its version doesn't have
+pub record IsInterfaceOf (version : Version) (i : Interface) : Type 0 where
+  pub mac : IfSome i.mac IsMac
+  pub mtu : HasMtuOf version i
+
+-- an address as its type keeps it
+pub record IsIpEntry (ip : IpEntry) : Type 0 where
+  pub address : IsCidr ip.address
+  pub gateway : IfSome ip.gateway IsAddr
+  pub interface : IfSome ip.interface (λ n. n < 2 ^ 32)
+
+-- a route as its type keeps it
+pub record IsRouteEntry (route : RouteEntry) : Type 0 where
+  pub dst : IsCidr route.dst
+  pub gw : IfSome route.gw IsAddr
+
+-- a result as its type keeps it, with no `mtu` that its version doesn't have, and with each address on an interface of
+-- its list or on none
+pub record IsReadable (r : AddResult) : Type 0 where
+  pub interfaces : AllByRecursion (IsInterfaceOf r.version) r.interfaces
+  pub ips : AllByRecursion IsIpEntry r.ips
+  pub routes : AllByRecursion IsRouteEntry r.routes
+  pub indexes : are_on (length r.interfaces) r.ips ≡ true
+
+-- what was printed of a result is read as that result
+abbrev pub ResultsAreReadAgain : Type 0
+ResultsAreReadAgain = (r : AddResult) → IsReadable r → result_at (result_data r) ≡ Ok r

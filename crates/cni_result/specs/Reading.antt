@@ -1,0 +1,199 @@
+-- Results as they are read (CNI specification 1.1.0, section 5). A member that is null is as an absent one, and unnamed
+-- members are passed over.
+use Rattle.std.specs.Prelude.{ℕ, List, [], ◌∷◌, ◌&&◌, codes, length, Bool, true, nat_lt, if◌then◌else◌, Option, Some, None, Result, Ok, Err, ⊤}
+use Rattle.std.specs.List.{list_all}
+use Rattle.std.specs.Str.{bytes_eq}
+use Rattle.serde_json.specs.Data.{Data, null, boolean, number, string, array, object}
+use Rattle.cni_addr.specs.AddrText.{addr_of_text}
+use Rattle.cni_addr.specs.CidrText.{cidr_of_text}
+use Rattle.cni_addr.specs.MacText.{mac_of_text}
+use Rattle.cni_addr.specs.Value.{AddrValue, CidrValue}
+use Rattle.cni_addr.specs.declared.mac.Mac.{Mac}
+use Rattle.cni_json.specs.Fields.{text_field, u64_field, list_field, object_field}
+use Rattle.cni_json.specs.Json.{json_of}
+use Rattle.cni_json.specs.Outcome.{◌>>=◌}
+use Rattle.cni_json.specs.declared.fields.Field.{Field}
+use Rattle.cni_json.specs.declared.fields.Field.TheVariants.{Absent, WrongKind, Here}
+use Rattle.cni_json.specs.declared.reading.ReadEnd.{ReadEnd}
+use Rattle.cni_json.specs.declared.reading.ReadEnd.TheVariants as reading
+use Rattle.cni_result.specs.Fields.{needed, optional, list_of, as_it_is, in_32_bits}
+use Rattle.cni_result.specs.Refusals.{invalid}
+use Rattle.cni_result.specs.declared.refusal.ResultError.{ResultError}
+use Rattle.cni_result.specs.declared.refusal.ResultError.TheVariants as refusal
+use Rattle.cni_result.specs.declared.result.AddResult.{AddResult}
+use Rattle.cni_result.specs.declared.result.Dns.{Dns}
+use Rattle.cni_result.specs.declared.result.Interface.{Interface}
+use Rattle.cni_result.specs.declared.result.IpEntry.{IpEntry}
+use Rattle.cni_result.specs.declared.result.RouteEntry.{RouteEntry}
+use Rattle.cni_result.specs.declared.version.Version.{Version}
+use Rattle.cni_result.specs.declared.version.Version.TheVariants.{V1_0, V1_1}
+
+-- ---- the version
+
+-- the version that `cniVersion` names
+abbrev pub version_named : List ℕ → Result Version ResultError
+version_named text =
+    if bytes_eq text (codes "1.0.0") then Ok V1_0
+    else if bytes_eq text (codes "1.1.0") then Ok V1_1
+    else Err (refusal.Version text)
+
+abbrev pub version_of : Field (List ℕ) → Result Version ResultError
+version_of Absent = Err (refusal.Version [])
+version_of WrongKind = Err (refusal.Version [])
+version_of (Here text) = version_named text
+
+unfoldable pub version_at : Data → Result Version ResultError
+version_at d = version_of (text_field (codes "cniVersion") d)
+
+-- ---- members of entries
+
+-- a text that must be there
+unfoldable pub text_at : List ℕ → List ℕ → Data → Result (List ℕ) ResultError
+text_at blamed key d = needed blamed as_it_is (text_field key d)
+
+-- a text that may be absent
+unfoldable pub text_if_at : List ℕ → List ℕ → Data → Result (Option (List ℕ)) ResultError
+text_if_at blamed key d = optional blamed as_it_is (text_field key d)
+
+-- a network that must be there
+unfoldable pub cidr_at : List ℕ → List ℕ → Data → Result CidrValue ResultError
+cidr_at blamed key d = needed blamed cidr_of_text (text_field key d)
+
+-- an address that may be absent
+unfoldable pub addr_if_at : List ℕ → List ℕ → Data → Result (Option AddrValue) ResultError
+addr_if_at blamed key d = optional blamed addr_of_text (text_field key d)
+
+-- a hardware address that may be absent
+unfoldable pub mac_if_at : List ℕ → List ℕ → Data → Result (Option Mac) ResultError
+mac_if_at blamed key d = optional blamed mac_of_text (text_field key d)
+
+-- a number of 32 bits that may be absent
+unfoldable pub number_if_at : List ℕ → List ℕ → Data → Result (Option ℕ) ResultError
+number_if_at blamed key d = optional blamed in_32_bits (u64_field key d)
+
+-- `mtu` came to results with 1.1.0, and is passed over before
+abbrev pub mtu_if_at : Version → Data → Result (Option ℕ) ResultError
+mtu_if_at V1_0 d = Ok None
+mtu_if_at V1_1 d = number_if_at (codes "interfaces") (codes "mtu") d
+
+-- ---- the lists; an entry that is no object lacks what must be there
+
+unfoldable pub interface_at : Version → Data → Result Interface ResultError
+interface_at version d = do
+  name ← text_at (codes "interfaces") (codes "name") d
+  mac ← mac_if_at (codes "interfaces") (codes "mac") d
+  mtu ← mtu_if_at version d
+  sandbox ← text_if_at (codes "interfaces") (codes "sandbox") d
+  Ok (record { name = name; mac = mac; mtu = mtu; sandbox = sandbox })
+
+unfoldable pub interfaces_at : Version → Data → Result (List Interface) ResultError
+interfaces_at version d = list_of (codes "interfaces") (interface_at version) (list_field (codes "interfaces") d)
+
+unfoldable pub ip_at : Data → Result IpEntry ResultError
+ip_at d = do
+  address ← cidr_at (codes "ips") (codes "address") d
+  gateway ← addr_if_at (codes "ips") (codes "gateway") d
+  interface ← number_if_at (codes "ips") (codes "interface") d
+  Ok (record { address = address; gateway = gateway; interface = interface })
+
+unfoldable pub ips_at : Data → Result (List IpEntry) ResultError
+ips_at d = list_of (codes "ips") ip_at (list_field (codes "ips") d)
+
+unfoldable pub route_at : Data → Result RouteEntry ResultError
+route_at d = do
+  dst ← cidr_at (codes "routes") (codes "dst") d
+  gw ← addr_if_at (codes "routes") (codes "gw") d
+  Ok (record { dst = dst; gw = gw })
+
+unfoldable pub routes_at : Data → Result (List RouteEntry) ResultError
+routes_at d = list_of (codes "routes") route_at (list_field (codes "routes") d)
+
+-- ---- name resolution
+
+abbrev pub word_of : Data → Result (List ℕ) ResultError
+word_of null = invalid (codes "dns")
+word_of (boolean b) = invalid (codes "dns")
+word_of (number n) = invalid (codes "dns")
+word_of (string text) = Ok text
+word_of (array ds) = invalid (codes "dns")
+word_of (object ms) = invalid (codes "dns")
+
+-- a list of texts
+unfoldable pub words_at : List ℕ → Data → Result (List (List ℕ)) ResultError
+words_at key d = list_of (codes "dns") word_of (list_field key d)
+
+abbrev pub domain_of : Field (List ℕ) → Result (List ℕ) ResultError
+domain_of Absent = Ok []
+domain_of WrongKind = invalid (codes "dns")
+domain_of (Here text) = Ok text
+
+-- a domain, empty where absent
+unfoldable pub domain_at : Data → Result (List ℕ) ResultError
+domain_at d = domain_of (text_field (codes "domain") d)
+
+unfoldable pub dns_members_at : Data → Result Dns ResultError
+dns_members_at d = do
+  nameservers ← words_at (codes "nameservers") d
+  domain ← domain_at d
+  searched ← words_at (codes "search") d
+  options ← words_at (codes "options") d
+  Ok (record { nameservers = nameservers; domain = domain; search = searched; options = options })
+
+-- nothing is configured
+abbrev pub no_dns : Dns
+no_dns = record { nameservers = []; domain = []; search = []; options = [] }
+
+abbrev pub dns_of : Field Data → Result Dns ResultError
+dns_of Absent = Ok no_dns
+dns_of WrongKind = invalid (codes "dns")
+dns_of (Here d) = dns_members_at d
+
+unfoldable pub dns_at : Data → Result Dns ResultError
+dns_at d = dns_of (object_field (codes "dns") d)
+
+-- ---- the whole
+
+abbrev pub object_at : Data → Result ⊤ ResultError
+object_at null = invalid (codes "result")
+object_at (boolean b) = invalid (codes "result")
+object_at (number n) = invalid (codes "result")
+object_at (string s) = invalid (codes "result")
+object_at (array ds) = invalid (codes "result")
+object_at (object ms) = Ok tt
+
+-- the address is on an interface of the list, or on none
+abbrev pub is_on_one_of : ℕ → Option ℕ → Bool
+is_on_one_of count None = true
+is_on_one_of count (Some index) = nat_lt index count
+
+-- each address is on an interface of the list, or on none
+abbrev pub are_on : ℕ → List IpEntry → Bool
+are_on count ips = list_all (λ ip. is_on_one_of count ip.interface) ips
+
+unfoldable pub indexes_at : ℕ → List IpEntry → Result ⊤ ResultError
+indexes_at count ips = if are_on count ips then Ok tt else invalid (codes "interface")
+
+-- the members in the order in which they are tested
+unfoldable pub result_at : Data → Result AddResult ResultError
+result_at d = do
+  _ ← object_at d
+  version ← version_at d
+  interfaces ← interfaces_at version d
+  ips ← ips_at d
+  routes ← routes_at d
+  dns ← dns_at d
+  _ ← indexes_at (length interfaces) ips
+  Ok (record { version = version; interfaces = interfaces; ips = ips; routes = routes; dns = dns })
+
+-- the value that was read
+abbrev pub decoded : Result Data ReadEnd → Result Data ResultError
+decoded (Ok d) = Ok d
+decoded (Err reading.Decode) = Err refusal.Decode
+decoded (Err reading.Number) = invalid (codes "number")
+decoded (Err reading.NoMemory) = Err refusal.NoMemory
+
+-- the result that the bytes are
+unfoldable pub result_of_bytes : List ℕ → Result AddResult ResultError
+result_of_bytes bytes = do
+  d ← decoded (json_of bytes)
+  result_at d

@@ -1,0 +1,120 @@
+//! Members of an object that is read. Each takes the key that is to blame where the member is wrong.
+
+ghost use Rattle.serde_json.specs.View.{view};
+ghost use Rattle.cni_json.specs.Outcome.{GivesAs};
+ghost use Rattle.cni_result.specs.Reading.{text_at, text_if_at, cidr_at, addr_if_at, mac_if_at, number_if_at};
+ghost use Rattle.cni_result.specs.Refusals.{is_want_of_memory};
+
+use crate::refusal::{ResultError, invalid};
+use cni_addr::{Addr, Cidr, Mac, Text, read_addr, read_cidr, read_mac};
+use cni_json::{Field, Value, field_str, field_u64};
+use std::alloc::Global;
+
+/// A text that must be there.
+#[tactic(auto, using(crate::proofs::Steps::steps), unfolding(crate::specs::Reading::text_at))]
+pub(crate) fn text(
+    alloc: Global,
+    object: &Value,
+    key: &str,
+    blamed: &str,
+) -> Result<Text, ResultError>
+    ensures { GivesAs is_want_of_memory (λ text. text) result (text_at blamed.now key.now (view object.now)) }
+{
+    match field_str(object, key) {
+        Field::Absent | Field::WrongKind => Err(invalid(alloc, blamed)),
+        Field::Here(text) => Ok(Text::of(alloc, text)?),
+    }
+}
+
+/// A text that may be absent.
+#[tactic(auto, using(crate::proofs::Steps::steps), unfolding(crate::specs::Reading::text_if_at))]
+pub(crate) fn text_if(
+    alloc: Global,
+    object: &Value,
+    key: &str,
+    blamed: &str,
+) -> Result<Option<Text>, ResultError>
+    ensures { GivesAs is_want_of_memory (λ text. text) result (text_if_at blamed.now key.now (view object.now)) }
+{
+    match field_str(object, key) {
+        Field::Absent => Ok(None),
+        Field::WrongKind => Err(invalid(alloc, blamed)),
+        Field::Here(text) => Ok(Some(Text::of(alloc, text)?)),
+    }
+}
+
+/// A network that must be there.
+#[tactic(auto, using(crate::proofs::Steps::steps), unfolding(crate::specs::Reading::cidr_at))]
+pub(crate) fn cidr(
+    alloc: Global,
+    object: &Value,
+    key: &str,
+    blamed: &str,
+) -> Result<Cidr, ResultError>
+    ensures { GivesAs is_want_of_memory (λ cidr. cidr) result (cidr_at blamed.now key.now (view object.now)) }
+{
+    let Field::Here(text) = field_str(object, key) else {
+        return Err(invalid(alloc, blamed));
+    };
+    match read_cidr(text.as_bytes()) {
+        Some(cidr) => Ok(cidr),
+        None => Err(invalid(alloc, blamed)),
+    }
+}
+
+/// An address that may be absent.
+#[tactic(auto, using(crate::proofs::Steps::steps), unfolding(crate::specs::Reading::addr_if_at))]
+pub(crate) fn addr_if(
+    alloc: Global,
+    object: &Value,
+    key: &str,
+    blamed: &str,
+) -> Result<Option<Addr>, ResultError>
+    ensures { GivesAs is_want_of_memory (λ addr. addr) result (addr_if_at blamed.now key.now (view object.now)) }
+{
+    match field_str(object, key) {
+        Field::Absent => Ok(None),
+        Field::WrongKind => Err(invalid(alloc, blamed)),
+        Field::Here(text) => match read_addr(text.as_bytes()) {
+            Some(addr) => Ok(Some(addr)),
+            None => Err(invalid(alloc, blamed)),
+        },
+    }
+}
+
+/// A hardware address that may be absent.
+#[tactic(auto, using(crate::proofs::Steps::steps), unfolding(crate::specs::Reading::mac_if_at))]
+pub(crate) fn mac_if(
+    alloc: Global,
+    object: &Value,
+    key: &str,
+    blamed: &str,
+) -> Result<Option<Mac>, ResultError>
+    ensures { GivesAs is_want_of_memory (λ mac. mac) result (mac_if_at blamed.now key.now (view object.now)) }
+{
+    match field_str(object, key) {
+        Field::Absent => Ok(None),
+        Field::WrongKind => Err(invalid(alloc, blamed)),
+        Field::Here(text) => match read_mac(text.as_bytes()) {
+            Some(mac) => Ok(Some(mac)),
+            None => Err(invalid(alloc, blamed)),
+        },
+    }
+}
+
+/// A number below 2^32 that may be absent.
+#[tactic(auto, using(crate::proofs::Steps::steps), unfolding(crate::specs::Reading::number_if_at))]
+pub(crate) fn number_if(
+    alloc: Global,
+    object: &Value,
+    key: &str,
+    blamed: &str,
+) -> Result<Option<u32>, ResultError>
+    ensures { GivesAs is_want_of_memory (λ number. number) result (number_if_at blamed.now key.now (view object.now)) }
+{
+    match field_u64(object, key) {
+        Field::Absent => Ok(None),
+        Field::Here(number) if number <= u64::from(u32::MAX) => Ok(Some(number as u32)),
+        Field::Here(_) | Field::WrongKind => Err(invalid(alloc, blamed)),
+    }
+}

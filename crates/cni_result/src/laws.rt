@@ -1,0 +1,9 @@
+//! What is true of the definitions, without any call.
+
+ghost use Rattle.cni_result.specs.Laws.{ResultsAreReadAgain};
+
+/// What is printed of a result is read as that result, if there is no `mtu` before 1.1.0 and each address is on an
+/// interface of the list or on none.
+pub fn a_result_is_read_again()
+    ensures { ResultsAreReadAgain }
+{}

@@ -1,0 +1,51 @@
+//! Why a result is not read.
+
+ghost use Rattle.std.specs.Prelude.{◌≡◌};
+ghost use Rattle.cni_json.specs.Outcome.{TellsAs};
+ghost use Rattle.cni_result.specs.Refusals.{is_want_of_memory};
+ghost use Rattle.cni_result.specs.declared.refusal.ResultError.TheVariants as refusal;
+
+use cni_addr::{NoMemory, Text};
+use std::alloc::Global;
+
+/// Why bytes are not read as a result: the first cause in the order of the members.
+#[derive(PartialEq, Eq, Drop)]
+pub enum ResultError {
+    /// The bytes are no JSON text.
+    Decode,
+    /// `cniVersion` is none of the versions that are known; the text is empty where it is absent or no text.
+    Version { found: Text },
+    /// A member is wrong, by its key; a number has no 64 bits (`number`); the value is no object (`result`); or an
+    /// address is on an interface that isn't there (`interface`).
+    Invalid { key: Text },
+    /// Memory ran out.
+    NoMemory,
+}
+
+impl From<NoMemory> for ResultError {
+    ghost from_gives = { λ _ e. e ≡ refusal.NoMemory };
+
+    fn from(_refused: NoMemory) -> ResultError {
+        ResultError::NoMemory
+    }
+}
+
+/// The refusal of a member.
+pub(crate) fn invalid(alloc: Global, key: &str) -> ResultError
+    ensures { TellsAs is_want_of_memory result (refusal.Invalid key.now) }
+{
+    match Text::of(alloc, key) {
+        Ok(key) => ResultError::Invalid { key },
+        Err(NoMemory) => ResultError::NoMemory,
+    }
+}
+
+/// The refusal of a version.
+pub(crate) fn version_refused(alloc: Global, found: &str) -> ResultError
+    ensures { TellsAs is_want_of_memory result (refusal.Version found.now) }
+{
+    match Text::of(alloc, found) {
+        Ok(found) => ResultError::Version { found },
+        Err(NoMemory) => ResultError::NoMemory,
+    }
+}

@@ -1,0 +1,6 @@
+mod BackCounts
+mod LeasedLemmas
+mod Left
+mod Once
+mod PhaseLemmas
+mod RunLaws

@@ -1,0 +1,54 @@
+-- Kinds, tables, chains and protocols as texts.
+use Rattle.std.specs.Prelude.{ℕ, List, [], ◌∷◌, ◌++◌, codes, Option, Some, None, decimal}
+use Rattle.std.specs.List.{join_with_byte}
+use Rattle.cni_addr.specs.AddrText.{addr_text}
+use Rattle.cni_addr.specs.MacText.{colon}
+use Rattle.cni_addr.specs.declared.macvlan.MacvlanMode.{MacvlanMode}
+use Rattle.cni_addr.specs.declared.macvlan.MacvlanMode.TheVariants as modes
+use Rattle.kernel_types.specs.declared.object.Chain.{Chain}
+use Rattle.kernel_types.specs.declared.object.Chain.TheVariants as chains
+use Rattle.kernel_types.specs.declared.object.LinkKind.{LinkKind}
+use Rattle.kernel_types.specs.declared.object.LinkKind.TheVariants as kinds
+use Rattle.kernel_types.specs.declared.object.Table.{Table}
+use Rattle.kernel_types.specs.declared.object.Table.TheVariants as tables
+use Rattle.kernel_types.specs.declared.object.Target.{Target}
+use Rattle.kernel_types.specs.declared.object.Target.TheVariants as targets
+
+-- what a link is
+abbrev pub link_kind_text : LinkKind → List ℕ
+link_kind_text kinds.Device = codes "device"
+link_kind_text kinds.Bridge = codes "bridge"
+link_kind_text kinds.Veth = codes "veth"
+link_kind_text (kinds.Macvlan mode) = codes "macvlan"
+
+-- the mode of a macvlan link; no other link has one
+abbrev pub link_mode : LinkKind → Option MacvlanMode
+link_mode kinds.Device = None
+link_mode kinds.Bridge = None
+link_mode kinds.Veth = None
+link_mode (kinds.Macvlan mode) = Some mode
+
+-- a mode as the `macvlan` plugin is configured with it
+abbrev pub mode_text : MacvlanMode → List ℕ
+mode_text modes.Bridge = codes "bridge"
+mode_text modes.Private = codes "private"
+mode_text modes.Vepa = codes "vepa"
+mode_text modes.Passthru = codes "passthru"
+
+-- a table as iptables names it
+abbrev pub table_text : Table → List ℕ
+table_text tables.Nat = codes "nat"
+table_text tables.Filter = codes "filter"
+
+-- a chain, by the names of the reference plugins
+abbrev pub chain_text : Chain → List ℕ
+chain_text chains.Dnat = codes "CNI-HOSTPORT-DNAT"
+chain_text chains.HostMasq = codes "CNI-HOSTPORT-MASQ"
+chain_text chains.Masq = codes "CNI-MASQ"
+chain_text chains.Forward = codes "CNI-FORWARD"
+
+-- what a rule does, as iptables names it
+abbrev pub target_text : Target → List ℕ
+target_text targets.Accept = codes "ACCEPT"
+target_text targets.Masquerade = codes "MASQUERADE"
+target_text (targets.Dnat addr port) = codes "DNAT " ++ join_with_byte colon (addr_text addr ∷ decimal port ∷ [])

@@ -1,0 +1,79 @@
+//! Kinds, modes, tables, chains and targets as texts.
+
+ghost use Rattle.std.specs.Prelude.{◌≡◌, IfOk, option_map};
+ghost use Rattle.kernel_text.specs.Words.{link_kind_text, link_mode, mode_text, table_text, chain_text, target_text};
+
+use cni_addr::{MacvlanMode, NoMemory, Text, write_addr};
+use kernel_types::{Chain, LinkKind, Table, Target};
+use std::alloc::Global;
+
+/// What the link is.
+pub fn link_kind_text(kind: LinkKind) -> &'static str
+    ensures { result.now ≡ link_kind_text kind }
+{
+    match kind {
+        LinkKind::Device => "device",
+        LinkKind::Bridge => "bridge",
+        LinkKind::Veth => "veth",
+        LinkKind::Macvlan(_) => "macvlan",
+    }
+}
+
+/// The mode of a macvlan link; no other link has one.
+pub fn link_mode(kind: LinkKind) -> Option<MacvlanMode>
+    ensures { result ≡ link_mode kind }
+{
+    match kind {
+        LinkKind::Macvlan(mode) => Some(mode),
+        LinkKind::Device | LinkKind::Bridge | LinkKind::Veth => None,
+    }
+}
+
+/// The mode as the `macvlan` plugin is configured with it.
+pub fn mode_text(mode: MacvlanMode) -> &'static str
+    ensures { result.now ≡ mode_text mode }
+{
+    match mode {
+        MacvlanMode::Bridge => "bridge",
+        MacvlanMode::Private => "private",
+        MacvlanMode::Vepa => "vepa",
+        MacvlanMode::Passthru => "passthru",
+    }
+}
+
+/// The table as iptables names it.
+pub fn table_text(table: Table) -> &'static str
+    ensures { result.now ≡ table_text table }
+{
+    match table {
+        Table::Nat => "nat",
+        Table::Filter => "filter",
+    }
+}
+
+/// The chain by the name that the reference plugins give it.
+pub fn chain_text(chain: Chain) -> &'static str
+    ensures { result.now ≡ chain_text chain }
+{
+    match chain {
+        Chain::Dnat => "CNI-HOSTPORT-DNAT",
+        Chain::HostMasq => "CNI-HOSTPORT-MASQ",
+        Chain::Masq => "CNI-MASQ",
+        Chain::Forward => "CNI-FORWARD",
+    }
+}
+
+/// The target as iptables names it, of `DNAT` with its address and port.
+pub fn target_text(alloc: Global, target: &Target) -> Result<Text, NoMemory>
+    ensures { IfOk result (λ text. text ≡ target_text target.now) }
+{
+    match target {
+        Target::Accept => Text::of(alloc, "ACCEPT"),
+        Target::Masquerade => Text::of(alloc, "MASQUERADE"),
+        Target::Dnat { addr, port } => {
+            let text = write_addr(alloc, addr)?;
+            let text = text.as_str();
+            Text::of(alloc, format!(in alloc; "DNAT {text}:{port}")?.as_str())
+        }
+    }
+}

@@ -1,0 +1,11 @@
+pub mod Endings
+pub mod JsonOrder
+pub mod ListFacts
+pub mod PluginFacts
+pub mod RangeFacts
+pub mod RangeLemmas
+pub mod SetFacts
+pub mod Steps
+pub mod TuningFacts
+pub mod TuningLemmas
+pub mod ValueLemmas

@@ -1,0 +1,62 @@
+-- What a network list keeps that is read.
+use Rattle.std.proofs.Common.{◌≡◌, ℕ, true, List, codes, Result, Ok, Err, refl, subst}
+use Rattle.serde_json.specs.Data.{Data}
+use Rattle.cni_json.specs.Fields.{text_field}
+use Rattle.cni_json.specs.Json.{json_of}
+use Rattle.cni_json.specs.declared.fields.Field.{Field}
+use Rattle.cni_json.specs.declared.fields.Field.TheVariants.{Absent, WrongKind, Here}
+use Rattle.cni_json.specs.declared.reading.ReadEnd.{ReadEnd}
+use Rattle.cni_json.specs.declared.reading.ReadEnd.TheVariants as ends
+use Rattle.net_conf.proofs.Endings.{goes, ok_same, passed}
+use Rattle.net_conf.proofs.JsonOrder.{IsOrdered, json_of-ordered}
+use Rattle.net_conf.proofs.PluginFacts.{chain_at-ok}
+use Rattle.net_conf.specs.List.{read_or_refused, list_object, version_at, name_of, name_at, switch_at, list_at, list_of}
+use Rattle.net_conf.specs.Names.{is_network_name}
+use Rattle.net_conf.specs.Outside.{supported}
+use Rattle.net_conf.specs.Plugins.{chain_at}
+use Rattle.net_conf.specs.WellFormed.{IsWellFormedList}
+use Rattle.net_conf.specs.declared.list.NetList.{NetList}
+use Rattle.net_conf.specs.declared.outside.Accepted.TheVariants.{Nothing}
+
+abbrev IsName : List ℕ → Type 0
+IsName name = is_network_name name ≡ true
+
+name_of-ok : (f : Field (List ℕ)) (name : List ℕ) → name_of f ≡ Ok name → IsName name
+name_of-ok Absent name is = cc
+name_of-ok WrongKind name is = cc
+name_of-ok (Here text) name is = let test = passed (is_network_name text) text name _ is in subst IsName test.1 test.0
+
+name_at-ok : (d : Data) (name : List ℕ) → name_at d ≡ Ok name → IsName name
+unfolding name_at
+name_at-ok d name is = name_of-ok (text_field (codes "name") d) name is
+
+list_at-ok : (d : Data) (list : NetList) → IsOrdered d → list_at d ≡ Ok list → IsWellFormedList list
+unfolding list_at
+list_at-ok d list order is =
+    let form = goes (list_object d) _ list is in
+    let version = goes (version_at d) _ list form.rest in
+    let versions = goes (supported Nothing (codes "cniVersions") d) _ list version.rest in
+    let name = goes (name_at d) _ list versions.rest in
+    let check = goes (switch_at (codes "disableCheck") d) _ list name.rest in
+    let gc = goes (switch_at (codes "disableGC") d) _ list check.rest in
+    let plugins = goes (chain_at d) _ list gc.rest in
+    let chain = chain_at-ok d plugins.value order plugins.first in
+    subst IsWellFormedList (ok_same plugins.rest) (record {
+      name = name_at-ok d name.value name.first;
+      first = chain.first;
+      chained = chain.later.all;
+      types_once = chain.later.once;
+    })
+
+read-ok : (r : Result Data ReadEnd) (d : Data) → read_or_refused r ≡ Ok d → r ≡ Ok d
+read-ok (Ok e) d is = let same : e ≡ d = ok_same is in rw same refl
+read-ok (Err ends.Decode) d is = cc
+read-ok (Err ends.Number) d is = cc
+read-ok (Err ends.NoMemory) d is = cc
+
+-- every list that is read is well formed
+pub list_of-ok : (bytes : List ℕ) (list : NetList) → list_of bytes ≡ Ok list → IsWellFormedList list
+unfolding list_of
+list_of-ok bytes list is =
+    let json = goes (read_or_refused (json_of bytes)) _ list is in
+    list_at-ok json.value list (json_of-ordered bytes json.value (read-ok (json_of bytes) json.value json.first)) json.rest

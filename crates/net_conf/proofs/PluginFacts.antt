@@ -1,0 +1,317 @@
+-- What the plugins of a list keep that is read.
+use Rattle.std.proofs.Common.{◌≡◌, ℕ, suc, ◌≤◌, ◌<◌, ◌&&◌, ◌||◌, Bool, true, false, cond, List, [], ◌∷◌, ◌++◌, codes, length, Option, Some, None, Result, Ok, Err, nat_eq, refl, sym, ap, ◌∙◌, subst, arith}
+use Rattle.std.specs.Prelude.{All, IsTrue, map, if◌then◌else◌, ⊤}
+use Rattle.std.specs.List.{AllByRecursion, IsDistinct, list_any}
+use Rattle.std.specs.Str.{chars}
+use Rattle.std.proofs.lemmas.Bool.{or_parts}
+use Rattle.std.proofs.lemmas.Bool.Decides.{nat_tests}
+use Rattle.std.proofs.lemmas.List.Elements.{All-nil, All-cons, All-append}
+use Rattle.serde_json.specs.Data.{Data, null, boolean, number, string, array, object, Items, no_items, item}
+use Rattle.serde_json.specs.Find.{get, as_array}
+use Rattle.cni_json.specs.Fields.{u64_field, text_field, list_field, field_of}
+use Rattle.cni_json.specs.Json.{json_of}
+use Rattle.cni_json.specs.declared.fields.Field.{Field}
+use Rattle.cni_json.specs.declared.fields.Field.TheVariants.{Absent, WrongKind, Here}
+use Rattle.net_conf.proofs.Endings.{goes, ok_same, passed, not_refused}
+use Rattle.net_conf.proofs.JsonOrder.{IsOrdered, AreOrdered, get-ordered}
+use Rattle.net_conf.proofs.SetFacts.{sets_at-ok, routes_at-ok}
+use Rattle.net_conf.proofs.TuningFacts.{by_test, is_mtu-true, tuning_at-ok}
+use Rattle.net_conf.specs.Bridge.{bridge_rows, bridge_name_of, bridge_name_at, gateway_role_at, mode_flags_at, not_both, modes_at, bridge_at}
+use Rattle.net_conf.specs.Dns.{dns_at}
+use Rattle.net_conf.specs.Firewall.{firewall_at}
+use Rattle.net_conf.specs.Ipam.{ipam_object, manager_at, host_local_at, is_empty, some_host_local, ipam_of, ipam_at, addressing_at}
+use Rattle.net_conf.specs.Macvlan.{macvlan_rows, master_of, master_at, mode_at, macvlan_at}
+use Rattle.net_conf.specs.Members.{flag_at, is_mtu, mtu_value, mtu_of, mtu_at}
+use Rattle.net_conf.specs.Names.{is_interface_name}
+use Rattle.net_conf.specs.Outside.{supported, all_supported}
+use Rattle.net_conf.specs.PluginTypes.{type_code, type_eq, type_of_chained}
+use Rattle.net_conf.specs.Plugins.{plugin_object, type_at, first_of, first_at, first_plugin, later_of, is_of_type, not_repeated, later_at, chained_after, later_plugins, plugins_of, plugins_at, chain_at}
+use Rattle.net_conf.specs.Portmap.{portmap_at}
+use Rattle.net_conf.specs.Ptp.{ipam_or_refused, ptp_at}
+use Rattle.net_conf.specs.Routes.{routes_at}
+use Rattle.net_conf.specs.Sets.{sets_at}
+use Rattle.net_conf.specs.Tuning.{tuning_at}
+use Rattle.net_conf.specs.WellFormed.{IsMtu, IsWellFormedHostLocal, IsWellFormedIpam, IsWellFormedBridge, IsWellFormedPtp, IsWellFormedMacvlan, IsWellFormedFirst, IsWellFormedTuning, IsWellFormedChained}
+use Rattle.net_conf.specs.declared.bridge.BridgeModes.{BridgeModes}
+use Rattle.net_conf.specs.declared.bridge.GatewayRole.{GatewayRole}
+use Rattle.net_conf.specs.declared.chained.Chained.{Chained}
+use Rattle.net_conf.specs.declared.chained.Chained.TheVariants as later
+use Rattle.net_conf.specs.declared.error.ConfError.{ConfError}
+use Rattle.net_conf.specs.declared.first.BridgeConf.{BridgeConf}
+use Rattle.net_conf.specs.declared.first.First.{First}
+use Rattle.net_conf.specs.declared.first.First.TheVariants as first
+use Rattle.net_conf.specs.declared.first.HostLocalConf.{HostLocalConf}
+use Rattle.net_conf.specs.declared.first.MacvlanConf.{MacvlanConf}
+use Rattle.net_conf.specs.declared.first.PtpConf.{PtpConf}
+use Rattle.net_conf.specs.declared.ipam.Addressing.{Addressing}
+use Rattle.net_conf.specs.declared.outside.Accepted.TheVariants.{EmptyText}
+use Rattle.net_conf.specs.declared.plugin_type.PluginType.{PluginType}
+use Rattle.net_conf.specs.declared.plugin_type.PluginType.TheVariants as plugin
+use Rattle.net_conf.specs.declared.plugins.PluginChain.{PluginChain}
+
+-- ---- members that several plugins have
+
+mtu_of-ok : (f : Field ℕ) (n : ℕ) → mtu_of f ≡ Ok n → IsMtu n
+mtu_of-ok Absent n is = subst IsMtu (ok_same is) (is_mtu-true 1500 refl)
+mtu_of-ok WrongKind n is = cc
+mtu_of-ok (Here m) n is =
+    by_test (nat_eq m 0) _ _ _ is
+    (λ zero same. subst IsMtu (ok_same same) (is_mtu-true 1500 refl))
+    (λ some same. let test = passed (is_mtu m) m n _ same in subst IsMtu test.1 (is_mtu-true m test.0))
+
+mtu_at-ok : (d : Data) (n : ℕ) → mtu_at d ≡ Ok n → IsMtu n
+unfolding mtu_at
+mtu_at-ok d n is = mtu_of-ok (u64_field (codes "mtu") d) n is
+
+host_local_at-ok : (d : Data) (conf : HostLocalConf) → host_local_at d ≡ Ok conf → IsWellFormedHostLocal conf
+unfolding host_local_at
+host_local_at-ok d conf is =
+    let form = goes (ipam_object d) _ conf is in
+    let manager = goes (manager_at d) _ conf form.rest in
+    let resolv = goes (supported EmptyText (codes "resolvConf") d) _ conf manager.rest in
+    let sets = goes (sets_at d) _ conf resolv.rest in
+    let routes = goes (routes_at d) _ conf sets.rest in
+    let kept = sets_at-ok d sets.value sets.first in
+    subst IsWellFormedHostLocal (ok_same routes.rest) (record {
+      some = kept.some;
+      few = kept.few;
+      sets = kept.each_set;
+      apart = kept.apart;
+      routes = routes_at-ok d routes.value routes.first;
+    })
+
+some_host_local-ok : (d : Data) (found : Option HostLocalConf) → (if is_empty d then Ok None else some_host_local (host_local_at d)) ≡ Ok found → IsWellFormedIpam found
+some_host_local-ok d found is =
+    by_test (is_empty d) _ _ _ is
+    (λ empty same. subst IsWellFormedIpam (ok_same same) tt)
+    (λ some same.
+    let conf = goes (host_local_at d) _ found same in
+    subst IsWellFormedIpam (ok_same conf.rest) (host_local_at-ok d conf.value conf.first))
+
+ipam_of-ok : (o : Option Data) (found : Option HostLocalConf) → ipam_of o ≡ Ok found → IsWellFormedIpam found
+ipam_of-ok None found is = subst IsWellFormedIpam (ok_same is) tt
+ipam_of-ok (Some null) found is = subst IsWellFormedIpam (ok_same is) tt
+ipam_of-ok (Some (boolean b)) found is = some_host_local-ok (boolean b) found is
+ipam_of-ok (Some (number n)) found is = some_host_local-ok (number n) found is
+ipam_of-ok (Some (string s)) found is = some_host_local-ok (string s) found is
+ipam_of-ok (Some (array ds)) found is = some_host_local-ok (array ds) found is
+ipam_of-ok (Some (object ms)) found is = some_host_local-ok (object ms) found is
+
+abbrev HasIpam : Addressing → Type 0
+HasIpam addressing = IsWellFormedIpam addressing.ipam
+
+addressing_at-ok : (d : Data) (found : Addressing) → addressing_at d ≡ Ok found → HasIpam found
+unfolding addressing_at ipam_at
+addressing_at-ok d found is =
+    let dns = goes (dns_at d) _ found is in
+    let ipam = goes (ipam_at d) _ found dns.rest in
+    subst HasIpam (ok_same ipam.rest) (ipam_of-ok (get (codes "ipam") d) ipam.value ipam.first)
+
+-- ---- the first plugin
+
+abbrev IsName : List ℕ → Type 0
+IsName name = is_interface_name name ≡ true
+
+bridge_name_of-ok : (f : Field (List ℕ)) (name : List ℕ) → bridge_name_of f ≡ Ok name → IsName name
+unfolding is_interface_name chars
+bridge_name_of-ok Absent name is = subst IsName (ok_same is) refl
+bridge_name_of-ok WrongKind name is = cc
+bridge_name_of-ok (Here text) name is = let test = passed (is_interface_name text) text name _ is in subst IsName test.1 test.0
+
+bridge_name_at-ok : (d : Data) (name : List ℕ) → bridge_name_at d ≡ Ok name → IsName name
+unfolding bridge_name_at
+bridge_name_at-ok d name is = bridge_name_of-ok (text_field (codes "bridge") d) name is
+
+master_of-ok : (f : Field (List ℕ)) (name : List ℕ) → master_of f ≡ Ok name → IsName name
+master_of-ok Absent name is = cc
+master_of-ok WrongKind name is = cc
+master_of-ok (Here text) name is = let test = passed (is_interface_name text) text name _ is in subst IsName test.1 test.0
+
+master_at-ok : (d : Data) (name : List ℕ) → master_at d ≡ Ok name → IsName name
+unfolding master_at
+master_at-ok d name is = master_of-ok (text_field (codes "master") d) name is
+
+abbrev IsRole : GatewayRole → Type 0
+IsRole role = role.is_default_gateway ≡ true → role.is_gateway ≡ true
+
+default_too : (gateway default : Bool) → default ≡ true → (gateway || default) ≡ true
+default_too true default is = refl
+default_too false default is = is
+
+gateway_role_at-ok : (d : Data) (role : GatewayRole) → gateway_role_at d ≡ Ok role → IsRole role
+unfolding gateway_role_at
+gateway_role_at-ok d role is =
+    let gateway = goes (flag_at (codes "isGateway") false d) _ role is in
+    let default = goes (flag_at (codes "isDefaultGateway") false d) _ role gateway.rest in
+    subst IsRole (ok_same default.rest) (default_too gateway.value default.value)
+
+abbrev IsOneMode : BridgeModes → Type 0
+IsOneMode modes = (modes.hairpin && modes.promisc) ≡ false
+
+modes_at-ok : (d : Data) (found : BridgeModes) → modes_at d ≡ Ok found → IsOneMode found
+unfolding modes_at not_both
+modes_at-ok d found is =
+    let modes = goes (mode_flags_at d) _ found is in
+    let test = goes (not_both modes.value) _ found modes.rest in
+    subst IsOneMode (ok_same test.rest) (not_refused (modes.value.hairpin && modes.value.promisc) _ _ _ test.first).0
+
+bridge_at-ok : (d : Data) (conf : BridgeConf) → bridge_at d ≡ Ok conf → IsWellFormedBridge conf
+unfolding bridge_at
+bridge_at-ok d conf is =
+    let rows = goes (all_supported bridge_rows d) _ conf is in
+    let name = goes (bridge_name_at d) _ conf rows.rest in
+    let role = goes (gateway_role_at d) _ conf name.rest in
+    let masq = goes (flag_at (codes "ipMasq") false d) _ conf role.rest in
+    let mtu = goes (mtu_at d) _ conf masq.rest in
+    let modes = goes (modes_at d) _ conf mtu.rest in
+    let addressing = goes (addressing_at d) _ conf modes.rest in
+    subst IsWellFormedBridge (ok_same addressing.rest) (record {
+      name = bridge_name_at-ok d name.value name.first;
+      default_is_gateway = gateway_role_at-ok d role.value role.first;
+      mtu = mtu_at-ok d mtu.value mtu.first;
+      one_mode = modes_at-ok d modes.value modes.first;
+      ipam = addressing_at-ok d addressing.value addressing.first;
+    })
+
+ipam_or_refused-ok : (o : Option HostLocalConf) (conf : HostLocalConf) → IsWellFormedIpam o → ipam_or_refused o ≡ Ok conf → IsWellFormedHostLocal conf
+ipam_or_refused-ok None conf kept is = cc
+ipam_or_refused-ok (Some v) conf kept is = subst IsWellFormedHostLocal (ok_same is) kept
+
+ptp_at-ok : (d : Data) (conf : PtpConf) → ptp_at d ≡ Ok conf → IsWellFormedPtp conf
+unfolding ptp_at
+ptp_at-ok d conf is =
+    let masq = goes (flag_at (codes "ipMasq") false d) _ conf is in
+    let mtu = goes (mtu_at d) _ conf masq.rest in
+    let addressing = goes (addressing_at d) _ conf mtu.rest in
+    let ipam = goes (ipam_or_refused addressing.value.ipam) _ conf addressing.rest in
+    subst IsWellFormedPtp (ok_same ipam.rest) (record {
+      mtu = mtu_at-ok d mtu.value mtu.first;
+      ipam = ipam_or_refused-ok addressing.value.ipam ipam.value (addressing_at-ok d addressing.value addressing.first) ipam.first;
+    })
+
+macvlan_at-ok : (d : Data) (conf : MacvlanConf) → macvlan_at d ≡ Ok conf → IsWellFormedMacvlan conf
+unfolding macvlan_at
+macvlan_at-ok d conf is =
+    let rows = goes (all_supported macvlan_rows d) _ conf is in
+    let master = goes (master_at d) _ conf rows.rest in
+    let mode = goes (mode_at d) _ conf master.rest in
+    let mtu = goes (mtu_at d) _ conf mode.rest in
+    let addressing = goes (addressing_at d) _ conf mtu.rest in
+    subst IsWellFormedMacvlan (ok_same addressing.rest) (record {
+      master = master_at-ok d master.value master.first;
+      mtu = mtu_at-ok d mtu.value mtu.first;
+      ipam = addressing_at-ok d addressing.value addressing.first;
+    })
+
+first_of-ok : (type : PluginType) (d : Data) (found : First) → first_of type d ≡ Ok found → IsWellFormedFirst found
+first_of-ok plugin.Bridge d found is = let conf = goes (bridge_at d) _ found is in subst IsWellFormedFirst (ok_same conf.rest) (bridge_at-ok d conf.value conf.first)
+first_of-ok plugin.Ptp d found is = let conf = goes (ptp_at d) _ found is in subst IsWellFormedFirst (ok_same conf.rest) (ptp_at-ok d conf.value conf.first)
+first_of-ok plugin.Macvlan d found is = let conf = goes (macvlan_at d) _ found is in subst IsWellFormedFirst (ok_same conf.rest) (macvlan_at-ok d conf.value conf.first)
+first_of-ok plugin.Portmap d found is = cc
+first_of-ok plugin.Firewall d found is = cc
+first_of-ok plugin.Tuning d found is = cc
+
+first_at-ok : (d : Data) (found : First) → first_at d ≡ Ok found → IsWellFormedFirst found
+unfolding first_at
+first_at-ok d found is =
+    let form = goes (plugin_object d) _ found is in
+    let type = goes (type_at d) _ found form.rest in
+    first_of-ok type.value d found type.rest
+
+first_plugin-ok : (ds : Items) (found : First) → first_plugin ds ≡ Ok found → IsWellFormedFirst found
+first_plugin-ok no_items found is = cc
+first_plugin-ok (item d ds) found is = first_at-ok d found is
+
+-- ---- the later plugins
+
+-- a plugin is well formed, and has the type that its object names
+abbrev IsLater : PluginType → Chained → Type 0
+IsLater type p = (type_of_chained p ≡ type) × IsWellFormedChained p
+
+later_of-ok : (type : PluginType) (d : Data) (found : Chained) → IsOrdered d → later_of type d ≡ Ok found → IsLater type found
+later_of-ok plugin.Bridge d found order is = cc
+later_of-ok plugin.Ptp d found order is = cc
+later_of-ok plugin.Macvlan d found order is = cc
+later_of-ok plugin.Portmap d found order is = let conf = goes (portmap_at d) _ found is in subst (IsLater plugin.Portmap) (ok_same conf.rest) (refl, tt)
+later_of-ok plugin.Firewall d found order is = let conf = goes (firewall_at d) _ found is in subst (IsLater plugin.Firewall) (ok_same conf.rest) (refl, tt)
+later_of-ok plugin.Tuning d found order is =
+    let conf = goes (tuning_at d) _ found is in
+    subst (IsLater plugin.Tuning) (ok_same conf.rest) (refl, tuning_at-ok d conf.value order conf.first)
+
+-- what later plugins keep together
+pub record AreLater (plugins : List Chained) : Type 0 where
+  pub all : All IsWellFormedChained plugins
+  pub once : IsDistinct type_eq (map type_of_chained plugins)
+
+-- one more plugin, of a type that none of these has
+once_more : (before : List Chained) (next : Chained) (type : PluginType) → type_of_chained next ≡ type → list_any (is_of_type type) before ≡ false
+    → IsDistinct type_eq (map type_of_chained before) → IsDistinct type_eq (map type_of_chained (before ++ next ∷ []))
+unfolding IsDistinct
+once_more [] next type is none once = (tt, tt)
+once_more (p ∷ before) next type is none once =
+    let parts = or_parts (is_of_type type p) (list_any (is_of_type type) before) none in
+    let new : type_eq (type_of_chained p) (type_of_chained next) ≡ false = subst (λ t. type_eq (type_of_chained p) t ≡ false) (sym is) parts.0 in
+    (also before once.0 new, once_more before next type is parts.1 once.1)
+  where
+    also : (ps : List Chained) → AllByRecursion (λ t. type_eq (type_of_chained p) t ≡ false) (map type_of_chained ps) → type_eq (type_of_chained p) (type_of_chained next) ≡ false
+        → AllByRecursion (λ t. type_eq (type_of_chained p) t ≡ false) (map type_of_chained (ps ++ next ∷ []))
+    also [] all new = (new, tt)
+    also (q ∷ ps) all new = (all.0, also ps all.1 new)
+
+later_at-ok : (before : List Chained) (d : Data) (next : Chained) → IsOrdered d → AreLater before → later_at before d ≡ Ok next → AreLater (before ++ next ∷ [])
+unfolding later_at not_repeated
+later_at-ok before d next order kept is =
+    let form = goes (plugin_object d) _ next is in
+    let type = goes (type_at d) _ next form.rest in
+    let new = goes (not_repeated before type.value) _ next type.rest in
+    let here = later_of-ok type.value d next order new.rest in
+    let none = (not_refused (list_any (is_of_type type.value) before) _ _ _ new.first).0 in
+    record {
+      all = All-append IsWellFormedChained before (next ∷ []) kept.all (All-cons IsWellFormedChained next [] here.1 (All-nil IsWellFormedChained));
+      once = once_more before next type.value here.0 none kept.once;
+    }
+
+chained_after-ok : (before : List Chained) (ds : Items) (found : List Chained) → AreOrdered ds → AreLater before → chained_after before ds ≡ Ok found → AreLater found
+chained_after-ok before no_items found order kept is = subst AreLater (ok_same is) kept
+chained_after-ok before (item d ds) found order kept is =
+    let next = goes (later_at before d) _ found is in
+    chained_after-ok (before ++ next.value ∷ []) ds found order.1 (later_at-ok before d next.value order.0 kept next.first) next.rest
+
+none_later : AreLater []
+unfolding IsDistinct
+none_later = record { all = All-nil IsWellFormedChained; once = tt }
+
+later_plugins-ok : (ds : Items) (found : List Chained) → AreOrdered ds → later_plugins ds ≡ Ok found → AreLater found
+later_plugins-ok no_items found order is = subst AreLater (ok_same is) none_later
+later_plugins-ok (item d ds) found order is = chained_after-ok [] ds found order.1 none_later is
+
+-- ---- all plugins
+
+listed-ordered : (o : Option Data) (ds : Items) → ((d : Data) → o ≡ Some d → IsOrdered d) → plugins_of (field_of as_array o) ≡ Ok ds → AreOrdered ds
+listed-ordered None ds order is = cc
+listed-ordered (Some null) ds order is = cc
+listed-ordered (Some (boolean b)) ds order is = cc
+listed-ordered (Some (number n)) ds order is = cc
+listed-ordered (Some (string s)) ds order is = cc
+listed-ordered (Some (array es)) ds order is = subst AreOrdered (ok_same is) (order (array es) refl)
+listed-ordered (Some (object ms)) ds order is = cc
+
+plugins_at-ordered : (d : Data) (ds : Items) → IsOrdered d → plugins_at d ≡ Ok ds → AreOrdered ds
+unfolding plugins_at
+plugins_at-ordered d ds order is = listed-ordered (get (codes "plugins") d) ds (λ e there. get-ordered (codes "plugins") d e order there) is
+
+-- what the plugins of a list keep
+pub record IsChain (chain : PluginChain) : Type 0 where
+  pub first : IsWellFormedFirst chain.first
+  pub later : AreLater chain.chained
+
+pub chain_at-ok : (d : Data) (chain : PluginChain) → IsOrdered d → chain_at d ≡ Ok chain → IsChain chain
+unfolding chain_at
+chain_at-ok d chain order is =
+    let plugins = goes (plugins_at d) _ chain is in
+    let one = goes (first_plugin plugins.value) _ chain plugins.rest in
+    let others = goes (later_plugins plugins.value) _ chain one.rest in
+    subst IsChain (ok_same others.rest) (record {
+      first = first_plugin-ok plugins.value one.value one.first;
+      later = later_plugins-ok plugins.value others.value (plugins_at-ordered d plugins.value order plugins.first) others.first;
+    })

@@ -1,0 +1,147 @@
+-- What a range keeps that is read.
+use Rattle.std.proofs.Common.{◌≡◌, ℕ, ◌+◌, ◌-◌, ◌≤◌, ◌<◌, Bool, true, false, List, Option, Some, None, Result, Ok, Err, refl, sym, ap, ◌∙◌, subst, arith}
+use Rattle.std.specs.Prelude.{nat_lt}
+use Rattle.std.proofs.lemmas.Bool.{and_parts}
+use Rattle.std.proofs.lemmas.Bool.Decides.{nat_tests}
+use Rattle.serde_json.specs.Data.{Data}
+use Rattle.cni_json.specs.Fields.{text_field}
+use Rattle.cni_json.specs.declared.fields.Field.{Field}
+use Rattle.cni_json.specs.declared.fields.Field.TheVariants.{Absent, WrongKind, Here}
+use Rattle.cni_addr.proofs.AddrTexts.{read_is_spelled}
+use Rattle.cni_addr.proofs.CidrTexts.{network_read_is_spelled, spelled_is_cidr}
+use Rattle.cni_addr.proofs.Networks.{contains_between, IsAddr-last_of, IsCidr-network_of, network_of_network}
+use Rattle.cni_addr.specs.declared.address.Family.{Family}
+use Rattle.cni_addr.specs.declared.range.Range.{Range}
+use Rattle.cni_addr.specs.AddrText.{addr_of_text}
+use Rattle.cni_addr.specs.CidrText.{cidr_of_text}
+use Rattle.cni_addr.specs.Network.{IsCidr, network_of, network_bits, network_size, last_of, contains}
+use Rattle.cni_addr.specs.Value.{AddrValue, CidrValue, IsAddr, bits_below}
+use Rattle.net_conf.proofs.Endings.{goes, ok_same, passed, not_refused}
+use Rattle.net_conf.proofs.RangeLemmas.{subnet_says, subnet_room, same_family}
+use Rattle.net_conf.specs.Ranges.{is_subnet, subnet_or_refused, subnet_of, subnet_at, bound_or_refused, bound_of, bound_at, first_host, last_host, in_order, gateway_or_refused, gateway_of, gateway_at, range_at}
+use Rattle.net_conf.specs.WellFormed.{IsWellFormedRange}
+
+-- ---- what the readers of texts keep
+
+pub read_is_cidr : (text : List ℕ) (c : CidrValue) → cidr_of_text text ≡ Some c → IsCidr c
+read_is_cidr text c read = spelled_is_cidr text c (network_read_is_spelled text c read)
+
+pub read_is_addr : (text : List ℕ) (a : AddrValue) → addr_of_text text ≡ Some a → IsAddr a
+read_is_addr text a read = (read_is_spelled text a read).fits
+
+-- ---- addresses of a network
+
+last_family : (c : CidrValue) → (last_of c).family ≡ c.addr.family
+unfolding last_of
+last_family c = refl
+
+-- an address of a network fits its family
+pub contained_is_addr : (c : CidrValue) (a : AddrValue) → IsCidr c → contains c a ≡ true → IsAddr a
+contained_is_addr c a kept inside =
+    let between = (contains_between c a).0 inside in
+    let last = IsAddr-last_of c kept in
+    let same : (last_of c).family ≡ a.family = last_family c ∙ between.0 in
+    record {
+      within = subst (λ f. a.bits < bits_below f) same (let below = last.within in omega arith);
+      built = sym same ∙ last.built;
+    }
+
+pub first_host_inside : (c : CidrValue) → is_subnet c ≡ true → contains c (first_host c) ≡ true
+unfolding first_host network_of
+first_host_inside c is =
+    let room = subnet_room c is in
+    (contains_between c (first_host c)).1 (refl, omega arith, omega arith)
+
+pub last_host_inside : (c : CidrValue) → is_subnet c ≡ true → contains c (last_host c) ≡ true
+unfolding last_host last_of network_of
+last_host_inside c is =
+    let room = subnet_room c is in
+    (contains_between c (last_host c)).1 (refl, omega arith, omega arith)
+
+-- ---- the parts of a range
+
+abbrev IsSubnet : CidrValue → Type 0
+IsSubnet c = (is_subnet c ≡ true) × IsCidr c
+
+subnet_or_refused-ok : (o : Option CidrValue) (c : CidrValue) → ((v : CidrValue) → o ≡ Some v → IsCidr v) → subnet_or_refused o ≡ Ok c → IsSubnet c
+subnet_or_refused-ok None c kept is = cc
+subnet_or_refused-ok (Some v) c kept is =
+    let test = passed (is_subnet v) v c _ is in
+    subst IsSubnet test.1 (test.0, kept v refl)
+
+subnet_of-ok : (f : Field (List ℕ)) (c : CidrValue) → subnet_of f ≡ Ok c → IsSubnet c
+subnet_of-ok Absent c is = cc
+subnet_of-ok WrongKind c is = cc
+subnet_of-ok (Here text) c is = subnet_or_refused-ok (cidr_of_text text) c (read_is_cidr text) is
+
+subnet_at-ok : (d : Data) (c : CidrValue) → subnet_at d ≡ Ok c → IsSubnet c
+unfolding subnet_at
+subnet_at-ok d c is = subnet_of-ok _ c is
+
+bound_or_refused-ok : (key : List ℕ) (c : CidrValue) (o : Option AddrValue) (a : AddrValue) → bound_or_refused key c o ≡ Ok a → contains c a ≡ true
+bound_or_refused-ok key c None a is = cc
+bound_or_refused-ok key c (Some v) a is = let test = passed (contains c v) v a _ is in subst (λ w. contains c w ≡ true) test.1 test.0
+
+bound_of-ok : (key : List ℕ) (c : CidrValue) (default : AddrValue) (f : Field (List ℕ)) (a : AddrValue) → contains c default ≡ true → bound_of key c default f ≡ Ok a → contains c a ≡ true
+bound_of-ok key c default Absent a inside is = subst (λ w. contains c w ≡ true) (ok_same is) inside
+bound_of-ok key c default WrongKind a inside is = cc
+bound_of-ok key c default (Here text) a inside is = bound_or_refused-ok key c (addr_of_text text) a is
+
+bound_at-ok : (key : List ℕ) (c : CidrValue) (default : AddrValue) (d : Data) (a : AddrValue) → contains c default ≡ true → bound_at key c default d ≡ Ok a → contains c a ≡ true
+unfolding bound_at
+bound_at-ok key c default d a inside is = bound_of-ok key c default _ a inside is
+
+in_order-ok : (start end : AddrValue) → in_order start end ≡ Ok tt → start.bits ≤ end.bits
+unfolding in_order
+in_order-ok start end is =
+    let above = (not_refused (nat_lt end.bits start.bits) _ _ _ is).0 in
+    grind (arith, nat_tests)
+
+abbrev IsGatewayOf : CidrValue → AddrValue → Type 0
+IsGatewayOf c a = IsAddr a × (a.family ≡ c.addr.family)
+
+gateway_or_refused-ok : (c : CidrValue) (o : Option AddrValue) (a : AddrValue) → ((v : AddrValue) → o ≡ Some v → IsAddr v) → gateway_or_refused c.addr.family o ≡ Ok a → IsGatewayOf c a
+gateway_or_refused-ok c None a kept is = cc
+gateway_or_refused-ok c (Some v) a kept is =
+    let test = passed _ v a _ is in
+    subst (IsGatewayOf c) test.1 (kept v refl, same_family v.family c.addr.family test.0)
+
+gateway_of-ok : (c : CidrValue) (f : Field (List ℕ)) (a : AddrValue) → IsSubnet c → gateway_of c f ≡ Ok a → IsGatewayOf c a
+unfolding first_host
+gateway_of-ok c Absent a subnet is =
+    let inside = first_host_inside c subnet.0 in
+    subst (IsGatewayOf c) (ok_same is) (contained_is_addr c (first_host c) subnet.1 inside, refl)
+gateway_of-ok c WrongKind a subnet is = cc
+gateway_of-ok c (Here text) a subnet is = gateway_or_refused-ok c (addr_of_text text) a (read_is_addr text) is
+
+gateway_at-ok : (c : CidrValue) (d : Data) (a : AddrValue) → IsSubnet c → gateway_at c d ≡ Ok a → IsGatewayOf c a
+unfolding gateway_at
+gateway_at-ok c d a subnet is = gateway_of-ok c _ a subnet is
+
+pub range_at-ok : (d : Data) (r : Range) → range_at d ≡ Ok r → IsWellFormedRange r
+unfolding range_at
+range_at-ok d r is =
+    let subnet = goes _ _ _ is in
+    let start = goes _ _ _ subnet.rest in
+    let end = goes _ _ _ start.rest in
+    let order = goes _ _ _ end.rest in
+    let gateway = goes _ _ _ order.rest in
+    let c = subnet.value in
+    let kept = subnet_at-ok d c subnet.first in
+    let says = subnet_says c kept.0 in
+    let start_inside = bound_at-ok _ c _ d start.value (first_host_inside c kept.0) start.first in
+    let end_inside = bound_at-ok _ c _ d end.value (last_host_inside c kept.0) end.first in
+    let gateway_kept = gateway_at-ok c d gateway.value kept gateway.first in
+    subst IsWellFormedRange (ok_same gateway.rest) (record {
+      is_cidr = kept.1;
+      no_host_bits = says.own;
+      prefix_least = says.least;
+      prefix_most = says.most;
+      start_is_addr = contained_is_addr c start.value kept.1 start_inside;
+      start_inside = start_inside;
+      end_is_addr = contained_is_addr c end.value kept.1 end_inside;
+      end_inside = end_inside;
+      in_order = in_order-ok start.value end.value order.first;
+      gateway_is_addr = gateway_kept.0;
+      gateway_family = gateway_kept.1;
+    })

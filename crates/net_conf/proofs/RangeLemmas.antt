@@ -1,0 +1,59 @@
+-- Subnets have room for their hosts, and the parts of a range have one family.
+use Rattle.std.proofs.Common.{◌≡◌, ℕ, ◌+◌, ◌-◌, ◌^◌, ◌%◌, ◌≤◌, ◌<◌, ◌&&◌, Bool, true, false, nat_le, ◌==◌, List, Option, Some, None, Result, Ok, Err, sym, ap, subst, ◌∙◌, refl, arith}
+use Rattle.std.proofs.lemmas.Nat.{pow_pos}
+use Rattle.std.proofs.lemmas.Bool.{and_parts}
+use Rattle.std.proofs.lemmas.Grind.{common_steps}
+use Rattle.std.proofs.lemmas.Bool.Decides.{nat_tests}
+use Rattle.std.proofs.Math.Pow.{pow_mono}
+use Rattle.cni_json.specs.declared.fields.Field.{Field}
+use Rattle.cni_json.specs.declared.fields.Field.TheVariants.{Absent, WrongKind, Here}
+use Rattle.cni_addr.specs.declared.address.Family.{Family}
+use Rattle.cni_addr.specs.declared.address.Family.TheVariants.{V4, V6}
+use Rattle.cni_addr.specs.Value.{AddrValue, CidrValue, longest_prefix}
+use Rattle.cni_addr.specs.Codes.{family_eq}
+use Rattle.cni_addr.specs.Equal.{cidr_eq}
+use Rattle.cni_addr.specs.Network.{network_size, network_bits, network_of, last_of, contains}
+use Rattle.net_conf.specs.Ranges.{is_subnet, bound_of, bound_at, bound_or_refused, gateway_or_refused, gateway_of, gateway_at, first_host, last_host}
+use Rattle.net_conf.specs.declared.error.ConfError.{ConfError}
+
+pub same_family : (f g : Family) → family_eq f g ≡ true → f ≡ g
+same_family V4 V4 h = refl
+same_family V4 V6 h = cc
+same_family V6 V4 h = cc
+same_family V6 V6 h = refl
+
+-- a prefix of 30 bits leaves room for four addresses
+room : (f : Family) (prefix : ℕ) → prefix ≤ 30 → 4 ≤ 2 ^ (longest_prefix f - prefix)
+room V4 prefix low = let more : 2 ≤ 32 - prefix = omega arith in pow_mono more
+room V6 prefix low = let more : 2 ≤ 128 - prefix = omega arith in pow_mono more
+
+-- what the tests of a subnet say of its numbers
+tested : (f : Bool) (a b p q : ℕ) → (((f && a == b) && p == q) && (nat_le 8 p && nat_le p 30)) ≡ true → (a ≡ b) × (8 ≤ p) × (p ≤ 30)
+tested f a b p q is = (grind (arith, nat_tests), grind (arith, nat_tests), grind (arith, nat_tests))
+
+-- what it is to be a subnet
+pub record Says (c : CidrValue) : Type 0 where
+  pub own : network_of c ≡ c
+  pub least : 8 ≤ c.prefix
+  pub most : c.prefix ≤ 30
+
+pub subnet_says : (c : CidrValue) → is_subnet c ≡ true → Says c
+unfolding network_of is_subnet
+subnet_says c is =
+    let says = tested (family_eq c.addr.family c.addr.family) c.addr.bits (network_bits c) c.prefix c.prefix is in
+    record {
+      own = ap (λ n. record { addr = record { family = c.addr.family; bits = n }; prefix = c.prefix }) (sym says.0);
+      least = says.1;
+      most = says.2;
+    }
+
+-- the network's last address stands three or more above its first
+pub subnet_room : (c : CidrValue) → is_subnet c ≡ true → c.addr.bits + 3 ≤ (last_of c).bits
+unfolding network_of last_of
+subnet_room c is =
+    let says = subnet_says c is in
+    let first : network_bits c ≡ c.addr.bits = ap (λ (n : CidrValue). n.addr.bits) says.own in
+    let size : 4 ≤ network_size c = room c.addr.family c.prefix says.most in
+    omega arith
+
+pub ruleset rooms = (subnet_room)

@@ -1,0 +1,181 @@
+-- What sets of ranges and routes keep that are read.
+use Rattle.std.proofs.Common.{◌≡◌, ℕ, suc, ◌+◌, ◌≤◌, ◌<◌, ◌&&◌, Bool, true, false, List, [], ◌∷◌, ◌++◌, codes, length, Option, Some, None, Result, Ok, Err, refl, sym, ap, ◌∙◌, subst, arith, length-append}
+use Rattle.std.specs.Prelude.{All, nat_le}
+use Rattle.std.specs.List.{list_all, flat_map}
+use Rattle.std.proofs.lemmas.Bool.{and_parts}
+use Rattle.std.proofs.lemmas.Bool.Decides.{nat_tests}
+use Rattle.std.proofs.lemmas.List.Elements.{All-nil, All-cons, All-append}
+use Rattle.std.proofs.lemmas.List.Folds.{list_all-append}
+use Rattle.serde_json.specs.Data.{Data, null, boolean, number, string, array, object, Items, no_items, item}
+use Rattle.serde_json.specs.Find.{get}
+use Rattle.cni_json.specs.declared.fields.Field.{Field}
+use Rattle.cni_json.specs.declared.fields.Field.TheVariants.{Absent, WrongKind, Here}
+use Rattle.cni_addr.proofs.Networks.{IsCidr-network_of, network_of_network}
+use Rattle.cni_addr.specs.declared.address.Family.{Family}
+use Rattle.cni_addr.specs.declared.range.Range.{Range}
+use Rattle.cni_addr.specs.declared.range.RangeSet.{RangeSet}
+use Rattle.cni_addr.specs.AddrText.{addr_of_text}
+use Rattle.cni_addr.specs.CidrText.{cidr_of_text}
+use Rattle.cni_addr.specs.Network.{IsCidr, network_of}
+use Rattle.cni_addr.specs.Value.{AddrValue, CidrValue, IsAddr}
+use Rattle.cni_result.specs.declared.result.RouteEntry.{RouteEntry}
+use Rattle.ip_pool.specs.Pool.{is_apart, are_apart}
+use Rattle.net_conf.proofs.Endings.{goes, ok_same, passed, each_all, each_tested, each_count}
+use Rattle.net_conf.proofs.RangeFacts.{range_at-ok, read_is_addr, read_is_cidr}
+use Rattle.net_conf.proofs.RangeLemmas.{same_family}
+use Rattle.net_conf.specs.Members.{each, with_front}
+use Rattle.net_conf.specs.Ranges.{range_at}
+use Rattle.net_conf.specs.Routes.{destination_or_refused, destination_of, destination_at, hop_or_refused, hop_of, hop_at, route_at, routes_of, routes_at}
+use Rattle.net_conf.specs.Sets.{set_of, is_set, is_object, all_items, is_of_one_family, ranges_of, are_separate, is_there, listed_at, item_count, is_set_count, one_if, well_formed, own_sets_of, separate, sets_at}
+use Rattle.net_conf.specs.WellFormed.{IsWellFormedRange, IsWellFormedSet, IsWellFormedRoute}
+use Rattle.net_conf.specs.declared.error.ConfError.{ConfError}
+
+-- ---- a set
+
+-- what a set keeps by itself
+abbrev IsFilled : RangeSet → Type 0
+IsFilled set = (0 < length set.ranges) × All IsWellFormedRange set.ranges
+
+some_items : (ds : Items) → is_set (array ds) ≡ true → 0 < item_count ds
+some_items no_items is = cc
+some_items (item d ds) is = omega arith
+
+set_of-ok : (d : Data) (set : RangeSet) → is_set d ≡ true → set_of d ≡ Ok set → IsFilled set
+set_of-ok null set form is = cc
+set_of-ok (boolean b) set form is = cc
+set_of-ok (number n) set form is = cc
+set_of-ok (string s) set form is = cc
+set_of-ok (object ms) set form is = cc
+set_of-ok (array ds) set form is =
+    let read = goes (each range_at ds) _ set is in
+    let count = each_count range_at ds read.value read.first in
+    let some = some_items ds form in
+    let filled : 0 < length read.value = omega arith in
+    subst IsFilled (ok_same read.rest) (filled, each_all range_at IsWellFormedRange range_at-ok ds read.value read.first)
+
+-- ---- ranges that are apart
+
+apart-append : (xs ys : List Range) → are_apart (xs ++ ys) ≡ true → (are_apart xs ≡ true) × (are_apart ys ≡ true)
+apart-append [] ys h = (refl, h)
+apart-append (x ∷ xs) ys h =
+    let here = and_parts (list_all (is_apart x) (xs ++ ys)) (are_apart (xs ++ ys)) h in
+    let more = apart-append xs ys here.1 in
+    let front = and_parts (list_all (is_apart x) xs) (list_all (is_apart x) ys) (sym (list_all-append (is_apart x) xs ys) ∙ here.0) in
+    (and_both front.0 more.0, more.1)
+  where
+    and_both : {a b : Bool} → a ≡ true → b ≡ true → (a && b) ≡ true
+    and_both p q = cc
+
+-- where the sets are separate and each is filled, each is well formed
+all_sets : (sets : List RangeSet) → are_apart (ranges_of sets) ≡ true → list_all is_of_one_family sets ≡ true → All IsFilled sets → All IsWellFormedSet sets
+all_sets [] apart one filled = All-nil IsWellFormedSet
+all_sets (set ∷ sets) apart one filled =
+    let parts = apart-append set.ranges (ranges_of sets) apart in
+    let families = and_parts (is_of_one_family set) (list_all is_of_one_family sets) one in
+    let here = filled 0 set (omega arith) in
+    let later : All IsFilled sets = λ k d h. filled (suc k) d (omega arith) in
+    All-cons IsWellFormedSet set sets (record { some = here.0; ranges = here.1; apart = parts.0; one_family = families.0 }) (all_sets sets parts.1 families.1 later)
+
+-- ---- all sets
+
+-- what sets keep together
+pub record AreWellFormedSets (sets : List RangeSet) : Type 0 where
+  pub some : 0 < length sets
+  pub few : length sets ≤ 65536
+  pub each_set : All IsWellFormedSet sets
+  pub apart : are_apart (ranges_of sets) ≡ true
+
+own_sets_of-ok : (own : Bool) (d : Data) (sets : List RangeSet) → own_sets_of own d ≡ Ok sets → (length sets ≡ one_if own) × All IsFilled sets
+own_sets_of-ok false d sets is = subst (λ (found : List RangeSet). (length found ≡ 0) × All IsFilled found) (ok_same is) (refl, All-nil IsFilled)
+own_sets_of-ok true d sets is =
+    let read = goes (range_at d) _ sets is in
+    let r = read.value in
+    let set : RangeSet = record { ranges = r ∷ [] } in
+    let ranges = All-cons IsWellFormedRange r [] (range_at-ok d r read.first) (All-nil IsWellFormedRange) in
+    let filled : 0 < length set.ranges = omega arith in
+    subst (λ (found : List RangeSet). (length found ≡ 1) × All IsFilled found) (ok_same read.rest)
+    (refl, All-cons IsFilled set [] (filled, ranges) (All-nil IsFilled))
+
+counted : (n : ℕ) → is_set_count n ≡ true → (0 < n) × (n ≤ 65536)
+counted n h = (grind (arith, nat_tests), grind (arith, nat_tests))
+
+pub sets_at-ok : (d : Data) (sets : List RangeSet) → sets_at d ≡ Ok sets → AreWellFormedSets sets
+unfolding sets_at
+sets_at-ok d sets is =
+    let has_own = is_there (get (codes "subnet") d) in
+    let listed = goes (listed_at d) _ sets is in
+    let form = goes (well_formed has_own listed.value) _ sets listed.rest in
+    let own = goes (own_sets_of has_own d) _ sets form.rest in
+    let found = goes (with_front own.value (each set_of listed.value)) _ sets own.rest in
+    let tests = goes (separate found.value) _ sets found.rest in
+    let others = goes (each set_of listed.value) _ found.value found.first in
+    let all = ok_same {x = own.value ++ others.value} {y = found.value} others.rest in
+    let form_tests = and_parts (is_set_count (one_if has_own + item_count listed.value)) (all_items is_set listed.value) (passed _ tt form.value _ form.first).0 in
+    let separate_tests = and_parts (are_apart (ranges_of found.value)) (list_all is_of_one_family found.value) (passed _ tt tests.value _ tests.first).0 in
+    let count = counted (one_if has_own + item_count listed.value) form_tests.0 in
+    let own_filled = own_sets_of-ok has_own d own.value own.first in
+    let other_count = each_count set_of listed.value others.value others.first in
+    let others_filled = each_tested is_set set_of IsFilled set_of-ok listed.value others.value form_tests.1 others.first in
+    let filled : All IsFilled found.value = subst (All IsFilled) all (All-append IsFilled own.value others.value own_filled.1 others_filled) in
+    let size : length found.value ≡ one_if has_own + item_count listed.value = sym (ap length all) ∙ (length-append own.value others.value ∙ sum_same own_filled.0 other_count) in
+    subst AreWellFormedSets (ok_same tests.rest)
+    (record { some = omega arith; few = omega arith; each_set = all_sets found.value separate_tests.0 separate_tests.1 filled; apart = separate_tests.0 })
+  where
+    sum_same : {a b c d : ℕ} → a ≡ c → b ≡ d → a + b ≡ c + d
+    sum_same p q = cc
+
+-- ---- routes
+
+destination_or_refused-ok : (o : Option CidrValue) (c : CidrValue) → ((v : CidrValue) → o ≡ Some v → IsCidr v) → destination_or_refused o ≡ Ok c → IsCidr c × (network_of c ≡ c)
+destination_or_refused-ok None c kept is = cc
+destination_or_refused-ok (Some v) c kept is =
+    subst (λ n. IsCidr n × (network_of n ≡ n)) (ok_same is) (IsCidr-network_of v (kept v refl), network_of_network v)
+
+destination_of-ok : (f : Field (List ℕ)) (c : CidrValue) → destination_of f ≡ Ok c → IsCidr c × (network_of c ≡ c)
+destination_of-ok Absent c is = cc
+destination_of-ok WrongKind c is = cc
+destination_of-ok (Here text) c is = destination_or_refused-ok (cidr_of_text text) c (read_is_cidr text) is
+
+destination_at-ok : (d : Data) (c : CidrValue) → destination_at d ≡ Ok c → IsCidr c × (network_of c ≡ c)
+unfolding destination_at
+destination_at-ok d c is = destination_of-ok _ c is
+
+-- the hop, if there is one, has the family
+abbrev IsHop : Family → Option AddrValue → Type 0
+IsHop family o = (gw : AddrValue) → o ≡ Some gw → IsAddr gw × (gw.family ≡ family)
+
+hop_or_refused-ok : (family : Family) (o found : Option AddrValue) → ((v : AddrValue) → o ≡ Some v → IsAddr v) → hop_or_refused family o ≡ Ok found → IsHop family found
+hop_or_refused-ok family None found kept is = cc
+hop_or_refused-ok family (Some v) found kept is =
+    let test = passed _ (Some v) found _ is in
+    subst (IsHop family) test.1 (λ gw same.
+    let this : v ≡ gw = cc in
+    subst (λ g. IsAddr g × (g.family ≡ family)) this (kept v refl, same_family v.family family test.0))
+
+hop_of-ok : (family : Family) (f : Field (List ℕ)) (found : Option AddrValue) → hop_of family f ≡ Ok found → IsHop family found
+hop_of-ok family Absent found is = subst (IsHop family) (ok_same is) (λ gw same. cc)
+hop_of-ok family WrongKind found is = cc
+hop_of-ok family (Here text) found is = hop_or_refused-ok family (addr_of_text text) found (read_is_addr text) is
+
+hop_at-ok : (family : Family) (d : Data) (found : Option AddrValue) → hop_at family d ≡ Ok found → IsHop family found
+unfolding hop_at
+hop_at-ok family d found is = hop_of-ok family _ found is
+
+route_at-ok : (d : Data) (route : RouteEntry) → route_at d ≡ Ok route → IsWellFormedRoute route
+unfolding route_at
+route_at-ok d route is =
+    let dst = goes _ _ _ is in
+    let gw = goes _ _ _ dst.rest in
+    let kept = destination_at-ok d dst.value dst.first in
+    let hop = hop_at-ok dst.value.addr.family d gw.value gw.first in
+    subst IsWellFormedRoute (ok_same gw.rest)
+    (record { is_cidr = kept.0; no_host_bits = kept.1; hop_is_addr = λ a same. (hop a same).0; hop_family = λ a same. (hop a same).1 })
+
+routes_of-ok : (f : Field Items) (routes : List RouteEntry) → routes_of f ≡ Ok routes → All IsWellFormedRoute routes
+routes_of-ok Absent routes is = subst (All IsWellFormedRoute) (ok_same is) (All-nil IsWellFormedRoute)
+routes_of-ok WrongKind routes is = cc
+routes_of-ok (Here ds) routes is = each_all route_at IsWellFormedRoute route_at-ok ds routes is
+
+pub routes_at-ok : (d : Data) (routes : List RouteEntry) → routes_at d ≡ Ok routes → All IsWellFormedRoute routes
+unfolding routes_at
+routes_at-ok d routes is = routes_of-ok _ routes is

@@ -1,0 +1,185 @@
+-- What the configuration of `tuning` keeps that is read.
+use Rattle.std.proofs.Common.{◌≡◌, ℕ, suc, ◌≤◌, ◌<◌, ◌^◌, Bool, true, false, cond, List, [], ◌∷◌, codes, length, Option, Some, None, Result, Ok, Err, Ordering, Less, Equal, Greater, nat_cmp, nat_eq, refl, sym, ap, ◌∙◌, subst, arith}
+use Rattle.std.specs.Prelude.{All, IsTrue, nat_le, not, map, if◌then◌else◌, ⊤}
+use Rattle.std.specs.Cmp.Lexicographic.{slice_cmp, nat_list_cmp_total, bytes_decides}
+use Rattle.std.specs.List.{AllByRecursion, IsDistinct, starts_with}
+use Rattle.std.specs.Str.{bytes_eq}
+use Rattle.std.proofs.lemmas.Bool.Decides.{nat_tests}
+use Rattle.std.proofs.lemmas.Map.Text.{is_eq-slice_cmp}
+use Rattle.std.specs.Ordering.{is_eq}
+use Rattle.std.proofs.lemmas.List.Elements.{All-nil, All-cons}
+use Rattle.serde_json.specs.Data.{Data, null, boolean, number, string, array, object, Members, no_members, member}
+use Rattle.serde_json.specs.Find.{get}
+use Rattle.cni_json.specs.Fields.{u64_field}
+use Rattle.cni_json.specs.declared.fields.Field.{Field}
+use Rattle.cni_json.specs.declared.fields.Field.TheVariants.{Absent, WrongKind, Here}
+use Rattle.cni_addr.proofs.MacTexts.{mac_read_is_spelled}
+use Rattle.cni_addr.specs.declared.mac.Mac.{Mac}
+use Rattle.cni_addr.specs.MacText.{IsMac, mac_of_text}
+use Rattle.net_conf.proofs.Endings.{goes, ok_same, passed, not_refused}
+use Rattle.net_conf.proofs.JsonOrder.{IsBelowAll, IsOrdered, HasOrder, get-ordered}
+use Rattle.net_conf.specs.Members.{flag_at, is_mtu}
+use Rattle.net_conf.specs.Tuning.{has_part, setting_or_refused, setting_of, is_null, settings_of, sysctl_of, sysctl_at, mac_or_refused, new_mac_of, new_mac_at, new_mtu_of, new_mtu_at, queue_length_of, queue_length_at, tuning_at}
+use Rattle.net_conf.specs.WellFormed.{IsMtu, IsOfNetwork, IsWellFormedTuning}
+use Rattle.net_conf.specs.declared.chained.Sysctl.{Sysctl}
+use Rattle.net_conf.specs.declared.chained.TuningConf.{TuningConf}
+use Rattle.net_conf.specs.declared.error.ConfError.{ConfError}
+
+-- ---- settings
+
+-- a setting keeps its key, which is one of the network
+abbrev IsSettingOf : List ℕ → Sysctl → Type 0
+IsSettingOf key setting = (setting.key ≡ key) × IsOfNetwork setting
+
+-- one of two outcomes
+pub by_test : {A P : Type 0} (b : Bool) (x y : Result A ConfError) (z : Result A ConfError) → (if b then x else y) ≡ z → (b ≡ true → x ≡ z → P) → (b ≡ false → y ≡ z → P) → P
+by_test true x y z is first second = first refl is
+by_test false x y z is first second = second refl is
+
+from_not : (b : Bool) → not b ≡ false → b ≡ true
+from_not true is = refl
+from_not false is = cc
+
+setting_or_refused-ok : (key value : List ℕ) (setting : Sysctl) → setting_or_refused key value ≡ Ok setting → IsSettingOf key setting
+setting_or_refused-ok key value setting is =
+    by_test (not (starts_with nat_eq key (codes "net."))) _ _ _ is (λ other same. cc)
+    (λ net same. by_test (has_part (codes "IFNAME") key) _ _ _ same (λ name refused. cc)
+    (λ plain read. subst (IsSettingOf key) (ok_same read) (refl, from_not (starts_with nat_eq key (codes "net.")) net)))
+
+setting_of-ok : (key : List ℕ) (d : Data) (setting : Sysctl) → setting_of key d ≡ Ok setting → IsSettingOf key setting
+setting_of-ok key null setting is = cc
+setting_of-ok key (boolean b) setting is = cc
+setting_of-ok key (number n) setting is = cc
+setting_of-ok key (string value) setting is = setting_or_refused-ok key value setting is
+setting_of-ok key (array ds) setting is = cc
+setting_of-ok key (object ms) setting is = cc
+
+abbrev keys : List Sysctl → List (List ℕ)
+keys settings = map (λ setting. setting.key) settings
+
+abbrev Differs : List ℕ → List ℕ → Type 0
+Differs k l = bytes_eq k l ≡ false
+
+-- what settings keep together
+record AreSettings (settings : List Sysctl) : Type 0 where
+  of_network : All IsOfNetwork settings
+  once : IsDistinct bytes_eq (keys settings)
+
+below_differs : (k l : List ℕ) → slice_cmp nat_cmp k l ≡ Less → Differs k l
+below_differs k l below = sym (is_eq-slice_cmp k l) ∙ ap is_eq below
+
+-- a key below all members differs from the key of each setting
+below_settings : (k : List ℕ) (ms : Members) (settings : List Sysctl) → IsBelowAll k ms → settings_of ms ≡ Ok settings → AllByRecursion (Differs k) (keys settings)
+below_settings k no_members settings below is = subst (λ found. AllByRecursion (Differs k) (keys found)) (ok_same is) tt
+below_settings k (member l d ms) settings below is =
+    by_test (is_null d) _ _ _ is (λ null same. below_settings k ms settings below.1 same) (λ there same.
+    let one = goes (setting_of l d) _ settings same in
+    let more = goes (settings_of ms) _ settings one.rest in
+    let key = (setting_of-ok l d one.value one.first).0 in
+    let here : Differs k one.value.key = subst (Differs k) (sym key) (below_differs k l below.0) in
+    subst (λ found. AllByRecursion (Differs k) (keys found)) (ok_same more.rest) (here, below_settings k ms more.value below.1 more.first))
+
+settings_of-ok : (ms : Members) (settings : List Sysctl) → HasOrder ms → settings_of ms ≡ Ok settings → AreSettings settings
+unfolding IsDistinct
+settings_of-ok no_members settings order is = subst AreSettings (ok_same is) (record { of_network = All-nil IsOfNetwork; once = tt })
+settings_of-ok (member k d ms) settings order is =
+    by_test (is_null d) _ _ _ is (λ null same. settings_of-ok ms settings order.2 same) (λ there same.
+    let one = goes (setting_of k d) _ settings same in
+    let more = goes (settings_of ms) _ settings one.rest in
+    let setting = setting_of-ok k d one.value one.first in
+    let others = settings_of-ok ms more.value order.2 more.first in
+    let differs : AllByRecursion (Differs one.value.key) (keys more.value) = subst (λ l. AllByRecursion (Differs l) (keys more.value)) (sym setting.0) (below_settings k ms more.value order.0 more.first) in
+    subst AreSettings (ok_same more.rest) (record {
+      of_network = All-cons IsOfNetwork one.value more.value setting.1 others.of_network;
+      once = (differs, others.once);
+    }))
+
+sysctl_of-ok : (o : Option Data) (settings : List Sysctl) → ((d : Data) → o ≡ Some d → IsOrdered d) → sysctl_of o ≡ Ok settings → AreSettings settings
+sysctl_of-ok None settings order is = settings_of-ok no_members settings tt is
+sysctl_of-ok (Some null) settings order is = settings_of-ok no_members settings tt is
+sysctl_of-ok (Some (boolean b)) settings order is = cc
+sysctl_of-ok (Some (number n)) settings order is = cc
+sysctl_of-ok (Some (string s)) settings order is = cc
+sysctl_of-ok (Some (array ds)) settings order is = cc
+sysctl_of-ok (Some (object ms)) settings order is = settings_of-ok ms settings (order (object ms) refl) is
+
+sysctl_at-ok : (d : Data) (settings : List Sysctl) → IsOrdered d → sysctl_at d ≡ Ok settings → AreSettings settings
+unfolding sysctl_at
+sysctl_at-ok d settings order is = sysctl_of-ok (get (codes "sysctl") d) settings (λ e there. get-ordered (codes "sysctl") d e order there) is
+
+-- ---- numbers
+
+abbrev IsNewMac : Option Mac → Type 0
+IsNewMac o = (mac : Mac) → o ≡ Some mac → IsMac mac
+
+mac_or_refused-ok : (o found : Option Mac) → IsNewMac o → mac_or_refused o ≡ Ok found → IsNewMac found
+mac_or_refused-ok None found kept is = cc
+mac_or_refused-ok (Some v) found kept is = subst IsNewMac (ok_same is) kept
+
+new_mac_of-ok : (f : Field (List ℕ)) (found : Option Mac) → new_mac_of f ≡ Ok found → IsNewMac found
+new_mac_of-ok Absent found is = subst IsNewMac (ok_same is) (λ mac same. cc)
+new_mac_of-ok WrongKind found is = cc
+new_mac_of-ok (Here text) found is =
+    by_test (bytes_eq text []) _ _ _ is
+    (λ empty same. subst IsNewMac (ok_same same) (λ mac same. cc))
+    (λ some same. mac_or_refused-ok (mac_of_text text) found (λ mac read. (mac_read_is_spelled text mac read).fits) same)
+
+new_mac_at-ok : (d : Data) (found : Option Mac) → new_mac_at d ≡ Ok found → IsNewMac found
+unfolding new_mac_at
+new_mac_at-ok d found is = new_mac_of-ok _ found is
+
+pub is_mtu-true : (n : ℕ) → is_mtu n ≡ true → IsMtu n
+is_mtu-true n is = record { least = grind (arith, nat_tests); most = grind (arith, nat_tests) }
+
+abbrev IsNew : (ℕ → Type 0) → Option ℕ → Type 0
+IsNew P o = (n : ℕ) → o ≡ Some n → P n
+
+none_new : (P : ℕ → Type 0) → IsNew P None
+none_new P n same = cc
+
+some_new : (P : ℕ → Type 0) (m : ℕ) → P m → IsNew P (Some m)
+some_new P m holds n same = let this : m ≡ n = cc in subst P this holds
+
+new_mtu_of-ok : (f : Field ℕ) (found : Option ℕ) → new_mtu_of f ≡ Ok found → IsNew IsMtu found
+new_mtu_of-ok Absent found is = subst (IsNew IsMtu) (ok_same is) (none_new IsMtu)
+new_mtu_of-ok WrongKind found is = cc
+new_mtu_of-ok (Here n) found is =
+    by_test (nat_eq n 0) _ _ _ is
+    (λ zero same. subst (IsNew IsMtu) (ok_same same) (none_new IsMtu))
+    (λ some same. let test = passed (is_mtu n) (Some n) found _ same in subst (IsNew IsMtu) test.1 (some_new IsMtu n (is_mtu-true n test.0)))
+
+new_mtu_at-ok : (d : Data) (found : Option ℕ) → new_mtu_at d ≡ Ok found → IsNew IsMtu found
+unfolding new_mtu_at
+new_mtu_at-ok d found is = new_mtu_of-ok (u64_field (codes "mtu") d) found is
+
+abbrev HasWord : ℕ → Type 0
+HasWord n = n < 2 ^ 32
+
+queue_length_of-ok : (f : Field ℕ) (found : Option ℕ) → queue_length_of f ≡ Ok found → IsNew HasWord found
+queue_length_of-ok Absent found is = subst (IsNew HasWord) (ok_same is) (none_new HasWord)
+queue_length_of-ok WrongKind found is = cc
+queue_length_of-ok (Here n) found is =
+    let test = passed (nat_le n 4294967295) (Some n) found _ is in
+    subst (IsNew HasWord) test.1 (some_new HasWord n (grind (arith, nat_tests)))
+
+queue_length_at-ok : (d : Data) (found : Option ℕ) → queue_length_at d ≡ Ok found → IsNew HasWord found
+unfolding queue_length_at
+queue_length_at-ok d found is = queue_length_of-ok (u64_field (codes "txQLen") d) found is
+
+pub tuning_at-ok : (d : Data) (conf : TuningConf) → IsOrdered d → tuning_at d ≡ Ok conf → IsWellFormedTuning conf
+unfolding tuning_at
+tuning_at-ok d conf order is =
+    let sysctl = goes (sysctl_at d) _ conf is in
+    let mac = goes (new_mac_at d) _ conf sysctl.rest in
+    let mtu = goes (new_mtu_at d) _ conf mac.rest in
+    let promisc = goes (flag_at (codes "promisc") false d) _ conf mtu.rest in
+    let allmulti = goes (flag_at (codes "allmulti") false d) _ conf promisc.rest in
+    let queue = goes (queue_length_at d) _ conf allmulti.rest in
+    let settings = sysctl_at-ok d sysctl.value order sysctl.first in
+    subst IsWellFormedTuning (ok_same queue.rest) (record {
+      settings = settings.of_network;
+      keys_once = settings.once;
+      mac = new_mac_at-ok d mac.value mac.first;
+      mtu = new_mtu_at-ok d mtu.value mtu.first;
+      queue_length = queue_length_at-ok d queue.value queue.first;
+    })

@@ -1,0 +1,32 @@
+-- One more step through a text, and through the members of an object.
+use Rattle.std.proofs.Common.{◌≡◌, ℕ, zero, suc, ◌+◌, ◌<◌, ◌||◌, cond, Bool, true, false, List, [], ◌∷◌, ◌++◌, length, drop, nat_eq, Result, Ok, Err, refl, sym, ap, arith, add-one, append_assoc}
+use Rattle.std.proofs.lemmas.List.{take_rest}
+use Rattle.std.specs.List.{starts_with}
+use Rattle.cni_json.specs.Outcome.{◌>>=◌}
+use Rattle.serde_json.specs.Data.{Data, Members, member}
+use Rattle.net_conf.specs.Members.{with_front}
+use Rattle.net_conf.specs.Tuning.{has_part, settings_of, setting_of, is_null}
+use Rattle.net_conf.specs.declared.chained.Sysctl.{Sysctl}
+use Rattle.net_conf.specs.declared.error.ConfError.{ConfError}
+
+has_part-suc : (part text : List ℕ) (i : ℕ) → i < length text → has_part part (drop i text) ≡ (starts_with nat_eq (drop i text) part || has_part part (drop (suc i) text))
+has_part-suc part [] i within = absurd (omega arith)
+has_part-suc part (c ∷ cs) zero within = refl
+has_part-suc part (c ∷ cs) (suc i) within = has_part-suc part cs i (omega arith)
+
+-- the part stands here, or further on
+pub has_part-drop : (part text : List ℕ) (i : ℕ) → i < length text → has_part part (drop i text) ≡ (starts_with nat_eq (drop i text) part || has_part part (drop (i + 1) text))
+has_part-drop part text i within = rw add-one (has_part-suc part text i within)
+
+pub ruleset parts = (has_part-drop, take_rest)
+
+with_front-more : (front : List Sysctl) (s : Sysctl) (r : Result (List Sysctl) ConfError) → with_front (front ++ s ∷ []) r ≡ with_front front (r >>= λ rest. Ok (s ∷ rest))
+with_front-more front s (Ok rest) = ap Ok (append_assoc front (s ∷ []) rest)
+with_front-more front s (Err e) = refl
+
+-- a setting that is read joins those that were found
+pub settings-found : (front : List Sysctl) (s : Sysctl) (key : List ℕ) (d : Data) (ms : Members) → is_null d ≡ false → setting_of key d ≡ Ok s
+    → with_front front (settings_of (member key d ms)) ≡ with_front (front ++ s ∷ []) (settings_of ms)
+settings-found front s key d ms there read = rw (there, read) (sym (with_front-more front s (settings_of ms)))
+
+pub ruleset settings = (settings-found)

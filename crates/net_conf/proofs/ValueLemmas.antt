@@ -1,0 +1,38 @@
+-- Lists of values and the data that they stand for.
+use Rattle.std.proofs.Common.{◌≡◌, ◌≤◌, suc, List, [], ◌∷◌, length, drop, false, nat_eq, ap, refl, arith}
+use Rattle.std.proofs.lemmas.Bool.{or_parts}
+use Rattle.std.proofs.lemmas.Grind.{common_steps}
+use Rattle.serde_json.specs.Data.{array}
+use Rattle.serde_json.specs.View.{view, items_view}
+use Rattle.serde_json.specs.Written.{has_float, items_have_float}
+use Rattle.serde_json.specs.declared.value.Value.{Value}
+use Rattle.net_conf.specs.Outside.{is_empty_list}
+use Rattle.net_conf.specs.Sets.{item_count, is_set, is_object, all_items}
+use Rattle.net_conf.specs.Plugins.{later_plugins, chained_after}
+
+pub empty_items : (xs : List Value) → is_empty_list (array (items_view xs)) ≡ nat_eq (length xs) 0
+empty_items [] = refl
+empty_items (x ∷ xs) = grind (arith, common_steps)
+
+-- the data has as many items as the list has values
+pub item_count-items_view : (xs : List Value) → item_count (items_view xs) ≡ length xs
+item_count-items_view [] = refl
+item_count-items_view (x ∷ xs) = ap suc (item_count-items_view xs)
+
+-- a list of values, by its length
+pub is_set-some : (xs : List Value) → 1 ≤ length xs → is_set (array (items_view xs)) ≡ all_items is_object (items_view xs)
+is_set-some [] some = absurd (omega arith)
+is_set-some (x ∷ xs) some = refl
+
+pub later_plugins-some : (xs : List Value) → 1 ≤ length xs → later_plugins (items_view xs) ≡ chained_after [] (items_view (drop 1 xs))
+later_plugins-some [] some = absurd (omega arith)
+later_plugins-some (x ∷ xs) some = refl
+
+-- what is left of whole numbers
+pub items_have_float-rest : (xs : List Value) → items_have_float (items_view xs) ≡ false → items_have_float (items_view (drop 1 xs)) ≡ false
+items_have_float-rest [] whole = refl
+items_have_float-rest (x ∷ xs) whole = (or_parts (has_float (view x)) _ whole).1
+
+pub ruleset counts = (item_count-items_view)
+
+pub ruleset by_length = (is_set-some, later_plugins-some, items_have_float-rest)

@@ -1,0 +1,74 @@
+-- The configuration of address management (CNI specification 1.1.0, section 1, `ipam`; the `host-local` plugin).
+use Rattle.std.specs.Prelude.{ℕ, List, codes, Bool, true, false, if◌then◌else◌, Result, Ok, Err, Option, Some, None, ⊤}
+use Rattle.std.specs.Str.{bytes_eq}
+use Rattle.serde_json.specs.Data.{Data, null, boolean, number, string, array, object, Members, no_members, member}
+use Rattle.serde_json.specs.Find.{get}
+use Rattle.serde_json.specs.Written.{compact_text}
+use Rattle.cni_json.specs.Outcome.{◌>>=◌}
+use Rattle.net_conf.specs.Dns.{dns_at}
+use Rattle.net_conf.specs.Outside.{supported}
+use Rattle.net_conf.specs.Refusals.{invalid}
+use Rattle.net_conf.specs.Routes.{routes_at}
+use Rattle.net_conf.specs.Sets.{sets_at}
+use Rattle.net_conf.specs.declared.error.ConfError.{ConfError}
+use Rattle.net_conf.specs.declared.error.ConfError.TheVariants as refusal
+use Rattle.net_conf.specs.declared.first.HostLocalConf.{HostLocalConf}
+use Rattle.net_conf.specs.declared.ipam.Addressing.{Addressing}
+use Rattle.net_conf.specs.declared.outside.Accepted.TheVariants.{EmptyText}
+
+abbrev pub manager_of : Option Data → Result ⊤ ConfError
+manager_of (Some (string text)) =
+    if bytes_eq text (codes "host-local") then Ok tt
+    else Err (refusal.Unsupported (codes "type") (compact_text (string text)))
+manager_of d = invalid (codes "ipam")
+
+-- `host-local` is the one plugin of this kind that is built
+unfoldable pub manager_at : Data → Result ⊤ ConfError
+manager_at d = manager_of (get (codes "type") d)
+
+abbrev pub ipam_object : Data → Result ⊤ ConfError
+ipam_object (object ms) = Ok tt
+ipam_object d = invalid (codes "ipam")
+
+-- the configuration of `host-local`
+unfoldable pub host_local_at : Data → Result HostLocalConf ConfError
+host_local_at d = do
+  _ ← ipam_object d
+  _ ← manager_at d
+  _ ← supported EmptyText (codes "resolvConf") d
+  sets ← sets_at d
+  routes ← routes_at d
+  Ok (record { sets = sets; routes = routes })
+
+-- each member is null
+abbrev pub all_null : Members → Bool
+all_null no_members = true
+all_null (member key null ms) = all_null ms
+all_null (member key d ms) = false
+
+-- an object without members
+abbrev pub is_empty : Data → Bool
+is_empty (object ms) = all_null ms
+is_empty d = false
+
+abbrev pub some_host_local : Result HostLocalConf ConfError → Result (Option HostLocalConf) ConfError
+some_host_local r = do
+  conf ← r
+  Ok (Some conf)
+
+-- an absent object, and one without members, ask for no address
+abbrev pub ipam_of : Option Data → Result (Option HostLocalConf) ConfError
+ipam_of None = Ok None
+ipam_of (Some null) = Ok None
+ipam_of (Some d) = if is_empty d then Ok None else some_host_local (host_local_at d)
+
+-- the `ipam` of a plugin's object
+unfoldable pub ipam_at : Data → Result (Option HostLocalConf) ConfError
+ipam_at d = ipam_of (get (codes "ipam") d)
+
+-- the members that each plugin which makes an interface has last
+unfoldable pub addressing_at : Data → Result Addressing ConfError
+addressing_at d = do
+  dns ← dns_at d
+  ipam ← ipam_at d
+  Ok (record { dns = dns; ipam = ipam })

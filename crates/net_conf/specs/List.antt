@@ -1,0 +1,90 @@
+-- A network list, part by part in the order of its refusals (CNI specification 1.1.0, section 1).
+use Rattle.std.specs.Prelude.{ℕ, List, [], codes, Bool, true, false, if◌then◌else◌, Result, Ok, Err, Option, Some, None, ⊤}
+use Rattle.std.specs.Str.{bytes_eq}
+use Rattle.serde_json.specs.Data.{Data, null, boolean, number, string, array, object}
+use Rattle.serde_json.specs.Find.{get}
+use Rattle.cni_json.specs.Json.{json_of}
+use Rattle.cni_json.specs.Fields.{text_field}
+use Rattle.cni_json.specs.Outcome.{◌>>=◌}
+use Rattle.cni_json.specs.declared.fields.Field.{Field}
+use Rattle.cni_json.specs.declared.fields.Field.TheVariants.{Absent, WrongKind, Here}
+use Rattle.cni_json.specs.declared.reading.ReadEnd.{ReadEnd}
+use Rattle.cni_json.specs.declared.reading.ReadEnd.TheVariants as ends
+use Rattle.cni_result.specs.declared.version.Version.{Version}
+use Rattle.cni_result.specs.declared.version.Version.TheVariants.{V1_0, V1_1}
+use Rattle.net_conf.specs.Names.{is_network_name}
+use Rattle.net_conf.specs.Outside.{supported}
+use Rattle.net_conf.specs.Plugins.{chain_at}
+use Rattle.net_conf.specs.Refusals.{invalid}
+use Rattle.net_conf.specs.declared.error.ConfError.{ConfError}
+use Rattle.net_conf.specs.declared.error.ConfError.TheVariants as refusal
+use Rattle.net_conf.specs.declared.list.NetList.{NetList}
+use Rattle.net_conf.specs.declared.outside.Accepted.TheVariants.{Nothing}
+
+-- bytes that are no JSON, or have another number than whole ones of 64 bits
+abbrev pub read_or_refused : Result Data ReadEnd → Result Data ConfError
+read_or_refused (Ok d) = Ok d
+read_or_refused (Err ends.Decode) = Err refusal.Decode
+read_or_refused (Err ends.Number) = invalid (codes "number")
+read_or_refused (Err ends.NoMemory) = Err refusal.NoMemory
+
+abbrev pub list_object : Data → Result ⊤ ConfError
+list_object (object ms) = Ok tt
+list_object d = invalid (codes "list")
+
+abbrev pub version_named : List ℕ → Result Version ConfError
+version_named text =
+    if bytes_eq text (codes "1.0.0") then Ok V1_0
+    else if bytes_eq text (codes "1.1.0") then Ok V1_1
+    else Err (refusal.Version text)
+
+abbrev pub version_of : Field (List ℕ) → Result Version ConfError
+version_of WrongKind = invalid (codes "cniVersion")
+version_of Absent = Err (refusal.Version [])
+version_of (Here text) = version_named text
+
+-- the version that the plugins are asked in
+unfoldable pub version_at : Data → Result Version ConfError
+version_at d = version_of (text_field (codes "cniVersion") d)
+
+abbrev pub name_of : Field (List ℕ) → Result (List ℕ) ConfError
+name_of Absent = invalid (codes "name")
+name_of WrongKind = invalid (codes "name")
+name_of (Here text) = if is_network_name text then Ok text else invalid (codes "name")
+
+-- the name of the network
+unfoldable pub name_at : Data → Result (List ℕ) ConfError
+name_at d = name_of (text_field (codes "name") d)
+
+abbrev pub switch_named : List ℕ → List ℕ → Result Bool ConfError
+switch_named key text =
+    if bytes_eq text (codes "true") then Ok true
+    else if bytes_eq text (codes "false") then Ok false
+    else invalid key
+
+abbrev pub switch_of : List ℕ → Option Data → Result Bool ConfError
+switch_of key None = Ok false
+switch_of key (Some null) = Ok false
+switch_of key (Some (boolean b)) = Ok b
+switch_of key (Some (string text)) = switch_named key text
+switch_of key (Some d) = invalid key
+
+-- a truth value, or the text of one
+unfoldable pub switch_at : List ℕ → Data → Result Bool ConfError
+switch_at key d = switch_of key (get key d)
+
+-- a network list
+unfoldable pub list_at : Data → Result NetList ConfError
+list_at d = do
+  _ ← list_object d
+  version ← version_at d
+  _ ← supported Nothing (codes "cniVersions") d
+  name ← name_at d
+  check ← switch_at (codes "disableCheck") d
+  gc ← switch_at (codes "disableGC") d
+  plugins ← chain_at d
+  Ok (record { version = version; name = name; disable_check = check; disable_gc = gc; first = plugins.first; chained = plugins.chained })
+
+-- the network list that the bytes spell, or the first refusal
+unfoldable pub list_of : List ℕ → Result NetList ConfError
+list_of bytes = read_or_refused (json_of bytes) >>= list_at

@@ -1,0 +1,58 @@
+-- The configuration of the `macvlan` plugin, key by key in the order of its refusals.
+use Rattle.std.specs.Prelude.{ℕ, List, [], ◌∷◌, codes, false, if◌then◌else◌, Result, Ok}
+use Rattle.std.specs.Str.{bytes_eq}
+use Rattle.serde_json.specs.Data.{Data}
+use Rattle.cni_json.specs.Fields.{text_field}
+use Rattle.cni_json.specs.Outcome.{◌>>=◌}
+use Rattle.cni_json.specs.declared.fields.Field.{Field}
+use Rattle.cni_json.specs.declared.fields.Field.TheVariants.{Absent, WrongKind, Here}
+use Rattle.cni_addr.specs.declared.macvlan.MacvlanMode.{MacvlanMode}
+use Rattle.cni_addr.specs.declared.macvlan.MacvlanMode.TheVariants as modes
+use Rattle.net_conf.specs.Ipam.{addressing_at}
+use Rattle.net_conf.specs.Members.{mtu_at}
+use Rattle.net_conf.specs.Names.{is_interface_name}
+use Rattle.net_conf.specs.Outside.{Row, all_supported}
+use Rattle.net_conf.specs.Refusals.{invalid}
+use Rattle.net_conf.specs.declared.error.ConfError.{ConfError}
+use Rattle.net_conf.specs.declared.first.MacvlanConf.{MacvlanConf}
+use Rattle.net_conf.specs.declared.outside.Accepted.TheVariants.{IsFlag}
+
+-- keys that are not acted on
+abbrev pub macvlan_rows : List Row
+macvlan_rows = (codes "linkInContainer", IsFlag false) ∷ []
+
+abbrev pub master_of : Field (List ℕ) → Result (List ℕ) ConfError
+master_of Absent = invalid (codes "master")
+master_of WrongKind = invalid (codes "master")
+master_of (Here text) = if is_interface_name text then Ok text else invalid (codes "master")
+
+-- the host's interface that the link goes through
+unfoldable pub master_at : Data → Result (List ℕ) ConfError
+master_at d = master_of (text_field (codes "master") d)
+
+abbrev pub mode_named : List ℕ → Result MacvlanMode ConfError
+mode_named text =
+    if bytes_eq text (codes "bridge") then Ok modes.Bridge
+    else if bytes_eq text (codes "private") then Ok modes.Private
+    else if bytes_eq text (codes "vepa") then Ok modes.Vepa
+    else if bytes_eq text (codes "passthru") then Ok modes.Passthru
+    else invalid (codes "mode")
+
+abbrev pub mode_of : Field (List ℕ) → Result MacvlanMode ConfError
+mode_of Absent = Ok modes.Bridge
+mode_of WrongKind = invalid (codes "mode")
+mode_of (Here text) = mode_named text
+
+-- the mode of the link
+unfoldable pub mode_at : Data → Result MacvlanMode ConfError
+mode_at d = mode_of (text_field (codes "mode") d)
+
+-- the configuration that a `macvlan` plugin's object gives
+unfoldable pub macvlan_at : Data → Result MacvlanConf ConfError
+macvlan_at d = do
+  _ ← all_supported macvlan_rows d
+  master ← master_at d
+  mode ← mode_at d
+  mtu ← mtu_at d
+  addressing ← addressing_at d
+  Ok (record { master = master; mode = mode; mtu = mtu; ipam = addressing.ipam; dns = addressing.dns })

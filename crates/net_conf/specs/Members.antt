@@ -1,0 +1,50 @@
+-- Members of a plugin's object, each with its refusal.
+use Rattle.std.specs.Prelude.{◌==◌, ◌&&◌, ℕ, List, [], ◌∷◌, ◌++◌, codes, Bool, nat_le, if◌then◌else◌, Result, Ok, Err}
+use Rattle.serde_json.specs.Data.{Data, Items, no_items, item}
+use Rattle.cni_json.specs.Fields.{bool_field, u64_field}
+use Rattle.cni_json.specs.Outcome.{◌>>=◌}
+use Rattle.cni_json.specs.declared.fields.Field.{Field}
+use Rattle.cni_json.specs.declared.fields.Field.TheVariants.{Absent, WrongKind, Here}
+use Rattle.net_conf.specs.Refusals.{invalid}
+use Rattle.net_conf.specs.declared.error.ConfError.{ConfError}
+
+-- each item is read, up to the first refusal
+abbrev pub each : {A : Type 0} → (Data → Result A ConfError) → Items → Result (List A) ConfError
+each read no_items = Ok []
+each read (item d ds) = do
+  first ← read d
+  rest ← each read ds
+  Ok (first ∷ rest)
+
+-- these first, and then those that are read
+abbrev pub with_front : {A : Type 0} → List A → Result (List A) ConfError → Result (List A) ConfError
+with_front front r = do
+  rest ← r
+  Ok (front ++ rest)
+
+-- a truth value, or the default where there is none
+abbrev pub flag_of : List ℕ → Bool → Field Bool → Result Bool ConfError
+flag_of key default Absent = Ok default
+flag_of key default WrongKind = invalid key
+flag_of key default (Here flag) = Ok flag
+
+-- the truth value under the key
+unfoldable pub flag_at : List ℕ → Bool → Data → Result Bool ConfError
+flag_at key default d = flag_of key default (bool_field key d)
+
+-- the least MTU of IPv4 (RFC 791, section 3.2) to the greatest length of a packet
+abbrev pub is_mtu : ℕ → Bool
+is_mtu n = nat_le 68 n && nat_le n 65535
+
+-- an MTU, where 0 stands for 1500
+abbrev pub mtu_value : ℕ → Result ℕ ConfError
+mtu_value n = if n == 0 then Ok 1500 else if is_mtu n then Ok n else invalid (codes "mtu")
+
+abbrev pub mtu_of : Field ℕ → Result ℕ ConfError
+mtu_of Absent = Ok 1500
+mtu_of WrongKind = invalid (codes "mtu")
+mtu_of (Here n) = mtu_value n
+
+-- the MTU of the links that a plugin makes
+unfoldable pub mtu_at : Data → Result ℕ ConfError
+mtu_at d = mtu_of (u64_field (codes "mtu") d)

@@ -1,0 +1,74 @@
+-- Keys that are not acted on: such a key is accepted at values that ask for nothing, and refused at every other.
+use Rattle.std.specs.Prelude.{◌==◌, ◌||◌, ℕ, List, [], ◌∷◌, codes, Bool, true, false, not, if◌then◌else◌, Result, Ok, Err, Option, Some, None, ⊤, map}
+use Rattle.std.specs.Str.{bytes_eq}
+use Rattle.std.specs.Borrow.{Bor}
+use Rattle.serde_json.specs.Data.{Data, null, boolean, number, string, array, object, Num, Items, no_items, item, unsigned}
+use Rattle.serde_json.specs.Find.{get}
+use Rattle.serde_json.specs.Written.{compact_text}
+use Rattle.cni_json.specs.Outcome.{◌>>=◌}
+use Rattle.net_conf.specs.declared.outside.Accepted.{Accepted}
+use Rattle.net_conf.specs.declared.outside.Accepted.TheVariants.{Nothing, Zero, AnyNumber, EmptyList, IsFlag, EmptyText, AnyText, Backend, OpenPolicy}
+use Rattle.net_conf.specs.declared.error.ConfError.{ConfError}
+use Rattle.net_conf.specs.declared.error.ConfError.TheVariants as refusal
+
+abbrev pub is_zero : Data → Bool
+is_zero (number (unsigned n)) = n == 0
+is_zero d = false
+
+abbrev pub is_number : Data → Bool
+is_number (number n) = true
+is_number d = false
+
+abbrev pub is_empty_list : Data → Bool
+is_empty_list (array no_items) = true
+is_empty_list d = false
+
+abbrev pub is_flag : Bool → Data → Bool
+is_flag true (boolean b) = b
+is_flag false (boolean b) = not b
+is_flag wanted d = false
+
+abbrev pub is_text : Data → Bool
+is_text (string text) = true
+is_text d = false
+
+-- the empty text, or this one
+abbrev pub is_default_text : List ℕ → Data → Bool
+is_default_text default (string text) = bytes_eq text [] || bytes_eq text default
+is_default_text default d = false
+
+-- the value asks for nothing
+abbrev pub accepts : Accepted → Data → Bool
+accepts Nothing d = false
+accepts Zero d = is_zero d
+accepts AnyNumber d = is_number d
+accepts EmptyList d = is_empty_list d
+accepts (IsFlag wanted) d = is_flag wanted d
+accepts EmptyText d = is_default_text [] d
+accepts AnyText d = is_text d
+accepts Backend d = is_default_text (codes "iptables") d
+accepts OpenPolicy d = is_default_text (codes "open") d
+
+-- an absent value and null pass, and so does what is accepted; a refusal gives the value's compact text
+abbrev pub accepted_value : Accepted → List ℕ → Option Data → Result ⊤ ConfError
+accepted_value accepted key None = Ok tt
+accepted_value accepted key (Some null) = Ok tt
+accepted_value accepted key (Some d) = if accepts accepted d then Ok tt else Err (refusal.Unsupported key (compact_text d))
+
+-- the value under the key
+unfoldable pub supported : Accepted → List ℕ → Data → Result ⊤ ConfError
+supported accepted key d = accepted_value accepted key (get key d)
+
+-- a key and what it may be
+abbrev pub Row : Type 0
+Row = List ℕ × Accepted
+
+abbrev pub rows_of : List (Bor (List ℕ) × Accepted) → List Row
+rows_of rows = map (λ row. (row.0.now, row.1)) rows
+
+-- the keys in order, up to the first whose value is not accepted
+abbrev pub all_supported : List Row → Data → Result ⊤ ConfError
+all_supported [] d = Ok tt
+all_supported (row ∷ rows) d = do
+  _ ← supported row.1 row.0 d
+  all_supported rows d

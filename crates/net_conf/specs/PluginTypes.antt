@@ -1,0 +1,25 @@
+-- The types of plugins, by number, and the type of a later plugin.
+use Rattle.std.specs.Prelude.{ℕ, Bool, ◌==◌}
+use Rattle.net_conf.specs.declared.chained.Chained.{Chained}
+use Rattle.net_conf.specs.declared.chained.Chained.TheVariants as later
+use Rattle.net_conf.specs.declared.plugin_type.PluginType.{PluginType}
+use Rattle.net_conf.specs.declared.plugin_type.PluginType.TheVariants as plugin
+
+-- the place of the variant
+abbrev pub type_code : PluginType → ℕ
+type_code plugin.Bridge = 0
+type_code plugin.Ptp = 1
+type_code plugin.Macvlan = 2
+type_code plugin.Portmap = 3
+type_code plugin.Firewall = 4
+type_code plugin.Tuning = 5
+
+-- two types are the same
+abbrev pub type_eq : PluginType → PluginType → Bool
+type_eq a b = type_code a == type_code b
+
+-- the type that the plugin has
+abbrev pub type_of_chained : Chained → PluginType
+type_of_chained (later.Portmap conf) = plugin.Portmap
+type_of_chained (later.Firewall conf) = plugin.Firewall
+type_of_chained (later.Tuning conf) = plugin.Tuning

@@ -1,0 +1,136 @@
+-- The plugins of a list, and which may stand where.
+use Rattle.std.specs.Prelude.{ℕ, List, [], ◌∷◌, ◌++◌, codes, Bool, true, false, ◌==◌, if◌then◌else◌, Result, Ok, Err, ⊤}
+use Rattle.std.specs.List.{list_any}
+use Rattle.std.specs.Str.{bytes_eq}
+use Rattle.serde_json.specs.Data.{Data, null, boolean, number, string, array, object, Items, no_items, item}
+use Rattle.cni_json.specs.Fields.{text_field, list_field}
+use Rattle.cni_json.specs.Outcome.{◌>>=◌}
+use Rattle.cni_json.specs.declared.fields.Field.{Field}
+use Rattle.cni_json.specs.declared.fields.Field.TheVariants.{Absent, WrongKind, Here}
+use Rattle.net_conf.specs.Bridge.{bridge_at}
+use Rattle.net_conf.specs.Firewall.{firewall_at}
+use Rattle.net_conf.specs.Macvlan.{macvlan_at}
+use Rattle.net_conf.specs.PluginTypes.{type_eq, type_of_chained}
+use Rattle.net_conf.specs.Portmap.{portmap_at}
+use Rattle.net_conf.specs.Ptp.{ptp_at}
+use Rattle.net_conf.specs.Refusals.{invalid}
+use Rattle.net_conf.specs.Tuning.{tuning_at}
+use Rattle.net_conf.specs.declared.chained.Chained.{Chained}
+use Rattle.net_conf.specs.declared.chained.Chained.TheVariants as later
+use Rattle.net_conf.specs.declared.error.ConfError.{ConfError}
+use Rattle.net_conf.specs.declared.first.First.{First}
+use Rattle.net_conf.specs.declared.first.First.TheVariants as first
+use Rattle.net_conf.specs.declared.plugins.PluginChain.{PluginChain}
+use Rattle.net_conf.specs.declared.plugin_type.PluginType.{PluginType}
+use Rattle.net_conf.specs.declared.plugin_type.PluginType.TheVariants as plugin
+
+abbrev pub wrong_plugins : {A : Type 0} → Result A ConfError
+wrong_plugins = invalid (codes "plugins")
+
+abbrev pub plugin_object : Data → Result ⊤ ConfError
+plugin_object (object ms) = Ok tt
+plugin_object d = wrong_plugins
+
+abbrev pub type_named : List ℕ → Result PluginType ConfError
+type_named text =
+    if bytes_eq text (codes "bridge") then Ok plugin.Bridge
+    else if bytes_eq text (codes "ptp") then Ok plugin.Ptp
+    else if bytes_eq text (codes "macvlan") then Ok plugin.Macvlan
+    else if bytes_eq text (codes "portmap") then Ok plugin.Portmap
+    else if bytes_eq text (codes "firewall") then Ok plugin.Firewall
+    else if bytes_eq text (codes "tuning") then Ok plugin.Tuning
+    else invalid (codes "type")
+
+abbrev pub type_of : Field (List ℕ) → Result PluginType ConfError
+type_of Absent = invalid (codes "type")
+type_of WrongKind = invalid (codes "type")
+type_of (Here text) = type_named text
+
+-- the type that the object names
+unfoldable pub type_at : Data → Result PluginType ConfError
+type_at d = type_of (text_field (codes "type") d)
+
+-- the configuration, as one of a kind of plugin
+abbrev pub of_kind : {A B : Type 0} → (A → B) → Result A ConfError → Result B ConfError
+of_kind kind r = do
+  conf ← r
+  Ok (kind conf)
+
+-- ---- the first plugin makes the interface
+
+abbrev pub first_of : PluginType → Data → Result First ConfError
+first_of plugin.Bridge d = of_kind first.Bridge (bridge_at d)
+first_of plugin.Ptp d = of_kind first.Ptp (ptp_at d)
+first_of plugin.Macvlan d = of_kind first.Macvlan (macvlan_at d)
+first_of plugin.Portmap d = wrong_plugins
+first_of plugin.Firewall d = wrong_plugins
+first_of plugin.Tuning d = wrong_plugins
+
+-- a plugin in the first place
+unfoldable pub first_at : Data → Result First ConfError
+first_at d = do
+  _ ← plugin_object d
+  type ← type_at d
+  first_of type d
+
+-- the first plugin, of which there must be one
+abbrev pub first_plugin : Items → Result First ConfError
+first_plugin no_items = wrong_plugins
+first_plugin (item d ds) = first_at d
+
+-- ---- the later plugins change it
+
+abbrev pub later_of : PluginType → Data → Result Chained ConfError
+later_of plugin.Bridge d = wrong_plugins
+later_of plugin.Ptp d = wrong_plugins
+later_of plugin.Macvlan d = wrong_plugins
+later_of plugin.Portmap d = of_kind later.Portmap (portmap_at d)
+later_of plugin.Firewall d = of_kind later.Firewall (firewall_at d)
+later_of plugin.Tuning d = of_kind later.Tuning (tuning_at d)
+
+-- the plugin is of the type
+abbrev pub is_of_type : PluginType → Chained → Bool
+is_of_type type p = type_eq (type_of_chained p) type
+
+-- each later type comes at most once
+unfoldable pub not_repeated : List Chained → PluginType → Result ⊤ ConfError
+not_repeated before type = if list_any (is_of_type type) before then wrong_plugins else Ok tt
+
+-- a plugin after the first and these later ones
+unfoldable pub later_at : List Chained → Data → Result Chained ConfError
+later_at before d = do
+  _ ← plugin_object d
+  type ← type_at d
+  _ ← not_repeated before type
+  later_of type d
+
+-- these later plugins and all after them
+abbrev pub chained_after : List Chained → Items → Result (List Chained) ConfError
+chained_after before no_items = Ok before
+chained_after before (item d ds) = do
+  next ← later_at before d
+  chained_after (before ++ next ∷ []) ds
+
+-- the plugins after the first
+abbrev pub later_plugins : Items → Result (List Chained) ConfError
+later_plugins no_items = Ok []
+later_plugins (item d ds) = chained_after [] ds
+
+-- ---- all plugins
+
+abbrev pub plugins_of : Field Items → Result Items ConfError
+plugins_of Absent = wrong_plugins
+plugins_of WrongKind = wrong_plugins
+plugins_of (Here ds) = Ok ds
+
+-- the plugins, not yet read
+unfoldable pub plugins_at : Data → Result Items ConfError
+plugins_at d = plugins_of (list_field (codes "plugins") d)
+
+-- the plugin that makes the interface, and those after it
+unfoldable pub chain_at : Data → Result PluginChain ConfError
+chain_at d = do
+  plugins ← plugins_at d
+  first ← first_plugin plugins
+  chained ← later_plugins plugins
+  Ok (record { first = first; chained = chained })

@@ -1,0 +1,85 @@
+-- A range of addresses (the `host-local` plugin, `subnet`, `rangeStart`, `rangeEnd` and `gateway`).
+use Rattle.std.specs.Prelude.{◌+◌, ◌-◌, ◌==◌, ◌&&◌, ℕ, List, [], ◌∷◌, codes, Bool, true, false, nat_le, nat_lt, if◌then◌else◌, Result, Ok, Err, Option, Some, None, ⊤}
+use Rattle.serde_json.specs.Data.{Data}
+use Rattle.cni_json.specs.Fields.{text_field}
+use Rattle.cni_json.specs.Outcome.{◌>>=◌}
+use Rattle.cni_json.specs.declared.fields.Field.{Field}
+use Rattle.cni_json.specs.declared.fields.Field.TheVariants.{Absent, WrongKind, Here}
+use Rattle.cni_addr.specs.declared.address.Family.{Family}
+use Rattle.cni_addr.specs.declared.address.Addr.{Addr}
+use Rattle.cni_addr.specs.declared.address.Cidr.{Cidr}
+use Rattle.cni_addr.specs.declared.range.Range.{Range}
+use Rattle.cni_addr.specs.AddrText.{addr_of_text}
+use Rattle.cni_addr.specs.CidrText.{cidr_of_text}
+use Rattle.cni_addr.specs.Codes.{family_eq}
+use Rattle.cni_addr.specs.Equal.{cidr_eq}
+use Rattle.cni_addr.specs.Network.{network_of, last_of, contains}
+use Rattle.net_conf.specs.Refusals.{invalid}
+use Rattle.net_conf.specs.declared.error.ConfError.{ConfError}
+
+-- host bits are 0, and there is room for a network, a gateway, an address to lease and a broadcast address
+unfoldable pub is_subnet : Cidr → Bool
+is_subnet subnet = cidr_eq subnet (network_of subnet) && (nat_le 8 subnet.prefix && nat_le subnet.prefix 30)
+
+abbrev pub subnet_or_refused : Option Cidr → Result Cidr ConfError
+subnet_or_refused None = invalid (codes "subnet")
+subnet_or_refused (Some subnet) = if is_subnet subnet then Ok subnet else invalid (codes "subnet")
+
+abbrev pub subnet_of : Field (List ℕ) → Result Cidr ConfError
+subnet_of Absent = invalid (codes "subnet")
+subnet_of WrongKind = invalid (codes "subnet")
+subnet_of (Here text) = subnet_or_refused (cidr_of_text text)
+
+-- the subnet of a range
+unfoldable pub subnet_at : Data → Result Cidr ConfError
+subnet_at d = subnet_of (text_field (codes "subnet") d)
+
+-- an address of the subnet that the key gives
+abbrev pub bound_or_refused : List ℕ → Cidr → Option Addr → Result Addr ConfError
+bound_or_refused key subnet None = invalid key
+bound_or_refused key subnet (Some addr) = if contains subnet addr then Ok addr else invalid key
+
+abbrev pub bound_of : List ℕ → Cidr → Addr → Field (List ℕ) → Result Addr ConfError
+bound_of key subnet default Absent = Ok default
+bound_of key subnet default WrongKind = invalid key
+bound_of key subnet default (Here text) = bound_or_refused key subnet (addr_of_text text)
+
+-- the first or the last address to lease, or the default
+unfoldable pub bound_at : List ℕ → Cidr → Addr → Data → Result Addr ConfError
+bound_at key subnet default d = bound_of key subnet default (text_field key d)
+
+-- the address after the network's own
+unfoldable pub first_host : Cidr → Addr
+first_host subnet = record { family = subnet.addr.family; bits = subnet.addr.bits + 1 }
+
+-- the address before the network's last
+unfoldable pub last_host : Cidr → Addr
+last_host subnet = record { family = (last_of subnet).family; bits = (last_of subnet).bits - 1 }
+
+-- the end is not below the start
+unfoldable pub in_order : Addr → Addr → Result ⊤ ConfError
+in_order start end = if nat_lt end.bits start.bits then invalid (codes "rangeStart") else Ok tt
+
+-- an address of the family; it need not be of the subnet
+abbrev pub gateway_or_refused : Family → Option Addr → Result Addr ConfError
+gateway_or_refused family None = invalid (codes "gateway")
+gateway_or_refused family (Some addr) = if family_eq addr.family family then Ok addr else invalid (codes "gateway")
+
+abbrev pub gateway_of : Cidr → Field (List ℕ) → Result Addr ConfError
+gateway_of subnet Absent = Ok (first_host subnet)
+gateway_of subnet WrongKind = invalid (codes "gateway")
+gateway_of subnet (Here text) = gateway_or_refused subnet.addr.family (addr_of_text text)
+
+-- the gateway of a range, or the subnet's first address
+unfoldable pub gateway_at : Cidr → Data → Result Addr ConfError
+gateway_at subnet d = gateway_of subnet (text_field (codes "gateway") d)
+
+-- the range that an object gives by `subnet`, `rangeStart`, `rangeEnd` and `gateway`
+unfoldable pub range_at : Data → Result Range ConfError
+range_at d = do
+  subnet ← subnet_at d
+  start ← bound_at (codes "rangeStart") subnet (first_host subnet) d
+  end ← bound_at (codes "rangeEnd") subnet (last_host subnet) d
+  _ ← in_order start end
+  gateway ← gateway_at subnet d
+  Ok (record { subnet = subnet; start = start; end = end; gateway = gateway })

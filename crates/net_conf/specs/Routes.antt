@@ -1,0 +1,63 @@
+-- Configured routes (the `host-local` plugin, `routes`).
+use Rattle.std.specs.Prelude.{ℕ, List, [], codes, if◌then◌else◌, Result, Ok, Err, Option, Some, None}
+use Rattle.serde_json.specs.Data.{Data, null, boolean, number, string, array, object, Items}
+use Rattle.cni_json.specs.Fields.{text_field, list_field}
+use Rattle.cni_json.specs.Outcome.{◌>>=◌}
+use Rattle.cni_json.specs.declared.fields.Field.{Field}
+use Rattle.cni_json.specs.declared.fields.Field.TheVariants.{Absent, WrongKind, Here}
+use Rattle.cni_addr.specs.declared.address.Family.{Family}
+use Rattle.cni_addr.specs.declared.address.Addr.{Addr}
+use Rattle.cni_addr.specs.declared.address.Cidr.{Cidr}
+use Rattle.cni_addr.specs.AddrText.{addr_of_text}
+use Rattle.cni_addr.specs.CidrText.{cidr_of_text}
+use Rattle.cni_addr.specs.Codes.{family_eq}
+use Rattle.cni_addr.specs.Network.{network_of}
+use Rattle.cni_result.specs.declared.result.RouteEntry.{RouteEntry}
+use Rattle.net_conf.specs.Members.{each}
+use Rattle.net_conf.specs.Refusals.{invalid}
+use Rattle.net_conf.specs.declared.error.ConfError.{ConfError}
+
+abbrev pub wrong_routes : {A : Type 0} → Result A ConfError
+wrong_routes = invalid (codes "routes")
+
+abbrev pub destination_or_refused : Option Cidr → Result Cidr ConfError
+destination_or_refused None = wrong_routes
+destination_or_refused (Some cidr) = Ok (network_of cidr)
+
+abbrev pub destination_of : Field (List ℕ) → Result Cidr ConfError
+destination_of Absent = wrong_routes
+destination_of WrongKind = wrong_routes
+destination_of (Here text) = destination_or_refused (cidr_of_text text)
+
+-- the destination, its host bits cleared
+unfoldable pub destination_at : Data → Result Cidr ConfError
+destination_at d = destination_of (text_field (codes "dst") d)
+
+abbrev pub hop_or_refused : Family → Option Addr → Result (Option Addr) ConfError
+hop_or_refused family None = wrong_routes
+hop_or_refused family (Some addr) = if family_eq addr.family family then Ok (Some addr) else wrong_routes
+
+abbrev pub hop_of : Family → Field (List ℕ) → Result (Option Addr) ConfError
+hop_of family Absent = Ok None
+hop_of family WrongKind = wrong_routes
+hop_of family (Here text) = hop_or_refused family (addr_of_text text)
+
+-- the next hop, of the destination's family, if one is given
+unfoldable pub hop_at : Family → Data → Result (Option Addr) ConfError
+hop_at family d = hop_of family (text_field (codes "gw") d)
+
+-- the members of a route's object; a value that is no object has no `dst`
+unfoldable pub route_at : Data → Result RouteEntry ConfError
+route_at d = do
+  dst ← destination_at d
+  gw ← hop_at dst.addr.family d
+  Ok (record { dst = dst; gw = gw })
+
+abbrev pub routes_of : Field Items → Result (List RouteEntry) ConfError
+routes_of Absent = Ok []
+routes_of WrongKind = wrong_routes
+routes_of (Here ds) = each route_at ds
+
+-- the routes, none where there is no list
+unfoldable pub routes_at : Data → Result (List RouteEntry) ConfError
+routes_at d = routes_of (list_field (codes "routes") d)

@@ -1,0 +1,116 @@
+-- The sets of ranges (the `host-local` plugin, `ranges`, and the older form `subnet`).
+use Rattle.std.specs.Prelude.{◌+◌, ◌&&◌, ℕ, suc, List, [], ◌∷◌, codes, Bool, true, false, nat_le, if◌then◌else◌, Result, Ok, Err, Option, Some, None, ⊤}
+use Rattle.std.specs.List.{list_all, flat_map}
+use Rattle.serde_json.specs.Data.{Data, null, boolean, number, string, array, object, Items, no_items, item}
+use Rattle.serde_json.specs.Find.{get}
+use Rattle.cni_json.specs.Fields.{list_field}
+use Rattle.cni_json.specs.Outcome.{◌>>=◌}
+use Rattle.cni_json.specs.declared.fields.Field.{Field}
+use Rattle.cni_json.specs.declared.fields.Field.TheVariants.{Absent, WrongKind, Here}
+use Rattle.cni_addr.specs.declared.address.Family.{Family}
+use Rattle.cni_addr.specs.declared.range.Range.{Range}
+use Rattle.cni_addr.specs.declared.range.RangeSet.{RangeSet}
+use Rattle.cni_addr.specs.Codes.{family_eq}
+use Rattle.ip_pool.specs.Pool.{are_apart}
+use Rattle.net_conf.specs.Members.{each, with_front}
+use Rattle.net_conf.specs.Ranges.{range_at}
+use Rattle.net_conf.specs.Refusals.{invalid}
+use Rattle.net_conf.specs.declared.error.ConfError.{ConfError}
+
+abbrev pub wrong_ranges : {A : Type 0} → Result A ConfError
+wrong_ranges = invalid (codes "ranges")
+
+-- the ranges of a list of objects
+abbrev pub set_of : Data → Result RangeSet ConfError
+set_of (array ds) = do
+  ranges ← each range_at ds
+  Ok (record { ranges = ranges })
+set_of d = wrong_ranges
+
+abbrev pub is_object : Data → Bool
+is_object (object ms) = true
+is_object d = false
+
+-- each item passes the test
+abbrev pub all_items : (Data → Bool) → Items → Bool
+all_items test no_items = true
+all_items test (item d ds) = test d && all_items test ds
+
+-- a list of one object or more
+abbrev pub is_set : Data → Bool
+is_set (array (item d ds)) = all_items is_object (item d ds)
+is_set d = false
+
+-- each range has the family of the first
+abbrev pub has_family : Family → Range → Bool
+has_family family r = family_eq r.subnet.addr.family family
+
+abbrev pub have_one_family : List Range → Bool
+have_one_family [] = true
+have_one_family (r ∷ rs) = list_all (has_family r.subnet.addr.family) rs
+
+abbrev pub is_of_one_family : RangeSet → Bool
+is_of_one_family set = have_one_family set.ranges
+
+-- all ranges, set by set
+abbrev pub ranges_of : List RangeSet → List Range
+ranges_of sets = flat_map (λ set. set.ranges) sets
+
+-- no address is in two ranges, and no set has two families
+abbrev pub are_separate : List RangeSet → Bool
+are_separate sets = are_apart (ranges_of sets) && list_all is_of_one_family sets
+
+-- the key is there, and not null
+abbrev pub is_there : Option Data → Bool
+is_there None = false
+is_there (Some null) = false
+is_there (Some d) = true
+
+abbrev pub sets_listed : Field Items → Result Items ConfError
+sets_listed Absent = Ok no_items
+sets_listed WrongKind = wrong_ranges
+sets_listed (Here ds) = Ok ds
+
+-- the listed sets, not yet read
+unfoldable pub listed_at : Data → Result Items ConfError
+listed_at d = sets_listed (list_field (codes "ranges") d)
+
+-- how many items
+abbrev pub item_count : Items → ℕ
+item_count no_items = 0
+item_count (item d ds) = suc (item_count ds)
+
+-- one set or more, and not more than a set has a number for
+abbrev pub is_set_count : ℕ → Bool
+is_set_count n = nat_le 1 n && nat_le n 65536
+
+-- as a number
+abbrev pub one_if : Bool → ℕ
+one_if true = 1
+one_if false = 0
+
+-- the sets have the right number and form; their ranges are not looked into
+abbrev pub well_formed : Bool → Items → Result ⊤ ConfError
+well_formed own listed =
+    if is_set_count (one_if own + item_count listed) && all_items is_set listed then Ok tt else wrong_ranges
+
+-- the set of the object's own `subnet`, if it has one
+abbrev pub own_sets_of : Bool → Data → Result (List RangeSet) ConfError
+own_sets_of false d = Ok []
+own_sets_of true d = do
+  range ← range_at d
+  Ok (record { ranges = range ∷ [] } ∷ [])
+
+-- no two ranges share an address, and each set has one family
+abbrev pub separate : List RangeSet → Result ⊤ ConfError
+separate sets = if are_separate sets then Ok tt else wrong_ranges
+
+-- the own set, and then the listed ones
+unfoldable pub sets_at : Data → Result (List RangeSet) ConfError
+sets_at d = do
+  listed ← listed_at d
+  _ ← well_formed (is_there (get (codes "subnet") d)) listed
+  own ← own_sets_of (is_there (get (codes "subnet") d)) d
+  sets ← with_front own (each set_of listed)
+  _ ← separate sets
+  Ok sets

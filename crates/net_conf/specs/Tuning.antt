@@ -1,0 +1,99 @@
+-- The configuration of the `tuning` plugin, key by key in the order of its refusals.
+use Rattle.std.specs.Prelude.{◌==◌, ◌||◌, ℕ, List, [], ◌∷◌, codes, Bool, true, false, nat_eq, nat_le, not, if◌then◌else◌, Result, Ok, Err, Option, Some, None, ⊤}
+use Rattle.std.specs.List.{starts_with}
+use Rattle.std.specs.Str.{bytes_eq}
+use Rattle.serde_json.specs.Data.{Data, null, boolean, number, string, array, object, Members, no_members, member}
+use Rattle.serde_json.specs.Find.{get}
+use Rattle.serde_json.specs.Written.{compact_text}
+use Rattle.cni_json.specs.Fields.{text_field, u64_field}
+use Rattle.cni_json.specs.Outcome.{◌>>=◌}
+use Rattle.cni_json.specs.declared.fields.Field.{Field}
+use Rattle.cni_json.specs.declared.fields.Field.TheVariants.{Absent, WrongKind, Here}
+use Rattle.cni_addr.specs.declared.mac.Mac.{Mac}
+use Rattle.cni_addr.specs.MacText.{mac_of_text}
+use Rattle.net_conf.specs.Members.{flag_at, is_mtu}
+use Rattle.net_conf.specs.Refusals.{invalid}
+use Rattle.net_conf.specs.declared.chained.Sysctl.{Sysctl}
+use Rattle.net_conf.specs.declared.chained.TuningConf.{TuningConf}
+use Rattle.net_conf.specs.declared.error.ConfError.{ConfError}
+use Rattle.net_conf.specs.declared.error.ConfError.TheVariants as refusal
+
+-- the part stands somewhere in the text; it is not empty
+abbrev pub has_part : List ℕ → List ℕ → Bool
+has_part part [] = false
+has_part part (c ∷ cs) = starts_with nat_eq (c ∷ cs) part || has_part part cs
+
+-- a setting of the network, whose key doesn't wait for an interface's name
+abbrev pub setting_or_refused : List ℕ → List ℕ → Result Sysctl ConfError
+setting_or_refused key value =
+    if not (starts_with nat_eq key (codes "net.")) then invalid (codes "sysctl")
+    else if has_part (codes "IFNAME") key then Err (refusal.Unsupported key (compact_text (string value)))
+    else Ok (record { key = key; value = value })
+
+abbrev pub setting_of : List ℕ → Data → Result Sysctl ConfError
+setting_of key (string value) = setting_or_refused key value
+setting_of key d = invalid (codes "sysctl")
+
+abbrev pub is_null : Data → Bool
+is_null null = true
+is_null d = false
+
+-- the settings in the order of their keys; a member that is null is as an absent one
+abbrev pub settings_of : Members → Result (List Sysctl) ConfError
+settings_of no_members = Ok []
+settings_of (member key d ms) = if is_null d then settings_of ms else (do
+  first ← setting_of key d
+  rest ← settings_of ms
+  Ok (first ∷ rest))
+
+abbrev pub sysctl_of : Option Data → Result (List Sysctl) ConfError
+sysctl_of None = Ok []
+sysctl_of (Some null) = Ok []
+sysctl_of (Some (object ms)) = settings_of ms
+sysctl_of (Some d) = invalid (codes "sysctl")
+
+-- the settings of the container's namespace
+unfoldable pub sysctl_at : Data → Result (List Sysctl) ConfError
+sysctl_at d = sysctl_of (get (codes "sysctl") d)
+
+abbrev pub mac_or_refused : Option Mac → Result (Option Mac) ConfError
+mac_or_refused None = invalid (codes "mac")
+mac_or_refused (Some mac) = Ok (Some mac)
+
+abbrev pub new_mac_of : Field (List ℕ) → Result (Option Mac) ConfError
+new_mac_of Absent = Ok None
+new_mac_of WrongKind = invalid (codes "mac")
+new_mac_of (Here text) = if bytes_eq text [] then Ok None else mac_or_refused (mac_of_text text)
+
+-- the new hardware address; the empty text is none
+unfoldable pub new_mac_at : Data → Result (Option Mac) ConfError
+new_mac_at d = new_mac_of (text_field (codes "mac") d)
+
+abbrev pub new_mtu_of : Field ℕ → Result (Option ℕ) ConfError
+new_mtu_of Absent = Ok None
+new_mtu_of WrongKind = invalid (codes "mtu")
+new_mtu_of (Here n) = if n == 0 then Ok None else if is_mtu n then Ok (Some n) else invalid (codes "mtu")
+
+-- the new MTU; 0 is none
+unfoldable pub new_mtu_at : Data → Result (Option ℕ) ConfError
+new_mtu_at d = new_mtu_of (u64_field (codes "mtu") d)
+
+abbrev pub queue_length_of : Field ℕ → Result (Option ℕ) ConfError
+queue_length_of Absent = Ok None
+queue_length_of WrongKind = invalid (codes "txQLen")
+queue_length_of (Here n) = if nat_le n 4294967295 then Ok (Some n) else invalid (codes "txQLen")
+
+-- the new length of the transmit queue, a number of 32 bits
+unfoldable pub queue_length_at : Data → Result (Option ℕ) ConfError
+queue_length_at d = queue_length_of (u64_field (codes "txQLen") d)
+
+-- the configuration that a `tuning` plugin's object gives
+unfoldable pub tuning_at : Data → Result TuningConf ConfError
+tuning_at d = do
+  sysctl ← sysctl_at d
+  mac ← new_mac_at d
+  mtu ← new_mtu_at d
+  promisc ← flag_at (codes "promisc") false d
+  allmulti ← flag_at (codes "allmulti") false d
+  queue ← queue_length_at d
+  Ok (record { sysctl = sysctl; mac = mac; mtu = mtu; promisc = promisc; allmulti = allmulti; tx_qlen = queue })

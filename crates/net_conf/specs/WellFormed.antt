@@ -1,0 +1,121 @@
+-- What every network list that is read keeps.
+use Rattle.std.specs.Prelude.{◌≡◌, ℕ, ◌<◌, ◌≤◌, ◌^◌, ◌&&◌, List, length, codes, IsTrue, false, nat_eq, All, Option, Some, None, map, ⊤}
+use Rattle.std.specs.List.{IsDistinct, starts_with}
+use Rattle.std.specs.Str.{bytes_eq}
+use Rattle.cni_addr.specs.declared.address.Addr.{Addr}
+use Rattle.cni_addr.specs.declared.mac.Mac.{Mac}
+use Rattle.cni_addr.specs.declared.range.Range.{Range}
+use Rattle.cni_addr.specs.declared.range.RangeSet.{RangeSet}
+use Rattle.cni_addr.specs.MacText.{IsMac}
+use Rattle.cni_addr.specs.Network.{IsCidr, network_of, contains}
+use Rattle.cni_addr.specs.Value.{IsAddr}
+use Rattle.cni_result.specs.declared.result.RouteEntry.{RouteEntry}
+use Rattle.ip_pool.specs.Pool.{are_apart}
+use Rattle.net_conf.specs.Names.{is_network_name, is_interface_name}
+use Rattle.net_conf.specs.PluginTypes.{type_eq, type_of_chained}
+use Rattle.net_conf.specs.Sets.{ranges_of, is_of_one_family}
+use Rattle.net_conf.specs.declared.chained.Chained.{Chained}
+use Rattle.net_conf.specs.declared.chained.Chained.TheVariants as later
+use Rattle.net_conf.specs.declared.chained.Sysctl.{Sysctl}
+use Rattle.net_conf.specs.declared.chained.TuningConf.{TuningConf}
+use Rattle.net_conf.specs.declared.first.BridgeConf.{BridgeConf}
+use Rattle.net_conf.specs.declared.first.First.{First}
+use Rattle.net_conf.specs.declared.first.First.TheVariants as first
+use Rattle.net_conf.specs.declared.first.HostLocalConf.{HostLocalConf}
+use Rattle.net_conf.specs.declared.first.MacvlanConf.{MacvlanConf}
+use Rattle.net_conf.specs.declared.first.PtpConf.{PtpConf}
+use Rattle.net_conf.specs.declared.list.NetList.{NetList}
+
+-- ---- addresses
+
+-- the subnet has no host bits, the range is in it and in order, and the gateway has its family
+pub record IsWellFormedRange (r : Range) : Type 0 where
+  pub is_cidr : IsCidr r.subnet
+  pub no_host_bits : network_of r.subnet ≡ r.subnet
+  pub prefix_least : 8 ≤ r.subnet.prefix
+  pub prefix_most : r.subnet.prefix ≤ 30
+  pub start_is_addr : IsAddr r.start
+  pub start_inside : IsTrue (contains r.subnet r.start)
+  pub end_is_addr : IsAddr r.end
+  pub end_inside : IsTrue (contains r.subnet r.end)
+  pub in_order : r.start.bits ≤ r.end.bits
+  pub gateway_is_addr : IsAddr r.gateway
+  pub gateway_family : r.gateway.family ≡ r.subnet.addr.family
+
+-- a set has a range or more, of one family, and no two of them share an address
+pub record IsWellFormedSet (set : RangeSet) : Type 0 where
+  pub some : 0 < length set.ranges
+  pub ranges : All IsWellFormedRange set.ranges
+  pub apart : IsTrue (are_apart set.ranges)
+  pub one_family : IsTrue (is_of_one_family set)
+
+-- the destination has no host bits, and the next hop its family
+pub record IsWellFormedRoute (route : RouteEntry) : Type 0 where
+  pub is_cidr : IsCidr route.dst
+  pub no_host_bits : network_of route.dst ≡ route.dst
+  pub hop_is_addr : (gw : Addr) → route.gw ≡ Some gw → IsAddr gw
+  pub hop_family : (gw : Addr) → route.gw ≡ Some gw → gw.family ≡ route.dst.addr.family
+
+-- there are sets, each has a number below 65,536, and no two ranges of any two sets share an address
+pub record IsWellFormedHostLocal (conf : HostLocalConf) : Type 0 where
+  pub some : 0 < length conf.sets
+  pub few : length conf.sets ≤ 65536
+  pub sets : All IsWellFormedSet conf.sets
+  pub apart : IsTrue (are_apart (ranges_of conf.sets))
+  pub routes : All IsWellFormedRoute conf.routes
+
+abbrev pub IsWellFormedIpam : Option HostLocalConf → Type 0
+IsWellFormedIpam None = ⊤
+IsWellFormedIpam (Some conf) = IsWellFormedHostLocal conf
+
+-- ---- plugins
+
+pub record IsMtu (n : ℕ) : Type 0 where
+  pub least : 68 ≤ n
+  pub most : n ≤ 65535
+
+pub record IsWellFormedBridge (conf : BridgeConf) : Type 0 where
+  pub name : IsTrue (is_interface_name conf.bridge)
+  pub default_is_gateway : IsTrue conf.is_default_gateway → IsTrue conf.is_gateway
+  pub mtu : IsMtu conf.mtu
+  pub one_mode : (conf.hairpin && conf.promisc) ≡ false
+  pub ipam : IsWellFormedIpam conf.ipam
+
+pub record IsWellFormedPtp (conf : PtpConf) : Type 0 where
+  pub mtu : IsMtu conf.mtu
+  pub ipam : IsWellFormedHostLocal conf.ipam
+
+pub record IsWellFormedMacvlan (conf : MacvlanConf) : Type 0 where
+  pub master : IsTrue (is_interface_name conf.master)
+  pub mtu : IsMtu conf.mtu
+  pub ipam : IsWellFormedIpam conf.ipam
+
+abbrev pub IsWellFormedFirst : First → Type 0
+IsWellFormedFirst (first.Bridge conf) = IsWellFormedBridge conf
+IsWellFormedFirst (first.Ptp conf) = IsWellFormedPtp conf
+IsWellFormedFirst (first.Macvlan conf) = IsWellFormedMacvlan conf
+
+-- a setting of the network
+abbrev pub IsOfNetwork : Sysctl → Type 0
+IsOfNetwork setting = IsTrue (starts_with nat_eq setting.key (codes "net."))
+
+pub record IsWellFormedTuning (conf : TuningConf) : Type 0 where
+  pub settings : All IsOfNetwork conf.sysctl
+  pub keys_once : IsDistinct bytes_eq (map (λ setting. setting.key) conf.sysctl)
+  pub mac : (mac : Mac) → conf.mac ≡ Some mac → IsMac mac
+  pub mtu : (n : ℕ) → conf.mtu ≡ Some n → IsMtu n
+  pub queue_length : (n : ℕ) → conf.tx_qlen ≡ Some n → n < 2 ^ 32
+
+abbrev pub IsWellFormedChained : Chained → Type 0
+IsWellFormedChained (later.Portmap conf) = ⊤
+IsWellFormedChained (later.Firewall conf) = ⊤
+IsWellFormedChained (later.Tuning conf) = IsWellFormedTuning conf
+
+-- ---- the list
+
+-- the name is in its grammar, each plugin is well formed, and each later type comes at most once
+pub record IsWellFormedList (list : NetList) : Type 0 where
+  pub name : IsTrue (is_network_name list.name)
+  pub first : IsWellFormedFirst list.first
+  pub chained : All IsWellFormedChained list.chained
+  pub types_once : IsDistinct type_eq (map type_of_chained list.chained)

@@ -1,0 +1,138 @@
+//! The `bridge` plugin.
+
+ghost use Rattle.std.specs.Prelude.{◌≡◌, false};
+ghost use Rattle.serde_json.specs.View.{view};
+ghost use Rattle.serde_json.specs.Written.{has_float};
+ghost use Rattle.cni_json.specs.Outcome.{GivesAs};
+ghost use Rattle.net_conf.specs.Bridge as wanted;
+ghost use Rattle.net_conf.specs.Outside as outside;
+ghost use Rattle.net_conf.specs.Refusals.{is_want_of_memory};
+
+use crate::error::{ConfError, invalid};
+use crate::first::BridgeConf;
+use crate::ipam::addressing_of;
+use crate::members::{flag, mtu};
+use crate::names::is_interface_name;
+use crate::outside::{Accepted, all_supported};
+use cni_addr::Text;
+use cni_json::{Field, Value, field_str};
+use std::alloc::Global;
+
+/// Whether the bridge gets the gateways' addresses, and whether it is the containers' default gateway.
+#[derive(Clone, Copy)]
+pub struct GatewayRole {
+    pub is_gateway: bool,
+    pub is_default_gateway: bool,
+}
+
+/// How frames come back to the port that they came from.
+#[derive(Clone, Copy)]
+pub struct BridgeModes {
+    pub hairpin: bool,
+    pub promisc: bool,
+}
+
+/// The configuration of the `bridge` plugin, from its object in a list.
+#[tactic(auto, using(crate::proofs::Steps::steps), unfolding(crate::specs::Bridge::bridge_at))]
+pub fn bridge(alloc: Global, object: &Value) -> Result<BridgeConf, ConfError>
+    requires { has_float (view object.now) ≡ false }
+    ensures { GivesAs is_want_of_memory (λ conf. conf) result (wanted.bridge_at (view object.now)) }
+{
+    bridge_supported(alloc, object)?;
+    let bridge = bridge_name(alloc, object)?;
+    let role = gateway_role(alloc, object)?;
+    let ip_masq = flag(alloc, object, "ipMasq", false)?;
+    let mtu = mtu(alloc, object)?;
+    let modes = modes(alloc, object)?;
+    let addressing = addressing_of(alloc, object)?;
+    Ok(BridgeConf {
+        bridge,
+        is_gateway: role.is_gateway,
+        is_default_gateway: role.is_default_gateway,
+        ip_masq,
+        mtu,
+        hairpin: modes.hairpin,
+        promisc: modes.promisc,
+        ipam: addressing.ipam,
+        dns: addressing.dns,
+    })
+}
+
+fn bridge_supported(alloc: Global, object: &Value) -> Result<(), ConfError>
+    requires { has_float (view object.now) ≡ false }
+    ensures { GivesAs is_want_of_memory (λ t. t) result (outside.all_supported wanted.bridge_rows (view object.now)) }
+{
+    all_supported(
+        alloc,
+        object,
+        &[
+            ("vlan", Accepted::Zero),
+            ("vlanTrunk", Accepted::EmptyList),
+            ("preserveDefaultVlan", Accepted::IsFlag(true)),
+            ("macspoofchk", Accepted::IsFlag(false)),
+            ("forceAddress", Accepted::IsFlag(false)),
+            ("disableContainerInterface", Accepted::IsFlag(false)),
+            ("portIsolation", Accepted::IsFlag(false)),
+            ("ipMasqBackend", Accepted::Backend),
+        ],
+    )
+}
+
+#[tactic(auto, using(crate::proofs::Steps::steps), unfolding(crate::specs::Bridge::bridge_name_at))]
+fn bridge_name(alloc: Global, object: &Value) -> Result<Text, ConfError>
+    ensures { GivesAs is_want_of_memory (λ name. name) result (wanted.bridge_name_at (view object.now)) }
+{
+    match field_str(object, "bridge") {
+        Field::Absent => Ok(Text::of(alloc, "cni0")?),
+        Field::Here(name) if is_interface_name(name) => Ok(Text::of(alloc, name)?),
+        Field::Here(_) | Field::WrongKind => Err(invalid(alloc, "bridge")),
+    }
+}
+
+#[tactic(auto, using(crate::proofs::Steps::steps), unfolding(crate::specs::Bridge::gateway_role_at))]
+fn gateway_role(alloc: Global, object: &Value) -> Result<GatewayRole, ConfError>
+    ensures { GivesAs is_want_of_memory (λ role. role) result (wanted.gateway_role_at (view object.now)) }
+{
+    let is_gateway = flag(alloc, object, "isGateway", false)?;
+    let is_default_gateway = flag(alloc, object, "isDefaultGateway", false)?;
+    Ok(GatewayRole {
+        is_gateway: is_gateway || is_default_gateway,
+        is_default_gateway,
+    })
+}
+
+#[tactic(auto, using(crate::proofs::Steps::steps), unfolding(crate::specs::Bridge::modes_at))]
+fn modes(alloc: Global, object: &Value) -> Result<BridgeModes, ConfError>
+    ensures { GivesAs is_want_of_memory (λ modes. modes) result (wanted.modes_at (view object.now)) }
+{
+    let modes = mode_flags(alloc, object)?;
+    not_both(alloc, modes)?;
+    Ok(modes)
+}
+
+#[tactic(auto, using(crate::proofs::Steps::steps), unfolding(crate::specs::Bridge::mode_flags_at))]
+fn mode_flags(alloc: Global, object: &Value) -> Result<BridgeModes, ConfError>
+    ensures { GivesAs is_want_of_memory (λ modes. modes) result (wanted.mode_flags_at (view object.now)) }
+{
+    let hairpin = flag(alloc, object, "hairpinMode", false)?;
+    let promisc = promisc(alloc, object)?;
+    Ok(BridgeModes { hairpin, promisc })
+}
+
+#[tactic(auto, unfolding(crate::specs::Bridge::promisc_at))]
+fn promisc(alloc: Global, object: &Value) -> Result<bool, ConfError>
+    ensures { GivesAs is_want_of_memory (λ b. b) result (wanted.promisc_at (view object.now)) }
+{
+    flag(alloc, object, "promiscMode", false)
+}
+
+#[tactic(auto, using(crate::proofs::Steps::steps), unfolding(crate::specs::Bridge::not_both))]
+fn not_both(alloc: Global, modes: BridgeModes) -> Result<(), ConfError>
+    ensures { GivesAs is_want_of_memory (λ t. t) result (wanted.not_both modes) }
+{
+    if modes.hairpin && modes.promisc {
+        Err(invalid(alloc, "hairpinMode"))
+    } else {
+        Ok(())
+    }
+}

@@ -1,0 +1,73 @@
+//! Why a network list is refused.
+
+ghost use Rattle.std.specs.Prelude.{◌≡◌, false};
+ghost use Rattle.serde_json.specs.View.{view};
+ghost use Rattle.serde_json.specs.Written.{has_float, compact_text};
+ghost use Rattle.cni_json.specs.Outcome.{TellsAs};
+ghost use Rattle.net_conf.specs.Refusals.{is_want_of_memory};
+ghost use Rattle.net_conf.specs.declared.error.ConfError.TheVariants as refusal;
+
+use cni_addr::{NoMemory, Text};
+use cni_json::Value;
+use std::alloc::Global;
+
+/// Why a network list is refused: the first cause in the order of its parts. The error codes of the CNI specification
+/// 1.1.0 (section 5, "Error") that they are reported with are 1, 2, 6 and 7.
+#[derive(PartialEq, Eq, Drop)]
+pub enum ConfError {
+    /// `cniVersion` is none of the versions that are known; the text is empty where there is no `cniVersion`.
+    Version { found: Text },
+    /// A key that isn't acted on asks for something, with its value as compact JSON text.
+    Unsupported { key: Text, value: Text },
+    /// The bytes are no JSON text.
+    Decode,
+    /// A key or part has a wrong kind or value, or must be there and isn't.
+    Invalid { why: Text },
+    /// Memory ran out.
+    NoMemory,
+}
+
+impl From<NoMemory> for ConfError {
+    ghost from_gives = { λ _ e. e ≡ refusal.NoMemory };
+
+    fn from(_refused: NoMemory) -> ConfError {
+        ConfError::NoMemory
+    }
+}
+
+/// The refusal of a key or part.
+pub(crate) fn invalid(alloc: Global, why: &str) -> ConfError
+    ensures { TellsAs is_want_of_memory result (refusal.Invalid why.now) }
+{
+    match Text::of(alloc, why) {
+        Ok(why) => ConfError::Invalid { why },
+        Err(NoMemory) => ConfError::NoMemory,
+    }
+}
+
+/// The refusal of a version.
+pub(crate) fn version_refused(alloc: Global, found: &str) -> ConfError
+    ensures { TellsAs is_want_of_memory result (refusal.Version found.now) }
+{
+    match Text::of(alloc, found) {
+        Ok(found) => ConfError::Version { found },
+        Err(NoMemory) => ConfError::NoMemory,
+    }
+}
+
+/// The refusal of a key's value.
+pub(crate) fn unsupported(alloc: Global, key: &str, value: &Value) -> ConfError
+    requires { has_float (view value.now) ≡ false }
+    ensures { TellsAs is_want_of_memory result (refusal.Unsupported key.now (compact_text (view value.now))) }
+{
+    let Ok(key) = Text::of(alloc, key) else {
+        return ConfError::NoMemory;
+    };
+    let Ok(json) = value.to_string(alloc) else {
+        return ConfError::NoMemory;
+    };
+    match Text::of(alloc, json.as_str()) {
+        Ok(value) => ConfError::Unsupported { key, value },
+        Err(NoMemory) => ConfError::NoMemory,
+    }
+}

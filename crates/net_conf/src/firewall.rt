@@ -1,0 +1,40 @@
+//! The `firewall` plugin.
+
+ghost use Rattle.std.specs.Prelude.{◌≡◌, false};
+ghost use Rattle.serde_json.specs.View.{view};
+ghost use Rattle.serde_json.specs.Written.{has_float};
+ghost use Rattle.cni_json.specs.Outcome.{GivesAs};
+ghost use Rattle.net_conf.specs.Firewall as wanted;
+ghost use Rattle.net_conf.specs.Outside as outside;
+ghost use Rattle.net_conf.specs.Refusals.{is_want_of_memory};
+
+use crate::chained::FirewallConf;
+use crate::error::ConfError;
+use crate::outside::{Accepted, all_supported};
+use cni_json::Value;
+use std::alloc::Global;
+
+/// The configuration of the `firewall` plugin, from its object in a list.
+#[tactic(auto, using(crate::proofs::Steps::steps), unfolding(crate::specs::Firewall::firewall_at))]
+pub fn firewall(alloc: Global, object: &Value) -> Result<FirewallConf, ConfError>
+    requires { has_float (view object.now) ≡ false }
+    ensures { GivesAs is_want_of_memory (λ conf. conf) result (wanted.firewall_at (view object.now)) }
+{
+    firewall_supported(alloc, object)?;
+    Ok(FirewallConf)
+}
+
+fn firewall_supported(alloc: Global, object: &Value) -> Result<(), ConfError>
+    requires { has_float (view object.now) ≡ false }
+    ensures { GivesAs is_want_of_memory (λ t. t) result (outside.all_supported wanted.firewall_rows (view object.now)) }
+{
+    all_supported(
+        alloc,
+        object,
+        &[
+            ("backend", Accepted::Backend),
+            ("iptablesAdminChainName", Accepted::AnyText),
+            ("ingressPolicy", Accepted::OpenPolicy),
+        ],
+    )
+}

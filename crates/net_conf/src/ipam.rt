@@ -1,0 +1,112 @@
+//! The `ipam` of a plugin's object.
+
+ghost use Rattle.std.specs.Prelude.{◌≡◌, false};
+ghost use Rattle.serde_json.specs.View.{view, members_view};
+ghost use Rattle.serde_json.specs.Written.{has_float};
+ghost use Rattle.cni_json.specs.Outcome.{GivesAs};
+ghost use Rattle.net_conf.specs.Ipam as wanted;
+ghost use Rattle.net_conf.specs.Refusals.{is_want_of_memory};
+
+use crate::dns::dns;
+use crate::error::{ConfError, invalid, unsupported};
+use crate::first::HostLocalConf;
+use crate::outside::{Accepted, supported};
+use crate::routes::routes;
+use crate::sets::sets;
+use cni_json::{Map, Value};
+use cni_result::Dns;
+use std::alloc::Global;
+
+/// How the interface that a plugin makes gets its addresses, and how names are resolved behind it.
+#[derive(Drop)]
+pub struct Addressing {
+    pub dns: Dns,
+    pub ipam: Option<HostLocalConf>,
+}
+
+/// The `dns` and the `ipam` of a plugin's object.
+#[tactic(auto, using(crate::proofs::Steps::steps), unfolding(crate::specs::Ipam::addressing_at))]
+pub fn addressing_of(alloc: Global, plugin: &Value) -> Result<Addressing, ConfError>
+    requires { has_float (view plugin.now) ≡ false }
+    ensures { GivesAs is_want_of_memory (λ found. found) result (wanted.addressing_at (view plugin.now)) }
+{
+    let dns = dns(alloc, plugin)?;
+    let ipam = ipam(alloc, plugin)?;
+    Ok(Addressing { dns, ipam })
+}
+
+/// The configuration of address management, None where the plugin is to give no address: `ipam` is absent or has no
+/// members.
+#[tactic(auto, using(crate::proofs::Steps::steps, cni_json::proofs::WholeNumbers::parts_are_whole), unfolding(crate::specs::Ipam::ipam_at))]
+fn ipam(alloc: Global, plugin: &Value) -> Result<Option<HostLocalConf>, ConfError>
+    requires { has_float (view plugin.now) ≡ false }
+    ensures { GivesAs is_want_of_memory (λ conf. conf) result (wanted.ipam_at (view plugin.now)) }
+{
+    match plugin.get("ipam") {
+        None | Some(Value::Null) => Ok(None),
+        Some(object) => {
+            if is_empty(object) {
+                Ok(None)
+            } else {
+                let conf = host_local(alloc, object)?;
+                Ok(Some(conf))
+            }
+        }
+    }
+}
+
+fn is_empty(object: &Value) -> bool
+    ensures { result ≡ wanted.is_empty (view object.now) }
+{
+    match object {
+        Value::Object(members) => all_null(members),
+        _ => false,
+    }
+}
+
+fn all_null(members: &Map<String, Value>) -> bool
+    ensures { result ≡ wanted.all_null (members_view members.now.entries) }
+{
+    for (_, member) in members.iter() {
+        if !member.is_null() {
+            return false;
+        }
+    }
+    true
+}
+
+#[tactic(auto, using(crate::proofs::Steps::steps), unfolding(crate::specs::Ipam::host_local_at))]
+fn host_local(alloc: Global, object: &Value) -> Result<HostLocalConf, ConfError>
+    requires { has_float (view object.now) ≡ false }
+    ensures { GivesAs is_want_of_memory (λ conf. conf) result (wanted.host_local_at (view object.now)) }
+{
+    ipam_object(alloc, object)?;
+    manager(alloc, object)?;
+    supported(alloc, object, "resolvConf", Accepted::EmptyText)?;
+    let sets = sets(alloc, object)?;
+    let routes = routes(alloc, object)?;
+    Ok(HostLocalConf { sets, routes })
+}
+
+#[tactic(auto, using(crate::proofs::Steps::steps))]
+fn ipam_object(alloc: Global, object: &Value) -> Result<(), ConfError>
+    ensures { GivesAs is_want_of_memory (λ t. t) result (wanted.ipam_object (view object.now)) }
+{
+    if object.is_object() {
+        Ok(())
+    } else {
+        Err(invalid(alloc, "ipam"))
+    }
+}
+
+#[tactic(auto, using(crate::proofs::Steps::steps, cni_json::proofs::WholeNumbers::parts_are_whole), unfolding(crate::specs::Ipam::manager_at))]
+fn manager(alloc: Global, object: &Value) -> Result<(), ConfError>
+    requires { has_float (view object.now) ≡ false }
+    ensures { GivesAs is_want_of_memory (λ t. t) result (wanted.manager_at (view object.now)) }
+{
+    match object.get("type") {
+        Some(Value::String(text)) if text.as_str() == "host-local" => Ok(()),
+        Some(value) if value.is_string() => Err(unsupported(alloc, "type", value)),
+        _ => Err(invalid(alloc, "ipam")),
+    }
+}

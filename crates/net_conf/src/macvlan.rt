@@ -1,0 +1,73 @@
+//! The `macvlan` plugin.
+
+ghost use Rattle.std.specs.Prelude.{◌≡◌, false};
+ghost use Rattle.serde_json.specs.View.{view};
+ghost use Rattle.serde_json.specs.Written.{has_float};
+ghost use Rattle.cni_json.specs.Outcome.{GivesAs};
+ghost use Rattle.net_conf.specs.Macvlan as wanted;
+ghost use Rattle.net_conf.specs.Outside as outside;
+ghost use Rattle.net_conf.specs.Refusals.{is_want_of_memory};
+
+use crate::error::{ConfError, invalid};
+use crate::first::MacvlanConf;
+use crate::ipam::addressing_of;
+use crate::members::mtu;
+use crate::names::is_interface_name;
+use crate::outside::{Accepted, all_supported};
+use cni_addr::{MacvlanMode, Text};
+use cni_json::{Field, Value, field_str};
+use std::alloc::Global;
+
+/// The configuration of the `macvlan` plugin, from its object in a list.
+#[tactic(auto, using(crate::proofs::Steps::steps), unfolding(crate::specs::Macvlan::macvlan_at))]
+pub fn macvlan(alloc: Global, object: &Value) -> Result<MacvlanConf, ConfError>
+    requires { has_float (view object.now) ≡ false }
+    ensures { GivesAs is_want_of_memory (λ conf. conf) result (wanted.macvlan_at (view object.now)) }
+{
+    macvlan_supported(alloc, object)?;
+    let master = master(alloc, object)?;
+    let mode = mode(alloc, object)?;
+    let mtu = mtu(alloc, object)?;
+    let addressing = addressing_of(alloc, object)?;
+    Ok(MacvlanConf {
+        master,
+        mode,
+        mtu,
+        ipam: addressing.ipam,
+        dns: addressing.dns,
+    })
+}
+
+fn macvlan_supported(alloc: Global, object: &Value) -> Result<(), ConfError>
+    requires { has_float (view object.now) ≡ false }
+    ensures { GivesAs is_want_of_memory (λ t. t) result (outside.all_supported wanted.macvlan_rows (view object.now)) }
+{
+    all_supported(
+        alloc,
+        object,
+        &[("linkInContainer", Accepted::IsFlag(false))],
+    )
+}
+
+#[tactic(auto, using(crate::proofs::Steps::steps), unfolding(crate::specs::Macvlan::master_at))]
+fn master(alloc: Global, object: &Value) -> Result<Text, ConfError>
+    ensures { GivesAs is_want_of_memory (λ name. name) result (wanted.master_at (view object.now)) }
+{
+    match field_str(object, "master") {
+        Field::Here(name) if is_interface_name(name) => Ok(Text::of(alloc, name)?),
+        Field::Here(_) | Field::Absent | Field::WrongKind => Err(invalid(alloc, "master")),
+    }
+}
+
+#[tactic(auto, using(crate::proofs::Steps::steps), unfolding(crate::specs::Macvlan::mode_at))]
+fn mode(alloc: Global, object: &Value) -> Result<MacvlanMode, ConfError>
+    ensures { GivesAs is_want_of_memory (λ mode. mode) result (wanted.mode_at (view object.now)) }
+{
+    match field_str(object, "mode") {
+        Field::Absent | Field::Here("bridge") => Ok(MacvlanMode::Bridge),
+        Field::Here("private") => Ok(MacvlanMode::Private),
+        Field::Here("vepa") => Ok(MacvlanMode::Vepa),
+        Field::Here("passthru") => Ok(MacvlanMode::Passthru),
+        Field::Here(_) | Field::WrongKind => Err(invalid(alloc, "mode")),
+    }
+}

@@ -1,0 +1,34 @@
+//! Members of a plugin's object that several types have.
+
+ghost use Rattle.serde_json.specs.View.{view};
+ghost use Rattle.cni_json.specs.Outcome.{GivesAs};
+ghost use Rattle.net_conf.specs.Members as members;
+ghost use Rattle.net_conf.specs.Refusals.{is_want_of_memory};
+
+use crate::error::{ConfError, invalid};
+use cni_json::{Field, Value, field_bool, field_u64};
+use std::alloc::Global;
+
+/// A truth value, or the default where it is absent.
+#[tactic(auto, using(crate::proofs::Steps::steps), unfolding(crate::specs::Members::flag_at))]
+pub fn flag(alloc: Global, object: &Value, key: &str, default: bool) -> Result<bool, ConfError>
+    ensures { GivesAs is_want_of_memory (λ b. b) result (members.flag_at key.now default (view object.now)) }
+{
+    match field_bool(object, key) {
+        Field::Absent => Ok(default),
+        Field::WrongKind => Err(invalid(alloc, key)),
+        Field::Here(flag) => Ok(flag),
+    }
+}
+
+/// The MTU of links, in bytes: 68 to 65535. 0 stands for 1500, as does an absent one.
+#[tactic(auto, using(crate::proofs::Steps::steps), unfolding(crate::specs::Members::mtu_at))]
+pub fn mtu(alloc: Global, object: &Value) -> Result<u32, ConfError>
+    ensures { GivesAs is_want_of_memory (λ n. n) result (members.mtu_at (view object.now)) }
+{
+    match field_u64(object, "mtu") {
+        Field::Absent | Field::Here(0) => Ok(1500),
+        Field::Here(number @ 68..=65535) => Ok(number as u32),
+        Field::Here(_) | Field::WrongKind => Err(invalid(alloc, "mtu")),
+    }
+}

@@ -1,0 +1,88 @@
+//! Keys that are not acted on. A value that asks for nothing is accepted, every other is refused.
+
+ghost use Rattle.std.specs.Prelude.{◌≡◌, false};
+ghost use Rattle.serde_json.specs.View.{view};
+ghost use Rattle.serde_json.specs.Written.{has_float};
+ghost use Rattle.cni_json.specs.Outcome.{GivesAs};
+ghost use Rattle.net_conf.specs.Outside as outside;
+ghost use Rattle.net_conf.specs.Refusals.{is_want_of_memory};
+
+use crate::error::{ConfError, unsupported};
+use cni_json::Value;
+use std::alloc::Global;
+
+/// The values that are accepted of a key that isn't acted on.
+#[derive(Clone, Copy)]
+pub enum Accepted {
+    Nothing,
+    Zero,
+    AnyNumber,
+    EmptyList,
+    IsFlag(bool),
+    EmptyText,
+    AnyText,
+    /// The empty text and `iptables`.
+    Backend,
+    /// The empty text and `open`.
+    OpenPolicy,
+}
+
+fn is_accepted(accepted: Accepted, value: &Value) -> bool
+    ensures { result ≡ outside.accepts accepted (view value.now) }
+{
+    match (accepted, value) {
+        (Accepted::Zero, value) => value.as_u64() == Some(0),
+        (Accepted::AnyNumber, Value::Number(_)) => true,
+        (Accepted::EmptyList, Value::Array(list)) => list.as_slice().is_empty(),
+        (Accepted::IsFlag(true), Value::Bool(flag)) => *flag,
+        (Accepted::IsFlag(false), Value::Bool(flag)) => !*flag,
+        (Accepted::EmptyText, Value::String(text)) => text.as_str() == "",
+        (Accepted::AnyText, Value::String(_)) => true,
+        (Accepted::Backend, Value::String(text)) => {
+            text.as_str() == "" || text.as_str() == "iptables"
+        }
+        (Accepted::OpenPolicy, Value::String(text)) => {
+            text.as_str() == "" || text.as_str() == "open"
+        }
+        _ => false,
+    }
+}
+
+/// Refuses a value of the key that is neither absent, null nor accepted.
+#[tactic(auto, using(crate::proofs::Steps::steps, cni_json::proofs::WholeNumbers::parts_are_whole), unfolding(crate::specs::Outside::supported))]
+pub fn supported(
+    alloc: Global,
+    object: &Value,
+    key: &str,
+    accepted: Accepted,
+) -> Result<(), ConfError>
+    requires { has_float (view object.now) ≡ false }
+    ensures { GivesAs is_want_of_memory (λ t. t) result (outside.supported accepted key.now (view object.now)) }
+{
+    match object.get(key) {
+        None | Some(Value::Null) => Ok(()),
+        Some(value) => {
+            if is_accepted(accepted, value) {
+                Ok(())
+            } else {
+                Err(unsupported(alloc, key, value))
+            }
+        }
+    }
+}
+
+/// Refuses the first key of the rows whose value is neither absent, null nor accepted.
+#[tactic(auto, using(crate::proofs::Steps::steps))]
+pub fn all_supported(
+    alloc: Global,
+    object: &Value,
+    rows: &[(&str, Accepted)],
+) -> Result<(), ConfError>
+    requires { has_float (view object.now) ≡ false }
+    ensures { GivesAs is_want_of_memory (λ t. t) result (outside.all_supported (outside.rows_of rows.now) (view object.now)) }
+{
+    for (key, accepted) in rows {
+        supported(alloc, object, key, *accepted)?;
+    }
+    Ok(())
+}

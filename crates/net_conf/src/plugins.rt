@@ -1,0 +1,210 @@
+//! The plugins of a list, and which may stand where.
+
+ghost use Rattle.std.specs.Prelude.{◌≡◌, [], false, IfOk};
+ghost use Rattle.std.specs.List.{list_any};
+ghost use Rattle.serde_json.specs.View.{view, items_view};
+ghost use Rattle.serde_json.specs.Written.{has_float, items_have_float};
+ghost use Rattle.cni_json.specs.Outcome.{GivesAs};
+ghost use Rattle.net_conf.specs.Plugins as wanted;
+ghost use Rattle.net_conf.specs.Refusals.{is_want_of_memory};
+
+use crate::bridge::bridge;
+use crate::chained::Chained;
+use crate::error::{ConfError, invalid};
+use crate::firewall::firewall;
+use crate::first::First;
+use crate::macvlan::macvlan;
+use crate::plugin_type::{PluginType, type_of_chained};
+use crate::portmap::portmap;
+use crate::ptp::ptp;
+use crate::tuning::tuning;
+use cni_addr::Items;
+use cni_json::{Field, Value, field_list, field_str};
+use std::alloc::Global;
+
+/// The plugins of a list, in order.
+#[derive(Drop)]
+pub struct PluginChain {
+    pub first: First,
+    pub chained: Items<Chained>,
+}
+
+/// The plugins of a list: one that makes the interface, and then those that change it.
+#[tactic(auto, using(crate::proofs::Steps::steps), unfolding(crate::specs::Plugins::chain_at))]
+pub fn plugin_chain(alloc: Global, top: &Value) -> Result<PluginChain, ConfError>
+    requires { has_float (view top.now) ≡ false }
+    ensures { GivesAs is_want_of_memory (λ chain. chain) result (wanted.chain_at (view top.now)) }
+{
+    let plugins = plugins(alloc, top)?;
+    let first = first_plugin(alloc, plugins)?;
+    let chained = later_plugins(alloc, plugins)?;
+    Ok(PluginChain { first, chained })
+}
+
+#[tactic(auto, using(crate::proofs::Steps::steps, cni_json::proofs::WholeNumbers::parts_are_whole), unfolding(crate::specs::Plugins::plugins_at))]
+fn plugins<'a>(alloc: Global, top: &'a Value) -> Result<&'a [Value], ConfError>
+    requires { has_float (view top.now) ≡ false }
+    ensures given { GivesAs is_want_of_memory (λ list. items_view list.now) result (wanted.plugins_at (view top.entry.now)) }
+    ensures numbers { IfOk result (λ list. items_have_float (items_view list.now) ≡ false) }
+{
+    match field_list(top, "plugins") {
+        Field::Here(list) => Ok(list),
+        Field::Absent | Field::WrongKind => Err(invalid(alloc, "plugins")),
+    }
+}
+
+/// The plugin that makes the interface, of which there must be one.
+#[tactic(auto, using(crate::proofs::Steps::steps, cni_json::proofs::WholeNumbers::parts_are_whole))]
+fn first_plugin(alloc: Global, plugins: &[Value]) -> Result<First, ConfError>
+    requires { items_have_float (items_view plugins.now) ≡ false }
+    ensures { GivesAs is_want_of_memory (λ plugin. plugin) result (wanted.first_plugin (items_view plugins.now)) }
+{
+    match plugins {
+        [] => Err(invalid(alloc, "plugins")),
+        [plugin, ..] => first(alloc, plugin),
+    }
+}
+
+/// The plugins after the first, in order.
+#[tactic(auto, using(crate::proofs::Steps::steps, crate::proofs::ValueLemmas::by_length, cni_json::proofs::WholeNumbers::parts_are_whole))]
+fn later_plugins(alloc: Global, plugins: &[Value]) -> Result<Items<Chained>, ConfError>
+    requires { items_have_float (items_view plugins.now) ≡ false }
+    ensures { GivesAs is_want_of_memory (λ chained. chained) result (wanted.later_plugins (items_view plugins.now)) }
+{
+    match plugins {
+        [] => Ok(Items::new(alloc)),
+        [_, later @ ..] => all_later(alloc, later),
+    }
+}
+
+#[tactic(auto, using(crate::proofs::Steps::steps, cni_json::proofs::WholeNumbers::parts_are_whole))]
+fn all_later(alloc: Global, plugins: &[Value]) -> Result<Items<Chained>, ConfError>
+    requires { items_have_float (items_view plugins.now) ≡ false }
+    ensures { GivesAs is_want_of_memory (λ chained. chained) result (wanted.chained_after [] (items_view plugins.now)) }
+{
+    let mut found = Items::new(alloc);
+    for plugin in plugins {
+        let next = later(alloc, found.as_slice(), plugin)?;
+        found.push(next)?;
+    }
+    Ok(found)
+}
+
+/// A plugin after the first and the later ones that are given.
+#[tactic(auto, using(crate::proofs::Steps::steps), unfolding(crate::specs::Plugins::later_at))]
+fn later(alloc: Global, before: &[Chained], plugin: &Value) -> Result<Chained, ConfError>
+    requires { has_float (view plugin.now) ≡ false }
+    ensures { GivesAs is_want_of_memory (λ plugin. plugin) result (wanted.later_at before.now (view plugin.now)) }
+{
+    plugin_object(alloc, plugin)?;
+    let plugin_type = plugin_type(alloc, plugin)?;
+    not_repeated(alloc, before, plugin_type)?;
+    later_of(alloc, plugin_type, plugin)
+}
+
+#[tactic(auto, using(crate::proofs::Steps::steps), unfolding(crate::specs::Plugins::not_repeated))]
+fn not_repeated(alloc: Global, before: &[Chained], plugin_type: PluginType) -> Result<(), ConfError>
+    ensures { GivesAs is_want_of_memory (λ t. t) result (wanted.not_repeated before.now plugin_type) }
+{
+    if has_type(before, plugin_type) {
+        Err(invalid(alloc, "plugins"))
+    } else {
+        Ok(())
+    }
+}
+
+fn has_type(plugins: &[Chained], plugin_type: PluginType) -> bool
+    ensures { result ≡ list_any (wanted.is_of_type plugin_type) plugins.now }
+{
+    plugins.iter().any(|plugin| is_of_type(plugin, plugin_type))
+}
+
+fn is_of_type(plugin: &Chained, plugin_type: PluginType) -> bool
+    ensures { result ≡ wanted.is_of_type plugin_type plugin.now }
+{
+    type_of_chained(plugin) == plugin_type
+}
+
+#[tactic(auto, using(crate::proofs::Steps::steps), unfolding(crate::specs::Plugins::first_at))]
+fn first(alloc: Global, plugin: &Value) -> Result<First, ConfError>
+    requires { has_float (view plugin.now) ≡ false }
+    ensures { GivesAs is_want_of_memory (λ plugin. plugin) result (wanted.first_at (view plugin.now)) }
+{
+    plugin_object(alloc, plugin)?;
+    let plugin_type = plugin_type(alloc, plugin)?;
+    first_of(alloc, plugin_type, plugin)
+}
+
+#[tactic(auto, using(crate::proofs::Steps::steps))]
+fn plugin_object(alloc: Global, plugin: &Value) -> Result<(), ConfError>
+    ensures { GivesAs is_want_of_memory (λ t. t) result (wanted.plugin_object (view plugin.now)) }
+{
+    if plugin.is_object() {
+        Ok(())
+    } else {
+        Err(invalid(alloc, "plugins"))
+    }
+}
+
+#[tactic(auto, using(crate::proofs::Steps::steps), unfolding(crate::specs::Plugins::type_at))]
+fn plugin_type(alloc: Global, plugin: &Value) -> Result<PluginType, ConfError>
+    ensures { GivesAs is_want_of_memory (λ kind. kind) result (wanted.type_at (view plugin.now)) }
+{
+    match field_str(plugin, "type") {
+        Field::Here("bridge") => Ok(PluginType::Bridge),
+        Field::Here("ptp") => Ok(PluginType::Ptp),
+        Field::Here("macvlan") => Ok(PluginType::Macvlan),
+        Field::Here("portmap") => Ok(PluginType::Portmap),
+        Field::Here("firewall") => Ok(PluginType::Firewall),
+        Field::Here("tuning") => Ok(PluginType::Tuning),
+        Field::Here(_) | Field::Absent | Field::WrongKind => Err(invalid(alloc, "type")),
+    }
+}
+
+#[tactic(auto, using(crate::proofs::Steps::steps))]
+fn first_of(alloc: Global, plugin_type: PluginType, object: &Value) -> Result<First, ConfError>
+    requires { has_float (view object.now) ≡ false }
+    ensures { GivesAs is_want_of_memory (λ plugin. plugin) result (wanted.first_of plugin_type (view object.now)) }
+{
+    match plugin_type {
+        PluginType::Bridge => {
+            let conf = bridge(alloc, object)?;
+            Ok(First::Bridge(conf))
+        }
+        PluginType::Ptp => {
+            let conf = ptp(alloc, object)?;
+            Ok(First::Ptp(conf))
+        }
+        PluginType::Macvlan => {
+            let conf = macvlan(alloc, object)?;
+            Ok(First::Macvlan(conf))
+        }
+        PluginType::Portmap | PluginType::Firewall | PluginType::Tuning => {
+            Err(invalid(alloc, "plugins"))
+        }
+    }
+}
+
+#[tactic(auto, using(crate::proofs::Steps::steps))]
+fn later_of(alloc: Global, plugin_type: PluginType, object: &Value) -> Result<Chained, ConfError>
+    requires { has_float (view object.now) ≡ false }
+    ensures { GivesAs is_want_of_memory (λ plugin. plugin) result (wanted.later_of plugin_type (view object.now)) }
+{
+    match plugin_type {
+        PluginType::Portmap => {
+            let conf = portmap(alloc, object)?;
+            Ok(Chained::Portmap(conf))
+        }
+        PluginType::Firewall => {
+            let conf = firewall(alloc, object)?;
+            Ok(Chained::Firewall(conf))
+        }
+        PluginType::Tuning => {
+            let conf = tuning(alloc, object)?;
+            Ok(Chained::Tuning(conf))
+        }
+        PluginType::Bridge | PluginType::Ptp | PluginType::Macvlan => {
+            Err(invalid(alloc, "plugins"))
+        }
+    }
+}

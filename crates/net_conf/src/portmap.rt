@@ -1,0 +1,69 @@
+//! The `portmap` plugin.
+
+ghost use Rattle.std.specs.Prelude.{◌≡◌, false, codes};
+ghost use Rattle.serde_json.specs.View.{view};
+ghost use Rattle.serde_json.specs.Written.{has_float};
+ghost use Rattle.cni_json.specs.Fields.{bool_field};
+ghost use Rattle.cni_json.specs.Outcome.{GivesAs};
+ghost use Rattle.net_conf.specs.Outside as outside;
+ghost use Rattle.net_conf.specs.Portmap as wanted;
+ghost use Rattle.net_conf.specs.Refusals.{is_want_of_memory};
+
+use crate::chained::PortmapConf;
+use crate::error::{ConfError, invalid};
+use crate::members::flag;
+use crate::outside::{Accepted, all_supported};
+use cni_json::{Field, Value, field_bool, field_object};
+use std::alloc::Global;
+
+/// The configuration of the `portmap` plugin, from its object in a list.
+#[tactic(auto, using(crate::proofs::Steps::steps), unfolding(crate::specs::Portmap::portmap_at))]
+pub fn portmap(alloc: Global, object: &Value) -> Result<PortmapConf, ConfError>
+    requires { has_float (view object.now) ≡ false }
+    ensures { GivesAs is_want_of_memory (λ conf. conf) result (wanted.portmap_at (view object.now)) }
+{
+    portmap_supported(alloc, object)?;
+    let mappings = mappings(alloc, object)?;
+    let snat = flag(alloc, object, "snat", true)?;
+    Ok(PortmapConf { mappings, snat })
+}
+
+fn portmap_supported(alloc: Global, object: &Value) -> Result<(), ConfError>
+    requires { has_float (view object.now) ≡ false }
+    ensures { GivesAs is_want_of_memory (λ t. t) result (outside.all_supported wanted.portmap_rows (view object.now)) }
+{
+    all_supported(
+        alloc,
+        object,
+        &[
+            ("conditionsV4", Accepted::EmptyList),
+            ("conditionsV6", Accepted::EmptyList),
+            ("markMasqBit", Accepted::AnyNumber),
+            ("externalSetMarkChain", Accepted::EmptyText),
+            ("backend", Accepted::Backend),
+        ],
+    )
+}
+
+#[tactic(auto, using(crate::proofs::Steps::steps), unfolding(crate::specs::Portmap::mappings_at))]
+fn mappings(alloc: Global, object: &Value) -> Result<bool, ConfError>
+    ensures { GivesAs is_want_of_memory (λ b. b) result (wanted.mappings_at (view object.now)) }
+{
+    match field_object(object, "capabilities") {
+        Field::Absent => Ok(false),
+        Field::WrongKind => Err(invalid(alloc, "capabilities")),
+        Field::Here(capabilities) => mappings_flag(alloc, capabilities),
+    }
+}
+
+#[tactic(auto, using(crate::proofs::Steps::steps))]
+fn mappings_flag(alloc: Global, capabilities: &Value) -> Result<bool, ConfError>
+    ensures { GivesAs is_want_of_memory (λ b. b) result
+        (wanted.mappings_flag (bool_field (codes "portMappings") (view capabilities.now))) }
+{
+    match field_bool(capabilities, "portMappings") {
+        Field::Absent => Ok(false),
+        Field::WrongKind => Err(invalid(alloc, "capabilities")),
+        Field::Here(flag) => Ok(flag),
+    }
+}

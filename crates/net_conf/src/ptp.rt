@@ -1,0 +1,43 @@
+//! The `ptp` plugin.
+
+ghost use Rattle.std.specs.Prelude.{◌≡◌, false};
+ghost use Rattle.serde_json.specs.View.{view};
+ghost use Rattle.serde_json.specs.Written.{has_float};
+ghost use Rattle.cni_json.specs.Outcome.{GivesAs};
+ghost use Rattle.net_conf.specs.Ptp as wanted;
+ghost use Rattle.net_conf.specs.Refusals.{is_want_of_memory};
+
+use crate::error::{ConfError, invalid};
+use crate::first::{HostLocalConf, PtpConf};
+use crate::ipam::addressing_of;
+use crate::members::{flag, mtu};
+use cni_json::Value;
+use std::alloc::Global;
+
+/// The configuration of the `ptp` plugin, from its object in a list.
+#[tactic(auto, using(crate::proofs::Steps::steps), unfolding(crate::specs::Ptp::ptp_at))]
+pub fn ptp(alloc: Global, object: &Value) -> Result<PtpConf, ConfError>
+    requires { has_float (view object.now) ≡ false }
+    ensures { GivesAs is_want_of_memory (λ conf. conf) result (wanted.ptp_at (view object.now)) }
+{
+    let ip_masq = flag(alloc, object, "ipMasq", false)?;
+    let mtu = mtu(alloc, object)?;
+    let addressing = addressing_of(alloc, object)?;
+    let ipam = ipam_or_refused(alloc, addressing.ipam)?;
+    Ok(PtpConf {
+        ip_masq,
+        mtu,
+        ipam,
+        dns: addressing.dns,
+    })
+}
+
+#[tactic(auto, using(crate::proofs::Steps::steps))]
+fn ipam_or_refused(alloc: Global, ipam: Option<HostLocalConf>) -> Result<HostLocalConf, ConfError>
+    ensures { GivesAs is_want_of_memory (λ conf. conf) result (wanted.ipam_or_refused ipam) }
+{
+    match ipam {
+        Some(conf) => Ok(conf),
+        None => Err(invalid(alloc, "ipam")),
+    }
+}

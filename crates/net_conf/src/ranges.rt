@@ -1,0 +1,133 @@
+//! Ranges of addresses and sets of them.
+
+ghost use Rattle.std.specs.Prelude.{◌≡◌, ◌+◌, ◌-◌, true, codes, IfOk};
+ghost use Rattle.serde_json.specs.View.{view, items_view};
+ghost use Rattle.cni_addr.specs.Codes.{family_eq};
+ghost use Rattle.cni_json.specs.Outcome.{GivesAs};
+ghost use Rattle.net_conf.specs.Members.{each};
+ghost use Rattle.net_conf.specs.Ranges as ranges;
+ghost use Rattle.net_conf.specs.Refusals.{is_want_of_memory};
+
+use crate::error::{ConfError, invalid};
+use cni_addr::{
+    Addr, Cidr, Family, Items, Range, RangeSet, contains, last_of, network_of, read_addr, read_cidr,
+};
+use cni_json::{Field, Value, field_str};
+use std::alloc::Global;
+
+/// The range that an object gives by `subnet`, `rangeStart`, `rangeEnd` and `gateway`.
+#[tactic(auto, using(crate::proofs::Steps::steps), unfolding(crate::specs::Ranges::range_at))]
+pub fn range(alloc: Global, object: &Value) -> Result<Range, ConfError>
+    ensures { GivesAs is_want_of_memory (λ range. range) result (ranges.range_at (view object.now)) }
+{
+    let subnet = subnet(alloc, object)?;
+    let start = bound(alloc, object, "rangeStart", &subnet, first_host(&subnet))?;
+    let end = bound(alloc, object, "rangeEnd", &subnet, last_host(&subnet))?;
+    in_order(alloc, &start, &end)?;
+    let gateway = gateway(alloc, object, &subnet)?;
+    Ok(Range {
+        subnet,
+        start,
+        end,
+        gateway,
+    })
+}
+
+#[tactic(auto, using(crate::proofs::Steps::steps), unfolding(crate::specs::Ranges::subnet_at))]
+fn subnet(alloc: Global, object: &Value) -> Result<Cidr, ConfError>
+    ensures read { GivesAs is_want_of_memory (λ subnet. subnet) result (ranges.subnet_at (view object.now)) }
+    ensures tested { IfOk result (λ subnet. ranges.is_subnet subnet ≡ true) }
+{
+    let Field::Here(text) = field_str(object, "subnet") else {
+        return Err(invalid(alloc, "subnet"));
+    };
+    match read_cidr(text.as_bytes()) {
+        Some(subnet) if is_subnet(&subnet) => Ok(subnet),
+        _ => Err(invalid(alloc, "subnet")),
+    }
+}
+
+#[tactic(auto, unfolding(crate::specs::Ranges::is_subnet))]
+fn is_subnet(subnet: &Cidr) -> bool
+    ensures { result ≡ ranges.is_subnet subnet.now }
+{
+    *subnet == network_of(subnet) && 8 <= subnet.prefix && subnet.prefix <= 30
+}
+
+/// The address after the subnet's own.
+#[tactic(auto, using(crate::proofs::RangeLemmas::rooms), unfolding(crate::specs::Ranges::first_host))]
+fn first_host(subnet: &Cidr) -> Addr
+    requires { ranges.is_subnet subnet.now ≡ true }
+    ensures { result ≡ ranges.first_host subnet.now }
+{
+    let last = last_of(subnet);
+    Addr {
+        family: last.family,
+        bits: subnet.addr.bits + 1,
+    }
+}
+
+/// The address before the subnet's last.
+#[tactic(auto, using(crate::proofs::RangeLemmas::rooms), unfolding(crate::specs::Ranges::last_host))]
+fn last_host(subnet: &Cidr) -> Addr
+    requires { ranges.is_subnet subnet.now ≡ true }
+    ensures { result ≡ ranges.last_host subnet.now }
+{
+    let last = last_of(subnet);
+    Addr {
+        family: last.family,
+        bits: last.bits - 1,
+    }
+}
+
+#[tactic(auto, using(crate::proofs::Steps::steps), unfolding(crate::specs::Ranges::bound_at))]
+fn bound(
+    alloc: Global,
+    object: &Value,
+    key: &str,
+    subnet: &Cidr,
+    default: Addr,
+) -> Result<Addr, ConfError>
+    ensures { GivesAs is_want_of_memory (λ addr. addr) result (ranges.bound_at key.now subnet.now default (view object.now)) }
+{
+    match field_str(object, key) {
+        Field::Absent => Ok(default),
+        Field::WrongKind => Err(invalid(alloc, key)),
+        Field::Here(text) => match read_addr(text.as_bytes()) {
+            Some(addr) if contains(subnet, &addr) => Ok(addr),
+            _ => Err(invalid(alloc, key)),
+        },
+    }
+}
+
+#[tactic(auto, using(crate::proofs::Steps::steps), unfolding(crate::specs::Ranges::in_order))]
+fn in_order(alloc: Global, start: &Addr, end: &Addr) -> Result<(), ConfError>
+    ensures { GivesAs is_want_of_memory (λ t. t) result (ranges.in_order start.now end.now) }
+{
+    if end.bits < start.bits {
+        Err(invalid(alloc, "rangeStart"))
+    } else {
+        Ok(())
+    }
+}
+
+#[tactic(auto, using(crate::proofs::Steps::steps), unfolding(crate::specs::Ranges::gateway_at))]
+fn gateway(alloc: Global, object: &Value, subnet: &Cidr) -> Result<Addr, ConfError>
+    requires { ranges.is_subnet subnet.now ≡ true }
+    ensures { GivesAs is_want_of_memory (λ addr. addr) result (ranges.gateway_at subnet.now (view object.now)) }
+{
+    match field_str(object, "gateway") {
+        Field::Absent => Ok(first_host(subnet)),
+        Field::WrongKind => Err(invalid(alloc, "gateway")),
+        Field::Here(text) => match read_addr(text.as_bytes()) {
+            Some(addr) if has_family(&addr, subnet) => Ok(addr),
+            _ => Err(invalid(alloc, "gateway")),
+        },
+    }
+}
+
+fn has_family(addr: &Addr, subnet: &Cidr) -> bool
+    ensures { result ≡ family_eq addr.now.family subnet.now.addr.family }
+{
+    addr.family == subnet.addr.family
+}

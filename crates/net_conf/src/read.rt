@@ -1,0 +1,105 @@
+//! The reader of network lists.
+
+ghost use Rattle.std.specs.Prelude.{◌≡◌, false};
+ghost use Rattle.serde_json.specs.View.{view};
+ghost use Rattle.serde_json.specs.Written.{has_float};
+ghost use Rattle.cni_json.specs.Outcome.{GivesAs};
+ghost use Rattle.net_conf.specs.List as wanted;
+ghost use Rattle.net_conf.specs.Refusals.{is_want_of_memory};
+
+use crate::error::{ConfError, invalid, version_refused};
+use crate::list::NetList;
+use crate::names::is_network_name;
+use crate::outside::{Accepted, supported};
+use crate::plugins::plugin_chain;
+use cni_addr::Text;
+use cni_json::{Field, ReadEnd, Value, field_str};
+use cni_result::Version;
+use std::alloc::Global;
+
+/// The network list that the bytes spell (CNI specification 1.1.0, section 1), or the first refusal in the order of its
+/// parts. It takes time in proportion to the bytes.
+#[tactic(auto, using(crate::proofs::Steps::steps), unfolding(crate::specs::List::list_of))]
+pub fn read_list(alloc: Global, bytes: &[u8]) -> Result<NetList, ConfError>
+    ensures { GivesAs is_want_of_memory (λ list. list) result (wanted.list_of bytes.now) }
+{
+    match cni_json::read(alloc, bytes) {
+        Ok(top) => list(alloc, &top),
+        Err(ReadEnd::Decode) => Err(ConfError::Decode),
+        Err(ReadEnd::Number) => Err(invalid(alloc, "number")),
+        Err(ReadEnd::NoMemory) => Err(ConfError::NoMemory),
+    }
+}
+
+#[tactic(auto, using(crate::proofs::Steps::steps), unfolding(crate::specs::List::list_at))]
+fn list(alloc: Global, top: &Value) -> Result<NetList, ConfError>
+    requires { has_float (view top.now) ≡ false }
+    ensures { GivesAs is_want_of_memory (λ list. list) result (wanted.list_at (view top.now)) }
+{
+    list_object(alloc, top)?;
+    let version = version(alloc, top)?;
+    supported(alloc, top, "cniVersions", Accepted::Nothing)?;
+    let name = name(alloc, top)?;
+    let disable_check = switch(alloc, top, "disableCheck")?;
+    let disable_gc = switch(alloc, top, "disableGC")?;
+    let plugins = plugin_chain(alloc, top)?;
+    Ok(NetList {
+        version,
+        name,
+        disable_check,
+        disable_gc,
+        first: plugins.first,
+        chained: plugins.chained,
+    })
+}
+
+#[tactic(auto, using(crate::proofs::Steps::steps))]
+fn list_object(alloc: Global, top: &Value) -> Result<(), ConfError>
+    ensures { GivesAs is_want_of_memory (λ t. t) result (wanted.list_object (view top.now)) }
+{
+    if top.is_object() {
+        Ok(())
+    } else {
+        Err(invalid(alloc, "list"))
+    }
+}
+
+#[tactic(auto, using(crate::proofs::Steps::steps), unfolding(crate::specs::List::version_at))]
+fn version(alloc: Global, top: &Value) -> Result<Version, ConfError>
+    ensures { GivesAs is_want_of_memory (λ version. version) result (wanted.version_at (view top.now)) }
+{
+    match field_str(top, "cniVersion") {
+        Field::WrongKind => Err(invalid(alloc, "cniVersion")),
+        Field::Absent => Err(version_refused(alloc, "")),
+        Field::Here("1.0.0") => Ok(Version::V1_0),
+        Field::Here("1.1.0") => Ok(Version::V1_1),
+        Field::Here(found) => Err(version_refused(alloc, found)),
+    }
+}
+
+#[tactic(auto, using(crate::proofs::Steps::steps), unfolding(crate::specs::List::name_at))]
+fn name(alloc: Global, top: &Value) -> Result<Text, ConfError>
+    ensures { GivesAs is_want_of_memory (λ name. name) result (wanted.name_at (view top.now)) }
+{
+    match field_str(top, "name") {
+        Field::Here(name) if is_network_name(name) => Ok(Text::of(alloc, name)?),
+        Field::Here(_) | Field::Absent | Field::WrongKind => Err(invalid(alloc, "name")),
+    }
+}
+
+/// A truth value, or the text of one. Absent is false.
+#[tactic(auto, using(crate::proofs::Steps::steps), unfolding(crate::specs::List::switch_at))]
+fn switch(alloc: Global, top: &Value, key: &str) -> Result<bool, ConfError>
+    ensures { GivesAs is_want_of_memory (λ b. b) result (wanted.switch_at key.now (view top.now)) }
+{
+    match top.get(key) {
+        None | Some(Value::Null) => Ok(false),
+        Some(Value::Bool(flag)) => Ok(*flag),
+        Some(Value::String(text)) => match text.as_str() {
+            "true" => Ok(true),
+            "false" => Ok(false),
+            _ => Err(invalid(alloc, key)),
+        },
+        Some(_) => Err(invalid(alloc, key)),
+    }
+}

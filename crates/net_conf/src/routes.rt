@@ -1,0 +1,81 @@
+//! Configured routes.
+
+ghost use Rattle.std.specs.Prelude.{codes};
+ghost use Rattle.serde_json.specs.View.{view, items_view};
+ghost use Rattle.cni_json.specs.Outcome.{GivesAs, TellsAs};
+ghost use Rattle.net_conf.specs.Members.{each};
+ghost use Rattle.net_conf.specs.Routes as routes;
+ghost use Rattle.net_conf.specs.Refusals.{is_want_of_memory};
+ghost use Rattle.net_conf.specs.declared.error.ConfError.TheVariants as refusal;
+
+use crate::error::{ConfError, invalid};
+use cni_addr::{Addr, Cidr, Family, Items, network_of, read_addr, read_cidr};
+use cni_json::{Field, Value, field_list, field_str};
+use cni_result::RouteEntry;
+use std::alloc::Global;
+
+/// The routes, none where there is no list of them.
+#[tactic(auto, using(crate::proofs::Steps::steps), unfolding(crate::specs::Routes::routes_at))]
+pub fn routes(alloc: Global, object: &Value) -> Result<Items<RouteEntry>, ConfError>
+    ensures { GivesAs is_want_of_memory (λ routes. routes) result (routes.routes_at (view object.now)) }
+{
+    match field_list(object, "routes") {
+        Field::Absent => Ok(Items::new(alloc)),
+        Field::WrongKind => Err(wrong(alloc)),
+        Field::Here(list) => all_routes(alloc, list),
+    }
+}
+
+#[tactic(auto, using(crate::proofs::Steps::steps))]
+fn all_routes(alloc: Global, list: &[Value]) -> Result<Items<RouteEntry>, ConfError>
+    ensures { GivesAs is_want_of_memory (λ routes. routes) result (each routes.route_at (items_view list.now)) }
+{
+    let mut found = Items::new(alloc);
+    for member in list {
+        let route = route(alloc, member)?;
+        found.push(route)?;
+    }
+    Ok(found)
+}
+
+#[tactic(auto, using(crate::proofs::Steps::steps), unfolding(crate::specs::Routes::route_at))]
+fn route(alloc: Global, member: &Value) -> Result<RouteEntry, ConfError>
+    ensures { GivesAs is_want_of_memory (λ route. route) result (routes.route_at (view member.now)) }
+{
+    let dst = destination(alloc, member)?;
+    let gw = hop(alloc, member, dst.addr.family)?;
+    Ok(RouteEntry { dst, gw })
+}
+
+#[tactic(auto, using(crate::proofs::Steps::steps), unfolding(crate::specs::Routes::destination_at))]
+fn destination(alloc: Global, member: &Value) -> Result<Cidr, ConfError>
+    ensures { GivesAs is_want_of_memory (λ dst. dst) result (routes.destination_at (view member.now)) }
+{
+    let Field::Here(text) = field_str(member, "dst") else {
+        return Err(wrong(alloc));
+    };
+    match read_cidr(text.as_bytes()) {
+        Some(cidr) => Ok(network_of(&cidr)),
+        None => Err(wrong(alloc)),
+    }
+}
+
+#[tactic(auto, using(crate::proofs::Steps::steps), unfolding(crate::specs::Routes::hop_at))]
+fn hop(alloc: Global, member: &Value, family: Family) -> Result<Option<Addr>, ConfError>
+    ensures { GivesAs is_want_of_memory (λ gw. gw) result (routes.hop_at family (view member.now)) }
+{
+    match field_str(member, "gw") {
+        Field::Absent => Ok(None),
+        Field::WrongKind => Err(wrong(alloc)),
+        Field::Here(text) => match read_addr(text.as_bytes()) {
+            Some(addr) if addr.family == family => Ok(Some(addr)),
+            _ => Err(wrong(alloc)),
+        },
+    }
+}
+
+fn wrong(alloc: Global) -> ConfError
+    ensures { TellsAs is_want_of_memory result (refusal.Invalid (codes "routes")) }
+{
+    invalid(alloc, "routes")
+}

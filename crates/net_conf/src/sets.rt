@@ -1,0 +1,244 @@
+//! The sets of ranges.
+
+ghost use Rattle.std.specs.Prelude.{◌≡◌, ◌+◌, IfOk};
+ghost use Rattle.std.specs.List.{list_all};
+ghost use Rattle.serde_json.specs.Data.{array};
+ghost use Rattle.serde_json.specs.Find.{get};
+ghost use Rattle.serde_json.specs.View.{view, items_view};
+ghost use Rattle.cni_json.specs.Outcome.{GivesAs};
+ghost use Rattle.cni_json.specs.Fields.{field_map};
+ghost use Rattle.ip_pool.specs.Pool as pool;
+ghost use Rattle.net_conf.specs.Members.{each, with_front};
+ghost use Rattle.net_conf.specs.Ranges.{range_at};
+ghost use Rattle.net_conf.specs.Refusals.{is_want_of_memory};
+ghost use Rattle.net_conf.specs.Sets as wanted;
+
+use crate::error::{ConfError, invalid};
+use crate::ranges::range;
+use cni_addr::{Family, Items, NoMemory, Range, RangeSet};
+use cni_json::{Field, Value, field_list};
+use std::alloc::Global;
+
+/// The set that the object's own `subnet` gives, and then those of its `ranges`.
+#[tactic(auto, using(crate::proofs::Steps::steps), unfolding(crate::specs::Sets::sets_at))]
+pub fn sets(alloc: Global, object: &Value) -> Result<Items<RangeSet>, ConfError>
+    ensures { GivesAs is_want_of_memory (λ sets. sets) result (wanted.sets_at (view object.now)) }
+{
+    let listed = listed(alloc, object)?;
+    let has_own = is_there(object, "subnet");
+    well_formed(alloc, has_own, listed)?;
+    let own = own_sets(alloc, has_own, object)?;
+    let sets = all_sets(alloc, own, listed)?;
+    separate(alloc, sets.as_slice())?;
+    Ok(sets)
+}
+
+#[tactic(auto, using(crate::proofs::Steps::steps), unfolding(crate::specs::Sets::listed_at))]
+fn listed<'a>(alloc: Global, object: &'a Value) -> Result<&'a [Value], ConfError>
+    ensures { GivesAs is_want_of_memory (λ list. items_view list.now) result (wanted.listed_at (view object.entry.now)) }
+{
+    match field_list(object, "ranges") {
+        Field::Absent => Ok(&[]),
+        Field::WrongKind => Err(invalid(alloc, "ranges")),
+        Field::Here(list) => Ok(list),
+    }
+}
+
+fn is_there(object: &Value, key: &str) -> bool
+    ensures { result ≡ wanted.is_there (get key.now (view object.now)) }
+{
+    match object.get(key) {
+        None | Some(Value::Null) => false,
+        Some(_) => true,
+    }
+}
+
+#[tactic(auto, using(crate::proofs::Steps::steps))]
+fn well_formed(alloc: Global, has_own: bool, listed: &[Value]) -> Result<(), ConfError>
+    ensures { GivesAs is_want_of_memory (λ t. t) result (wanted.well_formed has_own (items_view listed.now)) }
+{
+    if is_set_count(has_own, listed) && all_set_forms(listed) {
+        Ok(())
+    } else {
+        Err(invalid(alloc, "ranges"))
+    }
+}
+
+#[tactic(auto, using(crate::proofs::ValueLemmas::counts))]
+fn is_set_count(has_own: bool, listed: &[Value]) -> bool
+    ensures { result ≡ wanted.is_set_count (wanted.one_if has_own + wanted.item_count (items_view listed.now)) }
+{
+    if has_own {
+        listed.len() <= 65_535
+    } else {
+        1 <= listed.len() && listed.len() <= 65_536
+    }
+}
+
+fn all_set_forms(listed: &[Value]) -> bool
+    ensures { result ≡ wanted.all_items wanted.is_set (items_view listed.now) }
+{
+    for set in listed {
+        if !is_set_form(set) {
+            return false;
+        }
+    }
+    true
+}
+
+fn is_set_form(set: &Value) -> bool
+    ensures { result ≡ wanted.is_set (view set.now) }
+{
+    match set {
+        Value::Array(ranges) => is_set_list(ranges.as_slice()),
+        _ => false,
+    }
+}
+
+#[tactic(auto, using(crate::proofs::ValueLemmas::by_length))]
+fn is_set_list(ranges: &[Value]) -> bool
+    ensures { result ≡ wanted.is_set (array (items_view ranges.now)) }
+{
+    match ranges {
+        [] => false,
+        [_, ..] => all_objects(ranges),
+    }
+}
+
+fn all_objects(ranges: &[Value]) -> bool
+    ensures { result ≡ wanted.all_items wanted.is_object (items_view ranges.now) }
+{
+    for range in ranges {
+        if !range.is_object() {
+            return false;
+        }
+    }
+    true
+}
+
+#[tactic(auto, using(crate::proofs::Steps::steps))]
+fn own_sets(alloc: Global, has_own: bool, object: &Value) -> Result<Items<RangeSet>, ConfError>
+    ensures { GivesAs is_want_of_memory (λ own. own) result (wanted.own_sets_of has_own (view object.now)) }
+{
+    let mut own = Items::new(alloc);
+    if has_own {
+        let range = range(alloc, object)?;
+        let mut ranges = Items::new(alloc);
+        ranges.push(range)?;
+        own.push(RangeSet { ranges })?;
+    }
+    Ok(own)
+}
+
+/// The sets that are there already, and then the listed ones.
+#[tactic(auto, using(crate::proofs::Steps::steps))]
+fn all_sets(
+    alloc: Global,
+    own: Items<RangeSet>,
+    listed: &[Value],
+) -> Result<Items<RangeSet>, ConfError>
+    ensures { GivesAs is_want_of_memory (λ sets. sets) result (with_front own (each wanted.set_of (items_view listed.now))) }
+{
+    let mut found = own;
+    for member in listed {
+        let set = set(alloc, member)?;
+        found.push(set)?;
+    }
+    Ok(found)
+}
+
+#[tactic(auto, using(crate::proofs::Steps::steps))]
+fn set(alloc: Global, member: &Value) -> Result<RangeSet, ConfError>
+    ensures { GivesAs is_want_of_memory (λ set. set) result (wanted.set_of (view member.now)) }
+{
+    match member {
+        Value::Array(list) => {
+            let ranges = all_ranges(alloc, list.as_slice())?;
+            Ok(RangeSet { ranges })
+        }
+        _ => Err(invalid(alloc, "ranges")),
+    }
+}
+
+#[tactic(auto, using(crate::proofs::Steps::steps))]
+fn all_ranges(alloc: Global, list: &[Value]) -> Result<Items<Range>, ConfError>
+    ensures { GivesAs is_want_of_memory (λ ranges. ranges) result (each range_at (items_view list.now)) }
+{
+    let mut found = Items::new(alloc);
+    for member in list {
+        let range = range(alloc, member)?;
+        found.push(range)?;
+    }
+    Ok(found)
+}
+
+#[tactic(auto, using(crate::proofs::Steps::steps))]
+fn separate(alloc: Global, sets: &[RangeSet]) -> Result<(), ConfError>
+    ensures { GivesAs is_want_of_memory (λ t. t) result (wanted.separate sets.now) }
+{
+    let ranges = ranges_of(alloc, sets)?;
+    if are_apart(&ranges) && all_of_one_family(sets) {
+        Ok(())
+    } else {
+        Err(invalid(alloc, "ranges"))
+    }
+}
+
+/// All ranges, set by set.
+fn ranges_of(alloc: Global, sets: &[RangeSet]) -> Result<Vec<Range>, NoMemory>
+    ensures { IfOk result (λ all. all.items ≡ wanted.ranges_of sets.now) }
+{
+    let mut all = Vec::new(alloc);
+    for set in sets {
+        all.extend_from_slice(set.ranges.as_slice())?;
+    }
+    Ok(all)
+}
+
+fn are_apart(ranges: &[Range]) -> bool
+    ensures { result ≡ pool.are_apart ranges.now }
+{
+    for (i, range) in ranges.iter().enumerate() {
+        if !is_apart_from_all(range, &ranges[i + 1..]) {
+            return false;
+        }
+    }
+    true
+}
+
+fn is_apart_from_all(range: &Range, others: &[Range]) -> bool
+    ensures { result ≡ list_all (pool.is_apart range.now) others.now }
+{
+    others.iter().all(|other| is_apart(range, other))
+}
+
+fn is_apart(range: &Range, other: &Range) -> bool
+    ensures { result ≡ pool.is_apart range.now other.now }
+{
+    range.start.family != other.start.family
+        || range.end.bits < other.start.bits
+        || other.end.bits < range.start.bits
+}
+
+fn all_of_one_family(sets: &[RangeSet]) -> bool
+    ensures { result ≡ list_all wanted.is_of_one_family sets.now }
+{
+    sets.iter().all(|set| is_of_one_family(set))
+}
+
+fn is_of_one_family(set: &RangeSet) -> bool
+    ensures { result ≡ wanted.is_of_one_family set.now }
+{
+    match set.ranges.as_slice() {
+        [] => true,
+        [first, others @ ..] => all_have_family(first.subnet.addr.family, others),
+    }
+}
+
+fn all_have_family(family: Family, ranges: &[Range]) -> bool
+    ensures { result ≡ list_all (wanted.has_family family) ranges.now }
+{
+    ranges
+        .iter()
+        .all(|range| range.subnet.addr.family == family)
+}

@@ -1,0 +1,149 @@
+//! The `tuning` plugin.
+
+ghost use Rattle.std.specs.Prelude.{◌≡◌, codes, nat_eq};
+ghost use Rattle.std.specs.List.{starts_with};
+ghost use Rattle.serde_json.specs.View.{view, members_view};
+ghost use Rattle.cni_json.specs.Outcome.{GivesAs};
+ghost use Rattle.net_conf.specs.Refusals.{is_want_of_memory};
+ghost use Rattle.net_conf.specs.Tuning as wanted;
+
+use crate::chained::{Sysctl, TuningConf};
+use crate::error::{ConfError, invalid, unsupported};
+use crate::members::flag;
+use cni_addr::{Items, Mac, Text, read_mac};
+use cni_json::{Field, Map, Value, field_str, field_u64};
+use std::alloc::Global;
+
+/// The configuration of the `tuning` plugin, from its object in a list.
+#[tactic(auto, using(crate::proofs::Steps::steps), unfolding(crate::specs::Tuning::tuning_at))]
+pub fn tuning(alloc: Global, object: &Value) -> Result<TuningConf, ConfError>
+    ensures { GivesAs is_want_of_memory (λ conf. conf) result (wanted.tuning_at (view object.now)) }
+{
+    let sysctl = sysctl(alloc, object)?;
+    let mac = new_mac(alloc, object)?;
+    let mtu = new_mtu(alloc, object)?;
+    let promisc = flag(alloc, object, "promisc", false)?;
+    let allmulti = flag(alloc, object, "allmulti", false)?;
+    let tx_qlen = queue_length(alloc, object)?;
+    Ok(TuningConf {
+        sysctl,
+        mac,
+        mtu,
+        promisc,
+        allmulti,
+        tx_qlen,
+    })
+}
+
+#[tactic(auto, using(crate::proofs::Steps::steps), unfolding(crate::specs::Tuning::sysctl_at))]
+fn sysctl(alloc: Global, object: &Value) -> Result<Items<Sysctl>, ConfError>
+    ensures { GivesAs is_want_of_memory (λ settings. settings) result (wanted.sysctl_at (view object.now)) }
+{
+    match object.get("sysctl") {
+        None | Some(Value::Null) => Ok(Items::new(alloc)),
+        Some(Value::Object(members)) => settings(alloc, members),
+        Some(_) => Err(invalid(alloc, "sysctl")),
+    }
+}
+
+#[tactic(auto, using(crate::proofs::Steps::steps, crate::proofs::TuningLemmas::settings))]
+fn settings(alloc: Global, members: &Map<String, Value>) -> Result<Items<Sysctl>, ConfError>
+    ensures { GivesAs is_want_of_memory (λ settings. settings) result (wanted.settings_of (members_view members.now.entries)) }
+{
+    let mut found = Items::new(alloc);
+    for (key, member) in members.iter() {
+        if !is_null(member) {
+            let setting = setting(alloc, key.as_str(), member)?;
+            found.push(setting)?;
+        }
+    }
+    Ok(found)
+}
+
+fn is_null(member: &Value) -> bool
+    ensures { result ≡ wanted.is_null (view member.now) }
+{
+    matches!(member, Value::Null)
+}
+
+#[tactic(auto, using(crate::proofs::Steps::steps))]
+fn setting(alloc: Global, key: &str, member: &Value) -> Result<Sysctl, ConfError>
+    ensures { GivesAs is_want_of_memory (λ setting. setting) result (wanted.setting_of key.now (view member.now)) }
+{
+    match member {
+        Value::String(text) => {
+            if !is_of_network(key) {
+                Err(invalid(alloc, "sysctl"))
+            } else if names_interface(key) {
+                Err(unsupported(alloc, key, member))
+            } else {
+                Ok(Sysctl {
+                    key: Text::of(alloc, key)?,
+                    value: Text::of(alloc, text.as_str())?,
+                })
+            }
+        }
+        _ => Err(invalid(alloc, "sysctl")),
+    }
+}
+
+fn is_of_network(key: &str) -> bool
+    ensures { result ≡ starts_with nat_eq key.now (codes "net.") }
+{
+    key.as_bytes().starts_with(b"net.")
+}
+
+/// Whether the key has the place of an interface's name, as the `tuning` plugin of the CNI project writes it.
+fn names_interface(key: &str) -> bool
+    ensures { result ≡ wanted.has_part (codes "IFNAME") key.now }
+{
+    has_part(key.as_bytes(), b"IFNAME")
+}
+
+#[tactic(auto, using(crate::proofs::TuningLemmas::parts))]
+fn has_part(text: &[u8], part: &[u8]) -> bool
+    ensures { result ≡ wanted.has_part part.now text.now }
+{
+    for start in 0..text.len() {
+        if text[start..].starts_with(part) {
+            return true;
+        }
+    }
+    false
+}
+
+#[tactic(auto, using(crate::proofs::Steps::steps), unfolding(crate::specs::Tuning::new_mac_at))]
+fn new_mac(alloc: Global, object: &Value) -> Result<Option<Mac>, ConfError>
+    ensures { GivesAs is_want_of_memory (λ mac. mac) result (wanted.new_mac_at (view object.now)) }
+{
+    match field_str(object, "mac") {
+        Field::Absent | Field::Here("") => Ok(None),
+        Field::Here(text) => match read_mac(text.as_bytes()) {
+            Some(mac) => Ok(Some(mac)),
+            None => Err(invalid(alloc, "mac")),
+        },
+        Field::WrongKind => Err(invalid(alloc, "mac")),
+    }
+}
+
+#[tactic(auto, using(crate::proofs::Steps::steps), unfolding(crate::specs::Tuning::new_mtu_at))]
+fn new_mtu(alloc: Global, object: &Value) -> Result<Option<u32>, ConfError>
+    ensures { GivesAs is_want_of_memory (λ mtu. mtu) result (wanted.new_mtu_at (view object.now)) }
+{
+    match field_u64(object, "mtu") {
+        Field::Absent | Field::Here(0) => Ok(None),
+        Field::Here(number @ 68..=65535) => Ok(Some(number as u32)),
+        Field::Here(_) | Field::WrongKind => Err(invalid(alloc, "mtu")),
+    }
+}
+
+#[tactic(auto, using(crate::proofs::Steps::steps), unfolding(crate::specs::Tuning::queue_length_at))]
+fn queue_length(alloc: Global, object: &Value) -> Result<Option<u32>, ConfError>
+    ensures { GivesAs is_want_of_memory (λ length. length) result (wanted.queue_length_at (view object.now)) }
+{
+    match field_u64(object, "txQLen") {
+        Field::Absent => Ok(None),
+        Field::Here(number @ 0..=4_294_967_295) => Ok(Some(number as u32)),
+        Field::Here(_) | Field::WrongKind => Err(invalid(alloc, "txQLen")),
+    }
+}

@@ -1,0 +1,135 @@
+#!/usr/bin/env python3
+"""Writes the recordings that ip_pool's tests replay, from what the host-local plugin did.
+
+    python3 tests/peers/write_pool_recordings.py
+
+reads hostlocal.json beside this file and writes rows.rt and sequences.rt into crates/ip_pool/src/tests, which
+`rt fmt` then lays out: the rows of the plugin's own tests, and recorded sequences of ADD and DEL. A sequence runs over several sets; each set leases by itself, so each becomes a recording of its own. Sets of
+IPv6 addresses and rows whose last address is no candidate are left out, and named in the file that is written.
+Python's standard library is enough.
+"""
+
+import ipaddress
+import json
+import pathlib
+
+HERE = pathlib.Path(__file__).resolve().parent
+TARGET = HERE.parent.parent / "crates/ip_pool/src/tests"
+
+
+def bounds(given):
+    """The start, end and gateway of a range, by the plugin's defaults for IPv4."""
+    subnet = ipaddress.ip_network(given["subnet"])
+    start = given.get("rangeStart", subnet[1])
+    end = given.get("rangeEnd", subnet[-2])
+    gateway = given.get("gateway", subnet[1])
+    return [int(ipaddress.ip_address(address)) for address in (start, end, gateway)]
+
+
+def is_ipv6(given_set):
+    return ":" in given_set[0]["subnet"]
+
+
+class Recording:
+    """One set and what happens to it, in words; addresses are offsets from the start of its first range."""
+
+    def __init__(self, name, given_set):
+        self.name = name
+        self.ranges = [bounds(given) for given in given_set]
+        self.words = []
+
+    def add(self, sign, address):
+        bits = int(ipaddress.ip_address(address.split("/")[0]))
+        offset = bits - self.ranges[0][0]
+        assert 0 <= offset < 65536
+        self.words.append(f"{sign}{offset}")
+
+    def has(self, address):
+        bits = int(ipaddress.ip_address(address))
+        return any(start <= bits <= end and bits != gateway for start, end, gateway in self.ranges)
+
+    def text(self):
+        ranges = ", ".join("(%#010x, %#010x, %#010x)" % tuple(bounds) for bounds in self.ranges)
+        return f'Recording {{ name: "{self.name}", ranges: &[{ranges}], steps: "{" ".join(self.words)}" }},'
+
+
+def from_tables(rows, orders):
+    for row in rows:
+        if is_ipv6(row["set"]):
+            yield row["name"], "IPv6"
+            continue
+        recording = Recording(row["name"], row["set"])
+        if row["last"] is not None:
+            if not recording.has(row["last"]):
+                yield row["name"], "its last address is no candidate"
+                continue
+            recording.add("=", row["last"])
+        for address in row["taken"]:
+            recording.add("*", address)
+        if row["given"] is None:
+            recording.words.append("full")
+        else:
+            recording.add("+", row["given"])
+        yield row["name"], recording
+    for row in orders:
+        recording = Recording(row["name"], row["set"])
+        if row["last"] is not None:
+            recording.add("=", row["last"])
+        for address in row["order"]:
+            recording.add("+", address)
+        recording.words.append("full")
+        yield row["name"], recording
+
+
+def from_sequences(sequences):
+    for case, given in enumerate(sequences):
+        for number, given_set in enumerate(given["sets"]):
+            name = f"sequence {case}, set {number}"
+            if is_ipv6(given_set):
+                yield name, "IPv6"
+                continue
+            recording = Recording(name, given_set)
+            held = {}
+            for operation in given["sequence"]:
+                if "del" in operation:
+                    recording.add("-", held.pop(operation["del"]))
+                elif "ips" in operation:
+                    held[operation["add"]] = operation["ips"][number]
+                    recording.add("+", operation["ips"][number])
+                elif operation["empty_set"] == number:
+                    recording.words.append("full")
+                elif operation["empty_set"] > number:
+                    recording.words.append("tried")
+            if given["lasts"][number] is not None:
+                recording.add("@", given["lasts"][number])
+            yield name, recording
+
+
+def write(module, constant, what, made):
+    left_out = [f"//! {name} ({reason});" for name, reason in made if isinstance(reason, str)]
+    recordings = [recording.text() for _, recording in made if isinstance(recording, Recording)]
+    lines = [
+        f"//! Written by tests/peers/write_pool_recordings.py: {what}.",
+        "//!",
+        "//! Left out:",
+        *left_out,
+        "",
+        "use super::Recording;",
+        "",
+        f"pub(super) const {constant}: [Recording; {len(recordings)}] = [",
+        *recordings,
+        "];",
+    ]
+    (TARGET / module).write_text("\n".join(lines) + "\n")
+
+
+def main():
+    data = json.loads((HERE / "hostlocal.json").read_text())
+    rows = [*from_tables(data["next_address"], data["order"])]
+    write("rows.rt", "ROWS", "the rows of the `host-local` plugin's own tests of its allocator", rows)
+    sequences = [*from_sequences(data["sequences"])]
+    write("sequences.rt", "SEQUENCES", "what the `host-local` plugin 1.9.1 did when it was run", sequences)
+
+
+if __name__ == "__main__":
+    main()
