@@ -7,7 +7,6 @@ ghost use Rattle.serde_json.specs.Find.{get};
 ghost use Rattle.serde_json.specs.View.{view, items_view};
 ghost use Rattle.cni_json.specs.Outcome.{GivesAs};
 ghost use Rattle.cni_json.specs.Fields.{field_map};
-ghost use Rattle.ip_pool.specs.Pool as pool;
 ghost use Rattle.net_conf.specs.Members.{each, with_front};
 ghost use Rattle.net_conf.specs.Ranges.{range_at};
 ghost use Rattle.net_conf.specs.Refusals.{is_want_of_memory};
@@ -17,6 +16,7 @@ use crate::error::{ConfError, invalid};
 use crate::ranges::range;
 use cni_addr::{Family, Items, NoMemory, Range, RangeSet};
 use cni_json::{Field, Value, field_list};
+use ip_pool::are_apart;
 use std::alloc::Global;
 
 /// The set that the object's own `subnet` gives, and then those of its `ranges`.
@@ -193,31 +193,6 @@ fn ranges_of(alloc: Global, sets: &[RangeSet]) -> Result<Vec<Range>, NoMemory>
         all.extend_from_slice(set.ranges.as_slice())?;
     }
     Ok(all)
-}
-
-fn are_apart(ranges: &[Range]) -> bool
-    ensures { result ≡ pool.are_apart ranges.now }
-{
-    for (i, range) in ranges.iter().enumerate() {
-        if !is_apart_from_all(range, &ranges[i + 1..]) {
-            return false;
-        }
-    }
-    true
-}
-
-fn is_apart_from_all(range: &Range, others: &[Range]) -> bool
-    ensures { result ≡ list_all (pool.is_apart range.now) others.now }
-{
-    others.iter().all(|other| is_apart(range, other))
-}
-
-fn is_apart(range: &Range, other: &Range) -> bool
-    ensures { result ≡ pool.is_apart range.now other.now }
-{
-    range.start.family != other.start.family
-        || range.end.bits < other.start.bits
-        || other.end.bits < range.start.bits
 }
 
 fn all_of_one_family(sets: &[RangeSet]) -> bool

@@ -1,0 +1,314 @@
+-- Every host that a legal world comes to is sound, each last address is a candidate of its pool, and each call that a
+-- run makes may be made.
+use Rattle.std.proofs.Common.{◌≡◌, ℕ, zero, suc, ◌+◌, Bool, true, false, not, cond, List, [], ◌∷◌, ◌++◌, map, length, Option, Some, None, refl, sym, ◌∙◌, ap, subst, arith, inl, inr}
+use Rattle.std.proofs.lemmas.Option.{same_Some, none-some}
+use Rattle.std.proofs.lemmas.Bool.Decides.{eqb_tells}
+use Rattle.std.proofs.lemmas.Slice.Eq.{bytes_eq-Decides}
+use Rattle.std.specs.Prelude.{if◌then◌else◌, find, ◌&&◌, ◌==◌, ◌⊎◌, slice_get}
+use Rattle.std.specs.List.{list_any, list_all}
+use Rattle.std.specs.Option.{option_map}
+use Rattle.std.specs.Str.{bytes_eq}
+use Rattle.cni_addr.specs.declared.address.Addr.{Addr}
+use Rattle.cni_addr.specs.declared.range.RangeSet.{RangeSet}
+use Rattle.ip_pool.specs.NextAddress.{is_candidate, is_candidate_or_none}
+use Rattle.ip_pool.specs.Pool.{are_apart, pick_of}
+use Rattle.net_conf.specs.declared.list.NetList.{NetList}
+use Rattle.pod_file.specs.declared.command.Command.{Command}
+use Rattle.kernel_types.specs.Allowed.{IsAllowed}
+use Rattle.kernel_types.specs.Apply.{apply}
+use Rattle.kernel_types.specs.Apply.Calls.{is_of_pool, last_leased, moved_last, with_last, lease_taken, lease_next_of, leased_addresses}
+use Rattle.kernel_types.specs.Replies.{is_fault}
+use Rattle.kernel_types.specs.Sound.{IsSound}
+use Rattle.kernel_types.specs.Touch.{Touches, TouchesTag}
+use Rattle.kernel_types.specs.Words.{is_own, is_owned}
+use Rattle.kernel_types.proofs.EveryCall.{IsSound-apply, Touches-apply}
+use Rattle.kernel_types.proofs.LeasedAddress.{leased-candidate}
+use Rattle.kernel_types.proofs.ListLemmas.{passes-find, passes-list_all}
+use Rattle.kernel_types.specs.declared.object.Att.{Att}
+use Rattle.kernel_types.specs.declared.object.Host.{Host}
+use Rattle.kernel_types.specs.declared.object.Last.{Last}
+use Rattle.kernel_types.specs.declared.object.Tag.{Tag}
+use Rattle.kernel_types.specs.declared.object.Tag.TheVariants as tags
+use Rattle.kernel_types.specs.declared.call.Call.{Call}
+use Rattle.kernel_types.specs.declared.call.Call.TheVariants.{Begin, BridgeEnsure, GatewayEnsure, ForwardEnsure, VethAdd, MacvlanAdd, LinkSet, AddrAdd, RouteAdd, RuleAppend, SettingSet, LeaseNext, CachePut, LinkDel, RuleDel, SettingDel, LeaseDel, CacheDel, HasObj, CacheGet, OwnersOf, PoolFree, NsChange, Outside}
+use Rattle.kernel_types.specs.declared.call.Kind.{Kind}
+use Rattle.kernel_types.specs.declared.call.Kind.TheVariants as kinds
+use Rattle.kernel_types.specs.declared.call.Reply.{Reply}
+use Rattle.kernel_types.specs.declared.call.Reply.TheVariants.{Leased}
+use Rattle.plan_words.specs.PlanCalls.{is_plan_call_of}
+use Rattle.cni_verbs.specs.CommandWords.{att_of}
+use Rattle.cni_verbs.specs.Script.{State, AtBegin, BeforeLeases, Leasing, AfterLeases, ReadingCache, Deleting, Over, Turn, Calls, Finishes, turn, script, state_after}
+use Rattle.cni_verbs.specs.Wanted.{sets_of, deletion}
+use Rattle.pod_workers.specs.Legal.{Legal, IsBegun, begins, steps, refused_memory, turns}
+use Rattle.pod_workers.specs.Plans.{Placed, IsWellFormed, commands_of, list_for, has_pools_apart}
+use Rattle.pod_workers.specs.World.{World, IsReady, after, host_on, host_of, own_replies, turn_by, next_by, next_of, is_stop, is_cut, is_faulty, reply_to, entry_of, with_entry, answered, done, stepped, next_round}
+use Rattle.pod_workers.specs.declared.plan.Entry.{Entry}
+use Rattle.pod_workers.specs.declared.plan.Next.{Next}
+use Rattle.pod_workers.specs.declared.plan.Next.TheVariants as next
+use Rattle.pod_workers.specs.declared.plan.Plan.{Plan}
+use Rattle.pod_workers.proofs.Planned.{IsPlain, IsPlanned, AllPlanned, IsRest, LeftArePlanned, left-are-planned}
+
+-- ---- lists
+
+slice_get-middle : {X : Type 0} (xs ys : List X) (y : X) → slice_get (xs ++ y ∷ ys) (length xs) ≡ Some y
+slice_get-middle [] ys y = refl
+slice_get-middle (x ∷ xs) ys y = slice_get-middle xs ys y
+
+list_all-at : {X : Type 0} (p : X → Bool) (xs : List X) (i : ℕ) (x : X) → list_all p xs ≡ true → slice_get xs i ≡ Some x → p x ≡ true
+list_all-at p [] i x h at = absurd (none-some x at)
+list_all-at p (y ∷ ys) zero x h at = let e : y ≡ x = same_Some y x at in subst (λ z. p z ≡ true) e (grind (arith, h))
+list_all-at p (y ∷ ys) (suc i) x h at = list_all-at p ys i x (grind (arith, h)) at
+
+-- ---- the last address of a pool
+
+-- the last of a pool of the plan is a candidate of its set
+abbrev pub LastIsCandidate : Plan → Last → Type 0
+LastIsCandidate p last =
+    (list : NetList) (set : RangeSet) → find (λ l. bytes_eq l.name last.network) p.lists ≡ Some list → slice_get (sets_of list) last.set ≡ Some set → is_candidate set last.addr ≡ true
+
+abbrev pub EachLast : Plan → List Last → Type 0
+EachLast p [] = Unit {0}
+EachLast p (x ∷ xs) = LastIsCandidate p x × EachLast p xs
+
+each-push : (p : Plan) (xs : List Last) (x : Last) → EachLast p xs → LastIsCandidate p x → EachLast p (xs ++ x ∷ [])
+each-push p [] x h g = (g, tt)
+each-push p (y ∷ ys) x h g = (h.0, each-push p ys x h.1 g)
+
+same-pool : (network : List ℕ) (number : ℕ) (x : Last) → is_of_pool network number x ≡ true → (x.network ≡ network) × (x.set ≡ number)
+same-pool network number x h =
+    ((bytes_eq-Decides x.network network).0 (grind (arith, h)),
+    elim (eqb_tells x.set number) [ inl t ↦ t.1 | inr f ↦ absurd (let no_way = f.0 in grind (arith, h, no_way)) ])
+
+moved-one : (p : Plan) (network : List ℕ) (number : ℕ) (a : Addr) (x : Last) (b : Bool) → is_of_pool network number x ≡ b → LastIsCandidate p x
+    → LastIsCandidate p (record { network = network; set = number; addr = a }) → LastIsCandidate p (if b then record x { addr = a } else x)
+moved-one p network number a x true is h g =
+    let same = same-pool network number x is in
+    λ list set found at. g list set (ap (λ n. find (λ l. bytes_eq l.name n) p.lists) (sym same.0) ∙ found) (ap (slice_get (sets_of list)) (sym same.1) ∙ at)
+moved-one p network number a x false is h g = h
+
+each-moved : (p : Plan) (network : List ℕ) (number : ℕ) (a : Addr) (xs : List Last) → EachLast p xs → LastIsCandidate p (record { network = network; set = number; addr = a }) → EachLast p (map (moved_last network number a) xs)
+each-moved p network number a [] h g = tt
+each-moved p network number a (x ∷ xs) h g = (moved-one p network number a x (is_of_pool network number x) refl h.0 g, each-moved p network number a xs h.1 g)
+
+found-step : (p : Plan) (b : Bool) (y x : Last) (o : Option Last) → LastIsCandidate p y → (o ≡ Some x → LastIsCandidate p x) → cond b (Some y) o ≡ Some x → LastIsCandidate p x
+found-step p true y x o h g is = subst (LastIsCandidate p) (same_Some y x is) h
+found-step p false y x o h g is = g is
+
+each-found : (p : Plan) (q : Last → Bool) (xs : List Last) (x : Last) → EachLast p xs → find q xs ≡ Some x → LastIsCandidate p x
+each-found p q [] x h is = absurd (none-some x is)
+each-found p q (y ∷ ys) x h is = found-step p (q y) y x (find q ys) h.0 (λ rest. each-found p q ys x h.1 rest) is
+
+last-with : (p : Plan) (host : Host) (network : List ℕ) (number : ℕ) (a : Addr) (b : Bool) → EachLast p host.lasts → LastIsCandidate p (record { network = network; set = number; addr = a })
+    → EachLast p (if b then record host { lasts = map (moved_last network number a) host.lasts } else record host { lasts = host.lasts ++ record { network = network; set = number; addr = a } ∷ [] }).lasts
+last-with p host network number a true h g = each-moved p network number a host.lasts h g
+last-with p host network number a false h g = each-push p host.lasts _ h g
+
+-- a lease moves the last of its pool to a candidate of its set
+lasts-lease : (p : Plan) (host : Host) (att : Att) (number : ℕ) (set : RangeSet) (list : NetList) (o : Option Addr)
+    → find (λ l. bytes_eq l.name att.network) p.lists ≡ Some list → slice_get (sets_of list) number ≡ Some set
+    → ((a : Addr) → o ≡ Some a → is_candidate set a ≡ true) → EachLast p host.lasts → EachLast p (lease_taken host att number o).0.lasts
+lasts-lease p host att number set list None found at fits h = h
+lasts-lease p host att number set list (Some a) found at fits h =
+    last-with p _ att.network number a _ h
+    (λ other t is_list is_set.
+        let same_list : other ≡ list = same_Some other list (sym is_list ∙ found) in
+        let same_set : t ≡ set = same_Some t set (sym is_set ∙ ap (λ l. slice_get (sets_of l) number) same_list ∙ at) in
+        subst (λ s. is_candidate s a ≡ true) (sym same_set) (fits a refl))
+
+-- ---- calls that move no last
+
+abbrev moves_last : Call → Bool
+moves_last (LeaseNext att number set) = true
+moves_last _ = false
+
+tag-lasts : (t : Tag) (old new : Host) → TouchesTag t old new → new.lasts ≡ old.lasts
+tag-lasts tags.Outside old new h = ap (λ (k : Host). k.lasts) h
+tag-lasts tags.Base old new h = ap (λ (k : Host). k.lasts) h
+tag-lasts (tags.Own att) old new h = h.lasts
+
+lasts-touches : (call : Call) (old new : Host) → moves_last call ≡ false → Touches call old new → new.lasts ≡ old.lasts
+lasts-touches (Begin att netns) old new n h = ap (λ (k : Host). k.lasts) h
+lasts-touches (BridgeEnsure a b d) old new n h = elim h [ inl e ↦ ap (λ (k : Host). k.lasts) e | inr e ↦ ap (λ (k : Host). k.lasts) e.2 ]
+lasts-touches (GatewayEnsure a b) old new n h = elim h [ inl e ↦ ap (λ (k : Host). k.lasts) e | inr e ↦ ap (λ (k : Host). k.lasts) e.2 ]
+lasts-touches (ForwardEnsure a) old new n h = elim h [ inl e ↦ ap (λ (k : Host). k.lasts) e | inr e ↦ ap (λ (k : Host). k.lasts) e.2 ]
+lasts-touches (VethAdd a b) old new n h = tag-lasts a.tag old new h
+lasts-touches (MacvlanAdd a) old new n h = tag-lasts a.tag old new h
+lasts-touches (LinkSet a b d e f g i) old new n h = h.lasts
+lasts-touches (AddrAdd a) old new n h = tag-lasts a.tag old new h
+lasts-touches (RouteAdd a) old new n h = tag-lasts a.tag old new h
+lasts-touches (RuleAppend a) old new n h = tag-lasts a.tag old new h
+lasts-touches (SettingSet a) old new n h = tag-lasts a.tag old new h
+lasts-touches (LeaseNext a b d) old new n h = cc
+lasts-touches (CachePut a b) old new n h = h.lasts
+lasts-touches (LinkDel a) old new n h = h.lasts
+lasts-touches (RuleDel a) old new n h = h.lasts
+lasts-touches (SettingDel a) old new n h = h.lasts
+lasts-touches (LeaseDel a) old new n h = h.lasts
+lasts-touches (CacheDel a) old new n h = h.lasts
+lasts-touches (HasObj a) old new n h = ap (λ (k : Host). k.lasts) h
+lasts-touches (CacheGet a) old new n h = ap (λ (k : Host). k.lasts) h
+lasts-touches (OwnersOf a b) old new n h = ap (λ (k : Host). k.lasts) h
+lasts-touches (PoolFree a b) old new n h = ap (λ (k : Host). k.lasts) h
+lasts-touches (NsChange a true) old new n h = elim h [ inl e ↦ ap (λ (k : Host). k.lasts) e | inr e ↦ ap (λ (k : Host). k.lasts) e.2 ]
+lasts-touches (NsChange a false) old new n h = h.lasts
+lasts-touches (Outside a) old new n h = h.lasts
+
+-- ---- planned calls may be made
+
+owned : (att : Att) (t : Tag) → is_own att t ≡ true → is_owned t ≡ true
+owned att tags.Outside h = cc
+owned att tags.Base h = cc
+owned att (tags.Own own) h = refl
+
+-- the call may be made in this host, and after it each last is a candidate still
+abbrev pub GoesWell : Plan → Host → Call → Type 0
+GoesWell p host call = IsAllowed host call × EachLast p (apply host call).0.lasts
+
+stays-well : (p : Plan) (host : Host) (call : Call) → IsSound host → EachLast p host.lasts → moves_last call ≡ false → IsAllowed host call → GoesWell p host call
+stays-well p host call sound lasts n allowed =
+    (allowed, subst (EachLast p) (sym (lasts-touches call host (apply host call).0 n (Touches-apply host call sound allowed))) lasts)
+
+planned-well : (p : Plan) (att : Att) (host : Host) (call : Call) → IsSound host → EachLast p host.lasts → IsPlanned att call → GoesWell p host call
+planned-well p att host (BridgeEnsure a b d) sound lasts h = stays-well p host (BridgeEnsure a b d) sound lasts refl tt
+planned-well p att host (GatewayEnsure a b) sound lasts h = stays-well p host (GatewayEnsure a b) sound lasts refl tt
+planned-well p att host (ForwardEnsure a) sound lasts h = stays-well p host (ForwardEnsure a) sound lasts refl tt
+planned-well p att host (VethAdd a b) sound lasts h = stays-well p host (VethAdd a b) sound lasts refl h.1
+planned-well p att host (MacvlanAdd a) sound lasts h = stays-well p host (MacvlanAdd a) sound lasts refl h.1
+planned-well p att host (LinkSet a b d e f g i) sound lasts h = stays-well p host (LinkSet a b d e f g i) sound lasts refl tt
+planned-well p att host (AddrAdd a) sound lasts h = stays-well p host (AddrAdd a) sound lasts refl (owned att a.tag h.0)
+planned-well p att host (RouteAdd a) sound lasts h = stays-well p host (RouteAdd a) sound lasts refl (owned att a.tag h.0)
+planned-well p att host (RuleAppend a) sound lasts h = stays-well p host (RuleAppend a) sound lasts refl (owned att a.tag h.0)
+planned-well p att host (SettingSet a) sound lasts h = stays-well p host (SettingSet a) sound lasts refl (owned att a.tag h.0, h.1)
+planned-well p att host (CachePut a b) sound lasts h = stays-well p host (CachePut a b) sound lasts refl tt
+planned-well p att host (Begin a b) sound lasts h = absurd (let e = h.0 in cc)
+planned-well p att host (LeaseNext a b d) sound lasts h = absurd (let e = h.0 in cc)
+planned-well p att host (LinkDel a) sound lasts h = absurd (let e = h.0 in cc)
+planned-well p att host (RuleDel a) sound lasts h = absurd (let e = h.0 in cc)
+planned-well p att host (SettingDel a) sound lasts h = absurd (let e = h.0 in cc)
+planned-well p att host (LeaseDel a) sound lasts h = absurd (let e = h.0 in cc)
+planned-well p att host (CacheDel a) sound lasts h = absurd (let e = h.0 in cc)
+planned-well p att host (HasObj a) sound lasts h = absurd (let e = h.0 in cc)
+planned-well p att host (CacheGet a) sound lasts h = absurd (let e = h.0 in cc)
+planned-well p att host (OwnersOf a b) sound lasts h = absurd (let e = h.0 in cc)
+planned-well p att host (PoolFree a b) sound lasts h = absurd (let e = h.0 in cc)
+planned-well p att host (NsChange a b) sound lasts h = absurd (let e = h.0 in cc)
+planned-well p att host (Outside a) sound lasts h = absurd (let e = h.0 in cc)
+
+deletion-well : (p : Plan) (att : Att) (host : Host) (kind : Kind) → IsSound host → EachLast p host.lasts → GoesWell p host (deletion att kind)
+deletion-well p att host kinds.Links sound lasts = stays-well p host (LinkDel att) sound lasts refl tt
+deletion-well p att host kinds.Rules sound lasts = stays-well p host (RuleDel att) sound lasts refl tt
+deletion-well p att host kinds.Settings sound lasts = stays-well p host (SettingDel att) sound lasts refl tt
+deletion-well p att host kinds.Leases sound lasts = stays-well p host (LeaseDel att) sound lasts refl tt
+deletion-well p att host kinds.Cached sound lasts = stays-well p host (CacheDel att) sound lasts refl tt
+
+-- ---- a lease may be made
+
+last-fits : (p : Plan) (network : List ℕ) (number : ℕ) (set : RangeSet) (list : NetList) (lasts : List Last) (o : Option Last) → find (is_of_pool network number) lasts ≡ o
+    → find (λ l. bytes_eq l.name network) p.lists ≡ Some list → slice_get (sets_of list) number ≡ Some set → EachLast p lasts
+    → is_candidate_or_none set (option_map (λ l. l.addr) o) ≡ true
+last-fits p network number set list lasts None is found at h = refl
+last-fits p network number set list lasts (Some x) is found at h =
+    let same = same-pool network number x (passes-find (is_of_pool network number) lasts x is) in
+    each-found p (is_of_pool network number) lasts x h is list set
+    (ap (λ n. find (λ l. bytes_eq l.name n) p.lists) same.0 ∙ found) (ap (slice_get (sets_of list)) same.1 ∙ at)
+
+leased-by : (host : Host) (att : Att) (number : ℕ) (set : RangeSet) (o : Option Addr) (a : Addr) → o ≡ Some a → (lease_taken host att number o).1 ≡ Leased a
+leased-by host att number set o a is = ap (λ q. (lease_taken host att number q).1) is
+
+lease-well : (p : Plan) (host : Host) (att : Att) (number : ℕ) (set : RangeSet) (list : NetList) → IsWellFormed p → EachLast p host.lasts
+    → find (λ l. bytes_eq l.name att.network) p.lists ≡ Some list → slice_get (sets_of list) number ≡ Some set → GoesWell p host (LeaseNext att number set)
+lease-well p host att number set list well lasts found at =
+    let apart : has_pools_apart list ≡ true = passes-list_all has_pools_apart (λ l. bytes_eq l.name att.network) p.lists list well.pools found in
+    ((list_all-at (λ s. are_apart s.ranges) (sets_of list) number set apart at,
+    last-fits p att.network number set list host.lasts (find (is_of_pool att.network number) host.lasts) refl found at lasts),
+    lasts-lease p host att number set list (pick_of set (last_leased host att.network number) (leased_addresses host att.network)) found at
+    (λ a is. leased-candidate host att number set a (leased-by host att number set (pick_of set (last_leased host att.network number) (leased_addresses host att.network)) a is)) lasts)
+
+-- ---- the next call of a run
+
+head-well : (p : Plan) (att : Att) (host : Host) (x call : Call) → IsSound host → EachLast p host.lasts → IsPlanned att x → x ≡ call → GoesWell p host call
+head-well p att host x call sound lasts h is = subst (GoesWell p host) is (planned-well p att host x sound lasts h)
+
+rest-at : (list : NetList) (next : RangeSet) (left : List RangeSet) (given : List Addr) → IsRest list (next ∷ left) given → slice_get (sets_of list) (length given) ≡ Some next
+rest-at list next left given rest = ap (λ s. slice_get s (length given)) rest.1 ∙ ap (slice_get (rest.0 ++ next ∷ left)) (sym rest.2) ∙ slice_get-middle rest.0 left next
+
+turn-well : (p : Plan) (host : Host) (list : NetList) (c : Command) (s : State) (call : Call) → IsWellFormed p → IsSound host → EachLast p host.lasts
+    → find (λ l. bytes_eq l.name c.network) p.lists ≡ Some list → LeftArePlanned list c s → turn c s ≡ Calls call → GoesWell p host call
+unfolding turn
+turn-well p host list c AtBegin call well sound lasts found left is = subst (GoesWell p host) (let e : Begin (att_of c) c.netns ≡ call = cc in e) (stays-well p host (Begin (att_of c) c.netns) sound lasts refl tt)
+turn-well p host list c (BeforeLeases x xs) call well sound lasts found left is = head-well p (att_of c) host x call sound lasts left.0.0 cc
+turn-well p host list c (Leasing set sets given) call well sound lasts found left is =
+    subst (GoesWell p host) (let e : LeaseNext (att_of c) (length given) set ≡ call = cc in e)
+    (lease-well p host (att_of c) (length given) set list well lasts found (rest-at list set sets given left.0))
+turn-well p host list c (AfterLeases x xs given) call well sound lasts found left is = head-well p (att_of c) host x call sound lasts left.0 cc
+turn-well p host list c (ReadingCache ending) call well sound lasts found left is = subst (GoesWell p host) (let e : CacheGet (att_of c) ≡ call = cc in e) (stays-well p host (CacheGet (att_of c)) sound lasts refl tt)
+turn-well p host list c (Deleting kind kinds_left ending) call well sound lasts found left is = subst (GoesWell p host) (let e : deletion (att_of c) kind ≡ call = cc in e) (deletion-well p (att_of c) host kind sound lasts)
+turn-well p host list c (Over ending given) call well sound lasts found left is = cc
+
+by-list : (p : Plan) (host : Host) (c : Command) (rs : List Reply) (o : Option NetList) (call : Call) → IsWellFormed p → IsSound host → EachLast p host.lasts
+    → find (λ l. bytes_eq l.name c.network) p.lists ≡ o → turn_by o c rs ≡ Calls call → GoesWell p host call
+by-list p host c rs None call well sound lasts found is = cc
+by-list p host c rs (Some list) call well sound lasts found is = turn-well p host list c (state_after list c rs) call well sound lasts found (left-are-planned list c rs) is
+
+call-by : (list : Option NetList) (c : Command) (made : ℕ) (k call : Call) (faulty b : Bool) → (if b then next.Answer _ else next.Call k (is_faulty c made)) ≡ next.Call call faulty → (Calls k ≡ Calls call) × (is_faulty c made ≡ faulty)
+call-by list c made k call faulty true is = absurd cc
+call-by list c made k call faulty false is = (cc, cc)
+
+-- a step that makes a call makes the script's
+pub next-is-call : (list : Option NetList) (c : Command) (made : ℕ) (cut : Bool) (t : Turn) (call : Call) (faulty : Bool) → next_by list c made cut t ≡ next.Call call faulty → (t ≡ Calls call) × (is_faulty c made ≡ faulty)
+next-is-call list c made cut (Finishes finish) call faulty is = absurd cc
+next-is-call list c made cut (Calls k) call faulty is = call-by list c made k call faulty _ is
+
+-- ---- every legal world
+
+pub record IsFine (w : World) : Type 0 where
+  pub plan : IsWellFormed w.plan
+  pub sound : IsSound (host_of w)
+  pub lasts : EachLast w.plan (host_of w).lasts
+
+list_for-found : (p : Plan) (c : Command) → find (λ l. bytes_eq l.name c.network) p.lists ≡ list_for p c
+unfolding list_for
+list_for-found p c = refl
+
+next-well : (w : World) (c : Command) (rs : List Reply) (call : Call) (faulty : Bool) → IsFine w → next_of w c rs ≡ next.Call call faulty → GoesWell w.plan (host_of w) call
+next-well w c rs call faulty fine is =
+    let t = next-is-call (list_for w.plan c) c (length rs) (is_cut w) (turn_by (list_for w.plan c) c rs) call faulty is in
+    by-list w.plan (host_of w) c rs (list_for w.plan c) call fine.plan fine.sound fine.lasts (list_for-found w.plan c) t.0
+
+after-entry : (host : Host) (es : List Entry) (e : Entry) → after host (es ++ e ∷ []) ≡ host_on (after host es) e
+after-entry host [] e = refl
+after-entry host (x ∷ xs) e = after-entry (host_on host x) xs e
+
+either-fine : (p : Plan) (b : Bool) (old new : Host) → IsSound old → EachLast p old.lasts → IsSound new → EachLast p new.lasts → IsSound (if b then old else new) × EachLast p (if b then old else new).lasts
+either-fine p true old new a b d e = (a, b)
+either-fine p false old new a b d e = (d, e)
+
+fine-done : (w : World) (n : ℕ) (c : Command) (x : Next) → IsFine w → next_of w c (own_replies w n) ≡ x → IsFine (done w n x)
+fine-done w n c (next.Answer a) fine is = record { plan = fine.plan; sound = fine.sound; lasts = fine.lasts }
+fine-done w n c (next.Call call faulty) fine is =
+    let well = next-well w c (own_replies w n) call faulty fine is in
+    let e = entry_of (host_of w) n call faulty in
+    let both = either-fine w.plan (is_fault e.reply) (host_of w) (apply (host_of w) call).0 fine.sound fine.lasts (IsSound-apply (host_of w) call fine.sound well.0) well.1 in
+    let grown = after-entry w.plan.pods.opening w.history e in
+    record { plan = fine.plan; sound = subst IsSound (sym grown) both.0; lasts = subst (λ (h : Host). EachLast w.plan h.lasts) (sym grown) both.1 }
+
+fine-begun : (w : World) → IsBegun w → IsFine w
+fine-begun w begun =
+    let still : host_of w ≡ w.plan.pods.opening = ap (λ h. after w.plan.pods.opening h) begun.empty in
+    record {
+      plan = begun.plan;
+      sound = subst IsSound (sym still) begun.plan.opening.sound;
+      lasts = subst (EachLast w.plan) (sym (ap (λ (h : Host). h.lasts) still ∙ begun.plan.opening.lasts)) tt;
+    }
+
+pub fine : (w : World) → Legal w → IsFine w
+fine _ (begins w begun) = fine-begun w begun
+fine _ (steps v w n c legal ready is) = subst IsFine (sym is) (fine-done v n c.command (next_of v c.command (own_replies v n)) (fine v legal) refl)
+fine _ (refused_memory v w n c legal ready is) = subst IsFine (sym is) (let f = fine v legal in record { plan = f.plan; sound = f.sound; lasts = f.lasts })
+fine _ (turns v w legal less over is) = subst IsFine (sym is) (let f = fine v legal in record { plan = f.plan; sound = f.sound; lasts = f.lasts })
+
+pub sound_host : (w : World) → Legal w → IsSound (host_of w)
+sound_host w legal = (fine w legal).sound
+
+pub allowed_next : (w : World) (n : ℕ) (c : Placed) (call : Call) → Legal w → IsReady w n c → next_of w c.command (own_replies w n) ≡ next.Call call false → IsAllowed (host_of w) call
+allowed_next w n c call legal ready is = (next-well w c.command (own_replies w n) call false (fine w legal) is).0
