@@ -59,37 +59,37 @@ name_again : (version : Version) (i : Interface) → text_at (codes "interfaces"
 unfolding text_at interface_data
 name_again version i =
     ap (λ g. needed (codes "interfaces") as_it_is (field_of as_str g))
-        (at_other_if text_data (codes "name") (codes "sandbox") i.sandbox (up_to_name version i) refl ∙ at_key (codes "name") (text_data i.name) (up_to_mtu version i))
+    (at_other_if text_data (codes "name") (codes "sandbox") i.sandbox (up_to_name version i) refl ∙ at_key (codes "name") (text_data i.name) (up_to_mtu version i))
 
 mac_again : (version : Version) (i : Interface) → IfSome i.mac IsMac → mac_if_at (codes "interfaces") (codes "mac") (interface_data version i) ≡ Ok i.mac
 unfolding mac_if_at interface_data
 mac_again version i kept =
     ap (λ g. optional (codes "interfaces") mac_of_text (field_of as_str g))
-        (at_other_if text_data (codes "mac") (codes "sandbox") i.sandbox (up_to_name version i) refl
-            ∙ at_other (codes "mac") (codes "name") (text_data i.name) (up_to_mtu version i) refl
-            ∙ at_other_if number_data (codes "mac") (codes "mtu") (mtu_at version i.mtu) (up_to_mac i) refl
-            ∙ at_key_if mac_data (codes "mac") i.mac no_members refl)
-        ∙ optional_again (codes "interfaces") mac_of_text mac_text i.mac (mac_if_read i.mac kept)
+    (at_other_if text_data (codes "mac") (codes "sandbox") i.sandbox (up_to_name version i) refl
+    ∙ at_other (codes "mac") (codes "name") (text_data i.name) (up_to_mtu version i) refl
+    ∙ at_other_if number_data (codes "mac") (codes "mtu") (mtu_at version i.mtu) (up_to_mac i) refl
+    ∙ at_key_if mac_data (codes "mac") i.mac no_members refl)
+    ∙ optional_again (codes "interfaces") mac_of_text mac_text i.mac (mac_if_read i.mac kept)
 
 sandbox_again : (version : Version) (i : Interface) → text_if_at (codes "interfaces") (codes "sandbox") (interface_data version i) ≡ Ok i.sandbox
 unfolding text_if_at interface_data
 sandbox_again version i =
     ap (λ g. optional (codes "interfaces") as_it_is (field_of as_str g))
-        (at_key_if text_data (codes "sandbox") i.sandbox (up_to_name version i)
-            (at_other (codes "sandbox") (codes "name") (text_data i.name) (up_to_mtu version i) refl
-                ∙ at_other_if number_data (codes "sandbox") (codes "mtu") (mtu_at version i.mtu) (up_to_mac i) refl
-                ∙ at_other_if mac_data (codes "sandbox") (codes "mac") i.mac no_members refl))
-        ∙ optional_again (codes "interfaces") as_it_is (λ t. t) i.sandbox (text_if_read i.sandbox)
+    (at_key_if text_data (codes "sandbox") i.sandbox (up_to_name version i)
+    (at_other (codes "sandbox") (codes "name") (text_data i.name) (up_to_mtu version i) refl
+    ∙ at_other_if number_data (codes "sandbox") (codes "mtu") (mtu_at version i.mtu) (up_to_mac i) refl
+    ∙ at_other_if mac_data (codes "sandbox") (codes "mac") i.mac no_members refl))
+    ∙ optional_again (codes "interfaces") as_it_is (λ t. t) i.sandbox (text_if_read i.sandbox)
 
 mtu_again : (version : Version) (i : Interface) → HasMtuOf version i → mtu_if_at version (interface_data version i) ≡ Ok i.mtu
 unfolding number_if_at interface_data
 mtu_again V1_0 i has = ap Ok (sym has)
 mtu_again V1_1 i has =
     ap (λ g. optional (codes "interfaces") in_32_bits (field_of u64_of g))
-        (at_other_if text_data (codes "mtu") (codes "sandbox") i.sandbox (up_to_name V1_1 i) refl
-            ∙ at_other (codes "mtu") (codes "name") (text_data i.name) (up_to_mtu V1_1 i) refl
-            ∙ at_key_if number_data (codes "mtu") i.mtu (up_to_mac i) (at_other_if mac_data (codes "mtu") (codes "mac") i.mac no_members refl))
-        ∙ number_again (codes "interfaces") i.mtu has
+    (at_other_if text_data (codes "mtu") (codes "sandbox") i.sandbox (up_to_name V1_1 i) refl
+    ∙ at_other (codes "mtu") (codes "name") (text_data i.name) (up_to_mtu V1_1 i) refl
+    ∙ at_key_if number_data (codes "mtu") i.mtu (up_to_mac i) (at_other_if mac_data (codes "mtu") (codes "mac") i.mac no_members refl))
+    ∙ number_again (codes "interfaces") i.mtu has
 
 pub interface_again : (version : Version) (i : Interface) → IsInterfaceOf version i → interface_at version (interface_data version i) ≡ Ok i
 unfolding interface_at
@@ -108,27 +108,27 @@ address_again : (ip : IpEntry) → IsCidr ip.address → cidr_at (codes "ips") (
 unfolding cidr_at ip_data
 address_again ip kept =
     ap (λ g. needed (codes "ips") cidr_of_text (field_of as_str g))
-        (at_other_if number_data (codes "address") (codes "interface") ip.interface (up_to_gateway ip) refl
-            ∙ at_other_if addr_data (codes "address") (codes "gateway") ip.gateway (up_to_address ip) refl
-            ∙ at_key (codes "address") (cidr_data ip.address) no_members)
-        ∙ needed_again (codes "ips") cidr_of_text (cidr_text ip.address) ip.address (cidr_read ip.address kept)
+    (at_other_if number_data (codes "address") (codes "interface") ip.interface (up_to_gateway ip) refl
+    ∙ at_other_if addr_data (codes "address") (codes "gateway") ip.gateway (up_to_address ip) refl
+    ∙ at_key (codes "address") (cidr_data ip.address) no_members)
+    ∙ needed_again (codes "ips") cidr_of_text (cidr_text ip.address) ip.address (cidr_read ip.address kept)
 
 gateway_again : (ip : IpEntry) → IfSome ip.gateway IsAddr → addr_if_at (codes "ips") (codes "gateway") (ip_data ip) ≡ Ok ip.gateway
 unfolding addr_if_at ip_data
 gateway_again ip kept =
     ap (λ g. optional (codes "ips") addr_of_text (field_of as_str g))
-        (at_other_if number_data (codes "gateway") (codes "interface") ip.interface (up_to_gateway ip) refl
-            ∙ at_key_if addr_data (codes "gateway") ip.gateway (up_to_address ip) (at_other (codes "gateway") (codes "address") (cidr_data ip.address) no_members refl))
-        ∙ optional_again (codes "ips") addr_of_text addr_text ip.gateway (addr_if_read ip.gateway kept)
+    (at_other_if number_data (codes "gateway") (codes "interface") ip.interface (up_to_gateway ip) refl
+    ∙ at_key_if addr_data (codes "gateway") ip.gateway (up_to_address ip) (at_other (codes "gateway") (codes "address") (cidr_data ip.address) no_members refl))
+    ∙ optional_again (codes "ips") addr_of_text addr_text ip.gateway (addr_if_read ip.gateway kept)
 
 index_again : (ip : IpEntry) → IsIpEntry ip → number_if_at (codes "ips") (codes "interface") (ip_data ip) ≡ Ok ip.interface
 unfolding number_if_at ip_data
 index_again ip kept =
     ap (λ g. optional (codes "ips") in_32_bits (field_of u64_of g))
-        (at_key_if number_data (codes "interface") ip.interface (up_to_gateway ip)
-            (at_other_if addr_data (codes "interface") (codes "gateway") ip.gateway (up_to_address ip) refl
-                ∙ at_other (codes "interface") (codes "address") (cidr_data ip.address) no_members refl))
-        ∙ number_again (codes "ips") ip.interface kept.interface
+    (at_key_if number_data (codes "interface") ip.interface (up_to_gateway ip)
+    (at_other_if addr_data (codes "interface") (codes "gateway") ip.gateway (up_to_address ip) refl
+    ∙ at_other (codes "interface") (codes "address") (cidr_data ip.address) no_members refl))
+    ∙ number_again (codes "ips") ip.interface kept.interface
 
 pub ip_again : (ip : IpEntry) → IsIpEntry ip → ip_at (ip_data ip) ≡ Ok ip
 unfolding ip_at
@@ -143,15 +143,15 @@ dst_again : (route : RouteEntry) → IsCidr route.dst → cidr_at (codes "routes
 unfolding cidr_at route_data
 dst_again route kept =
     ap (λ g. needed (codes "routes") cidr_of_text (field_of as_str g))
-        (at_other_if addr_data (codes "dst") (codes "gw") route.gw (up_to_dst route) refl ∙ at_key (codes "dst") (cidr_data route.dst) no_members)
-        ∙ needed_again (codes "routes") cidr_of_text (cidr_text route.dst) route.dst (cidr_read route.dst kept)
+    (at_other_if addr_data (codes "dst") (codes "gw") route.gw (up_to_dst route) refl ∙ at_key (codes "dst") (cidr_data route.dst) no_members)
+    ∙ needed_again (codes "routes") cidr_of_text (cidr_text route.dst) route.dst (cidr_read route.dst kept)
 
 gw_again : (route : RouteEntry) → IfSome route.gw IsAddr → addr_if_at (codes "routes") (codes "gw") (route_data route) ≡ Ok route.gw
 unfolding addr_if_at route_data
 gw_again route kept =
     ap (λ g. optional (codes "routes") addr_of_text (field_of as_str g))
-        (at_key_if addr_data (codes "gw") route.gw (up_to_dst route) (at_other (codes "gw") (codes "dst") (cidr_data route.dst) no_members refl))
-        ∙ optional_again (codes "routes") addr_of_text addr_text route.gw (addr_if_read route.gw kept)
+    (at_key_if addr_data (codes "gw") route.gw (up_to_dst route) (at_other (codes "gw") (codes "dst") (cidr_data route.dst) no_members refl))
+    ∙ optional_again (codes "routes") addr_of_text addr_text route.gw (addr_if_read route.gw kept)
 
 pub route_again : (route : RouteEntry) → IsRouteEntry route → route_at (route_data route) ≡ Ok route
 unfolding route_at

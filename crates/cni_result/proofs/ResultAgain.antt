@@ -42,39 +42,39 @@ nameservers_again : (dns : Dns) → words_at (codes "nameservers") (object (dns_
 unfolding words_at dns_members
 nameservers_again dns =
     ap (λ g. list_of (codes "dns") word_of (field_of as_array g))
-        (at_other_list text_data (codes "nameservers") (codes "search") dns.search (up_to_options dns) refl
-            ∙ at_other_list text_data (codes "nameservers") (codes "options") dns.options (up_to_nameservers dns) refl
-            ∙ at_key_list text_data (codes "nameservers") dns.nameservers (up_to_domain dns) (at_other_text (codes "nameservers") (codes "domain") dns.domain no_members refl))
-        ∙ words_again dns.nameservers
+    (at_other_list text_data (codes "nameservers") (codes "search") dns.search (up_to_options dns) refl
+    ∙ at_other_list text_data (codes "nameservers") (codes "options") dns.options (up_to_nameservers dns) refl
+    ∙ at_key_list text_data (codes "nameservers") dns.nameservers (up_to_domain dns) (at_other_text (codes "nameservers") (codes "domain") dns.domain no_members refl))
+    ∙ words_again dns.nameservers
 
 options_again : (dns : Dns) → words_at (codes "options") (object (dns_members dns)) ≡ Ok dns.options
 unfolding words_at dns_members
 options_again dns =
     ap (λ g. list_of (codes "dns") word_of (field_of as_array g))
-        (at_other_list text_data (codes "options") (codes "search") dns.search (up_to_options dns) refl
-            ∙ at_key_list text_data (codes "options") dns.options (up_to_nameservers dns)
-                (at_other_list text_data (codes "options") (codes "nameservers") dns.nameservers (up_to_domain dns) refl ∙ at_other_text (codes "options") (codes "domain") dns.domain no_members refl))
-        ∙ words_again dns.options
+    (at_other_list text_data (codes "options") (codes "search") dns.search (up_to_options dns) refl
+    ∙ at_key_list text_data (codes "options") dns.options (up_to_nameservers dns)
+    (at_other_list text_data (codes "options") (codes "nameservers") dns.nameservers (up_to_domain dns) refl ∙ at_other_text (codes "options") (codes "domain") dns.domain no_members refl))
+    ∙ words_again dns.options
 
 search_again : (dns : Dns) → words_at (codes "search") (object (dns_members dns)) ≡ Ok dns.search
 unfolding words_at dns_members
 search_again dns =
     ap (λ g. list_of (codes "dns") word_of (field_of as_array g))
-        (at_key_list text_data (codes "search") dns.search (up_to_options dns)
-            (at_other_list text_data (codes "search") (codes "options") dns.options (up_to_nameservers dns) refl
-                ∙ at_other_list text_data (codes "search") (codes "nameservers") dns.nameservers (up_to_domain dns) refl
-                ∙ at_other_text (codes "search") (codes "domain") dns.domain no_members refl))
-        ∙ words_again dns.search
+    (at_key_list text_data (codes "search") dns.search (up_to_options dns)
+    (at_other_list text_data (codes "search") (codes "options") dns.options (up_to_nameservers dns) refl
+    ∙ at_other_list text_data (codes "search") (codes "nameservers") dns.nameservers (up_to_domain dns) refl
+    ∙ at_other_text (codes "search") (codes "domain") dns.domain no_members refl))
+    ∙ words_again dns.search
 
 domain_at_again : (dns : Dns) → domain_at (object (dns_members dns)) ≡ Ok dns.domain
 unfolding domain_at dns_members
 domain_at_again dns =
     ap (λ g. domain_of (field_of as_str g))
-        (at_other_list text_data (codes "domain") (codes "search") dns.search (up_to_options dns) refl
-            ∙ at_other_list text_data (codes "domain") (codes "options") dns.options (up_to_nameservers dns) refl
-            ∙ at_other_list text_data (codes "domain") (codes "nameservers") dns.nameservers (up_to_domain dns) refl
-            ∙ at_key_text (codes "domain") dns.domain no_members refl)
-        ∙ domain_again dns.domain
+    (at_other_list text_data (codes "domain") (codes "search") dns.search (up_to_options dns) refl
+    ∙ at_other_list text_data (codes "domain") (codes "options") dns.options (up_to_nameservers dns) refl
+    ∙ at_other_list text_data (codes "domain") (codes "nameservers") dns.nameservers (up_to_domain dns) refl
+    ∙ at_key_text (codes "domain") dns.domain no_members refl)
+    ∙ domain_again dns.domain
 
 dns_members_again : (dns : Dns) → dns_members_at (object (dns_members dns)) ≡ Ok dns
 unfolding dns_members_at
@@ -102,56 +102,56 @@ version_again : (r : AddResult) → version_at (result_data r) ≡ Ok r.version
 unfolding version_at result_members
 version_again r =
     ap (λ g. version_of (field_of as_str g))
-        (at_other_list route_data (codes "cniVersion") (codes "routes") r.routes (up_to_ips r) refl
-            ∙ at_other_list ip_data (codes "cniVersion") (codes "ips") r.ips (up_to_interfaces r) refl
-            ∙ at_other (codes "cniVersion") (codes "interfaces") (list_data (interface_data r.version) r.interfaces) (up_to_dns r) refl
-            ∙ at_other_object (codes "cniVersion") (codes "dns") (dns_members r.dns) (up_to_version r) refl
-            ∙ at_key (codes "cniVersion") (version_data r.version) no_members)
-        ∙ version_named_again r.version
+    (at_other_list route_data (codes "cniVersion") (codes "routes") r.routes (up_to_ips r) refl
+    ∙ at_other_list ip_data (codes "cniVersion") (codes "ips") r.ips (up_to_interfaces r) refl
+    ∙ at_other (codes "cniVersion") (codes "interfaces") (list_data (interface_data r.version) r.interfaces) (up_to_dns r) refl
+    ∙ at_other_object (codes "cniVersion") (codes "dns") (dns_members r.dns) (up_to_version r) refl
+    ∙ at_key (codes "cniVersion") (version_data r.version) no_members)
+    ∙ version_named_again r.version
 
 interfaces_again : (r : AddResult) → IsReadable r → interfaces_at r.version (result_data r) ≡ Ok r.interfaces
 unfolding interfaces_at result_members
 interfaces_again r kept =
     let all = everywhere (IsInterfaceOf r.version) (λ i. interface_at r.version (interface_data r.version i) ≡ Ok i) r.interfaces (interface_again r.version) kept.interfaces in
     ap (λ g. list_of (codes "interfaces") (interface_at r.version) (field_of as_array g))
-        (at_other_list route_data (codes "interfaces") (codes "routes") r.routes (up_to_ips r) refl
-            ∙ at_other_list ip_data (codes "interfaces") (codes "ips") r.ips (up_to_interfaces r) refl
-            ∙ at_key (codes "interfaces") (list_data (interface_data r.version) r.interfaces) (up_to_dns r))
-        ∙ list_again (codes "interfaces") (interface_data r.version) (interface_at r.version) r.interfaces all
+    (at_other_list route_data (codes "interfaces") (codes "routes") r.routes (up_to_ips r) refl
+    ∙ at_other_list ip_data (codes "interfaces") (codes "ips") r.ips (up_to_interfaces r) refl
+    ∙ at_key (codes "interfaces") (list_data (interface_data r.version) r.interfaces) (up_to_dns r))
+    ∙ list_again (codes "interfaces") (interface_data r.version) (interface_at r.version) r.interfaces all
 
 ips_again : (r : AddResult) → IsReadable r → ips_at (result_data r) ≡ Ok r.ips
 unfolding ips_at result_members
 ips_again r kept =
     let all = everywhere IsIpEntry (λ ip. ip_at (ip_data ip) ≡ Ok ip) r.ips ip_again kept.ips in
     ap (λ g. list_of (codes "ips") ip_at (field_of as_array g))
-        (at_other_list route_data (codes "ips") (codes "routes") r.routes (up_to_ips r) refl
-            ∙ at_key_list ip_data (codes "ips") r.ips (up_to_interfaces r)
-                (at_other (codes "ips") (codes "interfaces") (list_data (interface_data r.version) r.interfaces) (up_to_dns r) refl
-                    ∙ at_other_object (codes "ips") (codes "dns") (dns_members r.dns) (up_to_version r) refl
-                    ∙ at_other (codes "ips") (codes "cniVersion") (version_data r.version) no_members refl))
-        ∙ list_if_again (codes "ips") ip_data ip_at r.ips all
+    (at_other_list route_data (codes "ips") (codes "routes") r.routes (up_to_ips r) refl
+    ∙ at_key_list ip_data (codes "ips") r.ips (up_to_interfaces r)
+    (at_other (codes "ips") (codes "interfaces") (list_data (interface_data r.version) r.interfaces) (up_to_dns r) refl
+    ∙ at_other_object (codes "ips") (codes "dns") (dns_members r.dns) (up_to_version r) refl
+    ∙ at_other (codes "ips") (codes "cniVersion") (version_data r.version) no_members refl))
+    ∙ list_if_again (codes "ips") ip_data ip_at r.ips all
 
 routes_again : (r : AddResult) → IsReadable r → routes_at (result_data r) ≡ Ok r.routes
 unfolding routes_at result_members
 routes_again r kept =
     let all = everywhere IsRouteEntry (λ route. route_at (route_data route) ≡ Ok route) r.routes route_again kept.routes in
     ap (λ g. list_of (codes "routes") route_at (field_of as_array g))
-        (at_key_list route_data (codes "routes") r.routes (up_to_ips r)
-            (at_other_list ip_data (codes "routes") (codes "ips") r.ips (up_to_interfaces r) refl
-                ∙ at_other (codes "routes") (codes "interfaces") (list_data (interface_data r.version) r.interfaces) (up_to_dns r) refl
-                ∙ at_other_object (codes "routes") (codes "dns") (dns_members r.dns) (up_to_version r) refl
-                ∙ at_other (codes "routes") (codes "cniVersion") (version_data r.version) no_members refl))
-        ∙ list_if_again (codes "routes") route_data route_at r.routes all
+    (at_key_list route_data (codes "routes") r.routes (up_to_ips r)
+    (at_other_list ip_data (codes "routes") (codes "ips") r.ips (up_to_interfaces r) refl
+    ∙ at_other (codes "routes") (codes "interfaces") (list_data (interface_data r.version) r.interfaces) (up_to_dns r) refl
+    ∙ at_other_object (codes "routes") (codes "dns") (dns_members r.dns) (up_to_version r) refl
+    ∙ at_other (codes "routes") (codes "cniVersion") (version_data r.version) no_members refl))
+    ∙ list_if_again (codes "routes") route_data route_at r.routes all
 
 dns_at_again : (r : AddResult) → dns_at (result_data r) ≡ Ok r.dns
 unfolding dns_at result_members
 dns_at_again r =
     ap (λ g. dns_of (field_of object_of g))
-        (at_other_list route_data (codes "dns") (codes "routes") r.routes (up_to_ips r) refl
-            ∙ at_other_list ip_data (codes "dns") (codes "ips") r.ips (up_to_interfaces r) refl
-            ∙ at_other (codes "dns") (codes "interfaces") (list_data (interface_data r.version) r.interfaces) (up_to_dns r) refl
-            ∙ at_key_object (codes "dns") (dns_members r.dns) (up_to_version r) (at_other (codes "dns") (codes "cniVersion") (version_data r.version) no_members refl))
-        ∙ dns_again r.dns (dns_members r.dns) (dns_members_again r.dns)
+    (at_other_list route_data (codes "dns") (codes "routes") r.routes (up_to_ips r) refl
+    ∙ at_other_list ip_data (codes "dns") (codes "ips") r.ips (up_to_interfaces r) refl
+    ∙ at_other (codes "dns") (codes "interfaces") (list_data (interface_data r.version) r.interfaces) (up_to_dns r) refl
+    ∙ at_key_object (codes "dns") (dns_members r.dns) (up_to_version r) (at_other (codes "dns") (codes "cniVersion") (version_data r.version) no_members refl))
+    ∙ dns_again r.dns (dns_members r.dns) (dns_members_again r.dns)
 
 indexes_again : (r : AddResult) → IsReadable r → indexes_at (length r.interfaces) r.ips ≡ Ok tt
 unfolding indexes_at

@@ -2,9 +2,10 @@
 //!
 //! [`ListKernel`] is the plain definition made to run and may scan its lists: its calls are not measured.
 
-ghost use Rattle.std.specs.Prelude.{◌≡◌, IfOk};
+ghost use Rattle.std.specs.Prelude.{List, IfOk};
 ghost use Rattle.kernel_types.specs.Allowed.{IsAllowed};
-ghost use Rattle.kernel_types.specs.Sound.{IsSound};
+ghost use Rattle.kernel_types.specs.Sound.{AreLinks, AreNamespaces, IsSound};
+ghost use Rattle.kernel_types.specs.declared.object.NsObj.{NsObj};
 
 mod allowed;
 mod attachment;
@@ -15,22 +16,61 @@ mod table;
 use super::ListKernel;
 use crate::kernel::Kernel;
 use cni_addr::{Items, NoMemory};
-use kernel_types::{Call, Host, Link, LinkKind, NsObj, Reply, Tag};
-use objects::{one, plain_link, text};
+use kernel_types::{Call, Host, Link, LinkKind, NsObj, Reply, Tag, link_mac};
+use objects::{one, text};
 use std::alloc::Global;
 use std::process::Abort;
 use std::test::Fail;
 use steps::{call_of, reply_of, words_of};
 use table::ROWS;
 
-/// A host with the namespace `/ns/a` and these links.
-fn host_with(alloc: Global, links: Items<Link>) -> Result<Host, NoMemory> {
-    let namespace = NsObj {
-        name: text(alloc, "/ns/a")?,
-        tag: Tag::Outside,
-    };
-    Ok(Host {
-        namespaces: one(alloc, namespace)?,
+/// The namespace `/ns/a`.
+fn namespaces(alloc: Global) -> Result<Items<NsObj>, NoMemory>
+    ensures { IfOk result AreNamespaces }
+{
+    let name = text(alloc, "/ns/a")?;
+    one(
+        alloc,
+        NsObj {
+            name,
+            tag: Tag::Outside,
+        },
+    )
+}
+
+/// The host's device `ens1`.
+fn device(alloc: Global) -> Result<Items<Link>, NoMemory>
+    ensures { IfOk result (λ links. (namespaces : List NsObj) → AreLinks namespaces links) }
+{
+    let ns = text(alloc, "")?;
+    let name = text(alloc, "ens1")?;
+    one(
+        alloc,
+        Link {
+            ns,
+            name,
+            kind: LinkKind::Device,
+            master: None,
+            peer: None,
+            mac: link_mac("ens1"),
+            mtu: 1500,
+            hairpin: false,
+            promisc: false,
+            allmulti: false,
+            tx_qlen: 1000,
+            tag: Tag::Outside,
+        },
+    )
+}
+
+/// A host with these namespaces and links and nothing else.
+fn opening(alloc: Global, namespaces: Items<NsObj>, links: Items<Link>) -> Host
+    requires namespaces { AreNamespaces namespaces }
+    requires links { AreLinks namespaces links }
+    ensures { IsSound result }
+{
+    Host {
+        namespaces,
         links,
         addresses: Items::new(alloc),
         routes: Items::new(alloc),
@@ -39,7 +79,7 @@ fn host_with(alloc: Global, links: Items<Link>) -> Result<Host, NoMemory> {
         leases: Items::new(alloc),
         cached: Items::new(alloc),
         lasts: Items::new(alloc),
-    })
+    }
 }
 
 /// The reply of an allowed call.
@@ -69,23 +109,27 @@ fn replay(
 #[test]
 fn each_call_and_each_refusal(rt: HostRuntime) -> Result<(), Fail> {
     let alloc = rt.alloc();
-    let device = plain_link(alloc, "", "ens1", LinkKind::Device, Tag::Outside)?;
-    let mut kernel = ListKernel::of_host(host_with(alloc, one(alloc, device)?)?);
+    let host = opening(alloc, namespaces(alloc)?, device(alloc)?);
+    let mut kernel = ListKernel::of_host(host);
     replay(&rt, alloc, &mut kernel, &ROWS)
 }
 
 #[test]
 fn one_attachment(rt: HostRuntime) -> Result<(), Fail> {
     let alloc = rt.alloc();
-    let mut kernel = ListKernel::of_host(host_with(alloc, Items::new(alloc))?);
+    let host = opening(alloc, namespaces(alloc)?, Items::new(alloc));
+    let mut kernel = ListKernel::of_host(host);
     let calls = attachment::calls(alloc)?;
-    for (place, (call, reply)) in calls.iter().enumerate() {
+    for (place, call) in calls.as_slice().iter().enumerate() {
         assert!(rt; kernel.is_allowed(call), "call {place} may not be made");
+        let reply = answer(&mut kernel, alloc, call)?;
         assert!(rt;
-            answer(&mut kernel, alloc, call)? == *reply,
+            reply == attachment::reply_at(place),
             "call {place} was answered otherwise"
         );
     }
-    assert!(rt; kernel.host(alloc)? == attachment::host_after(alloc)?);
+    let mut expected = opening(alloc, namespaces(alloc)?, Items::new(alloc));
+    attachment::add_objects(alloc, &mut expected)?;
+    assert!(rt; kernel.host(alloc)? == expected);
     Ok(())
 }

@@ -1,11 +1,11 @@
 //! The calls that attach the container `c1` to the network `pods` of the bridge plugin, on a host with its namespace.
 
 use super::objects::{
-    addr, address, att, cidr, host_end, inner_end, key, one, own, plain_link, set_of, text,
+    addr, address, att, cidr, entry, host_end, inner_end, key, own, plain_link, set_of, text,
 };
-use cni_addr::{Addr, Duplicate, Items, Mac, NoMemory, Range, Text};
-use cni_result::{AddResult, Cached, Dns, Interface, IpEntry, Version};
-use kernel_types::{Att, CachedObj, Call, Host, Last, Lease, Link, LinkKind, NsObj, Reply, Tag};
+use cni_addr::{Addr, Items, Mac, NoMemory, Range};
+use cni_result::{Cached, Interface, IpEntry};
+use kernel_types::{AddrObj, CachedObj, Call, Host, Last, Lease, Link, LinkKind, Reply, Tag};
 use std::alloc::Global;
 
 // SHA-256 of `cni0` and of `pods`, `c1` and `eth0` joined by line feeds, by another program
@@ -28,160 +28,196 @@ fn leased() -> Addr {
     addr(0x0a58_0002)
 }
 
-fn interface(
-    alloc: Global,
-    name: &str,
-    mac: Mac,
-    mtu: Option<u32>,
-    sandbox: Option<Text>,
-) -> Result<Interface, NoMemory> {
+fn bridge_interface(alloc: Global) -> Result<Interface, NoMemory> {
+    let name = text(alloc, "cni0")?;
     Ok(Interface {
-        name: text(alloc, name)?,
-        mac: Some(mac),
-        mtu,
-        sandbox,
+        name,
+        mac: Some(BRIDGE_MAC),
+        mtu: None,
+        sandbox: None,
+    })
+}
+
+fn host_interface(alloc: Global) -> Result<Interface, NoMemory> {
+    let name = text(alloc, HOST_NAME)?;
+    Ok(Interface {
+        name,
+        mac: Some(HOST_MAC),
+        mtu: Some(1500),
+        sandbox: None,
+    })
+}
+
+fn inner_interface(alloc: Global) -> Result<Interface, NoMemory> {
+    let name = text(alloc, "eth0")?;
+    let sandbox = text(alloc, "/ns/a")?;
+    Ok(Interface {
+        name,
+        mac: Some(INNER_MAC),
+        mtu: Some(1500),
+        sandbox: Some(sandbox),
     })
 }
 
 fn interfaces(alloc: Global) -> Result<Items<Interface>, NoMemory> {
-    let sandbox = Some(text(alloc, "/ns/a")?);
-    let mut interfaces = one(alloc, interface(alloc, "cni0", BRIDGE_MAC, None, None)?)?;
-    interfaces.push(interface(alloc, HOST_NAME, HOST_MAC, Some(1500), None)?)?;
-    interfaces.push(interface(alloc, "eth0", INNER_MAC, Some(1500), sandbox)?)?;
+    let mut interfaces = Items::new(alloc);
+    interfaces.push(bridge_interface(alloc)?)?;
+    interfaces.push(host_interface(alloc)?)?;
+    interfaces.push(inner_interface(alloc)?)?;
     Ok(interfaces)
 }
 
 /// What the ADD answers, as it is kept.
 fn cached(alloc: Global) -> Result<Cached, NoMemory> {
-    let ip = IpEntry {
+    let mut cached = entry(alloc)?;
+    cached.result.interfaces = interfaces(alloc)?;
+    cached.result.ips.push(IpEntry {
         address: cidr(0x0a58_0002, 16),
         gateway: Some(addr(0x0a58_0001)),
         interface: Some(2),
-    };
-    Ok(Cached {
-        netns: text(alloc, "/ns/a")?,
-        mappings: Items::new(alloc),
-        result: AddResult {
-            version: Version::V1_1,
-            interfaces: interfaces(alloc)?,
-            ips: one(alloc, ip)?,
-            routes: Items::new(alloc),
-            dns: Dns {
-                nameservers: Items::new(alloc),
-                domain: text(alloc, "")?,
-                search: Items::new(alloc),
-                options: Items::new(alloc),
-            },
-        },
-    })
+    })?;
+    Ok(cached)
+}
+
+fn begin(alloc: Global) -> Result<Call, NoMemory> {
+    let att = att(alloc, "c1")?;
+    let netns = text(alloc, "/ns/a")?;
+    Ok(Call::Begin { att, netns })
 }
 
 fn bridge_ensure(alloc: Global) -> Result<Call, NoMemory> {
+    let name = text(alloc, "cni0")?;
     Ok(Call::BridgeEnsure {
-        name: text(alloc, "cni0")?,
+        name,
         mtu: 1500,
         promisc: false,
     })
 }
 
+fn host_end_of(alloc: Global, name: &str, mac: Mac) -> Result<Link, NoMemory> {
+    let peer = key(alloc, "/ns/a", "eth0")?;
+    let mut link = host_end(alloc, name, "cni0", peer, own(alloc, "c1")?)?;
+    link.mac = mac;
+    Ok(link)
+}
+
+fn inner_end_of(alloc: Global, name: &str, mac: Mac) -> Result<Link, NoMemory> {
+    let peer = key(alloc, "", name)?;
+    let mut link = inner_end(alloc, "/ns/a", "eth0", peer, own(alloc, "c1")?)?;
+    link.mac = mac;
+    Ok(link)
+}
+
 /// The pair with its derived names.
-fn veth_add(alloc: Global, att: &Att) -> Result<Call, NoMemory> {
-    let outer = att.host_name(alloc)?;
-    let inner_key = key(alloc, "/ns/a", "eth0")?;
-    let outer_key = key(alloc, "", outer.as_str())?;
-    let mut outer_end = host_end(alloc, outer.as_str(), "cni0", inner_key, own(alloc, "c1")?)?;
-    outer_end.mac = att.host_mac();
-    let mut inner_end = inner_end(alloc, "/ns/a", "eth0", outer_key, own(alloc, "c1")?)?;
-    inner_end.mac = att.inner_mac();
+fn veth_add(alloc: Global) -> Result<Call, NoMemory> {
+    let att = att(alloc, "c1")?;
+    let name = att.host_name(alloc)?;
+    let host_end = host_end_of(alloc, name.as_str(), att.host_mac())?;
+    let inner_end = inner_end_of(alloc, name.as_str(), att.inner_mac())?;
     Ok(Call::VethAdd {
-        host_end: outer_end,
+        host_end,
         inner_end,
     })
 }
 
 fn lease_next(alloc: Global) -> Result<Call, NoMemory> {
+    let att = att(alloc, "c1")?;
+    let gateway = addr(0x0a58_0001);
     let range = Range {
         subnet: cidr(0x0a58_0000, 16),
-        start: addr(0x0a58_0001),
+        start: gateway,
         end: addr(0x0a58_fffe),
-        gateway: addr(0x0a58_0001),
+        gateway,
     };
+    let set = set_of(alloc, range)?;
     Ok(Call::LeaseNext {
-        att: att(alloc, "c1")?,
+        att,
         number: 0,
-        set: set_of(alloc, range)?,
+        set,
     })
 }
 
-/// The calls of the ADD, with their replies.
-pub(super) fn calls(alloc: Global) -> Result<Vec<(Call, Reply)>, NoMemory> {
+fn inner_address(alloc: Global) -> Result<AddrObj, NoMemory> {
+    address(alloc, "c1", "/ns/a", "eth0", cidr(0x0a58_0002, 16))
+}
+
+fn addr_add(alloc: Global) -> Result<Call, NoMemory> {
+    let obj = inner_address(alloc)?;
+    Ok(Call::AddrAdd { obj })
+}
+
+fn cache_put(alloc: Global) -> Result<Call, NoMemory> {
     let att = att(alloc, "c1")?;
-    let begin = Call::Begin {
-        att: att.copy()?,
-        netns: text(alloc, "/ns/a")?,
-    };
-    let addr_add = Call::AddrAdd {
-        obj: address(alloc, "c1", "/ns/a", "eth0", cidr(0x0a58_0002, 16))?,
-    };
-    let mut calls = Vec::new(alloc);
-    calls.push((begin, Reply::Done))?;
-    calls.push((bridge_ensure(alloc)?, Reply::Done))?;
-    calls.push((veth_add(alloc, &att)?, Reply::Done))?;
-    calls.push((lease_next(alloc)?, Reply::Leased(leased())))?;
-    calls.push((addr_add, Reply::Done))?;
     let cached = cached(alloc)?;
-    calls.push((Call::CachePut { att, cached }, Reply::Done))?;
+    Ok(Call::CachePut { att, cached })
+}
+
+/// The calls of the ADD, in order.
+pub(super) fn calls(alloc: Global) -> Result<Items<Call>, NoMemory> {
+    let mut calls = Items::new(alloc);
+    calls.push(begin(alloc)?)?;
+    calls.push(bridge_ensure(alloc)?)?;
+    calls.push(veth_add(alloc)?)?;
+    calls.push(lease_next(alloc)?)?;
+    calls.push(addr_add(alloc)?)?;
+    calls.push(cache_put(alloc)?)?;
     Ok(calls)
+}
+
+/// The reply of the call at this place.
+pub(super) fn reply_at(place: usize) -> Reply {
+    if place == 3 {
+        Reply::Leased(leased())
+    } else {
+        Reply::Done
+    }
+}
+
+fn bridge(alloc: Global) -> Result<Link, NoMemory> {
+    let mut bridge = plain_link(alloc, "", "cni0", LinkKind::Bridge, Tag::Base)?;
+    bridge.mac = BRIDGE_MAC;
+    Ok(bridge)
 }
 
 /// The bridge and the two ends of the pair, in the order in which they were made.
 fn links(alloc: Global) -> Result<Items<Link>, NoMemory> {
-    let mut bridge = plain_link(alloc, "", "cni0", LinkKind::Bridge, Tag::Base)?;
-    bridge.mac = BRIDGE_MAC;
-    let inner_key = key(alloc, "/ns/a", "eth0")?;
-    let mut host_end = host_end(alloc, HOST_NAME, "cni0", inner_key, own(alloc, "c1")?)?;
-    host_end.mac = HOST_MAC;
-    let outer_key = key(alloc, "", HOST_NAME)?;
-    let mut inner_end = inner_end(alloc, "/ns/a", "eth0", outer_key, own(alloc, "c1")?)?;
-    inner_end.mac = INNER_MAC;
-    let mut links = one(alloc, bridge)?;
-    links.push(host_end)?;
-    links.push(inner_end)?;
+    let mut links = Items::new(alloc);
+    links.push(bridge(alloc)?)?;
+    links.push(host_end_of(alloc, HOST_NAME, HOST_MAC)?)?;
+    links.push(inner_end_of(alloc, HOST_NAME, INNER_MAC)?)?;
     Ok(links)
 }
 
-/// The host after the ADD.
-pub(super) fn host_after(alloc: Global) -> Result<Host, NoMemory> {
-    let namespace = NsObj {
-        name: text(alloc, "/ns/a")?,
-        tag: Tag::Outside,
-    };
-    let lease = Lease {
-        network: text(alloc, "pods")?,
+fn lease(alloc: Global) -> Result<Lease, NoMemory> {
+    let network = text(alloc, "pods")?;
+    let tag = own(alloc, "c1")?;
+    Ok(Lease {
+        network,
         addr: leased(),
-        tag: own(alloc, "c1")?,
-    };
-    let kept = CachedObj {
-        cached: cached(alloc)?,
-        tag: own(alloc, "c1")?,
-    };
-    let last = Last {
-        network: text(alloc, "pods")?,
+        tag,
+    })
+}
+
+fn kept(alloc: Global) -> Result<CachedObj, NoMemory> {
+    let cached = cached(alloc)?;
+    let tag = own(alloc, "c1")?;
+    Ok(CachedObj { cached, tag })
+}
+
+fn last(alloc: Global) -> Result<Last, NoMemory> {
+    let network = text(alloc, "pods")?;
+    Ok(Last {
+        network,
         set: 0,
         addr: leased(),
-    };
-    Ok(Host {
-        namespaces: one(alloc, namespace)?,
-        links: links(alloc)?,
-        addresses: one(
-            alloc,
-            address(alloc, "c1", "/ns/a", "eth0", cidr(0x0a58_0002, 16))?,
-        )?,
-        routes: Items::new(alloc),
-        rules: Items::new(alloc),
-        settings: Items::new(alloc),
-        leases: one(alloc, lease)?,
-        cached: one(alloc, kept)?,
-        lasts: one(alloc, last)?,
     })
+}
+
+/// What the ADD makes of its opening.
+pub(super) fn add_objects(alloc: Global, host: &mut Host) -> Result<(), NoMemory> {
+    host.links = links(alloc)?;
+    host.addresses.push(inner_address(alloc)?)?;
+    host.leases.push(lease(alloc)?)?;
+    host.cached.push(kept(alloc)?)?;
+    host.lasts.push(last(alloc)?)
 }

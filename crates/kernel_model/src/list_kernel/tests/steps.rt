@@ -5,18 +5,38 @@ use super::objects::{
     set_of, setting, text,
 };
 use cni_addr::{Cidr, Family, Items, NoMemory, Range, RangeSet, Text};
-use kernel_types::{Att, Call, Change, Kind, Object, Probe, Reply, Table, Tag, link_mac};
+use kernel_types::{
+    AddrObj, Call, Change, Kind, Link, Object, Probe, Reply, RouteObj, Rule, Setting, Table, Tag,
+    link_mac,
+};
 use std::alloc::Global;
-use std::test::Fail;
+use std::str::Split;
 
-/// Up to six words; those that aren't there are empty.
-pub(super) fn words_of(text: &str) -> [&str; 6] {
-    let mut found = text.split(' ');
-    let mut words = [""; 6];
-    for word in words.iter_mut() {
-        *word = found.next().unwrap_or("");
+/// A row's call or reply, word by word; words that aren't there are empty.
+#[derive(Clone, Copy)]
+pub(super) struct Words<'a> {
+    verb: &'a str,
+    first: &'a str,
+    second: &'a str,
+    third: &'a str,
+    fourth: &'a str,
+    fifth: &'a str,
+}
+
+fn next_word<'a>(words: &mut Split<'a, char>) -> &'a str {
+    words.next().unwrap_or("")
+}
+
+pub(super) fn words_of(text: &str) -> Words<'_> {
+    let mut words = text.split(' ');
+    Words {
+        verb: next_word(&mut words),
+        first: next_word(&mut words),
+        second: next_word(&mut words),
+        third: next_word(&mut words),
+        fourth: next_word(&mut words),
+        fifth: next_word(&mut words),
     }
-    words
 }
 
 /// The number that the word stands for; 0 where it is none.
@@ -61,51 +81,71 @@ fn set(alloc: Global, name: &str) -> Result<RangeSet, NoMemory> {
     set_of(alloc, range)
 }
 
-fn beginning(alloc: Global, words: [&str; 6]) -> Result<Option<Call>, NoMemory> {
-    let [verb, name, other, ..] = words;
-    Ok(Some(match verb {
-        "Begin" => Call::Begin {
-            att: att(alloc, name)?,
-            netns: place(alloc, other)?,
-        },
-        "BridgeEnsure" => Call::BridgeEnsure {
-            name: text(alloc, name)?,
-            mtu: 1500,
-            promisc: false,
-        },
-        "GatewayEnsure" => Call::GatewayEnsure {
-            bridge: text(alloc, name)?,
-            cidr: cidr(0x0a58_0001, 16),
-        },
-        "ForwardEnsure" => Call::ForwardEnsure { family: Family::V4 },
-        "LeaseNext" => Call::LeaseNext {
-            att: att(alloc, name)?,
-            number: u32::from(other == "tiny"),
-            set: set(alloc, other)?,
-        },
-        "CachePut" => Call::CachePut {
-            att: att(alloc, name)?,
-            cached: entry(alloc)?,
-        },
-        _ => return Ok(None),
-    }))
+fn begin(alloc: Global, words: Words) -> Result<Call, NoMemory> {
+    let att = att(alloc, words.first)?;
+    let netns = place(alloc, words.second)?;
+    Ok(Call::Begin { att, netns })
 }
 
-fn veth_add(alloc: Global, words: [&str; 6]) -> Result<Call, NoMemory> {
-    let [_, container, ns, name, outer, master] = words;
-    let inner_key = key(alloc, ns, name)?;
-    let outer_key = key(alloc, "", outer)?;
-    Ok(Call::VethAdd {
-        host_end: host_end(alloc, outer, master, inner_key, own(alloc, container)?)?,
-        inner_end: inner_end(alloc, ns, name, outer_key, own(alloc, container)?)?,
+fn bridge_ensure(alloc: Global, words: Words) -> Result<Call, NoMemory> {
+    let name = text(alloc, words.first)?;
+    Ok(Call::BridgeEnsure {
+        name,
+        mtu: 1500,
+        promisc: false,
     })
 }
 
-fn link_set(alloc: Global, words: [&str; 6]) -> Result<Call, NoMemory> {
-    let [_, container, ns, name, ..] = words;
+fn gateway_ensure(alloc: Global, words: Words) -> Result<Call, NoMemory> {
+    let bridge = text(alloc, words.first)?;
+    Ok(Call::GatewayEnsure {
+        bridge,
+        cidr: cidr(0x0a58_0001, 16),
+    })
+}
+
+fn veth_add(alloc: Global, words: Words) -> Result<Call, NoMemory> {
+    let (container, outer, master) = (words.first, words.fourth, words.fifth);
+    let inner_key = key(alloc, words.second, words.third)?;
+    let host_end = host_end(alloc, outer, master, inner_key, own(alloc, container)?)?;
+    let outer_key = key(alloc, "", outer)?;
+    let tag = own(alloc, container)?;
+    let inner_end = inner_end(alloc, words.second, words.third, outer_key, tag)?;
+    Ok(Call::VethAdd {
+        host_end,
+        inner_end,
+    })
+}
+
+/// Container, namespace, name, master.
+fn macvlan_of(alloc: Global, words: Words) -> Result<Link, NoMemory> {
+    macvlan(alloc, words.first, words.second, words.third, words.fourth)
+}
+
+/// Container, namespace, link, prefix.
+fn address_of(alloc: Global, words: Words) -> Result<AddrObj, NoMemory> {
+    let cidr = first_address(words.fourth);
+    address(alloc, words.first, words.second, words.third, cidr)
+}
+
+fn route_of(alloc: Global, words: Words) -> Result<RouteObj, NoMemory> {
+    route(alloc, words.first, words.second, words.third)
+}
+
+fn rule_of(alloc: Global, words: Words) -> Result<Rule, NoMemory> {
+    rule(alloc, words.first, number(words.second))
+}
+
+fn setting_of(alloc: Global, words: Words) -> Result<Setting, NoMemory> {
+    setting(alloc, words.first, words.second, words.third)
+}
+
+fn link_set(alloc: Global, words: Words) -> Result<Call, NoMemory> {
+    let att = att(alloc, words.first)?;
+    let key = key(alloc, words.second, words.third)?;
     Ok(Call::LinkSet {
-        att: att(alloc, container)?,
-        key: key(alloc, ns, name)?,
+        att,
+        key,
         mac: None,
         mtu: None,
         tx_qlen: None,
@@ -114,74 +154,83 @@ fn link_set(alloc: Global, words: [&str; 6]) -> Result<Call, NoMemory> {
     })
 }
 
-fn addition(alloc: Global, words: [&str; 6]) -> Result<Option<Call>, NoMemory> {
-    let [verb, container, ns, name, other, _] = words;
-    Ok(Some(match verb {
-        "VethAdd" => veth_add(alloc, words)?,
-        "LinkSet" => link_set(alloc, words)?,
-        "MacvlanAdd" => Call::MacvlanAdd {
-            link: macvlan(alloc, container, ns, name, other)?,
-        },
-        "AddrAdd" => Call::AddrAdd {
-            obj: address(alloc, container, ns, name, first_address(other))?,
-        },
-        "RouteAdd" => Call::RouteAdd {
-            obj: route(alloc, container, ns, name)?,
-        },
-        "RuleAppend" => Call::RuleAppend {
-            rule: rule(alloc, container, number(ns))?,
-        },
-        "SettingSet" => Call::SettingSet {
-            setting: setting(alloc, container, ns, name)?,
-        },
-        _ => return Ok(None),
-    }))
+fn lease_next(alloc: Global, words: Words) -> Result<Call, NoMemory> {
+    let att = att(alloc, words.first)?;
+    let set = set(alloc, words.second)?;
+    let number = u32::from(words.second == "tiny");
+    Ok(Call::LeaseNext { att, number, set })
 }
 
-fn deletion(alloc: Global, words: [&str; 6]) -> Result<Option<Call>, NoMemory> {
-    let [verb, container, ..] = words;
-    let att = att(alloc, container)?;
-    Ok(match verb {
-        "LinkDel" => Some(Call::LinkDel { att }),
-        "RuleDel" => Some(Call::RuleDel { att }),
-        "SettingDel" => Some(Call::SettingDel { att }),
-        "LeaseDel" => Some(Call::LeaseDel { att }),
-        "CacheDel" => Some(Call::CacheDel { att }),
-        "CacheGet" => Some(Call::CacheGet { att }),
-        _ => None,
+fn cache_put(alloc: Global, words: Words) -> Result<Call, NoMemory> {
+    let att = att(alloc, words.first)?;
+    let cached = entry(alloc)?;
+    Ok(Call::CachePut { att, cached })
+}
+
+fn macvlan_add(alloc: Global, words: Words) -> Result<Call, NoMemory> {
+    let link = macvlan_of(alloc, words)?;
+    Ok(Call::MacvlanAdd { link })
+}
+
+fn addr_add(alloc: Global, words: Words) -> Result<Call, NoMemory> {
+    let obj = address_of(alloc, words)?;
+    Ok(Call::AddrAdd { obj })
+}
+
+fn route_add(alloc: Global, words: Words) -> Result<Call, NoMemory> {
+    let obj = route_of(alloc, words)?;
+    Ok(Call::RouteAdd { obj })
+}
+
+fn rule_append(alloc: Global, words: Words) -> Result<Call, NoMemory> {
+    let rule = rule_of(alloc, words)?;
+    Ok(Call::RuleAppend { rule })
+}
+
+fn setting_set(alloc: Global, words: Words) -> Result<Call, NoMemory> {
+    let setting = setting_of(alloc, words)?;
+    Ok(Call::SettingSet { setting })
+}
+
+fn deletion(alloc: Global, words: Words) -> Result<Call, NoMemory> {
+    let att = att(alloc, words.first)?;
+    Ok(match words.verb {
+        "LinkDel" => Call::LinkDel { att },
+        "RuleDel" => Call::RuleDel { att },
+        "SettingDel" => Call::SettingDel { att },
+        "LeaseDel" => Call::LeaseDel { att },
+        "CacheDel" => Call::CacheDel { att },
+        _ => Call::CacheGet { att },
     })
 }
 
-/// The object that a row looks for.
-fn object(alloc: Global, words: [&str; 6]) -> Result<Option<Object>, NoMemory> {
-    let [verb, container, ns, name, other, _] = words;
-    Ok(Some(match verb {
-        "HasLink" => Object::Link(macvlan(alloc, container, ns, name, other)?),
-        "HasAddress" => Object::Address(address(alloc, container, ns, name, first_address(other))?),
-        "HasRoute" => Object::Route(route(alloc, container, ns, name)?),
-        "HasRule" => Object::Rule(rule(alloc, container, number(ns))?),
-        "HasSetting" => Object::Setting(setting(alloc, container, ns, name)?),
-        "HasLease" => Object::Lease(lease(alloc, container, bits(ns))?),
-        _ => return Ok(None),
-    }))
+fn has(alloc: Global, words: Words) -> Result<Call, NoMemory> {
+    let object = match words.verb {
+        "HasLink" => Object::Link(macvlan_of(alloc, words)?),
+        "HasAddress" => Object::Address(address_of(alloc, words)?),
+        "HasRoute" => Object::Route(route_of(alloc, words)?),
+        "HasRule" => Object::Rule(rule_of(alloc, words)?),
+        "HasSetting" => Object::Setting(setting_of(alloc, words)?),
+        _ => Object::Lease(lease(alloc, words.first, bits(words.second))?),
+    };
+    Ok(Call::HasObj {
+        probe: Probe::Whole(object),
+    })
 }
 
-fn probe(alloc: Global, words: [&str; 6]) -> Result<Option<Call>, NoMemory> {
-    let [verb, name, other, ..] = words;
-    let probe = match verb {
-        "BridgeAt" => Probe::BridgeAt {
-            name: text(alloc, name)?,
-            mac: link_mac(other),
-        },
-        "Master" => Probe::Master {
-            name: text(alloc, name)?,
-        },
-        _ => match object(alloc, words)? {
-            Some(object) => Probe::Whole(object),
-            None => return Ok(None),
-        },
-    };
-    Ok(Some(Call::HasObj { probe }))
+fn bridge_at(alloc: Global, words: Words) -> Result<Call, NoMemory> {
+    let name = text(alloc, words.first)?;
+    let mac = link_mac(words.second);
+    Ok(Call::HasObj {
+        probe: Probe::BridgeAt { name, mac },
+    })
+}
+
+fn master(alloc: Global, words: Words) -> Result<Call, NoMemory> {
+    let name = text(alloc, words.first)?;
+    Ok(Call::HasObj {
+        probe: Probe::Master { name },
+    })
 }
 
 fn kind(word: &str) -> Kind {
@@ -194,59 +243,85 @@ fn kind(word: &str) -> Kind {
     }
 }
 
-fn change(alloc: Global, words: [&str; 6]) -> Result<Option<Call>, NoMemory> {
-    let [verb, name, other, ..] = words;
-    Ok(Some(match verb {
-        "OwnersOf" => Call::OwnersOf {
-            network: text(alloc, name)?,
-            kind: kind(other),
-        },
-        "PoolFree" => Call::PoolFree {
-            network: text(alloc, "pods")?,
-            set: set(alloc, name)?,
-        },
-        "NsAdd" | "NsDel" => Call::NsChange {
-            name: text(alloc, name)?,
-            add: verb == "NsAdd",
-        },
-        "DropLink" => Call::Outside {
-            change: Change::DropLink(key(alloc, name, other)?),
-        },
-        "Flush" if name == "nat" => Call::Outside {
-            change: Change::Flush(Table::Nat),
-        },
-        "Flush" => Call::Outside {
-            change: Change::Flush(Table::Filter),
-        },
-        _ => return Ok(None),
-    }))
+fn owners_of(alloc: Global, words: Words) -> Result<Call, NoMemory> {
+    let network = text(alloc, words.first)?;
+    let kind = kind(words.second);
+    Ok(Call::OwnersOf { network, kind })
+}
+
+fn pool_free(alloc: Global, words: Words) -> Result<Call, NoMemory> {
+    let network = text(alloc, "pods")?;
+    let set = set(alloc, words.first)?;
+    Ok(Call::PoolFree { network, set })
+}
+
+fn ns_change(alloc: Global, words: Words) -> Result<Call, NoMemory> {
+    let name = text(alloc, words.first)?;
+    let add = words.verb == "NsAdd";
+    Ok(Call::NsChange { name, add })
+}
+
+fn drop_link(alloc: Global, words: Words) -> Result<Call, NoMemory> {
+    let key = key(alloc, words.first, words.second)?;
+    Ok(Call::Outside {
+        change: Change::DropLink(key),
+    })
+}
+
+fn flush(words: Words) -> Call {
+    let table = if words.first == "nat" {
+        Table::Nat
+    } else {
+        Table::Filter
+    };
+    Call::Outside {
+        change: Change::Flush(table),
+    }
+}
+
+/// A question or a change from outside; else a deletion or the look at a kept entry.
+fn other(alloc: Global, words: Words) -> Result<Call, NoMemory> {
+    match words.verb {
+        "BridgeAt" => bridge_at(alloc, words),
+        "Master" => master(alloc, words),
+        "OwnersOf" => owners_of(alloc, words),
+        "PoolFree" => pool_free(alloc, words),
+        "NsAdd" | "NsDel" => ns_change(alloc, words),
+        "DropLink" => drop_link(alloc, words),
+        "Flush" => Ok(flush(words)),
+        verb if verb.starts_with("Has") => has(alloc, words),
+        _ => deletion(alloc, words),
+    }
 }
 
 /// The call that the words stand for.
-pub(super) fn call_of(alloc: Global, words: [&str; 6]) -> Result<Call, Fail> {
-    if let Some(call) = beginning(alloc, words)? {
-        return Ok(call);
+pub(super) fn call_of(alloc: Global, words: Words) -> Result<Call, NoMemory> {
+    match words.verb {
+        "Begin" => begin(alloc, words),
+        "BridgeEnsure" => bridge_ensure(alloc, words),
+        "GatewayEnsure" => gateway_ensure(alloc, words),
+        "ForwardEnsure" => Ok(Call::ForwardEnsure { family: Family::V4 }),
+        "VethAdd" => veth_add(alloc, words),
+        "MacvlanAdd" => macvlan_add(alloc, words),
+        "LinkSet" => link_set(alloc, words),
+        "AddrAdd" => addr_add(alloc, words),
+        "RouteAdd" => route_add(alloc, words),
+        "RuleAppend" => rule_append(alloc, words),
+        "SettingSet" => setting_set(alloc, words),
+        "LeaseNext" => lease_next(alloc, words),
+        "CachePut" => cache_put(alloc, words),
+        _ => other(alloc, words),
     }
-    if let Some(call) = addition(alloc, words)? {
-        return Ok(call);
-    }
-    if let Some(call) = deletion(alloc, words)? {
-        return Ok(call);
-    }
-    if let Some(call) = change(alloc, words)? {
-        return Ok(call);
-    }
-    Ok(probe(alloc, words)?.ok_or("a row that is no call")?)
 }
 
-fn owners(alloc: Global, containers: [&str; 6]) -> Result<Items<Att>, NoMemory> {
+fn owners(alloc: Global, words: Words) -> Result<Reply, NoMemory> {
     let mut owners = Items::new(alloc);
-    for container in &containers {
-        if !container.is_empty() && *container != "Owners" {
+    for container in [words.first, words.second] {
+        if !container.is_empty() {
             owners.push(att(alloc, container)?)?;
         }
     }
-    Ok(owners)
+    Ok(Reply::Owners(owners))
 }
 
 fn tag(alloc: Global, word: &str) -> Result<Tag, NoMemory> {
@@ -257,21 +332,32 @@ fn tag(alloc: Global, word: &str) -> Result<Tag, NoMemory> {
     }
 }
 
+fn taken(alloc: Global, words: Words) -> Result<Reply, NoMemory> {
+    let tag = tag(alloc, words.first)?;
+    Ok(Reply::Taken(tag))
+}
+
+fn kept(alloc: Global, words: Words) -> Result<Reply, NoMemory> {
+    if words.first == "none" {
+        return Ok(Reply::Entry(None));
+    }
+    let cached = entry(alloc)?;
+    Ok(Reply::Entry(Some(cached)))
+}
+
 /// The reply that the words stand for.
-pub(super) fn reply_of(alloc: Global, words: [&str; 6]) -> Result<Reply, Fail> {
-    let [verb, value, ..] = words;
-    Ok(match verb {
-        "Done" => Reply::Done,
-        "NoNs" => Reply::NoNs,
-        "NoLink" => Reply::NoLink,
-        "Taken" => Reply::Taken(tag(alloc, value)?),
-        "Empty" => Reply::Empty,
-        "Leased" => Reply::Leased(addr(bits(value))),
-        "Gone" => Reply::Gone(value == "true"),
-        "Has" => Reply::Has(value == "true"),
-        "Owners" => Reply::Owners(owners(alloc, words)?),
-        "Entry" if value == "kept" => Reply::Entry(Some(entry(alloc)?)),
-        "Entry" => Reply::Entry(None),
-        _ => Err("a row without a reply")?,
-    })
+pub(super) fn reply_of(alloc: Global, words: Words) -> Result<Reply, NoMemory> {
+    match words.verb {
+        "Done" => Ok(Reply::Done),
+        "NoNs" => Ok(Reply::NoNs),
+        "NoLink" => Ok(Reply::NoLink),
+        "Taken" => taken(alloc, words),
+        "Empty" => Ok(Reply::Empty),
+        "Leased" => Ok(Reply::Leased(addr(bits(words.first)))),
+        "Gone" => Ok(Reply::Gone(words.first == "true")),
+        "Has" => Ok(Reply::Has(words.first == "true")),
+        "Owners" => owners(alloc, words),
+        "Entry" => kept(alloc, words),
+        _ => Ok(Reply::Fault),
+    }
 }
