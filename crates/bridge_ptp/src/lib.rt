@@ -2,7 +2,12 @@
 //!
 //! To the verbs each promises four lists as values: the calls before an address is leased, the calls after it, the
 //! result, and the kinds of objects that DEL takes back. They are those of `specs/Bridge.antt`, `specs/Ptp.antt` and
-//! `specs/Results.antt`, and the calls append the plugin's share of the objects that an ADD wants.
+//! `specs/Results.antt`. The code of `ptp` isn't here yet.
+//!
+//! ```text
+//! bridge_before(alloc, &conf, &att, &netns)?        // BridgeEnsure, VethAdd
+//! bridge_after(alloc, &conf, &att, &netns, &given)? // AddrAdd for each address, and so on
+//! ```
 #![tactic(auto)]
 
 pub mod bridge;

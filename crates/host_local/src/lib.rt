@@ -3,6 +3,11 @@
 //! To the verbs it promises the calls that lease, what a leased address is given with, and the part of the result that
 //! the plugin which makes the interface completes (`specs/Leases.antt`, `specs/Results.antt`). It holds no addresses
 //! itself: leases live in the modelled kernel.
+//!
+//! ```text
+//! lease_calls(alloc, &conf, &att)? // one LeaseNext for each set, in order
+//! given(&conf, 0, &addr)           // 10.88.0.2/16, by the gateway 10.88.0.1, of the subnet 10.88.0.0/16
+//! ```
 #![tactic(auto)]
 
 pub mod leases;

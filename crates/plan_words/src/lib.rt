@@ -3,6 +3,11 @@
 //!
 //! A plugin's plan defines its objects once. Its share of what an ADD wants (`specs/Share.antt`) and its calls both
 //! cite them, so that "the calls append the share" (`AppendsShare` in `specs/PlanCalls.antt`) is a fact about lists.
+//!
+//! ```text
+//! let addresses = addresses_on(alloc, &att, &netns, &given)?; // each given address once, on the container's end
+//! ask_all(&mut calls, &addresses)?;                           // one AddrAdd for each
+//! ```
 #![tactic(auto)]
 
 pub mod asked;

@@ -1,4 +1,12 @@
 //! Pod files: an opening host, and rounds of commands for containers' attachments.
+//!
+//! What it promises above: the types carry every field of a command, also those that its verb doesn't use, and a copy of
+//! a command equals it.
+//!
+//! ```text
+//! command.number  // 1 for the first command of the file, and so on through all rounds
+//! command.verb    // Verb::Add, Verb::Del, ...
+//! ```
 #![tactic(auto)]
 
 pub mod command;

@@ -5,6 +5,7 @@ use Rattle.std.proofs.lemmas.List.{append_assoc, length_push}
 use Rattle.std.specs.Prelude.{if◌then◌else◌, flat_map, filter_map, ◌&&◌, ◌||◌, slice_get}
 use Rattle.std.specs.List.{list_any, list_all}
 use Rattle.std.specs.Cmp.Lexicographic.{nat_list_eq_equiv}
+use Rattle.cni_addr.specs.Codes.{family_eq}
 use Rattle.cni_addr.specs.declared.address.Addr.{Addr}
 use Rattle.cni_addr.specs.declared.address.Family.TheVariants as families
 use Rattle.cni_addr.specs.declared.range.RangeSet.{RangeSet}
@@ -48,7 +49,7 @@ use Rattle.host_local.specs.Results.{ip_of}
 use Rattle.bridge_ptp.specs.Bridge as bridge
 use Rattle.bridge_ptp.specs.Ptp as ptp
 use Rattle.bridge_ptp.specs.Results.{bridge_routes}
-use Rattle.portmap.specs.Portmap.{portmap_rules, mapping_rules, rules_for, masquerades_of, from_host}
+use Rattle.portmap.specs.Portmap.{portmap_rules, mapping_rules, rules_for, host_ip_allows, dnat_of, masquerades_of, from_host}
 use Rattle.firewall_tuning.specs.Firewall.{firewall_rules, forward_of}
 use Rattle.firewall_tuning.specs.Tuning.{tuning_settings, setting_of, sets_any, link_set_calls}
 use Rattle.cni_verbs.specs.CommandWords.{att_of, add_refusal, any_fault, add_faults, del_refusal}
@@ -155,7 +156,10 @@ planned-before (Ptp c) att netns place = (planned-veth att netns None c.mtu fals
 planned-before (Macvlan c) att netns place = ((att_eq-refl att, record { kind = refl; owned = refl; over = refl; alone = refl; inner = place }), tt)
 
 planned-forward : (att : Att) (gs : List Given) → AllPlanned att (forward_calls gs)
-planned-forward att gs = planned-append att (forward_for _ gs) (forward_for _ gs) (planned-if att _ _ ((refl, tt), tt)) (planned-if att _ _ ((refl, tt), tt))
+planned-forward att gs =
+    planned-append att (forward_for families.V4 gs) (forward_for families.V6 gs)
+    (planned-if att (list_any (λ g. family_eq g.address.addr.family families.V4) gs) (ForwardEnsure families.V4 ∷ []) ((refl, tt), tt))
+    (planned-if att (list_any (λ g. family_eq g.address.addr.family families.V6) gs) (ForwardEnsure families.V6 ∷ []) ((refl, tt), tt))
 
 planned-gateways : (conf : BridgeConf) (att : Att) (gs : List Given) → AllPlanned att (bridge.gateway_calls conf gs)
 planned-gateways conf att gs =
@@ -204,7 +208,9 @@ own-masquerades_of false att ip m = refl
 
 own-rules_for : (snat : Bool) (att : Att) (m : PortMapping) (ip : Option IpEntry) → list_all (λ x. is_own att x.tag) (rules_for snat att m ip) ≡ true
 own-rules_for snat att m None = refl
-own-rules_for snat att m (Some ip) = own-if (λ x. is_own att x.tag) _ _ (grind (arith, att_eq-refl att, own-masquerades_of snat att ip m))
+own-rules_for snat att m (Some ip) =
+    own-if (λ (x : Rule). is_own att x.tag) (host_ip_allows m.host_ip ip.address.addr) (dnat_of att m ip.address.addr ∷ masquerades_of snat att ip m)
+    (grind (arith, att_eq-refl att, own-masquerades_of snat att ip m))
 
 own-portmap : (conf : _) (att : Att) (mappings : List PortMapping) (ips : List IpEntry) → list_all (λ x. is_own att x.tag) (portmap_rules conf att mappings ips) ≡ true
 own-portmap conf att mappings ips =

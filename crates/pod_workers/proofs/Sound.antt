@@ -18,10 +18,11 @@ use Rattle.kernel_types.specs.Allowed.{IsAllowed}
 use Rattle.kernel_types.specs.Apply.{apply}
 use Rattle.kernel_types.specs.Apply.Calls.{is_of_pool, last_leased, moved_last, with_last, lease_taken, lease_next_of, leased_addresses}
 use Rattle.kernel_types.specs.Replies.{is_fault}
-use Rattle.kernel_types.specs.Sound.{IsSound}
+use Rattle.kernel_types.specs.Sound.{IsSound, NoAddressTwice}
 use Rattle.kernel_types.specs.Touch.{Touches, TouchesTag}
 use Rattle.kernel_types.specs.Words.{is_own, is_owned}
 use Rattle.kernel_types.proofs.EveryCall.{IsSound-apply, Touches-apply}
+use Rattle.kernel_types.proofs.SoundHosts.{NoAddressTwice-sound}
 use Rattle.kernel_types.proofs.LeasedAddress.{leased-candidate}
 use Rattle.kernel_types.proofs.ListLemmas.{passes-find, passes-list_all}
 use Rattle.kernel_types.specs.declared.object.Att.{Att}
@@ -37,6 +38,8 @@ use Rattle.kernel_types.specs.declared.call.Reply.{Reply}
 use Rattle.kernel_types.specs.declared.call.Reply.TheVariants.{Leased}
 use Rattle.plan_words.specs.PlanCalls.{is_plan_call_of}
 use Rattle.cni_verbs.specs.CommandWords.{att_of}
+use Rattle.cni_verbs.specs.declared.answer.Answer.{Answer}
+use Rattle.cni_verbs.specs.declared.answer.Answer.TheVariants.{Stopped}
 use Rattle.cni_verbs.specs.Script.{State, AtBegin, BeforeLeases, Leasing, AfterLeases, ReadingCache, Deleting, Over, Turn, Calls, Finishes, turn, script, state_after}
 use Rattle.cni_verbs.specs.Wanted.{sets_of, deletion}
 use Rattle.pod_workers.specs.Legal.{Legal, IsBegun, begins, steps, refused_memory, turns}
@@ -75,9 +78,10 @@ each-push p [] x h g = (g, tt)
 each-push p (y ∷ ys) x h g = (h.0, each-push p ys x h.1 g)
 
 same-pool : (network : List ℕ) (number : ℕ) (x : Last) → is_of_pool network number x ≡ true → (x.network ≡ network) × (x.set ≡ number)
-same-pool network number x h =
-    ((bytes_eq-Decides x.network network).0 (grind (arith, h)),
-    elim (eqb_tells x.set number) [ inl t ↦ t.1 | inr f ↦ absurd (let no_way = f.0 in grind (arith, h, no_way)) ])
+same-pool network number x h = (
+  (bytes_eq-Decides x.network network).0 (grind (arith, h)),
+  elim (eqb_tells x.set number) [ inl t ↦ t.1 | inr f ↦ absurd (let no_way = f.0 in grind (arith, h, no_way)) ],
+)
 
 moved-one : (p : Plan) (network : List ℕ) (number : ℕ) (a : Addr) (x : Last) (b : Bool) → is_of_pool network number x ≡ b → LastIsCandidate p x
     → LastIsCandidate p (record { network = network; set = number; addr = a }) → LastIsCandidate p (if b then record x { addr = a } else x)
@@ -111,9 +115,9 @@ lasts-lease p host att number set list None found at fits h = h
 lasts-lease p host att number set list (Some a) found at fits h =
     last-with p _ att.network number a _ h
     (λ other t is_list is_set.
-        let same_list : other ≡ list = same_Some other list (sym is_list ∙ found) in
-        let same_set : t ≡ set = same_Some t set (sym is_set ∙ ap (λ l. slice_get (sets_of l) number) same_list ∙ at) in
-        subst (λ s. is_candidate s a ≡ true) (sym same_set) (fits a refl))
+    let same_list : other ≡ list = same_Some other list (sym is_list ∙ found) in
+    let same_set : t ≡ set = same_Some t set (sym is_set ∙ ap (λ l. slice_get (sets_of l) number) same_list ∙ at) in
+    subst (λ s. is_candidate s a ≡ true) (sym same_set) (fits a refl))
 
 -- ---- calls that move no last
 
@@ -218,11 +222,14 @@ leased-by host att number set o a is = ap (λ q. (lease_taken host att number q)
 lease-well : (p : Plan) (host : Host) (att : Att) (number : ℕ) (set : RangeSet) (list : NetList) → IsWellFormed p → EachLast p host.lasts
     → find (λ l. bytes_eq l.name att.network) p.lists ≡ Some list → slice_get (sets_of list) number ≡ Some set → GoesWell p host (LeaseNext att number set)
 lease-well p host att number set list well lasts found at =
-    let apart : has_pools_apart list ≡ true = passes-list_all has_pools_apart (λ l. bytes_eq l.name att.network) p.lists list well.pools found in
-    ((list_all-at (λ s. are_apart s.ranges) (sets_of list) number set apart at,
-    last-fits p att.network number set list host.lasts (find (is_of_pool att.network number) host.lasts) refl found at lasts),
-    lasts-lease p host att number set list (pick_of set (last_leased host att.network number) (leased_addresses host att.network)) found at
-    (λ a is. leased-candidate host att number set a (leased-by host att number set (pick_of set (last_leased host att.network number) (leased_addresses host att.network)) a is)) lasts)
+    let apart : has_pools_apart list ≡ true = passes-list_all has_pools_apart (λ l. bytes_eq l.name att.network) p.lists list well.pools found in (
+      (
+        list_all-at (λ s. are_apart s.ranges) (sets_of list) number set apart at,
+        last-fits p att.network number set list host.lasts (find (is_of_pool att.network number) host.lasts) refl found at lasts,
+      ),
+      lasts-lease p host att number set list (pick_of set (last_leased host att.network number) (leased_addresses host att.network)) found at
+          (λ a is. leased-candidate host att number set a (leased-by host att number set (pick_of set (last_leased host att.network number) (leased_addresses host att.network)) a is)) lasts,
+    )
 
 -- ---- the next call of a run
 
@@ -250,14 +257,14 @@ by-list : (p : Plan) (host : Host) (c : Command) (rs : List Reply) (o : Option N
 by-list p host c rs None call well sound lasts found is = cc
 by-list p host c rs (Some list) call well sound lasts found is = turn-well p host list c (state_after list c rs) call well sound lasts found (left-are-planned list c rs) is
 
-call-by : (list : Option NetList) (c : Command) (made : ℕ) (k call : Call) (faulty b : Bool) → (if b then next.Answer _ else next.Call k (is_faulty c made)) ≡ next.Call call faulty → (Calls k ≡ Calls call) × (is_faulty c made ≡ faulty)
-call-by list c made k call faulty true is = absurd cc
-call-by list c made k call faulty false is = (cc, cc)
+call-by : (a : Answer) (c : Command) (made : ℕ) (k call : Call) (faulty b : Bool) → (if b then next.Answer a else next.Call k (is_faulty c made)) ≡ next.Call call faulty → (Calls k ≡ Calls call) × (is_faulty c made ≡ faulty)
+call-by a c made k call faulty true is = absurd cc
+call-by a c made k call faulty false is = (cc, cc)
 
 -- a step that makes a call makes the script's
 pub next-is-call : (list : Option NetList) (c : Command) (made : ℕ) (cut : Bool) (t : Turn) (call : Call) (faulty : Bool) → next_by list c made cut t ≡ next.Call call faulty → (t ≡ Calls call) × (is_faulty c made ≡ faulty)
 next-is-call list c made cut (Finishes finish) call faulty is = absurd cc
-next-is-call list c made cut (Calls k) call faulty is = call-by list c made k call faulty _ is
+next-is-call list c made cut (Calls k) call faulty is = call-by (Stopped made) c made k call faulty _ is
 
 -- ---- every legal world
 
@@ -312,3 +319,6 @@ sound_host w legal = (fine w legal).sound
 
 pub allowed_next : (w : World) (n : ℕ) (c : Placed) (call : Call) → Legal w → IsReady w n c → next_of w c.command (own_replies w n) ≡ next.Call call false → IsAllowed (host_of w) call
 allowed_next w n c call legal ready is = (next-well w c.command (own_replies w n) call false (fine w legal) is).0
+
+pub no_address_twice : (w : World) → Legal w → (network : List ℕ) → NoAddressTwice network (host_of w)
+no_address_twice w legal network = NoAddressTwice-sound network (host_of w) (sound_host w legal)

@@ -1,6 +1,17 @@
-//! Plans, the book of what was done, and rounds.
+//! Plans, what a step makes of them, and what is true of every history.
+//!
+//! A world is a plan, its history, the answers given and the current round (`specs/World.antt`); the host and each run's
+//! state follow from it. `Legal` says which worlds allowed steps reach, with stops, listed faults and rounds. The laws
+//! speak of all of them. The book that takes the steps isn't here yet.
+//!
+//! ```text
+//! every_host_is_sound()         // a proof above gets the law by calling it
+//! no_address_is_leased_twice()
+//! ```
 #![tactic(auto)]
 
+pub mod laws;
 pub mod plan;
 
-pub use plan::{Entry, Plan, PlanError, StepEnd};
+pub use laws::{every_call_may_be_made, every_host_is_sound, no_address_is_leased_twice};
+pub use plan::{Entry, Next, Plan, PlanError, StepEnd};

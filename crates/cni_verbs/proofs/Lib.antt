@@ -1,6 +1,0 @@
-mod BackCounts
-mod LeasedLemmas
-mod Left
-mod Once
-mod PhaseLemmas
-mod RunLaws

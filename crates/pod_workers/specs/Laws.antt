@@ -1,0 +1,22 @@
+-- Laws over every legal world, whatever was interleaved, stopped or refused memory.
+use Rattle.std.specs.Prelude.{◌≡◌, ℕ, false, List}
+use Rattle.kernel_types.specs.Allowed.{IsAllowed}
+use Rattle.kernel_types.specs.Sound.{IsSound, NoAddressTwice}
+use Rattle.kernel_types.specs.declared.call.Call.{Call}
+use Rattle.pod_workers.specs.Legal.{Legal}
+use Rattle.pod_workers.specs.Plans.{Placed}
+use Rattle.pod_workers.specs.World.{World, IsReady, host_of, own_replies, next_of}
+use Rattle.pod_workers.specs.declared.plan.Next.TheVariants as next
+
+-- each host that a plan comes to is sound
+abbrev pub EveryHostIsSound : Type 0
+EveryHostIsSound = (w : World) → Legal w → IsSound (host_of w)
+
+-- no network ever has an address leased twice
+abbrev pub NoAddressIsLeasedTwice : Type 0
+NoAddressIsLeasedTwice = (w : World) → Legal w → (network : List ℕ) → NoAddressTwice network (host_of w)
+
+-- each call that a ready command makes may be made in the host there
+abbrev pub EveryCallMayBeMade : Type 0
+EveryCallMayBeMade =
+    (w : World) (n : ℕ) (c : Placed) (call : Call) → Legal w → IsReady w n c → next_of w c.command (own_replies w n) ≡ next.Call call false → IsAllowed (host_of w) call
