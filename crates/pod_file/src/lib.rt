@@ -10,8 +10,18 @@
 #![tactic(auto)]
 
 pub mod command;
+mod commands;
 mod copies;
+mod error;
+mod links;
+mod members;
+mod opening;
+mod place;
 pub mod pods;
+mod read;
+mod rounds;
 
 pub use command::{Command, RawMapping, ValidAtt, Verb};
+pub use error::PodError;
 pub use pods::Pods;
+pub use read::read_pods;

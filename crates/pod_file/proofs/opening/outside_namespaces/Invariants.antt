@@ -1,0 +1,7 @@
+use Rattle.std.proofs.Common.{◌≡◌, map, take}
+use Rattle.kernel_types.specs.Opening.{outside_namespace}
+use Rattle.pod_file.proofs.opening.outside_namespaces.Given as goal
+
+-- the namespaces so far
+abbrev pub invariant-loop-name : goal.invariant-loop-name
+invariant-loop-name l = l.namespaces ≡ map outside_namespace (take l.name-index l.names)

@@ -1,0 +1,169 @@
+-- A command of a pod file, key by key in the order of its refusals. Each key is tested at every verb.
+use Rattle.std.specs.Prelude.{ℕ, ◌&&◌, List, [], codes, Bool, true, false, nat_le, if◌then◌else◌, Result, Ok, Err, Option, Some, None, ⊤}
+use Rattle.std.specs.Str.{bytes_eq}
+use Rattle.serde_json.specs.Data.{Data, null, boolean, number, string, array, object, Items}
+use Rattle.cni_json.specs.Fields.{text_field, list_field, u64_field, u64_of}
+use Rattle.cni_json.specs.Outcome.{◌>>=◌}
+use Rattle.cni_json.specs.declared.fields.Field.{Field}
+use Rattle.cni_json.specs.declared.fields.Field.TheVariants.{Absent, WrongKind, Here}
+use Rattle.kernel_types.specs.declared.object.Table.{Table}
+use Rattle.kernel_types.specs.declared.object.Table.TheVariants.{Nat, Filter}
+use Rattle.pod_file.specs.Each.{each}
+use Rattle.pod_file.specs.Members.{text_at, mappings_at, valid_at}
+use Rattle.pod_file.specs.Refusals.{wrong, wrong_key, command_path}
+use Rattle.pod_file.specs.declared.command.Command.{Command}
+use Rattle.pod_file.specs.declared.command.Verb.{Verb}
+use Rattle.pod_file.specs.declared.command.Verb.TheVariants as verbs
+use Rattle.pod_file.specs.declared.commands.CommandTexts.{CommandTexts}
+use Rattle.pod_file.specs.declared.error.PodError.{PodError}
+use Rattle.pod_file.specs.declared.place.CommandPlace.{CommandPlace}
+
+abbrev pub command_object : CommandPlace → Data → Result ⊤ PodError
+command_object place (object ms) = Ok tt
+command_object place d = wrong (command_path place)
+
+-- ---- the verb
+
+abbrev pub verb_named : CommandPlace → List ℕ → Result Verb PodError
+verb_named place text =
+    if bytes_eq text (codes "ADD") then Ok verbs.Add
+    else if bytes_eq text (codes "CHECK") then Ok verbs.Check
+    else if bytes_eq text (codes "DEL") then Ok verbs.Del
+    else if bytes_eq text (codes "GC") then Ok verbs.Gc
+    else if bytes_eq text (codes "STATUS") then Ok verbs.Status
+    else if bytes_eq text (codes "VERSION") then Ok verbs.Version
+    else if bytes_eq text (codes "NSADD") then Ok verbs.NsAdd
+    else if bytes_eq text (codes "NSDEL") then Ok verbs.NsDel
+    else if bytes_eq text (codes "DROP") then Ok verbs.Drop
+    else if bytes_eq text (codes "FLUSH") then Ok verbs.Flush
+    else wrong_key place (codes "verb")
+
+abbrev pub verb_of : CommandPlace → Field (List ℕ) → Result Verb PodError
+verb_of place Absent = wrong_key place (codes "verb")
+verb_of place WrongKind = wrong_key place (codes "verb")
+verb_of place (Here text) = verb_named place text
+
+-- what the command does; it must be there
+unfoldable pub verb_at : CommandPlace → Data → Result Verb PodError
+verb_at place d = verb_of place (text_field (codes "verb") d)
+
+-- the verbs of the CNI specification, which speak of a network
+abbrev pub needs_network : Verb → Bool
+needs_network verbs.Add = true
+needs_network verbs.Check = true
+needs_network verbs.Del = true
+needs_network verbs.Gc = true
+needs_network verbs.Status = true
+needs_network verbs.Version = true
+needs_network verbs.NsAdd = false
+needs_network verbs.NsDel = false
+needs_network verbs.Drop = false
+needs_network verbs.Flush = false
+
+-- a flush names its table
+abbrev pub needs_table : Verb → Bool
+needs_table verbs.Add = false
+needs_table verbs.Check = false
+needs_table verbs.Del = false
+needs_table verbs.Gc = false
+needs_table verbs.Status = false
+needs_table verbs.Version = false
+needs_table verbs.NsAdd = false
+needs_table verbs.NsDel = false
+needs_table verbs.Drop = false
+needs_table verbs.Flush = true
+
+-- ---- texts
+
+abbrev pub network_of : CommandPlace → Verb → Field (List ℕ) → Result (List ℕ) PodError
+network_of place verb Absent = if needs_network verb then wrong_key place (codes "network") else Ok []
+network_of place verb WrongKind = wrong_key place (codes "network")
+network_of place verb (Here text) = Ok text
+
+-- the network's name, which must be there for a verb that speaks of one
+unfoldable pub network_at : CommandPlace → Verb → Data → Result (List ℕ) PodError
+network_at place verb d = network_of place verb (text_field (codes "network") d)
+
+-- the texts that name what the command is about
+unfoldable pub texts_at : CommandPlace → Verb → Data → Result CommandTexts PodError
+texts_at place verb d = do
+  network ← network_at place verb d
+  container ← text_at place (codes "container") [] d
+  netns ← text_at place (codes "netns") [] d
+  ifname ← text_at place (codes "ifname") (codes "eth0") d
+  args ← text_at place (codes "args") [] d
+  Ok (record { network = network; container = container; netns = netns; ifname = ifname; args = args })
+
+-- ---- the table, and when to stop or to fail
+
+abbrev pub table_named : CommandPlace → List ℕ → Result (Option Table) PodError
+table_named place text =
+    if bytes_eq text (codes "nat") then Ok (Some Nat)
+    else if bytes_eq text (codes "filter") then Ok (Some Filter)
+    else wrong_key place (codes "table")
+
+abbrev pub table_of : CommandPlace → Verb → Field (List ℕ) → Result (Option Table) PodError
+table_of place verb Absent = if needs_table verb then wrong_key place (codes "table") else Ok None
+table_of place verb WrongKind = wrong_key place (codes "table")
+table_of place verb (Here text) = table_named place text
+
+-- the table that a flush empties
+unfoldable pub table_at : CommandPlace → Verb → Data → Result (Option Table) PodError
+table_at place verb d = table_of place verb (text_field (codes "table") d)
+
+abbrev pub stop_of : CommandPlace → Field ℕ → Result (Option ℕ) PodError
+stop_of place Absent = Ok None
+stop_of place WrongKind = wrong_key place (codes "stop")
+stop_of place (Here n) = if nat_le n 4294967295 then Ok (Some n) else wrong_key place (codes "stop")
+
+-- the number of calls after which the command stops
+unfoldable pub stop_at : CommandPlace → Data → Result (Option ℕ) PodError
+stop_at place d = stop_of place (u64_field (codes "stop") d)
+
+-- calls are numbered from 1
+abbrev pub is_call_number : ℕ → Bool
+is_call_number n = nat_le 1 n && nat_le n 4294967295
+
+abbrev pub fault_of : CommandPlace → Option ℕ → Result ℕ PodError
+fault_of place None = wrong_key place (codes "faults")
+fault_of place (Some n) = if is_call_number n then Ok n else wrong_key place (codes "faults")
+
+-- a call that fails
+abbrev pub fault_at : CommandPlace → Data → Result ℕ PodError
+fault_at place d = fault_of place (u64_of d)
+
+abbrev pub faults_of : CommandPlace → Field Items → Result (List ℕ) PodError
+faults_of place Absent = Ok []
+faults_of place WrongKind = wrong_key place (codes "faults")
+faults_of place (Here ds) = each (fault_at place) ds
+
+-- the calls that fail, in any order
+unfoldable pub faults_at : CommandPlace → Data → Result (List ℕ) PodError
+faults_at place d = faults_of place (list_field (codes "faults") d)
+
+-- ---- the whole command; it has no number yet
+
+unfoldable pub command_at : CommandPlace → Data → Result Command PodError
+command_at place d = do
+  _ ← command_object place d
+  verb ← verb_at place d
+  texts ← texts_at place verb d
+  mappings ← mappings_at place d
+  valid ← valid_at place d
+  table ← table_at place verb d
+  stop ← stop_at place d
+  faults ← faults_at place d
+  Ok (record {
+    number = 0;
+    verb = verb;
+    network = texts.network;
+    container = texts.container;
+    netns = texts.netns;
+    ifname = texts.ifname;
+    args = texts.args;
+    mappings = mappings;
+    valid = valid;
+    table = table;
+    stop = stop;
+    faults = faults;
+  })

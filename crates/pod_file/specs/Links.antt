@@ -1,0 +1,124 @@
+-- The links of an opening.
+use Rattle.std.specs.Prelude.{ℕ, ◌+◌, ◌&&◌, List, [], ◌∷◌, ◌++◌, codes, Bool, true, false, nat_le, if◌then◌else◌, Result, Ok, Err, None, ⊤}
+use Rattle.std.specs.List.{list_any}
+use Rattle.std.specs.Str.{bytes_eq}
+use Rattle.serde_json.specs.Data.{Data, null, boolean, number, string, array, object, Items, no_items, item}
+use Rattle.cni_json.specs.Fields.{text_field, list_field, u64_field}
+use Rattle.cni_json.specs.Outcome.{◌>>=◌}
+use Rattle.cni_json.specs.declared.fields.Field.{Field}
+use Rattle.cni_json.specs.declared.fields.Field.TheVariants.{Absent, WrongKind, Here}
+use Rattle.kernel_types.specs.Names.{link_mac_of}
+use Rattle.kernel_types.specs.Words.{is_host_ns, is_at}
+use Rattle.kernel_types.specs.declared.object.Link.{Link}
+use Rattle.kernel_types.specs.declared.object.LinkKind.{LinkKind}
+use Rattle.kernel_types.specs.declared.object.LinkKind.TheVariants.{Device, Bridge}
+use Rattle.kernel_types.specs.declared.object.Tag.TheVariants.{Outside}
+use Rattle.net_conf.specs.Names.{is_interface_name}
+use Rattle.pod_file.specs.Refusals.{wrong, member_path}
+use Rattle.pod_file.specs.declared.error.PodError.{PodError}
+
+-- a fault in a link has the link's place, and no deeper one
+abbrev pub wrong_link : {A : Type 0} → ℕ → Result A PodError
+wrong_link index = wrong (member_path (codes "opening.links") index)
+
+abbrev pub link_object : ℕ → Data → Result ⊤ PodError
+link_object index (object ms) = Ok tt
+link_object index d = wrong_link index
+
+abbrev pub name_of : ℕ → Field (List ℕ) → Result (List ℕ) PodError
+name_of index Absent = wrong_link index
+name_of index WrongKind = wrong_link index
+name_of index (Here text) = if is_interface_name text then Ok text else wrong_link index
+
+-- the link's name
+unfoldable pub name_at : ℕ → Data → Result (List ℕ) PodError
+name_at index d = name_of index (text_field (codes "name") d)
+
+abbrev pub kind_named : ℕ → List ℕ → Result LinkKind PodError
+kind_named index text =
+    if bytes_eq text (codes "device") then Ok Device
+    else if bytes_eq text (codes "bridge") then Ok Bridge
+    else wrong_link index
+
+abbrev pub kind_of : ℕ → Field (List ℕ) → Result LinkKind PodError
+kind_of index Absent = wrong_link index
+kind_of index WrongKind = wrong_link index
+kind_of index (Here text) = kind_named index text
+
+-- what kind of link it is
+unfoldable pub kind_at : ℕ → Data → Result LinkKind PodError
+kind_at index d = kind_of index (text_field (codes "kind") d)
+
+-- the host, or a namespace of these names
+abbrev pub is_place : List (List ℕ) → List ℕ → Bool
+is_place names ns = if is_host_ns ns then true else list_any (bytes_eq ns) names
+
+abbrev pub ns_of : List (List ℕ) → ℕ → Field (List ℕ) → Result (List ℕ) PodError
+ns_of names index Absent = Ok []
+ns_of names index WrongKind = wrong_link index
+ns_of names index (Here text) = if is_place names text then Ok text else wrong_link index
+
+-- the namespace that the link is in; the empty text is the host
+unfoldable pub ns_at : List (List ℕ) → ℕ → Data → Result (List ℕ) PodError
+ns_at names index d = ns_of names index (text_field (codes "ns") d)
+
+-- the least MTU of IPv4 (RFC 791, section 3.2) to the greatest length of a packet
+abbrev pub is_mtu : ℕ → Bool
+is_mtu n = nat_le 68 n && nat_le n 65535
+
+abbrev pub mtu_of : ℕ → Field ℕ → Result ℕ PodError
+mtu_of index Absent = Ok 1500
+mtu_of index WrongKind = wrong_link index
+mtu_of index (Here n) = if is_mtu n then Ok n else wrong_link index
+
+-- the link's MTU
+unfoldable pub mtu_at : ℕ → Data → Result ℕ PodError
+mtu_at index d = mtu_of index (u64_field (codes "mtu") d)
+
+-- a link that was made outside
+abbrev pub outside_link : List ℕ → List ℕ → LinkKind → ℕ → Link
+outside_link ns name kind mtu = record {
+  ns = ns;
+  name = name;
+  kind = kind;
+  master = None;
+  peer = None;
+  mac = link_mac_of name;
+  mtu = mtu;
+  hairpin = false;
+  promisc = false;
+  allmulti = false;
+  tx_qlen = 1000;
+  tag = Outside;
+}
+
+-- no link before stands at this place
+unfoldable pub not_taken : List Link → ℕ → List ℕ → List ℕ → Result ⊤ PodError
+not_taken before index ns name = if list_any (is_at ns name) before then wrong_link index else Ok tt
+
+-- a link after these, in the host or in a namespace of these names
+unfoldable pub link_at : List (List ℕ) → List Link → ℕ → Data → Result Link PodError
+link_at names before index d = do
+  _ ← link_object index d
+  name ← name_at index d
+  kind ← kind_at index d
+  ns ← ns_at names index d
+  mtu ← mtu_at index d
+  _ ← not_taken before index ns name
+  Ok (outside_link ns name kind mtu)
+
+-- these links, and all that follow
+abbrev pub links_after : List (List ℕ) → List Link → ℕ → Items → Result (List Link) PodError
+links_after names before index no_items = Ok before
+links_after names before index (item d ds) = do
+  next ← link_at names before index d
+  links_after names (before ++ next ∷ []) (index + 1) ds
+
+abbrev pub links_of : List (List ℕ) → Field Items → Result (List Link) PodError
+links_of names Absent = Ok []
+links_of names WrongKind = wrong (codes "opening.links")
+links_of names (Here ds) = links_after names [] 0 ds
+
+-- the links, none where there is no list
+unfoldable pub links_at : List (List ℕ) → Data → Result (List Link) PodError
+links_at names d = links_of names (list_field (codes "links") d)

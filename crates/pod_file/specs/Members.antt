@@ -1,0 +1,88 @@
+-- Members of a command, each with its refusal: the place is the command's, `outer` the command's key that holds the member.
+use Rattle.std.specs.Prelude.{ℕ, List, [], codes, Result, Ok, Err, ⊤}
+use Rattle.serde_json.specs.Data.{Data, null, boolean, number, string, array, object, Items}
+use Rattle.cni_json.specs.Fields.{text_field, list_field, u64_field}
+use Rattle.cni_json.specs.Outcome.{◌>>=◌}
+use Rattle.cni_json.specs.declared.fields.Field.{Field}
+use Rattle.cni_json.specs.declared.fields.Field.TheVariants.{Absent, WrongKind, Here}
+use Rattle.pod_file.specs.Each.{each}
+use Rattle.pod_file.specs.Refusals.{wrong_key}
+use Rattle.pod_file.specs.declared.command.RawMapping.{RawMapping}
+use Rattle.pod_file.specs.declared.command.ValidAtt.{ValidAtt}
+use Rattle.pod_file.specs.declared.error.PodError.{PodError}
+use Rattle.pod_file.specs.declared.place.CommandPlace.{CommandPlace}
+
+abbrev pub text_of : CommandPlace → List ℕ → List ℕ → Field (List ℕ) → Result (List ℕ) PodError
+text_of place outer default Absent = Ok default
+text_of place outer default WrongKind = wrong_key place outer
+text_of place outer default (Here text) = Ok text
+
+-- a text, or the default where there is none
+unfoldable pub inner_text_at : CommandPlace → List ℕ → List ℕ → List ℕ → Data → Result (List ℕ) PodError
+inner_text_at place outer key default d = text_of place outer default (text_field key d)
+
+-- a text of the command itself
+abbrev pub text_at : CommandPlace → List ℕ → List ℕ → Data → Result (List ℕ) PodError
+text_at place key default d = inner_text_at place key key default d
+
+abbrev pub needed_text_of : CommandPlace → List ℕ → Field (List ℕ) → Result (List ℕ) PodError
+needed_text_of place outer Absent = wrong_key place outer
+needed_text_of place outer WrongKind = wrong_key place outer
+needed_text_of place outer (Here text) = Ok text
+
+-- a text that must be there
+unfoldable pub needed_text_at : CommandPlace → List ℕ → List ℕ → Data → Result (List ℕ) PodError
+needed_text_at place outer key d = needed_text_of place outer (text_field key d)
+
+abbrev pub port_of : CommandPlace → Field ℕ → Result ℕ PodError
+port_of place Absent = Ok 0
+port_of place WrongKind = wrong_key place (codes "portMappings")
+port_of place (Here port) = Ok port
+
+-- a port, which is any number here: an ADD tests it
+unfoldable pub port_at : CommandPlace → List ℕ → Data → Result ℕ PodError
+port_at place key d = port_of place (u64_field key d)
+
+abbrev pub inner_object : CommandPlace → List ℕ → Data → Result ⊤ PodError
+inner_object place outer (object ms) = Ok tt
+inner_object place outer d = wrong_key place outer
+
+-- a text of a mapping, empty where there is none
+unfoldable pub mapping_text_at : CommandPlace → List ℕ → Data → Result (List ℕ) PodError
+mapping_text_at place key d = inner_text_at place (codes "portMappings") key [] d
+
+-- a port mapping (the capability `portMappings` of the CNI conventions), as it is written
+unfoldable pub mapping_at : CommandPlace → Data → Result RawMapping PodError
+mapping_at place d = do
+  _ ← inner_object place (codes "portMappings") d
+  host_port ← port_at place (codes "hostPort") d
+  container_port ← port_at place (codes "containerPort") d
+  protocol ← mapping_text_at place (codes "protocol") d
+  host_ip ← mapping_text_at place (codes "hostIP") d
+  Ok (record { host_port = host_port; container_port = container_port; protocol = protocol; host_ip = host_ip })
+
+abbrev pub mappings_of : CommandPlace → Field Items → Result (List RawMapping) PodError
+mappings_of place Absent = Ok []
+mappings_of place WrongKind = wrong_key place (codes "portMappings")
+mappings_of place (Here ds) = each (mapping_at place) ds
+
+-- the port mappings, none where there is no list
+unfoldable pub mappings_at : CommandPlace → Data → Result (List RawMapping) PodError
+mappings_at place d = mappings_of place (list_field (codes "portMappings") d)
+
+-- an attachment that a GC keeps (CNI specification 1.1.0, section 2, `cni.dev/valid-attachments`); a value that is no
+-- object has no `containerID`
+unfoldable pub valid_attachment_at : CommandPlace → Data → Result ValidAtt PodError
+valid_attachment_at place d = do
+  container ← needed_text_at place (codes "valid") (codes "containerID") d
+  ifname ← needed_text_at place (codes "valid") (codes "ifname") d
+  Ok (record { container = container; ifname = ifname })
+
+abbrev pub valid_of : CommandPlace → Field Items → Result (List ValidAtt) PodError
+valid_of place Absent = Ok []
+valid_of place WrongKind = wrong_key place (codes "valid")
+valid_of place (Here ds) = each (valid_attachment_at place) ds
+
+-- the attachments that a GC keeps, none where there is no list
+unfoldable pub valid_at : CommandPlace → Data → Result (List ValidAtt) PodError
+valid_at place d = valid_of place (list_field (codes "valid") d)

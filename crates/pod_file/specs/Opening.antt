@@ -1,0 +1,63 @@
+-- The host as it is found.
+use Rattle.std.specs.Prelude.{ℕ, ◌+◌, ◌||◌, List, [], ◌∷◌, ◌++◌, codes, Bool, if◌then◌else◌, Result, Ok, Err}
+use Rattle.std.specs.List.{list_any}
+use Rattle.std.specs.Str.{bytes_eq}
+use Rattle.serde_json.specs.Data.{Data, null, boolean, number, string, array, object, Items, no_items, item}
+use Rattle.cni_json.specs.Fields.{list_field, object_field}
+use Rattle.cni_json.specs.Outcome.{◌>>=◌}
+use Rattle.cni_json.specs.declared.fields.Field.{Field}
+use Rattle.cni_json.specs.declared.fields.Field.TheVariants.{Absent, WrongKind, Here}
+use Rattle.kernel_types.specs.Opening.{opening_with}
+use Rattle.kernel_types.specs.Words.{is_host_ns}
+use Rattle.kernel_types.specs.declared.object.Host.{Host}
+use Rattle.pod_file.specs.Links.{links_at}
+use Rattle.pod_file.specs.Refusals.{wrong, member_path}
+use Rattle.pod_file.specs.declared.error.PodError.{PodError}
+
+-- a namespace's fault has its place
+abbrev pub wrong_namespace : {A : Type 0} → ℕ → Result A PodError
+wrong_namespace index = wrong (member_path (codes "opening.namespaces") index)
+
+-- the empty name is the host's, and no two namespaces have one name
+abbrev pub cannot_be_added : List (List ℕ) → List ℕ → Bool
+cannot_be_added before name = is_host_ns name || list_any (bytes_eq name) before
+
+abbrev pub name_or_refused : List (List ℕ) → ℕ → List ℕ → Result (List ℕ) PodError
+name_or_refused before index name = if cannot_be_added before name then wrong_namespace index else Ok name
+
+-- the name of a namespace after these
+abbrev pub namespace_at : List (List ℕ) → ℕ → Data → Result (List ℕ) PodError
+namespace_at before index (string name) = name_or_refused before index name
+namespace_at before index d = wrong_namespace index
+
+-- these names, and all that follow
+abbrev pub namespaces_after : List (List ℕ) → ℕ → Items → Result (List (List ℕ)) PodError
+namespaces_after before index no_items = Ok before
+namespaces_after before index (item d ds) = do
+  next ← namespace_at before index d
+  namespaces_after (before ++ next ∷ []) (index + 1) ds
+
+abbrev pub namespaces_of : Field Items → Result (List (List ℕ)) PodError
+namespaces_of Absent = Ok []
+namespaces_of WrongKind = wrong (codes "opening.namespaces")
+namespaces_of (Here ds) = namespaces_after [] 0 ds
+
+-- the names of the namespaces, none where there is no list
+unfoldable pub namespaces_at : Data → Result (List (List ℕ)) PodError
+namespaces_at d = namespaces_of (list_field (codes "namespaces") d)
+
+-- the members of the opening
+unfoldable pub opening_members_at : Data → Result Host PodError
+opening_members_at d = do
+  names ← namespaces_at d
+  links ← links_at names d
+  Ok (opening_with names links)
+
+abbrev pub opening_of : Field Data → Result Host PodError
+opening_of Absent = Ok (opening_with [] [])
+opening_of WrongKind = wrong (codes "opening")
+opening_of (Here d) = opening_members_at d
+
+-- the opening; the host is empty where there is none
+unfoldable pub opening_at : Data → Result Host PodError
+opening_at d = opening_of (object_field (codes "opening") d)

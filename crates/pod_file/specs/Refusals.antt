@@ -1,0 +1,42 @@
+-- Why a pod file is refused, and how the place of a fault is written.
+use Rattle.std.specs.Prelude.{ℕ, List, ◌++◌, codes, decimal, Bool, true, false, Result, Err}
+use Rattle.pod_file.specs.declared.error.PodError.{PodError}
+use Rattle.pod_file.specs.declared.error.PodError.TheVariants as refusal
+use Rattle.pod_file.specs.declared.place.CommandPlace.{CommandPlace}
+
+-- the refusal says that memory ran out
+abbrev pub is_want_of_memory : PodError → Bool
+is_want_of_memory refusal.Decode = false
+is_want_of_memory refusal.Number = false
+is_want_of_memory (refusal.Shape path) = false
+is_want_of_memory (refusal.Alone round) = false
+is_want_of_memory refusal.NoMemory = true
+
+-- the first fault is at this place
+abbrev pub wrong : {A : Type 0} → List ℕ → Result A PodError
+wrong path = Err (refusal.Shape path)
+
+abbrev pub member_text : List ℕ → ℕ → List ℕ
+member_text path index = path ++ (codes "[" ++ (decimal index ++ codes "]"))
+
+-- a member of a list, counted from 0
+unfoldable pub member_path : List ℕ → ℕ → List ℕ
+member_path path index = member_text path index
+
+abbrev pub command_text : CommandPlace → List ℕ
+command_text place = codes "rounds[" ++ (decimal place.round ++ (codes "][" ++ (decimal place.command ++ codes "]")))
+
+-- a command
+unfoldable pub command_path : CommandPlace → List ℕ
+command_path place = command_text place
+
+abbrev pub key_text : CommandPlace → List ℕ → List ℕ
+key_text place key = codes "rounds[" ++ (decimal place.round ++ (codes "][" ++ (decimal place.command ++ (codes "]." ++ key))))
+
+-- a key of a command
+unfoldable pub key_path : CommandPlace → List ℕ → List ℕ
+key_path place key = key_text place key
+
+-- the key of that command is wrong
+abbrev pub wrong_key : {A : Type 0} → CommandPlace → List ℕ → Result A PodError
+wrong_key place key = wrong (key_path place key)

@@ -1,0 +1,90 @@
+-- The rounds of a pod file: how many there may be, which commands stand alone, and how commands are numbered.
+use Rattle.std.specs.Prelude.{ℕ, ◌+◌, ◌&&◌, ◌||◌, List, [], ◌∷◌, length, codes, Bool, true, false, not, nat_le, if◌then◌else◌, Result, Ok, Err, ⊤}
+use Rattle.std.specs.List.{list_any}
+use Rattle.serde_json.specs.Data.{Data, null, boolean, number, string, array, object, Items}
+use Rattle.cni_json.specs.Fields.{list_field}
+use Rattle.cni_json.specs.Outcome.{◌>>=◌}
+use Rattle.cni_json.specs.declared.fields.Field.{Field}
+use Rattle.cni_json.specs.declared.fields.Field.TheVariants.{Absent, WrongKind, Here}
+use Rattle.pod_file.specs.Commands.{command_at}
+use Rattle.pod_file.specs.Each.{each_from}
+use Rattle.pod_file.specs.Refusals.{wrong, member_path}
+use Rattle.pod_file.specs.declared.command.Command.{Command}
+use Rattle.pod_file.specs.declared.command.Verb.{Verb}
+use Rattle.pod_file.specs.declared.command.Verb.TheVariants as verbs
+use Rattle.pod_file.specs.declared.error.PodError.{PodError}
+use Rattle.pod_file.specs.declared.error.PodError.TheVariants as refusal
+
+-- a command of that round at that place
+abbrev pub command_in : ℕ → ℕ → Data → Result Command PodError
+command_in round place d = command_at (record { round = round; command = place }) d
+
+-- a round is a list of commands
+abbrev pub round_at : ℕ → Data → Result (List Command) PodError
+round_at round (array ds) = each_from (command_in round) 0 ds
+round_at round d = wrong (member_path (codes "rounds") round)
+
+abbrev pub rounds_of : Field Items → Result (List (List Command)) PodError
+rounds_of Absent = wrong (codes "rounds")
+rounds_of WrongKind = wrong (codes "rounds")
+rounds_of (Here ds) = each_from round_at 0 ds
+
+-- the rounds, which must be there
+unfoldable pub rounds_at : Data → Result (List (List Command)) PodError
+rounds_at d = rounds_of (list_field (codes "rounds") d)
+
+-- ---- limits
+
+-- how many commands there are in all
+abbrev pub command_count : List (List Command) → ℕ
+command_count [] = 0
+command_count (commands ∷ rounds) = length commands + command_count rounds
+
+unfoldable pub are_few : List (List Command) → Bool
+are_few rounds = nat_le (length rounds) 65536 && nat_le (command_count rounds) 65536
+
+-- at most 65,536 rounds and 65,536 commands
+abbrev pub few : List (List Command) → Result ⊤ PodError
+few rounds = if are_few rounds then Ok tt else wrong (codes "rounds")
+
+-- ---- commands that stand alone
+
+-- the verbs that no other command may stand beside in a round
+abbrev pub is_exclusive_verb : Verb → Bool
+is_exclusive_verb verbs.Add = false
+is_exclusive_verb verbs.Check = false
+is_exclusive_verb verbs.Del = false
+is_exclusive_verb verbs.Gc = true
+is_exclusive_verb verbs.Status = true
+is_exclusive_verb verbs.Version = false
+is_exclusive_verb verbs.NsAdd = true
+is_exclusive_verb verbs.NsDel = true
+is_exclusive_verb verbs.Drop = true
+is_exclusive_verb verbs.Flush = true
+
+abbrev pub is_exclusive : Command → Bool
+is_exclusive command = is_exclusive_verb command.verb
+
+-- an exclusive command has its round for itself
+abbrev pub is_alone : List Command → Bool
+is_alone commands = nat_le (length commands) 1 || not (list_any is_exclusive commands)
+
+-- the first round, counted from the given number, in which an exclusive command isn't alone
+abbrev pub each_alone : ℕ → List (List Command) → Result ⊤ PodError
+each_alone round [] = Ok tt
+each_alone round (commands ∷ rounds) = if is_alone commands then each_alone (round + 1) rounds else Err (refusal.Alone round)
+
+-- ---- numbers
+
+abbrev pub numbered : ℕ → Command → Command
+numbered first command = record command { number = first }
+
+-- the commands of a round, numbered from the given number
+abbrev pub round_numbered : ℕ → List Command → List Command
+round_numbered first [] = []
+round_numbered first (command ∷ commands) = numbered first command ∷ round_numbered (first + 1) commands
+
+-- the commands of all rounds, numbered from the given number in file order
+abbrev pub all_numbered : ℕ → List (List Command) → List (List Command)
+all_numbered first [] = []
+all_numbered first (commands ∷ rounds) = round_numbered first commands ∷ all_numbered (first + length commands) rounds

@@ -1,0 +1,205 @@
+//! The reader of one command.
+
+ghost use Rattle.std.specs.Prelude.{◌≡◌};
+ghost use Rattle.serde_json.specs.View.{view, items_view};
+ghost use Rattle.cni_json.specs.Outcome.{GivesAs};
+ghost use Rattle.pod_file.specs.Commands as wanted;
+ghost use Rattle.pod_file.specs.Each.{each};
+ghost use Rattle.pod_file.specs.Refusals.{is_want_of_memory};
+
+use crate::command::{Command, Verb};
+use crate::error::{PodError, wrong_command, wrong_key};
+use crate::members::{mappings, text, valid_attachments};
+use crate::place::CommandPlace;
+use cni_addr::{Items, Text};
+use cni_json::{Field, Value, field_list, field_str, field_u64};
+use kernel_types::Table;
+use std::alloc::Global;
+
+/// The texts that name what a command is about.
+#[derive(Drop)]
+pub struct CommandTexts {
+    pub network: Text,
+    pub container: Text,
+    pub netns: Text,
+    pub ifname: Text,
+    pub args: Text,
+}
+
+/// The command at this place, which has no number yet.
+#[tactic(auto, using(crate::proofs::Steps::steps), unfolding(crate::specs::Commands::command_at))]
+pub fn read_command(alloc: Global, place: CommandPlace, value: &Value) -> Result<Command, PodError>
+    ensures { GivesAs is_want_of_memory (λ command. command) result (wanted.command_at place (view value.now)) }
+{
+    command_object(alloc, place, value)?;
+    let verb = verb(alloc, place, value)?;
+    let texts = texts(alloc, place, verb, value)?;
+    let mappings = mappings(alloc, place, value)?;
+    let valid = valid_attachments(alloc, place, value)?;
+    let table = table(alloc, place, verb, value)?;
+    let stop = stop(alloc, place, value)?;
+    let faults = faults(alloc, place, value)?;
+    Ok(Command {
+        number: 0,
+        verb,
+        network: texts.network,
+        container: texts.container,
+        netns: texts.netns,
+        ifname: texts.ifname,
+        args: texts.args,
+        mappings,
+        valid,
+        table,
+        stop,
+        faults,
+    })
+}
+
+#[tactic(auto, using(crate::proofs::Steps::steps))]
+fn command_object(alloc: Global, place: CommandPlace, value: &Value) -> Result<(), PodError>
+    ensures { GivesAs is_want_of_memory (λ t. t) result (wanted.command_object place (view value.now)) }
+{
+    if value.is_object() {
+        Ok(())
+    } else {
+        Err(wrong_command(alloc, place))
+    }
+}
+
+#[tactic(auto, using(crate::proofs::Steps::steps), unfolding(crate::specs::Commands::verb_at))]
+fn verb(alloc: Global, place: CommandPlace, command: &Value) -> Result<Verb, PodError>
+    ensures { GivesAs is_want_of_memory (λ verb. verb) result (wanted.verb_at place (view command.now)) }
+{
+    match field_str(command, "verb") {
+        Field::Here("ADD") => Ok(Verb::Add),
+        Field::Here("CHECK") => Ok(Verb::Check),
+        Field::Here("DEL") => Ok(Verb::Del),
+        Field::Here("GC") => Ok(Verb::Gc),
+        Field::Here("STATUS") => Ok(Verb::Status),
+        Field::Here("VERSION") => Ok(Verb::Version),
+        Field::Here("NSADD") => Ok(Verb::NsAdd),
+        Field::Here("NSDEL") => Ok(Verb::NsDel),
+        Field::Here("DROP") => Ok(Verb::Drop),
+        Field::Here("FLUSH") => Ok(Verb::Flush),
+        Field::Here(_) | Field::Absent | Field::WrongKind => {
+            Err(wrong_key(alloc, place, "verb"))
+        }
+    }
+}
+
+fn needs_network(verb: Verb) -> bool
+    ensures { result ≡ wanted.needs_network verb }
+{
+    match verb {
+        Verb::Add | Verb::Check | Verb::Del | Verb::Gc | Verb::Status | Verb::Version => true,
+        Verb::NsAdd | Verb::NsDel | Verb::Drop | Verb::Flush => false,
+    }
+}
+
+#[tactic(auto, using(crate::proofs::Steps::steps), unfolding(crate::specs::Commands::texts_at))]
+fn texts(
+    alloc: Global,
+    place: CommandPlace,
+    verb: Verb,
+    command: &Value,
+) -> Result<CommandTexts, PodError>
+    ensures { GivesAs is_want_of_memory (λ texts. texts) result (wanted.texts_at place verb (view command.now)) }
+{
+    let network = network(alloc, place, verb, command)?;
+    let container = text(alloc, place, "container", "", command)?;
+    let netns = text(alloc, place, "netns", "", command)?;
+    let ifname = text(alloc, place, "ifname", "eth0", command)?;
+    let args = text(alloc, place, "args", "", command)?;
+    Ok(CommandTexts {
+        network,
+        container,
+        netns,
+        ifname,
+        args,
+    })
+}
+
+#[tactic(auto, using(crate::proofs::Steps::steps), unfolding(crate::specs::Commands::network_at))]
+fn network(
+    alloc: Global,
+    place: CommandPlace,
+    verb: Verb,
+    command: &Value,
+) -> Result<Text, PodError>
+    ensures { GivesAs is_want_of_memory (λ network. network) result (wanted.network_at place verb (view command.now)) }
+{
+    match field_str(command, "network") {
+        Field::Absent if needs_network(verb) => Err(wrong_key(alloc, place, "network")),
+        Field::Absent => Ok(Text::of(alloc, "")?),
+        Field::WrongKind => Err(wrong_key(alloc, place, "network")),
+        Field::Here(network) => Ok(Text::of(alloc, network)?),
+    }
+}
+
+#[tactic(auto, using(crate::proofs::Steps::steps), unfolding(crate::specs::Commands::table_at))]
+fn table(
+    alloc: Global,
+    place: CommandPlace,
+    verb: Verb,
+    command: &Value,
+) -> Result<Option<Table>, PodError>
+    ensures { GivesAs is_want_of_memory (λ table. table) result (wanted.table_at place verb (view command.now)) }
+{
+    match field_str(command, "table") {
+        Field::Absent if needs_table(verb) => Err(wrong_key(alloc, place, "table")),
+        Field::Absent => Ok(None),
+        Field::Here("nat") => Ok(Some(Table::Nat)),
+        Field::Here("filter") => Ok(Some(Table::Filter)),
+        Field::Here(_) | Field::WrongKind => Err(wrong_key(alloc, place, "table")),
+    }
+}
+
+fn needs_table(verb: Verb) -> bool
+    ensures { result ≡ wanted.needs_table verb }
+{
+    matches!(verb, Verb::Flush)
+}
+
+#[tactic(auto, using(crate::proofs::Steps::steps), unfolding(crate::specs::Commands::stop_at))]
+fn stop(alloc: Global, place: CommandPlace, command: &Value) -> Result<Option<u32>, PodError>
+    ensures { GivesAs is_want_of_memory (λ stop. stop) result (wanted.stop_at place (view command.now)) }
+{
+    match field_u64(command, "stop") {
+        Field::Absent => Ok(None),
+        Field::Here(number @ 0..=4_294_967_295) => Ok(Some(number as u32)),
+        Field::Here(_) | Field::WrongKind => Err(wrong_key(alloc, place, "stop")),
+    }
+}
+
+#[tactic(auto, using(crate::proofs::Steps::steps), unfolding(crate::specs::Commands::faults_at))]
+fn faults(alloc: Global, place: CommandPlace, command: &Value) -> Result<Items<u32>, PodError>
+    ensures { GivesAs is_want_of_memory (λ faults. faults) result (wanted.faults_at place (view command.now)) }
+{
+    match field_list(command, "faults") {
+        Field::Absent => Ok(Items::new(alloc)),
+        Field::WrongKind => Err(wrong_key(alloc, place, "faults")),
+        Field::Here(list) => all_faults(alloc, place, list),
+    }
+}
+
+#[tactic(auto, using(crate::proofs::Steps::steps))]
+fn all_faults(alloc: Global, place: CommandPlace, list: &[Value]) -> Result<Items<u32>, PodError>
+    ensures { GivesAs is_want_of_memory (λ faults. faults) result (each (wanted.fault_at place) (items_view list.now)) }
+{
+    let mut found = Items::new(alloc);
+    for member in list {
+        let number = fault(alloc, place, member)?;
+        found.push(number)?;
+    }
+    Ok(found)
+}
+
+#[tactic(auto, using(crate::proofs::Steps::steps))]
+fn fault(alloc: Global, place: CommandPlace, member: &Value) -> Result<u32, PodError>
+    ensures { GivesAs is_want_of_memory (λ number. number) result (wanted.fault_at place (view member.now)) }
+{
+    match member.as_u64() {
+        Some(number @ 1..=4_294_967_295) => Ok(number as u32),
+        Some(_) | None => Err(wrong_key(alloc, place, "faults")),
+    }
+}

@@ -1,0 +1,107 @@
+//! Why a pod file is refused.
+
+ghost use Rattle.std.specs.Prelude.{◌≡◌, IfOk};
+ghost use Rattle.cni_json.specs.Outcome.{TellsAs};
+ghost use Rattle.pod_file.specs.Refusals as paths;
+ghost use Rattle.pod_file.specs.Refusals.{is_want_of_memory, member_path, command_path, key_path};
+ghost use Rattle.pod_file.specs.declared.error.PodError.TheVariants as refusal;
+
+use crate::place::CommandPlace;
+use cni_addr::{NoMemory, Text};
+use std::alloc::Global;
+
+/// Why a pod file is refused: the first cause, where all shapes come before the limits, and these before what must
+/// stand alone.
+#[derive(PartialEq, Eq, Drop)]
+pub enum PodError {
+    /// The bytes are no JSON text.
+    Decode,
+    /// A number is no whole number of 64 bits.
+    Number,
+    /// The value at this place has a wrong kind or value, or must be there and isn't, as `rounds[1][0].verb`. The top
+    /// has the empty path. Too many rounds or commands are a fault of `rounds`.
+    Shape { path: Text },
+    /// This round, from 0, has a command that must stand alone, and others.
+    Alone { round: u32 },
+    /// Memory ran out.
+    NoMemory,
+}
+
+impl From<NoMemory> for PodError {
+    ghost from_gives = { λ _ e. e ≡ refusal.NoMemory };
+
+    fn from(_refused: NoMemory) -> PodError {
+        PodError::NoMemory
+    }
+}
+
+/// The refusal of the value at this place.
+pub(crate) fn wrong(alloc: Global, path: &str) -> PodError
+    ensures { TellsAs is_want_of_memory result (refusal.Shape path.now) }
+{
+    match Text::of(alloc, path) {
+        Ok(path) => PodError::Shape { path },
+        Err(NoMemory) => PodError::NoMemory,
+    }
+}
+
+/// The refusal of a member of the list at this place.
+#[tactic(auto, unfolding(crate::specs::Refusals::member_path))]
+pub(crate) fn wrong_member(alloc: Global, list: &str, index: usize) -> PodError
+    ensures { TellsAs is_want_of_memory result (refusal.Shape (member_path list.now index)) }
+{
+    match member_text(alloc, list, index) {
+        Ok(path) => PodError::Shape { path },
+        Err(NoMemory) => PodError::NoMemory,
+    }
+}
+
+/// The refusal of a command.
+#[tactic(auto, unfolding(crate::specs::Refusals::command_path))]
+pub(crate) fn wrong_command(alloc: Global, place: CommandPlace) -> PodError
+    ensures { TellsAs is_want_of_memory result (refusal.Shape (command_path place)) }
+{
+    match command_text(alloc, place) {
+        Ok(path) => PodError::Shape { path },
+        Err(NoMemory) => PodError::NoMemory,
+    }
+}
+
+/// The refusal of a command's key.
+#[tactic(auto, unfolding(crate::specs::Refusals::key_path))]
+pub(crate) fn wrong_key(alloc: Global, place: CommandPlace, key: &str) -> PodError
+    ensures { TellsAs is_want_of_memory result (refusal.Shape (key_path place key.now)) }
+{
+    match key_text(alloc, place, key) {
+        Ok(path) => PodError::Shape { path },
+        Err(NoMemory) => PodError::NoMemory,
+    }
+}
+
+fn member_text(alloc: Global, list: &str, index: usize) -> Result<Text, NoMemory>
+    ensures { IfOk result (λ text. text ≡ paths.member_text list.now index) }
+{
+    Text::of(alloc, format!(in alloc; "{list}[{index}]")?.as_str())
+}
+
+fn command_text(alloc: Global, place: CommandPlace) -> Result<Text, NoMemory>
+    ensures { IfOk result (λ text. text ≡ paths.command_text place) }
+{
+    let round = place.round;
+    let command = place.command;
+    Text::of(
+        alloc,
+        format!(in alloc; "rounds[{round}][{command}]")?.as_str(),
+    )
+}
+
+fn key_text(alloc: Global, place: CommandPlace, key: &str) -> Result<Text, NoMemory>
+    ensures { IfOk result (λ text. text ≡ paths.key_text place key.now) }
+{
+    let round = place.round;
+    let command = place.command;
+    Text::of(
+        alloc,
+        format!(in alloc; "rounds[{round}][{command}].{key}")?.as_str(),
+    )
+}

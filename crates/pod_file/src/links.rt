@@ -1,0 +1,189 @@
+//! The reader of the opening's links.
+
+ghost use Rattle.std.specs.Prelude.{◌≡◌, [], codes};
+ghost use Rattle.std.specs.List.{list_any};
+ghost use Rattle.std.specs.Str.{bytes_eq};
+ghost use Rattle.serde_json.specs.View.{view, items_view};
+ghost use Rattle.cni_json.specs.Outcome.{GivesAs, TellsAs};
+ghost use Rattle.kernel_types.specs.Words as words;
+ghost use Rattle.pod_file.specs.Links as wanted;
+ghost use Rattle.pod_file.specs.Refusals.{is_want_of_memory, member_path};
+ghost use Rattle.pod_file.specs.declared.error.PodError.TheVariants as refusal;
+
+use crate::error::{PodError, wrong, wrong_member};
+use cni_addr::{Items, Text};
+use cni_json::{Field, Value, field_list, field_str, field_u64};
+use kernel_types::{Link, LinkKind, Tag, link_mac};
+use net_conf::is_interface_name;
+use std::alloc::Global;
+
+/// The links, none where there is no list of them.
+#[tactic(auto, using(crate::proofs::Steps::steps), unfolding(crate::specs::Links::links_at))]
+pub fn links(alloc: Global, names: &[Text], opening: &Value) -> Result<Items<Link>, PodError>
+    ensures { GivesAs is_want_of_memory (λ links. links) result (wanted.links_at names.now (view opening.now)) }
+{
+    match field_list(opening, "links") {
+        Field::Absent => Ok(Items::new(alloc)),
+        Field::WrongKind => Err(wrong(alloc, "opening.links")),
+        Field::Here(list) => all_links(alloc, names, list),
+    }
+}
+
+#[tactic(auto, using(crate::proofs::Steps::steps))]
+fn all_links(alloc: Global, names: &[Text], list: &[Value]) -> Result<Items<Link>, PodError>
+    ensures { GivesAs is_want_of_memory (λ links. links) result (wanted.links_after names.now [] 0 (items_view list.now)) }
+{
+    let mut found = Items::new(alloc);
+    for (index, member) in list.iter().enumerate() {
+        let next = link(alloc, names, found.as_slice(), index, member)?;
+        found.push(next)?;
+    }
+    Ok(found)
+}
+
+#[tactic(auto, using(crate::proofs::Steps::steps), unfolding(crate::specs::Links::link_at))]
+fn link(
+    alloc: Global,
+    names: &[Text],
+    before: &[Link],
+    index: usize,
+    member: &Value,
+) -> Result<Link, PodError>
+    ensures { GivesAs is_want_of_memory (λ link. link) result (wanted.link_at names.now before.now index (view member.now)) }
+{
+    link_object(alloc, index, member)?;
+    let name = name(alloc, index, member)?;
+    let kind = kind(alloc, index, member)?;
+    let ns = ns(alloc, names, index, member)?;
+    let mtu = mtu(alloc, index, member)?;
+    not_taken(alloc, before, index, ns.as_str(), name.as_str())?;
+    Ok(outside_link(ns, name, kind, mtu))
+}
+
+/// A link that was made outside.
+fn outside_link(ns: Text, name: Text, kind: LinkKind, mtu: u32) -> Link
+    ensures { result ≡ wanted.outside_link ns name kind mtu }
+{
+    let mac = link_mac(name.as_str());
+    Link {
+        ns,
+        name,
+        kind,
+        master: None,
+        peer: None,
+        mac,
+        mtu,
+        hairpin: false,
+        promisc: false,
+        allmulti: false,
+        tx_qlen: 1000,
+        tag: Tag::Outside,
+    }
+}
+
+#[tactic(auto, using(crate::proofs::Steps::steps))]
+fn link_object(alloc: Global, index: usize, member: &Value) -> Result<(), PodError>
+    ensures { GivesAs is_want_of_memory (λ t. t) result (wanted.link_object index (view member.now)) }
+{
+    if member.is_object() {
+        Ok(())
+    } else {
+        Err(wrong_link(alloc, index))
+    }
+}
+
+#[tactic(auto, using(crate::proofs::Steps::steps), unfolding(crate::specs::Links::name_at))]
+fn name(alloc: Global, index: usize, member: &Value) -> Result<Text, PodError>
+    ensures { GivesAs is_want_of_memory (λ name. name) result (wanted.name_at index (view member.now)) }
+{
+    match field_str(member, "name") {
+        Field::Here(name) if is_interface_name(name) => Ok(Text::of(alloc, name)?),
+        Field::Here(_) | Field::Absent | Field::WrongKind => Err(wrong_link(alloc, index)),
+    }
+}
+
+#[tactic(auto, using(crate::proofs::Steps::steps), unfolding(crate::specs::Links::kind_at))]
+fn kind(alloc: Global, index: usize, member: &Value) -> Result<LinkKind, PodError>
+    ensures { GivesAs is_want_of_memory (λ kind. kind) result (wanted.kind_at index (view member.now)) }
+{
+    match field_str(member, "kind") {
+        Field::Here("device") => Ok(LinkKind::Device),
+        Field::Here("bridge") => Ok(LinkKind::Bridge),
+        Field::Here(_) | Field::Absent | Field::WrongKind => Err(wrong_link(alloc, index)),
+    }
+}
+
+#[tactic(auto, using(crate::proofs::Steps::steps), unfolding(crate::specs::Links::ns_at))]
+fn ns(alloc: Global, names: &[Text], index: usize, member: &Value) -> Result<Text, PodError>
+    ensures { GivesAs is_want_of_memory (λ ns. ns) result (wanted.ns_at names.now index (view member.now)) }
+{
+    match field_str(member, "ns") {
+        Field::Absent => Ok(Text::of(alloc, "")?),
+        Field::Here(ns) if is_place(names, ns) => Ok(Text::of(alloc, ns)?),
+        Field::Here(_) | Field::WrongKind => Err(wrong_link(alloc, index)),
+    }
+}
+
+/// Whether the text is the host's, or the name of one of the namespaces.
+fn is_place(names: &[Text], ns: &str) -> bool
+    ensures { result ≡ wanted.is_place names.now ns.now }
+{
+    if ns.len() == 0 {
+        true
+    } else {
+        is_named(names, ns)
+    }
+}
+
+/// Whether the name is among these.
+pub fn is_named(names: &[Text], name: &str) -> bool
+    ensures { result ≡ list_any (bytes_eq name.now) names.now }
+{
+    names.iter().any(|other| name == other.as_str())
+}
+
+#[tactic(auto, using(crate::proofs::Steps::steps), unfolding(crate::specs::Links::mtu_at))]
+fn mtu(alloc: Global, index: usize, member: &Value) -> Result<u32, PodError>
+    ensures { GivesAs is_want_of_memory (λ mtu. mtu) result (wanted.mtu_at index (view member.now)) }
+{
+    match field_u64(member, "mtu") {
+        Field::Absent => Ok(1500),
+        Field::Here(number @ 68..=65535) => Ok(number as u32),
+        Field::Here(_) | Field::WrongKind => Err(wrong_link(alloc, index)),
+    }
+}
+
+#[tactic(auto, using(crate::proofs::Steps::steps), unfolding(crate::specs::Links::not_taken))]
+fn not_taken(
+    alloc: Global,
+    before: &[Link],
+    index: usize,
+    ns: &str,
+    name: &str,
+) -> Result<(), PodError>
+    ensures { GivesAs is_want_of_memory (λ t. t) result (wanted.not_taken before.now index ns.now name.now) }
+{
+    if is_taken(before, ns, name) {
+        Err(wrong_link(alloc, index))
+    } else {
+        Ok(())
+    }
+}
+
+fn is_taken(links: &[Link], ns: &str, name: &str) -> bool
+    ensures { result ≡ list_any (words.is_at ns.now name.now) links.now }
+{
+    links.iter().any(|link| is_at(link, ns, name))
+}
+
+fn is_at(link: &Link, ns: &str, name: &str) -> bool
+    ensures { result ≡ words.is_at ns.now name.now link.now }
+{
+    link.ns.as_str() == ns && link.name.as_str() == name
+}
+
+fn wrong_link(alloc: Global, index: usize) -> PodError
+    ensures { TellsAs is_want_of_memory result (refusal.Shape (member_path (codes "opening.links") index)) }
+{
+    wrong_member(alloc, "opening.links", index)
+}

@@ -1,0 +1,129 @@
+//! The reader of the opening.
+
+ghost use Rattle.std.specs.Prelude.{◌≡◌, [], IfOk, codes, map};
+ghost use Rattle.serde_json.specs.View.{view, items_view};
+ghost use Rattle.cni_json.specs.Outcome.{GivesAs, TellsAs};
+ghost use Rattle.kernel_types.specs.Opening as hosts;
+ghost use Rattle.pod_file.specs.Opening as wanted;
+ghost use Rattle.pod_file.specs.Refusals.{is_want_of_memory, member_path};
+ghost use Rattle.pod_file.specs.declared.error.PodError.TheVariants as refusal;
+
+use crate::error::{PodError, wrong, wrong_member};
+use crate::links::{is_named, links};
+use cni_addr::{Duplicate, Items, NoMemory, Text};
+use cni_json::{Field, Value, field_list, field_object};
+use kernel_types::{Host, Link, NsObj, Tag};
+use std::alloc::Global;
+
+/// The host as it is found, empty where there is no opening.
+#[tactic(auto, using(crate::proofs::Steps::steps), unfolding(crate::specs::Opening::opening_at))]
+pub fn opening(alloc: Global, top: &Value) -> Result<Host, PodError>
+    ensures { GivesAs is_want_of_memory (λ host. host) result (wanted.opening_at (view top.now)) }
+{
+    match field_object(top, "opening") {
+        Field::Absent => Ok(host(alloc, &[], Items::new(alloc))?),
+        Field::WrongKind => Err(wrong(alloc, "opening")),
+        Field::Here(members) => opening_members(alloc, members),
+    }
+}
+
+#[tactic(auto, using(crate::proofs::Steps::steps), unfolding(crate::specs::Opening::opening_members_at))]
+fn opening_members(alloc: Global, members: &Value) -> Result<Host, PodError>
+    ensures { GivesAs is_want_of_memory (λ host. host) result (wanted.opening_members_at (view members.now)) }
+{
+    let names = namespaces(alloc, members)?;
+    let links = links(alloc, names.as_slice(), members)?;
+    Ok(host(alloc, names.as_slice(), links)?)
+}
+
+/// The host of these namespaces and links, and nothing else.
+fn host(alloc: Global, names: &[Text], links: Items<Link>) -> Result<Host, NoMemory>
+    ensures { IfOk result (λ host. host ≡ hosts.opening_with names.now links) }
+{
+    Ok(Host {
+        namespaces: outside_namespaces(alloc, names)?,
+        links,
+        addresses: Items::new(alloc),
+        routes: Items::new(alloc),
+        rules: Items::new(alloc),
+        settings: Items::new(alloc),
+        leases: Items::new(alloc),
+        cached: Items::new(alloc),
+        lasts: Items::new(alloc),
+    })
+}
+
+fn outside_namespaces(alloc: Global, names: &[Text]) -> Result<Items<NsObj>, NoMemory>
+    ensures { IfOk result (λ namespaces. namespaces ≡ map hosts.outside_namespace names.now) }
+{
+    let mut namespaces = Items::new(alloc);
+    for name in names {
+        namespaces.push(NsObj {
+            name: name.copy()?,
+            tag: Tag::Outside,
+        })?;
+    }
+    Ok(namespaces)
+}
+
+/// The names of the namespaces, none where there is no list of them.
+#[tactic(auto, using(crate::proofs::Steps::steps), unfolding(crate::specs::Opening::namespaces_at))]
+fn namespaces(alloc: Global, members: &Value) -> Result<Items<Text>, PodError>
+    ensures { GivesAs is_want_of_memory (λ names. names) result (wanted.namespaces_at (view members.now)) }
+{
+    match field_list(members, "namespaces") {
+        Field::Absent => Ok(Items::new(alloc)),
+        Field::WrongKind => Err(wrong(alloc, "opening.namespaces")),
+        Field::Here(list) => all_namespaces(alloc, list),
+    }
+}
+
+#[tactic(auto, using(crate::proofs::Steps::steps))]
+fn all_namespaces(alloc: Global, list: &[Value]) -> Result<Items<Text>, PodError>
+    ensures { GivesAs is_want_of_memory (λ names. names) result (wanted.namespaces_after [] 0 (items_view list.now)) }
+{
+    let mut found = Items::new(alloc);
+    for (index, member) in list.iter().enumerate() {
+        let next = namespace(alloc, found.as_slice(), index, member)?;
+        found.push(next)?;
+    }
+    Ok(found)
+}
+
+#[tactic(auto, using(crate::proofs::Steps::steps))]
+fn namespace(alloc: Global, before: &[Text], index: usize, member: &Value) -> Result<Text, PodError>
+    ensures { GivesAs is_want_of_memory (λ name. name) result (wanted.namespace_at before.now index (view member.now)) }
+{
+    match member {
+        Value::String(name) => name_or_refused(alloc, before, index, name.as_str()),
+        _ => Err(wrong_namespace(alloc, index)),
+    }
+}
+
+#[tactic(auto, using(crate::proofs::Steps::steps))]
+fn name_or_refused(
+    alloc: Global,
+    before: &[Text],
+    index: usize,
+    name: &str,
+) -> Result<Text, PodError>
+    ensures { GivesAs is_want_of_memory (λ name. name) result (wanted.name_or_refused before.now index name.now) }
+{
+    if cannot_be_added(before, name) {
+        Err(wrong_namespace(alloc, index))
+    } else {
+        Ok(Text::of(alloc, name)?)
+    }
+}
+
+fn wrong_namespace(alloc: Global, index: usize) -> PodError
+    ensures { TellsAs is_want_of_memory result (refusal.Shape (member_path (codes "opening.namespaces") index)) }
+{
+    wrong_member(alloc, "opening.namespaces", index)
+}
+
+fn cannot_be_added(before: &[Text], name: &str) -> bool
+    ensures { result ≡ wanted.cannot_be_added before.now name.now }
+{
+    name.len() == 0 || is_named(before, name)
+}

@@ -1,0 +1,69 @@
+//! The reader of pod files.
+
+ghost use Rattle.std.specs.Prelude.{◌≡◌, true, IfOk};
+ghost use Rattle.serde_json.specs.View.{view};
+ghost use Rattle.cni_json.specs.Outcome.{GivesAs};
+ghost use Rattle.pod_file.specs.PodFile as wanted;
+ghost use Rattle.pod_file.specs.Refusals.{is_want_of_memory};
+ghost use Rattle.pod_file.specs.Rounds as limits;
+
+use crate::command::Command;
+use crate::error::{PodError, wrong};
+use crate::opening::opening;
+use crate::pods::Pods;
+use crate::rounds::{are_few, each_alone, numbered, rounds};
+use cni_addr::Items;
+use cni_json::{ReadEnd, Value};
+use std::alloc::Global;
+
+/// The pod file that the bytes spell, or the first refusal.
+#[tactic(auto, using(crate::proofs::Steps::steps), unfolding(crate::specs::PodFile::pods_of))]
+pub fn read_pods(alloc: Global, bytes: &[u8]) -> Result<Pods, PodError>
+    ensures { GivesAs is_want_of_memory (λ pods. pods) result (wanted.pods_of bytes.now) }
+{
+    match cni_json::read(alloc, bytes) {
+        Ok(top) => pods(alloc, &top),
+        Err(ReadEnd::Decode) => Err(PodError::Decode),
+        Err(ReadEnd::Number) => Err(PodError::Number),
+        Err(ReadEnd::NoMemory) => Err(PodError::NoMemory),
+    }
+}
+
+#[tactic(auto, using(crate::proofs::Steps::steps), unfolding(crate::specs::PodFile::pods_at))]
+fn pods(alloc: Global, top: &Value) -> Result<Pods, PodError>
+    ensures { GivesAs is_want_of_memory (λ pods. pods) result (wanted.pods_at (view top.now)) }
+{
+    top_object(alloc, top)?;
+    let opening = opening(alloc, top)?;
+    let rounds = rounds(alloc, top)?;
+    few(alloc, rounds.as_slice())?;
+    each_alone(rounds.as_slice())?;
+    Ok(Pods {
+        opening,
+        rounds: numbered(alloc, rounds),
+    })
+}
+
+#[tactic(auto, using(crate::proofs::Steps::steps))]
+fn top_object(alloc: Global, top: &Value) -> Result<(), PodError>
+    ensures { GivesAs is_want_of_memory (λ t. t) result (wanted.top_object (view top.now)) }
+{
+    if top.is_object() {
+        Ok(())
+    } else {
+        Err(wrong(alloc, ""))
+    }
+}
+
+/// Refuses rounds or commands beyond the limits.
+#[tactic(auto, using(crate::proofs::Steps::steps))]
+fn few(alloc: Global, rounds: &[Items<Command>]) -> Result<(), PodError>
+    ensures given { GivesAs is_want_of_memory (λ t. t) result (limits.few rounds.now) }
+    ensures within { IfOk result (λ _. limits.are_few rounds.now ≡ true) }
+{
+    if are_few(rounds) {
+        Ok(())
+    } else {
+        Err(wrong(alloc, "rounds"))
+    }
+}

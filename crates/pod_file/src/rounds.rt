@@ -1,0 +1,167 @@
+//! The reader of rounds.
+
+ghost use Rattle.std.specs.Prelude.{◌≡◌, ◌+◌, ◌≤◌, length, true, nat_le};
+ghost use Rattle.std.specs.List.{list_any};
+ghost use Rattle.serde_json.specs.View.{view, items_view};
+ghost use Rattle.cni_json.specs.Outcome.{GivesAs};
+ghost use Rattle.pod_file.specs.Each.{each_from};
+ghost use Rattle.pod_file.specs.Refusals.{is_want_of_memory};
+ghost use Rattle.pod_file.specs.Rounds as wanted;
+
+use crate::command::{Command, Verb};
+use crate::commands::read_command;
+use crate::error::{PodError, wrong, wrong_member};
+use crate::place::CommandPlace;
+use cni_addr::Items;
+use cni_json::{Field, Value, field_list};
+use std::alloc::Global;
+
+/// The most rounds, and the most commands, that a file may have.
+const LIMIT: usize = 65_536;
+
+/// The rounds, whose commands have no numbers yet.
+#[tactic(auto, using(crate::proofs::Steps::steps), unfolding(crate::specs::Rounds::rounds_at))]
+pub fn rounds(alloc: Global, top: &Value) -> Result<Items<Items<Command>>, PodError>
+    ensures { GivesAs is_want_of_memory (λ rounds. rounds) result (wanted.rounds_at (view top.now)) }
+{
+    match field_list(top, "rounds") {
+        Field::Here(list) => all_rounds(alloc, list),
+        Field::Absent | Field::WrongKind => Err(wrong(alloc, "rounds")),
+    }
+}
+
+#[tactic(auto, using(crate::proofs::Steps::steps))]
+fn all_rounds(alloc: Global, list: &[Value]) -> Result<Items<Items<Command>>, PodError>
+    ensures { GivesAs is_want_of_memory (λ rounds. rounds) result (each_from wanted.round_at 0 (items_view list.now)) }
+{
+    let mut found = Items::new(alloc);
+    for (index, member) in list.iter().enumerate() {
+        let commands = round(alloc, index, member)?;
+        found.push(commands)?;
+    }
+    Ok(found)
+}
+
+#[tactic(auto, using(crate::proofs::Steps::steps))]
+fn round(alloc: Global, index: usize, member: &Value) -> Result<Items<Command>, PodError>
+    ensures { GivesAs is_want_of_memory (λ commands. commands) result (wanted.round_at index (view member.now)) }
+{
+    match member {
+        Value::Array(list) => all_commands(alloc, index, list.as_slice()),
+        _ => Err(wrong_member(alloc, "rounds", index)),
+    }
+}
+
+#[tactic(auto, using(crate::proofs::Steps::steps))]
+fn all_commands(alloc: Global, round: usize, list: &[Value]) -> Result<Items<Command>, PodError>
+    ensures { GivesAs is_want_of_memory (λ commands. commands) result (each_from (wanted.command_in round) 0 (items_view list.now)) }
+{
+    let mut found = Items::new(alloc);
+    for (index, member) in list.iter().enumerate() {
+        let place = CommandPlace {
+            round,
+            command: index,
+        };
+        let command = read_command(alloc, place, member)?;
+        found.push(command)?;
+    }
+    Ok(found)
+}
+
+/// Whether the rounds and their commands are within the limits.
+#[tactic(auto, unfolding(crate::specs::Rounds::are_few))]
+pub fn are_few(rounds: &[Items<Command>]) -> bool
+    ensures { result ≡ wanted.are_few rounds.now }
+{
+    rounds.len() <= LIMIT && have_few_commands(rounds)
+}
+
+fn have_few_commands(rounds: &[Items<Command>]) -> bool
+    ensures { result ≡ nat_le (wanted.command_count rounds.now) 65536 }
+{
+    let mut left = LIMIT;
+    for commands in rounds {
+        let count = commands.as_slice().len();
+        if count > left {
+            return false;
+        }
+        left -= count;
+    }
+    true
+}
+
+/// Refuses the first round in which a command that must stand alone doesn't.
+#[tactic(auto, unfolding(crate::specs::Rounds::are_few))]
+pub fn each_alone(rounds: &[Items<Command>]) -> Result<(), PodError>
+    requires { wanted.are_few rounds.now ≡ true }
+    ensures { result ≡ wanted.each_alone 0 rounds.now }
+{
+    for (index, commands) in rounds.iter().enumerate() {
+        if !is_alone(commands.as_slice()) {
+            return Err(PodError::Alone {
+                round: index as u32,
+            });
+        }
+    }
+    Ok(())
+}
+
+fn is_alone(commands: &[Command]) -> bool
+    ensures { result ≡ wanted.is_alone commands.now }
+{
+    commands.len() <= 1 || !has_exclusive(commands)
+}
+
+fn has_exclusive(commands: &[Command]) -> bool
+    ensures { result ≡ list_any wanted.is_exclusive commands.now }
+{
+    commands.iter().any(|command| is_exclusive(command))
+}
+
+fn is_exclusive(command: &Command) -> bool
+    ensures { result ≡ wanted.is_exclusive command.now }
+{
+    match command.verb {
+        Verb::Gc | Verb::Status | Verb::NsAdd | Verb::NsDel | Verb::Drop | Verb::Flush => true,
+        Verb::Add | Verb::Check | Verb::Del | Verb::Version => false,
+    }
+}
+
+/// The rounds with their commands numbered from 1 in file order.
+#[tactic(auto, using(crate::proofs::Numbering::numbers), unfolding(crate::specs::Rounds::are_few))]
+pub fn numbered(alloc: Global, rounds: Items<Items<Command>>) -> Items<Items<Command>>
+    requires { wanted.are_few rounds ≡ true }
+    ensures { result ≡ wanted.all_numbered 1 rounds }
+{
+    let mut rounds = rounds.into_vec();
+    let mut next = 1;
+    for commands in rounds.iter_mut() {
+        let count = commands.as_slice().len() as u32;
+        number_round(alloc, next, commands);
+        next += count;
+    }
+    Items::of_vec(rounds)
+}
+
+/// Numbers a round's commands from this number.
+fn number_round(alloc: Global, first: u32, commands: &mut Items<Command>)
+    requires { first + length commands.old ≤ 65537 }
+    ensures { commands.new ≡ wanted.round_numbered first commands.old }
+{
+    let taken = std::mem::replace(commands, Items::new(alloc));
+    *commands = round_numbered(first, taken);
+}
+
+#[tactic(auto, using(crate::proofs::Numbering::numbers))]
+fn round_numbered(first: u32, commands: Items<Command>) -> Items<Command>
+    requires { first + length commands ≤ 65537 }
+    ensures { result ≡ wanted.round_numbered first commands }
+{
+    let mut commands = commands.into_vec();
+    let mut next = first;
+    for command in commands.iter_mut() {
+        command.number = next;
+        next += 1;
+    }
+    Items::of_vec(commands)
+}
