@@ -1,11 +1,13 @@
 //! Pod files: an opening host, and rounds of commands for containers' attachments.
 //!
-//! What it promises above: the types carry every field of a command, also those that its verb doesn't use, and a copy of
-//! a command equals it.
+//! What it promises above: [`read_pods`] gives exactly the pod file that the definition `pods_of` of the bytes is
+//! (`specs/PodFile.antt`), or its first refusal with the place that is wrong, for every byte string. The types carry every
+//! field of a command, also those that its verb doesn't use, and a copy of a command equals it.
 //!
 //! ```text
-//! command.number  // 1 for the first command of the file, and so on through all rounds
-//! command.verb    // Verb::Add, Verb::Del, ...
+//! let pods = read_pods(alloc, b"{\"rounds\":[[{\"verb\":\"DEL\",\"network\":\"pods\",\"container\":\"c1\"}]]}")?;
+//! pods.rounds.as_slice().len()                           // 1; the command's number is 1, its interface name eth0
+//! read_pods(alloc, b"{\"rounds\":[[{\"verb\":\"FLY\"}]]}") // Err(PodError::Shape { path }) with rounds[0][0].verb
 //! ```
 #![tactic(auto)]
 
