@@ -16,8 +16,6 @@ mod outside;
 mod pool;
 mod questions;
 mod shared;
-#[cfg(test)]
-mod tests;
 
 use crate::kernel::Kernel;
 use crate::lists::copies;
