@@ -215,10 +215,8 @@ fn published_ports_are_printed(rt: HostRuntime) -> Result<(), Fail> {
     object.put("count", &2u64)?;
     object.put_text("version", version_text(Version::V1_0))?;
     assert_eq!(rt;
-        line(rt.alloc(), &object.into_value())?.as_slice(),
-        r#"{"count":2,"on":true,"portMappings":[{"containerPort":80,"hostPort":8080,"protocol":"tcp"},{"containerPort":5353,"hostIP":"10.0.0.1","hostPort":53,"protocol":"udp"}],"version":"1.0.0"}
-"#
-            .as_bytes()
+        object.into_value().to_string(rt.alloc())?.as_str(),
+        r#"{"count":2,"on":true,"portMappings":[{"containerPort":80,"hostPort":8080,"protocol":"tcp"},{"containerPort":5353,"hostIP":"10.0.0.1","hostPort":53,"protocol":"udp"}],"version":"1.0.0"}"#
     );
     assert_eq!(rt; proto_text(Proto::Sctp), "sctp");
     Ok(())
