@@ -23,8 +23,6 @@ pub mod objects;
 pub mod replies;
 pub mod rules;
 pub mod tags;
-#[cfg(test)]
-mod tests;
 pub mod words;
 
 pub use dump::push_dump;
