@@ -2,7 +2,7 @@
 //!
 //! To the verbs each promises four lists as values: the calls before an address is leased, the calls after it, the
 //! result, and the kinds of objects that DEL takes back. They are those of `specs/Bridge.antt`, `specs/Ptp.antt` and
-//! `specs/Results.antt`. The code of `ptp` isn't here yet.
+//! `specs/Results.antt`.
 //!
 //! ```text
 //! bridge_before(alloc, &conf, &att, &netns)?        // BridgeEnsure, VethAdd
@@ -12,5 +12,7 @@
 
 pub mod bridge;
 pub mod interfaces;
+pub mod ptp;
 
 pub use bridge::{bridge_after, bridge_before, bridge_kinds, bridge_result};
+pub use ptp::{ptp_after, ptp_before, ptp_kinds, ptp_result};

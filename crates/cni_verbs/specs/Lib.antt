@@ -1,5 +1,6 @@
 pub mod Answers
 pub mod Codes
 pub mod CommandWords
+pub mod Progress
 pub mod Script
 pub mod Wanted

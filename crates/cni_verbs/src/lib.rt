@@ -11,5 +11,7 @@
 #![tactic(auto)]
 
 pub mod answer;
+pub mod run;
 
 pub use answer::{Answer, Cause, Ending, Skip, WordFaults};
+pub use run::Run;

@@ -1,5 +1,17 @@
 //! The plugins `firewall` and `tuning`: what is forwarded to and from a container, its kernel settings and the values of
 //! its link.
 //!
-//! Their plans and results are defined in `specs/Firewall.antt` and `specs/Tuning.antt`. Their code isn't here yet.
+//! To the verbs each promises its calls, its result and the kinds of objects that DEL takes back as values. They are those
+//! of `specs/Firewall.antt` and `specs/Tuning.antt`.
+//!
+//! ```text
+//! firewall_calls(alloc, &att, &prev)?       // two RuleAppend an address
+//! tuning_calls(alloc, &conf, &att, &netns)? // SettingSet for each sysctl, LinkSet where the link is changed
+//! ```
 #![tactic(auto)]
+
+pub mod firewall;
+pub mod tuning;
+
+pub use firewall::{firewall_calls, firewall_kinds, firewall_result};
+pub use tuning::{tuning_calls, tuning_kinds, tuning_result};

@@ -41,10 +41,11 @@ use Rattle.cni_verbs.specs.CommandWords.{att_of}
 use Rattle.cni_verbs.specs.declared.answer.Answer.{Answer}
 use Rattle.cni_verbs.specs.declared.answer.Answer.TheVariants.{Stopped}
 use Rattle.cni_verbs.specs.Script.{State, AtBegin, BeforeLeases, Leasing, AfterLeases, ReadingCache, Deleting, Over, Turn, Calls, Finishes, turn, script, state_after}
+use Rattle.cni_verbs.specs.Progress.{turn_by}
 use Rattle.cni_verbs.specs.Wanted.{sets_of, deletion}
 use Rattle.pod_workers.specs.Legal.{Legal, IsBegun, begins, steps, refused_memory, turns}
 use Rattle.pod_workers.specs.Plans.{Placed, IsWellFormed, commands_of, list_for, has_pools_apart}
-use Rattle.pod_workers.specs.World.{World, IsReady, after, host_on, host_of, own_replies, turn_by, next_by, next_of, is_stop, is_cut, is_faulty, reply_to, entry_of, with_entry, answered, done, stepped, next_round}
+use Rattle.pod_workers.specs.World.{World, IsReady, after, host_on, host_of, own_replies, next_by, next_of, is_stop, is_cut, is_faulty, reply_to, entry_of, with_entry, answered, done, stepped, next_round}
 use Rattle.pod_workers.specs.declared.plan.Entry.{Entry}
 use Rattle.pod_workers.specs.declared.plan.Next.{Next}
 use Rattle.pod_workers.specs.declared.plan.Next.TheVariants as next

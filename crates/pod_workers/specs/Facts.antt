@@ -7,7 +7,8 @@ use Rattle.kernel_types.specs.Allowed.{IsAllowed}
 use Rattle.kernel_types.specs.declared.call.Call.{Call}
 use Rattle.pod_workers.specs.Legal.{Legal}
 use Rattle.pod_workers.specs.Plans.{Placed, commands_of, list_for}
-use Rattle.pod_workers.specs.World.{World, after, replies_of, own_replies, turn_by, answer_by, reply_to, is_faulty, is_stop, IsAnswered}
+use Rattle.cni_verbs.specs.Progress.{turn_by, answer_by}
+use Rattle.pod_workers.specs.World.{World, after, replies_of, own_replies, reply_to, is_faulty, is_stop, IsAnswered}
 use Rattle.pod_workers.specs.declared.plan.Plan.{Plan}
 use Rattle.pod_workers.specs.declared.plan.Entry.{Entry}
 

@@ -1,5 +1,6 @@
 pub mod Extends
 pub mod Facts
+pub mod Join
 pub mod Laws
 pub mod Legal
 pub mod Plans

@@ -51,6 +51,19 @@ is_of_network verbs.NsDel = false
 is_of_network verbs.Drop = false
 is_of_network verbs.Flush = false
 
+-- the verbs whose scripts are there
+abbrev pub is_built : Verb → Bool
+is_built verbs.Add = true
+is_built verbs.Check = false
+is_built verbs.Del = true
+is_built verbs.Gc = false
+is_built verbs.Status = false
+is_built verbs.Version = false
+is_built verbs.NsAdd = false
+is_built verbs.NsDel = false
+is_built verbs.Drop = false
+is_built verbs.Flush = false
+
 -- ---- well-formed plans
 
 -- an opening is sound, and nothing in it is an attachment's or shared
@@ -77,6 +90,7 @@ pub record IsWellFormed (p : Plan) : Type 0 where
   pub opening : IsOpening p.pods.opening
   pub pools : list_all has_pools_apart p.lists ≡ true
   pub names : distinct (λ a b. bytes_eq a.name b.name) p.lists ≡ true
+  pub built : list_all (λ c. is_built c.command.verb) (commands_of p) ≡ true
   pub networks : list_all (λ c. not (is_of_network c.command.verb) || is_some (list_for p c.command)) (commands_of p) ≡ true
   pub numbers : AreNumbered p
   pub bounds : length (commands_of p) ≤ 65536

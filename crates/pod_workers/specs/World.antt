@@ -1,11 +1,10 @@
 -- A plan, its history and answers, and what one step makes of them.
-use Rattle.std.specs.Prelude.{◌≡◌, ℕ, ◌+◌, ◌-◌, ◌<◌, ◌==◌, Bool, true, false, ◌||◌, ◌&&◌, List, [], ◌∷◌, ◌++◌, length, Option, Some, None, slice_get, slice_set, nat_le, if◌then◌else◌}
+use Rattle.std.specs.Prelude.{◌≡◌, ℕ, ◌+◌, ◌-◌, ◌<◌, ◌==◌, Bool, true, false, ◌||◌, ◌&&◌, List, [], ◌∷◌, ◌++◌, length, map, Option, Some, None, slice_get, slice_set, nat_le, if◌then◌else◌}
 use Rattle.std.specs.List.{list_any}
-use Rattle.cni_verbs.specs.Answers.{answer_of}
-use Rattle.cni_verbs.specs.Script.{Turn, Calls, Finishes, Finish, script}
+use Rattle.cni_verbs.specs.Progress.{turn_by, answer_by}
+use Rattle.cni_verbs.specs.Script.{Turn, Calls, Finishes}
 use Rattle.cni_verbs.specs.declared.answer.Answer.{Answer}
-use Rattle.cni_verbs.specs.declared.answer.Answer.TheVariants.{Yes, Stopped}
-use Rattle.cni_verbs.specs.declared.answer.Ending.TheVariants as endings
+use Rattle.cni_verbs.specs.declared.answer.Answer.TheVariants.{Stopped}
 use Rattle.kernel_types.specs.Apply.{apply}
 use Rattle.kernel_types.specs.Replies.{is_fault}
 use Rattle.kernel_types.specs.declared.object.Host.{Host}
@@ -84,15 +83,6 @@ is_cut_at (Some number) w (Some e) = length w.history == number && is_in_round w
 abbrev pub is_cut : World → Bool
 is_cut w = is_cut_at w.plan.stop_at w (last_entry w.history)
 
--- the script of a command; one of no network has nothing to do
-abbrev pub turn_by : Option NetList → Command → List Reply → Turn
-turn_by None c rs = Finishes (record { ending = endings.Yes; given = [] })
-turn_by (Some list) c rs = script list c rs
-
-abbrev pub answer_by : Option NetList → Command → Finish → Answer
-answer_by None c finish = Yes
-answer_by (Some list) c finish = answer_of list c finish
-
 -- the script's answer, else a stop, else a call
 abbrev pub next_by : Option NetList → Command → ℕ → Bool → Turn → Next
 next_by list c made cut (Finishes finish) = next.Answer (answer_by list c finish)
@@ -149,3 +139,21 @@ IsReady w n c = MayStep (commands_of w.plan) w.answers w.round n c
 
 abbrev pub IsRoundOver : World → Type 0
 IsRoundOver w = (n : ℕ) (c : Placed) → slice_get (commands_of w.plan) n ≡ Some c → c.round ≡ w.round → IsAnswered w n
+
+-- the command of this number, from 1, may step
+abbrev pub IsReadyNumber : World → ℕ → Type 0
+IsReadyNumber w number = (n : ℕ) × (c : Placed) × (number ≡ n + 1) × IsReady w n c
+
+-- ---- as a book shows it
+
+-- a book of this plan as it is begun
+abbrev pub begun : Plan → World
+begun p = record { plan = p; history = []; answers = map (λ (c : Placed). None) (commands_of p); round = 0 }
+
+abbrev pub answer_or_none : Option (Option Answer) → Option Answer
+answer_or_none None = None
+answer_or_none (Some o) = o
+
+-- the answer of the command of this number, from 1
+abbrev pub answer_at : World → ℕ → Option Answer
+answer_at w number = if number == 0 then None else answer_or_none (slice_get w.answers (number - 1))

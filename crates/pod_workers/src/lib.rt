@@ -10,8 +10,11 @@
 //! ```
 #![tactic(auto)]
 
+pub mod book;
+mod join;
 pub mod laws;
 pub mod plan;
 
+pub use book::Book;
 pub use laws::{every_call_may_be_made, every_host_is_sound, no_address_is_leased_twice};
 pub use plan::{Entry, Next, Plan, PlanError, StepEnd};

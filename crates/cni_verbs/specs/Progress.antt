@@ -1,0 +1,49 @@
+-- How far the run of a command has come.
+use Rattle.std.specs.Prelude.{ℕ, ◌+◌, List, [], length, Option, Some, None}
+use Rattle.net_conf.specs.declared.list.NetList.{NetList}
+use Rattle.pod_file.specs.declared.command.Command.{Command}
+use Rattle.kernel_types.specs.declared.call.Reply.{Reply}
+use Rattle.cni_verbs.specs.Answers.{answer_of}
+use Rattle.cni_verbs.specs.Script.{State, Over, Turn, Finishes, Finish, script, state_after, advance}
+use Rattle.cni_verbs.specs.declared.answer.Answer.{Answer}
+use Rattle.cni_verbs.specs.declared.answer.Answer.TheVariants as answers
+use Rattle.cni_verbs.specs.declared.answer.Ending.TheVariants.{Yes}
+
+-- the list of the command's network, the command, how many replies it was given, and what is left to do
+pub record Progress : Type 0 where
+  pub list : Option NetList
+  pub command : Command
+  pub made : ℕ
+  pub state : State
+
+-- a command of no network has nothing to do
+abbrev pub state_by : Option NetList → Command → List Reply → State
+state_by None c rs = Over Yes []
+state_by (Some list) c rs = state_after list c rs
+
+-- the run of a command that was given these replies
+abbrev pub progress : Option NetList → Command → List Reply → Progress
+progress list c rs = record { list = list; command = c; made = length rs; state = state_by list c rs }
+
+-- the state after one more reply, which has this number
+abbrev pub advance_by : Option NetList → Command → ℕ → State → Reply → State
+advance_by None c number s r = s
+advance_by (Some list) c number s r = advance list c number s r
+
+abbrev pub advanced : Progress → Reply → Progress
+advanced p r = record {
+  list = p.list;
+  command = p.command;
+  made = p.made + 1;
+  state = advance_by p.list p.command (p.made + 1) p.state r;
+}
+
+-- the script of a command
+abbrev pub turn_by : Option NetList → Command → List Reply → Turn
+turn_by None c rs = Finishes (record { ending = Yes; given = [] })
+turn_by (Some list) c rs = script list c rs
+
+-- the answer of a command whose script ends so
+abbrev pub answer_by : Option NetList → Command → Finish → Answer
+answer_by None c finish = answers.Yes
+answer_by (Some list) c finish = answer_of list c finish
