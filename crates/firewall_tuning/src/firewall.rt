@@ -4,16 +4,67 @@ ghost use Rattle.std.specs.Prelude.{◌≡◌, ◌∷◌, [], IfOk};
 ghost use Rattle.kernel_types.specs.declared.call.Kind.TheVariants as kind;
 ghost use Rattle.firewall_tuning.specs.Firewall as plan;
 
-use cni_addr::{Duplicate, Items, NoMemory};
-use cni_result::AddResult;
-use kernel_types::{Att, Call, Kind};
+use cni_addr::{Addr, Duplicate, Items, NoMemory, whole};
+use cni_result::{AddResult, IpEntry};
+use kernel_types::{Att, Call, Chain, Kind, Rule, Table, Tag, Target};
+use plan_words::{ask_all, push_unless_there};
 use std::alloc::Global;
+
+/// What answers the address is let through.
+fn accept_replies_to(att: &Att, addr: &Addr) -> Result<Rule, NoMemory>
+    ensures { IfOk result (λ rule. rule ≡ plan.accept_replies_to att.now addr.now) }
+{
+    Ok(Rule {
+        table: Table::Filter,
+        chain: Chain::Forward,
+        src: None,
+        dst: Some(whole(addr)),
+        not_dst: false,
+        protocol: None,
+        dport: None,
+        established: true,
+        target: Target::Accept,
+        tag: Tag::Own(att.copy()?),
+    })
+}
+
+/// All that the address sends is let through.
+fn accept_from(att: &Att, addr: &Addr) -> Result<Rule, NoMemory>
+    ensures { IfOk result (λ rule. rule ≡ plan.accept_from att.now addr.now) }
+{
+    Ok(Rule {
+        table: Table::Filter,
+        chain: Chain::Forward,
+        src: Some(whole(addr)),
+        dst: None,
+        not_dst: false,
+        protocol: None,
+        dport: None,
+        established: false,
+        target: Target::Accept,
+        tag: Tag::Own(att.copy()?),
+    })
+}
+
+fn firewall_rules(alloc: Global, att: &Att, ips: &[IpEntry]) -> Result<Vec<Rule>, NoMemory>
+    ensures { IfOk result (λ rules. rules.items ≡ plan.firewall_rules att.now ips.now) }
+{
+    let mut rules = Vec::new(alloc);
+    for ip in ips {
+        push_unless_there(&mut rules, accept_replies_to(att, &ip.address.addr)?)?;
+        push_unless_there(&mut rules, accept_from(att, &ip.address.addr)?)?;
+    }
+    Ok(rules)
+}
 
 /// The rules of each address of the result before: replies to it and everything from it are forwarded.
 pub fn firewall_calls(alloc: Global, att: &Att, prev: &AddResult) -> Result<Items<Call>, NoMemory>
     ensures { IfOk result (λ calls. calls ≡ plan.firewall_calls_of att.now prev.now.ips) }
 {
-    Err(NoMemory)
+    let rules = firewall_rules(alloc, att, prev.ips.as_slice())?;
+    let mut calls = Vec::new(alloc);
+    ask_all(&mut calls, rules.as_slice())?;
+    Ok(Items::of_vec(calls))
 }
 
 /// The result, which is the one before.

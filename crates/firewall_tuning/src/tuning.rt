@@ -23,7 +23,11 @@ pub fn tuning_calls(
 }
 
 /// The result before, with the configured hardware address and MTU of the container's end.
-pub fn tuning_result(alloc: Global, conf: &TuningConf, prev: &AddResult) -> Result<AddResult, NoMemory>
+pub fn tuning_result(
+    alloc: Global,
+    conf: &TuningConf,
+    prev: &AddResult,
+) -> Result<AddResult, NoMemory>
     ensures { IfOk result (λ r. r ≡ plan.tuning_result_of conf.now prev.now) }
 {
     Err(NoMemory)
