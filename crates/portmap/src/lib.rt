@@ -8,15 +8,203 @@
 //! ```
 #![tactic(auto)]
 
-ghost use Rattle.std.specs.Prelude.{◌≡◌, ◌∷◌, [], IfOk};
+ghost use Rattle.std.specs.Prelude.{◌≡◌, ◌∷◌, [], find, fold, option_map, IfOk, OnOk};
+ghost use Rattle.std.specs.Option.{option_copied};
+ghost use Rattle.cni_addr.specs.Codes.{family_eq};
+ghost use Rattle.cni_addr.specs.Network as network;
+ghost use Rattle.kernel_types.specs.Equal.{rule_eq};
 ghost use Rattle.kernel_types.specs.declared.call.Kind.TheVariants as kind;
+ghost use Rattle.plan_words.specs.Keys.{push_unless_there};
 ghost use Rattle.portmap.specs.Portmap as plan;
 
-use cni_addr::{Duplicate, Items, NoMemory};
-use cni_result::{AddResult, PortMapping};
-use kernel_types::{Att, Call, Kind};
+use cni_addr::{Addr, Cidr, Duplicate, Family, Items, NoMemory, network_of, whole};
+use cni_result::{AddResult, IpEntry, PortMapping};
+use kernel_types::{Att, Call, Chain, Kind, Rule, Table, Tag, Target};
 use net_conf::PortmapConf;
+use plan_words::{ask_all, push_unless_there};
 use std::alloc::Global;
+
+/// `127.0.0.1/32`
+fn loopback() -> Cidr
+    ensures { result ≡ plan.loopback }
+{
+    Cidr {
+        addr: Addr {
+            family: Family::V4,
+            bits: (127 << 24) + 1,
+        },
+        prefix: 32,
+    }
+}
+
+fn host_ip_allows(mapping: &PortMapping, addr: &Addr) -> bool
+    ensures { result ≡ plan.host_ip_allows mapping.now.host_ip addr.now }
+{
+    match mapping.host_ip {
+        Some(host_ip) => host_ip.family == addr.family,
+        None => true,
+    }
+}
+
+fn host_network(mapping: &PortMapping) -> Option<Cidr>
+    ensures { result ≡ option_map network.whole mapping.now.host_ip }
+{
+    match mapping.host_ip {
+        Some(host_ip) => Some(whole(&host_ip)),
+        None => None,
+    }
+}
+
+/// What comes to the port of the host goes on to the container.
+fn dnat_of(att: &Att, mapping: &PortMapping, addr: &Addr) -> Result<Rule, NoMemory>
+    ensures { IfOk result (λ rule. rule ≡ plan.dnat_of att.now mapping.now addr.now) }
+{
+    Ok(Rule {
+        table: Table::Nat,
+        chain: Chain::Dnat,
+        src: None,
+        dst: host_network(mapping),
+        not_dst: false,
+        protocol: Some(mapping.protocol),
+        dport: Some(mapping.host_port),
+        established: false,
+        target: Target::Dnat {
+            addr: *addr,
+            port: mapping.container_port,
+        },
+        tag: Tag::Own(att.copy()?),
+    })
+}
+
+/// What comes from this network to the container's port is masqueraded, so that replies come back by the host.
+fn hostport_masquerade(
+    att: &Att,
+    mapping: &PortMapping,
+    addr: &Addr,
+    src: Cidr,
+) -> Result<Rule, NoMemory>
+    ensures { IfOk result (λ rule. rule ≡ plan.hostport_masquerade att.now mapping.now addr.now src) }
+{
+    Ok(Rule {
+        table: Table::Nat,
+        chain: Chain::HostMasq,
+        src: Some(src),
+        dst: Some(whole(addr)),
+        not_dst: false,
+        protocol: Some(mapping.protocol),
+        dport: Some(mapping.container_port),
+        established: false,
+        target: Target::Masquerade,
+        tag: Tag::Own(att.copy()?),
+    })
+}
+
+/// From the host itself. IPv6 has no route from the loopback address to another link.
+fn push_from_host(
+    rules: &mut Vec<Rule>,
+    att: &Att,
+    mapping: &PortMapping,
+    addr: &Addr,
+) -> Result<(), NoMemory>
+    ensures { OnOk result (rules.new.items ≡ fold (push_unless_there rule_eq) rules.old.items (plan.from_host att.now mapping.now addr.now addr.now.family)) }
+{
+    match addr.family {
+        Family::V4 => {
+            push_unless_there(rules, hostport_masquerade(att, mapping, addr, loopback())?)
+        }
+        Family::V6 => Ok(()),
+    }
+}
+
+fn push_masquerades(
+    rules: &mut Vec<Rule>,
+    snat: bool,
+    att: &Att,
+    ip: &IpEntry,
+    mapping: &PortMapping,
+) -> Result<(), NoMemory>
+    ensures { OnOk result (rules.new.items ≡ fold (push_unless_there rule_eq) rules.old.items (plan.masquerades_of snat att.now ip.now mapping.now)) }
+{
+    if snat {
+        let addr = ip.address.addr;
+        let own_network = network_of(&ip.address);
+        push_unless_there(
+            rules,
+            hostport_masquerade(att, mapping, &addr, own_network)?,
+        )?;
+        push_from_host(rules, att, mapping, &addr)?;
+    }
+    Ok(())
+}
+
+/// The rules of a mapping to one address, unless the mapping asks for a host address of the other family.
+fn push_rules_to(
+    rules: &mut Vec<Rule>,
+    snat: bool,
+    att: &Att,
+    mapping: &PortMapping,
+    ip: &IpEntry,
+) -> Result<(), NoMemory>
+    ensures { OnOk result (rules.new.items ≡ fold (push_unless_there rule_eq) rules.old.items (plan.rules_for snat att.now mapping.now (Some ip.now))) }
+{
+    if host_ip_allows(mapping, &ip.address.addr) {
+        push_unless_there(rules, dnat_of(att, mapping, &ip.address.addr)?)?;
+        push_masquerades(rules, snat, att, ip, mapping)?;
+    }
+    Ok(())
+}
+
+fn first_of_family<'a>(ips: &'a [IpEntry], family: Family) -> Option<&'a IpEntry>
+    ensures { option_copied result ≡ find (λ ip. family_eq ip.address.addr.family family) ips.now }
+{
+    ips.iter().find(|ip| ip.address.addr.family == family)
+}
+
+fn push_rules_for(
+    rules: &mut Vec<Rule>,
+    snat: bool,
+    att: &Att,
+    ips: &[IpEntry],
+    mapping: &PortMapping,
+    family: Family,
+) -> Result<(), NoMemory>
+    ensures { OnOk result (rules.new.items ≡ fold (push_unless_there rule_eq) rules.old.items (plan.rules_for snat att.now mapping.now (find (λ ip. family_eq ip.address.addr.family family) ips.now))) }
+{
+    match first_of_family(ips, family) {
+        Some(ip) => push_rules_to(rules, snat, att, mapping, ip),
+        None => Ok(()),
+    }
+}
+
+/// The rules of a mapping, for the first address of each family, IPv4 first.
+fn push_mapping_rules(
+    rules: &mut Vec<Rule>,
+    snat: bool,
+    att: &Att,
+    ips: &[IpEntry],
+    mapping: &PortMapping,
+) -> Result<(), NoMemory>
+    ensures { OnOk result (rules.new.items ≡ fold (push_unless_there rule_eq) rules.old.items (plan.mapping_rules snat att.now ips.now mapping.now)) }
+{
+    push_rules_for(rules, snat, att, ips, mapping, Family::V4)?;
+    push_rules_for(rules, snat, att, ips, mapping, Family::V6)
+}
+
+fn portmap_rules(
+    alloc: Global,
+    conf: &PortmapConf,
+    att: &Att,
+    mappings: &[PortMapping],
+    ips: &[IpEntry],
+) -> Result<Vec<Rule>, NoMemory>
+    ensures { IfOk result (λ rules. rules.items ≡ plan.portmap_rules conf.now att.now mappings.now ips.now) }
+{
+    let mut rules = Vec::new(alloc);
+    for mapping in mappings {
+        push_mapping_rules(&mut rules, conf.snat, att, ips, mapping)?;
+    }
+    Ok(rules)
+}
 
 /// The rules of each mapping, for the first address of each family that the attachment was given. None without an address.
 pub fn calls(
@@ -28,7 +216,10 @@ pub fn calls(
 ) -> Result<Items<Call>, NoMemory>
     ensures { IfOk result (λ all. all ≡ plan.portmap_calls_of conf.now att.now mappings.now prev.now.ips) }
 {
-    Err(NoMemory)
+    let rules = portmap_rules(alloc, conf, att, mappings, prev.ips.as_slice())?;
+    let mut all = Vec::new(alloc);
+    ask_all(&mut all, rules.as_slice())?;
+    Ok(Items::of_vec(all))
 }
 
 /// The result, which is the one before.
