@@ -17,11 +17,9 @@ use Rattle.plan_words.specs.Keys.{each_key_once}
 use Rattle.plan_words.specs.Shapes.{host_end, inner_end, address_on, route_on, masquerade_rules, forward_calls}
 use Rattle.plan_words.specs.Share.{Share, no_objects}
 use Rattle.bridge_ptp.specs.Bridge.{rule_kinds}
-
--- an address or a route, in the order in which they are call_for for
-pub data AddressOrRoute : Type 0 where
-  Address : (obj : AddrObj) → AddressOrRoute
-  Route : (obj : RouteObj) → AddressOrRoute
+-- an address or a route, in the order in which they are asked for
+pub use Rattle.bridge_ptp.specs.declared.ptp.AddressOrRoute.{AddressOrRoute}
+pub use Rattle.bridge_ptp.specs.declared.ptp.AddressOrRoute.TheVariants.{Address, Route}
 
 abbrev pub same_key : AddressOrRoute → AddressOrRoute → Bool
 same_key (Address a) (Address b) = is_same_addr a b

@@ -1,14 +1,65 @@
 //! The `ptp` plugin.
 
-ghost use Rattle.std.specs.Prelude.{◌≡◌, IfOk};
+ghost use Rattle.std.specs.Prelude.{◌≡◌, [], ◌∷◌, map, flat_map, fold, None, IfOk, OnOk};
+ghost use Rattle.cni_addr.specs.Network as network;
+ghost use Rattle.kernel_types.specs.Names.{host_name_of};
+ghost use Rattle.kernel_types.specs.declared.object.Tag.TheVariants as tags;
+ghost use Rattle.plan_words.specs.Keys.{each_key_once, push_unless_there};
+ghost use Rattle.plan_words.specs.Shapes as shapes;
 ghost use Rattle.bridge_ptp.specs.Ptp as plan;
 ghost use Rattle.bridge_ptp.specs.Results as results;
 
-use cni_addr::{Items, NoMemory, Text};
-use cni_result::AddResult;
-use kernel_types::{Att, Call, Given, Kind};
+use crate::interfaces::{host_interface, inner_interface, ips_at};
+use cni_addr::{Addr, Cidr, Duplicate, Items, NoMemory, Text, whole};
+use cni_result::{AddResult, Interface, RouteEntry, Version};
+use kernel_types::{AddrObj, Att, Call, Given, Kind, RouteObj, Tag};
 use net_conf::PtpConf;
+use plan_words::{
+    Asked, address_on, ask_all, ask_forward, host_end, inner_end, masquerade_rules,
+    push_unless_there, route_on,
+};
 use std::alloc::Global;
+
+/// An address or a route: the plan asks for both in one order.
+#[derive(Drop)]
+pub enum AddressOrRoute {
+    Address(AddrObj),
+    Route(RouteObj),
+}
+
+impl Duplicate for AddressOrRoute {
+    fn copy(&self) -> Result<AddressOrRoute, NoMemory> {
+        match self {
+            AddressOrRoute::Address(obj) => Ok(AddressOrRoute::Address(obj.copy()?)),
+            AddressOrRoute::Route(obj) => Ok(AddressOrRoute::Route(obj.copy()?)),
+        }
+    }
+}
+
+impl Asked for AddressOrRoute {
+    ghost use Rattle.bridge_ptp.specs.Ptp as plan;
+
+    ghost same_key = { plan.same_key };
+
+    ghost call_for = { plan.call_for };
+
+    fn has_key(&self, other: &AddressOrRoute) -> bool {
+        match (self, other) {
+            (AddressOrRoute::Address(a), AddressOrRoute::Address(b)) => a.has_key(b),
+            (AddressOrRoute::Route(a), AddressOrRoute::Route(b)) => a.has_key(b),
+            _ => false,
+        }
+    }
+
+    fn ask(self) -> Call {
+        match self {
+            AddressOrRoute::Address(obj) => obj.ask(),
+            AddressOrRoute::Route(obj) => obj.ask(),
+        }
+    }
+}
+
+// ---- before the addresses
 
 /// The calls before an address is leased: the veth pair.
 pub fn ptp_before(
@@ -19,7 +70,132 @@ pub fn ptp_before(
 ) -> Result<Items<Call>, NoMemory>
     ensures { IfOk result (λ calls. calls ≡ plan.ptp_calls_before conf.now att.now netns.now) }
 {
-    Err(NoMemory)
+    let host_end = host_end(alloc, att, netns, None, conf.mtu, false)?;
+    let inner_end = inner_end(alloc, att, netns, conf.mtu)?;
+    let mut calls = Items::new(alloc);
+    calls.push(Call::VethAdd {
+        host_end,
+        inner_end,
+    })?;
+    Ok(calls)
+}
+
+// ---- what lies on both ends
+
+fn route_inside(att: &Att, netns: &Text, dst: Cidr, gw: Option<Addr>) -> Result<RouteObj, NoMemory>
+    ensures { IfOk result (λ obj. obj ≡ record { ns = netns.now; dst = dst; link = att.now.ifname; gw = gw; tag = tags.Own att.now }) }
+{
+    Ok(RouteObj {
+        ns: netns.copy()?,
+        dst,
+        link: att.ifname.copy()?,
+        gw,
+        tag: Tag::Own(att.copy()?),
+    })
+}
+
+/// The gateway is an address of the host's end.
+fn gateway_on_host(alloc: Global, att: &Att, gateway: &Addr) -> Result<AddrObj, NoMemory>
+    ensures { IfOk result (λ obj. obj ≡ record { ns = []; link = host_name_of att.now; cidr = network.whole gateway.now; tag = tags.Own att.now }) }
+{
+    Ok(AddrObj {
+        ns: Text::of(alloc, "")?,
+        link: att.host_name(alloc)?,
+        cidr: whole(gateway),
+        tag: Tag::Own(att.copy()?),
+    })
+}
+
+/// The host reaches the address by its own end.
+fn route_on_host(alloc: Global, att: &Att, addr: &Addr) -> Result<RouteObj, NoMemory>
+    ensures { IfOk result (λ obj. obj ≡ record { ns = []; dst = network.whole addr.now; link = host_name_of att.now; gw = None; tag = tags.Own att.now }) }
+{
+    Ok(RouteObj {
+        ns: Text::of(alloc, "")?,
+        dst: whole(addr),
+        link: att.host_name(alloc)?,
+        gw: None,
+        tag: Tag::Own(att.copy()?),
+    })
+}
+
+fn push_address(objects: &mut Vec<AddressOrRoute>, obj: AddrObj) -> Result<(), NoMemory>
+    ensures { OnOk result (objects.new.items ≡ push_unless_there plan.same_key objects.old.items (plan.Address obj)) }
+{
+    push_unless_there(objects, AddressOrRoute::Address(obj))
+}
+
+fn push_route(objects: &mut Vec<AddressOrRoute>, obj: RouteObj) -> Result<(), NoMemory>
+    ensures { OnOk result (objects.new.items ≡ push_unless_there plan.same_key objects.old.items (plan.Route obj)) }
+{
+    push_unless_there(objects, AddressOrRoute::Route(obj))
+}
+
+/// What lies on both ends for one address. Inside, the gateway is reached without a gateway and the subnet by it.
+fn push_objects_for(
+    alloc: Global,
+    objects: &mut Vec<AddressOrRoute>,
+    att: &Att,
+    netns: &Text,
+    given: &Given,
+) -> Result<(), NoMemory>
+    ensures { OnOk result (objects.new.items ≡ fold (push_unless_there plan.same_key) objects.old.items (plan.ptp_objects_for att.now netns.now given.now)) }
+{
+    push_address(objects, address_on(att, netns, given)?)?;
+    push_route(
+        objects,
+        route_inside(att, netns, whole(&given.gateway), None)?,
+    )?;
+    push_route(
+        objects,
+        route_inside(att, netns, given.subnet, Some(given.gateway))?,
+    )?;
+    push_address(objects, gateway_on_host(alloc, att, &given.gateway)?)?;
+    push_route(objects, route_on_host(alloc, att, &given.address.addr)?)
+}
+
+fn objects_for_each(
+    alloc: Global,
+    att: &Att,
+    netns: &Text,
+    given: &[Given],
+) -> Result<Vec<AddressOrRoute>, NoMemory>
+    ensures { IfOk result (λ objects. objects.items ≡ each_key_once plan.same_key (flat_map (plan.ptp_objects_for att.now netns.now) given.now)) }
+{
+    let mut objects = Vec::new(alloc);
+    for g in given {
+        push_objects_for(alloc, &mut objects, att, netns, g)?;
+    }
+    Ok(objects)
+}
+
+fn push_routes(
+    objects: &mut Vec<AddressOrRoute>,
+    att: &Att,
+    netns: &Text,
+    given: &[Given],
+    entries: &[RouteEntry],
+) -> Result<(), NoMemory>
+    ensures { OnOk result (objects.new.items ≡ fold (push_unless_there plan.same_key) objects.old.items (map (λ r. plan.Route (shapes.route_on att.now netns.now given.now r)) entries.now)) }
+{
+    for entry in entries {
+        push_route(objects, route_on(att, netns, given, entry)?)?;
+    }
+    Ok(())
+}
+
+fn ptp_objects(
+    alloc: Global,
+    conf: &PtpConf,
+    att: &Att,
+    netns: &Text,
+    given: &[Given],
+) -> Result<Vec<AddressOrRoute>, NoMemory>
+    ensures { IfOk result (λ objects. objects.items ≡ plan.ptp_objects conf.now att.now netns.now given.now) }
+{
+    let mut objects = objects_for_each(alloc, att, netns, given)?;
+    push_routes(&mut objects, att, netns, given, conf.ipam.routes.as_slice())?;
+    Ok(objects)
 }
 
 /// The calls for the given addresses: addresses and routes on both ends, forwarding, and with `ipMasq` the masquerade
@@ -33,7 +209,30 @@ pub fn ptp_after(
 ) -> Result<Items<Call>, NoMemory>
     ensures { IfOk result (λ calls. calls ≡ plan.ptp_calls_after conf.now att.now netns.now given.now) }
 {
-    Err(NoMemory)
+    let objects = ptp_objects(alloc, conf, att, netns, given)?;
+    let rules = masquerade_rules(alloc, conf.ip_masq, att, given)?;
+    let mut calls = Vec::new(alloc);
+    ask_all(&mut calls, objects.as_slice())?;
+    ask_forward(&mut calls, given)?;
+    ask_all(&mut calls, rules.as_slice())?;
+    Ok(Items::of_vec(calls))
+}
+
+// ---- the result
+
+fn interfaces(
+    alloc: Global,
+    conf: &PtpConf,
+    att: &Att,
+    netns: &Text,
+    version: Version,
+) -> Result<Items<Interface>, NoMemory>
+    ensures { IfOk result (λ all. all ≡ results.host_interface att.now conf.now.mtu version ∷ results.inner_interface att.now netns.now conf.now.mtu version ∷ []) }
+{
+    let mut all = Vec::with_capacity(alloc, 2)?;
+    all.push(host_interface(alloc, att, conf.mtu, version)?)?;
+    all.push(inner_interface(att, netns, conf.mtu, version)?)?;
+    Ok(Items::of_vec(all))
 }
 
 /// The result of the address plugin with both ends and the index of the container's.
@@ -46,12 +245,26 @@ pub fn ptp_result(
 ) -> Result<AddResult, NoMemory>
     ensures { IfOk result (λ r. r ≡ results.ptp_result_of conf.now att.now netns.now ipam.now) }
 {
-    Err(NoMemory)
+    Ok(AddResult {
+        version: ipam.version,
+        interfaces: interfaces(alloc, conf, att, netns, ipam.version)?,
+        ips: ips_at(alloc, 1, ipam.ips.as_slice())?,
+        routes: ipam.routes.copy()?,
+        dns: conf.dns.copy()?,
+    })
 }
+
+// ---- the kinds
 
 /// The kinds of objects that DEL takes back.
 pub fn ptp_kinds(alloc: Global, conf: &PtpConf) -> Result<Items<Kind>, NoMemory>
     ensures { IfOk result (λ kinds. kinds ≡ plan.ptp_kinds_of conf.now) }
 {
-    Err(NoMemory)
+    let mut kinds = Items::new(alloc);
+    kinds.push(Kind::Links)?;
+    if conf.ip_masq {
+        kinds.push(Kind::Rules)?;
+    }
+    kinds.push(Kind::Leases)?;
+    Ok(kinds)
 }
