@@ -10,12 +10,15 @@
 #![tactic(auto)]
 
 ghost use Rattle.std.specs.Prelude.{◌≡◌, IfOk};
+ghost use Rattle.host_local.specs.Conf.{routes_of};
 ghost use Rattle.macvlan.specs.Macvlan as plan;
 
-use cni_addr::{Items, NoMemory, Text};
-use cni_result::AddResult;
+use bridge_ptp::interfaces::{inner_interface, ips_at};
+use cni_addr::{Duplicate, Items, NoMemory, Text};
+use cni_result::{AddResult, RouteEntry};
 use kernel_types::{Att, Call, Given, Kind};
-use net_conf::MacvlanConf;
+use net_conf::{HostLocalConf, MacvlanConf};
+use plan_words::{addresses_on, ask_all, macvlan_link, routes_on};
 use std::alloc::Global;
 
 /// The calls before an address is leased: the link.
@@ -27,7 +30,22 @@ pub fn before(
 ) -> Result<Items<Call>, NoMemory>
     ensures { IfOk result (λ calls. calls ≡ plan.macvlan_calls_before conf.now att.now netns.now) }
 {
-    Err(NoMemory)
+    let link = macvlan_link(att, netns, &conf.master, conf.mode, conf.mtu)?;
+    let mut calls = Items::new(alloc);
+    calls.push(Call::MacvlanAdd { link })?;
+    Ok(calls)
+}
+
+fn configured_routes(
+    alloc: Global,
+    ipam: &Option<HostLocalConf>,
+) -> Result<Items<RouteEntry>, NoMemory>
+    ensures { IfOk result (λ entries. entries ≡ routes_of ipam.now) }
+{
+    match ipam {
+        Some(conf) => conf.routes.copy(),
+        None => Ok(Items::new(alloc)),
+    }
 }
 
 /// The calls for the given addresses: addresses and routes of the container.
@@ -40,7 +58,13 @@ pub fn after(
 ) -> Result<Items<Call>, NoMemory>
     ensures { IfOk result (λ calls. calls ≡ plan.macvlan_calls_after conf.now att.now netns.now given.now) }
 {
-    Err(NoMemory)
+    let entries = configured_routes(alloc, &conf.ipam)?;
+    let addresses = addresses_on(alloc, att, netns, given)?;
+    let routes = routes_on(alloc, att, netns, given, entries.as_slice())?;
+    let mut calls = Vec::new(alloc);
+    ask_all(&mut calls, addresses.as_slice())?;
+    ask_all(&mut calls, routes.as_slice())?;
+    Ok(Items::of_vec(calls))
 }
 
 /// The result of the address plugin with the link and its index.
@@ -53,12 +77,25 @@ pub fn result(
 ) -> Result<AddResult, NoMemory>
     ensures { IfOk result (λ r. r ≡ plan.macvlan_result_of conf.now att.now netns.now ipam.now) }
 {
-    Err(NoMemory)
+    let mut interfaces = Items::new(alloc);
+    interfaces.push(inner_interface(att, netns, conf.mtu, ipam.version)?)?;
+    Ok(AddResult {
+        version: ipam.version,
+        interfaces,
+        ips: ips_at(alloc, 0, ipam.ips.as_slice())?,
+        routes: ipam.routes.copy()?,
+        dns: conf.dns.copy()?,
+    })
 }
 
 /// The kinds of objects that DEL takes back.
 pub fn kinds(alloc: Global, conf: &MacvlanConf) -> Result<Items<Kind>, NoMemory>
     ensures { IfOk result (λ all. all ≡ plan.macvlan_kinds_of conf.now) }
 {
-    Err(NoMemory)
+    let mut all = Items::new(alloc);
+    all.push(Kind::Links)?;
+    if conf.ipam.is_some() {
+        all.push(Kind::Leases)?;
+    }
+    Ok(all)
 }
