@@ -1,7 +1,7 @@
 -- A command of a pod file, key by key in the order of its refusals. Each key is tested at every verb.
-use Rattle.std.specs.Prelude.{ℕ, ◌&&◌, List, [], codes, Bool, true, false, nat_le, if◌then◌else◌, Result, Ok, Err, Option, Some, None, ⊤}
+use Rattle.std.specs.Prelude.{ℕ, ◌&&◌, List, [], codes, Bool, true, false, nat_le, if◌then◌else◌, Result, Ok, Option, Some, None, ⊤}
 use Rattle.std.specs.Str.{bytes_eq}
-use Rattle.serde_json.specs.Data.{Data, null, boolean, number, string, array, object, Items}
+use Rattle.serde_json.specs.Data.{Data, object, Items}
 use Rattle.cni_json.specs.Fields.{text_field, list_field, u64_field, u64_of}
 use Rattle.cni_json.specs.Outcome.{◌>>=◌}
 use Rattle.cni_json.specs.declared.fields.Field.{Field}

@@ -1,5 +1,5 @@
 -- Lists of members, each read up to the first refusal.
-use Rattle.std.specs.Prelude.{ℕ, ◌+◌, List, [], ◌∷◌, ◌++◌, Result, Ok, Err}
+use Rattle.std.specs.Prelude.{ℕ, ◌+◌, List, [], ◌∷◌, ◌++◌, Result, Ok}
 use Rattle.serde_json.specs.Data.{Data, Items, no_items, item}
 use Rattle.cni_json.specs.Outcome.{◌>>=◌}
 use Rattle.pod_file.specs.declared.error.PodError.{PodError}

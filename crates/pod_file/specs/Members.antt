@@ -1,6 +1,6 @@
 -- Members of a command, each with its refusal: the place is the command's, `outer` the command's key that holds the member.
-use Rattle.std.specs.Prelude.{ℕ, List, [], codes, Result, Ok, Err, ⊤}
-use Rattle.serde_json.specs.Data.{Data, null, boolean, number, string, array, object, Items}
+use Rattle.std.specs.Prelude.{ℕ, List, [], codes, Result, Ok, ⊤}
+use Rattle.serde_json.specs.Data.{Data, object, Items}
 use Rattle.cni_json.specs.Fields.{text_field, list_field, u64_field}
 use Rattle.cni_json.specs.Outcome.{◌>>=◌}
 use Rattle.cni_json.specs.declared.fields.Field.{Field}

@@ -1,6 +1,6 @@
 -- A pod file, part by part in the order of its refusals. The format is this project's own.
 use Rattle.std.specs.Prelude.{ℕ, List, [], Result, Ok, Err, ⊤}
-use Rattle.serde_json.specs.Data.{Data, null, boolean, number, string, array, object}
+use Rattle.serde_json.specs.Data.{Data, object}
 use Rattle.cni_json.specs.Json.{json_of}
 use Rattle.cni_json.specs.Outcome.{◌>>=◌}
 use Rattle.cni_json.specs.declared.reading.ReadEnd.{ReadEnd}

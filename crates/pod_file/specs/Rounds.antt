@@ -1,9 +1,8 @@
 -- The rounds of a pod file: how many there may be, which commands stand alone, and how commands are numbered.
 use Rattle.std.specs.Prelude.{ℕ, ◌+◌, ◌&&◌, ◌||◌, List, [], ◌∷◌, length, codes, Bool, true, false, not, nat_le, if◌then◌else◌, Result, Ok, Err, ⊤}
 use Rattle.std.specs.List.{list_any}
-use Rattle.serde_json.specs.Data.{Data, null, boolean, number, string, array, object, Items}
+use Rattle.serde_json.specs.Data.{Data, array, Items}
 use Rattle.cni_json.specs.Fields.{list_field}
-use Rattle.cni_json.specs.Outcome.{◌>>=◌}
 use Rattle.cni_json.specs.declared.fields.Field.{Field}
 use Rattle.cni_json.specs.declared.fields.Field.TheVariants.{Absent, WrongKind, Here}
 use Rattle.pod_file.specs.Commands.{command_at}

@@ -1,0 +1,200 @@
+-- What the opening of a pod file keeps that is read.
+use Rattle.std.proofs.Common.{◌≡◌, ℕ, ◌+◌, Bool, true, false, not, List, [], ◌∷◌, ◌++◌, codes, Ok, Err, refl, sym, ◌∙◌, subst}
+use Rattle.std.specs.Prelude.{◌&&◌, ◌||◌, if◌then◌else◌, map, is_none}
+use Rattle.std.specs.List.{list_any}
+use Rattle.std.specs.Str.{bytes_eq}
+use Rattle.std.proofs.lemmas.Bool.{or_parts}
+use Rattle.std.proofs.lemmas.Slice.Eq.{bytes_eq-Decides}
+use Rattle.serde_json.specs.Data.{Data, null, boolean, number, string, array, object, Items, no_items, item}
+use Rattle.cni_json.specs.Fields.{text_field, list_field, object_field}
+use Rattle.cni_json.specs.declared.fields.Field.{Field}
+use Rattle.cni_json.specs.declared.fields.Field.TheVariants.{Absent, WrongKind, Here}
+use Rattle.kernel_types.proofs.ListLemmas.{list_all-push, list_all-weaker, list_any-map, list_any-none, list_any-weaker, distinct-push}
+use Rattle.kernel_types.proofs.Opening.{IsSound-opening_with}
+use Rattle.kernel_types.specs.Equal.{tag_eq}
+use Rattle.kernel_types.specs.Opening.{opening_with, outside_namespace, AreNamespaceNames, AreOutsideLinks, is_outside_link}
+use Rattle.kernel_types.specs.Sound.{is_shared_kind}
+use Rattle.kernel_types.specs.Words.{is_at, is_host_ns, is_host_or_ns}
+use Rattle.kernel_types.specs.declared.object.Host.{Host}
+use Rattle.kernel_types.specs.declared.object.Link.{Link}
+use Rattle.kernel_types.specs.declared.object.LinkKind.{LinkKind}
+use Rattle.kernel_types.specs.declared.object.LinkKind.TheVariants.{Device, Bridge}
+use Rattle.kernel_types.specs.declared.object.Tag.TheVariants.{Outside}
+use Rattle.pod_file.proofs.Endings.{goes, ok_same, passed, not_refused}
+use Rattle.pod_file.specs.Links.{link_object, name_at, kind_of, kind_at, is_place, ns_of, ns_at, mtu_at, outside_link, not_taken, link_at, links_after, links_of, links_at}
+use Rattle.pod_file.specs.Opening.{cannot_be_added, namespace_at, namespaces_after, namespaces_of, namespaces_at, opening_members_at, opening_of, opening_at}
+use Rattle.pod_file.specs.WellFormed.{IsOpening}
+use Rattle.pod_file.specs.declared.error.PodError.{PodError}
+
+bytes_eq-swap : (s t : List ℕ) → bytes_eq s t ≡ true → bytes_eq t s ≡ true
+bytes_eq-swap s t same = (bytes_eq-Decides t s).1 (sym ((bytes_eq-Decides s t).0 same))
+
+-- ---- namespaces
+
+namespace_at-ok : (before : List (List ℕ)) (index : ℕ) (d : Data) (name : List ℕ) → namespace_at before index d ≡ Ok name → cannot_be_added before name ≡ false
+namespace_at-ok before index null name is = cc
+namespace_at-ok before index (boolean b) name is = cc
+namespace_at-ok before index (number n) name is = cc
+namespace_at-ok before index (string s) name is =
+    let test = not_refused (cannot_be_added before s) s name _ is in
+    subst (λ text. cannot_be_added before text ≡ false) test.1 test.0
+namespace_at-ok before index (array ds) name is = cc
+namespace_at-ok before index (object ms) name is = cc
+
+no_host : AreNamespaceNames []
+no_host = record { named = refl; distinct = refl }
+
+names-push : (before : List (List ℕ)) (name : List ℕ) → AreNamespaceNames before → cannot_be_added before name ≡ false → AreNamespaceNames (before ++ name ∷ [])
+names-push before name good can =
+    let parts = or_parts (is_host_ns name) (list_any (bytes_eq name) before) can in
+    let inner : not (is_host_ns name) ≡ true = rw parts.0 refl in
+    record {
+      named = list_all-push (λ name. not (is_host_ns name)) before name good.named inner;
+      distinct = distinct-push bytes_eq before name good.distinct (list_any-none (λ x. bytes_eq x name) (bytes_eq name) (λ x same. bytes_eq-swap x name same) before parts.1);
+    }
+
+namespaces_after-ok : (before : List (List ℕ)) (index : ℕ) (ds : Items) (names : List (List ℕ)) → AreNamespaceNames before → namespaces_after before index ds ≡ Ok names → AreNamespaceNames names
+namespaces_after-ok before index no_items names good is = subst AreNamespaceNames (ok_same is) good
+namespaces_after-ok before index (item d ds) names good is =
+    let next = goes (namespace_at before index d) _ names is in
+    namespaces_after-ok (before ++ next.value ∷ []) (index + 1) ds names (names-push before next.value good (namespace_at-ok before index d next.value next.first)) next.rest
+
+namespaces_of-ok : (f : Field Items) (names : List (List ℕ)) → namespaces_of f ≡ Ok names → AreNamespaceNames names
+namespaces_of-ok Absent names is = subst AreNamespaceNames (ok_same is) no_host
+namespaces_of-ok WrongKind names is = cc
+namespaces_of-ok (Here ds) names is = namespaces_after-ok [] 0 ds names no_host is
+
+namespaces_at-ok : (d : Data) (names : List (List ℕ)) → namespaces_at d ≡ Ok names → AreNamespaceNames names
+unfolding namespaces_at
+namespaces_at-ok d names is = namespaces_of-ok (list_field (codes "namespaces") d) names is
+
+-- ---- links
+
+abbrev IsShared : LinkKind → Type 0
+IsShared kind = is_shared_kind kind ≡ true
+
+kind_by-ok : (device bridge : Bool) (e : PodError) (kind : LinkKind) → (if device then Ok Device else if bridge then Ok Bridge else Err e) ≡ Ok kind → IsShared kind
+kind_by-ok true bridge e kind is = subst IsShared (ok_same is) refl
+kind_by-ok false true e kind is = subst IsShared (ok_same is) refl
+kind_by-ok false false e kind is = cc
+
+kind_of-ok : (index : ℕ) (f : Field (List ℕ)) (kind : LinkKind) → kind_of index f ≡ Ok kind → IsShared kind
+kind_of-ok index Absent kind is = cc
+kind_of-ok index WrongKind kind is = cc
+kind_of-ok index (Here text) kind is = kind_by-ok (bytes_eq text (codes "device")) (bytes_eq text (codes "bridge")) _ kind is
+
+kind_at-ok : (index : ℕ) (d : Data) (kind : LinkKind) → kind_at index d ≡ Ok kind → IsShared kind
+unfolding kind_at
+kind_at-ok index d kind is = kind_of-ok index (text_field (codes "kind") d) kind is
+
+-- the host, or a namespace of these names
+abbrev IsPlace : List (List ℕ) → List ℕ → Type 0
+IsPlace names ns = is_host_or_ns (map outside_namespace names) ns ≡ true
+
+either_of : (host named other : Bool) → (if host then true else named) ≡ true → (named ≡ true → other ≡ true) → (host || other) ≡ true
+either_of true named other is same = refl
+either_of false named other is same = same is
+
+place-ok : (names : List (List ℕ)) (ns : List ℕ) → is_place names ns ≡ true → IsPlace names ns
+place-ok names ns is =
+    either_of (is_host_ns ns) (list_any (bytes_eq ns) names) _ is
+    (λ named. list_any-map (λ n. bytes_eq n.name ns) outside_namespace names
+    ∙ list_any-weaker (bytes_eq ns) (λ name. bytes_eq name ns) (λ name same. bytes_eq-swap ns name same) names named)
+
+ns_of-ok : (names : List (List ℕ)) (index : ℕ) (f : Field (List ℕ)) (ns : List ℕ) → ns_of names index f ≡ Ok ns → IsPlace names ns
+ns_of-ok names index Absent ns is = subst (IsPlace names) (ok_same is) refl
+ns_of-ok names index WrongKind ns is = cc
+ns_of-ok names index (Here text) ns is =
+    let test = passed (is_place names text) text ns _ is in
+    subst (IsPlace names) test.1 (place-ok names text test.0)
+
+ns_at-ok : (names : List (List ℕ)) (index : ℕ) (d : Data) (ns : List ℕ) → ns_at names index d ≡ Ok ns → IsPlace names ns
+unfolding ns_at
+ns_at-ok names index d ns is = ns_of-ok names index (text_field (codes "ns") d) ns is
+
+-- a link that can follow these
+record IsNewLink (names : List (List ℕ)) (before : List Link) (link : Link) : Type 0 where
+  outside : is_outside_link link ≡ true
+  place : IsPlace names link.ns
+  new : list_any (is_at link.ns link.name) before ≡ false
+
+shared-outside : (ns name : List ℕ) (kind : LinkKind) (mtu : ℕ) → IsShared kind → is_outside_link (outside_link ns name kind mtu) ≡ true
+shared-outside ns name kind mtu shared = rw shared refl
+
+link_at-ok : (names : List (List ℕ)) (before : List Link) (index : ℕ) (d : Data) (link : Link) → link_at names before index d ≡ Ok link → IsNewLink names before link
+unfolding link_at not_taken
+link_at-ok names before index d link is =
+    let form = goes (link_object index d) _ link is in
+    let name = goes (name_at index d) _ link form.rest in
+    let kind = goes (kind_at index d) _ link name.rest in
+    let ns = goes (ns_at names index d) _ link kind.rest in
+    let mtu = goes (mtu_at index d) _ link ns.rest in
+    let free = goes (not_taken before index ns.value name.value) _ link mtu.rest in
+    subst (IsNewLink names before) (ok_same free.rest) (record {
+      outside = shared-outside ns.value name.value kind.value mtu.value (kind_at-ok index d kind.value kind.first);
+      place = ns_at-ok names index d ns.value ns.first;
+      new = (not_refused (list_any (is_at ns.value name.value) before) _ _ _ free.first).0;
+    })
+
+no_links : (names : List (List ℕ)) → AreOutsideLinks names []
+no_links names = record { outside = refl; places = refl; keys = refl }
+
+links-push : (names : List (List ℕ)) (before : List Link) (link : Link) → AreOutsideLinks names before → IsNewLink names before link → AreOutsideLinks names (before ++ link ∷ [])
+links-push names before link good next = record {
+  outside = list_all-push is_outside_link before link good.outside next.outside;
+  places = list_all-push (λ l. is_host_or_ns (map outside_namespace names) l.ns) before link good.places next.place;
+  keys = distinct-push (λ a b. is_at b.ns b.name a) before link good.keys next.new;
+}
+
+links_after-ok : (names : List (List ℕ)) (before : List Link) (index : ℕ) (ds : Items) (links : List Link) → AreOutsideLinks names before
+    → links_after names before index ds ≡ Ok links → AreOutsideLinks names links
+links_after-ok names before index no_items links good is = subst (AreOutsideLinks names) (ok_same is) good
+links_after-ok names before index (item d ds) links good is =
+    let next = goes (link_at names before index d) _ links is in
+    links_after-ok names (before ++ next.value ∷ []) (index + 1) ds links (links-push names before next.value good (link_at-ok names before index d next.value next.first)) next.rest
+
+links_of-ok : (names : List (List ℕ)) (f : Field Items) (links : List Link) → links_of names f ≡ Ok links → AreOutsideLinks names links
+links_of-ok names Absent links is = subst (AreOutsideLinks names) (ok_same is) (no_links names)
+links_of-ok names WrongKind links is = cc
+links_of-ok names (Here ds) links is = links_after-ok names [] 0 ds links (no_links names) is
+
+links_at-ok : (names : List (List ℕ)) (d : Data) (links : List Link) → links_at names d ≡ Ok links → AreOutsideLinks names links
+unfolding links_at
+links_at-ok names d links is = links_of-ok names (list_field (codes "links") d) links is
+
+-- ---- the host
+
+outside-tag : (shared alone outside : Bool) → (shared && alone && outside) ≡ true → outside ≡ true
+outside-tag true true true is = refl
+outside-tag true true false is = cc
+outside-tag true false outside is = cc
+outside-tag false alone outside is = cc
+
+opening_with-ok : (names : List (List ℕ)) (links : List Link) → AreNamespaceNames names → AreOutsideLinks names links → IsOpening (opening_with names links)
+opening_with-ok names links good outside = record {
+  sound = IsSound-opening_with names links good outside;
+  links = list_all-weaker is_outside_link (λ l. tag_eq l.tag Outside) (λ l h. outside-tag (is_shared_kind l.kind) (is_none l.peer) (tag_eq l.tag Outside) h) links outside.outside;
+  addresses = refl;
+  routes = refl;
+  rules = refl;
+  settings = refl;
+  leases = refl;
+  cached = refl;
+  lasts = refl;
+}
+
+opening_members_at-ok : (d : Data) (host : Host) → opening_members_at d ≡ Ok host → IsOpening host
+unfolding opening_members_at
+opening_members_at-ok d host is =
+    let names = goes (namespaces_at d) _ host is in
+    let links = goes (links_at names.value d) _ host names.rest in
+    subst IsOpening (ok_same links.rest) (opening_with-ok names.value links.value (namespaces_at-ok d names.value names.first) (links_at-ok names.value d links.value links.first))
+
+opening_of-ok : (f : Field Data) (host : Host) → opening_of f ≡ Ok host → IsOpening host
+opening_of-ok Absent host is = subst IsOpening (ok_same is) (opening_with-ok [] [] no_host (no_links []))
+opening_of-ok WrongKind host is = cc
+opening_of-ok (Here d) host is = opening_members_at-ok d host is
+
+pub opening_at-ok : (d : Data) (host : Host) → opening_at d ≡ Ok host → IsOpening host
+unfolding opening_at
+opening_at-ok d host is = opening_of-ok (object_field (codes "opening") d) host is

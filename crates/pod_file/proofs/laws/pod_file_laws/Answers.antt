@@ -1,0 +1,5 @@
+use Rattle.pod_file.proofs.PodFacts.{pods_of-ok}
+use Rattle.pod_file.proofs.laws.pod_file_laws.Goals as goal
+
+pub returns : goal.returns
+returns c = record { well_formed = pods_of-ok }

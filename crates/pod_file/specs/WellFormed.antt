@@ -1,0 +1,56 @@
+-- What every pod file that is read keeps.
+use Rattle.std.specs.Prelude.{◌≡◌, ℕ, ◌+◌, ◌≤◌, List, [], ◌∷◌, ◌++◌, length, true, All, Some, is_some, slice_get}
+use Rattle.std.specs.List.{list_any}
+use Rattle.kernel_types.specs.Equal.{tag_eq}
+use Rattle.kernel_types.specs.Sound.{AllPassTest, IsSound}
+use Rattle.kernel_types.specs.declared.object.Host.{Host}
+use Rattle.kernel_types.specs.declared.object.Tag.TheVariants.{Outside}
+use Rattle.pod_file.specs.Rounds.{is_exclusive}
+use Rattle.pod_file.specs.declared.command.Command.{Command}
+use Rattle.pod_file.specs.declared.command.Verb.TheVariants.{Flush}
+use Rattle.pod_file.specs.declared.pods.Pods.{Pods}
+
+-- the host is sound, its links were made outside, and besides namespaces it has nothing else
+pub record IsOpening (host : Host) : Type 0 where
+  pub sound : IsSound host
+  pub links : AllPassTest (λ l. tag_eq l.tag Outside) host.links
+  pub addresses : host.addresses ≡ []
+  pub routes : host.routes ≡ []
+  pub rules : host.rules ≡ []
+  pub settings : host.settings ≡ []
+  pub leases : host.leases ≡ []
+  pub cached : host.cached ≡ []
+  pub lasts : host.lasts ≡ []
+
+-- ---- commands
+
+-- calls are counted from 1, in 32 bits
+pub record IsCallNumber (n : ℕ) : Type 0 where
+  pub least : 1 ≤ n
+  pub most : n ≤ 4294967295
+
+-- a flush has its table, and the numbers of calls are in their bounds
+pub record IsWellFormedCommand (command : Command) : Type 0 where
+  pub table : command.verb ≡ Flush → is_some command.table ≡ true
+  pub stop : (n : ℕ) → command.stop ≡ Some n → n ≤ 4294967295
+  pub faults : All IsCallNumber command.faults
+
+-- a command that must stand alone is the only one
+pub record IsWellFormedRound (commands : List Command) : Type 0 where
+  pub each : All IsWellFormedCommand commands
+  pub alone : list_any is_exclusive commands ≡ true → length commands ≡ 1
+
+-- the commands of all rounds, in file order
+abbrev pub in_file_order : List (List Command) → List Command
+in_file_order [] = []
+in_file_order (commands ∷ rounds) = commands ++ in_file_order rounds
+
+-- ---- the file
+
+-- the commands are numbered from 1 in file order, and neither they nor the rounds are too many
+pub record IsWellFormedPods (pods : Pods) : Type 0 where
+  pub opening : IsOpening pods.opening
+  pub rounds : All IsWellFormedRound pods.rounds
+  pub few_rounds : length pods.rounds ≤ 65536
+  pub few_commands : length (in_file_order pods.rounds) ≤ 65536
+  pub numbers : (n : ℕ) (command : Command) → slice_get (in_file_order pods.rounds) n ≡ Some command → command.number ≡ n + 1
