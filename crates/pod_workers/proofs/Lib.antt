@@ -1,2 +1,4 @@
+pub mod Histories
+pub mod Order
 pub mod Planned
 pub mod Sound

@@ -1,0 +1,50 @@
+-- Histories with one entry more, and answers with one that is written.
+use Rattle.std.proofs.Common.{◌≡◌, ◌≢◌, ℕ, zero, suc, ◌+◌, ◌<◌, ◌≤◌, ◌==◌, List, [], ◌∷◌, ◌++◌, length, Option, Some, None, slice_get, slice_set, refl, sym, ◌∙◌, ap, inl, inr, arith}
+use Rattle.std.proofs.lemmas.List.{length_push}
+use Rattle.std.proofs.lemmas.Bool.Decides.{eqb_tells}
+use Rattle.kernel_types.specs.declared.object.Host.{Host}
+use Rattle.kernel_types.specs.declared.call.Reply.{Reply}
+use Rattle.pod_workers.specs.declared.plan.Entry.{Entry}
+use Rattle.pod_workers.specs.World.{replies_of, after, host_on}
+
+-- ---- a place that is written
+
+pub slice_get-set_same : {X : Type 0} (xs : List X) (i : ℕ) (x : X) → i < length xs → slice_get (slice_set xs i x) i ≡ Some x
+slice_get-set_same [] i x h = absurd (omega arith)
+slice_get-set_same (y ∷ ys) zero x h = refl
+slice_get-set_same (y ∷ ys) (suc i) x h = slice_get-set_same ys i x (omega arith)
+
+pub slice_get-set_other : {X : Type 0} (xs : List X) (i j : ℕ) (x : X) → j ≢ i → slice_get (slice_set xs i x) j ≡ slice_get xs j
+slice_get-set_other [] i j x h = refl
+slice_get-set_other (y ∷ ys) zero zero x h = absurd (h refl)
+slice_get-set_other (y ∷ ys) zero (suc j) x h = refl
+slice_get-set_other (y ∷ ys) (suc i) zero x h = refl
+slice_get-set_other (y ∷ ys) (suc i) (suc j) x h = slice_get-set_other ys i j x (λ e. h (ap suc e))
+
+-- ---- one entry more
+
+pub replies_of-own : (n : ℕ) (h : List Entry) (e : Entry) → e.command ≡ n + 1 → replies_of n (h ++ e ∷ []) ≡ replies_of n h ++ e.reply ∷ []
+replies_of-own n [] e is = elim (eqb_tells e.command (n + 1)) [ inl t ↦ rw t.0 refl | inr f ↦ absurd (f.1 is) ]
+replies_of-own n (x ∷ xs) e is =
+    let rest = replies_of-own n xs e is in
+    elim (eqb_tells x.command (n + 1)) [ inl t ↦ rw t.0 (ap (λ rs. x.reply ∷ rs) rest) | inr f ↦ rw f.0 rest ]
+
+pub replies_of-other : (n : ℕ) (h : List Entry) (e : Entry) → e.command ≢ n + 1 → replies_of n (h ++ e ∷ []) ≡ replies_of n h
+replies_of-other n [] e not = elim (eqb_tells e.command (n + 1)) [ inl t ↦ absurd (not t.1) | inr f ↦ rw f.0 refl ]
+replies_of-other n (x ∷ xs) e not =
+    let rest = replies_of-other n xs e not in
+    elim (eqb_tells x.command (n + 1)) [ inl t ↦ rw t.0 (ap (λ rs. x.reply ∷ rs) rest) | inr f ↦ rw f.0 rest ]
+
+-- a command has no more entries than the history
+pub length-replies_of : (n : ℕ) (h : List Entry) → length (replies_of n h) ≤ length h
+length-replies_of n [] = omega arith
+length-replies_of n (x ∷ xs) =
+    let rest = length-replies_of n xs in
+    elim (eqb_tells x.command (n + 1)) [ inl t ↦ rw t.0 (omega arith) | inr f ↦ rw f.0 (omega arith) ]
+
+pub after-append : (host : Host) (es : List Entry) (e : Entry) → after host (es ++ e ∷ []) ≡ host_on (after host es) e
+after-append host [] e = refl
+after-append host (x ∷ xs) e = after-append (host_on host x) xs e
+
+pub length-append_one : {X : Type 0} (xs : List X) (x : X) → length (xs ++ x ∷ []) ≡ length xs + 1
+length-append_one xs x = length_push xs x
