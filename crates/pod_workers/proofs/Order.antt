@@ -9,6 +9,7 @@ use Rattle.std.proofs.lemmas.Slice.Eq.{bytes_eq-Decides}
 use Rattle.cni_verbs.specs.declared.answer.Answer.{Answer}
 use Rattle.cni_verbs.specs.declared.answer.Answer.TheVariants.{OutOfMemory}
 use Rattle.pod_file.specs.declared.command.Command.{Command}
+use Rattle.pod_workers.specs.Facts.{IsUntouched}
 use Rattle.pod_workers.specs.Legal.{Legal, IsBegun, begins, steps, refused_memory, turns}
 use Rattle.pod_workers.specs.Plans.{Placed, commands_of}
 use Rattle.pod_workers.specs.World.{World, IsAnswered, IsReady, IsRoundOver, replies_of, own_replies, answered, with_entry, entry_of, host_of, done, next_of, next_round}
@@ -16,11 +17,6 @@ use Rattle.pod_workers.specs.declared.plan.Entry.{Entry}
 use Rattle.pod_workers.specs.declared.plan.Next.{Next}
 use Rattle.pod_workers.specs.declared.plan.Next.TheVariants as next
 use Rattle.pod_workers.proofs.Histories.{slice_get-set_same, slice_get-set_other, replies_of-other}
-
--- the command at this place has made no call and has no answer
-pub record IsUntouched (w : World) (n : ℕ) : Type 0 where
-  pub no_reply : own_replies w n ≡ []
-  pub no_answer : slice_get w.answers n ≡ Some None
 
 pub record IsInOrder (w : World) : Type 0 where
   pub long : length w.answers ≡ length (commands_of w.plan)

@@ -5,12 +5,14 @@ use Rattle.cni_verbs.specs.declared.answer.Answer.{Answer}
 use Rattle.cni_verbs.specs.declared.answer.Answer.TheVariants.{OutOfMemory, Stopped}
 use Rattle.kernel_types.specs.Allowed.{IsAllowed}
 use Rattle.kernel_types.specs.declared.call.Call.{Call}
+use Rattle.pod_workers.specs.Extends.{KeepsAnswers}
 use Rattle.pod_workers.specs.Legal.{Legal}
-use Rattle.pod_workers.specs.Plans.{Placed, commands_of, list_for}
+use Rattle.pod_workers.specs.Plans.{Placed, IsWellFormed, commands_of, list_for}
 use Rattle.cni_verbs.specs.Progress.{turn_by, answer_by}
-use Rattle.pod_workers.specs.World.{World, after, replies_of, own_replies, reply_to, is_faulty, is_stop, IsAnswered}
+use Rattle.pod_workers.specs.World.{World, after, replies_of, own_replies, reply_to, is_faulty, is_stop, next_of, IsAnswered, IsReady}
 use Rattle.pod_workers.specs.declared.plan.Plan.{Plan}
 use Rattle.pod_workers.specs.declared.plan.Entry.{Entry}
+use Rattle.pod_workers.specs.declared.plan.Next.TheVariants as next
 
 -- ---- entries
 
@@ -29,37 +31,142 @@ pub record Follows (p : Plan) (before : List Entry) (e : Entry) : Type 0 where
 abbrev pub EachFollows : Plan → List Entry → Type 0
 EachFollows p h = (before rest : List Entry) (e : Entry) → h ≡ before ++ e ∷ rest → Follows p before e
 
+-- this is an entry of the command c, which stands at place n
+pub record IsEntryOf (p : Plan) (e : Entry) (n : ℕ) (c : Placed) : Type 0 where
+  pub number : e.command ≡ n + 1
+  pub there : slice_get (commands_of p) n ≡ Some c
+
+-- what any two entries are to each other, the first of which stands earlier
+abbrev pub EachTwo : Plan → List Entry → (ℕ → Placed → ℕ → Placed → Type 0) → Type 0
+EachTwo p h Fit =
+    (before between rest : List Entry) (e f : Entry) (m n : ℕ) (d c : Placed) → h ≡ before ++ e ∷ (between ++ f ∷ rest)
+    → IsEntryOf p e m d → IsEntryOf p f n c → Fit m d n c
+
+-- ---- rounds
+
+-- the command at this place has made no call and has no answer
+pub record IsUntouched (w : World) (n : ℕ) : Type 0 where
+  pub no_reply : own_replies w n ≡ []
+  pub no_answer : slice_get w.answers n ≡ Some None
+
+-- commands of past rounds are answered, those of later ones untouched, and entries stand in the order of their rounds
+pub record GoesByRounds (w : World) : Type 0 where
+  pub past : (n : ℕ) (c : Placed) → slice_get (commands_of w.plan) n ≡ Some c → c.round < w.round → IsAnswered w n
+  pub later : (n : ℕ) (c : Placed) → slice_get (commands_of w.plan) n ≡ Some c → w.round < c.round → IsUntouched w n
+  pub entries : EachTwo w.plan w.history (λ m d n c. d.round ≤ c.round)
+
+abbrev pub AreBesides : Placed → Placed → Type 0
+AreBesides d c = (d.round ≡ c.round) × (d.command.container ≡ c.command.container)
+
+-- in each container of a round one command goes after another (CNI specification, section 3, "Lifecycle & Ordering")
+pub record GoesOneByOne (w : World) : Type 0 where
+  pub first : (m n : ℕ) (d c : Placed) → m < n → slice_get (commands_of w.plan) m ≡ Some d → slice_get (commands_of w.plan) n ≡ Some c → AreBesides d c
+      → IsUntouched w n ⊎ IsAnswered w m
+  pub entries : EachTwo w.plan w.history (λ m d n c. AreBesides d c → m ≤ n)
+
+-- ---- stops
+
+-- no command makes more calls than its `stop`, and after the entry that `stop_at` names its round makes none
+pub record Stops (w : World) : Type 0 where
+  pub own : (n most : ℕ) (c : Placed) → slice_get (commands_of w.plan) n ≡ Some c → c.command.stop ≡ Some most → length (own_replies w n) ≤ most
+  pub round : (before between rest : List Entry) (e f : Entry) (m n : ℕ) (d c : Placed) → w.history ≡ before ++ e ∷ (between ++ f ∷ rest)
+      → IsEntryOf w.plan e m d → IsEntryOf w.plan f n c → w.plan.stop_at ≡ Some (length before + 1) → d.round < c.round
+
 -- ---- answers
 
--- the entry with this number, from 1, is of a command of this round
-abbrev pub EntryIsInRound : World → Option ℕ → ℕ → Type 0
-EntryIsInRound w None round = ⊥
-EntryIsInRound w (Some number) round =
-    (before rest : List Entry) × (e : Entry) × (place : ℕ) × (c : Placed) × (w.history ≡ before ++ e ∷ rest) × (length before + 1 ≡ number)
-    × (e.command ≡ place + 1) × (slice_get (commands_of w.plan) place ≡ Some c) × (c.round ≡ round)
+-- the entry with this number, from 1, stands in the history and is of this round
+abbrev pub EntryIsInRound : Plan → List Entry → Option ℕ → ℕ → Type 0
+EntryIsInRound p h None round = ⊥
+EntryIsInRound p h (Some number) round =
+    (before rest : List Entry) × (e : Entry) × (n : ℕ) × (c : Placed) × (h ≡ before ++ e ∷ rest) × (length before + 1 ≡ number) × IsEntryOf p e n c × (c.round ≡ round)
+
+-- it is the script's answer after all replies of the command at place n
+abbrev pub IsScripts : World → ℕ → Placed → Answer → Type 0
+IsScripts w n c a =
+    (finish : Finish) × (turn_by (list_for w.plan c.command) c.command (own_replies w n) ≡ Finishes finish)
+    × (a ≡ answer_by (list_for w.plan c.command) c.command finish)
+
+-- the script has a call still, and it says after how many the command was stopped
+abbrev pub IsStopOf : World → ℕ → Placed → Answer → Type 0
+IsStopOf w n c a =
+    (call : Call) × (turn_by (list_for w.plan c.command) c.command (own_replies w n) ≡ Calls call)
+    × (a ≡ Stopped (length (own_replies w n)))
+
+-- the command made as many calls as its `stop`
+abbrev pub IsAtItsStop : World → ℕ → Placed → Type 0
+IsAtItsStop w n c = c.command.stop ≡ Some (length (own_replies w n))
 
 -- the command was stopped: by its own number of calls, or with its round
 abbrev pub IsStopped : World → ℕ → Placed → Answer → Type 0
-IsStopped w n c a =
-    (call : Call) × (turn_by (list_for w.plan c.command) c.command (own_replies w n) ≡ Calls call)
-    × (a ≡ Stopped (length (own_replies w n)))
-    × ((c.command.stop ≡ Some (length (own_replies w n))) ⊎ EntryIsInRound w w.plan.stop_at c.round)
+IsStopped w n c a = IsStopOf w n c a × (IsAtItsStop w n c ⊎ EntryIsInRound w.plan w.history w.plan.stop_at c.round)
 
 -- a command's answer is its script's, a stop, or want of memory
 abbrev pub AnswerIsDue : World → Type 0
 AnswerIsDue w = (n : ℕ) (a : Answer) (c : Placed) → slice_get w.answers n ≡ Some (Some a) → slice_get (commands_of w.plan) n ≡ Some c
-    → ((finish : Finish) × (turn_by (list_for w.plan c.command) c.command (own_replies w n) ≡ Finishes finish) × (a ≡ answer_by (list_for w.plan c.command) c.command finish))
-    ⊎ (IsStopped w n c a ⊎ (a ≡ OutOfMemory))
+    → IsScripts w n c a ⊎ (IsStopped w n c a ⊎ (a ≡ OutOfMemory))
 
--- ---- fronts
+-- ---- moments
 
--- a legal world of the same plan with this history
+-- a legal world of the same plan with this history, whose answers stand later
 pub record HasFront (w : World) (before : List Entry) : Type 0 where
   pub front : World
   pub legal : Legal front
   pub plan_is : front.plan ≡ w.plan
   pub history_is : front.history ≡ before
+  pub answers_stand : KeepsAnswers front.answers w.answers
+  pub round : front.round ≤ w.round
 
 -- what is true of every legal world is true at every moment of a history
 abbrev pub EachFront : Type 0
 EachFront = (w : World) → Legal w → (before rest : List Entry) → w.history ≡ before ++ rest → HasFront w before
+
+-- the front in which this entry was made, by a command that was ready and so had no answer
+pub record IsMadeAt (w : World) (before : List Entry) (e : Entry) : Type 0 where
+  pub at : HasFront w before
+  pub place : ℕ
+  pub by : Placed
+  pub number : e.command ≡ place + 1
+  pub ready : IsReady at.front place by
+  pub goes : next_of at.front by.command (own_replies at.front place) ≡ next.Call e.call (is_faulty by.command (length (own_replies at.front place)))
+
+abbrev pub EachEntryIsMade : Type 0
+EachEntryIsMade = (w : World) → Legal w → (before rest : List Entry) (e : Entry) → w.history ≡ before ++ e ∷ rest → IsMadeAt w before e
+
+-- the front right after this entry, in which its command has no answer yet
+pub record IsOpenAfter (w : World) (before : List Entry) (e : Entry) : Type 0 where
+  pub at : HasFront w (before ++ e ∷ [])
+  pub place : ℕ
+  pub by : Placed
+  pub number : e.command ≡ place + 1
+  pub there : slice_get (commands_of w.plan) place ≡ Some by
+  pub unanswered : slice_get at.front.answers place ≡ Some None
+
+abbrev pub EachCommandIsOpenAfterItsEntry : Type 0
+EachCommandIsOpenAfterItsEntry = (w : World) → Legal w → (before rest : List Entry) (e : Entry) → w.history ≡ before ++ e ∷ rest → IsOpenAfter w before e
+
+-- the front in which this answer was given, with all calls that the command ever made
+pub record IsAnsweredAt (w : World) (n : ℕ) (a : Answer) : Type 0 where
+  pub before : List Entry
+  pub rest : List Entry
+  pub split : w.history ≡ before ++ rest
+  pub at : HasFront w before
+  pub by : Placed
+  pub ready : IsReady at.front n by
+  pub replies_are : own_replies w n ≡ own_replies at.front n
+  pub due : (next_of at.front by.command (own_replies at.front n) ≡ next.Answer a) ⊎ (a ≡ OutOfMemory)
+
+abbrev pub EachAnswerIsGiven : Type 0
+EachAnswerIsGiven = (w : World) → Legal w → (n : ℕ) (a : Answer) → slice_get w.answers n ≡ Some (Some a) → IsAnsweredAt w n a
+
+-- ---- all clauses
+
+pub record IsLegalByClauses (w : World) : Type 0 where
+  pub plan : IsWellFormed w.plan
+  pub entries : EachFollows w.plan w.history
+  pub rounds : GoesByRounds w
+  pub containers : GoesOneByOne w
+  pub stops : Stops w
+  pub answers : AnswerIsDue w
+
+abbrev pub LegalWorldsMeetEachClause : Type 0
+LegalWorldsMeetEachClause = (w : World) → Legal w → IsLegalByClauses w
