@@ -1,11 +1,12 @@
 -- Histories with one entry more, and answers with one that is written.
 use Rattle.std.proofs.Common.{◌≡◌, ◌≢◌, ℕ, zero, suc, ◌+◌, ◌<◌, ◌≤◌, ◌==◌, List, [], ◌∷◌, ◌++◌, length, Option, Some, None, slice_get, slice_set, refl, sym, ◌∙◌, ap, inl, inr, arith}
 use Rattle.std.proofs.lemmas.List.{length_push}
+use Rattle.std.proofs.lemmas.Option.{same_Some, none-some}
 use Rattle.std.proofs.lemmas.Bool.Decides.{eqb_tells}
 use Rattle.kernel_types.specs.declared.object.Host.{Host}
 use Rattle.kernel_types.specs.declared.call.Reply.{Reply}
 use Rattle.pod_workers.specs.declared.plan.Entry.{Entry}
-use Rattle.pod_workers.specs.World.{replies_of, after, host_on}
+use Rattle.pod_workers.specs.World.{replies_of, after, host_on, last_entry}
 
 -- ---- a place that is written
 
@@ -48,3 +49,36 @@ after-append host (x ∷ xs) e = after-append (host_on host x) xs e
 
 pub length-append_one : {X : Type 0} (xs : List X) (x : X) → length (xs ++ x ∷ []) ≡ length xs + 1
 length-append_one xs x = length_push xs x
+
+-- ---- parts of a history
+
+pub replies_of-append : (n : ℕ) (g h : List Entry) → replies_of n (g ++ h) ≡ replies_of n g ++ replies_of n h
+replies_of-append n [] h = refl
+replies_of-append n (x ∷ xs) h =
+    let rest = replies_of-append n xs h in
+    elim (eqb_tells x.command (n + 1)) [ inl t ↦ rw t.0 (ap (λ rs. x.reply ∷ rs) rest) | inr f ↦ rw f.0 rest ]
+
+cons-not_nil : {X : Type 0} (xs ys : List X) (x : X) → xs ++ x ∷ ys ≡ [] → ⊥
+cons-not_nil [] ys x is = cc
+cons-not_nil (y ∷ xs) ys x is = cc
+
+-- a command of which an entry stands in the history has a reply
+pub has_reply : (n : ℕ) (h before rest : List Entry) (e : Entry) → h ≡ before ++ e ∷ rest → e.command ≡ n + 1 → replies_of n h ≡ [] → ⊥
+has_reply n h before rest e at own none =
+    elim (eqb_tells e.command (n + 1)) [
+      | inl t ↦
+          let here : replies_of n (e ∷ rest) ≡ e.reply ∷ replies_of n rest = rw t.0 refl in
+          cons-not_nil (replies_of n before) (replies_of n rest) e.reply
+          (ap (λ rs. replies_of n before ++ rs) (sym here) ∙ sym (replies_of-append n before (e ∷ rest)) ∙ ap (replies_of n) (sym at) ∙ none)
+      | inr f ↦ absurd (f.1 own)
+    ]
+
+pub last_entry-append : (h : List Entry) (e : Entry) → last_entry (h ++ e ∷ []) ≡ Some e
+last_entry-append [] e = refl
+last_entry-append (x ∷ []) e = refl
+last_entry-append (x ∷ y ∷ ys) e = last_entry-append (y ∷ ys) e
+
+pub last_entry-splits : (h : List Entry) (e : Entry) → last_entry h ≡ Some e → (before : List Entry) × (h ≡ before ++ e ∷ [])
+last_entry-splits [] e is = absurd (none-some e is)
+last_entry-splits (x ∷ []) e is = ([], ap (λ y. y ∷ []) (same_Some x e is))
+last_entry-splits (x ∷ y ∷ ys) e is = let s = last_entry-splits (y ∷ ys) e is in (x ∷ s.0, ap (λ l. x ∷ l) s.1)

@@ -1,4 +1,6 @@
+pub mod Facts
 pub mod Histories
 pub mod Order
 pub mod Planned
 pub mod Sound
+pub mod Splits

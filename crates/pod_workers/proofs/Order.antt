@@ -87,7 +87,7 @@ order_answered w n c b order ready = record {
   ];
 }
 
-other_number : (e : Entry) (n m : ℕ) → e.command ≡ n + 1 → m ≢ n → e.command ≢ m + 1
+pub other_number : (e : Entry) (n m : ℕ) → e.command ≡ n + 1 → m ≢ n → e.command ≢ m + 1
 other_number e n m own other same = other (omega arith)
 
 order_entered : (w : World) (n : ℕ) (c : Placed) (e : Entry) → IsInOrder w → IsReady w n c → e.command ≡ n + 1 → IsInOrder (with_entry w e)

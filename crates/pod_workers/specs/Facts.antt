@@ -9,7 +9,7 @@ use Rattle.pod_workers.specs.Extends.{KeepsAnswers}
 use Rattle.pod_workers.specs.Legal.{Legal}
 use Rattle.pod_workers.specs.Plans.{Placed, IsWellFormed, commands_of, list_for}
 use Rattle.cni_verbs.specs.Progress.{turn_by, answer_by}
-use Rattle.pod_workers.specs.World.{World, after, replies_of, own_replies, reply_to, is_faulty, is_stop, next_of, IsAnswered, IsReady}
+use Rattle.pod_workers.specs.World.{World, after, replies_of, own_replies, reply_to, is_faulty, is_stop, next_of, stepped, with_entry, IsAnswered, IsReady}
 use Rattle.pod_workers.specs.declared.plan.Plan.{Plan}
 use Rattle.pod_workers.specs.declared.plan.Entry.{Entry}
 use Rattle.pod_workers.specs.declared.plan.Next.TheVariants as next
@@ -36,11 +36,11 @@ pub record IsEntryOf (p : Plan) (e : Entry) (n : ℕ) (c : Placed) : Type 0 wher
   pub number : e.command ≡ n + 1
   pub there : slice_get (commands_of p) n ≡ Some c
 
--- what any two entries are to each other, the first of which stands earlier
-abbrev pub EachTwo : Plan → List Entry → (ℕ → Placed → ℕ → Placed → Type 0) → Type 0
+-- what an entry with this number, from 1, of the command d at place m is to each later one, of c at n
+abbrev pub EachTwo : Plan → List Entry → ((number m : ℕ) → Placed → ℕ → Placed → Type 0) → Type 0
 EachTwo p h Fit =
     (before between rest : List Entry) (e f : Entry) (m n : ℕ) (d c : Placed) → h ≡ before ++ e ∷ (between ++ f ∷ rest)
-    → IsEntryOf p e m d → IsEntryOf p f n c → Fit m d n c
+    → IsEntryOf p e m d → IsEntryOf p f n c → Fit (length before + 1) m d n c
 
 -- ---- rounds
 
@@ -53,7 +53,7 @@ pub record IsUntouched (w : World) (n : ℕ) : Type 0 where
 pub record GoesByRounds (w : World) : Type 0 where
   pub past : (n : ℕ) (c : Placed) → slice_get (commands_of w.plan) n ≡ Some c → c.round < w.round → IsAnswered w n
   pub later : (n : ℕ) (c : Placed) → slice_get (commands_of w.plan) n ≡ Some c → w.round < c.round → IsUntouched w n
-  pub entries : EachTwo w.plan w.history (λ m d n c. d.round ≤ c.round)
+  pub entries : EachTwo w.plan w.history (λ number m d n c. d.round ≤ c.round)
 
 abbrev pub AreBesides : Placed → Placed → Type 0
 AreBesides d c = (d.round ≡ c.round) × (d.command.container ≡ c.command.container)
@@ -62,15 +62,14 @@ AreBesides d c = (d.round ≡ c.round) × (d.command.container ≡ c.command.con
 pub record GoesOneByOne (w : World) : Type 0 where
   pub first : (m n : ℕ) (d c : Placed) → m < n → slice_get (commands_of w.plan) m ≡ Some d → slice_get (commands_of w.plan) n ≡ Some c → AreBesides d c
       → IsUntouched w n ⊎ IsAnswered w m
-  pub entries : EachTwo w.plan w.history (λ m d n c. AreBesides d c → m ≤ n)
+  pub entries : EachTwo w.plan w.history (λ number m d n c. AreBesides d c → m ≤ n)
 
 -- ---- stops
 
 -- no command makes more calls than its `stop`, and after the entry that `stop_at` names its round makes none
 pub record Stops (w : World) : Type 0 where
   pub own : (n most : ℕ) (c : Placed) → slice_get (commands_of w.plan) n ≡ Some c → c.command.stop ≡ Some most → length (own_replies w n) ≤ most
-  pub round : (before between rest : List Entry) (e f : Entry) (m n : ℕ) (d c : Placed) → w.history ≡ before ++ e ∷ (between ++ f ∷ rest)
-      → IsEntryOf w.plan e m d → IsEntryOf w.plan f n c → w.plan.stop_at ≡ Some (length before + 1) → d.round < c.round
+  pub round : EachTwo w.plan w.history (λ number m d n c. w.plan.stop_at ≡ Some number → d.round < c.round)
 
 -- ---- answers
 
@@ -127,6 +126,7 @@ pub record IsMadeAt (w : World) (before : List Entry) (e : Entry) : Type 0 where
   pub by : Placed
   pub number : e.command ≡ place + 1
   pub ready : IsReady at.front place by
+  pub makes : with_entry at.front e ≡ stepped at.front place by.command
   pub goes : next_of at.front by.command (own_replies at.front place) ≡ next.Call e.call (is_faulty by.command (length (own_replies at.front place)))
 
 abbrev pub EachEntryIsMade : Type 0

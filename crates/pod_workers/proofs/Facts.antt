@@ -1,0 +1,246 @@
+-- Each entry of a legal world follows, entries stand in their order, and stops are kept.
+use Rattle.std.proofs.Common.{◌≡◌, ◌≢◌, ℕ, ◌+◌, ◌-◌, ◌<◌, ◌≤◌, ◌==◌, Bool, true, false, List, [], ◌∷◌, ◌++◌, length, Option, Some, None, slice_get, refl, sym, ◌∙◌, ap, subst, inl, inr, ◌⊎◌, arith}
+use Rattle.std.specs.Prelude.{if◌then◌else◌, ◌||◌, ◌&&◌, nat_le}
+use Rattle.std.proofs.lemmas.List.{append_assoc}
+use Rattle.std.proofs.lemmas.Option.{same_Some, none-some}
+use Rattle.std.proofs.lemmas.Bool.{cases_lt}
+use Rattle.std.proofs.lemmas.Bool.Decides.{eqb_tells, nat_tests}
+use Rattle.cni_verbs.specs.Progress.{turn_by}
+use Rattle.cni_verbs.specs.Script.{Turn, Calls, Finishes, Finish}
+use Rattle.cni_verbs.specs.declared.answer.Answer.{Answer}
+use Rattle.cni_verbs.specs.declared.answer.Answer.TheVariants.{OutOfMemory, Stopped}
+use Rattle.kernel_types.specs.declared.call.Call.{Call}
+use Rattle.net_conf.specs.declared.list.NetList.{NetList}
+use Rattle.pod_file.specs.declared.command.Command.{Command}
+use Rattle.pod_workers.specs.Facts.{Follows, EachFollows, IsEntryOf, EachTwo, AreBesides, GoesByRounds, GoesOneByOne, Stops}
+use Rattle.pod_workers.specs.Legal.{Legal, begins, steps, refused_memory, turns}
+use Rattle.pod_workers.specs.Plans.{Placed, commands_of, list_for}
+use Rattle.pod_workers.specs.World.{World, IsReady, replies_of, own_replies, reply_to, host_of, is_faulty, is_stop, is_cut, is_cut_at, is_in_round, last_entry, done, answered, with_entry, entry_of, next_of, next_by}
+use Rattle.pod_workers.specs.declared.plan.Plan.{Plan}
+use Rattle.pod_workers.specs.declared.plan.Entry.{Entry}
+use Rattle.pod_workers.specs.declared.plan.Next.{Next}
+use Rattle.pod_workers.specs.declared.plan.Next.TheVariants as next
+use Rattle.pod_workers.proofs.Histories.{replies_of-own, replies_of-other, has_reply, last_entry-append, length-append_one}
+use Rattle.pod_workers.proofs.Order.{IsInOrder, in_order, not_both, other_number}
+use Rattle.pod_workers.proofs.Sound.{allowed_next}
+use Rattle.pod_workers.proofs.Splits.{split_nil, split_snoc, two_snoc}
+
+-- ---- a step that makes a call
+
+or-false : (a b : Bool) → (a || b) ≡ false → (a ≡ false) × (b ≡ false)
+or-false true b is = absurd cc
+or-false false b is = (refl, is)
+
+going_by : (a : Answer) (c : Command) (made : ℕ) (k call : Call) (faulty b : Bool) → (if b then next.Answer a else next.Call k (is_faulty c made)) ≡ next.Call call faulty
+    → (Calls k ≡ Calls call) × (is_faulty c made ≡ faulty) × (b ≡ false)
+going_by a c made k call faulty true is = absurd cc
+going_by a c made k call faulty false is = (cc, cc, refl)
+
+-- why a step makes this call
+pub record Goes (c : Command) (made : ℕ) (cut : Bool) (t : Turn) (call : Call) (faulty : Bool) : Type 0 where
+  pub call_is : t ≡ Calls call
+  pub fault_is : is_faulty c made ≡ faulty
+  pub no_stop : is_stop c.stop made ≡ false
+  pub no_cut : cut ≡ false
+
+pub goes_by : (list : Option NetList) (c : Command) (made : ℕ) (cut : Bool) (t : Turn) (call : Call) (faulty : Bool) → next_by list c made cut t ≡ next.Call call faulty → Goes c made cut t call faulty
+goes_by list c made cut (Finishes finish) call faulty is = absurd cc
+goes_by list c made cut (Calls k) call faulty is =
+    let g = going_by (Stopped made) c made k call faulty (is_stop c.stop made || cut) is in
+    let neither = or-false (is_stop c.stop made) cut g.2 in
+    record { call_is = g.0; fault_is = g.1; no_stop = neither.0; no_cut = neither.1 }
+
+-- the same of a command of a world
+abbrev pub GoesIn : World → ℕ → Command → Call → Bool → Type 0
+GoesIn w n c call faulty = Goes c (length (own_replies w n)) (is_cut w) (turn_by (list_for w.plan c) c (own_replies w n)) call faulty
+
+pub goes_in : (w : World) (n : ℕ) (c : Command) (call : Call) (faulty : Bool) → next_of w c (own_replies w n) ≡ next.Call call faulty → GoesIn w n c call faulty
+goes_in w n c call faulty is = goes_by (list_for w.plan c) c (length (own_replies w n)) (is_cut w) (turn_by (list_for w.plan c) c (own_replies w n)) call faulty is
+
+-- ---- each entry follows
+
+follows_ready : (v : World) (n : ℕ) (c : Placed) (call : Call) (faulty : Bool) → Legal v → IsReady v n c → next_of v c.command (own_replies v n) ≡ next.Call call faulty
+    → Follows v.plan v.history (entry_of (host_of v) n call faulty)
+follows_ready v n c call faulty legal ready is =
+    let goes = goes_in v n c.command call faulty is in
+    record {
+      place = n;
+      by = c;
+      number = refl;
+      there = ready.there;
+      call = goes.call_is;
+      reply = ap (reply_to (host_of v) call) (sym goes.fault_is);
+      allowed = λ no_fault. allowed_next v n c call legal ready (is ∙ ap (next.Call call) (sym goes.fault_is ∙ no_fault));
+      no_stop = goes.no_stop;
+    }
+
+each_done : (v : World) (n : ℕ) (c : Placed) (x : Next) → Legal v → EachFollows v.plan v.history → IsReady v n c → next_of v c.command (own_replies v n) ≡ x
+    → EachFollows (done v n x).plan (done v n x).history
+each_done v n c (next.Answer a) legal each ready is = each
+each_done v n c (next.Call call faulty) legal each ready is = λ before rest e at.
+    elim (split_snoc v.history before rest (entry_of (host_of v) n call faulty) e at) [
+      | inl t ↦ subst (λ b. Follows v.plan b e) t.1 (subst (Follows v.plan v.history) t.2 (follows_ready v n c call faulty legal ready is))
+      | inr t ↦ each before t.0 e t.2
+    ]
+
+pub each_follows : (w : World) → Legal w → EachFollows w.plan w.history
+each_follows _ (begins w begun) = λ before rest e at. absurd (split_nil before rest e (sym begun.empty ∙ at))
+each_follows _ (steps v w n c legal ready is) = subst (λ (u : World). EachFollows u.plan u.history) (sym is) (each_done v n c (next_of v c.command (own_replies v n)) legal (each_follows v legal) ready refl)
+each_follows _ (refused_memory v w n c legal ready is) = subst (λ (u : World). EachFollows u.plan u.history) (sym is) (each_follows v legal)
+each_follows _ (turns v w legal less over is) = subst (λ (u : World). EachFollows u.plan u.history) (sym is) (each_follows v legal)
+
+-- ---- two entries
+
+-- an entry is of one command
+pub one_command : (p : Plan) (x f : Entry) (k n : ℕ) (b c : Placed) → x ≡ f → IsEntryOf p x k b → IsEntryOf p f n c → (k ≡ n) × (b ≡ c)
+one_command p x f k n b c same of_x of_f =
+    let number : x.command ≡ f.command = ap (λ (e : Entry). e.command) same in
+    let own_x = of_x.number in
+    let own_f = of_f.number in
+    let place : k ≡ n = omega arith in
+    (place, same_Some b c (sym of_x.there ∙ ap (slice_get (commands_of p)) place ∙ of_f.there))
+
+-- what the new entry is to each that stands
+abbrev ToLatest : Plan → List Entry → ((number m : ℕ) → Placed → ℕ → Placed → Type 0) → ℕ → Placed → Type 0
+ToLatest p h Fit k b = (before between : List Entry) (e : Entry) (m : ℕ) (d : Placed) → h ≡ before ++ e ∷ between → IsEntryOf p e m d → Fit (length before + 1) m d k b
+
+pub each_two-grows : (p : Plan) (h : List Entry) (x : Entry) (k : ℕ) (b : Placed) (Fit : (number m : ℕ) → Placed → ℕ → Placed → Type 0) → IsEntryOf p x k b
+    → EachTwo p h Fit → ToLatest p h Fit k b → EachTwo p (h ++ x ∷ []) Fit
+each_two-grows p h x k b Fit new old latest = λ before between rest e f m n d c at of_e of_f.
+    elim (two_snoc h before between rest x e f at) [
+      | inl t ↦
+          let same = one_command p x f k n b c t.1 new of_f in
+          subst (λ (q : Placed). Fit (length before + 1) m d n q) same.1 (subst (λ (j : ℕ). Fit (length before + 1) m d j b) same.0 (latest before between e m d t.0 of_e))
+      | inr t ↦ old before between t.0 e f m n d c t.1 of_e of_f
+    ]
+
+-- an entry is of a round that was reached
+pub is_reached : (w : World) (before rest : List Entry) (e : Entry) (m : ℕ) (d : Placed) → IsInOrder w → w.history ≡ before ++ e ∷ rest → IsEntryOf w.plan e m d → d.round ≤ w.round
+is_reached w before rest e m d order at of_e =
+    elim (cases_lt w.round d.round) [
+      | inl later ↦ absurd (has_reply m w.history before rest e at of_e.number (order.later m d of_e.there later).no_reply)
+      | inr reached ↦ reached
+    ]
+
+-- ---- the facts on two entries, all at once
+
+pub record TwoEntries (w : World) : Type 0 where
+  pub rounds : EachTwo w.plan w.history (λ number m d n c. d.round ≤ c.round)
+  pub containers : EachTwo w.plan w.history (λ number m d n c. AreBesides d c → m ≤ n)
+  pub cut : EachTwo w.plan w.history (λ number m d n c. w.plan.stop_at ≡ Some number → d.round < c.round)
+
+-- beside an entry no earlier command of its container is ready
+one_by_one : (w : World) (before rest : List Entry) (e : Entry) (m n : ℕ) (d c : Placed) → IsInOrder w → IsReady w n c → w.history ≡ before ++ e ∷ rest → IsEntryOf w.plan e m d
+    → AreBesides d c → m ≤ n
+one_by_one w before rest e m n d c order ready at of_e besides =
+    elim (cases_lt n m) [
+      | inl less ↦ absurd (elim (order.first n m c d less ready.there of_e.there (sym besides.0) (sym besides.1)) [
+        | inl u ↦ has_reply m w.history before rest e at of_e.number u.no_reply
+        | inr a ↦ not_both w n a ready.unanswered
+      ])
+      | inr most ↦ most
+    ]
+
+in_round-false : (round number : ℕ) (d : Placed) → ((number == number) && is_in_round round (Some d)) ≡ false → d.round ≢ round
+in_round-false round number d is same = absurd (grind (arith, nat_tests))
+
+-- the entry that `stop_at` names, where it is the last one, isn't of the current round
+cut_at_last : (w : World) (before : List Entry) (e : Entry) (m : ℕ) (d : Placed) → w.history ≡ before ++ e ∷ [] → IsEntryOf w.plan e m d → w.plan.stop_at ≡ Some (length before + 1)
+    → is_cut w ≡ false → d.round ≢ w.round
+cut_at_last w before e m d at of_e stop no_cut = λ same.
+    let number : length w.history ≡ length before + 1 = ap length at ∙ length-append_one before e in
+    let last : last_entry w.history ≡ Some e = ap last_entry at ∙ last_entry-append before e in
+    let own = of_e.number in
+    let place : e.command - 1 ≡ m = omega arith in
+    let there : slice_get (commands_of w.plan) (e.command - 1) ≡ Some d = ap (slice_get (commands_of w.plan)) place ∙ of_e.there in
+    let cut : is_cut w ≡ ((length w.history == length before + 1) && is_in_round w.round (slice_get (commands_of w.plan) (e.command - 1))) =
+    ap (λ (s : Option ℕ). is_cut_at s w (last_entry w.history)) stop ∙ ap (λ (l : Option Entry). is_cut_at (Some (length before + 1)) w l) last in
+    let told : ((length before + 1 == length before + 1) && is_in_round w.round (Some d)) ≡ false =
+    ap (λ (k : ℕ). (k == length before + 1) && is_in_round w.round (Some d)) (sym number) ∙ ap (λ (o : Option Placed). (length w.history == length before + 1) && is_in_round w.round o) (sym there) ∙ sym cut ∙ no_cut in
+    in_round-false w.round (length before + 1) d told same
+
+cut_before : (w : World) (before between : List Entry) (e : Entry) (m : ℕ) (d : Placed) → IsInOrder w → TwoEntries w → EachFollows w.plan w.history → is_cut w ≡ false
+    → w.history ≡ before ++ e ∷ between → IsEntryOf w.plan e m d → w.plan.stop_at ≡ Some (length before + 1) → d.round < w.round
+cut_before w before [] e m d order two each no_cut at of_e stop =
+    let reached = is_reached w before [] e m d order at of_e in
+    let other = cut_at_last w before e m d at of_e stop no_cut in
+    omega arith
+cut_before w before (f ∷ between) e m d order two each no_cut at of_e stop =
+    let split = at ∙ sym (append_assoc before (e ∷ []) (f ∷ between)) in
+    let follows = each (before ++ e ∷ []) between f split in
+    let of_f : IsEntryOf w.plan f follows.place follows.by = record { number = follows.number; there = follows.there } in
+    let less = two.cut before [] between e f m follows.place d follows.by at of_e of_f stop in
+    let reached = is_reached w (before ++ e ∷ []) between f follows.place follows.by order split of_f in
+    omega arith
+
+two_done : (v : World) (n : ℕ) (c : Placed) (x : Next) → IsInOrder v → EachFollows v.plan v.history → TwoEntries v → IsReady v n c → next_of v c.command (own_replies v n) ≡ x → TwoEntries (done v n x)
+two_done v n c (next.Answer a) order each two ready is = record { rounds = two.rounds; containers = two.containers; cut = two.cut }
+two_done v n c (next.Call call faulty) order each two ready is =
+    let e = entry_of (host_of v) n call faulty in
+    let new : IsEntryOf v.plan e n c = record { number = refl; there = ready.there } in
+    let goes = goes_in v n c.command call faulty is in
+    record {
+      rounds = each_two-grows v.plan v.history e n c (λ number m d j b. d.round ≤ b.round) new two.rounds
+          (λ before between f m d at of_f. let reached = is_reached v before between f m d order at of_f in let here = ready.current in omega arith);
+      containers = each_two-grows v.plan v.history e n c (λ number m d j b. AreBesides d b → m ≤ j) new two.containers
+          (λ before between f m d at of_f besides. one_by_one v before between f m n d c order ready at of_f besides);
+      cut = each_two-grows v.plan v.history e n c (λ number m d j b. v.plan.stop_at ≡ Some number → d.round < b.round) new two.cut
+          (λ before between f m d at of_f stop. let less = cut_before v before between f m d order two each goes.no_cut at of_f stop in let here = ready.current in omega arith);
+    }
+
+none_two : (w : World) (Fit : (number m : ℕ) → Placed → ℕ → Placed → Type 0) → w.history ≡ [] → EachTwo w.plan w.history Fit
+none_two w Fit none = λ before between rest e f m n d c at of_e of_f. absurd (split_nil before (between ++ f ∷ rest) e (sym none ∙ at))
+
+pub two_entries : (w : World) → Legal w → TwoEntries w
+two_entries _ (begins w begun) = record {
+  rounds = none_two w (λ number m d n c. d.round ≤ c.round) begun.empty;
+  containers = none_two w (λ number m d n c. AreBesides d c → m ≤ n) begun.empty;
+  cut = none_two w (λ number m d n c. w.plan.stop_at ≡ Some number → d.round < c.round) begun.empty;
+}
+two_entries _ (steps v w n c legal ready is) =
+    subst TwoEntries (sym is) (two_done v n c (next_of v c.command (own_replies v n)) (in_order v legal) (each_follows v legal) (two_entries v legal) ready refl)
+two_entries _ (refused_memory v w n c legal ready is) = subst TwoEntries (sym is) (let t = two_entries v legal in record { rounds = t.rounds; containers = t.containers; cut = t.cut })
+two_entries _ (turns v w legal less over is) = subst TwoEntries (sym is) (let t = two_entries v legal in record { rounds = t.rounds; containers = t.containers; cut = t.cut })
+
+-- ---- the stop of a command
+
+abbrev KeepsStop : World → Type 0
+KeepsStop w = (n most : ℕ) (c : Placed) → slice_get (commands_of w.plan) n ≡ Some c → c.command.stop ≡ Some most → length (own_replies w n) ≤ most
+
+below_stop : (o : Option ℕ) (made most : ℕ) → is_stop o made ≡ false → o ≡ Some most → made < most
+below_stop None made most going is = absurd (none-some most is)
+below_stop (Some k) made most going is = let same = same_Some k most is in let less : made < k = grind (arith, nat_tests) in omega arith
+
+stop_done : (v : World) (n : ℕ) (c : Placed) (x : Next) → KeepsStop v → IsReady v n c → next_of v c.command (own_replies v n) ≡ x → KeepsStop (done v n x)
+stop_done v n c (next.Answer a) keeps ready is = keeps
+stop_done v n c (next.Call call faulty) keeps ready is = λ m most d at stop.
+    let e = entry_of (host_of v) n call faulty in
+    elim (eqb_tells m n) [
+      | inl t ↦
+          let same : c ≡ d = same_Some c d (sym ready.there ∙ ap (slice_get (commands_of v.plan)) (sym t.1) ∙ at) in
+          let less = below_stop c.command.stop (length (own_replies v n)) most (goes_in v n c.command call faulty is).no_stop (ap (λ (q : Placed). q.command.stop) same ∙ stop) in
+          let grown : length (replies_of m (v.history ++ e ∷ [])) ≡ length (own_replies v n) + 1 =
+          ap (λ j. length (replies_of j (v.history ++ e ∷ []))) t.1 ∙ ap length (replies_of-own n v.history e refl) ∙ length-append_one (own_replies v n) e.reply in
+          omega arith
+      | inr f ↦ rw (replies_of-other m v.history e (other_number e n m refl f.1)) (keeps m most d at stop)
+    ]
+
+pub keeps_stop : (w : World) → Legal w → KeepsStop w
+keeps_stop _ (begins w begun) = λ n most c at stop. rw (ap (replies_of n) begun.empty) (omega arith)
+keeps_stop _ (steps v w n c legal ready is) = subst KeepsStop (sym is) (stop_done v n c (next_of v c.command (own_replies v n)) (keeps_stop v legal) ready refl)
+keeps_stop _ (refused_memory v w n c legal ready is) = subst KeepsStop (sym is) (keeps_stop v legal)
+keeps_stop _ (turns v w legal less over is) = subst KeepsStop (sym is) (keeps_stop v legal)
+
+-- ---- the clauses
+
+pub goes_by_rounds : (w : World) → Legal w → GoesByRounds w
+goes_by_rounds w legal = let order = in_order w legal in record { past = order.past; later = order.later; entries = (two_entries w legal).rounds }
+
+pub goes_one_by_one : (w : World) → Legal w → GoesOneByOne w
+goes_one_by_one w legal = record {
+  first = λ m n d c less at_m at_n besides. (in_order w legal).first m n d c less at_m at_n besides.0 besides.1;
+  entries = (two_entries w legal).containers;
+}
+
+pub stops : (w : World) → Legal w → Stops w
+stops w legal = record { own = keeps_stop w legal; round = (two_entries w legal).cut }
