@@ -1,4 +1,6 @@
+pub mod AnswersDue
 pub mod Facts
+pub mod Fronts
 pub mod Histories
 pub mod Order
 pub mod Planned
