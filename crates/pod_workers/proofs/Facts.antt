@@ -159,7 +159,7 @@ cut_at_last w before e m d at of_e stop no_cut = λ same.
     ap (λ (k : ℕ). (k == length before + 1) && is_in_round w.round (Some d)) (sym number) ∙ ap (λ (o : Option Placed). (length w.history == length before + 1) && is_in_round w.round o) (sym there) ∙ sym cut ∙ no_cut in
     in_round-false w.round (length before + 1) d told same
 
-cut_before : (w : World) (before between : List Entry) (e : Entry) (m : ℕ) (d : Placed) → IsInOrder w → TwoEntries w → EachFollows w.plan w.history → is_cut w ≡ false
+pub cut_before : (w : World) (before between : List Entry) (e : Entry) (m : ℕ) (d : Placed) → IsInOrder w → TwoEntries w → EachFollows w.plan w.history → is_cut w ≡ false
     → w.history ≡ before ++ e ∷ between → IsEntryOf w.plan e m d → w.plan.stop_at ≡ Some (length before + 1) → d.round < w.round
 cut_before w before [] e m d order two each no_cut at of_e stop =
     let reached = is_reached w before [] e m d order at of_e in
@@ -188,7 +188,7 @@ two_done v n c (next.Call call faulty) order each two ready is =
           (λ before between f m d at of_f stop. let less = cut_before v before between f m d order two each goes.no_cut at of_f stop in let here = ready.current in omega arith);
     }
 
-none_two : (w : World) (Fit : (number m : ℕ) → Placed → ℕ → Placed → Type 0) → w.history ≡ [] → EachTwo w.plan w.history Fit
+pub none_two : (w : World) (Fit : (number m : ℕ) → Placed → ℕ → Placed → Type 0) → w.history ≡ [] → EachTwo w.plan w.history Fit
 none_two w Fit none = λ before between rest e f m n d c at of_e of_f. absurd (split_nil before (between ++ f ∷ rest) e (sym none ∙ at))
 
 pub two_entries : (w : World) → Legal w → TwoEntries w

@@ -1,8 +1,11 @@
 pub mod AnswersDue
+pub mod Clauses
 pub mod Facts
+pub mod FileOrder
 pub mod Fronts
 pub mod Histories
 pub mod Order
 pub mod Planned
+pub mod Rounds
 pub mod Sound
 pub mod Splits

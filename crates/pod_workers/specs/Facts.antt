@@ -42,6 +42,9 @@ EachTwo p h Fit =
     (before between rest : List Entry) (e f : Entry) (m n : ℕ) (d c : Placed) → h ≡ before ++ e ∷ (between ++ f ∷ rest)
     → IsEntryOf p e m d → IsEntryOf p f n c → Fit (length before + 1) m d n c
 
+abbrev pub EveryEntryFollows : Type 0
+EveryEntryFollows = (w : World) → Legal w → EachFollows w.plan w.history
+
 -- ---- rounds
 
 -- the command at this place has made no call and has no answer
@@ -103,6 +106,9 @@ IsStopped w n c a = IsStopOf w n c a × (IsAtItsStop w n c ⊎ EntryIsInRound w.
 abbrev pub AnswerIsDue : World → Type 0
 AnswerIsDue w = (n : ℕ) (a : Answer) (c : Placed) → slice_get w.answers n ≡ Some (Some a) → slice_get (commands_of w.plan) n ≡ Some c
     → IsScripts w n c a ⊎ (IsStopped w n c a ⊎ (a ≡ OutOfMemory))
+
+abbrev pub EveryAnswerIsDue : Type 0
+EveryAnswerIsDue = (w : World) → Legal w → AnswerIsDue w
 
 -- ---- moments
 
