@@ -4,6 +4,7 @@ pub mod Facts
 pub mod FileOrder
 pub mod Fronts
 pub mod Histories
+pub mod OneOutcome
 pub mod Order
 pub mod Planned
 pub mod Rounds

@@ -147,7 +147,7 @@ same_or_other a b = elim (cases_Bool (bytes_eq a b)) [
   | inr other ↦ inr (λ is. let t = (bytes_eq-Decides a b).1 is in cc)
 ]
 
-compared : (a b : ℕ) → (a < b) ⊎ ((b < a) ⊎ (a ≡ b))
+pub compared : (a b : ℕ) → (a < b) ⊎ ((b < a) ⊎ (a ≡ b))
 compared a b = elim (cases_lt a b) [ inl l ↦ inl l | inr g ↦ elim (eqb_tells a b) [ inl t ↦ inr (inr t.1) | inr f ↦ inr (inl (let other = f.1 in omega arith)) ] ]
 
 apart_in_container : (w : World) (m n : ℕ) (d c : Placed) → IsInOrder w → IsReady w n c → m ≢ n → slice_get (commands_of w.plan) m ≡ Some d → slice_get w.answers m ≡ Some None

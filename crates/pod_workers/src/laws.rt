@@ -1,6 +1,8 @@
 //! Laws over every legal history, each carried by a function that does nothing.
 
+ghost use Rattle.pod_workers.specs.Facts.{EachAnswerIsGiven, EachCommandIsOpenAfterItsEntry, EachEntryIsMade, EachFront, EveryAnswerIsDue, EveryEntryFollows, LegalWorldsMeetEachClause};
 ghost use Rattle.pod_workers.specs.Laws.{EveryCallMayBeMade, EveryHostIsSound, NoAddressIsLeasedTwice};
+ghost use Rattle.pod_workers.specs.Order.{OneOutcome};
 
 /// Every host that a well-formed plan comes to is sound, whichever commands stepped in which order, were stopped, met
 /// faults or were refused memory.
@@ -19,4 +21,54 @@ pub fn no_address_is_leased_twice()
 #[tactic(auto, using(crate::proofs::Sound::allowed_next))]
 pub fn every_call_may_be_made()
     ensures { EveryCallMayBeMade }
+{}
+
+/// Each entry has the call of its command's script and the kernel's reply in the host there, or a fault that the command
+/// lists.
+#[tactic(auto, using(crate::proofs::Facts::each_follows))]
+pub fn every_entry_follows()
+    ensures { EveryEntryFollows }
+{}
+
+/// Each answer is the script's, a stop by the command's own number of calls or with its round, or want of memory.
+#[tactic(auto, using(crate::proofs::AnswersDue::answer_is_due))]
+pub fn every_answer_is_due()
+    ensures { EveryAnswerIsDue }
+{}
+
+/// Each front of a history is the history of a legal world whose answers stand later, so what is true of every legal
+/// world was true at every moment.
+#[tactic(auto, using(crate::proofs::Fronts::each_front))]
+pub fn each_front_is_legal()
+    ensures { EachFront }
+{}
+
+/// Each entry was made by a command that was ready in the front before it.
+#[tactic(auto, using(crate::proofs::Fronts::each_made))]
+pub fn each_entry_is_made()
+    ensures { EachEntryIsMade }
+{}
+
+/// Right after each of its entries a command has no answer.
+#[tactic(auto, using(crate::proofs::Fronts::each_open_after))]
+pub fn each_command_is_open_after_its_entry()
+    ensures { EachCommandIsOpenAfterItsEntry }
+{}
+
+/// Each answer was given in a front that has all entries of its command.
+#[tactic(auto, using(crate::proofs::Fronts::each_answered))]
+pub fn each_answer_is_given()
+    ensures { EachAnswerIsGiven }
+{}
+
+/// A world that allowed steps reach meets each clause of what a legal history is: its entries, rounds, containers, stops
+/// and answers.
+pub fn legal_worlds_meet_each_clause()
+    ensures { LegalWorldsMeetEachClause }
+{}
+
+/// A plan that is carried out in file order to its end, with memory, has one history and one list of answers.
+#[tactic(auto, using(crate::proofs::OneOutcome::one_outcome))]
+pub fn one_outcome()
+    ensures { OneOutcome }
 {}

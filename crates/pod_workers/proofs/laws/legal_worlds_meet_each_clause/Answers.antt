@@ -1,0 +1,5 @@
+use Rattle.pod_workers.proofs.Clauses.{meets_each_clause}
+use Rattle.pod_workers.proofs.laws.legal_worlds_meet_each_clause.Goals as goal
+
+pub returns : goal.returns
+returns c = meets_each_clause
