@@ -17,7 +17,7 @@ use Rattle.pod_workers.proofs.AnswersDue.{answer_is_due}
 use Rattle.pod_workers.proofs.Facts.{TwoEntries, two_entries, each_follows, each_two-grows, none_two, is_reached, cut_before, goes_in}
 use Rattle.pod_workers.proofs.Histories.{slice_get-set_other, replies_of-other, has_reply}
 use Rattle.pod_workers.proofs.Order.{IsInOrder, in_order, not_both, ready_is, other_number}
-use Rattle.pod_workers.proofs.Rounds.{rounds_ascend}
+use Rattle.pod_workers.proofs.RoundsAscend.{rounds_ascend}
 
 -- ---- what is done stays done
 

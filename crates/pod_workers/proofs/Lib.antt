@@ -7,6 +7,6 @@ pub mod Histories
 pub mod OneOutcome
 pub mod Order
 pub mod Planned
-pub mod Rounds
+pub mod RoundsAscend
 pub mod Sound
 pub mod Splits

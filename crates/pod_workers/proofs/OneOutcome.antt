@@ -22,7 +22,7 @@ use Rattle.pod_workers.proofs.AnswersDue.{answer_is_due}
 use Rattle.pod_workers.proofs.Facts.{each_follows, two_entries, one_command}
 use Rattle.pod_workers.proofs.Histories.{replies_of-append, has_reply}
 use Rattle.pod_workers.proofs.Order.{in_order, compared}
-use Rattle.pod_workers.proofs.Rounds.{rounds_ascend, all_answered}
+use Rattle.pod_workers.proofs.RoundsAscend.{rounds_ascend, all_answered}
 use Rattle.pod_workers.proofs.Splits.{cons_parts, split_nil}
 
 -- ---- the next entry is a function of the history so far
