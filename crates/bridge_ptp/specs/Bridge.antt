@@ -31,7 +31,7 @@ bridge_share_after conf att netns given = record no_objects {
 
 -- ---- the calls
 
--- each gateway each_key_once, with its subnet's prefix
+-- each gateway once, with its subnet's prefix
 abbrev pub gateway_on : Given → Cidr
 gateway_on g = record { addr = g.gateway; prefix = g.subnet.prefix }
 

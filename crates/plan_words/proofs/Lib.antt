@@ -1,1 +1,7 @@
+pub mod Appends
+pub mod CallLists
+pub mod Deletions
 pub mod KeyLists
+pub mod OtherCalls
+pub mod OwnCalls
+pub mod Refusals

@@ -1,0 +1,81 @@
+-- What a deletion that finds nothing says, and what lies where an attachment has no link.
+use Rattle.std.proofs.Common.{◌≡◌, ℕ, Bool, true, false, cond, List, [], ◌∷◌, Option, Some, None, refl, arith}
+use Rattle.std.specs.Prelude.{filter, find, ◌||◌}
+use Rattle.std.specs.List.{list_any, list_all}
+use Rattle.kernel_types.specs.Lists.{without_first}
+use Rattle.kernel_types.specs.Words.{is_own, is_link_of}
+use Rattle.kernel_types.specs.Apply.Calls.{without_link}
+use Rattle.kernel_types.specs.Sound.{IsSound, address_fits_tag}
+use Rattle.kernel_types.proofs.Isolation.{is_own-one}
+use Rattle.kernel_types.proofs.ListLemmas.{list_any-find_none, without_first-none}
+use Rattle.kernel_types.specs.declared.object.Att.{Att}
+use Rattle.kernel_types.specs.declared.object.Tag.TheVariants.{Own}
+use Rattle.kernel_types.specs.declared.object.Link.{Link}
+use Rattle.kernel_types.specs.declared.object.AddrObj.{AddrObj}
+use Rattle.kernel_types.specs.declared.object.RouteObj.{RouteObj}
+use Rattle.kernel_types.specs.declared.object.Host.{Host}
+use Rattle.kernel_types.specs.declared.call.Reply.{Reply}
+use Rattle.kernel_types.specs.declared.call.Reply.TheVariants.{Gone}
+use Rattle.plan_words.specs.Share.{share_of}
+use Rattle.plan_words.proofs.KeyLists.{filter-none}
+
+-- ---- deletions
+
+true_or_false : true ≡ false → ⊥
+true_or_false h = cc
+
+differ : (b : Bool) → b ≡ true → b ≡ false → ⊥
+differ b h g = cc
+
+by_bool : {C : Type 0} (b : Bool) → (b ≡ true → C) → (b ≡ false → C) → C
+by_bool true h g = h refl
+by_bool false h g = g refl
+
+cons_nil : {X : Type 0} (x : X) (xs : List X) → x ∷ xs ≡ [] → ⊥
+cons_nil x xs h = cc
+
+empty_none_by : {X : Type 0} (b : Bool) (x : X) (xs : List X) (rest : Bool) → (xs ≡ [] → rest ≡ false) → cond b (x ∷ xs) xs ≡ [] → (b || rest) ≡ false
+empty_none_by true x xs rest h g = absurd (cons_nil x xs g)
+empty_none_by false x xs rest h g = h g
+
+-- a deletion of one object that found none leaves the host, and there is none
+same_gone : (a b : Bool) → Gone a ≡ Gone b → a ≡ b
+same_gone a b h = cc
+
+pub gone-none : {X : Type 0} (p : X → Bool) (xs : List X) → Gone (list_any p xs) ≡ Gone false → (without_first p xs ≡ xs) × (filter p xs ≡ [])
+gone-none p xs h = let none = same_gone (list_any p xs) false h in (without_first-none p xs none, filter-none p xs none)
+
+pub gone-links : (att : Att) (host : Host) (o : Option Link) → find (λ l. is_own att l.tag) host.links ≡ o → (without_link host o).1 ≡ Gone false → ((without_link host o).0 ≡ host) × ((share_of att host).links ≡ [])
+gone-links att host None is h = (refl, filter-none (λ l. is_own att l.tag) host.links (list_any-find_none (λ l. is_own att l.tag) host.links is))
+gone-links att host (Some link) is h = absurd (true_or_false (same_gone true false h))
+
+-- ---- where there is no link of the attachment, no_objects lies on one
+
+pub empty_none : {X : Type 0} (p : X → Bool) (xs : List X) → filter p xs ≡ [] → list_any p xs ≡ false
+empty_none p [] h = refl
+empty_none p (x ∷ xs) h = empty_none_by (p x) x (filter p xs) (list_any p xs) (λ e. empty_none p xs e) h
+
+none_weaker : (att : Att) (ns name : List ℕ) (links : List Link) → list_any (λ l. is_own att l.tag) links ≡ false → list_any (is_link_of ns name (Own att)) links ≡ false
+none_weaker att ns name [] h = refl
+none_weaker att ns name (l ∷ ls) h = grind (arith, none_weaker att ns name ls)
+
+addr_lies : (att : Att) (links : List Link) (a : AddrObj) → list_any (λ l. is_own att l.tag) links ≡ false → address_fits_tag links a a.tag ≡ true → is_own att a.tag ≡ false
+addr_lies att links a none lies = by_bool (is_own att a.tag)
+    (λ own. let lie : list_any (is_link_of a.ns a.link (Own att)) links ≡ true = rw (is_own-one att a.tag own) at lies in absurd (differ (list_any (is_link_of a.ns a.link (Own att)) links) lie (none_weaker att a.ns a.link links none)))
+    (λ f. f)
+
+route_lies : (att : Att) (links : List Link) (r : RouteObj) → list_any (λ l. is_own att l.tag) links ≡ false → list_any (is_link_of r.ns r.link r.tag) links ≡ true → is_own att r.tag ≡ false
+route_lies att links r none lies = by_bool (is_own att r.tag)
+    (λ own. let lie : list_any (is_link_of r.ns r.link (Own att)) links ≡ true = rw (is_own-one att r.tag own) at lies in absurd (differ (list_any (is_link_of r.ns r.link (Own att)) links) lie (none_weaker att r.ns r.link links none)))
+    (λ f. f)
+
+filter_never : {X : Type 0} (p q : X → Bool) → ((x : X) → q x ≡ true → p x ≡ false) → (xs : List X) → list_all q xs ≡ true → filter p xs ≡ []
+filter_never p q w [] h = refl
+filter_never p q w (x ∷ xs) h = grind (arith, w x, filter_never p q w xs)
+
+pub no-links : (att : Att) (host : Host) → IsSound host → (share_of att host).links ≡ [] → ((share_of att host).addresses ≡ []) × ((share_of att host).routes ≡ [])
+no-links att host sound none =
+    let no = empty_none (λ l. is_own att l.tag) host.links none in (
+      filter_never (λ a. is_own att a.tag) (λ a. address_fits_tag host.links a a.tag) (λ a lies. addr_lies att host.links a no lies) host.addresses sound.addresses.lie,
+      filter_never (λ r. is_own att r.tag) (λ r. list_any (is_link_of r.ns r.link r.tag) host.links) (λ r lies. route_lies att host.links r no lies) host.routes sound.routes.lie,
+    )

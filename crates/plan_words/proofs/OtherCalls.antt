@@ -1,0 +1,92 @@
+-- A call of one attachment leaves the share of every other.
+use Rattle.std.proofs.Common.{◌≡◌, Bool, true, false, refl, sym, ◌∙◌, ap, subst}
+use Rattle.std.specs.Prelude.{filter, ◌&&◌}
+use Rattle.kernel_types.specs.Allowed.{IsAllowed}
+use Rattle.kernel_types.specs.Apply.{apply}
+use Rattle.kernel_types.specs.Equal.{att_eq}
+use Rattle.kernel_types.specs.Isolation.{KeepsPart, names_att, is_from_outside}
+use Rattle.kernel_types.specs.Sound.{IsSound}
+use Rattle.kernel_types.specs.Words.{is_own}
+use Rattle.kernel_types.proofs.EveryCall.{Touches-apply}
+use Rattle.kernel_types.proofs.Isolation.{KeepsPart-Touches, att_eq-same, own_apart}
+use Rattle.kernel_types.specs.declared.object.Att.{Att}
+use Rattle.kernel_types.specs.declared.object.Host.{Host}
+use Rattle.kernel_types.specs.declared.call.Call.{Call}
+use Rattle.kernel_types.specs.declared.call.Call.TheVariants.{Begin, BridgeEnsure, GatewayEnsure, ForwardEnsure, VethAdd, MacvlanAdd, LinkSet, AddrAdd, RouteAdd, RuleAppend, SettingSet, LeaseNext, CachePut, LinkDel, RuleDel, SettingDel, LeaseDel, CacheDel, HasObj, CacheGet, OwnersOf, PoolFree, NsChange, Outside}
+use Rattle.plan_words.specs.PlanCalls.{is_plan_call_of, is_call_of}
+use Rattle.plan_words.specs.Share.{share_of}
+
+-- the same objects of the attachment are the same share
+pub share-KeepsPart : (att : Att) (old new : Host) → KeepsPart att old new → share_of att new ≡ share_of att old
+share-KeepsPart att old new keeps = rw (keeps.links, keeps.addresses, keeps.routes, keeps.rules, keeps.settings, keeps.leases, keeps.cached) refl
+
+first_of : (a b : Bool) → (a && b) ≡ true → a ≡ true
+first_of true b h = refl
+first_of false b h = cc
+
+-- a call of this attachment names no other, and the world outside doesn't make it
+pub record IsApart (other : Att) (call : Call) : Type 0 where
+  pub inside : is_from_outside call ≡ false
+  pub unnamed : names_att other call ≡ false
+
+apart_att : (att other own : Att) → att_eq att other ≡ false → att_eq own att ≡ true → att_eq own other ≡ false
+apart_att att other own differ is = ap (λ a. att_eq a other) (att_eq-same own att is) ∙ differ
+
+pub call-apart : (att other : Att) (call : Call) → att_eq att other ≡ false → is_call_of att call ≡ true → IsApart other call
+call-apart att other (Begin a netns) differ is = record { inside = refl; unnamed = apart_att att other a differ is }
+call-apart att other (BridgeEnsure name mtu promisc) differ is = record { inside = refl; unnamed = refl }
+call-apart att other (GatewayEnsure bridge cidr) differ is = record { inside = refl; unnamed = refl }
+call-apart att other (ForwardEnsure family) differ is = record { inside = refl; unnamed = refl }
+call-apart att other (VethAdd h i) differ is = record { inside = refl; unnamed = own_apart att other differ h.tag (first_of (is_own att h.tag) (is_own att i.tag) is) }
+call-apart att other (MacvlanAdd link) differ is = record { inside = refl; unnamed = own_apart att other differ link.tag is }
+call-apart att other (LinkSet a key mac mtu tx_qlen promisc allmulti) differ is = record { inside = refl; unnamed = apart_att att other a differ is }
+call-apart att other (AddrAdd obj) differ is = record { inside = refl; unnamed = own_apart att other differ obj.tag is }
+call-apart att other (RouteAdd obj) differ is = record { inside = refl; unnamed = own_apart att other differ obj.tag is }
+call-apart att other (RuleAppend rule) differ is = record { inside = refl; unnamed = own_apart att other differ rule.tag is }
+call-apart att other (SettingSet setting) differ is = record { inside = refl; unnamed = own_apart att other differ setting.tag is }
+call-apart att other (LeaseNext a number set) differ is = record { inside = refl; unnamed = apart_att att other a differ is }
+call-apart att other (CachePut a cached) differ is = record { inside = refl; unnamed = apart_att att other a differ is }
+call-apart att other (LinkDel a) differ is = record { inside = refl; unnamed = apart_att att other a differ is }
+call-apart att other (RuleDel a) differ is = record { inside = refl; unnamed = apart_att att other a differ is }
+call-apart att other (SettingDel a) differ is = record { inside = refl; unnamed = apart_att att other a differ is }
+call-apart att other (LeaseDel a) differ is = record { inside = refl; unnamed = apart_att att other a differ is }
+call-apart att other (CacheDel a) differ is = record { inside = refl; unnamed = apart_att att other a differ is }
+call-apart att other (HasObj probe) differ is = cc
+call-apart att other (CacheGet a) differ is = record { inside = refl; unnamed = apart_att att other a differ is }
+call-apart att other (OwnersOf network kind) differ is = cc
+call-apart att other (PoolFree network set) differ is = cc
+call-apart att other (NsChange name add) differ is = cc
+call-apart att other (Outside change) differ is = cc
+
+-- a call of one attachment that may be made leaves the share of every other
+pub share-other : (att other : Att) (host : Host) (call : Call) → att_eq att other ≡ false → IsSound host → IsAllowed host call → is_call_of att call ≡ true → share_of other (apply host call).0 ≡ share_of other host
+share-other att other host call differ sound allowed is =
+    let apart = call-apart att other call differ is in
+    share-KeepsPart other host (apply host call).0 (KeepsPart-Touches call other host (apply host call).0 apart.inside apart.unnamed (Touches-apply host call sound allowed))
+
+-- a plugin's call is one of the attachment
+pub call-plan : (att : Att) (call : Call) → is_plan_call_of att call ≡ true → is_call_of att call ≡ true
+call-plan att (BridgeEnsure name mtu promisc) is = is
+call-plan att (GatewayEnsure bridge cidr) is = is
+call-plan att (ForwardEnsure family) is = is
+call-plan att (VethAdd h i) is = is
+call-plan att (MacvlanAdd link) is = is
+call-plan att (LinkSet a key mac mtu tx_qlen promisc allmulti) is = is
+call-plan att (AddrAdd obj) is = is
+call-plan att (RouteAdd obj) is = is
+call-plan att (RuleAppend rule) is = is
+call-plan att (SettingSet setting) is = is
+call-plan att (CachePut a cached) is = is
+call-plan att (Begin a netns) is = cc
+call-plan att (LeaseNext a number set) is = cc
+call-plan att (LinkDel a) is = cc
+call-plan att (RuleDel a) is = cc
+call-plan att (SettingDel a) is = cc
+call-plan att (LeaseDel a) is = cc
+call-plan att (CacheDel a) is = cc
+call-plan att (HasObj probe) is = cc
+call-plan att (CacheGet a) is = cc
+call-plan att (OwnersOf network kind) is = cc
+call-plan att (PoolFree network set) is = cc
+call-plan att (NsChange name add) is = cc
+call-plan att (Outside change) is = cc

@@ -1,0 +1,208 @@
+-- What an attachment's own calls make of its share: a call of a plan that was done what `share_after_call` says, a Begin
+-- that was done had nothing to find, and a lease stands at the end.
+use Rattle.std.proofs.Common.{◌≡◌, ℕ, Bool, true, false, List, [], ◌∷◌, ◌++◌, Option, Some, None, refl, ◌∙◌, ap, arith}
+use Rattle.std.specs.Prelude.{filter, find, if◌then◌else◌, ◌&&◌}
+use Rattle.std.specs.List.{list_any}
+use Rattle.std.specs.Option.{option_map, option_or}
+use Rattle.std.specs.Str.{bytes_eq}
+use Rattle.cni_addr.specs.declared.address.Addr.{Addr}
+use Rattle.cni_addr.specs.declared.address.Cidr.{Cidr}
+use Rattle.cni_addr.specs.declared.address.Family.{Family}
+use Rattle.cni_addr.specs.declared.mac.Mac.{Mac}
+use Rattle.cni_addr.specs.declared.range.RangeSet.{RangeSet}
+use Rattle.cni_result.specs.declared.cached.Cached.{Cached}
+use Rattle.ip_pool.specs.Pool.{pick_of}
+use Rattle.kernel_types.specs.Equal.{att_eq, addr_eq, rule_eq}
+use Rattle.kernel_types.specs.Words.{is_own, is_host_ns, is_host_or_ns, has_named_ns, link_at, is_host_link, has_host_bridge, has_objects}
+use Rattle.kernel_types.specs.Apply.{apply}
+use Rattle.kernel_types.specs.Apply.Calls.{append_unless_taken, begin_of, bridge_or_new, new_bridge, bridge_ensure_of, gateway_ensure_of, forward_key, forward_ensure_of, has_bridge_as_master, veth_add_of, has_master, macvlan_add_of, with_values, set_link, is_own_at, link_set_of, has_link_of, is_same_addr, addr_add_of, is_same_route, route_add_of, rule_append_of, is_same_setting, setting_set_of, leased_addresses, last_leased, is_of_pool, with_last, lease_taken, lease_next_of, cache_put_of}
+use Rattle.kernel_types.proofs.Cases.{by_test, by_way, att_eq-refl}
+use Rattle.kernel_types.specs.declared.object.Att.{Att}
+use Rattle.kernel_types.specs.declared.object.LinkKey.{LinkKey}
+use Rattle.kernel_types.specs.declared.object.Tag.{Tag}
+use Rattle.kernel_types.specs.declared.object.Tag.TheVariants.{Base}
+use Rattle.kernel_types.specs.declared.object.Link.{Link}
+use Rattle.kernel_types.specs.declared.object.AddrObj.{AddrObj}
+use Rattle.kernel_types.specs.declared.object.RouteObj.{RouteObj}
+use Rattle.kernel_types.specs.declared.object.Rule.{Rule}
+use Rattle.kernel_types.specs.declared.object.Setting.{Setting}
+use Rattle.kernel_types.specs.declared.object.Host.{Host}
+use Rattle.kernel_types.specs.declared.call.Call.{Call}
+use Rattle.kernel_types.specs.declared.call.Call.TheVariants.{Begin, BridgeEnsure, GatewayEnsure, ForwardEnsure, VethAdd, MacvlanAdd, LinkSet, AddrAdd, RouteAdd, RuleAppend, SettingSet, LeaseNext, CachePut, LinkDel, RuleDel, SettingDel, LeaseDel, CacheDel, HasObj, CacheGet, OwnersOf, PoolFree, NsChange, Outside}
+use Rattle.kernel_types.specs.declared.call.Reply.{Reply}
+use Rattle.kernel_types.specs.declared.call.Reply.TheVariants.{Done, Leased}
+use Rattle.plan_words.specs.Share.{Share, share_of, no_objects, share_after_call}
+use Rattle.plan_words.specs.PlanCalls.{is_plan_call_of}
+use Rattle.plan_words.specs.Shapes.{lease_of}
+use Rattle.plan_words.proofs.KeyLists.{filter-push_kept, filter-push_dropped, filter-two_kept, filter-none, filter-map_kept}
+
+-- ---- what an attachment's own call was that was done
+
+-- the claim of one call's host and reply
+abbrev pub Grows : Att → Share → Host × Reply → Type 0
+Grows att next step = step.1 ≡ Done → share_of att step.0 ≡ next
+
+own-bridge_or_new : (att : Att) (host : Host) (o : Option Link) (bridge : Link) → bridge.tag ≡ Base → Grows att (share_of att host) (bridge_or_new host o bridge)
+own-bridge_or_new att host (Some link) bridge base = λ done. refl
+own-bridge_or_new att host None bridge base = λ done. ap (λ l. record (share_of att host) { links = l }) (filter-push_dropped (λ l. is_own att l.tag) host.links bridge (ap (is_own att) base))
+
+own-gateway : (att : Att) (host : Host) (bridge : List ℕ) (cidr : Cidr) → Grows att (share_of att host) (gateway_ensure_of host bridge cidr)
+own-gateway att host bridge cidr =
+    by_test (Grows att (share_of att host)) (has_host_bridge host bridge) _ _
+    (λ _. by_test (Grows att (share_of att host)) (list_any _ host.addresses) _ _ (λ _ _. refl)
+    (λ _ _. ap (λ l. record (share_of att host) { addresses = l }) (filter-push_dropped (λ a. is_own att a.tag) host.addresses _ refl)))
+    (λ _ _. refl)
+
+own-forward : (att : Att) (host : Host) (family : Family) → Grows att (share_of att host) (forward_ensure_of host family)
+own-forward att host family =
+    by_test (Grows att (share_of att host)) (list_any _ host.settings) _ _ (λ _ _. refl)
+    (λ _ _. ap (λ l. record (share_of att host) { settings = l }) (filter-push_dropped (λ s. is_own att s.tag) host.settings _ refl))
+
+own-veth : (att : Att) (host : Host) (h i : Link) → is_own att h.tag ≡ true → is_own att i.tag ≡ true → Grows att (share_after_call (share_of att host) (VethAdd h i)) (veth_add_of host h i)
+own-veth att host h i own_h own_i =
+    by_test (Grows att (share_after_call (share_of att host) (VethAdd h i))) (has_named_ns host i.ns) _ _
+    (λ _. by_test (Grows att (share_after_call (share_of att host) (VethAdd h i))) (has_bridge_as_master host h.master) _ _
+    (λ _. by_way (Grows att (share_after_call (share_of att host) (VethAdd h i))) (option_map (λ l. l.tag) (option_or (link_at host i.ns i.name) (link_at host h.ns h.name))) _ _ (λ t done. cc)
+    (λ _ _. ap (λ l. record (share_of att host) { links = l }) (filter-two_kept (λ l. is_own att l.tag) host.links h i own_h own_i)))
+    (λ _ done. cc))
+    (λ _ done. cc)
+
+own-macvlan : (att : Att) (host : Host) (link : Link) → is_own att link.tag ≡ true → Grows att (share_after_call (share_of att host) (MacvlanAdd link)) (macvlan_add_of host link)
+own-macvlan att host link own =
+    by_test (Grows att (share_after_call (share_of att host) (MacvlanAdd link))) (has_named_ns host link.ns) _ _
+    (λ _. by_test (Grows att (share_after_call (share_of att host) (MacvlanAdd link))) (has_master host link.master) _ _
+    (λ _. by_way (Grows att (share_after_call (share_of att host) (MacvlanAdd link))) (option_map (λ l. l.tag) (link_at host link.ns link.name)) _ _ (λ t done. cc)
+    (λ _ _. ap (λ l. record (share_of att host) { links = l }) (filter-push_kept (λ l. is_own att l.tag) host.links link own)))
+    (λ _ done. cc))
+    (λ _ done. cc)
+
+own-addr : (att : Att) (host : Host) (obj : AddrObj) → is_own att obj.tag ≡ true → Grows att (share_after_call (share_of att host) (AddrAdd obj)) (addr_add_of host obj)
+own-addr att host obj own =
+    by_test (Grows att (share_after_call (share_of att host) (AddrAdd obj))) (has_link_of host obj.ns obj.link obj.tag) _ _
+    (λ _. by_way (Grows att (share_after_call (share_of att host) (AddrAdd obj))) (option_map (λ a. a.tag) (find (is_same_addr obj) host.addresses)) _ _ (λ t done. cc)
+    (λ _ _. ap (λ l. record (share_of att host) { addresses = l }) (filter-push_kept (λ a. is_own att a.tag) host.addresses obj own)))
+    (λ _ done. cc)
+
+own-route : (att : Att) (host : Host) (obj : RouteObj) → is_own att obj.tag ≡ true → Grows att (share_after_call (share_of att host) (RouteAdd obj)) (route_add_of host obj)
+own-route att host obj own =
+    by_test (Grows att (share_after_call (share_of att host) (RouteAdd obj))) (has_link_of host obj.ns obj.link obj.tag) _ _
+    (λ _. by_way (Grows att (share_after_call (share_of att host) (RouteAdd obj))) (option_map (λ r. r.tag) (find (is_same_route obj) host.routes)) _ _ (λ t done. cc)
+    (λ _ _. ap (λ l. record (share_of att host) { routes = l }) (filter-push_kept (λ r. is_own att r.tag) host.routes obj own)))
+    (λ _ done. cc)
+
+own-rule : (att : Att) (host : Host) (rule : Rule) → is_own att rule.tag ≡ true → Grows att (share_after_call (share_of att host) (RuleAppend rule)) (rule_append_of host rule)
+own-rule att host rule own =
+    by_test (Grows att (share_after_call (share_of att host) (RuleAppend rule))) (list_any (λ r. rule_eq r rule) host.rules) _ _ (λ _ done. cc)
+    (λ _ _. ap (λ l. record (share_of att host) { rules = l }) (filter-push_kept (λ r. is_own att r.tag) host.rules rule own))
+
+own-setting : (att : Att) (host : Host) (s : Setting) → is_own att s.tag ≡ true → Grows att (share_after_call (share_of att host) (SettingSet s)) (setting_set_of host s)
+own-setting att host s own =
+    by_test (Grows att (share_after_call (share_of att host) (SettingSet s))) (has_named_ns host s.ns) _ _
+    (λ _. by_way (Grows att (share_after_call (share_of att host) (SettingSet s))) (option_map (λ x. x.tag) (find (is_same_setting s) host.settings)) _ _ (λ t done. cc)
+    (λ _ _. ap (λ l. record (share_of att host) { settings = l }) (filter-push_kept (λ x. is_own att x.tag) host.settings s own)))
+    (λ _ done. cc)
+
+own-cached : (att own : Att) (host : Host) (cached : Cached) → att_eq own att ≡ true → Grows att (share_after_call (share_of att host) (CachePut own cached)) (cache_put_of host own cached)
+own-cached att own host cached is =
+    by_test (Grows att (share_after_call (share_of att host) (CachePut own cached))) (list_any (λ c. is_own own c.tag) host.cached) _ _ (λ _ done. cc)
+    (λ _ _. ap (λ l. record (share_of att host) { cached = l }) (filter-push_kept (λ c. is_own att c.tag) host.cached _ is))
+
+set_link-tag_by : (b : Bool) (mac : Option Mac) (mtu tx_qlen : Option ℕ) (promisc allmulti : Bool) (link : Link) (att : Att)
+    → is_own att (if b then with_values mac mtu tx_qlen promisc allmulti link else link).tag ≡ is_own att link.tag
+set_link-tag_by true mac mtu tx_qlen promisc allmulti link att = refl
+set_link-tag_by false mac mtu tx_qlen promisc allmulti link att = refl
+
+-- a link that is set keeps its tag
+pub set_link-tag : (own : Att) (key : LinkKey) (mac : Option Mac) (mtu tx_qlen : Option ℕ) (promisc allmulti : Bool) (link : Link) (att : Att)
+    → is_own att (set_link own key mac mtu tx_qlen promisc allmulti link).tag ≡ is_own att link.tag
+set_link-tag own key mac mtu tx_qlen promisc allmulti link att = set_link-tag_by (is_own_at own key link) mac mtu tx_qlen promisc allmulti link att
+
+own-link_set : (att own : Att) (host : Host) (key : LinkKey) (mac : Option Mac) (mtu tx_qlen : Option ℕ) (promisc allmulti : Bool)
+    → Grows att (share_after_call (share_of att host) (LinkSet own key mac mtu tx_qlen promisc allmulti)) (link_set_of host own key mac mtu tx_qlen promisc allmulti)
+own-link_set att own host key mac mtu tx_qlen promisc allmulti =
+    by_test (Grows att (share_after_call (share_of att host) (LinkSet own key mac mtu tx_qlen promisc allmulti))) (list_any (is_own_at own key) host.links) _ _
+    (λ _ _. ap (λ l. record (share_of att host) { links = l })
+    (filter-map_kept (λ l. is_own att l.tag) (set_link own key mac mtu tx_qlen promisc allmulti) (λ l. set_link-tag own key mac mtu tx_qlen promisc allmulti l att) host.links))
+    (λ _ done. cc)
+
+-- ---- begin
+
+begins-none : (att : Att) (host : Host) → has_objects host att ≡ false → share_of att host ≡ no_objects
+begins-none att host none =
+    let links = filter-none (λ l. is_own att l.tag) host.links (grind (arith, none)) in
+    let addresses = filter-none (λ a. is_own att a.tag) host.addresses (grind (arith, none)) in
+    let routes = filter-none (λ r. is_own att r.tag) host.routes (grind (arith, none)) in
+    let rules = filter-none (λ r. is_own att r.tag) host.rules (grind (arith, none)) in
+    let settings = filter-none (λ s. is_own att s.tag) host.settings (grind (arith, none)) in
+    let leases = filter-none (λ l. is_own att l.tag) host.leases (grind (arith, none)) in
+    let cached = filter-none (λ c. is_own att c.tag) host.cached (grind (arith, none)) in
+    rw (links, addresses, routes, rules, settings, leases, cached) refl
+
+abbrev BeginsAt : Att → Host → Reply → Type 0
+BeginsAt att host reply = reply ≡ Done → share_of att host ≡ no_objects
+
+-- an attachment whose Begin was done has no_objects
+pub share-begin : (att : Att) (host : Host) (netns : List ℕ) → (begin_of host att netns).1 ≡ Done → share_of att host ≡ no_objects
+share-begin att host netns =
+    by_test (BeginsAt att host) (is_host_or_ns host.namespaces netns) _ _
+    (λ _. by_test (BeginsAt att host) (has_objects host att) _ _ (λ _ done. cc) (λ none _. begins-none att host none))
+    (λ _ done. cc)
+
+-- ---- leases
+
+abbrev pub Leases : Att → Host → Addr → Host × Reply → Type 0
+Leases att host addr step = step.1 ≡ Leased addr → share_of att step.0 ≡ record (share_of att host) { leases = (share_of att host).leases ++ lease_of att addr ∷ [] }
+
+with_last-share_of : (att : Att) (host : Host) (network : List ℕ) (number : ℕ) (addr : Addr) → share_of att (with_last host network number addr) ≡ share_of att host
+with_last-share_of att host network number addr = by_test (λ (next : Host). share_of att next ≡ share_of att host) (list_any (is_of_pool network number) host.lasts) _ _ (λ _. refl) (λ _. refl)
+
+same_leased : (a b : Addr) → Leased a ≡ Leased b → a ≡ b
+same_leased a b h = cc
+
+own-lease_taken : (att : Att) (host : Host) (number : ℕ) (o : Option Addr) (addr : Addr) → Leases att host addr (lease_taken host att number o)
+own-lease_taken att host number None addr = λ done. cc
+own-lease_taken att host number (Some a) addr = λ done.
+    let same : a ≡ addr = same_leased a addr done in
+    with_last-share_of att (record host { leases = host.leases ++ lease_of att a ∷ [] }) att.network number a
+    ∙ ap (λ l. record (share_of att host) { leases = l }) (filter-push_kept (λ l. is_own att l.tag) host.leases (lease_of att a) (att_eq-refl att))
+    ∙ ap (λ x. record (share_of att host) { leases = (share_of att host).leases ++ lease_of att x ∷ [] }) same
+
+pub share-lease : (att : Att) (host : Host) (number : ℕ) (set : RangeSet) (addr : Addr) → Leases att host addr (lease_next_of host att number set)
+share-lease att host number set addr = own-lease_taken att host number (pick_of set (last_leased host att.network number) (leased_addresses host att.network)) addr
+
+-- ---- all calls of a plugin
+
+first_of : (a b : Bool) → (a && b) ≡ true → a ≡ true
+first_of true b h = refl
+first_of false b h = cc
+
+second_of : (a b : Bool) → (a && b) ≡ true → b ≡ true
+second_of true b h = h
+second_of false b h = cc
+
+-- an attachment's own call that was done makes of its share what `share_after_call` says
+pub share-own : (att : Att) (host : Host) (call : Call) → is_plan_call_of att call ≡ true → Grows att (share_after_call (share_of att host) call) (apply host call)
+share-own att host (BridgeEnsure name mtu promisc) is = own-bridge_or_new att host (find (is_host_link name) host.links) (new_bridge name mtu promisc) refl
+share-own att host (GatewayEnsure bridge cidr) is = own-gateway att host bridge cidr
+share-own att host (ForwardEnsure family) is = own-forward att host family
+share-own att host (VethAdd h i) is = own-veth att host h i (first_of _ _ is) (second_of _ _ is)
+share-own att host (MacvlanAdd link) is = own-macvlan att host link is
+share-own att host (LinkSet own key mac mtu tx_qlen promisc allmulti) is = own-link_set att own host key mac mtu tx_qlen promisc allmulti
+share-own att host (AddrAdd obj) is = own-addr att host obj is
+share-own att host (RouteAdd obj) is = own-route att host obj is
+share-own att host (RuleAppend rule) is = own-rule att host rule is
+share-own att host (SettingSet s) is = own-setting att host s is
+share-own att host (CachePut own cached) is = own-cached att own host cached is
+share-own att host (Begin a n) is = cc
+share-own att host (LeaseNext a n s) is = cc
+share-own att host (LinkDel a) is = cc
+share-own att host (RuleDel a) is = cc
+share-own att host (SettingDel a) is = cc
+share-own att host (LeaseDel a) is = cc
+share-own att host (CacheDel a) is = cc
+share-own att host (HasObj p) is = cc
+share-own att host (CacheGet a) is = cc
+share-own att host (OwnersOf n k) is = cc
+share-own att host (PoolFree n s) is = cc
+share-own att host (NsChange n b) is = cc
+share-own att host (Outside c) is = cc
