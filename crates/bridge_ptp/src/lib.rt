@@ -12,6 +12,7 @@
 
 pub mod bridge;
 pub mod interfaces;
+pub mod laws;
 pub mod ptp;
 
 pub use bridge::{bridge_after, bridge_before, bridge_kinds, bridge_result};

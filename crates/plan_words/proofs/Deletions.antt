@@ -69,7 +69,7 @@ route_lies att links r none lies = by_bool (is_own att r.tag)
     (λ own. let lie : list_any (is_link_of r.ns r.link (Own att)) links ≡ true = rw (is_own-one att r.tag own) at lies in absurd (differ (list_any (is_link_of r.ns r.link (Own att)) links) lie (none_weaker att r.ns r.link links none)))
     (λ f. f)
 
-filter_never : {X : Type 0} (p q : X → Bool) → ((x : X) → q x ≡ true → p x ≡ false) → (xs : List X) → list_all q xs ≡ true → filter p xs ≡ []
+pub filter_never : {X : Type 0} (p q : X → Bool) → ((x : X) → q x ≡ true → p x ≡ false) → (xs : List X) → list_all q xs ≡ true → filter p xs ≡ []
 filter_never p q w [] h = refl
 filter_never p q w (x ∷ xs) h = grind (arith, w x, filter_never p q w xs)
 

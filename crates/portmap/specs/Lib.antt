@@ -1,1 +1,2 @@
 pub mod Portmap
+pub mod Share

@@ -8,6 +8,8 @@
 //! ```
 #![tactic(auto)]
 
+pub mod laws;
+
 ghost use Rattle.std.specs.Prelude.{◌≡◌, ◌∷◌, [], find, fold, option_map, IfOk, OnOk};
 ghost use Rattle.std.specs.Option.{option_copied};
 ghost use Rattle.cni_addr.specs.Codes.{family_eq};
