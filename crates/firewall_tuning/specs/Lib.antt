@@ -1,2 +1,3 @@
 pub mod Firewall
+pub mod Shares
 pub mod Tuning

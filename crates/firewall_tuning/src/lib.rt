@@ -11,6 +11,7 @@
 #![tactic(auto)]
 
 pub mod firewall;
+pub mod laws;
 pub mod tuning;
 
 pub use firewall::{firewall_calls, firewall_kinds, firewall_result};

@@ -9,6 +9,8 @@
 //! ```
 #![tactic(auto)]
 
+pub mod laws;
+
 ghost use Rattle.std.specs.Prelude.{◌≡◌, IfOk};
 ghost use Rattle.host_local.specs.Conf.{routes_of};
 ghost use Rattle.macvlan.specs.Macvlan as plan;
