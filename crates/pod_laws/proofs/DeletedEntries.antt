@@ -1,0 +1,134 @@
+-- Each entry of a DEL removes own objects alone, and changes nothing where there are none.
+use Rattle.std.proofs.Common.{◌≡◌, ℕ, ◌+◌, Bool, true, false, List, [], ◌∷◌, ◌++◌, Option, Some, None, slice_get, refl, sym, ◌∙◌, ap, subst, inl, inr, ◌⊎◌, arith}
+use Rattle.std.proofs.lemmas.Option.{same_Some}
+use Rattle.std.specs.Prelude.{find, filter}
+use Rattle.std.specs.List.{list_any}
+use Rattle.net_conf.specs.declared.list.NetList.{NetList}
+use Rattle.pod_file.specs.declared.command.Command.{Command}
+use Rattle.pod_file.specs.declared.command.Verb.TheVariants as verbs
+use Rattle.kernel_types.specs.Apply.{apply}
+use Rattle.kernel_types.specs.Apply.Calls.{without_link}
+use Rattle.kernel_types.specs.Isolation.{RemovesOwn}
+use Rattle.kernel_types.specs.Lists.{without_first}
+use Rattle.kernel_types.specs.Sound.{IsSound}
+use Rattle.kernel_types.specs.Words.{is_own}
+use Rattle.kernel_types.proofs.DropsOwn.{RemovesOwn-apply, RemovesOwn-nothing}
+use Rattle.kernel_types.proofs.ListLemmas.{without_first-none}
+use Rattle.kernel_types.specs.declared.object.Att.{Att}
+use Rattle.kernel_types.specs.declared.object.Host.{Host}
+use Rattle.kernel_types.specs.declared.object.Link.{Link}
+use Rattle.kernel_types.specs.declared.call.Kind.{Kind}
+use Rattle.kernel_types.specs.declared.call.Kind.TheVariants as kinds
+use Rattle.kernel_types.specs.declared.call.Call.{Call}
+use Rattle.kernel_types.specs.declared.call.Call.TheVariants.{CacheGet}
+use Rattle.plan_words.specs.Share.{Share, share_of, no_objects}
+use Rattle.plan_words.proofs.Deletions.{empty_none}
+use Rattle.cni_verbs.specs.CommandWords.{att_of}
+use Rattle.cni_verbs.specs.Script.{State, AtBegin, BeforeLeases, Leasing, AfterLeases, ReadingCache, Deleting, Over, Turn, Calls, turn}
+use Rattle.cni_verbs.specs.Wanted.{deletion}
+use Rattle.pod_workers.specs.Legal.{Legal}
+use Rattle.pod_workers.specs.Plans.{Placed, IsWellFormed, commands_of}
+use Rattle.pod_workers.specs.World.{World, after, entry_of, host_of, host_on}
+use Rattle.pod_workers.specs.declared.plan.Entry.{Entry}
+use Rattle.pod_workers.specs.declared.plan.Plan.{Plan}
+use Rattle.pod_workers.proofs.Histories.{after-append}
+use Rattle.pod_workers.proofs.Sound.{sound_host}
+use Rattle.pod_laws.specs.Deleted.{DeletesOwnAlone, EachDeletionIsOwn}
+use Rattle.pod_laws.specs.Moments.{own_entries}
+use Rattle.pod_laws.proofs.Steps.{GoesOn, by-entries, on-entry, own-state, every-run-now}
+use Rattle.pod_laws.proofs.Undoing.{Undoing, undone-start, undone-step}
+use Rattle.pod_laws.proofs.Within.{deletes-deletion}
+
+-- ---- one entry
+
+found-any : {X : Type 0} (p : X → Bool) (xs : List X) (y : X) → find p xs ≡ Some y → list_any p xs ≡ true
+found-any p [] y h = cc
+found-any p (x ∷ xs) y h = grind (arith, found-any p xs y)
+
+without-none : (att : Att) (k : Host) (o : Option Link) → find (λ l. is_own att l.tag) k.links ≡ o → list_any (λ l. is_own att l.tag) k.links ≡ false → (without_link k o).0 ≡ k
+without-none att k None found none = refl
+without-none att k (Some link) found none = absurd (let there = found-any (λ l. is_own att l.tag) k.links link found in let e : true ≡ false = sym there ∙ none in cc)
+
+-- where nothing is the attachment's, a deletion leaves the host
+deletion-none : (att : Att) (k : Host) (kind : Kind) → share_of att k ≡ no_objects → (apply k (deletion att kind)).0 ≡ k
+deletion-none att k kinds.Links none = without-none att k (find (λ l. is_own att l.tag) k.links) refl (empty_none (λ l. is_own att l.tag) k.links (ap (λ (s : Share). s.links) none))
+deletion-none att k kinds.Rules none = ap (λ l. record k { rules = l }) (without_first-none (λ r. is_own att r.tag) k.rules (empty_none (λ r. is_own att r.tag) k.rules (ap (λ (s : Share). s.rules) none)))
+deletion-none att k kinds.Settings none = ap (λ l. record k { settings = l }) (without_first-none (λ r. is_own att r.tag) k.settings (empty_none (λ r. is_own att r.tag) k.settings (ap (λ (s : Share). s.settings) none)))
+deletion-none att k kinds.Leases none = ap (λ l. record k { leases = l }) (without_first-none (λ r. is_own att r.tag) k.leases (empty_none (λ r. is_own att r.tag) k.leases (ap (λ (s : Share). s.leases) none)))
+deletion-none att k kinds.Cached none = ap (λ l. record k { cached = l }) (without_first-none (λ r. is_own att r.tag) k.cached (empty_none (λ r. is_own att r.tag) k.cached (ap (λ (s : Share). s.cached) none)))
+
+deletes-nothing : (att : Att) (k : Host) → DeletesOwnAlone att k k
+deletes-nothing att k = record { removes = RemovesOwn-nothing att k; repeated = λ none. refl }
+
+deletes-kind : (att : Att) (k : Host) (kind : Kind) → IsSound k → DeletesOwnAlone att k (apply k (deletion att kind)).0
+deletes-kind att k kind sound = record { removes = RemovesOwn-apply k (deletion att kind) att sound (deletes-deletion att kind); repeated = deletion-none att k kind }
+
+-- a DEL reads its entry or deletes
+not-add : (c : Command) → c.verb ≡ verbs.Add → c.verb ≡ verbs.Del → ⊥
+not-add c a d = cc
+
+abbrev DeletesBy : Command → Host → Call → Type 0
+DeletesBy c k call = DeletesOwnAlone (att_of c) k (apply k call).0
+
+turn-deletes : (list : NetList) (c : Command) (es : List Entry) (st : State) (s : Share) (k : Host) (call : Call) → c.verb ≡ verbs.Del → IsSound k → turn c st ≡ Calls call → Undoing list c es st s → DeletesBy c k call
+unfolding turn
+turn-deletes list c es AtBegin s k call verb sound is was = absurd (not-add c was.verb verb)
+turn-deletes list c es (BeforeLeases x xs) s k call verb sound is was = absurd (not-add c was.verb verb)
+turn-deletes list c es (Leasing set sets given) s k call verb sound is was = absurd (not-add c was.verb verb)
+turn-deletes list c es (AfterLeases x xs given) s k call verb sound is was = absurd (not-add c was.verb verb)
+turn-deletes list c es (ReadingCache ending) s k call verb sound is was = subst (DeletesBy c k) (let e : CacheGet (att_of c) ≡ call = cc in e) (deletes-nothing (att_of c) k)
+turn-deletes list c es (Deleting kind ks ending) s k call verb sound is was = subst (DeletesBy c k) (let e : deletion (att_of c) kind ≡ call = cc in e) (deletes-kind (att_of c) k kind sound)
+turn-deletes list c es (Over ending given) s k call verb sound is was = cc
+
+-- ---- every history
+
+cons_parts : {X : Type 0} (x y : X) (xs ys : List X) → x ∷ xs ≡ y ∷ ys → (x ≡ y) × (xs ≡ ys)
+cons_parts x y xs ys e = (cc, cc)
+
+split_nil : {X : Type 0} (before later : List X) (e : X) → [] ≡ before ++ e ∷ later → ⊥
+split_nil [] later e is = cc
+split_nil (b ∷ bs) later e is = cc
+
+-- a split of a list that is one longer is at the new element, or it is one of the list
+split_push : {X : Type 0} (h before later : List X) (x e : X) → h ++ x ∷ [] ≡ before ++ e ∷ later → ((h ≡ before) × (x ≡ e)) ⊎ ((more : List X) × (h ≡ before ++ e ∷ more))
+split_push [] [] later x e is = inl (refl, (cons_parts x e [] later is).0)
+split_push [] (b ∷ bs) later x e is = absurd (split_nil bs later e (cons_parts x b [] (bs ++ e ∷ later) is).1)
+split_push (y ∷ ys) [] later x e is = inr (ys, ap (λ z. z ∷ ys) (cons_parts y e (ys ++ x ∷ []) later is).0)
+split_push (y ∷ ys) (b ∷ bs) later x e is =
+    let p = cons_parts y b (ys ++ x ∷ []) (bs ++ e ∷ later) is in
+    elim (split_push ys bs later x e p.1) [
+      | inl t ↦ inl (ap (λ z. y ∷ z) t.0 ∙ ap (λ z. z ∷ bs) p.0, t.1)
+      | inr t ↦ inr (t.0, ap (λ z. y ∷ z) t.1 ∙ ap (λ z. z ∷ (bs ++ e ∷ t.0)) p.0)
+    ]
+
+abbrev Deletes : Plan → List Entry → List Entry → Entry → Placed → Type 0
+Deletes p before h e c = DeletesOwnAlone (att_of c.command) (after p.pods.opening before) (after p.pods.opening (before ++ e ∷ []))
+
+abbrev AllDelete : Plan → List Entry → Type 0
+AllDelete p h = (n : ℕ) (c : Placed) (before later : List Entry) (e : Entry) → slice_get (commands_of p) n ≡ Some c → c.command.verb ≡ verbs.Del → e.command ≡ n + 1 → h ≡ before ++ e ∷ later → Deletes p before h e c
+
+deletes-now : (w : World) (n : ℕ) (c : Placed) (list : NetList) (call : Call) (faulty : Bool) → GoesOn w n c list call faulty → c.command.verb ≡ verbs.Del
+    → DeletesOwnAlone (att_of c.command) (host_of w) (host_on (host_of w) (entry_of (host_of w) n call faulty))
+deletes-now w n c list call faulty on verb =
+    let own = own-state w n c list call faulty on in
+    on-entry (λ k. DeletesOwnAlone (att_of c.command) (host_of w) k) (host_of w) n call faulty (deletes-nothing (att_of c.command) (host_of w))
+    (λ f. turn-deletes list c.command (own_entries n w.history) _ (share_of (att_of c.command) (host_of w)) (host_of w) call verb (sound_host w on.legal) own.turn_is (every-run-now Undoing undone-start undone-step w n c list call faulty on))
+
+delete-kept : (w : World) (n : ℕ) (c : Placed) (list : NetList) (call : Call) (faulty : Bool) → GoesOn w n c list call faulty → AllDelete w.plan w.history → AllDelete w.plan (w.history ++ entry_of (host_of w) n call faulty ∷ [])
+delete-kept w n c list call faulty on was = λ m d before later e at verb number is.
+    let x = entry_of (host_of w) n call faulty in
+    let opening = w.plan.pods.opening in
+    elim (split_push w.history before later x e is) [
+      | inl t ↦
+          let place : m ≡ n = let a : e.command ≡ m + 1 = number in let b : n + 1 ≡ e.command = ap (λ (y : Entry). y.command) t.1 in omega (arith, a, b) in
+          let same : d ≡ c = same_Some d c (sym at ∙ ap (slice_get (commands_of w.plan)) place ∙ on.ready.there) in
+          let now = deletes-now w n c list call faulty on (ap (λ (y : Placed). y.command.verb) (sym same) ∙ verb) in
+          let at_host : DeletesOwnAlone (att_of c.command) (after opening w.history) (after opening (w.history ++ x ∷ [])) = subst (DeletesOwnAlone (att_of c.command) (host_of w)) (sym (after-append opening w.history x)) now in
+          let P : List Entry → Entry → Placed → Type 0 = λ h y z. DeletesOwnAlone (att_of z.command) (after opening h) (after opening (h ++ y ∷ [])) in
+          subst (λ h. P h e d) t.0 (subst (λ y. P w.history y d) t.1 (subst (P w.history x) (sym same) at_host))
+      | inr t ↦ was m d before t.0 e at verb number t.1
+    ]
+
+pub each_deletion_is_own : EachDeletionIsOwn
+each_deletion_is_own w legal n c before later e at verb number is =
+    by-entries AllDelete (λ p well m d b l x at_m v num split. absurd (split_nil b l x split)) delete-kept w legal n c before later e at verb number is

@@ -1,0 +1,66 @@
+-- The entries of one command in a history that is one entry longer.
+use Rattle.std.proofs.Common.{◌≡◌, ◌≢◌, ℕ, ◌+◌, ◌==◌, Bool, true, false, List, [], ◌∷◌, ◌++◌, map, length, refl, sym, ◌∙◌, ap, inl, inr, arith}
+use Rattle.std.proofs.lemmas.Bool.Decides.{eqb_tells}
+use Rattle.std.specs.Prelude.{filter, if◌then◌else◌, ◌||◌}
+use Rattle.std.specs.List.{list_any}
+use Rattle.kernel_types.proofs.ListLemmas.{list_any-append_right}
+use Rattle.kernel_types.specs.declared.call.Reply.{Reply}
+use Rattle.plan_words.proofs.KeyLists.{filter-push_kept, filter-push_dropped}
+use Rattle.pod_workers.specs.World.{replies_of}
+use Rattle.pod_workers.specs.declared.plan.Entry.{Entry}
+use Rattle.pod_laws.specs.Moments.{is_of, own_entries, until_last}
+
+-- ---- whose an entry is
+
+pub is_of-own : (n : ℕ) (e : Entry) → e.command ≡ n + 1 → is_of n e ≡ true
+is_of-own n e is = elim (eqb_tells e.command (n + 1)) [ inl t ↦ t.0 | inr f ↦ absurd (f.1 is) ]
+
+pub is_of-other : (n : ℕ) (e : Entry) → e.command ≢ n + 1 → is_of n e ≡ false
+is_of-other n e not = elim (eqb_tells e.command (n + 1)) [ inl t ↦ absurd (not t.1) | inr f ↦ f.0 ]
+
+-- ---- own entries
+
+pub own_entries-own : (n : ℕ) (h : List Entry) (e : Entry) → is_of n e ≡ true → own_entries n (h ++ e ∷ []) ≡ own_entries n h ++ e ∷ []
+own_entries-own n h e is = filter-push_kept (is_of n) h e is
+
+pub own_entries-other : (n : ℕ) (h : List Entry) (e : Entry) → is_of n e ≡ false → own_entries n (h ++ e ∷ []) ≡ own_entries n h
+own_entries-other n h e is = filter-push_dropped (is_of n) h e is
+
+abbrev pub replies_in : List Entry → List Reply
+replies_in es = map (λ e. e.reply) es
+
+replies-step : (b : Bool) (x : Entry) (rs : List Reply) (es : List Entry) → rs ≡ replies_in es → (if b then x.reply ∷ rs else rs) ≡ replies_in (if b then x ∷ es else es)
+replies-step true x rs es h = ap (λ l. x.reply ∷ l) h
+replies-step false x rs es h = h
+
+-- the replies of a command are those of its entries
+pub replies-own_entries : (n : ℕ) (h : List Entry) → replies_of n h ≡ replies_in (own_entries n h)
+replies-own_entries n [] = refl
+replies-own_entries n (x ∷ xs) = replies-step (is_of n x) x (replies_of n xs) (own_entries n xs) (replies-own_entries n xs)
+
+pub no-entries : (es : List Entry) → replies_in es ≡ [] → es ≡ []
+no-entries [] h = refl
+no-entries (x ∷ xs) h = cc
+
+-- ---- until the last entry
+
+until-own : (b : Bool) (x : Entry) (t u : List Entry) → b ≡ true → t ≡ u → (if b then x ∷ t else []) ≡ x ∷ u
+until-own true x t u h e = ap (λ l. x ∷ l) e
+until-own false x t u h e = cc
+
+pub until_last-own : (n : ℕ) (h : List Entry) (e : Entry) → is_of n e ≡ true → until_last n (h ++ e ∷ []) ≡ h ++ e ∷ []
+until_last-own n [] e is = until-own (list_any (is_of n) (e ∷ [])) e [] [] (grind (arith, is)) refl
+until_last-own n (x ∷ xs) e is =
+    until-own (list_any (is_of n) (x ∷ (xs ++ e ∷ []))) x (until_last n (xs ++ e ∷ [])) (xs ++ e ∷ [])
+    (list_any-append_right (is_of n) (x ∷ xs) (e ∷ []) (grind (arith, is)))
+    (until_last-own n xs e is)
+
+any-other : {X : Type 0} (p : X → Bool) (xs : List X) (y : X) → p y ≡ false → list_any p (xs ++ y ∷ []) ≡ list_any p xs
+any-other p [] y h = grind (arith, h)
+any-other p (x ∷ xs) y h = ap (λ b. p x || b) (any-other p xs y h)
+
+pub until_last-other : (n : ℕ) (h : List Entry) (e : Entry) → is_of n e ≡ false → until_last n (h ++ e ∷ []) ≡ until_last n h
+until_last-other n [] e is = ap (λ b. if b then e ∷ [] else []) (any-other (is_of n) [] e is)
+until_last-other n (x ∷ xs) e is =
+    ap (λ b. if b then x ∷ until_last n (xs ++ e ∷ []) else []) (any-other (is_of n) (x ∷ xs) e is)
+    ∙ ap (λ t. if list_any (is_of n) (x ∷ xs) then x ∷ t else []) (until_last-other n xs e is)

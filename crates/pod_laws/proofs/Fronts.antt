@@ -1,0 +1,234 @@
+-- What the calls so far have made is a front of what all of them make.
+use Rattle.std.proofs.Common.{◌≡◌, ℕ, Bool, true, false, List, [], ◌∷◌, ◌++◌, map, refl, sym, ◌∙◌, ap, subst, inl, inr, ◌⊎◌, append_assoc, arith}
+use Rattle.std.proofs.lemmas.List.{append-nil, map-append}
+use Rattle.std.specs.Prelude.{filter, ◌&&◌, if◌then◌else◌}
+use Rattle.std.specs.List.{list_all}
+use Rattle.cni_addr.specs.declared.address.Addr.{Addr}
+use Rattle.net_conf.specs.declared.first.First.{First}
+use Rattle.net_conf.specs.declared.first.First.TheVariants.{Bridge, Ptp, Macvlan}
+use Rattle.net_conf.specs.declared.list.NetList.{NetList}
+use Rattle.pod_file.specs.declared.command.Command.{Command}
+use Rattle.kernel_types.specs.Apply.Calls.{set_link}
+use Rattle.kernel_types.specs.Isolation.{RemovesOwn}
+use Rattle.kernel_types.specs.Touch.{DropsOnly}
+use Rattle.kernel_types.specs.Words.{is_own}
+use Rattle.kernel_types.specs.declared.object.Att.{Att}
+use Rattle.kernel_types.specs.declared.object.Host.{Host}
+use Rattle.kernel_types.specs.declared.object.Link.{Link}
+use Rattle.kernel_types.specs.declared.object.Tag.TheVariants.{Own}
+use Rattle.kernel_types.specs.declared.call.Call.{Call}
+use Rattle.kernel_types.specs.declared.call.Call.TheVariants.{Begin, BridgeEnsure, GatewayEnsure, ForwardEnsure, VethAdd, MacvlanAdd, LinkSet, AddrAdd, RouteAdd, RuleAppend, SettingSet, LeaseNext, CachePut, LinkDel, RuleDel, SettingDel, LeaseDel, CacheDel, HasObj, CacheGet, OwnersOf, PoolFree, NsChange, Outside}
+use Rattle.plan_words.specs.Share.{Share, share_of, no_objects, share_after_call, share_after_calls}
+use Rattle.plan_words.proofs.CallLists.{share_after_calls-append}
+use Rattle.cni_verbs.specs.CommandWords.{att_of, mappings_of}
+use Rattle.cni_verbs.specs.Script.{before_of, back_of}
+use Rattle.cni_verbs.specs.Wanted.{calls_before, share_before, untuned, wanted}
+use Rattle.pod_laws.specs.AskedFor.{IsAmong, AreAmong, links_after_part, AreLinksOf, AreAskedFor}
+use Rattle.pod_laws.proofs.Achieved.{with_leases, wanted_by, no_leases}
+use Rattle.pod_laws.proofs.WantedShare.{made-before, makes-wanted}
+
+-- ---- lists
+
+both-pass : (a b : Bool) → (a && b) ≡ true → (a ≡ true) × (b ≡ true)
+both-pass true b h = (refl, h)
+both-pass false b h = cc
+
+-- the list begins with the other
+abbrev pub BeginsWith : {X : Type 0} → List X → List X → Type 0
+BeginsWith {X} long short = (rest : List X) × (long ≡ short ++ rest)
+
+begins-same : {X : Type 0} (xs : List X) → BeginsWith xs xs
+begins-same xs = ([], sym (append-nil xs))
+
+begins-more : {X : Type 0} (xs ys : List X) → BeginsWith (xs ++ ys) xs
+begins-more xs ys = (ys, refl)
+
+begins-on : {X : Type 0} (xs ys zs : List X) → BeginsWith ys xs → BeginsWith zs ys → BeginsWith zs xs
+begins-on xs ys zs h g = (h.0 ++ g.0, g.1 ∙ ap (λ l. l ++ g.0) h.1 ∙ append_assoc xs h.0 g.0)
+
+among-more : {X : Type 0} (xs all : List X) (y : X) → AreAmong xs all → AreAmong xs (y ∷ all)
+among-more [] all y h = tt
+among-more (x ∷ xs) all y h = (inr h.0, among-more xs all y h.1)
+
+among-append : {X : Type 0} (xs rest : List X) → AreAmong xs (xs ++ rest)
+among-append [] rest = tt
+among-append (x ∷ xs) rest = (inl refl, among-more xs (xs ++ rest) x (among-append xs rest))
+
+pub among-front : {X : Type 0} (long short : List X) → BeginsWith long short → AreAmong short long
+among-front long short h = subst (AreAmong short) (sym h.1) (among-append short h.0)
+
+-- ---- what is left of a list is among what it was among
+
+among-if : {X : Type 0} (b : Bool) (x : X) (xs all : List X) → AreAmong (if b then x ∷ xs else xs) all → (b ≡ true → IsAmong x all) × AreAmong xs all
+among-if true x xs all h = (λ t. h.0, h.1)
+among-if false x xs all h = (λ t. cc, h)
+
+if-among : {X : Type 0} (b : Bool) (x : X) (xs all : List X) → (b ≡ true → IsAmong x all) → AreAmong xs all → AreAmong (if b then x ∷ xs else xs) all
+if-among true x xs all h g = (h refl, g)
+if-among false x xs all h g = g
+
+among-drops : {X : Type 0} (p gone : X → Bool) (all old new : List X) → DropsOnly gone old new → AreAmong (filter p old) all → AreAmong (filter p new) all
+among-drops p gone all [] new d h = subst (λ l. AreAmong (filter p l) all) (sym d) tt
+among-drops p gone all (x ∷ old) [] d h = tt
+among-drops p gone all (x ∷ old) (y ∷ new) d h =
+    let parts = among-if (p x) x (filter p old) all h in
+    elim d [
+      | inl same ↦ if-among (p y) y (filter p new) all (λ t. subst (λ z. IsAmong z all) same.0 (parts.0 (ap p same.0 ∙ t))) (among-drops p gone all old new same.1 parts.1)
+      | inr drop ↦ among-drops p gone all old (y ∷ new) drop.1 parts.1
+    ]
+
+-- ---- fronts of shares
+
+-- list by list, but for the links, which a later call may set
+pub record IsFront (s t : Share) : Type 0 where
+  pub addresses : BeginsWith t.addresses s.addresses
+  pub routes : BeginsWith t.routes s.routes
+  pub rules : BeginsWith t.rules s.rules
+  pub settings : BeginsWith t.settings s.settings
+  pub leases : BeginsWith t.leases s.leases
+  pub cached : BeginsWith t.cached s.cached
+
+front-same : (s : Share) → IsFront s s
+front-same s = record { addresses = begins-same s.addresses; routes = begins-same s.routes; rules = begins-same s.rules; settings = begins-same s.settings; leases = begins-same s.leases; cached = begins-same s.cached }
+
+front-on : (s t u : Share) → IsFront s t → IsFront t u → IsFront s u
+front-on s t u h g = record {
+  addresses = begins-on s.addresses t.addresses u.addresses h.addresses g.addresses;
+  routes = begins-on s.routes t.routes u.routes h.routes g.routes;
+  rules = begins-on s.rules t.rules u.rules h.rules g.rules;
+  settings = begins-on s.settings t.settings u.settings h.settings g.settings;
+  leases = begins-on s.leases t.leases u.leases h.leases g.leases;
+  cached = begins-on s.cached t.cached u.cached h.cached g.cached;
+}
+
+front-call : (s : Share) (call : Call) → IsFront s (share_after_call s call)
+front-call s (AddrAdd obj) = record { addresses = begins-more s.addresses (obj ∷ []); routes = begins-same s.routes; rules = begins-same s.rules; settings = begins-same s.settings; leases = begins-same s.leases; cached = begins-same s.cached }
+front-call s (RouteAdd obj) = record { addresses = begins-same s.addresses; routes = begins-more s.routes (obj ∷ []); rules = begins-same s.rules; settings = begins-same s.settings; leases = begins-same s.leases; cached = begins-same s.cached }
+front-call s (RuleAppend obj) = record { addresses = begins-same s.addresses; routes = begins-same s.routes; rules = begins-more s.rules (obj ∷ []); settings = begins-same s.settings; leases = begins-same s.leases; cached = begins-same s.cached }
+front-call s (SettingSet obj) = record { addresses = begins-same s.addresses; routes = begins-same s.routes; rules = begins-same s.rules; settings = begins-more s.settings (obj ∷ []); leases = begins-same s.leases; cached = begins-same s.cached }
+front-call s (CachePut att cached) =
+    record { addresses = begins-same s.addresses; routes = begins-same s.routes; rules = begins-same s.rules; settings = begins-same s.settings; leases = begins-same s.leases; cached = begins-more s.cached (record { cached = cached; tag = Own att } ∷ []) }
+front-call s _ = record { addresses = begins-same s.addresses; routes = begins-same s.routes; rules = begins-same s.rules; settings = begins-same s.settings; leases = begins-same s.leases; cached = begins-same s.cached }
+
+front-calls : (s : Share) (calls : List Call) → IsFront s (share_after_calls s calls)
+front-calls s [] = front-same s
+front-calls s (c ∷ cs) = front-on s (share_after_call s c) (share_after_calls (share_after_call s c) cs) (front-call s c) (front-calls (share_after_call s c) cs)
+
+front-part : (s t : Share) (all made left : List Call) → all ≡ made ++ left → share_after_calls s all ≡ t → IsFront (share_after_calls s made) t
+front-part s t all made left is makes =
+    let whole : share_after_calls (share_after_calls s made) left ≡ t = sym (share_after_calls-append s made left) ∙ ap (share_after_calls s) (sym is) ∙ makes in
+    subst (IsFront (share_after_calls s made)) whole (front-calls (share_after_calls s made) left)
+
+-- ---- links
+
+links-call : (s t : Share) (call : Call) → s.links ≡ t.links → (share_after_call s call).links ≡ (share_after_call t call).links
+links-call s t (VethAdd h i) e = ap (λ l. l ++ h ∷ i ∷ []) e
+links-call s t (MacvlanAdd x) e = ap (λ l. l ++ x ∷ []) e
+links-call s t (LinkSet a b d f g i j) e = ap (map (set_link a b d f g i j)) e
+links-call s t (AddrAdd a) e = e
+links-call s t (RouteAdd a) e = e
+links-call s t (RuleAppend a) e = e
+links-call s t (SettingSet a) e = e
+links-call s t (CachePut a b) e = e
+links-call s t (BridgeEnsure a b d) e = e
+links-call s t (GatewayEnsure a b) e = e
+links-call s t (ForwardEnsure a) e = e
+links-call s t (Begin a b) e = e
+links-call s t (LeaseNext a b d) e = e
+links-call s t (LinkDel a) e = e
+links-call s t (RuleDel a) e = e
+links-call s t (SettingDel a) e = e
+links-call s t (LeaseDel a) e = e
+links-call s t (CacheDel a) e = e
+links-call s t (HasObj a) e = e
+links-call s t (CacheGet a) e = e
+links-call s t (OwnersOf a b) e = e
+links-call s t (PoolFree a b) e = e
+links-call s t (NsChange a b) e = e
+links-call s t (Outside a) e = e
+
+links-calls : (s t : Share) (calls : List Call) → s.links ≡ t.links → (share_after_calls s calls).links ≡ (share_after_calls t calls).links
+links-calls s t [] e = e
+links-calls s t (x ∷ xs) e = links-calls (share_after_call s x) (share_after_call t x) xs (links-call s t x e)
+
+-- no call before the leases sets a link: each only appends
+abbrev appends_links : Call → Bool
+appends_links (LinkSet a b d f g i j) = false
+appends_links _ = true
+
+links-appended : (s : Share) (call : Call) → appends_links call ≡ true → BeginsWith (share_after_call s call).links s.links
+links-appended s (VethAdd h i) e = begins-more s.links (h ∷ i ∷ [])
+links-appended s (MacvlanAdd x) e = begins-more s.links (x ∷ [])
+links-appended s (LinkSet a b d f g i j) e = cc
+links-appended s _ e = begins-same s.links
+
+-- ---- what a run has is asked for
+
+asked-front : (list : NetList) (c : Command) (given : List Addr) (s : Share) → AreLinksOf list c given s.links → IsFront s (wanted_by list c given) → AreAskedFor list c given s
+asked-front list c given s links front = record {
+  links = links;
+  addresses = among-front _ s.addresses front.addresses;
+  routes = among-front _ s.routes front.routes;
+  rules = among-front _ s.rules front.rules;
+  settings = among-front _ s.settings front.settings;
+  leases = among-front _ s.leases front.leases;
+  cached = among-front _ s.cached front.cached;
+}
+
+untuned-links : (list : NetList) (c : Command) (given : List Addr) → (with_leases list c given).links ≡ untuned list (att_of c) c.netns
+untuned-links list c given = ap (λ (u : Share). u.links) (made-before list.first (att_of c) c.netns)
+
+-- after the leases
+pub asked-after_leases : (list : NetList) (c : Command) (given : List Addr) (made left : List Call) → back_of list c given ≡ made ++ left → AreAskedFor list c given (share_after_calls (with_leases list c given) made)
+asked-after_leases list c given made left part =
+    let s = share_after_calls (with_leases list c given) made in
+    let links : s.links ≡ links_after_part list c made = links-calls (with_leases list c given) (record no_objects { links = untuned list (att_of c) c.netns }) made (untuned-links list c given) in
+    asked-front list c given s
+    (record { made = made; left = left; part = part; among = among-front (links_after_part list c made) s.links ([], sym links ∙ sym (append-nil s.links)) })
+    (front-part (with_leases list c given) (wanted_by list c given) (back_of list c given) made left part (makes-wanted list (att_of c) c.netns (mappings_of list c) given))
+
+-- while they are leased
+pub asked-leasing : (list : NetList) (c : Command) (given : List Addr) → AreAskedFor list c given (with_leases list c given)
+asked-leasing list c given = asked-after_leases list c given [] (back_of list c given) refl
+
+-- ---- before the leases
+
+tail-passes : {X : Type 0} (p : X → Bool) (xs ys : List X) → list_all p (xs ++ ys) ≡ true → list_all p ys ≡ true
+tail-passes p [] ys h = h
+tail-passes p (x ∷ xs) ys h = tail-passes p xs ys (both-pass (p x) (list_all p (xs ++ ys)) h).1
+
+links-appended_all : (s : Share) (calls : List Call) → list_all appends_links calls ≡ true → BeginsWith (share_after_calls s calls).links s.links
+links-appended_all s [] h = begins-same s.links
+links-appended_all s (x ∷ xs) h =
+    let both = both-pass (appends_links x) (list_all appends_links xs) h in
+    begins-on s.links (share_after_call s x).links (share_after_calls (share_after_call s x) xs).links (links-appended s x both.0) (links-appended_all (share_after_call s x) xs both.1)
+
+before-appends : (first : First) (att : Att) (netns : List ℕ) → list_all appends_links (calls_before first att netns) ≡ true
+before-appends (Bridge conf) att netns = refl
+before-appends (Ptp conf) att netns = refl
+before-appends (Macvlan conf) att netns = refl
+
+pub asked-before_leases : (list : NetList) (c : Command) (made left : List Call) → before_of list c ≡ made ++ left → AreAskedFor list c [] (share_after_calls no_objects made)
+asked-before_leases list c made left part =
+    let s = share_after_calls no_objects made in
+    let appends : list_all appends_links left ≡ true = tail-passes appends_links made left (ap (list_all appends_links) (sym part) ∙ before-appends list.first (att_of c) c.netns) in
+    let whole : share_after_calls s left ≡ share_before list.first (att_of c) c.netns = sym (share_after_calls-append no_objects made left) ∙ ap (share_after_calls no_objects) (sym part) ∙ made-before list.first (att_of c) c.netns in
+    let links : BeginsWith (untuned list (att_of c) c.netns) s.links = subst (λ (t : Share). BeginsWith t.links s.links) whole (links-appended_all s left appends) in
+    asked-front list c [] s
+    (record { made = []; left = back_of list c []; part = refl; among = among-front (untuned list (att_of c) c.netns) s.links links })
+    (front-on s (with_leases list c []) (wanted_by list c [])
+    (front-part no_objects (with_leases list c []) (before_of list c) made left part (no_leases list.first (att_of c) c.netns))
+    (front-part (with_leases list c []) (wanted_by list c []) (back_of list c []) [] (back_of list c []) refl (makes-wanted list (att_of c) c.netns (mappings_of list c) [])))
+
+-- ---- what a deletion leaves
+
+pub asked-removes : (list : NetList) (c : Command) (given : List Addr) (att : Att) (old new : Host) → RemovesOwn att old new → AreAskedFor list c given (share_of att old) → AreAskedFor list c given (share_of att new)
+asked-removes list c given att old new d a = record {
+  links = record { made = a.links.made; left = a.links.left; part = a.links.part; among = among-drops (λ l. is_own att l.tag) (λ l. is_own att l.tag) (links_after_part list c a.links.made) old.links new.links d.links a.links.among };
+  addresses = among-drops (λ l. is_own att l.tag) (λ l. is_own att l.tag) _ old.addresses new.addresses d.addresses a.addresses;
+  routes = among-drops (λ l. is_own att l.tag) (λ l. is_own att l.tag) _ old.routes new.routes d.routes a.routes;
+  rules = among-drops (λ l. is_own att l.tag) (λ l. is_own att l.tag) _ old.rules new.rules d.rules a.rules;
+  settings = among-drops (λ l. is_own att l.tag) (λ l. is_own att l.tag) _ old.settings new.settings d.settings a.settings;
+  leases = among-drops (λ l. is_own att l.tag) (λ l. is_own att l.tag) _ old.leases new.leases d.leases a.leases;
+  cached = among-drops (λ l. is_own att l.tag) (λ l. is_own att l.tag) _ old.cached new.cached d.cached a.cached;
+}

@@ -1,0 +1,13 @@
+pub mod Achieved
+pub mod Asked
+pub mod Causes
+pub mod DeletedEntries
+pub mod Due
+pub mod Entries
+pub mod Fronts
+pub mod OfAnswers
+pub mod OfKinds
+pub mod Steps
+pub mod Undoing
+pub mod WantedShare
+pub mod Within

@@ -1,0 +1,219 @@
+-- What answers say, from what holds of the runs that came to them.
+use Rattle.std.proofs.Common.{◌≡◌, ℕ, Bool, true, false, List, [], length, Option, Some, None, slice_get, refl, sym, ◌∙◌, ap, subst, inl, inr, ◌⊎◌}
+use Rattle.std.specs.Prelude.{if◌then◌else◌}
+use Rattle.cni_addr.specs.declared.address.Addr.{Addr}
+use Rattle.cni_result.specs.declared.error.CniError.{CniError}
+use Rattle.cni_result.specs.declared.result.AddResult.{AddResult}
+use Rattle.net_conf.specs.declared.list.NetList.{NetList}
+use Rattle.pod_file.specs.declared.command.Command.{Command}
+use Rattle.pod_file.specs.declared.command.Verb.{Verb}
+use Rattle.pod_file.specs.declared.command.Verb.TheVariants as verbs
+use Rattle.kernel_types.specs.Replies.{is_fault}
+use Rattle.kernel_types.specs.declared.object.Att.{Att}
+use Rattle.plan_words.specs.Share.{Share, share_of, no_objects}
+use Rattle.cni_verbs.specs.Answers.{answer_of, error_of}
+use Rattle.cni_verbs.specs.CommandWords.{att_of, mappings_of}
+use Rattle.cni_verbs.specs.Script.{State, Over, leases_in}
+use Rattle.cni_verbs.specs.Wanted.{result_of_add, sets_of, wanted}
+use Rattle.cni_verbs.specs.declared.answer.Answer.{Answer}
+use Rattle.cni_verbs.specs.declared.answer.Answer.TheVariants as answers
+use Rattle.cni_verbs.specs.declared.answer.Cause.{Cause}
+use Rattle.cni_verbs.specs.declared.answer.Ending.{Ending}
+use Rattle.cni_verbs.specs.declared.answer.Ending.TheVariants.{Added, Yes, Refused}
+use Rattle.pod_workers.specs.Legal.{Legal}
+use Rattle.pod_workers.specs.Plans.{Placed, commands_of, list_for}
+use Rattle.pod_workers.specs.World.{World, own_replies}
+use Rattle.pod_workers.specs.declared.plan.Entry.{Entry}
+use Rattle.pod_laws.specs.Added.{WasAdded, HasMade}
+use Rattle.pod_laws.specs.Deleted.{WasDeleted, HasDeleted, IsUndeletedByWords, IsUndeletedByFault, WasNotDeleted, AnswersOfDel, IsAnswerOfDel}
+use Rattle.pod_laws.specs.Moments.{host_at_end, own_entries}
+use Rattle.pod_laws.specs.Refused.{WasRefused, IsRefusedFor, AnswersOfAdd, IsAnswerOfAdd, BeginLeavesTheHost}
+use Rattle.pod_laws.proofs.Achieved.{Achieved, IsAddedWith, leased_in, achieved-start, achieved-step}
+use Rattle.pod_laws.proofs.Due.{IsOver, IsCutOff, answer-due}
+use Rattle.pod_laws.proofs.Entries.{replies-own_entries}
+use Rattle.pod_laws.proofs.Steps.{every-run, listed-command}
+use Rattle.pod_laws.proofs.Undoing.{Undoing, Ends, IsUnrefused, IsAddRefused, IsDelRefused, IsDelDone, undone-start, undone-step}
+
+-- ---- answers by endings
+
+-- an answer that no ending makes
+abbrev IsByBook : Answer → Type 0
+IsByBook (answers.Added r) = ⊥
+IsByBook answers.Yes = ⊥
+IsByBook (answers.Skipped skip) = ⊥
+IsByBook (answers.Versions version) = ⊥
+IsByBook (answers.Refused error) = ⊥
+IsByBook answers.OutOfMemory = Unit {0}
+IsByBook (answers.Stopped made) = Unit {0}
+
+by-book : (a : Answer) → IsCutOff a → IsByBook a
+by-book a (inl memory) = subst IsByBook (sym memory) tt
+by-book a (inr stopped) = subst IsByBook (sym stopped.1) tt
+
+-- what the ending of a run says of its answer
+abbrev Says : NetList → Command → List Addr → Ending → Answer → Type 0
+Says list c given Added a = a ≡ answers.Added (result_of_add list (att_of c) c.netns given)
+Says list c given Yes a = a ≡ answers.Yes
+Says list c given (Refused cause) a = a ≡ answers.Refused (error_of list.version c cause)
+
+says : (list : NetList) (c : Command) (given : List Addr) (ending : Ending) (a : Answer) → a ≡ answer_of list c (record { ending = ending; given = given }) → Says list c given ending a
+unfolding answer_of
+says list c given Added a is = is
+says list c given Yes a is = is
+says list c given (Refused cause) a is = is
+
+-- a run that is over, with all that is known of it
+pub record IsEnded (w : World) (n : ℕ) (c : Command) (list : NetList) (a : Answer) : Type 0 where
+  pub ending : Ending
+  pub given : List Addr
+  pub says : Says list c given ending a
+  pub achieved : IsAddedWith list c (own_entries n w.history) ending given (share_of (att_of c) (host_at_end w n))
+  pub ends : Ends c (own_entries n w.history) ending (share_of (att_of c) (host_at_end w n))
+
+ended : (w : World) → Legal w → (n : ℕ) (c : Placed) (list : NetList) (a : Answer) → slice_get (commands_of w.plan) n ≡ Some c → list_for w.plan c.command ≡ Some list → slice_get w.answers n ≡ Some (Some a)
+    → IsEnded w n c.command list a ⊎ IsByBook a
+ended w legal n c list a at listed is =
+    let es = own_entries n w.history in
+    let s = share_of (att_of c.command) (host_at_end w n) in
+    elim (answer-due w legal n c list a at listed is) [
+      | inl over ↦ inl (record {
+        ending = over.ending;
+        given = over.given;
+        says = says list c.command over.given over.ending a over.answer_is;
+        achieved = subst (λ st. Achieved list c.command es st s) over.state_is (every-run Achieved achieved-start achieved-step w legal n c list at listed);
+        ends = subst (λ st. Undoing list c.command es st s) over.state_is (every-run Undoing undone-start undone-step w legal n c list at listed);
+      })
+      | inr cut ↦ inr (by-book a cut)
+    ]
+
+-- ---- ADD
+
+added-by : (w : World) (n : ℕ) (c : Command) (list : NetList) (r : AddResult) (ending : Ending) (given : List Addr) → Says list c given ending (answers.Added r)
+    → IsAddedWith list c (own_entries n w.history) ending given (share_of (att_of c) (host_at_end w n)) → Ends c (own_entries n w.history) ending (share_of (att_of c) (host_at_end w n)) → HasMade w n c list r
+added-by w n c list r Added given says was ends =
+    let same : r ≡ result_of_add list (att_of c) c.netns given = let e = says in cc in
+    let leased : leases_in (own_replies w n) ≡ given = ap leases_in (replies-own_entries n w.history) ∙ was.0 in
+    record {
+      verb = ends.verb;
+      words = ends.words;
+      unrefused = ends.go_on;
+      leased = ap length leased ∙ was.1;
+      result = same ∙ ap (result_of_add list (att_of c) c.netns) (sym leased);
+      objects = was.2 ∙ ap (wanted list (att_of c) c.netns (mappings_of list c)) (sym leased);
+    }
+added-by w n c list r Yes given says was ends = cc
+added-by w n c list r (Refused cause) given says was ends = cc
+
+pub was_added : WasAdded
+was_added w legal n c list r at listed is =
+    elim (ended w legal n c list (answers.Added r) at listed is) [
+      | inl e ↦ added-by w n c.command list r e.ending e.given e.says e.achieved e.ends
+      | inr book ↦ absurd book
+    ]
+
+not-both : (c : Command) → c.verb ≡ verbs.Add → c.verb ≡ verbs.Del → ⊥
+not-both c a d = cc
+
+abbrev IsRefusedWith : NetList → Command → List Entry → Share → CniError → Type 0
+IsRefusedWith list c es s error = (cause : Cause) × (error ≡ error_of list.version c cause) × IsRefusedFor c es s cause
+
+refused-by : (c : Command) (list : NetList) (es : List Entry) (s : Share) (error : CniError) (ending : Ending) (given : List Addr) → c.verb ≡ verbs.Add → Says list c given ending (answers.Refused error) → Ends c es ending s → IsRefusedWith list c es s error
+refused-by c list es s error Added given verb says ends = cc
+refused-by c list es s error Yes given verb says ends = cc
+refused-by c list es s error (Refused cause) given verb says ends =
+    elim ends [
+      | inl why ↦ (cause, let e = says in cc, why.why)
+      | inr del ↦ absurd (not-both c verb del.verb)
+    ]
+
+pub was_refused : WasRefused
+was_refused w legal n c list error at listed verb is =
+    elim (ended w legal n c list (answers.Refused error) at listed is) [
+      | inl e ↦ refused-by c.command list (own_entries n w.history) (share_of (att_of c.command) (host_at_end w n)) error e.ending e.given verb e.says e.ends
+      | inr book ↦ absurd book
+    ]
+
+answer-add : (c : Command) (list : NetList) (es : List Entry) (s : Share) (a : Answer) (ending : Ending) (given : List Addr) → c.verb ≡ verbs.Add → Says list c given ending a → Ends c es ending s → IsAnswerOfAdd a
+answer-add c list es s a Added given verb says ends = subst IsAnswerOfAdd (sym says) tt
+answer-add c list es s a Yes given verb says ends = absurd (not-both c verb ends.verb)
+answer-add c list es s a (Refused cause) given verb says ends = subst IsAnswerOfAdd (sym says) tt
+
+book-add : (a : Answer) → IsByBook a → IsAnswerOfAdd a
+book-add answers.OutOfMemory h = tt
+book-add (answers.Stopped made) h = tt
+book-add (answers.Added r) h = absurd h
+book-add answers.Yes h = absurd h
+book-add (answers.Skipped skip) h = absurd h
+book-add (answers.Versions version) h = absurd h
+book-add (answers.Refused error) h = absurd h
+
+pub answers_of_add : AnswersOfAdd
+answers_of_add w legal n c a at verb is =
+    let has_list = listed-command w legal n c at (inl verb) in
+    elim (ended w legal n c has_list.0 a at has_list.1 is) [
+      | inl e ↦ answer-add c.command has_list.0 (own_entries n w.history) (share_of (att_of c.command) (host_at_end w n)) a e.ending e.given verb e.says e.ends
+      | inr book ↦ book-add a book
+    ]
+
+same-either : {X : Type 0} (b : Bool) (x : X) → (if b then x else x) ≡ x
+same-either true x = refl
+same-either false x = refl
+
+pub begin_leaves_the_host : BeginLeavesTheHost
+begin_leaves_the_host host att netns n reply = same-either (is_fault reply) host
+
+-- ---- DEL
+
+deleted-by : (c : Command) (list : NetList) (es : List Entry) (s : Share) (ending : Ending) (given : List Addr) → Says list c given ending answers.Yes → Ends c es ending s → HasDeleted c es s
+deleted-by c list es s Added given says ends = cc
+deleted-by c list es s Yes given says ends = ends.gone
+deleted-by c list es s (Refused cause) given says ends = cc
+
+pub was_deleted : WasDeleted
+was_deleted w legal n c at verb is =
+    let has_list = listed-command w legal n c at (inr verb) in
+    elim (ended w legal n c has_list.0 answers.Yes at has_list.1 is) [
+      | inl e ↦ deleted-by c.command has_list.0 (own_entries n w.history) (share_of (att_of c.command) (host_at_end w n)) e.ending e.given e.says e.ends
+      | inr book ↦ absurd book
+    ]
+
+abbrev IsUndeletedWith : NetList → Command → List Entry → CniError → Type 0
+IsUndeletedWith list c es error = (cause : Cause) × (error ≡ error_of list.version c cause) × (IsUndeletedByWords c es cause ⊎ IsUndeletedByFault c es cause)
+
+undeleted-by : (c : Command) (list : NetList) (es : List Entry) (s : Share) (error : CniError) (ending : Ending) (given : List Addr) → c.verb ≡ verbs.Del → Says list c given ending (answers.Refused error) → Ends c es ending s → IsUndeletedWith list c es error
+undeleted-by c list es s error Added given verb says ends = cc
+undeleted-by c list es s error Yes given verb says ends = cc
+undeleted-by c list es s error (Refused cause) given verb says ends =
+    elim ends [
+      | inl add ↦ absurd (not-both c add.verb verb)
+      | inr why ↦ (cause, let e = says in cc, why.why)
+    ]
+
+pub was_not_deleted : WasNotDeleted
+was_not_deleted w legal n c list error at listed verb is =
+    elim (ended w legal n c list (answers.Refused error) at listed is) [
+      | inl e ↦ undeleted-by c.command list (own_entries n w.history) (share_of (att_of c.command) (host_at_end w n)) error e.ending e.given verb e.says e.ends
+      | inr book ↦ absurd book
+    ]
+
+answer-del : (c : Command) (list : NetList) (es : List Entry) (s : Share) (a : Answer) (ending : Ending) (given : List Addr) → c.verb ≡ verbs.Del → Says list c given ending a → Ends c es ending s → IsAnswerOfDel a
+answer-del c list es s a Added given verb says ends = absurd (not-both c ends.verb verb)
+answer-del c list es s a Yes given verb says ends = subst IsAnswerOfDel (sym says) tt
+answer-del c list es s a (Refused cause) given verb says ends = subst IsAnswerOfDel (sym says) tt
+
+book-del : (a : Answer) → IsByBook a → IsAnswerOfDel a
+book-del answers.OutOfMemory h = tt
+book-del (answers.Stopped made) h = tt
+book-del (answers.Added r) h = absurd h
+book-del answers.Yes h = absurd h
+book-del (answers.Skipped skip) h = absurd h
+book-del (answers.Versions version) h = absurd h
+book-del (answers.Refused error) h = absurd h
+
+pub answers_of_del : AnswersOfDel
+answers_of_del w legal n c a at verb is =
+    let has_list = listed-command w legal n c at (inr verb) in
+    elim (ended w legal n c has_list.0 a at has_list.1 is) [
+      | inl e ↦ answer-del c.command has_list.0 (own_entries n w.history) (share_of (att_of c.command) (host_at_end w n)) a e.ending e.given verb e.says e.ends
+      | inr book ↦ book-del a book
+    ]

@@ -1,0 +1,5 @@
+use Rattle.pod_laws.proofs.OfAnswers.{was_deleted}
+use Rattle.pod_laws.proofs.laws.a_deleted_attachment_is_gone.Goals as goal
+
+pub returns : goal.returns
+returns c = was_deleted

@@ -1,0 +1,5 @@
+use Rattle.pod_laws.proofs.DeletedEntries.{each_deletion_is_own}
+use Rattle.pod_laws.proofs.laws.a_deletion_removes_own_objects.Goals as goal
+
+pub returns : goal.returns
+returns c = each_deletion_is_own

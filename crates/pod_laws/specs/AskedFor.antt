@@ -1,0 +1,125 @@
+-- Each object that an attachment has is one that an ADD of it asked for.
+use Rattle.std.specs.Prelude.{◌≡◌, ℕ, ◌+◌, ◌⊎◌, Bool, true, false, ◌&&◌, List, [], ◌∷◌, ◌++◌, Option, Some, None, slice_get, if◌then◌else◌}
+use Rattle.std.specs.Option.{option_or}
+use Rattle.cni_addr.specs.declared.address.Addr.{Addr}
+use Rattle.cni_verbs.specs.CommandWords.{att_of, mappings_of}
+use Rattle.cni_verbs.specs.Script.{leases_in}
+use Rattle.cni_verbs.specs.Wanted.{back_calls, untuned, wanted}
+use Rattle.kernel_types.specs.Equal.{att_eq}
+use Rattle.kernel_types.specs.declared.object.Att.{Att}
+use Rattle.kernel_types.specs.declared.object.Link.{Link}
+use Rattle.kernel_types.specs.declared.call.Call.{Call}
+use Rattle.kernel_types.specs.declared.call.Call.TheVariants.{Begin, BridgeEnsure, GatewayEnsure, ForwardEnsure, VethAdd, MacvlanAdd, LinkSet, AddrAdd, RouteAdd, RuleAppend, SettingSet, LeaseNext, CachePut, LinkDel, RuleDel, SettingDel, LeaseDel, CacheDel, HasObj, CacheGet, OwnersOf, PoolFree, NsChange, Outside}
+use Rattle.kernel_types.specs.declared.call.Reply.{Reply}
+use Rattle.kernel_types.specs.declared.call.Reply.TheVariants.{Done, NoNs, NoLink, Taken, Empty, Leased, Gone, Has, Owners, Entry as Kept, Fault}
+use Rattle.net_conf.specs.declared.list.NetList.{NetList}
+use Rattle.plan_words.specs.Share.{Share, share_of, no_objects, share_after_calls}
+use Rattle.pod_file.specs.declared.command.Command.{Command}
+use Rattle.pod_file.specs.declared.command.Verb.TheVariants as verbs
+use Rattle.pod_workers.specs.Legal.{Legal}
+use Rattle.pod_workers.specs.Plans.{Placed, commands_of, list_for}
+use Rattle.pod_workers.specs.World.{World, after, replies_of}
+use Rattle.pod_workers.specs.declared.plan.Entry.{Entry}
+use Rattle.pod_workers.specs.declared.plan.Plan.{Plan}
+
+-- ---- lists
+
+abbrev pub IsAmong : {X : Type 0} → X → List X → Type 0
+IsAmong x [] = ⊥
+IsAmong x (y ∷ ys) = (x ≡ y) ⊎ IsAmong x ys
+
+-- each of the first list is in the second
+abbrev pub AreAmong : {X : Type 0} → List X → List X → Type 0
+AreAmong [] all = Unit {0}
+AreAmong (x ∷ xs) all = IsAmong x all × AreAmong xs all
+
+-- ---- the last ADD that began
+
+abbrev pub is_begin_of : Att → Call → Bool
+is_begin_of att (Begin a netns) = att_eq a att
+is_begin_of att (BridgeEnsure name mtu promisc) = false
+is_begin_of att (GatewayEnsure bridge cidr) = false
+is_begin_of att (ForwardEnsure family) = false
+is_begin_of att (VethAdd host_end inner_end) = false
+is_begin_of att (MacvlanAdd link) = false
+is_begin_of att (LinkSet a key mac mtu tx_qlen promisc allmulti) = false
+is_begin_of att (AddrAdd obj) = false
+is_begin_of att (RouteAdd obj) = false
+is_begin_of att (RuleAppend rule) = false
+is_begin_of att (SettingSet setting) = false
+is_begin_of att (LeaseNext a number set) = false
+is_begin_of att (CachePut a cached) = false
+is_begin_of att (LinkDel a) = false
+is_begin_of att (RuleDel a) = false
+is_begin_of att (SettingDel a) = false
+is_begin_of att (LeaseDel a) = false
+is_begin_of att (CacheDel a) = false
+is_begin_of att (HasObj probe) = false
+is_begin_of att (CacheGet a) = false
+is_begin_of att (OwnersOf network kind) = false
+is_begin_of att (PoolFree network set) = false
+is_begin_of att (NsChange name add) = false
+is_begin_of att (Outside change) = false
+
+abbrev pub is_done : Reply → Bool
+is_done Done = true
+is_done NoNs = false
+is_done NoLink = false
+is_done (Taken tag) = false
+is_done Empty = false
+is_done (Leased addr) = false
+is_done (Gone gone) = false
+is_done (Has has) = false
+is_done (Owners owners) = false
+is_done (Kept cached) = false
+is_done Fault = false
+
+-- a Begin for the attachment that was done
+abbrev pub begins : Att → Entry → Bool
+begins att e = is_begin_of att e.call && is_done e.reply
+
+-- the number of the command of the last of them
+abbrev pub last_begun : Att → List Entry → Option ℕ
+last_begun att [] = None
+last_begun att (e ∷ es) = option_or (last_begun att es) (if begins att e then Some e.command else None)
+
+-- ---- what it asks for
+
+-- the links of an ADD as a first part of its calls after the leases leaves them: as they were made, or with the values of `tuning`
+abbrev pub links_after_part : NetList → Command → List Call → List Link
+links_after_part list c made = (share_after_calls (record no_objects { links = untuned list (att_of c) c.netns }) made).links
+
+pub record AreLinksOf (list : NetList) (c : Command) (given : List Addr) (links : List Link) : Type 0 where
+  pub made : List Call
+  pub left : List Call
+  pub part : back_calls list (att_of c) c.netns (mappings_of list c) given ≡ made ++ left
+  pub among : AreAmong links (links_after_part list c made)
+
+-- each object is one that the command asks for, where these addresses were leased
+pub record AreAskedFor (list : NetList) (c : Command) (given : List Addr) (objects : Share) : Type 0 where
+  pub links : AreLinksOf list c given objects.links
+  pub addresses : AreAmong objects.addresses (wanted list (att_of c) c.netns (mappings_of list c) given).addresses
+  pub routes : AreAmong objects.routes (wanted list (att_of c) c.netns (mappings_of list c) given).routes
+  pub rules : AreAmong objects.rules (wanted list (att_of c) c.netns (mappings_of list c) given).rules
+  pub settings : AreAmong objects.settings (wanted list (att_of c) c.netns (mappings_of list c) given).settings
+  pub leases : AreAmong objects.leases (wanted list (att_of c) c.netns (mappings_of list c) given).leases
+  pub cached : AreAmong objects.cached (wanted list (att_of c) c.netns (mappings_of list c) given).cached
+
+-- the last ADD of the attachment whose Begin was done asks for all that the attachment has, with the addresses leased to it so far
+pub record IsAskedFor (p : Plan) (h : List Entry) (att : Att) : Type 0 where
+  pub place : ℕ
+  pub by : Placed
+  pub list : NetList
+  pub there : slice_get (commands_of p) place ≡ Some by
+  pub listed : list_for p by.command ≡ Some list
+  pub verb : by.command.verb ≡ verbs.Add
+  pub attachment : att_of by.command ≡ att
+  pub last : last_begun att h ≡ Some (place + 1)
+  pub objects : AreAskedFor list by.command (leases_in (replies_of place h)) (share_of att (after p.pods.opening h))
+
+abbrev pub HasNothingUnasked : Plan → List Entry → Att → Type 0
+HasNothingUnasked p h att = (share_of att (after p.pods.opening h) ≡ no_objects) ⊎ IsAskedFor p h att
+
+-- at every moment each attachment has nothing, or only what its last ADD that began asks for
+abbrev pub NothingIsUnasked : Type 0
+NothingIsUnasked = (w : World) → Legal w → (att : Att) → HasNothingUnasked w.plan w.history att

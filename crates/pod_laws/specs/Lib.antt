@@ -1,0 +1,5 @@
+pub mod Added
+pub mod AskedFor
+pub mod Deleted
+pub mod Moments
+pub mod Refused
