@@ -1,5 +1,5 @@
 -- What a reply that refuses an ADD means.
-use Rattle.std.proofs.Common.{◌≡◌, ℕ, Bool, true, false, List, Option, Some, None, refl, ap}
+use Rattle.std.proofs.Common.{◌≡◌, ℕ, Bool, true, false, List, Option, Some, None, refl, sym, ap, subst}
 use Rattle.std.specs.Prelude.{find, if◌then◌else◌, ◌&&◌}
 use Rattle.std.specs.List.{list_any}
 use Rattle.std.specs.Option.{option_map, option_or}
@@ -23,8 +23,10 @@ use Rattle.kernel_types.specs.declared.call.Reply.TheVariants.{Done, NoNs, NoLin
 use Rattle.plan_words.specs.PlanCalls.{is_plan_call_of}
 use Rattle.cni_verbs.specs.Script.{cause_of}
 use Rattle.cni_verbs.specs.declared.answer.Cause.{Cause}
+use Rattle.cni_verbs.specs.declared.answer.Cause.TheVariants as causes
 use Rattle.pod_workers.specs.World.{reply_to}
 use Rattle.pod_laws.specs.Refused.{is_granted, IsCause, no_namespace, name_taken, pool_empty, no_master, fault}
+use Rattle.pod_laws.proofs.Footing.{IsMacvlan}
 
 -- ---- the replies that a call of a plan may get
 
@@ -119,18 +121,21 @@ pub record Refuses (number : ℕ) (call : Call) (reply : Reply) (cause : Cause) 
   pub refuses : is_granted reply ≡ false
   pub decides : IsCause number call reply cause
 
-plan-refuses : (number : ℕ) (call : Call) (r : Reply) → IsPlanReply r → (r ≡ Done → ⊥) → Refuses number call r (cause_of 0 number r)
-plan-refuses number call Done may not = absurd (not refl)
-plan-refuses number call NoNs may not = record { refuses = refl; decides = no_namespace number call }
-plan-refuses number call NoLink may not = record { refuses = refl; decides = no_master number call }
-plan-refuses number call (Taken tag) may not = record { refuses = refl; decides = name_taken number call tag }
-plan-refuses number call Fault may not = record { refuses = refl; decides = fault number call }
-plan-refuses number call Empty may not = absurd may
-plan-refuses number call (Leased addr) may not = absurd may
-plan-refuses number call (Gone gone) may not = absurd may
-plan-refuses number call (Has has) may not = absurd may
-plan-refuses number call (Owners owners) may not = absurd may
-plan-refuses number call (Kept cached) may not = absurd may
+no_link-refuses : (number : ℕ) (call : Call) → IsMacvlan call → Refuses number call NoLink causes.NoMaster
+no_link-refuses number call link = subst (λ j. Refuses number j NoLink causes.NoMaster) (sym link.1) (record { refuses = refl; decides = no_master number link.0 })
+
+plan-refuses : (number : ℕ) (call : Call) (r : Reply) → IsPlanReply r → (r ≡ NoLink → IsMacvlan call) → (r ≡ Done → ⊥) → Refuses number call r (cause_of 0 number r)
+plan-refuses number call Done may over not = absurd (not refl)
+plan-refuses number call NoNs may over not = record { refuses = refl; decides = no_namespace number call }
+plan-refuses number call NoLink may over not = no_link-refuses number call (over refl)
+plan-refuses number call (Taken tag) may over not = record { refuses = refl; decides = name_taken number call tag }
+plan-refuses number call Fault may over not = record { refuses = refl; decides = fault number call }
+plan-refuses number call Empty may over not = absurd may
+plan-refuses number call (Leased addr) may over not = absurd may
+plan-refuses number call (Gone gone) may over not = absurd may
+plan-refuses number call (Has has) may over not = absurd may
+plan-refuses number call (Owners owners) may over not = absurd may
+plan-refuses number call (Kept cached) may over not = absurd may
 
 lease-refuses : (number : ℕ) (att : Att) (place : ℕ) (set : RangeSet) (r : Reply) → IsLeaseReply r → ((a : Addr) → r ≡ Leased a → ⊥) → Refuses number (LeaseNext att place set) r (cause_of place number r)
 lease-refuses number att place set Empty may not = record { refuses = refl; decides = pool_empty number att place set }
@@ -157,11 +162,24 @@ pub lease-may : (att : Att) (place : ℕ) (set : RangeSet) (k : Host) (faulty : 
 lease-may att place set k true = tt
 lease-may att place set k false = lease-reply k att place (pick_of set (last_leased k att.network place) (leased_addresses k att.network))
 
-pub begin-refused : (att : Att) (netns : List ℕ) (k : Host) (faulty : Bool) (number : ℕ) → let r = reply_to k (Begin att netns) faulty in (r ≡ Done → ⊥) → Refuses number (Begin att netns) r (cause_of 0 number r)
-begin-refused att netns k faulty number not = plan-refuses number (Begin att netns) (reply_to k (Begin att netns) faulty) (begin-may att netns k faulty) not
+begin-found : (host : Host) (att : Att) (netns : List ℕ) → (begin_of host att netns).1 ≡ NoLink → ⊥
+begin-found host att netns =
+    by_test (λ (r : Reply). r ≡ NoLink → ⊥) (is_host_or_ns host.namespaces netns) (if has_objects host att then Taken _ else Done) NoNs
+    (λ _. by_test (λ (r : Reply). r ≡ NoLink → ⊥) (has_objects host att) (Taken _) Done (λ _ e. cc) (λ _ e. cc)) (λ _ e. cc)
 
-pub plan-refused : (att : Att) (k : Host) (call : Call) (faulty : Bool) (number : ℕ) → is_plan_call_of att call ≡ true → let r = reply_to k call faulty in (r ≡ Done → ⊥) → Refuses number call r (cause_of 0 number r)
-plan-refused att k call faulty number is not = plan-refuses number call (reply_to k call faulty) (plan-may att k call faulty is) not
+begin-over : (att : Att) (netns : List ℕ) (k : Host) (faulty : Bool) → reply_to k (Begin att netns) faulty ≡ NoLink → IsMacvlan (Begin att netns)
+begin-over att netns k true e = cc
+begin-over att netns k false e = absurd (begin-found k att netns e)
+
+plan-over : (k : Host) (call : Call) (faulty : Bool) → ((apply k call).1 ≡ NoLink → IsMacvlan call) → reply_to k call faulty ≡ NoLink → IsMacvlan call
+plan-over k call true over e = cc
+plan-over k call false over e = over e
+
+pub begin-refused : (att : Att) (netns : List ℕ) (k : Host) (faulty : Bool) (number : ℕ) → let r = reply_to k (Begin att netns) faulty in (r ≡ Done → ⊥) → Refuses number (Begin att netns) r (cause_of 0 number r)
+begin-refused att netns k faulty number not = plan-refuses number (Begin att netns) (reply_to k (Begin att netns) faulty) (begin-may att netns k faulty) (begin-over att netns k faulty) not
+
+pub plan-refused : (att : Att) (k : Host) (call : Call) (faulty : Bool) (number : ℕ) → is_plan_call_of att call ≡ true → ((apply k call).1 ≡ NoLink → IsMacvlan call) → let r = reply_to k call faulty in (r ≡ Done → ⊥) → Refuses number call r (cause_of 0 number r)
+plan-refused att k call faulty number is over not = plan-refuses number call (reply_to k call faulty) (plan-may att k call faulty is) (plan-over k call faulty over) not
 
 pub lease-refused : (att : Att) (place : ℕ) (set : RangeSet) (k : Host) (faulty : Bool) (number : ℕ) → let r = reply_to k (LeaseNext att place set) faulty in ((a : Addr) → r ≡ Leased a → ⊥) → Refuses number (LeaseNext att place set) r (cause_of place number r)
 lease-refused att place set k faulty number not = lease-refuses number att place set (reply_to k (LeaseNext att place set) faulty) (lease-may att place set k faulty) not

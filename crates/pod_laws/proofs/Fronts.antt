@@ -175,7 +175,7 @@ asked-front list c given s links front = record {
   cached = among-front _ s.cached front.cached;
 }
 
-untuned-links : (list : NetList) (c : Command) (given : List Addr) → (with_leases list c given).links ≡ untuned list (att_of c) c.netns
+pub untuned-links : (list : NetList) (c : Command) (given : List Addr) → (with_leases list c given).links ≡ untuned list (att_of c) c.netns
 untuned-links list c given = ap (λ (u : Share). u.links) (made-before list.first (att_of c) c.netns)
 
 -- after the leases

@@ -1,12 +1,15 @@
 pub mod Achieved
 pub mod Asked
+pub mod Bridges
 pub mod Causes
 pub mod DeletedEntries
 pub mod Due
 pub mod Entries
+pub mod Footing
 pub mod Fronts
 pub mod OfAnswers
 pub mod OfKinds
+pub mod Stands
 pub mod Steps
 pub mod Undoing
 pub mod WantedShare

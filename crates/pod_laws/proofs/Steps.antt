@@ -219,7 +219,7 @@ state_from-append list c made s (x ∷ xs) r =
     let e : made + 1 + length xs + 1 ≡ made + length (x ∷ xs) + 1 = omega arith in
     state_from-append list c (made + 1) (advance list c (made + 1) s x) xs r ∙ ap (λ k. advance list c k (state_from list c (made + 1) (advance list c (made + 1) s x) xs) r) e
 
-state_by-append : (list : NetList) (c : Command) (es : List Entry) (e : Entry) → state_by list c (es ++ e ∷ []) ≡ advance list c (length es + 1) (state_by list c es) e.reply
+pub state_by-append : (list : NetList) (c : Command) (es : List Entry) (e : Entry) → state_by list c (es ++ e ∷ []) ≡ advance list c (length es + 1) (state_by list c es) e.reply
 state_by-append list c es e =
     let rs = replies_in es in
     let long : 0 + length rs + 1 ≡ length es + 1 = let same = length-map es (λ (x : Entry). x.reply) in omega (arith, same) in

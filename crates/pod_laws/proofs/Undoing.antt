@@ -24,6 +24,7 @@ use Rattle.kernel_types.specs.declared.call.Call.{Call}
 use Rattle.kernel_types.specs.declared.call.Call.TheVariants.{Begin, LeaseNext, CacheGet}
 use Rattle.kernel_types.specs.declared.call.Reply.{Reply}
 use Rattle.kernel_types.specs.declared.call.Reply.TheVariants.{Done, NoNs, NoLink, Taken, Empty, Leased, Gone, Has, Owners, Entry as Kept, Fault}
+use Rattle.plan_words.specs.PlanCalls.{is_plan_call_of}
 use Rattle.plan_words.specs.Share.{Share, share_of, no_objects}
 use Rattle.plan_words.proofs.Deletions.{gone-none, gone-links, no-links}
 use Rattle.cni_verbs.specs.CommandWords.{att_of, add_refusal, del_refusal}
@@ -42,7 +43,9 @@ use Rattle.pod_laws.specs.Deleted.{HasDeleted, IsUndeletedByWords, IsUndeletedBy
 use Rattle.pod_laws.specs.Moments.{has_fault, own_entries}
 use Rattle.pod_laws.specs.Refused.{is_granted, lets_go_on, IsCause, FirstRefusal, IsRefusedByWords, IsRefusedAtBegin, IsRefusedLater, IsRefusedFor}
 use Rattle.pod_laws.proofs.Causes.{Refuses, begin-refused, plan-refused, lease-refused}
+use Rattle.pod_laws.proofs.Footing.{IsMacvlan}
 use Rattle.pod_laws.proofs.OfKinds.{IsWithin, IsWithin-removes}
+use Rattle.pod_laws.proofs.Stands.{no_link-now}
 use Rattle.pod_laws.proofs.Steps.{GoesOn, StartsWith, IsRunFact, host-made, on-entry, own-state, sound-entered}
 use Rattle.pod_laws.proofs.Within.{deletes-deletion, within-entered}
 
@@ -270,6 +273,7 @@ UndoneBy list c es st k n faulty call =
 pub record IsEntered (list : NetList) (c : Command) (k : Host) (n : ℕ) (faulty : Bool) (call : Call) : Type 0 where
   pub within : IsWithin (kinds_of list) (share_of (att_of c) (host_on k (entry_of k n call faulty)))
   pub sound : IsSound (host_on k (entry_of k n call faulty))
+  pub over : is_plan_call_of (att_of c) call ≡ true → (apply k call).1 ≡ NoLink → IsMacvlan call
 
 begin-first : (list : NetList) (c : Command) (es : List Entry) (k : Host) (n : ℕ) (faulty : Bool) → IsAtBegin c es → UndoneBy list c es AtBegin k n faulty (Begin (att_of c) c.netns)
 unfolding advance
@@ -285,14 +289,16 @@ unfolding turn advance
 undone-own list c es AtBegin k n faulty call left is sound on was =
     subst (UndoneBy list c es AtBegin k n faulty) (let e : Begin (att_of c) c.netns ≡ call = cc in e) (begin-first list c es k n faulty was)
 undone-own list c es (BeforeLeases x xs) k n faulty call left is sound on was =
-    subst (UndoneBy list c es (BeforeLeases x xs) k n faulty) (let e : x ≡ call = cc in e)
-    (undo-before list c es (entry_of k n x faulty) xs _ _ refl was (λ not. plan-refused (att_of c) k x faulty (length es + 1) left.0.0.0 not))
+    let P : Call → Type 0 = λ j. IsEntered list c k n faulty j → UndoneBy list c es (BeforeLeases x xs) k n faulty j in
+    subst P (let e : x ≡ call = cc in e)
+    (λ here. undo-before list c es (entry_of k n x faulty) xs _ _ refl was (λ not. plan-refused (att_of c) k x faulty (length es + 1) left.0.0.0 (here.over left.0.0.0) not)) on
 undone-own list c es (Leasing set sets given) k n faulty call left is sound on was =
     subst (UndoneBy list c es (Leasing set sets given) k n faulty) (let e : LeaseNext (att_of c) (length given) set ≡ call = cc in e)
     (undo-lease list c es (entry_of k n (LeaseNext (att_of c) (length given) set) faulty) sets given _ _ refl was (λ not. lease-refused (att_of c) (length given) set k faulty (length es + 1) not))
 undone-own list c es (AfterLeases x xs given) k n faulty call left is sound on was =
-    subst (UndoneBy list c es (AfterLeases x xs given) k n faulty) (let e : x ≡ call = cc in e)
-    (undo-after list c es (entry_of k n x faulty) xs given _ _ refl was (λ not. plan-refused (att_of c) k x faulty (length es + 1) left.0.0 not))
+    let P : Call → Type 0 = λ j. IsEntered list c k n faulty j → UndoneBy list c es (AfterLeases x xs given) k n faulty j in
+    subst P (let e : x ≡ call = cc in e)
+    (λ here. undo-after list c es (entry_of k n x faulty) xs given _ _ refl was (λ not. plan-refused (att_of c) k x faulty (length es + 1) left.0.0 (here.over left.0.0) not)) on
 undone-own list c es (ReadingCache ending) k n faulty call left is sound on was =
     undo-cache list c es (entry_of k n call faulty) ending _ _ refl was on.within (none-left (att_of c) (host_on k (entry_of k n call faulty)) on.sound)
 undone-own list c es (Deleting kind ks ending) k n faulty call left is sound on was =
@@ -306,7 +312,7 @@ pub undone-step : IsRunFact Undoing
 undone-step w n c list call faulty on was =
     let own = own-state w n c list call faulty on in
     undone-own list c.command (own_entries n w.history) _ (host_of w) n faulty call own.planned own.turn_is (sound_host w on.legal)
-    (record { within = within-entered w n c list call faulty on; sound = sound-entered w n c list call faulty on }) was
+    (record { within = within-entered w n c list call faulty on; sound = sound-entered w n c list call faulty on; over = no_link-now w n c list call faulty on }) was
 
 -- ---- the start
 

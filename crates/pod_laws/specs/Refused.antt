@@ -11,9 +11,10 @@ use Rattle.cni_verbs.specs.declared.answer.Cause.{Cause}
 use Rattle.cni_verbs.specs.declared.answer.Cause.TheVariants as causes
 use Rattle.kernel_types.specs.declared.object.Att.{Att}
 use Rattle.kernel_types.specs.declared.object.Host.{Host}
+use Rattle.kernel_types.specs.declared.object.Link.{Link}
 use Rattle.kernel_types.specs.declared.object.Tag.{Tag}
 use Rattle.kernel_types.specs.declared.call.Call.{Call}
-use Rattle.kernel_types.specs.declared.call.Call.TheVariants.{Begin, LeaseNext}
+use Rattle.kernel_types.specs.declared.call.Call.TheVariants.{Begin, LeaseNext, MacvlanAdd}
 use Rattle.kernel_types.specs.declared.call.Reply.{Reply}
 use Rattle.kernel_types.specs.declared.call.Reply.TheVariants.{Done, NoNs, NoLink, Taken, Empty, Leased, Gone, Has, Owners, Entry as Kept, Fault}
 use Rattle.net_conf.specs.declared.list.NetList.{NetList}
@@ -50,7 +51,7 @@ pub data IsCause : ℕ → Call → Reply → Cause → Type 0 where
   no_namespace : (number : ℕ) (call : Call) → IsCause number call NoNs causes.NoNamespace
   name_taken : (number : ℕ) (call : Call) (tag : Tag) → IsCause number call (Taken tag) (causes.NameTaken tag)
   pool_empty : (number : ℕ) (att : Att) (set : ℕ) (ranges : RangeSet) → IsCause number (LeaseNext att set ranges) Empty (causes.PoolEmpty set)
-  no_master : (number : ℕ) (call : Call) → IsCause number call NoLink causes.NoMaster
+  no_master : (number : ℕ) (link : Link) → IsCause number (MacvlanAdd link) NoLink causes.NoMaster
   fault : (number : ℕ) (call : Call) → IsCause number call Fault (causes.Fault number)
 
 -- the first of the entries that refuses: it decides the cause

@@ -1,0 +1,320 @@
+-- The bridge of a list is there from the moment when its plugin ensured it.
+use Rattle.std.proofs.Common.{◌≡◌, ℕ, ◌+◌, Bool, true, false, not, List, [], ◌∷◌, ◌++◌, map, length, Option, Some, None, slice_get, refl, sym, ◌∙◌, ap, subst, inl, inr, ◌⊎◌, arith}
+use Rattle.std.proofs.lemmas.Bool.{cases_Bool}
+use Rattle.std.proofs.lemmas.Bool.Decides.{eqb_tells}
+use Rattle.std.proofs.lemmas.Option.{same_Some}
+use Rattle.std.proofs.lemmas.Slice.Eq.{bytes_eq-Decides}
+use Rattle.std.specs.Prelude.{filter, find, ◌&&◌, ◌||◌, if◌then◌else◌}
+use Rattle.std.specs.List.{list_any, list_all}
+use Rattle.std.specs.Str.{bytes_eq}
+use Rattle.std.specs.Cmp.Lexicographic.{nat_list_eq_equiv}
+use Rattle.cni_addr.specs.declared.address.Addr.{Addr}
+use Rattle.cni_addr.specs.declared.range.RangeSet.{RangeSet}
+use Rattle.net_conf.specs.declared.first.BridgeConf.{BridgeConf}
+use Rattle.net_conf.specs.declared.first.First.{First}
+use Rattle.net_conf.specs.declared.first.First.TheVariants.{Bridge, Ptp, Macvlan}
+use Rattle.net_conf.specs.declared.list.NetList.{NetList}
+use Rattle.pod_file.specs.declared.command.Command.{Command}
+use Rattle.pod_file.specs.declared.command.Verb.{Verb}
+use Rattle.pod_file.specs.declared.command.Verb.TheVariants as verbs
+use Rattle.kernel_types.specs.Allowed.{IsAllowed}
+use Rattle.kernel_types.specs.Apply.{apply}
+use Rattle.kernel_types.specs.Apply.Calls.{bridge_or_new, new_bridge, has_bridge_as_master}
+use Rattle.kernel_types.specs.Isolation.{ensures_shared, is_from_outside}
+use Rattle.kernel_types.specs.Sound.{IsSound, is_owned_kind, link_fits_tag}
+use Rattle.kernel_types.specs.Touch.{Touches}
+use Rattle.kernel_types.specs.Words.{is_bridge, is_host_bridge, is_host_link, is_owned, has_host_bridge}
+use Rattle.kernel_types.proofs.EveryCall.{Touches-apply}
+use Rattle.kernel_types.proofs.Isolation.{KeepsUnowned-Touches}
+use Rattle.kernel_types.proofs.ListLemmas.{list_any-append_left, list_any-append_right, list_any-kept}
+use Rattle.kernel_types.specs.declared.object.Att.{Att}
+use Rattle.kernel_types.specs.declared.object.Host.{Host}
+use Rattle.kernel_types.specs.declared.object.Link.{Link}
+use Rattle.kernel_types.specs.declared.object.LinkKind.{LinkKind}
+use Rattle.kernel_types.specs.declared.object.LinkKind.TheVariants as linkkinds
+use Rattle.kernel_types.specs.declared.object.Tag.{Tag}
+use Rattle.kernel_types.specs.declared.object.Tag.TheVariants as tags
+use Rattle.kernel_types.specs.declared.call.Kind.{Kind}
+use Rattle.kernel_types.specs.declared.call.Call.{Call}
+use Rattle.kernel_types.specs.declared.call.Call.TheVariants.{Begin, BridgeEnsure, GatewayEnsure, ForwardEnsure, VethAdd, MacvlanAdd, LinkSet, AddrAdd, RouteAdd, RuleAppend, SettingSet, LeaseNext, CachePut, LinkDel, RuleDel, SettingDel, LeaseDel, CacheDel, HasObj, CacheGet, OwnersOf, PoolFree, NsChange, Outside}
+use Rattle.kernel_types.specs.declared.call.Reply.{Reply}
+use Rattle.kernel_types.specs.declared.call.Reply.TheVariants.{Done, Taken, Leased, Gone, Fault}
+use Rattle.plan_words.specs.PlanCalls.{is_call_of}
+use Rattle.cni_verbs.specs.CommandWords.{att_of, add_refusal, del_refusal}
+use Rattle.cni_verbs.specs.Script.{State, AtBegin, BeforeLeases, Leasing, AfterLeases, ReadingCache, Deleting, Over, Turn, Calls, before_of, back_of, after_leases, leasing, before_leases, deleting, at_begin, at_call_before, at_lease, at_call_after, at_cache, at_deletion, advance, unless_refused, start_of, start_state, turn}
+use Rattle.cni_verbs.specs.Wanted.{sets_of, calls_before, kinds_of}
+use Rattle.cni_verbs.specs.declared.answer.Cause.{Cause}
+use Rattle.cni_verbs.specs.declared.answer.Ending.{Ending}
+use Rattle.pod_workers.specs.Legal.{Legal}
+use Rattle.pod_workers.specs.Plans.{Placed, commands_of, list_for}
+use Rattle.pod_workers.specs.World.{World, after, entry_of, host_of, host_on, own_replies, reply_to}
+use Rattle.pod_workers.specs.declared.plan.Entry.{Entry}
+use Rattle.pod_workers.specs.declared.plan.Plan.{Plan}
+use Rattle.pod_workers.proofs.Histories.{after-append}
+use Rattle.pod_workers.proofs.Order.{ready_is}
+use Rattle.pod_workers.proofs.Planned.{left-are-planned}
+use Rattle.pod_workers.proofs.Sound.{sound_host}
+use Rattle.pod_laws.specs.Moments.{is_of, own_entries}
+use Rattle.pod_laws.proofs.Entries.{is_of-own, is_of-other, own_entries-own, own_entries-other}
+use Rattle.pod_laws.proofs.Steps.{GoesOn, by-entries, host-made, on-entry, own-state, own-turn, state_by, state_by-append}
+
+-- ---- a bridge of the host stays
+
+own_kind : (ns : List ℕ) (k : LinkKind) → is_owned_kind ns k ≡ true → is_bridge k ≡ false
+own_kind ns linkkinds.Device h = cc
+own_kind ns linkkinds.Bridge h = cc
+own_kind ns linkkinds.Veth h = refl
+own_kind ns (linkkinds.Macvlan mode) h = refl
+
+bridge-unowned : (name : List ℕ) (l : Link) (t : Tag) → link_fits_tag l t ≡ true → (is_host_bridge name l && not (not (is_owned t))) ≡ false
+bridge-unowned name l tags.Outside h = grind arith
+bridge-unowned name l tags.Base h = grind arith
+bridge-unowned name l (tags.Own att) h = let k = own_kind l.ns l.kind h in grind (arith, k)
+
+none-by : {X : Type 0} (q r : X → Bool) → ((x : X) → q x ≡ true → r x ≡ false) → (xs : List X) → list_all q xs ≡ true → list_any r xs ≡ false
+none-by q r w [] h = refl
+none-by q r w (x ∷ xs) h = grind (arith, w x, none-by q r w xs)
+
+any-filtered : {X : Type 0} (p q : X → Bool) (xs : List X) → list_any p (filter q xs) ≡ true → list_any p xs ≡ true
+any-filtered p q [] h = h
+any-filtered p q (x ∷ xs) h = grind (arith, h, any-filtered p q xs)
+
+stays-unshared : (host : Host) (call : Call) (name : List ℕ) → IsSound host → IsAllowed host call → is_from_outside call ≡ false → ensures_shared call ≡ false → has_host_bridge host name ≡ true → has_host_bridge (apply host call).0 name ≡ true
+stays-unshared host call name sound allowed inside own there =
+    let new = (apply host call).0 in
+    let keeps = KeepsUnowned-Touches call host new inside own (Touches-apply host call sound allowed) in
+    let none : list_any (λ l. is_host_bridge name l && not (not (is_owned l.tag))) host.links ≡ false =
+    none-by (λ l. link_fits_tag l l.tag) (λ l. is_host_bridge name l && not (not (is_owned l.tag))) (λ l h. bridge-unowned name l l.tag h) host.links sound.links.tags in
+    let kept = list_any-kept (is_host_bridge name) (λ l. not (is_owned l.tag)) host.links there none in
+    any-filtered (is_host_bridge name) (λ l. not (is_owned l.tag)) new.links (ap (list_any (is_host_bridge name)) keeps.links ∙ kept)
+
+same-links : (name : List ℕ) (old new : Host) → new.links ≡ old.links → has_host_bridge old name ≡ true → has_host_bridge new name ≡ true
+same-links name old new e there = ap (list_any (is_host_bridge name)) e ∙ there
+
+bridge-stays : (host : Host) (call : Call) (name : List ℕ) → IsSound host → IsAllowed host call → is_from_outside call ≡ false → has_host_bridge host name ≡ true → has_host_bridge (apply host call).0 name ≡ true
+bridge-stays host (BridgeEnsure bridge mtu promisc) name sound allowed inside there =
+    elim (Touches-apply host (BridgeEnsure bridge mtu promisc) sound allowed) [
+      | inl e ↦ same-links name host (apply host (BridgeEnsure bridge mtu promisc)).0 (ap (λ (k : Host). k.links) e) there
+      | inr more ↦ ap (λ (k : Host). has_host_bridge k name) more.2 ∙ list_any-append_left (is_host_bridge name) host.links (more.0 ∷ []) there
+    ]
+bridge-stays host (GatewayEnsure bridge cidr) name sound allowed inside there =
+    elim (Touches-apply host (GatewayEnsure bridge cidr) sound allowed) [
+      | inl e ↦ same-links name host (apply host (GatewayEnsure bridge cidr)).0 (ap (λ (k : Host). k.links) e) there
+      | inr more ↦ same-links name host (apply host (GatewayEnsure bridge cidr)).0 (ap (λ (k : Host). k.links) more.2) there
+    ]
+bridge-stays host (ForwardEnsure family) name sound allowed inside there =
+    elim (Touches-apply host (ForwardEnsure family) sound allowed) [
+      | inl e ↦ same-links name host (apply host (ForwardEnsure family)).0 (ap (λ (k : Host). k.links) e) there
+      | inr more ↦ same-links name host (apply host (ForwardEnsure family)).0 (ap (λ (k : Host). k.links) more.2) there
+    ]
+bridge-stays host call name sound allowed inside there = stays-unshared host call name sound allowed inside refl there
+
+-- a call of one attachment isn't the world's outside
+call-inside : (att : Att) (call : Call) → is_call_of att call ≡ true → is_from_outside call ≡ false
+call-inside att (NsChange name add) is = cc
+call-inside att (Outside change) is = cc
+call-inside att _ is = refl
+
+-- ---- the bridge of a list
+
+abbrev pub bridge_of : First → Option (List ℕ)
+bridge_of (Bridge conf) = Some conf.bridge
+bridge_of (Ptp conf) = None
+bridge_of (Macvlan conf) = None
+
+-- the bridge, if the list has one, is there
+abbrev pub BridgeIn : First → Host → Type 0
+BridgeIn first host = has_bridge_as_master host (bridge_of first) ≡ true
+
+bridge-in-stays : (o : Option (List ℕ)) (host : Host) (call : Call) → IsSound host → IsAllowed host call → is_from_outside call ≡ false → has_bridge_as_master host o ≡ true → has_bridge_as_master (apply host call).0 o ≡ true
+bridge-in-stays None host call sound allowed inside there = refl
+bridge-in-stays (Some name) host call sound allowed inside there = bridge-stays host call name sound allowed inside there
+
+bridge-entered : (first : First) (w : World) (n : ℕ) (c : Placed) (list : NetList) (call : Call) (faulty : Bool) → GoesOn w n c list call faulty → BridgeIn first (host_of w) → BridgeIn first (host_on (host_of w) (entry_of (host_of w) n call faulty))
+bridge-entered first w n c list call faulty on there =
+    let own = own-turn list c.command _ call (left-are-planned list c.command (own_replies w n)) on.turn_is in
+    on-entry (BridgeIn first) (host_of w) n call faulty there
+    (λ f. bridge-in-stays (bridge_of first) (host_of w) call (sound_host w on.legal) (on.allowed f) (call-inside (att_of c.command) call own) there)
+
+-- ---- until it is ensured
+
+abbrev pub ensures_bridge : First → Call → Bool
+ensures_bridge (Bridge conf) (BridgeEnsure name mtu promisc) = bytes_eq name conf.bridge
+ensures_bridge _ _ = false
+
+-- the bridge is there, or is still to be ensured
+abbrev pub BridgeComes : First → List Call → Host → Type 0
+BridgeComes first calls host = (list_any (ensures_bridge first) calls ≡ true) ⊎ BridgeIn first host
+
+abbrev pub HasBridge : NetList → State → Host → Type 0
+HasBridge list AtBegin host = Unit {0}
+HasBridge list (BeforeLeases next left) host = BridgeComes list.first (next ∷ left) host
+HasBridge list (Leasing next left given) host = BridgeIn list.first host
+HasBridge list (AfterLeases next left given) host = BridgeIn list.first host
+HasBridge list (ReadingCache ending) host = Unit {0}
+HasBridge list (Deleting next left ending) host = Unit {0}
+HasBridge list (Over ending given) host = Unit {0}
+
+-- ---- where it is ensured
+
+found-both : {X : Type 0} (p q : X → Bool) (xs : List X) (y : X) → find p xs ≡ Some y → q y ≡ true → list_any (λ x. p x && q x) xs ≡ true
+found-both p q [] y f h = cc
+found-both p q (x ∷ xs) y f h = grind (arith, f, h, found-both p q xs y)
+
+done-bridge : (b : Bool) (t : Tag) → (if b then Done else Taken t) ≡ Done → b ≡ true
+done-bridge true t h = refl
+done-bridge false t h = cc
+
+ensured : (host : Host) (name : List ℕ) (o : Option Link) (mtu : ℕ) (promisc : Bool) → find (is_host_link name) host.links ≡ o → (bridge_or_new host o (new_bridge name mtu promisc)).1 ≡ Done
+    → has_host_bridge (bridge_or_new host o (new_bridge name mtu promisc)).0 name ≡ true
+ensured host name None mtu promisc found done =
+    list_any-append_right (is_host_bridge name) host.links (new_bridge name mtu promisc ∷ []) (grind (arith, nat_list_eq_equiv.refl name))
+ensured host name (Some link) mtu promisc found done = found-both (is_host_link name) (λ l. is_bridge l.kind) host.links link found (done-bridge (is_bridge link.kind) link.tag done)
+
+in-bridge : (conf : BridgeConf) (name : List ℕ) (host : Host) → bytes_eq name conf.bridge ≡ true → has_host_bridge host name ≡ true → BridgeIn (Bridge conf) host
+in-bridge conf name host same there = ap (has_host_bridge host) (sym ((bytes_eq-Decides name conf.bridge).0 same)) ∙ there
+
+ensured-made : (first : First) (host : Host) (call : Call) → ensures_bridge first call ≡ true → (apply host call).1 ≡ Done → BridgeIn first (apply host call).0
+ensured-made (Bridge conf) host (BridgeEnsure name mtu promisc) is done =
+    in-bridge conf name (apply host (BridgeEnsure name mtu promisc)).0 is (ensured host name (find (is_host_link name) host.links) mtu promisc refl done)
+ensured-made (Bridge conf) host _ is done = cc
+ensured-made (Ptp conf) host call is done = cc
+ensured-made (Macvlan conf) host call is done = cc
+
+ensured-entered : (first : First) (k : Host) (n : ℕ) (call : Call) (faulty : Bool) → ensures_bridge first call ≡ true → reply_to k call faulty ≡ Done → BridgeIn first (host_on k (entry_of k n call faulty))
+ensured-entered first k n call true is done = cc
+ensured-entered first k n call false is done = subst (BridgeIn first) (sym (host-made k n call)) (ensured-made first k call is done)
+
+-- the calls before the leases ensure it first
+comes-before : (first : First) (att : Att) (netns : List ℕ) (host : Host) → BridgeComes first (calls_before first att netns) host
+comes-before (Bridge conf) att netns host = inl (grind (arith, nat_list_eq_equiv.refl conf.bridge))
+comes-before (Ptp conf) att netns host = inr refl
+comes-before (Macvlan conf) att netns host = inr refl
+
+-- ---- one entry
+
+to-after_leases : (list : NetList) (left : List Call) (given : List Addr) (host : Host) → BridgeIn list.first host → HasBridge list (after_leases left given) host
+to-after_leases list [] given host h = tt
+to-after_leases list (x ∷ xs) given host h = h
+
+to-leasing : (list : NetList) (c : Command) (left : List RangeSet) (given : List Addr) (host : Host) → BridgeIn list.first host → HasBridge list (leasing list c left given) host
+to-leasing list c [] given host h = to-after_leases list (back_of list c given) given host h
+to-leasing list c (x ∷ xs) given host h = h
+
+to-before_leases : (list : NetList) (c : Command) (left : List Call) (host : Host) → BridgeComes list.first left host → HasBridge list (before_leases list c left) host
+to-before_leases list c [] host h = elim h [ inl none ↦ cc | inr there ↦ to-leasing list c (sets_of list) [] host there ]
+to-before_leases list c (x ∷ xs) host h = h
+
+to-deleting : (list : NetList) (ks : List Kind) (ending : Ending) (host : Host) → HasBridge list (deleting ks ending) host
+to-deleting list [] ending host = tt
+to-deleting list (k ∷ ks) ending host = tt
+
+bridge-at_begin : (list : NetList) (c : Command) (number : ℕ) (r : Reply) (host : Host) → HasBridge list (at_begin list c number r) host
+bridge-at_begin list c number Done host = to-before_leases list c (before_of list c) host (comes-before list.first (att_of c) c.netns host)
+bridge-at_begin list c number _ host = tt
+
+bridge-before : (list : NetList) (c : Command) (number : ℕ) (left : List Call) (r : Reply) (host : Host) → (r ≡ Done → BridgeComes list.first left host) → HasBridge list (at_call_before list c number left r) host
+bridge-before list c number left Done host h = to-before_leases list c left host (h refl)
+bridge-before list c number left _ host h = tt
+
+bridge-lease : (list : NetList) (c : Command) (number : ℕ) (left : List RangeSet) (given : List Addr) (r : Reply) (host : Host) → BridgeIn list.first host → HasBridge list (at_lease list c number left given r) host
+bridge-lease list c number left given (Leased addr) host h = to-leasing list c left (given ++ addr ∷ []) host h
+bridge-lease list c number left given _ host h = tt
+
+bridge-after : (list : NetList) (number : ℕ) (left : List Call) (given : List Addr) (r : Reply) (host : Host) → BridgeIn list.first host → HasBridge list (at_call_after number left given r) host
+bridge-after list number left given Done host h = to-after_leases list left given host h
+bridge-after list number left given _ host h = tt
+
+bridge-cache : (list : NetList) (number : ℕ) (ending : Ending) (r : Reply) (host : Host) → HasBridge list (at_cache list number ending r) host
+bridge-cache list number ending Fault host = tt
+bridge-cache list number ending _ host = to-deleting list (kinds_of list) ending host
+
+bridge-gone : (list : NetList) (number : ℕ) (kind : Kind) (left : List Kind) (ending : Ending) (b : Bool) (host : Host) → HasBridge list (at_deletion number kind left ending (Gone b)) host
+bridge-gone list number kind left ending true host = tt
+bridge-gone list number kind left ending false host = to-deleting list left ending host
+
+bridge-deletion : (list : NetList) (number : ℕ) (kind : Kind) (left : List Kind) (ending : Ending) (r : Reply) (host : Host) → HasBridge list (at_deletion number kind left ending r) host
+bridge-deletion list number kind left ending (Gone b) host = bridge-gone list number kind left ending b host
+bridge-deletion list number kind left ending _ host = tt
+
+-- a call before the leases that was done
+comes-done : (first : First) (k : Host) (n : ℕ) (x : Call) (xs : List Call) (faulty : Bool) → (BridgeIn first k → BridgeIn first (host_on k (entry_of k n x faulty))) → BridgeComes first (x ∷ xs) k → reply_to k x faulty ≡ Done
+    → BridgeComes first xs (host_on k (entry_of k n x faulty))
+comes-done first k n x xs faulty stays (inr there) done = inr (stays there)
+comes-done first k n x xs faulty stays (inl left) done = elim (cases_Bool (ensures_bridge first x)) [
+  | inl mine ↦ inr (ensured-entered first k n x faulty mine done)
+  | inr other ↦ inl (grind (arith, left, other))
+]
+
+bridge-advance : (list : NetList) (c : Command) (number : ℕ) (st : State) (k : Host) (n : ℕ) (call : Call) (faulty : Bool) → turn c st ≡ Calls call → (BridgeIn list.first k → BridgeIn list.first (host_on k (entry_of k n call faulty))) → HasBridge list st k
+    → HasBridge list (advance list c number st (reply_to k call faulty)) (host_on k (entry_of k n call faulty))
+unfolding turn advance
+bridge-advance list c number AtBegin k n call faulty is stays was = bridge-at_begin list c number _ (host_on k (entry_of k n call faulty))
+bridge-advance list c number (BeforeLeases x xs) k n call faulty is stays was =
+    bridge-before list c number xs _ (host_on k (entry_of k n call faulty))
+    (λ done. let e : call ≡ x = cc in comes-done list.first k n call xs faulty stays (subst (λ j. BridgeComes list.first (j ∷ xs) k) (sym e) was) done)
+bridge-advance list c number (Leasing set sets given) k n call faulty is stays was = bridge-lease list c number sets given _ (host_on k (entry_of k n call faulty)) (stays was)
+bridge-advance list c number (AfterLeases x xs given) k n call faulty is stays was = bridge-after list number xs given _ (host_on k (entry_of k n call faulty)) (stays was)
+bridge-advance list c number (ReadingCache ending) k n call faulty is stays was = bridge-cache list number ending _ (host_on k (entry_of k n call faulty))
+bridge-advance list c number (Deleting kind ks ending) k n call faulty is stays was = bridge-deletion list number kind ks ending _ (host_on k (entry_of k n call faulty))
+bridge-advance list c number (Over ending given) k n call faulty is stays was = cc
+
+-- ---- every history
+
+bridge-stands : (list : NetList) (st : State) (old new : Host) → (BridgeIn list.first old → BridgeIn list.first new) → HasBridge list st old → HasBridge list st new
+bridge-stands list AtBegin old new stays was = tt
+bridge-stands list (BeforeLeases x xs) old new stays was = elim was [ inl left ↦ inl left | inr there ↦ inr (stays there) ]
+bridge-stands list (Leasing set sets given) old new stays was = stays was
+bridge-stands list (AfterLeases x xs given) old new stays was = stays was
+bridge-stands list (ReadingCache ending) old new stays was = tt
+bridge-stands list (Deleting kind ks ending) old new stays was = tt
+bridge-stands list (Over ending given) old new stays was = tt
+
+abbrev AllBridges : Plan → List Entry → Type 0
+AllBridges p h = (n : ℕ) (c : Placed) (list : NetList) → slice_get (commands_of p) n ≡ Some c → list_for p c.command ≡ Some list → HasBridge list (state_by list c.command (own_entries n h)) (after p.pods.opening h)
+
+bridge-unless : (list : NetList) (o : Option Cause) (st : State) (host : Host) → HasBridge list st host → HasBridge list (unless_refused o st) host
+bridge-unless list None st host h = h
+bridge-unless list (Some cause) st host h = tt
+
+bridge-start : (list : NetList) (c : Command) (v : Verb) (host : Host) → HasBridge list (start_of v c) host
+bridge-start list c verbs.Add host = bridge-unless list (add_refusal c) AtBegin host tt
+bridge-start list c verbs.Del host = bridge-unless list (del_refusal c) (ReadingCache _) host tt
+bridge-start list c verbs.Check host = tt
+bridge-start list c verbs.Gc host = tt
+bridge-start list c verbs.Status host = tt
+bridge-start list c verbs.Version host = tt
+bridge-start list c verbs.NsAdd host = tt
+bridge-start list c verbs.NsDel host = tt
+bridge-start list c verbs.Drop host = tt
+bridge-start list c verbs.Flush host = tt
+
+bridges-kept : (w : World) (n : ℕ) (c : Placed) (list : NetList) (call : Call) (faulty : Bool) → GoesOn w n c list call faulty → AllBridges w.plan w.history → AllBridges w.plan (w.history ++ entry_of (host_of w) n call faulty ∷ [])
+bridges-kept w n c list call faulty on was = λ m d other at listed.
+    let h = w.history in
+    let k = host_of w in
+    let e = entry_of k n call faulty in
+    let grown = after-append w.plan.pods.opening h e in
+    let stays = λ (first : First). bridge-entered first w n c list call faulty on in
+    elim (eqb_tells m n) [
+      | inl t ↦
+          let same : d ≡ c = ready_is w n m c d on.ready t.1 at in
+          let same_list : other ≡ list = same_Some other list (sym listed ∙ ap (λ (x : Placed). list_for w.plan x.command) same ∙ on.listed) in
+          let es = own_entries n h in
+          let own = own-state w n c list call faulty on in
+          let now = bridge-advance list c.command (length es + 1) (state_by list c.command es) k n call faulty own.turn_is (stays list.first) (was n c list on.ready.there on.listed) in
+          let Q : ℕ → Placed → NetList → Type 0 = λ j x l. HasBridge l (state_by l x.command (own_entries j (h ++ e ∷ []))) (after w.plan.pods.opening (h ++ e ∷ [])) in
+          let mine : Q n c list =
+          subst (λ j. HasBridge list (state_by list c.command (own_entries n (h ++ e ∷ []))) j) (sym grown)
+          (subst (λ l. HasBridge list (state_by list c.command l) (host_on k e)) (sym (own_entries-own n h e (is_of-own n e refl)))
+          (subst (λ st. HasBridge list st (host_on k e)) (sym (state_by-append list c.command es e)) now)) in
+          subst (λ j. Q j d other) (sym t.1) (subst (λ x. Q n x other) (sym same) (subst (Q n c) (sym same_list) mine))
+      | inr f ↦
+          let far : is_of m e ≡ false = is_of-other m e (λ same. f.1 (let s : n + 1 ≡ m + 1 = same in omega (arith, s))) in
+          subst (λ l. HasBridge other (state_by other d.command l) (after w.plan.pods.opening (h ++ e ∷ []))) (sym (own_entries-other m h e far))
+          (subst (HasBridge other (state_by other d.command (own_entries m h))) (sym grown)
+          (bridge-stands other (state_by other d.command (own_entries m h)) k (host_on k e) (stays other.first) (was m d other at listed)))
+    ]
+
+pub all-bridges : (w : World) → Legal w → AllBridges w.plan w.history
+all-bridges w legal = by-entries AllBridges (λ p well n c list at listed. bridge-start list c.command c.command.verb p.pods.opening) bridges-kept w legal

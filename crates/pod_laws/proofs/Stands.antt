@@ -1,0 +1,232 @@
+-- Each call that a run makes finds the links and the bridge that it stands on.
+use Rattle.std.proofs.Common.{◌≡◌, ℕ, ◌+◌, Bool, true, false, List, [], ◌∷◌, ◌++◌, map, length, Option, Some, None, refl, sym, ◌∙◌, ap, subst, inl, inr, ◌⊎◌, arith}
+use Rattle.std.proofs.lemmas.Slice.Eq.{bytes_eq-Decides}
+use Rattle.std.specs.Prelude.{◌&&◌, ◌||◌, if◌then◌else◌}
+use Rattle.std.specs.List.{list_any, list_all}
+use Rattle.std.specs.Str.{bytes_eq}
+use Rattle.std.specs.Cmp.Lexicographic.{nat_list_eq_equiv}
+use Rattle.cni_addr.specs.Codes.{family_eq}
+use Rattle.cni_addr.specs.declared.address.Addr.{Addr}
+use Rattle.cni_addr.specs.declared.address.Family.TheVariants as families
+use Rattle.cni_result.specs.declared.cached.PortMapping.{PortMapping}
+use Rattle.cni_result.specs.declared.result.AddResult.{AddResult}
+use Rattle.cni_result.specs.declared.result.IpEntry.{IpEntry}
+use Rattle.net_conf.specs.declared.first.BridgeConf.{BridgeConf}
+use Rattle.net_conf.specs.declared.first.First.{First}
+use Rattle.net_conf.specs.declared.first.First.TheVariants.{Bridge, Ptp, Macvlan}
+use Rattle.net_conf.specs.declared.chained.Chained.{Chained}
+use Rattle.net_conf.specs.declared.chained.Chained.TheVariants.{Portmap, Firewall, Tuning}
+use Rattle.net_conf.specs.declared.list.NetList.{NetList}
+use Rattle.pod_file.specs.declared.command.Command.{Command}
+use Rattle.kernel_types.specs.Apply.{apply}
+use Rattle.kernel_types.specs.Apply.Calls.{has_bridge_as_master}
+use Rattle.kernel_types.specs.Words.{has_host_bridge}
+use Rattle.kernel_types.specs.declared.object.Att.{Att}
+use Rattle.kernel_types.specs.declared.object.Host.{Host}
+use Rattle.kernel_types.specs.declared.call.Call.{Call}
+use Rattle.kernel_types.specs.declared.call.Call.TheVariants.{Begin, BridgeEnsure, VethAdd, MacvlanAdd, GatewayEnsure, ForwardEnsure, LinkSet, AddrAdd, RouteAdd, RuleAppend, SettingSet, LeaseNext, CachePut, CacheGet, LinkDel, RuleDel, SettingDel, LeaseDel, CacheDel}
+use Rattle.kernel_types.specs.declared.call.Given.{Given}
+use Rattle.kernel_types.specs.declared.call.Kind.{Kind}
+use Rattle.kernel_types.specs.declared.call.Kind.TheVariants as kinds
+use Rattle.kernel_types.specs.declared.call.Reply.TheVariants.{NoLink}
+use Rattle.plan_words.specs.PlanCalls.{is_plan_call_of}
+use Rattle.plan_words.specs.Shapes.{host_end, inner_end, macvlan_link, addresses_on, routes_on, masquerade_rules, forward_for, forward_calls}
+use Rattle.plan_words.specs.Share.{Share, share_of, share_after_calls}
+use Rattle.plan_words.proofs.KeyLists.{list_all-append, list_all-every}
+use Rattle.host_local.specs.Conf.{routes_of}
+use Rattle.host_local.specs.Results.{ip_of}
+use Rattle.bridge_ptp.specs.Bridge.{gateways, gateway_calls}
+use Rattle.bridge_ptp.specs.Ptp.{AddressOrRoute, Address, Route, call_for, ptp_objects}
+use Rattle.bridge_ptp.specs.Results.{bridge_routes}
+use Rattle.portmap.specs.Portmap.{portmap_rules}
+use Rattle.firewall_tuning.specs.Firewall.{firewall_rules}
+use Rattle.firewall_tuning.specs.Tuning.{tuning_settings, sets_any, link_set_calls}
+use Rattle.cni_verbs.specs.CommandWords.{att_of, mappings_of}
+use Rattle.cni_verbs.specs.Script.{State, AtBegin, BeforeLeases, Leasing, AfterLeases, ReadingCache, Deleting, Over, Turn, Calls, turn}
+use Rattle.cni_verbs.specs.Wanted.{calls_before, calls_after, chained_calls, all_chained_calls, chained_result, back_calls, given_by_list, first_plugin_result, cached_of, deletion, untuned}
+use Rattle.pod_workers.specs.Plans.{Placed}
+use Rattle.pod_workers.specs.World.{World, host_of}
+use Rattle.pod_workers.specs.declared.plan.Entry.{Entry}
+use Rattle.pod_laws.specs.Moments.{own_entries}
+use Rattle.pod_laws.proofs.Achieved.{Achieved, achieved-start, achieved-step, with_leases}
+use Rattle.pod_laws.proofs.Bridges.{BridgeIn, BridgeComes, HasBridge, bridge_of, ensures_bridge, all-bridges}
+use Rattle.pod_laws.proofs.Footing.{IsMacvlan, bridge_for, lies_on, lies-calls, lies-host, lie-back, lie-before, no_link-macvlan}
+use Rattle.pod_laws.proofs.Fronts.{untuned-links}
+use Rattle.pod_laws.proofs.Steps.{GoesOn, every-run-now, own-state, state_by}
+
+-- ---- the bridge that a call names is the list's
+
+abbrev names_bridge : Option (List ℕ) → Option (List ℕ) → Bool
+names_bridge None o = true
+names_bridge (Some name) None = false
+names_bridge (Some name) (Some bridge) = bytes_eq name bridge
+
+abbrev is_bridged : First → Call → Bool
+is_bridged first call = names_bridge (bridge_for call) (bridge_of first)
+
+named : (host : Host) (o bridge : Option (List ℕ)) → names_bridge o bridge ≡ true → has_bridge_as_master host bridge ≡ true → has_bridge_as_master host o ≡ true
+named host None bridge h there = refl
+named host (Some name) None h there = cc
+named host (Some name) (Some bridge) h there = ap (has_host_bridge host) ((bytes_eq-Decides name bridge).0 h) ∙ there
+
+abbrev AllBridged : First → List Call → Type 0
+AllBridged first calls = list_all (is_bridged first) calls ≡ true
+
+bridged-append : (first : First) (xs ys : List Call) → AllBridged first xs → AllBridged first ys → AllBridged first (xs ++ ys)
+bridged-append first xs ys h g = list_all-append (is_bridged first) xs ys h g
+
+bridged-every : {X : Type 0} (first : First) (f : X → Call) → ((x : X) → is_bridged first (f x) ≡ true) → (xs : List X) → AllBridged first (map f xs)
+bridged-every first f w xs = list_all-every (is_bridged first) f w xs
+
+bridged-if : (first : First) (b : Bool) (xs : List Call) → AllBridged first xs → AllBridged first (if b then xs else [])
+bridged-if first true xs h = h
+bridged-if first false xs h = refl
+
+bridged-forward : (first : First) (given : List Given) → AllBridged first (forward_calls given)
+bridged-forward first given =
+    let v4 = list_any (λ g. family_eq g.address.addr.family families.V4) given in
+    let v6 = list_any (λ g. family_eq g.address.addr.family families.V6) given in
+    bridged-append first (forward_for families.V4 given) (forward_for families.V6 given) (bridged-if first v4 (ForwardEnsure families.V4 ∷ []) refl) (bridged-if first v6 (ForwardEnsure families.V6 ∷ []) refl)
+
+bridged-gateways : (conf : BridgeConf) (given : List Given) → AllBridged (Bridge conf) (gateway_calls conf given)
+bridged-gateways conf given =
+    bridged-if (Bridge conf) conf.is_gateway (map (GatewayEnsure conf.bridge) (gateways given) ++ forward_calls given)
+    (bridged-append (Bridge conf) (map (GatewayEnsure conf.bridge) (gateways given)) (forward_calls given)
+    (bridged-every (Bridge conf) (GatewayEnsure conf.bridge) (λ g. nat_list_eq_equiv.refl conf.bridge) (gateways given)) (bridged-forward (Bridge conf) given))
+
+bridged-call_for : (first : First) (x : AddressOrRoute) → is_bridged first (call_for x) ≡ true
+bridged-call_for first (Address obj) = refl
+bridged-call_for first (Route obj) = refl
+
+bridged-after : (first : First) (att : Att) (netns : List ℕ) (given : List Given) → AllBridged first (calls_after first att netns given)
+bridged-after (Bridge conf) att netns given =
+    let routes = routes_on att netns given (bridge_routes conf.is_default_gateway (routes_of conf.ipam) (map ip_of given)) in
+    let rules = masquerade_rules conf.ip_masq att given in
+    bridged-append (Bridge conf) (map AddrAdd (addresses_on att netns given)) (map RouteAdd routes ++ (gateway_calls conf given ++ map RuleAppend rules)) (bridged-every (Bridge conf) AddrAdd (λ x. refl) (addresses_on att netns given))
+    (bridged-append (Bridge conf) (map RouteAdd routes) (gateway_calls conf given ++ map RuleAppend rules) (bridged-every (Bridge conf) RouteAdd (λ x. refl) routes)
+    (bridged-append (Bridge conf) (gateway_calls conf given) (map RuleAppend rules) (bridged-gateways conf given) (bridged-every (Bridge conf) RuleAppend (λ x. refl) rules)))
+bridged-after (Ptp conf) att netns given =
+    let rules = masquerade_rules conf.ip_masq att given in
+    bridged-append (Ptp conf) (map call_for (ptp_objects conf att netns given)) (forward_calls given ++ map RuleAppend rules) (bridged-every (Ptp conf) call_for (bridged-call_for (Ptp conf)) (ptp_objects conf att netns given))
+    (bridged-append (Ptp conf) (forward_calls given) (map RuleAppend rules) (bridged-forward (Ptp conf) given) (bridged-every (Ptp conf) RuleAppend (λ x. refl) rules))
+bridged-after (Macvlan conf) att netns given =
+    let routes = routes_on att netns given (routes_of conf.ipam) in
+    bridged-append (Macvlan conf) (map AddrAdd (addresses_on att netns given)) (map RouteAdd routes) (bridged-every (Macvlan conf) AddrAdd (λ x. refl) (addresses_on att netns given)) (bridged-every (Macvlan conf) RouteAdd (λ x. refl) routes)
+
+bridged-chained : (first : First) (c : Chained) (att : Att) (netns : List ℕ) (mappings : List PortMapping) (ips : List IpEntry) → AllBridged first (chained_calls c att netns mappings ips)
+bridged-chained first (Portmap conf) att netns mappings ips = bridged-every first RuleAppend (λ r. refl) (portmap_rules conf att mappings ips)
+bridged-chained first (Firewall conf) att netns mappings ips = bridged-every first RuleAppend (λ r. refl) (firewall_rules att ips)
+bridged-chained first (Tuning conf) att netns mappings ips =
+    bridged-append first (map SettingSet (tuning_settings conf att netns)) (link_set_calls conf att netns) (bridged-every first SettingSet (λ s. refl) (tuning_settings conf att netns))
+    (bridged-if first (sets_any conf) (LinkSet att (record { ns = netns; name = att.ifname }) conf.mac conf.mtu conf.tx_qlen conf.promisc conf.allmulti ∷ []) refl)
+
+bridged-all_chained : (first : First) (cs : List Chained) (att : Att) (netns : List ℕ) (mappings : List PortMapping) (prev : AddResult) → AllBridged first (all_chained_calls cs att netns mappings prev)
+bridged-all_chained first [] att netns mappings prev = refl
+bridged-all_chained first (c ∷ cs) att netns mappings prev =
+    bridged-append first (chained_calls c att netns mappings prev.ips) (all_chained_calls cs att netns mappings (chained_result c prev)) (bridged-chained first c att netns mappings prev.ips)
+    (bridged-all_chained first cs att netns mappings (chained_result c prev))
+
+bridged-back : (list : NetList) (att : Att) (netns : List ℕ) (mappings : List PortMapping) (addrs : List Addr) → AllBridged list.first (back_calls list att netns mappings addrs)
+bridged-back list att netns mappings addrs =
+    let chain = all_chained_calls list.chained att netns mappings (first_plugin_result list att netns addrs) in
+    let put = CachePut att (cached_of list att netns mappings addrs) ∷ [] in
+    bridged-append list.first (calls_after list.first att netns (given_by_list list addrs)) (chain ++ put) (bridged-after list.first att netns (given_by_list list addrs))
+    (bridged-append list.first chain put (bridged-all_chained list.first list.chained att netns mappings (first_plugin_result list att netns addrs)) refl)
+
+-- ---- one of a list
+
+middle-passes : {X : Type 0} (p : X → Bool) (xs : List X) (y : X) (ys : List X) → list_all p (xs ++ y ∷ ys) ≡ true → p y ≡ true
+middle-passes p [] y ys h = grind (arith, h)
+middle-passes p (x ∷ xs) y ys h = middle-passes p xs y ys (grind (arith, h))
+
+no_more : {X : Type 0} (ms xs : List X) (x : X) → [] ≡ ms ++ x ∷ xs → ⊥
+no_more [] xs x e = cc
+no_more (m ∷ ms) xs x e = cc
+
+tails : {X : Type 0} (x y : X) (xs ys : List X) → x ∷ xs ≡ y ∷ ys → xs ≡ ys
+tails x y xs ys e = cc
+
+one-or-none : {X : Type 0} (a b x : X) (made xs : List X) → a ∷ b ∷ [] ≡ made ++ x ∷ xs → (x ≡ a) ⊎ ((x ≡ b) × (xs ≡ []))
+one-or-none a b x [] xs e = inl cc
+one-or-none a b x (m ∷ []) xs e = inr (cc, cc)
+one-or-none a b x (m ∷ k ∷ ms) xs e = absurd (no_more ms xs x (tails b k [] (ms ++ x ∷ xs) (tails a m (b ∷ []) (k ∷ (ms ++ x ∷ xs)) e)))
+
+only-one : {X : Type 0} (a x : X) (made xs : List X) → a ∷ [] ≡ made ++ x ∷ xs → x ≡ a
+only-one a x [] xs e = cc
+only-one a x (m ∷ ms) xs e = absurd (no_more ms xs x (tails a m [] (ms ++ x ∷ xs) e))
+
+-- ---- the bridge of a call before the leases
+
+no-ensure : (conf : BridgeConf) (x v : Call) (xs : List Call) → x ≡ v → xs ≡ [] → ensures_bridge (Bridge conf) v ≡ false → list_any (ensures_bridge (Bridge conf)) (x ∷ xs) ≡ false
+no-ensure conf x v xs is none not = rw (is, none) (grind (arith, not))
+
+after-ensure : (conf : BridgeConf) (host : Host) (x v : Call) (xs : List Call) → x ≡ v → xs ≡ [] → ensures_bridge (Bridge conf) v ≡ false → BridgeComes (Bridge conf) (x ∷ xs) host → has_host_bridge host conf.bridge ≡ true
+after-ensure conf host x v xs is none not (inr there) = there
+after-ensure conf host x v xs is none not (inl left) = absurd (let e : true ≡ false = sym left ∙ no-ensure conf x v xs is none not in cc)
+
+bridge-first : (first : First) (att : Att) (netns : List ℕ) (host : Host) (made xs : List Call) (x : Call) → calls_before first att netns ≡ made ++ x ∷ xs → BridgeComes first (x ∷ xs) host → has_bridge_as_master host (bridge_for x) ≡ true
+bridge-first (Bridge conf) att netns host made xs x part comes =
+    let ensure = BridgeEnsure conf.bridge conf.mtu conf.promisc in
+    let veth = VethAdd (host_end att netns (Some conf.bridge) conf.mtu conf.hairpin) (inner_end att netns conf.mtu) in
+    elim (one-or-none ensure veth x made xs part) [
+      | inl is ↦ ap (λ j. has_bridge_as_master host (bridge_for j)) is
+      | inr is ↦ ap (λ j. has_bridge_as_master host (bridge_for j)) is.0 ∙ after-ensure conf host x veth xs is.0 is.1 refl comes
+    ]
+bridge-first (Ptp conf) att netns host made xs x part comes =
+    ap (λ j. has_bridge_as_master host (bridge_for j)) (only-one (VethAdd (host_end att netns None conf.mtu false) (inner_end att netns conf.mtu)) x made xs part)
+bridge-first (Macvlan conf) att netns host made xs x part comes =
+    ap (λ j. has_bridge_as_master host (bridge_for j)) (only-one (MacvlanAdd (macvlan_link att netns conf.master conf.mode conf.mtu)) x made xs part)
+
+-- ---- every call of a run
+
+pub record IsFooted (host : Host) (call : Call) : Type 0 where
+  pub lies : lies_on host.links call ≡ true
+  pub bridge : has_bridge_as_master host (bridge_for call) ≡ true
+
+footed-before : (list : NetList) (c : Command) (es : List Entry) (x : Call) (xs : List Call) (host : Host) → Achieved list c es (BeforeLeases x xs) (share_of (att_of c) host) → BridgeComes list.first (x ∷ xs) host → IsFooted host x
+footed-before list c es x xs host ach comes = record {
+  lies = middle-passes (lies_on host.links) ach.0 x xs (ap (list_all (lies_on host.links)) (sym ach.1) ∙ lie-before list.first (att_of c) c.netns host.links);
+  bridge = bridge-first list.first (att_of c) c.netns host ach.0 xs x ach.1 comes;
+}
+
+footed-after : (list : NetList) (c : Command) (es : List Entry) (x : Call) (xs : List Call) (given : List Addr) (host : Host) → Achieved list c es (AfterLeases x xs given) (share_of (att_of c) host) → BridgeIn list.first host → IsFooted host x
+footed-after list c es x xs given host ach there =
+    let att = att_of c in
+    let made = ach.0 in
+    let first : lies_on (untuned list att c.netns) x ≡ true =
+    middle-passes (lies_on (untuned list att c.netns)) made x xs (ap (list_all (lies_on (untuned list att c.netns))) (sym ach.1) ∙ lie-back list att c.netns (mappings_of list c) given) in
+    let start : lies_on (with_leases list c given).links x ≡ true = ap (λ l. lies_on l x) (untuned-links list c given) ∙ first in
+    let now : lies_on (share_of att host).links x ≡ true = ap (λ (s : Share). lies_on s.links x) ach.3 ∙ lies-calls (with_leases list c given) made x start in
+    record {
+      lies = lies-host att host x now;
+      bridge = named host (bridge_for x) (bridge_of list.first)
+          (middle-passes (is_bridged list.first) made x xs (ap (list_all (is_bridged list.first)) (sym ach.1) ∙ bridged-back list att c.netns (mappings_of list c) given)) there;
+    }
+
+abbrev FootedIfPlan : Att → Host → Call → Type 0
+FootedIfPlan att host call = is_plan_call_of att call ≡ true → IsFooted host call
+
+footed-deletion : (att : Att) (host : Host) (kind : Kind) → FootedIfPlan att host (deletion att kind)
+footed-deletion att host kinds.Links = λ own. cc
+footed-deletion att host kinds.Rules = λ own. cc
+footed-deletion att host kinds.Settings = λ own. cc
+footed-deletion att host kinds.Leases = λ own. cc
+footed-deletion att host kinds.Cached = λ own. cc
+
+footed-turn : (list : NetList) (c : Command) (es : List Entry) (st : State) (host : Host) (call : Call) → turn c st ≡ Calls call → Achieved list c es st (share_of (att_of c) host) → HasBridge list st host → FootedIfPlan (att_of c) host call
+unfolding turn
+footed-turn list c es AtBegin host call is ach bridge = subst (FootedIfPlan (att_of c) host) (let e : Begin (att_of c) c.netns ≡ call = cc in e) (λ own. cc)
+footed-turn list c es (BeforeLeases x xs) host call is ach bridge = subst (FootedIfPlan (att_of c) host) (let e : x ≡ call = cc in e) (λ own. footed-before list c es x xs host ach bridge)
+footed-turn list c es (Leasing set sets given) host call is ach bridge = subst (FootedIfPlan (att_of c) host) (let e : LeaseNext (att_of c) (length given) set ≡ call = cc in e) (λ own. cc)
+footed-turn list c es (AfterLeases x xs given) host call is ach bridge = subst (FootedIfPlan (att_of c) host) (let e : x ≡ call = cc in e) (λ own. footed-after list c es x xs given host ach bridge)
+footed-turn list c es (ReadingCache ending) host call is ach bridge = subst (FootedIfPlan (att_of c) host) (let e : CacheGet (att_of c) ≡ call = cc in e) (λ own. cc)
+footed-turn list c es (Deleting kind ks ending) host call is ach bridge = subst (FootedIfPlan (att_of c) host) (let e : deletion (att_of c) kind ≡ call = cc in e) (footed-deletion (att_of c) host kind)
+footed-turn list c es (Over ending given) host call is ach bridge = cc
+
+-- so a run's call gets NoLink only where it is `macvlan`'s
+pub no_link-now : (w : World) (n : ℕ) (c : Placed) (list : NetList) (call : Call) (faulty : Bool) → GoesOn w n c list call faulty → is_plan_call_of (att_of c.command) call ≡ true → (apply (host_of w) call).1 ≡ NoLink → IsMacvlan call
+no_link-now w n c list call faulty on own got =
+    let st = state_by list c.command (own_entries n w.history) in
+    let footed = footed-turn list c.command (own_entries n w.history) st (host_of w) call (own-state w n c list call faulty on).turn_is
+    (every-run-now Achieved achieved-start achieved-step w n c list call faulty on) (all-bridges w on.legal n c list on.ready.there on.listed) own in
+    no_link-macvlan (att_of c.command) (host_of w) call own footed.lies footed.bridge got
