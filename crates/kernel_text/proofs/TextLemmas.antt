@@ -1,5 +1,5 @@
 -- Texts that go on.
-use Rattle.std.proofs.Common.{◌≡◌, ℕ, ◌≤◌, List, ◌++◌, take, length, ap, sym, ◌∙◌, arith}
+use Rattle.std.proofs.Common.{◌≡◌, ℕ, ◌≤◌, List, ◌∷◌, ◌++◌, codes, take, length, ap, sym, ◌∙◌, append_assoc, arith}
 use Rattle.std.proofs.lemmas.List.{length-take, take-take}
 use Rattle.std.proofs.Math.Seq.{take-append_seam}
 
@@ -12,3 +12,7 @@ front_of_front a b c first second =
 -- what is appended leaves the front
 pub front_of_append : (a b more : List ℕ) → b ≡ a ++ more → take (length a) b ≡ a
 front_of_append a b more is = rw is (take-append_seam a more)
+
+-- a text that was put together of three words with slashes between them
+pub with_slashes : (text bytes a b c x y z : List ℕ) → text ≡ bytes → bytes ≡ a ++ 47 ∷ (b ++ 47 ∷ c) → a ≡ x → b ≡ y → c ≡ z → text ≡ x ++ codes "/" ++ y ++ codes "/" ++ z
+with_slashes text bytes a b c x y z is made first second third = rw (is, made, first, second, third) (simp append_assoc)
