@@ -61,6 +61,13 @@ impl<K: Kernel + Drop> Book<K> {
         match self.never {}
     }
 
+    /// The answers of all commands, in file order.
+    pub fn answers(&self) -> &[Option<Answer>]
+        ensures { result.now ≡ self.now.answers }
+    {
+        match self.never {}
+    }
+
     /// A copy of the host.
     pub fn host(&self, alloc: Global) -> Result<Host, NoMemory>
         ensures { IfOk result (λ host. host ≡ host_of self.now) }

@@ -1,0 +1,28 @@
+-- Each line that is printed of a command has no number outside u64 and i64.
+use Rattle.std.proofs.Common.{◌≡◌, false, refl}
+use Rattle.serde_json.specs.Data.{Members}
+use Rattle.serde_json.specs.Written.{has_float, members_have_float}
+use Rattle.cni_result.proofs.ResultLemmas.{result_is_whole, error_is_whole}
+use Rattle.cni_result.proofs.WholeNumbers.{put_is_whole, puts_are_whole}
+use Rattle.cni_result.specs.declared.version.Version.{Version}
+use Rattle.cni_verbs.specs.declared.answer.Answer.{Answer}
+use Rattle.cni_verbs.specs.declared.answer.Answer.TheVariants.{Added, Yes, Skipped, Versions, Refused, OutOfMemory, Stopped}
+use Rattle.pod_file.specs.declared.command.Command.{Command}
+use Rattle.pod_text.specs.Lines.{versions_data, memory_error, put_answer, answer_data}
+
+versions_are_whole : (version : Version) → has_float (versions_data version) ≡ false
+unfolding versions_data
+versions_are_whole version = refl
+
+pub put_answer_is_whole : (answer : Answer) (ms : Members) → members_have_float ms ≡ false → members_have_float (put_answer answer ms) ≡ false
+put_answer_is_whole (Added added) ms rest = put_is_whole _ _ ms (result_is_whole added) rest
+put_answer_is_whole Yes ms rest = put_is_whole _ _ ms refl rest
+put_answer_is_whole (Skipped skip) ms rest = put_is_whole _ _ ms refl rest
+put_answer_is_whole (Versions version) ms rest = put_is_whole _ _ ms (versions_are_whole version) rest
+put_answer_is_whole (Refused error) ms rest = put_is_whole _ _ ms (error_is_whole error) rest
+put_answer_is_whole OutOfMemory ms rest = put_is_whole _ _ ms (error_is_whole memory_error) rest
+put_answer_is_whole (Stopped calls) ms rest = put_is_whole _ _ ms refl rest
+
+pub answer_is_whole : (command : Command) (answer : Answer) → has_float (answer_data command answer) ≡ false
+unfolding answer_data
+answer_is_whole command answer = search (puts_are_whole, put_answer_is_whole) depth 6

@@ -1,0 +1,107 @@
+-- What is printed of a world: one JSON object a line, for the commands in file order, for the history, and for the host.
+use Rattle.std.specs.Prelude.{ℕ, ◌+◌, Bool, true, List, [], ◌∷◌, ◌++◌, codes, Option, Some, None, if◌then◌else◌}
+use Rattle.std.specs.List.{flat_map}
+use Rattle.serde_json.specs.Data.{Data, boolean, object, Members, no_members, put}
+use Rattle.cni_json.specs.Json.{line_of}
+use Rattle.cni_result.specs.Members.{text_data, number_data, list_data, ◌▷◌}
+use Rattle.cni_result.specs.Results.{version_data, result_data, error_data}
+use Rattle.cni_result.specs.declared.error.CniError.{CniError}
+use Rattle.cni_result.specs.declared.version.Version.{Version}
+use Rattle.cni_result.specs.declared.version.Version.TheVariants.{V1_0, V1_1}
+use Rattle.cni_verbs.specs.declared.answer.Answer.{Answer}
+use Rattle.cni_verbs.specs.declared.answer.Answer.TheVariants.{Added, Yes, Skipped, Versions, Refused, OutOfMemory, Stopped}
+use Rattle.cni_verbs.specs.declared.answer.Skip.{Skip}
+use Rattle.cni_verbs.specs.declared.answer.Skip.TheVariants as skips
+use Rattle.kernel_text.specs.Dump.{dump_of}
+use Rattle.kernel_text.specs.Replies.{trace_data}
+use Rattle.pod_file.specs.declared.command.Command.{Command}
+use Rattle.pod_file.specs.declared.command.Verb.{Verb}
+use Rattle.pod_file.specs.declared.command.Verb.TheVariants as verbs
+use Rattle.pod_workers.specs.Plans.{commands_of}
+use Rattle.pod_workers.specs.World.{World, answer_at, host_of}
+use Rattle.pod_workers.specs.declared.plan.Entry.{Entry}
+
+-- ---- one answer
+
+-- a verb as pod files spell it
+abbrev pub verb_text : Verb → List ℕ
+verb_text verbs.Add = codes "ADD"
+verb_text verbs.Check = codes "CHECK"
+verb_text verbs.Del = codes "DEL"
+verb_text verbs.Gc = codes "GC"
+verb_text verbs.Status = codes "STATUS"
+verb_text verbs.Version = codes "VERSION"
+verb_text verbs.NsAdd = codes "NSADD"
+verb_text verbs.NsDel = codes "NSDEL"
+verb_text verbs.Drop = codes "DROP"
+verb_text verbs.Flush = codes "FLUSH"
+
+-- the key of the network list that disables a verb (CNI specification, section 1, "Configuration format")
+abbrev pub skip_text : Skip → List ℕ
+skip_text skips.Check = codes "disableCheck"
+skip_text skips.Gc = codes "disableGC"
+
+-- the answer to VERSION (CNI specification, section 5, "Version")
+unfoldable pub versions_data : Version → Data
+versions_data version = object (no_members
+    ▷ put (codes "cniVersion") (version_data version)
+    ▷ put (codes "supportedVersions") (list_data version_data (V1_0 ∷ V1_1 ∷ [])))
+
+-- the error of a command that was refused memory; its code is this project's own
+abbrev pub memory_error : CniError
+memory_error = record { version = V1_1; code = 104; msg = codes "out of memory"; details = [] }
+
+-- what the command was answered
+abbrev pub put_answer : Answer → Members → Members
+put_answer (Added added) ms = put (codes "result") (result_data added) ms
+put_answer Yes ms = put (codes "ok") (boolean true) ms
+put_answer (Skipped skip) ms = put (codes "skipped") (text_data (skip_text skip)) ms
+put_answer (Versions version) ms = put (codes "versions") (versions_data version) ms
+put_answer (Refused error) ms = put (codes "error") (error_data error) ms
+put_answer OutOfMemory ms = put (codes "error") (error_data memory_error) ms
+put_answer (Stopped calls) ms = put (codes "stopped") (number_data calls) ms
+
+-- a command with its answer
+unfoldable pub answer_data : Command → Answer → Data
+answer_data command answer = object (no_members
+    ▷ put_answer answer
+    ▷ put (codes "n") (number_data command.number)
+    ▷ put (codes "verb") (text_data (verb_text command.verb)))
+
+-- ---- the parts of the text
+
+-- a command without an answer has no line
+abbrev pub answer_line : Command → Option Answer → List ℕ
+answer_line command None = []
+answer_line command (Some answer) = line_of (answer_data command answer)
+
+-- the line of a command by the answer that it has in the world
+abbrev pub command_line : World → Command → List ℕ
+command_line w command = answer_line command (answer_at w command.number)
+
+-- the lines of all commands, in file order
+abbrev pub command_lines : World → List ℕ
+command_lines w = flat_map (λ placed. command_line w placed.command) (commands_of w.plan)
+
+-- the line of the entry of this number
+abbrev pub entry_line : ℕ → Entry → List ℕ
+entry_line number e = line_of (trace_data number e.command e.call e.reply)
+
+-- the lines of these entries, the first of which has this number
+abbrev pub trace_from : ℕ → List Entry → List ℕ
+trace_from number [] = []
+trace_from number (e ∷ es) = entry_line number e ++ trace_from (number + 1) es
+
+-- the lines of the history, numbered from 1
+abbrev pub trace_lines : World → List ℕ
+trace_lines w = trace_from 1 w.history
+
+-- what is printed only where it was asked for
+abbrev pub where_asked : Bool → List ℕ → List ℕ
+where_asked asked lines = if asked then lines else []
+
+-- ---- the text
+
+-- the commands' lines, then the history's and the host's where they are asked for
+unfoldable pub text_of : World → Bool → Bool → List ℕ
+text_of w trace dump = command_lines w ++ where_asked trace (trace_lines w) ++ where_asked dump (dump_of (host_of w))

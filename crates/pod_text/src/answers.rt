@@ -1,0 +1,109 @@
+//! Commands with their answers, as JSON and as lines.
+
+ghost use Rattle.std.specs.Prelude.{◌≡◌, false, IfOk, OnOk};
+ghost use Rattle.serde_json.specs.View.{view};
+ghost use Rattle.serde_json.specs.Written.{has_float};
+ghost use Rattle.cni_json.specs.Json.{line_of};
+ghost use Rattle.cni_result.specs.Members.{members_of};
+ghost use Rattle.pod_text.specs.Lines.{verb_text, skip_text, versions_data, memory_error, put_answer, answer_data};
+
+use cni_addr::{NoMemory, Text};
+use cni_json::line;
+use cni_result::{CniError, JsonObject, Version, error_value, to_value};
+use cni_verbs::{Answer, Skip};
+use pod_file::{Command, Verb};
+use serde_json::Value;
+use std::alloc::Global;
+
+/// The verb as pod files spell it. Takes no memory.
+pub fn verb_text(verb: Verb) -> &'static str
+    ensures { result.now ≡ verb_text verb }
+{
+    match verb {
+        Verb::Add => "ADD",
+        Verb::Check => "CHECK",
+        Verb::Del => "DEL",
+        Verb::Gc => "GC",
+        Verb::Status => "STATUS",
+        Verb::Version => "VERSION",
+        Verb::NsAdd => "NSADD",
+        Verb::NsDel => "NSDEL",
+        Verb::Drop => "DROP",
+        Verb::Flush => "FLUSH",
+    }
+}
+
+/// The key of the network list that disables the verb. Takes no memory.
+pub fn skip_text(skip: Skip) -> &'static str
+    ensures { result.now ≡ skip_text skip }
+{
+    match skip {
+        Skip::Check => "disableCheck",
+        Skip::Gc => "disableGC",
+    }
+}
+
+#[tactic(auto, unfolding(crate::specs::Lines::versions_data))]
+fn versions_value(alloc: Global, version: Version) -> Result<Value, NoMemory>
+    ensures { IfOk result (λ v. view v ≡ versions_data version) }
+{
+    let supported = [Version::V1_0, Version::V1_1];
+    let mut object = JsonObject::new(alloc);
+    object.put("cniVersion", &version)?;
+    object.put_list("supportedVersions", &supported)?;
+    Ok(object.into_value())
+}
+
+fn memory_error(alloc: Global) -> Result<CniError, NoMemory>
+    ensures { IfOk result (λ error. error ≡ memory_error) }
+{
+    Ok(CniError {
+        version: Version::V1_1,
+        code: 104,
+        msg: Text::of(alloc, "out of memory")?,
+        details: Text::of(alloc, "")?,
+    })
+}
+
+fn put_answer(object: &mut JsonObject, alloc: Global, answer: &Answer) -> Result<(), NoMemory>
+    ensures { OnOk result (members_of object.new ≡ put_answer answer.now (members_of object.old)) }
+{
+    match answer {
+        Answer::Added(added) => object.put_value("result", to_value(alloc, added)?),
+        Answer::Yes => object.put("ok", &true),
+        Answer::Skipped(skip) => object.put_text("skipped", skip_text(*skip)),
+        Answer::Versions(version) => {
+            object.put_value("versions", versions_value(alloc, *version)?)
+        }
+        Answer::Refused(error) => object.put_value("error", error_value(alloc, error)?),
+        Answer::OutOfMemory => {
+            let error = memory_error(alloc)?;
+            object.put_value("error", error_value(alloc, &error)?)
+        }
+        Answer::Stopped { calls } => object.put("stopped", calls),
+    }
+}
+
+/// The command's number and verb with its answer, as JSON. It takes time and memory in proportion to the answer.
+#[tactic(auto, using(crate::proofs::Whole::answer_is_whole), unfolding(crate::specs::Lines::answer_data))]
+pub fn answer_value(alloc: Global, command: &Command, answer: &Answer) -> Result<Value, NoMemory>
+    ensures json { IfOk result (λ v. view v ≡ answer_data command.now answer.now) }
+    ensures numbers { IfOk result (λ v. has_float (view v) ≡ false) }
+{
+    let mut object = JsonObject::new(alloc);
+    put_answer(&mut object, alloc, answer)?;
+    object.put("n", &command.number)?;
+    object.put_text("verb", verb_text(command.verb))?;
+    Ok(object.into_value())
+}
+
+/// The command's number and verb with its answer, on a line of its own.
+pub fn answer_line(alloc: Global, command: &Command, answer: &Answer) -> Result<Vec<u8>, NoMemory>
+    ensures { IfOk result (λ text. text.items ≡ line_of (answer_data command.now answer.now)) }
+{
+    let value = answer_value(alloc, command, answer)?;
+    match line(alloc, &value) {
+        Ok(text) => Ok(text),
+        Err(_) => Err(NoMemory),
+    }
+}

@@ -1,0 +1,145 @@
+//! The text of a book, part by part.
+
+ghost use Rattle.std.specs.Prelude.{◌≡◌, ◌++◌, OnOk, IfOk};
+ghost use Rattle.std.specs.List.{flat_map};
+ghost use Rattle.kernel_text.specs.Dump.{dump_of};
+ghost use Rattle.pod_workers.specs.World.{host_of};
+ghost use Rattle.pod_text.specs.Lines.{command_line, command_lines, entry_line, trace_from, trace_lines, where_asked, text_of};
+
+use crate::answers::answer_line;
+use cni_addr::{Items, NoMemory};
+use cni_json::line;
+use kernel_model::Kernel;
+use kernel_text::{push_dump, trace_value};
+use pod_file::Command;
+use pod_workers::{Book, Entry};
+use std::alloc::Global;
+
+fn push_command<K: Kernel + Drop>(
+    alloc: Global,
+    book: &Book<K>,
+    command: &Command,
+    lines: &mut Vec<u8>,
+) -> Result<(), NoMemory>
+    ensures { OnOk result (lines.new.items ≡ lines.old.items ++ command_line book.now command.now) }
+{
+    match book.answer(command.number) {
+        Some(answer) => {
+            let text = answer_line(alloc, command, answer)?;
+            lines.extend_from_slice(text.as_slice())?;
+            Ok(())
+        }
+        None => Ok(()),
+    }
+}
+
+fn push_round<K: Kernel + Drop>(
+    alloc: Global,
+    book: &Book<K>,
+    commands: &[Command],
+    lines: &mut Vec<u8>,
+) -> Result<(), NoMemory>
+    ensures { OnOk result (lines.new.items ≡ lines.old.items ++ flat_map (command_line book.now) commands.now) }
+{
+    for command in commands {
+        push_command(alloc, book, command, lines)?;
+    }
+    Ok(())
+}
+
+fn push_rounds<K: Kernel + Drop>(
+    alloc: Global,
+    book: &Book<K>,
+    rounds: &[Items<Command>],
+    lines: &mut Vec<u8>,
+) -> Result<(), NoMemory>
+    ensures { OnOk result (lines.new.items ≡ lines.old.items ++ flat_map (flat_map (command_line book.now)) rounds.now) }
+{
+    for commands in rounds {
+        push_round(alloc, book, commands.as_slice(), lines)?;
+    }
+    Ok(())
+}
+
+fn push_commands<K: Kernel + Drop>(
+    alloc: Global,
+    book: &Book<K>,
+    lines: &mut Vec<u8>,
+) -> Result<(), NoMemory>
+    ensures { OnOk result (lines.new.items ≡ lines.old.items ++ command_lines book.now) }
+{
+    push_rounds(alloc, book, book.plan().pods.rounds.as_slice(), lines)
+}
+
+fn push_entry(
+    alloc: Global,
+    number: u64,
+    entry: &Entry,
+    lines: &mut Vec<u8>,
+) -> Result<(), NoMemory>
+    ensures { OnOk result (lines.new.items ≡ lines.old.items ++ entry_line number entry.now) }
+{
+    let value = trace_value(alloc, number, entry.command, &entry.call, &entry.reply)?;
+    let Ok(text) = line(alloc, &value) else {
+        return Err(NoMemory);
+    };
+    lines.extend_from_slice(text.as_slice())?;
+    Ok(())
+}
+
+fn push_entries(alloc: Global, history: &[Entry], lines: &mut Vec<u8>) -> Result<(), NoMemory>
+    ensures { OnOk result (lines.new.items ≡ lines.old.items ++ trace_from 1 history.now) }
+{
+    for (place, entry) in history.iter().enumerate() {
+        push_entry(alloc, place as u64 + 1, entry, lines)?;
+    }
+    Ok(())
+}
+
+fn push_trace<K: Kernel + Drop>(
+    alloc: Global,
+    asked: bool,
+    book: &Book<K>,
+    lines: &mut Vec<u8>,
+) -> Result<(), NoMemory>
+    ensures { OnOk result (lines.new.items ≡ lines.old.items ++ where_asked asked (trace_lines book.now)) }
+{
+    if !asked {
+        return Ok(());
+    }
+    push_entries(alloc, book.history(), lines)
+}
+
+fn push_host<K: Kernel + Drop>(
+    alloc: Global,
+    asked: bool,
+    book: &Book<K>,
+    lines: &mut Vec<u8>,
+) -> Result<(), NoMemory>
+    ensures { OnOk result (lines.new.items ≡ lines.old.items ++ where_asked asked (dump_of (host_of book.now))) }
+{
+    if !asked {
+        return Ok(());
+    }
+    let host = book.host(alloc)?;
+    push_dump(alloc, &host, lines)
+}
+
+/// The text of the book: a line for each command that has an answer, in file order; with `trace` a line for each call
+/// of the history; with `dump` a line for each object of the host. Memory that is refused leaves nothing. It takes time
+/// and memory in proportion to the text and the plan, and with `dump` a copy of the host besides.
+#[tactic(auto, unfolding(crate::specs::Lines::text_of))]
+pub fn text<K: Kernel + Drop>(
+    alloc: Global,
+    book: &Book<K>,
+    trace: bool,
+    dump: bool,
+) -> Result<Vec<u8>, NoMemory>
+    ensures { IfOk result (λ bytes. bytes.items ≡ text_of book.now trace dump) }
+{
+    let mut lines = Vec::new(alloc);
+    push_commands(alloc, book, &mut lines)?;
+    push_trace(alloc, trace, book, &mut lines)?;
+    push_host(alloc, dump, book, &mut lines)?;
+    Ok(lines)
+}
