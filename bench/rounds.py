@@ -1,0 +1,54 @@
+#!/usr/bin/env python3
+"""Times the program on pods of one round, and prints ratios within this one run. It is no test.
+
+Each size N gives three pod files of N containers in N namespaces:
+- faults: N ADDs whose first call is a listed fault, so that no kernel call is made: what the book itself costs;
+- adds:   N ADDs, each on a network of its own group of addresses;
+- both:   the same, followed by a round of N DELs.
+"""
+import json, os, subprocess, sys, tempfile, time
+
+TOP = os.path.dirname(os.path.dirname(os.path.abspath(__file__)))
+
+
+def pods(count, verbs, faults):
+    def command(verb, i):
+        made = {"verb": verb, "network": "pods", "container": f"c{i}", "netns": f"/ns/{i}"}
+        return {**made, "faults": [1]} if faults else made
+
+    return {
+        "opening": {"namespaces": [f"/ns/{i}" for i in range(count)]},
+        "rounds": [[command(verb, i) for i in range(count)] for verb in verbs],
+    }
+
+
+def least(program, folder, runs):
+    times = []
+    for _ in range(runs):
+        start = time.perf_counter()
+        subprocess.run([program, "pods.json", "net.json"], cwd=folder, stdout=subprocess.DEVNULL, check=False)
+        times.append(time.perf_counter() - start)
+    return min(times)
+
+
+def main():
+    program = sys.argv[1] if len(sys.argv) > 1 else f"{TOP}/crates/cnitool/out/cnitool"
+    sizes = [int(it) for it in sys.argv[2:]] or [100, 1000, 10000]
+    net = {"cniVersion": "1.1.0", "name": "pods", "plugins": [{"type": "bridge", "ipam": {"type": "host-local", "subnet": "10.0.0.0/8"}}]}
+    steps = {"faults": 2, "adds": 7, "both": 14}
+    first = {}
+    for size in sizes:
+        for name, verbs, faults in (("faults", ["ADD"], True), ("adds", ["ADD"], False), ("both", ["ADD", "DEL"], False)):
+            with tempfile.TemporaryDirectory() as folder:
+                for file, value in (("pods.json", pods(size, verbs, faults)), ("net.json", net)):
+                    with open(f"{folder}/{file}", "w", encoding="utf-8") as it:
+                        json.dump(value, it)
+                runs = 5 if size <= 1000 else 1
+                seconds = least(program, folder, runs)
+            a_step = seconds / (size * steps[name])
+            first.setdefault(name, a_step)
+            print(f"{name:7} N={size:6} {seconds:8.3f} s {size * steps[name] / seconds:12.0f} steps/s   a step: x{a_step / first[name]:.2f} of N={sizes[0]}", flush=True)
+
+
+if __name__ == "__main__":
+    main()
