@@ -1,6 +1,6 @@
 -- Each answer of a legal world is its script's, a stop, or want of memory.
-use Rattle.std.proofs.Common.{◌≡◌, ◌≢◌, ℕ, ◌+◌, ◌-◌, ◌<◌, ◌≤◌, ◌==◌, Bool, true, false, List, [], ◌∷◌, ◌++◌, length, Option, Some, None, slice_get, slice_set, refl, sym, ◌∙◌, ap, subst, inl, inr, ◌⊎◌, arith}
-use Rattle.std.specs.Prelude.{if◌then◌else◌, ◌||◌, ◌&&◌, nat_le}
+use Rattle.std.proofs.Common.{◌≡◌, ◌≢◌, ℕ, ◌+◌, ◌-◌, ◌≤◌, ◌==◌, Bool, true, false, List, [], ◌∷◌, ◌++◌, length, Option, Some, None, slice_get, slice_set, refl, sym, ◌∙◌, ap, subst, inl, inr, ◌⊎◌, arith}
+use Rattle.std.specs.Prelude.{if◌then◌else◌, ◌||◌, ◌&&◌}
 use Rattle.std.proofs.lemmas.List.{append_assoc}
 use Rattle.std.proofs.lemmas.Option.{same_Some, none-some, slice_get_within}
 use Rattle.std.proofs.lemmas.Bool.Decides.{eqb_tells, nat_tests}
@@ -11,10 +11,10 @@ use Rattle.cni_verbs.specs.declared.answer.Answer.TheVariants.{OutOfMemory, Stop
 use Rattle.kernel_types.specs.declared.call.Call.{Call}
 use Rattle.net_conf.specs.declared.list.NetList.{NetList}
 use Rattle.pod_file.specs.declared.command.Command.{Command}
-use Rattle.pod_workers.specs.Facts.{EachFollows, IsEntryOf, EntryIsInRound, IsScripts, IsStopOf, IsAtItsStop, IsStopped, AnswerIsDue}
+use Rattle.pod_workers.specs.Facts.{EachFollows, EntryIsInRound, IsScripts, IsStopped, AnswerIsDue}
 use Rattle.pod_workers.specs.Legal.{Legal, begins, steps, refused_memory, turns}
 use Rattle.pod_workers.specs.Plans.{Placed, commands_of, list_for}
-use Rattle.pod_workers.specs.World.{World, IsReady, own_replies, replies_of, host_of, is_faulty, is_stop, is_cut, is_cut_at, is_in_round, last_entry, done, answered, with_entry, entry_of, next_of, next_by}
+use Rattle.pod_workers.specs.World.{World, IsReady, own_replies, host_of, is_faulty, is_stop, is_cut, is_cut_at, is_in_round, last_entry, done, answered, with_entry, entry_of, next_of, next_by}
 use Rattle.pod_workers.specs.declared.plan.Plan.{Plan}
 use Rattle.pod_workers.specs.declared.plan.Entry.{Entry}
 use Rattle.pod_workers.specs.declared.plan.Next.{Next}
@@ -32,7 +32,7 @@ same_number : (a b : ℕ) → (a == b) ≡ true → a ≡ b
 same_number a b is = grind (arith, nat_tests)
 
 -- a cut world's last entry is the one that `stop_at` names, and it is of the current round
-cut_stands : (w : World) (stop : Option ℕ) (last : Option Entry) → EachFollows w.plan w.history → last_entry w.history ≡ last → is_cut_at stop w last ≡ true
+pub cut_stands : (w : World) (stop : Option ℕ) (last : Option Entry) → EachFollows w.plan w.history → last_entry w.history ≡ last → is_cut_at stop w last ≡ true
     → EntryIsInRound w.plan w.history stop w.round
 cut_stands w None last each is cut = absurd (let t : false ≡ true = cut in cc)
 cut_stands w (Some number) None each is cut = absurd (let t : false ≡ true = cut in cc)

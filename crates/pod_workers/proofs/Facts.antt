@@ -1,21 +1,21 @@
 -- Each entry of a legal world follows, entries stand in their order, and stops are kept.
-use Rattle.std.proofs.Common.{◌≡◌, ◌≢◌, ℕ, ◌+◌, ◌-◌, ◌<◌, ◌≤◌, ◌==◌, Bool, true, false, List, [], ◌∷◌, ◌++◌, length, Option, Some, None, slice_get, refl, sym, ◌∙◌, ap, subst, inl, inr, ◌⊎◌, arith}
-use Rattle.std.specs.Prelude.{if◌then◌else◌, ◌||◌, ◌&&◌, nat_le}
+use Rattle.std.proofs.Common.{◌≡◌, ◌≢◌, ℕ, ◌+◌, ◌-◌, ◌<◌, ◌≤◌, ◌==◌, Bool, true, false, List, [], ◌∷◌, ◌++◌, length, Option, Some, None, slice_get, refl, sym, ◌∙◌, ap, subst, inl, inr, arith}
+use Rattle.std.specs.Prelude.{if◌then◌else◌, ◌||◌, ◌&&◌}
 use Rattle.std.proofs.lemmas.List.{append_assoc}
 use Rattle.std.proofs.lemmas.Option.{same_Some, none-some}
 use Rattle.std.proofs.lemmas.Bool.{cases_lt}
 use Rattle.std.proofs.lemmas.Bool.Decides.{eqb_tells, nat_tests}
 use Rattle.cni_verbs.specs.Progress.{turn_by}
-use Rattle.cni_verbs.specs.Script.{Turn, Calls, Finishes, Finish}
+use Rattle.cni_verbs.specs.Script.{Turn, Calls, Finishes}
 use Rattle.cni_verbs.specs.declared.answer.Answer.{Answer}
-use Rattle.cni_verbs.specs.declared.answer.Answer.TheVariants.{OutOfMemory, Stopped}
+use Rattle.cni_verbs.specs.declared.answer.Answer.TheVariants.{Stopped}
 use Rattle.kernel_types.specs.declared.call.Call.{Call}
 use Rattle.net_conf.specs.declared.list.NetList.{NetList}
 use Rattle.pod_file.specs.declared.command.Command.{Command}
-use Rattle.pod_workers.specs.Facts.{Follows, EachFollows, IsEntryOf, EachTwo, AreBesides, GoesByRounds, GoesOneByOne, Stops}
+use Rattle.pod_workers.specs.Facts.{Follows, EachFollows, IsEntryOf, EachTwo, EntryIsInRound, AreBesides, GoesByRounds, Stops}
 use Rattle.pod_workers.specs.Legal.{Legal, begins, steps, refused_memory, turns}
 use Rattle.pod_workers.specs.Plans.{Placed, commands_of, list_for}
-use Rattle.pod_workers.specs.World.{World, IsReady, replies_of, own_replies, reply_to, host_of, is_faulty, is_stop, is_cut, is_cut_at, is_in_round, last_entry, done, answered, with_entry, entry_of, next_of, next_by}
+use Rattle.pod_workers.specs.World.{World, IsReady, replies_of, own_replies, reply_to, host_of, is_faulty, is_stop, is_cut, is_cut_at, is_in_round, last_entry, done, entry_of, next_of, next_by}
 use Rattle.pod_workers.specs.declared.plan.Plan.{Plan}
 use Rattle.pod_workers.specs.declared.plan.Entry.{Entry}
 use Rattle.pod_workers.specs.declared.plan.Next.{Next}
@@ -202,6 +202,16 @@ two_entries _ (steps v w n c legal ready is) =
 two_entries _ (refused_memory v w n c legal ready is) = subst TwoEntries (sym is) (let t = two_entries v legal in record { rounds = t.rounds; containers = t.containers; cut = t.cut })
 two_entries _ (turns v w legal less over is) = subst TwoEntries (sym is) (let t = two_entries v legal in record { rounds = t.rounds; containers = t.containers; cut = t.cut })
 
+-- no entry of its round stands after the one that `stop_at` names
+pub uncut_at : (p : Plan) (h before rest : List Entry) (e : Entry) (n : ℕ) (c : Placed) (stop : Option ℕ) → EachTwo p h (λ number m d j b. p.stop_at ≡ Some number → d.round < b.round)
+    → h ≡ before ++ e ∷ rest → IsEntryOf p e n c → p.stop_at ≡ stop → EntryIsInRound p before stop c.round → ⊥
+uncut_at p h before rest e n c None cut at of_e named is = is
+uncut_at p h before rest e n c (Some number) cut at of_e named is =
+    let split : h ≡ is.0 ++ is.2 ∷ (is.1 ++ e ∷ rest) = at ∙ ap (λ l. l ++ e ∷ rest) is.5 ∙ append_assoc is.0 (is.2 ∷ is.1) (e ∷ rest) in
+    let less = cut is.0 is.1 rest is.2 e is.3 n is.4 c split is.7 of_e (named ∙ ap Some (sym is.6)) in
+    let of_round = is.8 in
+    omega arith
+
 -- ---- the stop of a command
 
 abbrev KeepsStop : World → Type 0
@@ -235,12 +245,6 @@ keeps_stop _ (turns v w legal less over is) = subst KeepsStop (sym is) (keeps_st
 
 pub goes_by_rounds : (w : World) → Legal w → GoesByRounds w
 goes_by_rounds w legal = let order = in_order w legal in record { past = order.past; later = order.later; entries = (two_entries w legal).rounds }
-
-pub goes_one_by_one : (w : World) → Legal w → GoesOneByOne w
-goes_one_by_one w legal = record {
-  first = λ m n d c less at_m at_n besides. (in_order w legal).first m n d c less at_m at_n besides.0 besides.1;
-  entries = (two_entries w legal).containers;
-}
 
 pub stops : (w : World) → Legal w → Stops w
 stops w legal = record { own = keeps_stop w legal; round = (two_entries w legal).cut }

@@ -1,78 +1,30 @@
 -- A step of the first open command in file order keeps the file's order.
-use Rattle.std.proofs.Common.{◌≡◌, ◌≢◌, ℕ, ◌+◌, ◌<◌, ◌≤◌, Bool, false, List, [], ◌∷◌, ◌++◌, length, Option, Some, None, slice_get, slice_set, refl, sym, ◌∙◌, ap, subst, inl, inr, ◌⊎◌, arith}
+use Rattle.std.proofs.Common.{◌≡◌, ℕ, ◌+◌, ◌≤◌, false, List, [], ◌∷◌, ◌++◌, refl, ◌∙◌, ap, inl, inr, arith}
 use Rattle.std.proofs.lemmas.Bool.{cases_lt}
-use Rattle.std.proofs.lemmas.Bool.Decides.{eqb_tells}
 use Rattle.cni_verbs.specs.declared.answer.Answer.{Answer}
-use Rattle.cni_verbs.specs.declared.answer.Answer.TheVariants.{OutOfMemory, Stopped}
-use Rattle.kernel_types.specs.declared.call.Call.{Call}
-use Rattle.pod_workers.specs.Facts.{EachFollows, EachTwo, IsEntryOf, EntryIsInRound, IsScripts, IsAtItsStop}
-use Rattle.pod_workers.specs.Legal.{Legal, IsBegun}
-use Rattle.pod_workers.specs.Order.{IsDone, IsInFileOrder, EarlierAreAnswered}
-use Rattle.pod_workers.specs.Plans.{Placed, commands_of}
-use Rattle.pod_workers.specs.World.{World, IsReady, IsAnswered, own_replies, replies_of, host_of, is_cut, done, answered, with_entry, entry_of, next_of, next_round, stepped}
+use Rattle.pod_workers.specs.Facts.{IsEntryOf}
+use Rattle.pod_workers.specs.Legal.{Legal}
+use Rattle.pod_workers.specs.Order.{IsInFileOrder, EarlierAreAnswered}
+use Rattle.pod_workers.specs.Plans.{Placed}
+use Rattle.pod_workers.specs.World.{World, IsReady, own_replies, replies_of, host_of, is_cut, done, answered, with_entry, entry_of, next_of, next_round, stepped}
 use Rattle.pod_workers.specs.declared.plan.Entry.{Entry}
 use Rattle.pod_workers.specs.declared.plan.Next.{Next}
 use Rattle.pod_workers.specs.declared.plan.Next.TheVariants as next
-use Rattle.pod_workers.proofs.AnswersDue.{answer_is_due}
-use Rattle.pod_workers.proofs.Facts.{TwoEntries, two_entries, each_follows, each_two-grows, none_two, is_reached, cut_before, goes_in}
-use Rattle.pod_workers.proofs.Histories.{slice_get-set_other, replies_of-other, has_reply}
-use Rattle.pod_workers.proofs.Order.{IsInOrder, in_order, not_both, ready_is, other_number}
+use Rattle.pod_workers.proofs.DoneBefore.{done-not_ready, done_before_answered, done_before_entered}
+use Rattle.pod_workers.proofs.Facts.{each_two-grows, none_two, is_reached, goes_in}
+use Rattle.pod_workers.proofs.Histories.{has_reply}
+use Rattle.pod_workers.proofs.Order.{in_order}
 use Rattle.pod_workers.proofs.RoundsAscend.{rounds_ascend}
-
--- ---- what is done stays done
-
-done-not_ready : (w : World) (m n : ℕ) (d c : Placed) → IsReady w n c → IsDone w m d → m ≢ n
-done-not_ready w m n d c ready is = λ same. not_both w n (is.0, ap (slice_get w.answers) (sym same) ∙ is.1) ready.unanswered
-
-done_answered : (w : World) (m n : ℕ) (d : Placed) (b : Answer) → m ≢ n → IsDone w m d → IsDone (answered w n b) m d
-done_answered w m n d b other is = (is.0, slice_get-set_other w.answers n m (Some b) other ∙ is.1, is.2)
-
-done_entered : (w : World) (m : ℕ) (d : Placed) (e : Entry) → e.command ≢ m + 1 → IsDone w m d → IsDone (with_entry w e) m d
-done_entered w m d e other is = (
-  is.0,
-  is.1,
-  elim is.2 [
-    | inl scripts ↦ inl (rw (replies_of-other m w.history e other) scripts)
-    | inr (inl stopped) ↦ inr (inl (rw (replies_of-other m w.history e other) stopped))
-    | inr (inr lacking) ↦ inr (inr lacking)
-  ],
-)
 
 -- ---- an answer
 
 pub file_order_answered : (w : World) (n : ℕ) (c : Placed) (b : Answer) → IsInFileOrder w → IsReady w n c → IsInFileOrder (answered w n b)
 file_order_answered w n c b order ready = record {
   entries = order.entries;
-  before = λ l m d x less at_l at_m round. elim (order.before l m d x less at_l at_m round) [
-    | inl none ↦ inl none
-    | inr is ↦ inr (done_answered w l n d b (done-not_ready w l n d c ready is) is)
-  ];
+  before = done_before_answered w n c b (λ d x. d.round ≡ x.round) order.before ready;
 }
 
 -- ---- an entry
-
--- where a command of the current round makes a call, no earlier one of the round was stopped with it
-not_cut : (w : World) (stop : Option ℕ) (round : ℕ) → Legal w → is_cut w ≡ false → w.plan.stop_at ≡ stop → round ≡ w.round → EntryIsInRound w.plan w.history stop round → ⊥
-not_cut w None round legal no_cut named same is = is
-not_cut w (Some number) round legal no_cut named same is =
-    let less = cut_before w is.0 is.1 is.2 is.3 is.4 (in_order w legal) (two_entries w legal) (each_follows w legal) no_cut is.5 is.7 (named ∙ ap Some (sym is.6)) in
-    let of_round = is.8 in
-    omega arith
-
--- an answer that isn't a stop of the round
-done_now : (w : World) (m : ℕ) (d : Placed) → Legal w → is_cut w ≡ false → d.round ≡ w.round → slice_get (commands_of w.plan) m ≡ Some d → IsAnswered w m → IsDone w m d
-done_now w m d legal no_cut round at a = (
-  a.0,
-  a.1,
-  elim (answer_is_due w legal m a.0 d a.1 at) [
-    | inl scripts ↦ inl scripts
-    | inr (inl stopped) ↦ elim stopped.1 [
-      | inl own ↦ inr (inl (stopped.0.2, own))
-      | inr cut ↦ absurd (not_cut w w.plan.stop_at d.round legal no_cut refl round cut)
-    ]
-    | inr (inr lacking) ↦ inr (inr lacking)
-  ],
-)
 
 -- no entry is of a later command
 none_later : (w : World) (before between : List Entry) (f : Entry) (m n : ℕ) (d c : Placed) → Legal w → IsInFileOrder w → IsReady w n c → w.history ≡ before ++ f ∷ between → IsEntryOf w.plan f m d → m ≤ n
@@ -93,17 +45,8 @@ file_order_entered : (w : World) (n : ℕ) (c : Placed) (e : Entry) → Legal w 
 file_order_entered w n c e legal order ready earlier no_cut own = record {
   entries = each_two-grows w.plan w.history e n c (λ number m d j b. m ≤ j) (record { number = own; there = ready.there }) order.entries
       (λ before between f m d at of_f. none_later w before between f m n d c legal order ready at of_f);
-  before = λ l m d x less at_l at_m round. elim (eqb_tells m n) [
-    | inl t ↦
-        let same : x ≡ c = ready_is w n m c x ready t.1 at_m in
-        let here : d.round ≡ w.round = round ∙ ap (λ (y : Placed). y.round) same ∙ ready.current in
-        let below : l < n = let place = t.1 in omega arith in
-        inr (done_entered w l d e (other_number e n l own (λ eq. let place : l ≡ n = eq in omega arith)) (done_now w l d legal no_cut here at_l (earlier l d below at_l here)))
-    | inr f ↦ elim (order.before l m d x less at_l at_m round) [
-      | inl none ↦ inl (replies_of-other m w.history e (other_number e n m own f.1) ∙ none)
-      | inr is ↦ inr (done_entered w l d e (other_number e n l own (done-not_ready w l n d c ready is)) is)
-    ]
-  ];
+  before = done_before_entered w n c e (λ d x. d.round ≡ x.round) legal order.before ready
+      (λ m d less at round. let here : d.round ≡ w.round = round ∙ ready.current in (here, earlier m d less at here)) no_cut own;
 }
 
 -- ---- a step

@@ -1,5 +1,5 @@
 -- The moments of a legal history: each front is the history of a legal world.
-use Rattle.std.proofs.Common.{◌≡◌, ◌≢◌, ℕ, ◌+◌, ◌<◌, ◌≤◌, Bool, List, [], ◌∷◌, ◌++◌, Option, Some, None, slice_get, slice_set, refl, sym, ◌∙◌, ap, subst, inl, inr, ◌⊎◌, arith}
+use Rattle.std.proofs.Common.{◌≡◌, ◌≢◌, ℕ, ◌+◌, ◌≤◌, Bool, List, [], ◌∷◌, ◌++◌, Some, None, slice_get, slice_set, refl, sym, ◌∙◌, ap, subst, inl, inr, ◌⊎◌, arith}
 use Rattle.std.proofs.lemmas.List.{append-nil, append_assoc}
 use Rattle.std.proofs.lemmas.Option.{same_Some, none-some, slice_get_within}
 use Rattle.std.proofs.lemmas.Bool.Decides.{eqb_tells}
@@ -10,7 +10,7 @@ use Rattle.pod_workers.specs.Extends.{KeepsAnswers}
 use Rattle.pod_workers.specs.Facts.{HasFront, IsMadeAt, IsOpenAfter, IsAnsweredAt}
 use Rattle.pod_workers.specs.Legal.{Legal, begins, steps, refused_memory, turns}
 use Rattle.pod_workers.specs.Plans.{Placed, commands_of}
-use Rattle.pod_workers.specs.World.{World, IsReady, own_replies, host_of, is_faulty, done, answered, with_entry, entry_of, next_of, next_round, stepped}
+use Rattle.pod_workers.specs.World.{World, IsReady, own_replies, host_of, done, answered, with_entry, entry_of, next_of, next_round}
 use Rattle.pod_workers.specs.declared.plan.Entry.{Entry}
 use Rattle.pod_workers.specs.declared.plan.Next.{Next}
 use Rattle.pod_workers.specs.declared.plan.Next.TheVariants as next

@@ -1,9 +1,10 @@
 -- Histories with one entry more, and answers with one that is written.
-use Rattle.std.proofs.Common.{◌≡◌, ◌≢◌, ℕ, zero, suc, ◌+◌, ◌<◌, ◌≤◌, ◌==◌, List, [], ◌∷◌, ◌++◌, length, Option, Some, None, slice_get, slice_set, refl, sym, ◌∙◌, ap, inl, inr, arith}
+use Rattle.std.proofs.Common.{◌≡◌, ◌≢◌, ℕ, zero, suc, ◌+◌, ◌<◌, ◌≤◌, List, [], ◌∷◌, ◌++◌, length, Some, slice_get, slice_set, refl, sym, ◌∙◌, ap, inl, inr, ◌⊎◌, arith}
 use Rattle.std.proofs.lemmas.List.{length_push}
 use Rattle.std.proofs.lemmas.Option.{same_Some, none-some}
 use Rattle.std.proofs.lemmas.Bool.Decides.{eqb_tells}
 use Rattle.kernel_types.specs.declared.object.Host.{Host}
+use Rattle.kernel_types.specs.declared.call.Call.{Call}
 use Rattle.kernel_types.specs.declared.call.Reply.{Reply}
 use Rattle.pod_workers.specs.declared.plan.Entry.{Entry}
 use Rattle.pod_workers.specs.World.{replies_of, after, host_on, last_entry}
@@ -23,6 +24,11 @@ slice_get-set_other (y ∷ ys) (suc i) zero x h = refl
 slice_get-set_other (y ∷ ys) (suc i) (suc j) x h = slice_get-set_other ys i j x (λ e. h (ap suc e))
 
 -- ---- one entry more
+
+pub same_entry : (e g : Entry) → e.command ≡ g.command → e.call ≡ g.call → e.reply ≡ g.reply → e ≡ g
+same_entry e g number call reply =
+    let made : ℕ → Call → Reply → Entry = λ n k r. record { command = n; call = k; reply = r } in
+    ap (λ (n : ℕ). made n e.call e.reply) number ∙ ap (λ (k : Call). made g.command k e.reply) call ∙ ap (made g.command g.call) reply
 
 pub replies_of-own : (n : ℕ) (h : List Entry) (e : Entry) → e.command ≡ n + 1 → replies_of n (h ++ e ∷ []) ≡ replies_of n h ++ e.reply ∷ []
 replies_of-own n [] e is = elim (eqb_tells e.command (n + 1)) [ inl t ↦ rw t.0 refl | inr f ↦ absurd (f.1 is) ]
@@ -82,3 +88,25 @@ pub last_entry-splits : (h : List Entry) (e : Entry) → last_entry h ≡ Some e
 last_entry-splits [] e is = absurd (none-some e is)
 last_entry-splits (x ∷ []) e is = ([], ap (λ y. y ∷ []) (same_Some x e is))
 last_entry-splits (x ∷ y ∷ ys) e is = let s = last_entry-splits (y ∷ ys) e is in (x ∷ s.0, ap (λ l. x ∷ l) s.1)
+
+-- a command has an entry, or no reply
+pub entry_or_none : (n : ℕ) (h : List Entry) → (replies_of n h ≡ []) ⊎ ((before rest : List Entry) × (e : Entry) × (h ≡ before ++ e ∷ rest) × (e.command ≡ n + 1))
+entry_or_none n [] = inl refl
+entry_or_none n (x ∷ xs) = elim (eqb_tells x.command (n + 1)) [
+  | inl t ↦ inr ([], xs, x, refl, t.1)
+  | inr f ↦ elim (entry_or_none n xs) [ inl none ↦ inl (rw f.0 none) | inr is ↦ inr (x ∷ is.0, is.1, is.2, ap (λ l. x ∷ l) is.3, is.4) ]
+]
+
+-- a history is empty, or has a last entry
+pub empty_or_last : (h : List Entry) → (h ≡ []) ⊎ ((before : List Entry) × (e : Entry) × (h ≡ before ++ e ∷ []))
+empty_or_last [] = inl refl
+empty_or_last (x ∷ xs) = elim (empty_or_last xs) [
+  | inl none ↦ inr ([], x, ap (λ l. x ∷ l) none)
+  | inr is ↦ inr (x ∷ is.0, is.1, ap (λ l. x ∷ l) is.2)
+]
+
+-- what was written is written back
+pub set-back : {X : Type 0} (xs : List X) (i : ℕ) (x y : X) → slice_get xs i ≡ Some x → slice_set (slice_set xs i y) i x ≡ xs
+set-back [] i x y at = absurd (none-some x at)
+set-back (z ∷ zs) zero x y at = ap (λ q. q ∷ zs) (sym (same_Some z x at))
+set-back (z ∷ zs) (suc i) x y at = ap (λ l. z ∷ l) (set-back zs i x y at)

@@ -1,5 +1,6 @@
 pub mod AnswersDue
 pub mod Clauses
+pub mod DoneBefore
 pub mod Facts
 pub mod FileOrder
 pub mod Fronts
@@ -7,6 +8,8 @@ pub mod Histories
 pub mod OneOutcome
 pub mod Order
 pub mod Planned
+pub mod Reached
 pub mod RoundsAscend
 pub mod Sound
 pub mod Splits
+pub mod TakenBack

@@ -1,29 +1,28 @@
 -- A plan that is carried out in file order has one history and one list of answers.
-use Rattle.std.proofs.Common.{◌≡◌, ◌≢◌, ℕ, zero, suc, ◌+◌, ◌<◌, ◌≤◌, Bool, true, false, List, [], ◌∷◌, ◌++◌, length, Option, Some, None, slice_get, refl, sym, ◌∙◌, ap, subst, inl, inr, ◌⊎◌, arith}
-use Rattle.std.specs.Prelude.{nat_le}
+use Rattle.std.proofs.Common.{◌≡◌, ℕ, zero, suc, ◌+◌, ◌<◌, ◌≤◌, true, List, [], ◌∷◌, ◌++◌, length, Option, Some, None, slice_get, refl, sym, ◌∙◌, ap, subst, inl, inr, ◌⊎◌, arith}
 use Rattle.std.proofs.lemmas.List.{append-nil, append_assoc}
-use Rattle.std.proofs.lemmas.Option.{same_Some, none-some, slice_get_within, slice_get_cases}
+use Rattle.std.proofs.lemmas.Option.{same_Some, slice_get_within}
 use Rattle.std.proofs.lemmas.Bool.{cases_lt}
 use Rattle.std.proofs.lemmas.Bool.Decides.{eqb_tells, nat_tests}
 use Rattle.cni_verbs.specs.Progress.{turn_by, answer_by}
 use Rattle.cni_verbs.specs.Script.{Turn, Calls, Finishes, Finish}
 use Rattle.cni_verbs.specs.declared.answer.Answer.{Answer}
-use Rattle.cni_verbs.specs.declared.answer.Answer.TheVariants.{OutOfMemory, Stopped}
+use Rattle.cni_verbs.specs.declared.answer.Answer.TheVariants.{Stopped}
 use Rattle.kernel_types.specs.declared.call.Call.{Call}
 use Rattle.kernel_types.specs.declared.call.Reply.{Reply}
-use Rattle.pod_workers.specs.Facts.{Follows, EachFollows, EachTwo, IsEntryOf, EntryIsInRound, AnswerIsDue, IsAtItsStop}
+use Rattle.pod_workers.specs.Facts.{Follows, IsEntryOf, EntryIsInRound}
 use Rattle.pod_workers.specs.Legal.{Legal}
-use Rattle.pod_workers.specs.Order.{IsDone, IsInFileOrder, IsDoneInFileOrder, OneOutcome}
+use Rattle.pod_workers.specs.Order.{IsInFileOrder, IsDoneInFileOrder, OneOutcome}
 use Rattle.pod_workers.specs.Plans.{Placed, commands_of, list_for}
-use Rattle.pod_workers.specs.World.{World, IsAnswered, replies_of, own_replies, reply_to, after, is_faulty, is_stop}
+use Rattle.pod_workers.specs.World.{World, replies_of, own_replies, reply_to, after, is_faulty, is_stop}
 use Rattle.pod_workers.specs.declared.plan.Plan.{Plan}
 use Rattle.pod_workers.specs.declared.plan.Entry.{Entry}
 use Rattle.pod_workers.proofs.AnswersDue.{answer_is_due}
-use Rattle.pod_workers.proofs.Facts.{each_follows, two_entries, one_command}
-use Rattle.pod_workers.proofs.Histories.{replies_of-append, has_reply}
+use Rattle.pod_workers.proofs.Facts.{each_follows, two_entries, one_command, uncut_at}
+use Rattle.pod_workers.proofs.Histories.{replies_of-append, has_reply, same_entry}
 use Rattle.pod_workers.proofs.Order.{in_order, compared}
-use Rattle.pod_workers.proofs.RoundsAscend.{rounds_ascend, all_answered}
-use Rattle.pod_workers.proofs.Splits.{cons_parts, split_nil}
+use Rattle.pod_workers.proofs.RoundsAscend.{rounds_ascend, all_answered, command_at}
+use Rattle.pod_workers.proofs.Splits.{cons_parts}
 
 -- ---- the next entry is a function of the history so far
 
@@ -48,11 +47,6 @@ goes_on p h e f uncut (inr (inr cut)) = uncut cut
 
 same_call : (x y : Call) (t : Turn) → t ≡ Calls x → t ≡ Calls y → x ≡ y
 same_call x y t one two = cc
-
-same_entry : (e g : Entry) → e.command ≡ g.command → e.call ≡ g.call → e.reply ≡ g.reply → e ≡ g
-same_entry e g number call reply =
-    let made : ℕ → Call → Reply → Entry = λ n k r. record { command = n; call = k; reply = r } in
-    ap (λ (n : ℕ). made n e.call e.reply) number ∙ ap (λ (k : Call). made g.command k e.reply) call ∙ ap (made g.command g.call) reply
 
 -- two entries that follow, of one command
 one_call : (p : Plan) (h : List Entry) (e g : Entry) (f : Follows p h e) (o : Follows p h g) → f.place ≡ o.place → e ≡ g
@@ -173,16 +167,6 @@ finished_before w is before rest e n m c d at of_e less at_m =
       ]
     ]
 
--- an entry of its round after the one that cuts it can't be
-uncut_at : (w : World) (before rest : List Entry) (e : Entry) (n : ℕ) (c : Placed) (stop : Option ℕ) → Legal w → w.history ≡ before ++ e ∷ rest → IsEntryOf w.plan e n c → w.plan.stop_at ≡ stop
-    → EntryIsInRound w.plan before stop c.round → ⊥
-uncut_at w before rest e n c None legal at of_e named is = is
-uncut_at w before rest e n c (Some number) legal at of_e named is =
-    let split : w.history ≡ is.0 ++ is.2 ∷ (is.1 ++ e ∷ rest) = at ∙ ap (λ l. l ++ e ∷ rest) is.5 ∙ append_assoc is.0 (is.2 ∷ is.1) (e ∷ rest) in
-    let less = (two_entries w legal).cut is.0 is.1 rest is.2 e is.3 n is.4 c split is.7 of_e (named ∙ ap Some (sym is.6)) in
-    let of_round = is.8 in
-    omega arith
-
 traces : (w : World) → IsDoneInFileOrder w → (before rest : List Entry) → w.history ≡ before ++ rest → IsTrace w.plan before rest
 traces w is before [] at = λ n c there. subst (λ (h : List Entry). IsFinished w.plan h n c) (at ∙ append-nil before) (finished_at_end w is n c there)
 traces w is before (e ∷ rest) at =
@@ -190,7 +174,7 @@ traces w is before (e ∷ rest) at =
     let of_e : IsEntryOf w.plan e follows.place follows.by = record { number = follows.number; there = follows.there } in (
       record {
         follows = follows;
-        uncut = uncut_at w before rest e follows.place follows.by w.plan.stop_at is.legal at of_e refl;
+        uncut = uncut_at w.plan w.history before rest e follows.place follows.by w.plan.stop_at (two_entries w is.legal).cut at of_e refl;
         before = λ m d less at_m. finished_before w is before rest e follows.place m follows.by d at of_e less at_m;
       },
       traces w is (before ++ e ∷ []) rest (at ∙ sym (append_assoc before (e ∷ []) rest)),
@@ -231,9 +215,6 @@ same_lists [] (y ∷ ys) long each = absurd (omega arith)
 same_lists (x ∷ xs) [] long each = absurd (omega arith)
 same_lists (x ∷ xs) (y ∷ ys) long each =
     ap (λ z. z ∷ xs) (each zero x y refl refl) ∙ ap (λ l. y ∷ l) (same_lists xs ys (omega arith) (λ n a b at_a at_b. each (suc n) a b at_a at_b))
-
-command_at : (p : Plan) (n : ℕ) → n < length (commands_of p) → (c : Placed) × (slice_get (commands_of p) n ≡ Some c)
-command_at p n less = elim (slice_get_cases (commands_of p) n).1 [ inl t ↦ (t.0, t.2) | inr t ↦ absurd (let past = t.0 in omega arith) ]
 
 one_answer_at : (v w : World) → v.plan ≡ w.plan → IsDoneInFileOrder v → IsDoneInFileOrder w → (n : ℕ) (x y : Option Answer) → slice_get v.answers n ≡ Some x → slice_get w.answers n ≡ Some y → x ≡ y
 one_answer_at v w same dv dw n x y at_v at_w =

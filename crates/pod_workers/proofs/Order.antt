@@ -1,5 +1,5 @@
 -- In which order commands go: round after round, and in a round one after another in each container.
-use Rattle.std.proofs.Common.{◌≡◌, ◌≢◌, ℕ, ◌+◌, ◌<◌, ◌≤◌, ◌==◌, Bool, List, [], ◌∷◌, ◌++◌, length, Option, Some, None, slice_get, slice_set, refl, sym, ◌∙◌, ap, subst, inl, inr, ◌⊎◌, arith}
+use Rattle.std.proofs.Common.{◌≡◌, ◌≢◌, ℕ, ◌+◌, ◌<◌, List, [], length, Option, Some, None, slice_get, refl, sym, ◌∙◌, ap, subst, inl, inr, ◌⊎◌, arith}
 use Rattle.std.specs.Str.{bytes_eq}
 use Rattle.std.proofs.lemmas.List.{length-set}
 use Rattle.std.proofs.lemmas.Option.{same_Some, none-some, slice_get_within, slice_get-get_or}
@@ -8,7 +8,6 @@ use Rattle.std.proofs.lemmas.Bool.Decides.{eqb_tells}
 use Rattle.std.proofs.lemmas.Slice.Eq.{bytes_eq-Decides}
 use Rattle.cni_verbs.specs.declared.answer.Answer.{Answer}
 use Rattle.cni_verbs.specs.declared.answer.Answer.TheVariants.{OutOfMemory}
-use Rattle.pod_file.specs.declared.command.Command.{Command}
 use Rattle.pod_workers.specs.Facts.{IsUntouched}
 use Rattle.pod_workers.specs.Legal.{Legal, IsBegun, begins, steps, refused_memory, turns}
 use Rattle.pod_workers.specs.Plans.{Placed, commands_of}
@@ -16,7 +15,7 @@ use Rattle.pod_workers.specs.World.{World, IsAnswered, IsReady, IsRoundOver, rep
 use Rattle.pod_workers.specs.declared.plan.Entry.{Entry}
 use Rattle.pod_workers.specs.declared.plan.Next.{Next}
 use Rattle.pod_workers.specs.declared.plan.Next.TheVariants as next
-use Rattle.pod_workers.proofs.Histories.{slice_get-set_same, slice_get-set_other, replies_of-other}
+use Rattle.pod_workers.proofs.Histories.{slice_get-set_other, replies_of-other}
 
 pub record IsInOrder (w : World) : Type 0 where
   pub long : length w.answers ≡ length (commands_of w.plan)
@@ -30,7 +29,7 @@ pub record IsInOrder (w : World) : Type 0 where
 pub not_both : (w : World) (n : ℕ) → IsAnswered w n → slice_get w.answers n ≡ Some None → ⊥
 not_both w n a is = none-some a.0 (same_Some None (Some a.0) (sym is ∙ a.1))
 
-answered_or_open : (w : World) (n : ℕ) (o : Option (Option Answer)) → slice_get w.answers n ≡ o → n < length w.answers → (slice_get w.answers n ≡ Some None) ⊎ IsAnswered w n
+pub answered_or_open : (w : World) (n : ℕ) (o : Option (Option Answer)) → slice_get w.answers n ≡ o → n < length w.answers → (slice_get w.answers n ≡ Some None) ⊎ IsAnswered w n
 answered_or_open w n None is less = absurd (none-some _ (sym is ∙ slice_get-get_or w.answers n None less))
 answered_or_open w n (Some None) is less = inl is
 answered_or_open w n (Some (Some a)) is less = inr (a, is)
@@ -141,7 +140,7 @@ in_order _ (turns v w legal less over is) = subst IsInOrder (sym is) (order_next
 
 -- ---- beside a ready command
 
-same_or_other : (a b : List ℕ) → (a ≡ b) ⊎ (a ≢ b)
+pub same_or_other : (a b : List ℕ) → (a ≡ b) ⊎ (a ≢ b)
 same_or_other a b = elim (cases_Bool (bytes_eq a b)) [
   | inl same ↦ inl ((bytes_eq-Decides a b).0 same)
   | inr other ↦ inr (λ is. let t = (bytes_eq-Decides a b).1 is in cc)

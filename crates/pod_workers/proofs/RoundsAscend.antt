@@ -1,8 +1,7 @@
 -- The commands of a plan stand in the order of their rounds.
-use Rattle.std.proofs.Common.{◌≡◌, ℕ, zero, suc, ◌+◌, ◌<◌, ◌≤◌, List, [], ◌∷◌, ◌++◌, map, length, Option, Some, None, slice_get, refl, sym, ◌∙◌, ap, subst, inl, inr, ◌⊎◌, arith}
-use Rattle.std.proofs.lemmas.Option.{same_Some, none-some}
+use Rattle.std.proofs.Common.{◌≡◌, ℕ, zero, suc, ◌+◌, ◌<◌, ◌≤◌, List, [], ◌∷◌, ◌++◌, map, length, Some, slice_get, sym, ap, inl, inr, ◌⊎◌, arith}
+use Rattle.std.proofs.lemmas.Option.{same_Some, none-some, slice_get_cases}
 use Rattle.pod_file.specs.declared.command.Command.{Command}
-use Rattle.pod_workers.specs.Legal.{Legal}
 use Rattle.pod_workers.specs.Plans.{Placed, commands_of, placed_from, in_round}
 use Rattle.pod_workers.specs.World.{World, IsAnswered}
 use Rattle.pod_workers.specs.declared.plan.Plan.{Plan}
@@ -46,3 +45,6 @@ round_is_of_plan p n c at = let within = (round_within 0 p.pods.rounds n c at).1
 -- once every round is over, every command is answered
 pub all_answered : (w : World) → IsInOrder w → length w.plan.pods.rounds ≤ w.round → (n : ℕ) (c : Placed) → slice_get (commands_of w.plan) n ≡ Some c → IsAnswered w n
 all_answered w order ended n c at = order.past n c at (let less = round_is_of_plan w.plan n c at in omega arith)
+
+pub command_at : (p : Plan) (n : ℕ) → n < length (commands_of p) → (c : Placed) × (slice_get (commands_of p) n ≡ Some c)
+command_at p n less = elim (slice_get_cases (commands_of p) n).1 [ inl t ↦ (t.0, t.2) | inr t ↦ absurd (let past = t.0 in omega arith) ]

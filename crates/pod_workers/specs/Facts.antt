@@ -1,5 +1,5 @@
 -- What is true of every legal world, clause by clause.
-use Rattle.std.specs.Prelude.{◌≡◌, ℕ, ◌+◌, ◌≤◌, ◌<◌, ◌≢◌, ◌⊎◌, Bool, true, false, List, [], ◌∷◌, ◌++◌, length, Option, Some, None, slice_get}
+use Rattle.std.specs.Prelude.{◌≡◌, ℕ, ◌+◌, ◌≤◌, ◌<◌, ◌⊎◌, true, false, List, [], ◌∷◌, ◌++◌, length, Option, Some, None, slice_get}
 use Rattle.cni_verbs.specs.Script.{Calls, Finishes, Finish}
 use Rattle.cni_verbs.specs.declared.answer.Answer.{Answer}
 use Rattle.cni_verbs.specs.declared.answer.Answer.TheVariants.{OutOfMemory, Stopped}
@@ -45,36 +45,7 @@ EachTwo p h Fit =
 abbrev pub EveryEntryFollows : Type 0
 EveryEntryFollows = (w : World) → Legal w → EachFollows w.plan w.history
 
--- ---- rounds
-
--- the command at this place has made no call and has no answer
-pub record IsUntouched (w : World) (n : ℕ) : Type 0 where
-  pub no_reply : own_replies w n ≡ []
-  pub no_answer : slice_get w.answers n ≡ Some None
-
--- commands of past rounds are answered, those of later ones untouched, and entries stand in the order of their rounds
-pub record GoesByRounds (w : World) : Type 0 where
-  pub past : (n : ℕ) (c : Placed) → slice_get (commands_of w.plan) n ≡ Some c → c.round < w.round → IsAnswered w n
-  pub later : (n : ℕ) (c : Placed) → slice_get (commands_of w.plan) n ≡ Some c → w.round < c.round → IsUntouched w n
-  pub entries : EachTwo w.plan w.history (λ number m d n c. d.round ≤ c.round)
-
-abbrev pub AreBesides : Placed → Placed → Type 0
-AreBesides d c = (d.round ≡ c.round) × (d.command.container ≡ c.command.container)
-
--- in each container of a round one command goes after another (CNI specification, section 3, "Lifecycle & Ordering")
-pub record GoesOneByOne (w : World) : Type 0 where
-  pub first : (m n : ℕ) (d c : Placed) → m < n → slice_get (commands_of w.plan) m ≡ Some d → slice_get (commands_of w.plan) n ≡ Some c → AreBesides d c
-      → IsUntouched w n ⊎ IsAnswered w m
-  pub entries : EachTwo w.plan w.history (λ number m d n c. AreBesides d c → m ≤ n)
-
--- ---- stops
-
--- no command makes more calls than its `stop`, and after the entry that `stop_at` names its round makes none
-pub record Stops (w : World) : Type 0 where
-  pub own : (n most : ℕ) (c : Placed) → slice_get (commands_of w.plan) n ≡ Some c → c.command.stop ≡ Some most → length (own_replies w n) ≤ most
-  pub round : EachTwo w.plan w.history (λ number m d n c. w.plan.stop_at ≡ Some number → d.round < c.round)
-
--- ---- answers
+-- ---- why a command has its answer
 
 -- the entry with this number, from 1, stands in the history and is of this round
 abbrev pub EntryIsInRound : Plan → List Entry → Option ℕ → ℕ → Type 0
@@ -101,6 +72,50 @@ IsAtItsStop w n c = c.command.stop ≡ Some (length (own_replies w n))
 -- the command was stopped: by its own number of calls, or with its round
 abbrev pub IsStopped : World → ℕ → Placed → Answer → Type 0
 IsStopped w n c a = IsStopOf w n c a × (IsAtItsStop w n c ⊎ EntryIsInRound w.plan w.history w.plan.stop_at c.round)
+
+-- the command is over: by its script, by its own `stop`, or for want of memory, and not with its round
+abbrev pub IsDone : World → ℕ → Placed → Type 0
+IsDone w n c =
+    (a : Answer) × (slice_get w.answers n ≡ Some (Some a))
+    × (IsScripts w n c a ⊎ (((a ≡ Stopped (length (own_replies w n))) × IsAtItsStop w n c) ⊎ (a ≡ OutOfMemory)))
+
+-- where a command made a call, each earlier one that it fits is done, so that none is left half done for it
+abbrev pub EachIsDoneBefore : World → (Placed → Placed → Type 0) → Type 0
+EachIsDoneBefore w Fit =
+    (m n : ℕ) (d c : Placed) → m < n → slice_get (commands_of w.plan) m ≡ Some d → slice_get (commands_of w.plan) n ≡ Some c → Fit d c
+    → (own_replies w n ≡ []) ⊎ IsDone w m d
+
+-- ---- rounds
+
+-- the command at this place has made no call and has no answer
+pub record IsUntouched (w : World) (n : ℕ) : Type 0 where
+  pub no_reply : own_replies w n ≡ []
+  pub no_answer : slice_get w.answers n ≡ Some None
+
+-- commands of past rounds are answered, those of later ones untouched, and entries stand in the order of their rounds
+pub record GoesByRounds (w : World) : Type 0 where
+  pub past : (n : ℕ) (c : Placed) → slice_get (commands_of w.plan) n ≡ Some c → c.round < w.round → IsAnswered w n
+  pub later : (n : ℕ) (c : Placed) → slice_get (commands_of w.plan) n ≡ Some c → w.round < c.round → IsUntouched w n
+  pub entries : EachTwo w.plan w.history (λ number m d n c. d.round ≤ c.round)
+
+abbrev pub AreBesides : Placed → Placed → Type 0
+AreBesides d c = (d.round ≡ c.round) × (d.command.container ≡ c.command.container)
+
+-- in each container of a round one command goes after another (CNI specification, section 3, "Lifecycle & Ordering")
+pub record GoesOneByOne (w : World) : Type 0 where
+  pub first : (m n : ℕ) (d c : Placed) → m < n → slice_get (commands_of w.plan) m ≡ Some d → slice_get (commands_of w.plan) n ≡ Some c → AreBesides d c
+      → IsUntouched w n ⊎ IsAnswered w m
+  pub whole : EachIsDoneBefore w AreBesides
+  pub entries : EachTwo w.plan w.history (λ number m d n c. AreBesides d c → m ≤ n)
+
+-- ---- stops
+
+-- no command makes more calls than its `stop`, and after the entry that `stop_at` names its round makes none
+pub record Stops (w : World) : Type 0 where
+  pub own : (n most : ℕ) (c : Placed) → slice_get (commands_of w.plan) n ≡ Some c → c.command.stop ≡ Some most → length (own_replies w n) ≤ most
+  pub round : EachTwo w.plan w.history (λ number m d n c. w.plan.stop_at ≡ Some number → d.round < c.round)
+
+-- ---- answers
 
 -- a command's answer is its script's, a stop, or want of memory
 abbrev pub AnswerIsDue : World → Type 0
@@ -168,6 +183,8 @@ EachAnswerIsGiven = (w : World) → Legal w → (n : ℕ) (a : Answer) → slice
 
 pub record IsLegalByClauses (w : World) : Type 0 where
   pub plan : IsWellFormed w.plan
+  pub long : length w.answers ≡ length (commands_of w.plan)
+  pub round : w.round ≤ length w.plan.pods.rounds
   pub entries : EachFollows w.plan w.history
   pub rounds : GoesByRounds w
   pub containers : GoesOneByOne w
@@ -176,3 +193,7 @@ pub record IsLegalByClauses (w : World) : Type 0 where
 
 abbrev pub LegalWorldsMeetEachClause : Type 0
 LegalWorldsMeetEachClause = (w : World) → Legal w → IsLegalByClauses w
+
+-- and each world that meets them is reached by allowed steps, so the clauses say just what is legal
+abbrev pub EachWorldOfTheClausesIsLegal : Type 0
+EachWorldOfTheClausesIsLegal = (w : World) → IsLegalByClauses w → Legal w

@@ -1,27 +1,23 @@
 -- Worlds in which commands go in the order of the file, as on one thread, and what is true of them.
-use Rattle.std.specs.Prelude.{◌≡◌, ◌≢◌, ℕ, ◌<◌, ◌≤◌, ◌⊎◌, List, [], length, Some, slice_get}
-use Rattle.cni_verbs.specs.declared.answer.Answer.{Answer}
-use Rattle.cni_verbs.specs.declared.answer.Answer.TheVariants.{OutOfMemory, Stopped}
-use Rattle.pod_workers.specs.Facts.{EachTwo, IsScripts, IsAtItsStop}
+use Rattle.std.specs.Prelude.{◌≡◌, ◌≢◌, ℕ, ◌<◌, ◌≤◌, length, Some, slice_get}
+use Rattle.cni_verbs.specs.declared.answer.Answer.TheVariants.{OutOfMemory}
+use Rattle.pod_workers.specs.Facts.{EachTwo, EachIsDoneBefore}
 use Rattle.pod_workers.specs.Legal.{Legal}
 use Rattle.pod_workers.specs.Plans.{Placed, commands_of}
-use Rattle.pod_workers.specs.World.{World, IsAnswered, own_replies}
-
--- the command is over: by its script, by its own `stop`, or for want of memory, and not with its round
-abbrev pub IsDone : World → ℕ → Placed → Type 0
-IsDone w n c =
-    (a : Answer) × (slice_get w.answers n ≡ Some (Some a))
-    × (IsScripts w n c a ⊎ (((a ≡ Stopped (length (own_replies w n))) × IsAtItsStop w n c) ⊎ (a ≡ OutOfMemory)))
+use Rattle.pod_workers.specs.World.{World, IsAnswered, IsReady, stepped}
 
 -- each command's entries stand together, commands stand in file order, and none is left half done for a later one of its round
 pub record IsInFileOrder (w : World) : Type 0 where
   pub entries : EachTwo w.plan w.history (λ number m d n c. m ≤ n)
-  pub before : (m n : ℕ) (d c : Placed) → m < n → slice_get (commands_of w.plan) m ≡ Some d → slice_get (commands_of w.plan) n ≡ Some c → d.round ≡ c.round
-      → (own_replies w n ≡ []) ⊎ IsDone w m d
+  pub before : EachIsDoneBefore w (λ d c. d.round ≡ c.round)
 
 -- each command of the current round that stands before this place has its answer
 abbrev pub EarlierAreAnswered : World → ℕ → Type 0
 EarlierAreAnswered w n = (m : ℕ) (d : Placed) → m < n → slice_get (commands_of w.plan) m ≡ Some d → d.round ≡ w.round → IsAnswered w m
+
+-- a step of the first open command of a round keeps the file's order
+abbrev pub FileOrderIsKept : Type 0
+FileOrderIsKept = (w : World) (n : ℕ) (c : Placed) → Legal w → IsInFileOrder w → IsReady w n c → EarlierAreAnswered w n → IsInFileOrder (stepped w n c.command)
 
 -- every round is over, and memory was never lacking
 pub record IsDoneInFileOrder (w : World) : Type 0 where

@@ -1,8 +1,8 @@
 //! Laws over every legal history, each carried by a function that does nothing.
 
-ghost use Rattle.pod_workers.specs.Facts.{EachAnswerIsGiven, EachCommandIsOpenAfterItsEntry, EachEntryIsMade, EachFront, EveryAnswerIsDue, EveryEntryFollows, LegalWorldsMeetEachClause};
+ghost use Rattle.pod_workers.specs.Facts.{EachAnswerIsGiven, EachCommandIsOpenAfterItsEntry, EachEntryIsMade, EachFront, EachWorldOfTheClausesIsLegal, EveryAnswerIsDue, EveryEntryFollows, LegalWorldsMeetEachClause};
 ghost use Rattle.pod_workers.specs.Laws.{EveryCallMayBeMade, EveryHostIsSound, NoAddressIsLeasedTwice};
-ghost use Rattle.pod_workers.specs.Order.{OneOutcome};
+ghost use Rattle.pod_workers.specs.Order.{FileOrderIsKept, OneOutcome};
 
 /// Every host that a well-formed plan comes to is sound, whichever commands stepped in which order, were stopped, met
 /// faults or were refused memory.
@@ -67,8 +67,19 @@ pub fn legal_worlds_meet_each_clause()
     ensures { LegalWorldsMeetEachClause }
 {}
 
+/// And a world that meets each clause is one that allowed steps reach.
+#[tactic(auto, using(crate::proofs::Reached::is_reached_by_steps))]
+pub fn each_world_of_the_clauses_is_legal()
+    ensures { EachWorldOfTheClausesIsLegal }
+{}
+
 /// A plan that is carried out in file order to its end, with memory, has one history and one list of answers.
 #[tactic(auto, using(crate::proofs::OneOutcome::one_outcome))]
 pub fn one_outcome()
     ensures { OneOutcome }
+{}
+
+/// A step of the first open command of a round keeps the order of the file.
+pub fn file_order_is_kept()
+    ensures { FileOrderIsKept }
 {}
