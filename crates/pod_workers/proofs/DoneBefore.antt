@@ -3,7 +3,7 @@ use Rattle.std.proofs.Common.{◌≡◌, ◌≢◌, ℕ, ◌+◌, ◌<◌, false
 use Rattle.std.proofs.lemmas.Bool.Decides.{eqb_tells}
 use Rattle.cni_verbs.specs.declared.answer.Answer.{Answer}
 use Rattle.cni_verbs.specs.declared.answer.Answer.TheVariants.{OutOfMemory}
-use Rattle.pod_workers.specs.Facts.{EntryIsInRound, IsDone, EachIsDoneBefore, AreBesides, GoesOneByOne}
+use Rattle.pod_workers.specs.Facts.{EntryIsInRound, IsDone, EachIsDoneBefore, AreOfOneContainer, GoesOneByOne}
 use Rattle.pod_workers.specs.Legal.{Legal, begins, steps, refused_memory, turns}
 use Rattle.pod_workers.specs.Plans.{Placed, commands_of}
 use Rattle.pod_workers.specs.World.{World, IsReady, IsAnswered, own_replies, replies_of, host_of, is_cut, done, answered, with_entry, entry_of, next_of}
@@ -85,18 +85,18 @@ done_before_entered w n c e Fit legal each ready earlier no_cut own = λ l m d x
 
 -- ---- every legal world
 
-whole_done : (w : World) (n : ℕ) (c : Placed) (x : Next) → Legal w → EachIsDoneBefore w AreBesides → IsReady w n c → next_of w c.command (own_replies w n) ≡ x → EachIsDoneBefore (done w n x) AreBesides
-whole_done w n c (next.Answer a) legal each ready is = done_before_answered w n c a AreBesides each ready
+whole_done : (w : World) (n : ℕ) (c : Placed) (x : Next) → Legal w → EachIsDoneBefore w AreOfOneContainer → IsReady w n c → next_of w c.command (own_replies w n) ≡ x → EachIsDoneBefore (done w n x) AreOfOneContainer
+whole_done w n c (next.Answer a) legal each ready is = done_before_answered w n c a AreOfOneContainer each ready
 whole_done w n c (next.Call call faulty) legal each ready is =
-    done_before_entered w n c (entry_of (host_of w) n call faulty) AreBesides legal each ready
+    done_before_entered w n c (entry_of (host_of w) n call faulty) AreOfOneContainer legal each ready
     (λ m d less at besides. (besides.0 ∙ ready.current, before_ready w m n d c (in_order w legal) ready less at besides.0 besides.1)) (goes_in w n c.command call faulty is).no_cut refl
 
-pub whole : (w : World) → Legal w → EachIsDoneBefore w AreBesides
+pub whole : (w : World) → Legal w → EachIsDoneBefore w AreOfOneContainer
 whole _ (begins w begun) = λ m n d c less at_m at_n besides. inl (ap (replies_of n) begun.empty)
 whole _ (steps v w n c legal ready is) =
-    subst (λ u. EachIsDoneBefore u AreBesides) (sym is) (whole_done v n c (next_of v c.command (own_replies v n)) legal (whole v legal) ready refl)
-whole _ (refused_memory v w n c legal ready is) = subst (λ u. EachIsDoneBefore u AreBesides) (sym is) (done_before_answered v n c OutOfMemory AreBesides (whole v legal) ready)
-whole _ (turns v w legal less over is) = subst (λ u. EachIsDoneBefore u AreBesides) (sym is) (whole v legal)
+    subst (λ u. EachIsDoneBefore u AreOfOneContainer) (sym is) (whole_done v n c (next_of v c.command (own_replies v n)) legal (whole v legal) ready refl)
+whole _ (refused_memory v w n c legal ready is) = subst (λ u. EachIsDoneBefore u AreOfOneContainer) (sym is) (done_before_answered v n c OutOfMemory AreOfOneContainer (whole v legal) ready)
+whole _ (turns v w legal less over is) = subst (λ u. EachIsDoneBefore u AreOfOneContainer) (sym is) (whole v legal)
 
 pub goes_one_by_one : (w : World) → Legal w → GoesOneByOne w
 goes_one_by_one w legal = record {

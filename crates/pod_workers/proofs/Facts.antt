@@ -12,7 +12,7 @@ use Rattle.cni_verbs.specs.declared.answer.Answer.TheVariants.{Stopped}
 use Rattle.kernel_types.specs.declared.call.Call.{Call}
 use Rattle.net_conf.specs.declared.list.NetList.{NetList}
 use Rattle.pod_file.specs.declared.command.Command.{Command}
-use Rattle.pod_workers.specs.Facts.{Follows, EachFollows, IsEntryOf, EachTwo, EntryIsInRound, AreBesides, GoesByRounds, Stops}
+use Rattle.pod_workers.specs.Facts.{Follows, EachFollows, IsEntryOf, EachTwo, EntryIsInRound, AreOfOneContainer, GoesByRounds, Stops}
 use Rattle.pod_workers.specs.Legal.{Legal, begins, steps, refused_memory, turns}
 use Rattle.pod_workers.specs.Plans.{Placed, commands_of, list_for}
 use Rattle.pod_workers.specs.World.{World, IsReady, replies_of, own_replies, reply_to, host_of, is_faulty, is_stop, is_cut, is_cut_at, is_in_round, last_entry, done, entry_of, next_of, next_by}
@@ -126,12 +126,12 @@ is_reached w before rest e m d order at of_e =
 
 pub record TwoEntries (w : World) : Type 0 where
   pub rounds : EachTwo w.plan w.history (λ number m d n c. d.round ≤ c.round)
-  pub containers : EachTwo w.plan w.history (λ number m d n c. AreBesides d c → m ≤ n)
+  pub containers : EachTwo w.plan w.history (λ number m d n c. AreOfOneContainer d c → m ≤ n)
   pub cut : EachTwo w.plan w.history (λ number m d n c. w.plan.stop_at ≡ Some number → d.round < c.round)
 
 -- beside an entry no earlier command of its container is ready
 one_by_one : (w : World) (before rest : List Entry) (e : Entry) (m n : ℕ) (d c : Placed) → IsInOrder w → IsReady w n c → w.history ≡ before ++ e ∷ rest → IsEntryOf w.plan e m d
-    → AreBesides d c → m ≤ n
+    → AreOfOneContainer d c → m ≤ n
 one_by_one w before rest e m n d c order ready at of_e besides =
     elim (cases_lt n m) [
       | inl less ↦ absurd (elim (order.first n m c d less ready.there of_e.there (sym besides.0) (sym besides.1)) [
@@ -182,7 +182,7 @@ two_done v n c (next.Call call faulty) order each two ready is =
     record {
       rounds = each_two-grows v.plan v.history e n c (λ number m d j b. d.round ≤ b.round) new two.rounds
           (λ before between f m d at of_f. let reached = is_reached v before between f m d order at of_f in let here = ready.current in omega arith);
-      containers = each_two-grows v.plan v.history e n c (λ number m d j b. AreBesides d b → m ≤ j) new two.containers
+      containers = each_two-grows v.plan v.history e n c (λ number m d j b. AreOfOneContainer d b → m ≤ j) new two.containers
           (λ before between f m d at of_f besides. one_by_one v before between f m n d c order ready at of_f besides);
       cut = each_two-grows v.plan v.history e n c (λ number m d j b. v.plan.stop_at ≡ Some number → d.round < b.round) new two.cut
           (λ before between f m d at of_f stop. let less = cut_before v before between f m d order two each goes.no_cut at of_f stop in let here = ready.current in omega arith);
@@ -194,7 +194,7 @@ none_two w Fit none = λ before between rest e f m n d c at of_e of_f. absurd (s
 pub two_entries : (w : World) → Legal w → TwoEntries w
 two_entries _ (begins w begun) = record {
   rounds = none_two w (λ number m d n c. d.round ≤ c.round) begun.empty;
-  containers = none_two w (λ number m d n c. AreBesides d c → m ≤ n) begun.empty;
+  containers = none_two w (λ number m d n c. AreOfOneContainer d c → m ≤ n) begun.empty;
   cut = none_two w (λ number m d n c. w.plan.stop_at ≡ Some number → d.round < c.round) begun.empty;
 }
 two_entries _ (steps v w n c legal ready is) =

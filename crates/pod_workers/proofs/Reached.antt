@@ -3,7 +3,7 @@ use Rattle.std.proofs.Common.{◌≡◌, ◌≢◌, ℕ, zero, suc, ◌+◌, ◌
 use Rattle.std.proofs.lemmas.Option.{same_Some, none-some, slice_get_within}
 use Rattle.std.proofs.lemmas.Bool.Decides.{eqb_tells}
 use Rattle.cni_verbs.specs.declared.answer.Answer.{Answer}
-use Rattle.pod_workers.specs.Facts.{IsEntryOf, IsUntouched, AreBesides, IsLegalByClauses}
+use Rattle.pod_workers.specs.Facts.{IsEntryOf, IsUntouched, AreOfOneContainer, IsLegalByClauses}
 use Rattle.pod_workers.specs.Legal.{Legal, IsBegun, begins}
 use Rattle.pod_workers.specs.Plans.{Placed, commands_of}
 use Rattle.pod_workers.specs.World.{World, IsAnswered, own_replies, replies_of, answered, with_entry, next_round}
@@ -49,7 +49,7 @@ record LastAnswer (w : World) : Type 0 where
   there : slice_get (commands_of w.plan) place ≡ Some by
   current : by.round ≡ w.round
   given_is : slice_get w.answers place ≡ Some (Some answer)
-  last : (m : ℕ) (d : Placed) → place < m → slice_get (commands_of w.plan) m ≡ Some d → AreBesides by d → IsUntouched w m
+  last : (m : ℕ) (d : Placed) → place < m → slice_get (commands_of w.plan) m ≡ Some d → AreOfOneContainer by d → IsUntouched w m
 
 back_answer : (w : World) → IsLegalByClauses w → LastAnswer w → TakenBack w
 back_answer w k l =
@@ -76,12 +76,12 @@ back_answer w k l =
 
 -- a later command of its container has an entry
 abbrev HasLater : World → ℕ → Placed → Type 0
-HasLater w n c = (m : ℕ) × (d : Placed) × (n < m) × (slice_get (commands_of w.plan) m ≡ Some d) × AreBesides c d × (own_replies w m ≢ [])
+HasLater w n c = (m : ℕ) × (d : Placed) × (n < m) × (slice_get (commands_of w.plan) m ≡ Some d) × AreOfOneContainer c d × (own_replies w m ≢ [])
 
 abbrev NoneFrom : World → ℕ → Placed → Type 0
-NoneFrom w n c = (m : ℕ) (d : Placed) → n ≤ m → slice_get (commands_of w.plan) m ≡ Some d → AreBesides c d → own_replies w m ≡ []
+NoneFrom w n c = (m : ℕ) (d : Placed) → n ≤ m → slice_get (commands_of w.plan) m ≡ Some d → AreOfOneContainer c d → own_replies w m ≡ []
 
-besides_or_not : (c d : Placed) → AreBesides c d ⊎ ¬ AreBesides c d
+besides_or_not : (c d : Placed) → AreOfOneContainer c d ⊎ ¬ AreOfOneContainer c d
 besides_or_not c d = elim (eqb_tells c.round d.round) [
   | inr f ↦ inr (λ b. f.1 b.0)
   | inl t ↦ elim (same_or_other c.command.container d.command.container) [ inl same ↦ inl (t.1, same) | inr other ↦ inr (λ b. other b.1) ]
@@ -91,16 +91,16 @@ none_or_some : (w : World) (n : ℕ) → (own_replies w n ≡ []) ⊎ (own_repli
 none_or_some w n = elim (entry_or_none n w.history) [ inl none ↦ inl none | inr is ↦ inr (λ none. has_reply n w.history is.0 is.1 is.2 is.3 is.4 none) ]
 
 find_later : (w : World) (c : Placed) (left n : ℕ) → n + left ≡ length (commands_of w.plan)
-    → ((m : ℕ) × (d : Placed) × (n ≤ m) × (slice_get (commands_of w.plan) m ≡ Some d) × AreBesides c d × (own_replies w m ≢ [])) ⊎ NoneFrom w n c
+    → ((m : ℕ) × (d : Placed) × (n ≤ m) × (slice_get (commands_of w.plan) m ≡ Some d) × AreOfOneContainer c d × (own_replies w m ≢ [])) ⊎ NoneFrom w n c
 find_later w c zero n ends = inr (λ m d most at besides. absurd (let within = slice_get_within (commands_of w.plan) m d at in omega arith))
 find_later w c (suc left) n ends = elim (find_later w c left (n + 1) (omega arith)) [
   | inl is ↦ inl (is.0, is.1, (let more = is.2 in omega arith), is.3, is.4, is.5)
   | inr none ↦
       let x = command_at w.plan n (omega arith) in
-      let rest : ¬ AreBesides c x.0 ⊎ (own_replies w n ≡ []) → NoneFrom w n c = λ here m d most at besides. elim (eqb_tells m n) [
+      let rest : ¬ AreOfOneContainer c x.0 ⊎ (own_replies w n ≡ []) → NoneFrom w n c = λ here m d most at besides. elim (eqb_tells m n) [
         | inr f ↦ none m d (let other = f.1 in omega arith) at besides
         | inl t ↦ elim here [
-          | inl apart ↦ absurd (apart (subst (AreBesides c) (same_Some d x.0 (sym at ∙ ap (slice_get (commands_of w.plan)) t.1 ∙ x.1)) besides))
+          | inl apart ↦ absurd (apart (subst (AreOfOneContainer c) (same_Some d x.0 (sym at ∙ ap (slice_get (commands_of w.plan)) t.1 ∙ x.1)) besides))
           | inr no_reply ↦ ap (own_replies w) t.1 ∙ no_reply
         ]
       ] in
@@ -152,7 +152,7 @@ find_last w k (suc left) n ends = elim (find_last w k left (n + 1) (omega arith)
         | inl t ↦
             let same : x.0 ≡ d = same_Some x.0 d (sym x.1 ∙ ap (slice_get (commands_of w.plan)) (sym t.1) ∙ at) in
             let is = here (ap (λ (q : Placed). q.round) same ∙ current) (subst (IsAnswered w) t.1 a) in
-            (is.0, is.1, (let more = is.2 in let place = t.1 in omega arith), is.3, subst (λ q. AreBesides q is.1) same is.4, is.5)
+            (is.0, is.1, (let more = is.2 in let place = t.1 in omega arith), is.3, subst (λ q. AreOfOneContainer q is.1) same is.4, is.5)
       ] in
       elim (eqb_tells x.0.round w.round) [
         | inr f ↦ inr (rest (λ current a. absurd (f.1 current)))

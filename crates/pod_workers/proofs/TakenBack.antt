@@ -7,7 +7,7 @@ use Rattle.std.proofs.lemmas.Bool.{cases_Bool}
 use Rattle.std.proofs.lemmas.Bool.Decides.{eqb_tells, nat_tests}
 use Rattle.cni_verbs.specs.declared.answer.Answer.{Answer}
 use Rattle.cni_verbs.specs.declared.answer.Answer.TheVariants.{OutOfMemory, Stopped}
-use Rattle.pod_workers.specs.Facts.{Follows, IsEntryOf, EachTwo, EntryIsInRound, IsUntouched, AreBesides, IsScripts, IsStopOf, IsStopped, IsDone, IsLegalByClauses}
+use Rattle.pod_workers.specs.Facts.{Follows, IsEntryOf, EachTwo, EntryIsInRound, IsUntouched, AreOfOneContainer, IsScripts, IsStopOf, IsStopped, IsDone, IsLegalByClauses}
 use Rattle.pod_workers.specs.Legal.{Legal, steps, refused_memory, turns}
 use Rattle.pod_workers.specs.Plans.{Placed, commands_of, list_for}
 use Rattle.pod_workers.specs.World.{World, IsReady, IsAnswered, own_replies, host_of, is_faulty, is_stop, is_cut, is_cut_at, is_in_round, last_entry, answered, with_entry, entry_of, next_of, next_by, next_round, done}
@@ -27,7 +27,7 @@ pub record MayAnswer (v : World) (n : ℕ) (c : Placed) : Type 0 where
   pub there : slice_get (commands_of v.plan) n ≡ Some c
   pub current : c.round ≡ v.round
   pub is_open : slice_get v.answers n ≡ Some None
-  pub last : (m : ℕ) (d : Placed) → n < m → slice_get (commands_of v.plan) m ≡ Some d → AreBesides c d → IsUntouched v m
+  pub last : (m : ℕ) (d : Placed) → n < m → slice_get (commands_of v.plan) m ≡ Some d → AreOfOneContainer c d → IsUntouched v m
 
 has_answer : (v : World) (n : ℕ) (a : Answer) → slice_get v.answers n ≡ Some None → slice_get (answered v n a).answers n ≡ Some (Some a)
 has_answer v n a is = slice_get-set_same v.answers n (Some a) (slice_get_within v.answers n None is)
@@ -45,10 +45,10 @@ untouched-back v n m a other u = record { no_reply = u.no_reply; no_answer = sym
 other_round : (v : World) (n m : ℕ) (c d : Placed) → slice_get (commands_of v.plan) n ≡ Some c → slice_get (commands_of v.plan) m ≡ Some d → d.round ≢ c.round → m ≢ n
 other_round v n m c d there at other = λ same. other (ap (λ (q : Placed). q.round) (same_Some d c (sym at ∙ ap (slice_get (commands_of v.plan)) same ∙ there)))
 
-last_besides : (v : World) (n l m : ℕ) (c d x : Placed) → MayAnswer v n c → l ≡ n → l < m → slice_get (commands_of v.plan) l ≡ Some d → slice_get (commands_of v.plan) m ≡ Some x → AreBesides d x → IsUntouched v m
+last_besides : (v : World) (n l m : ℕ) (c d x : Placed) → MayAnswer v n c → l ≡ n → l < m → slice_get (commands_of v.plan) l ≡ Some d → slice_get (commands_of v.plan) m ≡ Some x → AreOfOneContainer d x → IsUntouched v m
 last_besides v n l m c d x may same less at_l at_m besides =
     let is : d ≡ c = same_Some d c (sym at_l ∙ ap (slice_get (commands_of v.plan)) same ∙ may.there) in
-    may.last m x (omega arith) at_m (subst (λ q. AreBesides q x) is besides)
+    may.last m x (omega arith) at_m (subst (λ q. AreOfOneContainer q x) is besides)
 
 pub clauses_before_answer : (v : World) (n : ℕ) (c : Placed) (a : Answer) → IsLegalByClauses (answered v n a) → MayAnswer v n c → IsLegalByClauses v
 clauses_before_answer v n c a k may = record {
@@ -234,7 +234,7 @@ clauses_before_entry v e n c k may = record {
       | inl none ↦ inl (sym (replies-back v e n m may.of_entry.number (no_reply-other v e n m may.of_entry.number none)) ∙ none)
       | inr is ↦ inr (done-back v e n l d may.of_entry.number (λ same. not_both v n (is.0, ap (slice_get v.answers) (sym same) ∙ is.1) may.is_open) is)
     ];
-    entries = each_two-shrinks v.plan v.history e (λ number m d j b. AreBesides d b → m ≤ j) k.containers.entries;
+    entries = each_two-shrinks v.plan v.history e (λ number m d j b. AreOfOneContainer d b → m ≤ j) k.containers.entries;
   };
   stops = record {
     own = λ m most d at stop. stop-back v e m most (k.stops.own m most d at stop);

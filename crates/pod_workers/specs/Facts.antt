@@ -98,15 +98,17 @@ pub record GoesByRounds (w : World) : Type 0 where
   pub later : (n : ℕ) (c : Placed) → slice_get (commands_of w.plan) n ≡ Some c → w.round < c.round → IsUntouched w n
   pub entries : EachTwo w.plan w.history (λ number m d n c. d.round ≤ c.round)
 
-abbrev pub AreBesides : Placed → Placed → Type 0
-AreBesides d c = (d.round ≡ c.round) × (d.command.container ≡ c.command.container)
+-- in one round
+abbrev pub AreOfOneContainer : Placed → Placed → Type 0
+AreOfOneContainer d c = (d.round ≡ c.round) × (d.command.container ≡ c.command.container)
 
--- in each container of a round one command goes after another (CNI specification, section 3, "Lifecycle & Ordering")
+-- In each container of a round one command goes after another (CNI specification, section 3, "Lifecycle & Ordering"): one that
+-- has a call or an answer finds each earlier one answered, one that has a call finds it done, and entries stand in file order.
 pub record GoesOneByOne (w : World) : Type 0 where
-  pub first : (m n : ℕ) (d c : Placed) → m < n → slice_get (commands_of w.plan) m ≡ Some d → slice_get (commands_of w.plan) n ≡ Some c → AreBesides d c
+  pub first : (m n : ℕ) (d c : Placed) → m < n → slice_get (commands_of w.plan) m ≡ Some d → slice_get (commands_of w.plan) n ≡ Some c → AreOfOneContainer d c
       → IsUntouched w n ⊎ IsAnswered w m
-  pub whole : EachIsDoneBefore w AreBesides
-  pub entries : EachTwo w.plan w.history (λ number m d n c. AreBesides d c → m ≤ n)
+  pub whole : EachIsDoneBefore w AreOfOneContainer
+  pub entries : EachTwo w.plan w.history (λ number m d n c. AreOfOneContainer d c → m ≤ n)
 
 -- ---- stops
 
