@@ -23,6 +23,7 @@ use Rattle.kernel_types.proofs.DropsOwn.{RemovesOwn-apply, RemovesOwn-nothing}
 use Rattle.kernel_types.proofs.Isolation.{att_eq-same}
 use Rattle.kernel_types.specs.declared.object.Att.{Att}
 use Rattle.kernel_types.specs.declared.object.Host.{Host}
+use Rattle.kernel_types.specs.declared.object.Last.{Last}
 use Rattle.kernel_types.specs.declared.object.Link.{Link}
 use Rattle.kernel_types.specs.declared.call.Kind.{Kind}
 use Rattle.kernel_types.specs.declared.call.Kind.TheVariants as kinds
@@ -53,8 +54,8 @@ use Rattle.pod_workers.specs.declared.plan.Plan.{Plan}
 use Rattle.pod_workers.proofs.Histories.{after-append, replies_of-own, replies_of-other, slice_get-set_same, slice_get-set_other}
 use Rattle.pod_workers.proofs.Order.{apart, ready_is}
 use Rattle.pod_workers.proofs.Planned.{LeftArePlanned, left-are-planned}
-use Rattle.pod_workers.proofs.Sound.{sound_host}
-use Rattle.pod_laws.specs.AskedFor.{begins, is_begin_of, is_done, last_begun, AreAskedFor, IsAskedFor, HasNothingUnasked, NothingIsUnasked}
+use Rattle.pod_workers.proofs.Sound.{EachLast, fine, sound_host}
+use Rattle.pod_laws.specs.AskedFor.{begins, is_begin_of, is_done, last_begun, AreAskedFor, IsAskedFor, HasNothingUnasked, NothingIsUnasked, AreLastsOfSets, EachLastIsCandidate}
 use Rattle.pod_laws.specs.Moments.{is_of, own_entries}
 use Rattle.pod_laws.specs.Refused.{is_granted, lets_go_on}
 use Rattle.pod_laws.proofs.Achieved.{Achieved, achieved-start, achieved-step, begun-none, leased-done, leased-push, leased-same, leased_in, leases-one, leases-push, own-made, with_leases}
@@ -532,3 +533,12 @@ asked-kept w n c list call faulty on was = λ att.
 
 pub nothing_is_unasked : NothingIsUnasked
 nothing_is_unasked w legal att = by-entries AllAsked (λ p well a. inl (opening-share a p.pods.opening well.opening)) asked-kept w legal att
+
+-- ---- the addresses that were leased last
+
+each-last : (p : Plan) (xs : List Last) → EachLast p xs → AreLastsOfSets p xs
+each-last p [] h = tt
+each-last p (x ∷ xs) h = (h.0, each-last p xs h.1)
+
+pub each_last_is_candidate : EachLastIsCandidate
+each_last_is_candidate w legal = each-last w.plan (host_of w).lasts (fine w legal).lasts

@@ -35,6 +35,7 @@ use Rattle.pod_workers.proofs.Histories.{after-append}
 use Rattle.pod_workers.proofs.Sound.{sound_host}
 use Rattle.pod_laws.specs.Deleted.{DeletesOwnAlone, EachDeletionIsOwn}
 use Rattle.pod_laws.specs.Moments.{own_entries}
+use Rattle.pod_laws.proofs.Entries.{split_nil, split_push}
 use Rattle.pod_laws.proofs.Steps.{GoesOn, by-entries, on-entry, own-state, every-run-now}
 use Rattle.pod_laws.proofs.Undoing.{Undoing, undone-start, undone-step}
 use Rattle.pod_laws.proofs.Within.{deletes-deletion}
@@ -81,25 +82,6 @@ turn-deletes list c es (Deleting kind ks ending) s k call verb sound is was = su
 turn-deletes list c es (Over ending given) s k call verb sound is was = cc
 
 -- ---- every history
-
-cons_parts : {X : Type 0} (x y : X) (xs ys : List X) → x ∷ xs ≡ y ∷ ys → (x ≡ y) × (xs ≡ ys)
-cons_parts x y xs ys e = (cc, cc)
-
-split_nil : {X : Type 0} (before later : List X) (e : X) → [] ≡ before ++ e ∷ later → ⊥
-split_nil [] later e is = cc
-split_nil (b ∷ bs) later e is = cc
-
--- a split of a list that is one longer is at the new element, or it is one of the list
-split_push : {X : Type 0} (h before later : List X) (x e : X) → h ++ x ∷ [] ≡ before ++ e ∷ later → ((h ≡ before) × (x ≡ e)) ⊎ ((more : List X) × (h ≡ before ++ e ∷ more))
-split_push [] [] later x e is = inl (refl, (cons_parts x e [] later is).0)
-split_push [] (b ∷ bs) later x e is = absurd (split_nil bs later e (cons_parts x b [] (bs ++ e ∷ later) is).1)
-split_push (y ∷ ys) [] later x e is = inr (ys, ap (λ z. z ∷ ys) (cons_parts y e (ys ++ x ∷ []) later is).0)
-split_push (y ∷ ys) (b ∷ bs) later x e is =
-    let p = cons_parts y b (ys ++ x ∷ []) (bs ++ e ∷ later) is in
-    elim (split_push ys bs later x e p.1) [
-      | inl t ↦ inl (ap (λ z. y ∷ z) t.0 ∙ ap (λ z. z ∷ bs) p.0, t.1)
-      | inr t ↦ inr (t.0, ap (λ z. y ∷ z) t.1 ∙ ap (λ z. z ∷ (bs ++ e ∷ t.0)) p.0)
-    ]
 
 abbrev Deletes : Plan → List Entry → List Entry → Entry → Placed → Type 0
 Deletes p before h e c = DeletesOwnAlone (att_of c.command) (after p.pods.opening before) (after p.pods.opening (before ++ e ∷ []))

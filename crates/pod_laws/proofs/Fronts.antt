@@ -147,7 +147,7 @@ links-call s t (PoolFree a b) e = e
 links-call s t (NsChange a b) e = e
 links-call s t (Outside a) e = e
 
-links-calls : (s t : Share) (calls : List Call) → s.links ≡ t.links → (share_after_calls s calls).links ≡ (share_after_calls t calls).links
+pub links-calls : (s t : Share) (calls : List Call) → s.links ≡ t.links → (share_after_calls s calls).links ≡ (share_after_calls t calls).links
 links-calls s t [] e = e
 links-calls s t (x ∷ xs) e = links-calls (share_after_call s x) (share_after_call t x) xs (links-call s t x e)
 

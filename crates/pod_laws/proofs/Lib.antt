@@ -7,10 +7,13 @@ pub mod Due
 pub mod Entries
 pub mod Footing
 pub mod Fronts
+pub mod LeasedRuns
 pub mod OfAnswers
 pub mod OfKinds
+pub mod OtherEntries
 pub mod Stands
 pub mod Steps
+pub mod TunedLinks
 pub mod Undoing
 pub mod WantedShare
 pub mod Within

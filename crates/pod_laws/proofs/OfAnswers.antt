@@ -1,6 +1,8 @@
 -- What answers say, from what holds of the runs that came to them.
-use Rattle.std.proofs.Common.{◌≡◌, ℕ, Bool, true, false, List, [], length, Option, Some, None, slice_get, refl, sym, ◌∙◌, ap, subst, inl, inr, ◌⊎◌}
-use Rattle.std.specs.Prelude.{if◌then◌else◌}
+use Rattle.std.proofs.Common.{◌≡◌, ℕ, Bool, true, false, List, [], ◌∷◌, ◌++◌, length, Option, Some, None, slice_get, refl, sym, ◌∙◌, ap, subst, inl, inr, ◌⊎◌, arith}
+use Rattle.std.proofs.lemmas.Option.{none-some}
+use Rattle.std.specs.Prelude.{if◌then◌else◌, ◌&&◌}
+use Rattle.std.specs.List.{list_all}
 use Rattle.cni_addr.specs.declared.address.Addr.{Addr}
 use Rattle.cni_result.specs.declared.error.CniError.{CniError}
 use Rattle.cni_result.specs.declared.result.AddResult.{AddResult}
@@ -8,11 +10,18 @@ use Rattle.net_conf.specs.declared.list.NetList.{NetList}
 use Rattle.pod_file.specs.declared.command.Command.{Command}
 use Rattle.pod_file.specs.declared.command.Verb.{Verb}
 use Rattle.pod_file.specs.declared.command.Verb.TheVariants as verbs
+use Rattle.kernel_types.specs.Equal.{addr_eq}
+use Rattle.kernel_types.specs.Lists.{distinct}
 use Rattle.kernel_types.specs.Replies.{is_fault}
+use Rattle.kernel_types.specs.Sound.{IsSound}
+use Rattle.kernel_types.proofs.ListLemmas.{list_any-append_right}
 use Rattle.kernel_types.specs.declared.object.Att.{Att}
+use Rattle.kernel_types.specs.declared.call.Call.{Call}
+use Rattle.kernel_types.specs.declared.call.Reply.{Reply}
+use Rattle.kernel_types.specs.declared.call.Reply.TheVariants.{Fault}
 use Rattle.plan_words.specs.Share.{Share, share_of, no_objects}
 use Rattle.cni_verbs.specs.Answers.{answer_of, error_of}
-use Rattle.cni_verbs.specs.CommandWords.{att_of, mappings_of}
+use Rattle.cni_verbs.specs.CommandWords.{add_refusal, att_of, del_refusal, mappings_of}
 use Rattle.cni_verbs.specs.Script.{State, Over, leases_in}
 use Rattle.cni_verbs.specs.Wanted.{result_of_add, sets_of, wanted}
 use Rattle.cni_verbs.specs.declared.answer.Answer.{Answer}
@@ -24,13 +33,14 @@ use Rattle.pod_workers.specs.Legal.{Legal}
 use Rattle.pod_workers.specs.Plans.{Placed, commands_of, list_for}
 use Rattle.pod_workers.specs.World.{World, own_replies}
 use Rattle.pod_workers.specs.declared.plan.Entry.{Entry}
-use Rattle.pod_laws.specs.Added.{WasAdded, HasMade}
-use Rattle.pod_laws.specs.Deleted.{WasDeleted, HasDeleted, IsUndeletedByWords, IsUndeletedByFault, WasNotDeleted, AnswersOfDel, IsAnswerOfDel}
-use Rattle.pod_laws.specs.Moments.{host_at_end, own_entries}
-use Rattle.pod_laws.specs.Refused.{WasRefused, IsRefusedFor, AnswersOfAdd, IsAnswerOfAdd, BeginLeavesTheHost}
+use Rattle.pod_laws.specs.Added.{AreCandidates, WasAdded, HasMade}
+use Rattle.pod_laws.specs.Deleted.{WasDeleted, HasDeleted, IsUndeletedByWords, IsUndeletedByFault, WasNotDeleted, AnswersOfDel, IsAnswerOfDel, CalmIsDeleted, IsYesOrCutOff}
+use Rattle.pod_laws.specs.Moments.{has_fault, host_at_end, own_entries}
+use Rattle.pod_laws.specs.Refused.{is_granted, lets_go_on, IsCause, no_namespace, name_taken, pool_empty, no_master, fault, IsResultOrCutOff, UnrefusedIsAdded, WasRefused, IsRefusedFor, AnswersOfAdd, IsAnswerOfAdd, BeginLeavesTheHost}
 use Rattle.pod_laws.proofs.Achieved.{Achieved, IsAddedWith, leased_in, achieved-start, achieved-step}
 use Rattle.pod_laws.proofs.Due.{IsOver, IsCutOff, answer-due}
 use Rattle.pod_laws.proofs.Entries.{replies-own_entries}
+use Rattle.pod_laws.proofs.LeasedRuns.{IsOverLeased, LeasedRun, leased-start, leased-step, leases-distinct, sound-at_end}
 use Rattle.pod_laws.proofs.Steps.{every-run, listed-command}
 use Rattle.pod_laws.proofs.Undoing.{Undoing, Ends, IsUnrefused, IsAddRefused, IsDelRefused, IsDelDone, undone-start, undone-step}
 
@@ -68,6 +78,7 @@ pub record IsEnded (w : World) (n : ℕ) (c : Command) (list : NetList) (a : Ans
   pub given : List Addr
   pub says : Says list c given ending a
   pub achieved : IsAddedWith list c (own_entries n w.history) ending given (share_of (att_of c) (host_at_end w n))
+  pub leased : IsOverLeased list ending given
   pub ends : Ends c (own_entries n w.history) ending (share_of (att_of c) (host_at_end w n))
 
 ended : (w : World) → Legal w → (n : ℕ) (c : Placed) (list : NetList) (a : Answer) → slice_get (commands_of w.plan) n ≡ Some c → list_for w.plan c.command ≡ Some list → slice_get w.answers n ≡ Some (Some a)
@@ -81,6 +92,7 @@ ended w legal n c list a at listed is =
         given = over.given;
         says = says list c.command over.given over.ending a over.answer_is;
         achieved = subst (λ st. Achieved list c.command es st s) over.state_is (every-run Achieved achieved-start achieved-step w legal n c list at listed);
+        leased = subst (λ st. LeasedRun list c.command es st s) over.state_is (every-run LeasedRun leased-start leased-step w legal n c list at listed);
         ends = subst (λ st. Undoing list c.command es st s) over.state_is (every-run Undoing undone-start undone-step w legal n c list at listed);
       })
       | inr cut ↦ inr (by-book a cut)
@@ -89,25 +101,26 @@ ended w legal n c list a at listed is =
 -- ---- ADD
 
 added-by : (w : World) (n : ℕ) (c : Command) (list : NetList) (r : AddResult) (ending : Ending) (given : List Addr) → Says list c given ending (answers.Added r)
-    → IsAddedWith list c (own_entries n w.history) ending given (share_of (att_of c) (host_at_end w n)) → Ends c (own_entries n w.history) ending (share_of (att_of c) (host_at_end w n)) → HasMade w n c list r
-added-by w n c list r Added given says was ends =
+    → IsAddedWith list c (own_entries n w.history) ending given (share_of (att_of c) (host_at_end w n)) → IsOverLeased list ending given → IsSound (host_at_end w n) → Ends c (own_entries n w.history) ending (share_of (att_of c) (host_at_end w n)) → HasMade w n c list r
+added-by w n c list r Added given says was candidates sound ends =
     let same : r ≡ result_of_add list (att_of c) c.netns given = let e = says in cc in
     let leased : leases_in (own_replies w n) ≡ given = ap leases_in (replies-own_entries n w.history) ∙ was.0 in
     record {
       verb = ends.verb;
       words = ends.words;
       unrefused = ends.go_on;
-      leased = ap length leased ∙ was.1;
+      leased = subst (AreCandidates (sets_of list)) (sym leased) candidates;
+      apart = ap (distinct addr_eq) leased ∙ leases-distinct (att_of c) (host_at_end w n) given sound (ap (λ (s : Share). s.leases) was.2);
       result = same ∙ ap (result_of_add list (att_of c) c.netns) (sym leased);
       objects = was.2 ∙ ap (wanted list (att_of c) c.netns (mappings_of list c)) (sym leased);
     }
-added-by w n c list r Yes given says was ends = cc
-added-by w n c list r (Refused cause) given says was ends = cc
+added-by w n c list r Yes given says was candidates sound ends = cc
+added-by w n c list r (Refused cause) given says was candidates sound ends = cc
 
 pub was_added : WasAdded
 was_added w legal n c list r at listed is =
     elim (ended w legal n c list (answers.Added r) at listed is) [
-      | inl e ↦ added-by w n c.command list r e.ending e.given e.says e.achieved e.ends
+      | inl e ↦ added-by w n c.command list r e.ending e.given e.says e.achieved e.leased (sound-at_end w legal n) e.ends
       | inr book ↦ absurd book
     ]
 
@@ -217,3 +230,67 @@ answers_of_del w legal n c a at verb is =
       | inl e ↦ answer-del c.command has_list.0 (own_entries n w.history) (share_of (att_of c.command) (host_at_end w n)) a e.ending e.given verb e.says e.ends
       | inr book ↦ book-del a book
     ]
+
+-- ---- where nothing refuses
+
+some-none : {X : Type 0} (o : Option X) (x : X) → o ≡ Some x → o ≡ None → ⊥
+some-none o x a b = none-some x (sym b ∙ a)
+
+clash : (b : Bool) → b ≡ true → b ≡ false → ⊥
+clash b h g = cc
+
+cause-refuses : (number : ℕ) (call : Call) (reply : Reply) (cause : Cause) → IsCause number call reply cause → is_granted reply ≡ false
+cause-refuses _ _ _ _ (no_namespace number call) = refl
+cause-refuses _ _ _ _ (name_taken number call tag) = refl
+cause-refuses _ _ _ _ (pool_empty number att set ranges) = refl
+cause-refuses _ _ _ _ (no_master number link) = refl
+cause-refuses _ _ _ _ (fault number call) = refl
+
+middle-passes : {X : Type 0} (p : X → Bool) (xs : List X) (y : X) (ys : List X) → list_all p (xs ++ y ∷ ys) ≡ true → p y ≡ true
+middle-passes p [] y ys h = grind (arith, h)
+middle-passes p (x ∷ xs) y ys h = middle-passes p xs y ys (grind (arith, h))
+
+unrefused : (c : Command) (es : List Entry) (s : Share) (cause : Cause) → add_refusal c ≡ None → list_all lets_go_on es ≡ true → IsRefusedFor c es s cause → ⊥
+unrefused c es s cause words go_on (inl r) = some-none (add_refusal c) cause r.words words
+unrefused c es s cause words go_on (inr (inl r)) =
+    clash (lets_go_on r.by) (middle-passes lets_go_on [] r.by [] (ap (list_all lets_go_on) (sym r.alone) ∙ go_on)) (cause-refuses 1 r.by.call r.by.reply cause r.decides)
+unrefused c es s cause words go_on (inr (inr r)) =
+    let f = r.first in
+    clash (lets_go_on f.by) (middle-passes lets_go_on f.granted f.by f.later (ap (list_all lets_go_on) (sym f.are) ∙ go_on)) f.refuses
+
+result-or-cut_off : (a : Answer) → IsAnswerOfAdd a → ((error : CniError) → a ≡ answers.Refused error → ⊥) → IsResultOrCutOff a
+result-or-cut_off (answers.Added r) h not = tt
+result-or-cut_off answers.Yes h not = absurd h
+result-or-cut_off (answers.Skipped skip) h not = absurd h
+result-or-cut_off (answers.Versions version) h not = absurd h
+result-or-cut_off (answers.Refused error) h not = absurd (not error refl)
+result-or-cut_off answers.OutOfMemory h not = tt
+result-or-cut_off (answers.Stopped made) h not = tt
+
+pub unrefused_is_added : UnrefusedIsAdded
+unrefused_is_added w legal n c a at verb words go_on is =
+    let has_list = listed-command w legal n c at (inl verb) in
+    result-or-cut_off a (answers_of_add w legal n c a at verb is)
+    (λ error e. let r = was_refused w legal n c has_list.0 error at has_list.1 verb (is ∙ ap (λ x. Some (Some x)) e) in unrefused c.command (own_entries n w.history) _ r.0 words go_on r.2)
+
+faulted-last : (es calm : List Entry) (by : Entry) → es ≡ calm ++ by ∷ [] → by.reply ≡ Fault → has_fault es ≡ true
+faulted-last es calm by are reply = ap has_fault are ∙ list_any-append_right (λ e. is_fault e.reply) calm (by ∷ []) (let f : is_fault by.reply ≡ true = ap is_fault reply in grind (arith, f))
+
+undeleted : (c : Command) (es : List Entry) (cause : Cause) → del_refusal c ≡ None → has_fault es ≡ false → IsUndeletedByWords c es cause ⊎ IsUndeletedByFault c es cause → ⊥
+undeleted c es cause words calm (inl r) = some-none (del_refusal c) cause r.words words
+undeleted c es cause words calm (inr r) = clash (has_fault es) (faulted-last es r.calm r.by r.are r.fault) calm
+
+yes-or-cut_off : (a : Answer) → IsAnswerOfDel a → ((error : CniError) → a ≡ answers.Refused error → ⊥) → IsYesOrCutOff a
+yes-or-cut_off (answers.Added r) h not = absurd h
+yes-or-cut_off answers.Yes h not = tt
+yes-or-cut_off (answers.Skipped skip) h not = absurd h
+yes-or-cut_off (answers.Versions version) h not = absurd h
+yes-or-cut_off (answers.Refused error) h not = absurd (not error refl)
+yes-or-cut_off answers.OutOfMemory h not = tt
+yes-or-cut_off (answers.Stopped made) h not = tt
+
+pub calm_is_deleted : CalmIsDeleted
+calm_is_deleted w legal n c a at verb words calm is =
+    let has_list = listed-command w legal n c at (inr verb) in
+    yes-or-cut_off a (answers_of_del w legal n c a at verb is)
+    (λ error e. let r = was_not_deleted w legal n c has_list.0 error at has_list.1 verb (is ∙ ap (λ x. Some (Some x)) e) in undeleted c.command (own_entries n w.history) r.0 words calm r.2)

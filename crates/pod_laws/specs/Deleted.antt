@@ -68,6 +68,20 @@ abbrev pub AnswersOfDel : Type 0
 AnswersOfDel = (w : World) → Legal w → (n : ℕ) (c : Placed) (a : Answer)
     → slice_get (commands_of w.plan) n ≡ Some c → c.command.verb ≡ verbs.Del → slice_get w.answers n ≡ Some (Some a) → IsAnswerOfDel a
 
+-- a DEL with good words and no fault is answered Yes, unless memory was refused or it was stopped
+abbrev pub IsYesOrCutOff : Answer → Type 0
+IsYesOrCutOff (answers.Added r) = ⊥
+IsYesOrCutOff answers.Yes = Unit {0}
+IsYesOrCutOff (answers.Skipped verb) = ⊥
+IsYesOrCutOff (answers.Versions version) = ⊥
+IsYesOrCutOff (answers.Refused error) = ⊥
+IsYesOrCutOff answers.OutOfMemory = Unit {0}
+IsYesOrCutOff (answers.Stopped calls) = Unit {0}
+
+abbrev pub CalmIsDeleted : Type 0
+CalmIsDeleted = (w : World) → Legal w → (n : ℕ) (c : Placed) (a : Answer)
+    → slice_get (commands_of w.plan) n ≡ Some c → c.command.verb ≡ verbs.Del → del_refusal c.command ≡ None → has_fault (own_entries n w.history) ≡ false → slice_get w.answers n ≡ Some (Some a) → IsYesOrCutOff a
+
 -- ---- single entries
 
 -- own objects alone are removed, and nothing is changed where there are none

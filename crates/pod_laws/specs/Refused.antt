@@ -115,3 +115,17 @@ IsAnswerOfAdd (answers.Stopped calls) = Unit {0}
 abbrev pub AnswersOfAdd : Type 0
 AnswersOfAdd = (w : World) → Legal w → (n : ℕ) (c : Placed) (a : Answer)
     → slice_get (commands_of w.plan) n ≡ Some c → c.command.verb ≡ verbs.Add → slice_get w.answers n ≡ Some (Some a) → IsAnswerOfAdd a
+
+-- an ADD with good words and no refusing entry is answered a result, unless memory was refused or it was stopped
+abbrev pub IsResultOrCutOff : Answer → Type 0
+IsResultOrCutOff (answers.Added r) = Unit {0}
+IsResultOrCutOff answers.Yes = ⊥
+IsResultOrCutOff (answers.Skipped verb) = ⊥
+IsResultOrCutOff (answers.Versions version) = ⊥
+IsResultOrCutOff (answers.Refused error) = ⊥
+IsResultOrCutOff answers.OutOfMemory = Unit {0}
+IsResultOrCutOff (answers.Stopped calls) = Unit {0}
+
+abbrev pub UnrefusedIsAdded : Type 0
+UnrefusedIsAdded = (w : World) → Legal w → (n : ℕ) (c : Placed) (a : Answer)
+    → slice_get (commands_of w.plan) n ≡ Some c → c.command.verb ≡ verbs.Add → add_refusal c.command ≡ None → list_all lets_go_on (own_entries n w.history) ≡ true → slice_get w.answers n ≡ Some (Some a) → IsResultOrCutOff a

@@ -3,9 +3,10 @@
 //! A command's moment is its last entry; what is said of a host there holds of it whatever other commands did since.
 
 ghost use Rattle.pod_laws.specs.Added.{WasAdded};
-ghost use Rattle.pod_laws.specs.AskedFor.{NothingIsUnasked};
-ghost use Rattle.pod_laws.specs.Deleted.{AnswersOfDel, EachDeletionIsOwn, WasDeleted, WasNotDeleted};
-ghost use Rattle.pod_laws.specs.Refused.{AnswersOfAdd, BeginLeavesTheHost, WasRefused};
+ghost use Rattle.pod_laws.specs.Apart.{EachEntryLeavesOthers};
+ghost use Rattle.pod_laws.specs.AskedFor.{EachLastIsCandidate, EachLinkIsWanted, NothingIsUnasked};
+ghost use Rattle.pod_laws.specs.Deleted.{AnswersOfDel, CalmIsDeleted, EachDeletionIsOwn, WasDeleted, WasNotDeleted};
+ghost use Rattle.pod_laws.specs.Refused.{AnswersOfAdd, BeginLeavesTheHost, UnrefusedIsAdded, WasRefused};
 
 /// An ADD that was answered a result was leased one address a range set. These addresses decide the result, and at the
 /// command's last entry its attachment has exactly the objects that they ask for, list by list, in order.
@@ -25,8 +26,7 @@ pub fn begin_leaves_the_host()
     ensures { BeginLeavesTheHost }
 {}
 
-/// An ADD is answered a result or a refusal, unless memory was refused or it was stopped. With the laws above: an ADD with
-/// good words and no refusing entry is answered a result.
+/// An ADD is answered a result or a refusal, unless memory was refused or it was stopped.
 pub fn every_add_is_answered()
     ensures { AnswersOfAdd }
 {}
@@ -57,4 +57,30 @@ pub fn a_deletion_removes_own_objects()
 /// whose Begin was done, with the addresses that it was leased so far.
 pub fn nothing_is_unasked()
     ensures { NothingIsUnasked }
+{}
+
+/// Where a list has `tuning` at most once, as every list that is read, each link that an ADD asks for is a wanted one, or
+/// the container's end as it was before `tuning`.
+pub fn each_link_is_wanted()
+    ensures { EachLinkIsWanted }
+{}
+
+/// Each address that a pool leased last is a candidate of its set.
+pub fn each_last_is_a_candidate()
+    ensures { EachLastIsCandidate }
+{}
+
+/// Each entry of an ADD or a DEL leaves the objects of every other attachment as they are, list by list.
+pub fn each_entry_leaves_others()
+    ensures { EachEntryLeavesOthers }
+{}
+
+/// An ADD with good words and no refusing entry is answered a result, unless memory was refused or it was stopped.
+pub fn an_unrefused_add_is_answered_a_result()
+    ensures { UnrefusedIsAdded }
+{}
+
+/// A DEL with good words and no fault is answered without an error, unless memory was refused or it was stopped.
+pub fn a_calm_del_is_answered_without_error()
+    ensures { CalmIsDeleted }
 {}

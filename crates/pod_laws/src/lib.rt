@@ -13,7 +13,10 @@
 pub mod laws;
 
 pub use laws::{
-    a_deleted_attachment_is_gone, a_deletion_fails_by_words_or_fault,
-    a_deletion_removes_own_objects, a_refused_attachment_is_undone, an_added_attachment_is_made,
-    begin_leaves_the_host, every_add_is_answered, every_del_is_answered, nothing_is_unasked,
+    a_calm_del_is_answered_without_error, a_deleted_attachment_is_gone,
+    a_deletion_fails_by_words_or_fault, a_deletion_removes_own_objects,
+    a_refused_attachment_is_undone, an_added_attachment_is_made,
+    an_unrefused_add_is_answered_a_result, begin_leaves_the_host, each_entry_leaves_others,
+    each_last_is_a_candidate, each_link_is_wanted, every_add_is_answered, every_del_is_answered,
+    nothing_is_unasked,
 };

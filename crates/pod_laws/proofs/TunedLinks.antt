@@ -1,0 +1,228 @@
+-- Where `tuning` comes at most once, each link of an attachment is a wanted one, or one as it was before `tuning`.
+use Rattle.std.proofs.Common.{◌≡◌, ℕ, Bool, true, false, not, List, [], ◌∷◌, ◌++◌, map, refl, sym, ◌∙◌, ap, subst, inl, inr, ◌⊎◌, arith}
+use Rattle.std.specs.Prelude.{◌&&◌, ◌||◌, if◌then◌else◌}
+use Rattle.std.specs.List.{list_any}
+use Rattle.cni_addr.specs.Codes.{family_eq}
+use Rattle.cni_addr.specs.declared.address.Addr.{Addr}
+use Rattle.cni_addr.specs.declared.address.Family.TheVariants as families
+use Rattle.cni_result.specs.declared.cached.PortMapping.{PortMapping}
+use Rattle.cni_result.specs.declared.result.AddResult.{AddResult}
+use Rattle.cni_result.specs.declared.result.IpEntry.{IpEntry}
+use Rattle.net_conf.specs.declared.first.BridgeConf.{BridgeConf}
+use Rattle.net_conf.specs.declared.first.First.{First}
+use Rattle.net_conf.specs.declared.first.First.TheVariants.{Bridge, Ptp, Macvlan}
+use Rattle.net_conf.specs.declared.chained.Chained.{Chained}
+use Rattle.net_conf.specs.declared.chained.Chained.TheVariants.{Portmap, Firewall, Tuning}
+use Rattle.net_conf.specs.declared.list.NetList.{NetList}
+use Rattle.pod_file.specs.declared.command.Command.{Command}
+use Rattle.kernel_types.proofs.ListLemmas.{list_any-append_none}
+use Rattle.kernel_types.specs.declared.object.Att.{Att}
+use Rattle.kernel_types.specs.declared.object.Link.{Link}
+use Rattle.kernel_types.specs.declared.call.Call.{Call}
+use Rattle.kernel_types.specs.declared.call.Call.TheVariants.{Begin, BridgeEnsure, GatewayEnsure, ForwardEnsure, VethAdd, MacvlanAdd, LinkSet, AddrAdd, RouteAdd, RuleAppend, SettingSet, LeaseNext, CachePut, LinkDel, RuleDel, SettingDel, LeaseDel, CacheDel, HasObj, CacheGet, OwnersOf, PoolFree, NsChange, Outside}
+use Rattle.kernel_types.specs.declared.call.Given.{Given}
+use Rattle.plan_words.specs.Shapes.{addresses_on, routes_on, masquerade_rules, forward_for, forward_calls}
+use Rattle.plan_words.specs.Share.{Share, no_objects, share_after_call, share_after_calls}
+use Rattle.plan_words.proofs.CallLists.{share_after_calls-append}
+use Rattle.host_local.specs.Conf.{routes_of}
+use Rattle.host_local.specs.Results.{ip_of}
+use Rattle.bridge_ptp.specs.Bridge.{gateways, gateway_calls}
+use Rattle.bridge_ptp.specs.Ptp.{AddressOrRoute, Address, Route, call_for, ptp_objects}
+use Rattle.bridge_ptp.specs.Results.{bridge_routes}
+use Rattle.portmap.specs.Portmap.{portmap_rules}
+use Rattle.firewall_tuning.specs.Firewall.{firewall_rules}
+use Rattle.firewall_tuning.specs.Tuning.{tuning_settings, sets_any, link_set_calls}
+use Rattle.cni_verbs.specs.CommandWords.{att_of, mappings_of}
+use Rattle.cni_verbs.specs.Wanted.{calls_after, chained_calls, all_chained_calls, chained_result, back_calls, given_by_list, first_plugin_result, cached_of, untuned, wanted}
+use Rattle.pod_laws.specs.AskedFor.{IsAmong, AreAmong, AreLinksOf, links_after_part, is_tuning, tunes_once, EachLinkIsWanted}
+use Rattle.pod_laws.proofs.Achieved.{with_leases}
+use Rattle.pod_laws.proofs.Fronts.{links-calls, untuned-links}
+use Rattle.pod_laws.proofs.WantedShare.{makes-wanted}
+
+-- ---- calls that change links
+
+abbrev changes_links : Call → Bool
+changes_links (VethAdd h i) = true
+changes_links (MacvlanAdd l) = true
+changes_links (LinkSet att key mac mtu tx_qlen promisc allmulti) = true
+changes_links _ = false
+
+abbrev NoneChange : List Call → Type 0
+NoneChange calls = list_any changes_links calls ≡ false
+
+-- at most one of them does
+abbrev change_once : List Call → Bool
+change_once [] = true
+change_once (x ∷ xs) = if changes_links x then not (list_any changes_links xs) else change_once xs
+
+links-same : (s : Share) (call : Call) → changes_links call ≡ false → (share_after_call s call).links ≡ s.links
+links-same s (VethAdd h i) e = cc
+links-same s (MacvlanAdd l) e = cc
+links-same s (LinkSet att key mac mtu tx_qlen promisc allmulti) e = cc
+links-same s _ e = refl
+
+links-none : (s : Share) (calls : List Call) → NoneChange calls → (share_after_calls s calls).links ≡ s.links
+links-none s [] h = refl
+links-none s (x ∷ xs) h = links-none (share_after_call s x) xs (grind (arith, h)) ∙ links-same s x (grind (arith, h))
+
+-- ---- at most one
+
+not-true : (b : Bool) → not b ≡ true → b ≡ false
+not-true true h = cc
+not-true false h = refl
+
+none-right : (xs ys : List Call) → NoneChange (xs ++ ys) → NoneChange ys
+none-right [] ys h = h
+none-right (x ∷ xs) ys h = none-right xs ys (grind (arith, h))
+
+either-side : (b : Bool) (xs ys : List Call) → (if b then not (list_any changes_links (xs ++ ys)) else change_once (xs ++ ys)) ≡ true → (change_once (xs ++ ys) ≡ true → NoneChange xs ⊎ NoneChange ys)
+    → ((b || list_any changes_links xs) ≡ false) ⊎ NoneChange ys
+either-side true xs ys h rest = inr (none-right xs ys (not-true (list_any changes_links (xs ++ ys)) h))
+either-side false xs ys h rest = rest h
+
+-- one of two parts of a list changes none
+one-side : (xs ys : List Call) → change_once (xs ++ ys) ≡ true → NoneChange xs ⊎ NoneChange ys
+one-side [] ys h = inl refl
+one-side (x ∷ xs) ys h = either-side (changes_links x) xs ys h (λ g. one-side xs ys g)
+
+once-step : (b : Bool) (xs : List Call) → b ≡ false → change_once xs ≡ true → (if b then not (list_any changes_links xs) else change_once xs) ≡ true
+once-step b xs h g = rw h g
+
+once-none : (xs : List Call) → NoneChange xs → change_once xs ≡ true
+once-none [] h = refl
+once-none (x ∷ xs) h = once-step (changes_links x) xs (grind (arith, h)) (once-none xs (grind (arith, h)))
+
+once-after_none : (xs ys : List Call) → NoneChange xs → change_once ys ≡ true → change_once (xs ++ ys) ≡ true
+once-after_none [] ys h g = g
+once-after_none (x ∷ xs) ys h g = once-step (changes_links x) (xs ++ ys) (grind (arith, h)) (once-after_none xs ys (grind (arith, h)) g)
+
+once-then_step : (b : Bool) (xs ys : List Call) → (if b then not (list_any changes_links xs) else change_once xs) ≡ true → NoneChange ys → (change_once xs ≡ true → change_once (xs ++ ys) ≡ true)
+    → (if b then not (list_any changes_links (xs ++ ys)) else change_once (xs ++ ys)) ≡ true
+once-then_step true xs ys h g rest = let none = list_any-append_none changes_links xs ys (not-true (list_any changes_links xs) h) g in grind (arith, none)
+once-then_step false xs ys h g rest = rest h
+
+once-then_none : (xs ys : List Call) → change_once xs ≡ true → NoneChange ys → change_once (xs ++ ys) ≡ true
+once-then_none [] ys h g = once-none ys g
+once-then_none (x ∷ xs) ys h g = once-then_step (changes_links x) xs ys h g (λ t. once-then_none xs ys t g)
+
+-- ---- the calls of each plugin
+
+none-every : {X : Type 0} (f : X → Call) → ((x : X) → changes_links (f x) ≡ false) → (xs : List X) → NoneChange (map f xs)
+none-every f w [] = refl
+none-every f w (x ∷ xs) = grind (arith, w x, none-every f w xs)
+
+none-append : (xs ys : List Call) → NoneChange xs → NoneChange ys → NoneChange (xs ++ ys)
+none-append xs ys h g = list_any-append_none changes_links xs ys h g
+
+none-if : (b : Bool) (xs : List Call) → NoneChange xs → NoneChange (if b then xs else [])
+none-if true xs h = h
+none-if false xs h = refl
+
+none-forward : (given : List Given) → NoneChange (forward_calls given)
+none-forward given =
+    let v4 = list_any (λ g. family_eq g.address.addr.family families.V4) given in
+    let v6 = list_any (λ g. family_eq g.address.addr.family families.V6) given in
+    none-append (forward_for families.V4 given) (forward_for families.V6 given) (none-if v4 (ForwardEnsure families.V4 ∷ []) refl) (none-if v6 (ForwardEnsure families.V6 ∷ []) refl)
+
+none-gateways : (conf : BridgeConf) (given : List Given) → NoneChange (gateway_calls conf given)
+none-gateways conf given =
+    none-if conf.is_gateway (map (GatewayEnsure conf.bridge) (gateways given) ++ forward_calls given)
+    (none-append (map (GatewayEnsure conf.bridge) (gateways given)) (forward_calls given) (none-every (GatewayEnsure conf.bridge) (λ g. refl) (gateways given)) (none-forward given))
+
+none-call_for : (x : AddressOrRoute) → changes_links (call_for x) ≡ false
+none-call_for (Address obj) = refl
+none-call_for (Route obj) = refl
+
+none-after : (first : First) (att : Att) (netns : List ℕ) (given : List Given) → NoneChange (calls_after first att netns given)
+none-after (Bridge conf) att netns given =
+    let routes = routes_on att netns given (bridge_routes conf.is_default_gateway (routes_of conf.ipam) (map ip_of given)) in
+    let rules = masquerade_rules conf.ip_masq att given in
+    none-append (map AddrAdd (addresses_on att netns given)) (map RouteAdd routes ++ (gateway_calls conf given ++ map RuleAppend rules)) (none-every AddrAdd (λ x. refl) (addresses_on att netns given))
+    (none-append (map RouteAdd routes) (gateway_calls conf given ++ map RuleAppend rules) (none-every RouteAdd (λ x. refl) routes)
+    (none-append (gateway_calls conf given) (map RuleAppend rules) (none-gateways conf given) (none-every RuleAppend (λ x. refl) rules)))
+none-after (Ptp conf) att netns given =
+    let rules = masquerade_rules conf.ip_masq att given in
+    none-append (map call_for (ptp_objects conf att netns given)) (forward_calls given ++ map RuleAppend rules) (none-every call_for none-call_for (ptp_objects conf att netns given))
+    (none-append (forward_calls given) (map RuleAppend rules) (none-forward given) (none-every RuleAppend (λ x. refl) rules))
+none-after (Macvlan conf) att netns given =
+    let routes = routes_on att netns given (routes_of conf.ipam) in
+    none-append (map AddrAdd (addresses_on att netns given)) (map RouteAdd routes) (none-every AddrAdd (λ x. refl) (addresses_on att netns given)) (none-every RouteAdd (λ x. refl) routes)
+
+one-call : (b : Bool) → (if b then not (list_any changes_links []) else change_once []) ≡ true
+one-call true = refl
+one-call false = refl
+
+once-if : (b : Bool) (call : Call) → change_once (if b then call ∷ [] else []) ≡ true
+once-if true call = one-call (changes_links call)
+once-if false call = refl
+
+once-chained : (c : Chained) (att : Att) (netns : List ℕ) (mappings : List PortMapping) (ips : List IpEntry) → change_once (chained_calls c att netns mappings ips) ≡ true
+once-chained (Portmap conf) att netns mappings ips = once-none (map RuleAppend (portmap_rules conf att mappings ips)) (none-every RuleAppend (λ r. refl) (portmap_rules conf att mappings ips))
+once-chained (Firewall conf) att netns mappings ips = once-none (map RuleAppend (firewall_rules att ips)) (none-every RuleAppend (λ r. refl) (firewall_rules att ips))
+once-chained (Tuning conf) att netns mappings ips =
+    once-after_none (map SettingSet (tuning_settings conf att netns)) (link_set_calls conf att netns) (none-every SettingSet (λ s. refl) (tuning_settings conf att netns))
+    (once-if (sets_any conf) (LinkSet att (record { ns = netns; name = att.ifname }) conf.mac conf.mtu conf.tx_qlen conf.promisc conf.allmulti))
+
+none-chained : (c : Chained) (att : Att) (netns : List ℕ) (mappings : List PortMapping) (ips : List IpEntry) → is_tuning c ≡ false → NoneChange (chained_calls c att netns mappings ips)
+none-chained (Portmap conf) att netns mappings ips h = none-every RuleAppend (λ r. refl) (portmap_rules conf att mappings ips)
+none-chained (Firewall conf) att netns mappings ips h = none-every RuleAppend (λ r. refl) (firewall_rules att ips)
+none-chained (Tuning conf) att netns mappings ips h = cc
+
+none-all_chained : (cs : List Chained) (att : Att) (netns : List ℕ) (mappings : List PortMapping) (prev : AddResult) → list_any is_tuning cs ≡ false → NoneChange (all_chained_calls cs att netns mappings prev)
+none-all_chained [] att netns mappings prev h = refl
+none-all_chained (c ∷ cs) att netns mappings prev h =
+    none-append (chained_calls c att netns mappings prev.ips) (all_chained_calls cs att netns mappings (chained_result c prev)) (none-chained c att netns mappings prev.ips (grind (arith, h)))
+    (none-all_chained cs att netns mappings (chained_result c prev) (grind (arith, h)))
+
+once-all_step : (b : Bool) (c : Chained) (cs : List Chained) (att : Att) (netns : List ℕ) (mappings : List PortMapping) (prev : AddResult) → is_tuning c ≡ b → (if b then not (list_any is_tuning cs) else tunes_once cs) ≡ true
+    → (tunes_once cs ≡ true → change_once (all_chained_calls cs att netns mappings (chained_result c prev)) ≡ true) → change_once (all_chained_calls (c ∷ cs) att netns mappings prev) ≡ true
+once-all_step true c cs att netns mappings prev is h rest =
+    once-then_none (chained_calls c att netns mappings prev.ips) (all_chained_calls cs att netns mappings (chained_result c prev)) (once-chained c att netns mappings prev.ips)
+    (none-all_chained cs att netns mappings (chained_result c prev) (not-true (list_any is_tuning cs) h))
+once-all_step false c cs att netns mappings prev is h rest =
+    once-after_none (chained_calls c att netns mappings prev.ips) (all_chained_calls cs att netns mappings (chained_result c prev)) (none-chained c att netns mappings prev.ips is) (rest h)
+
+once-all_chained : (cs : List Chained) (att : Att) (netns : List ℕ) (mappings : List PortMapping) (prev : AddResult) → tunes_once cs ≡ true → change_once (all_chained_calls cs att netns mappings prev) ≡ true
+once-all_chained [] att netns mappings prev h = refl
+once-all_chained (c ∷ cs) att netns mappings prev h = once-all_step (is_tuning c) c cs att netns mappings prev refl h (λ g. once-all_chained cs att netns mappings (chained_result c prev) g)
+
+once-back : (list : NetList) (att : Att) (netns : List ℕ) (mappings : List PortMapping) (addrs : List Addr) → tunes_once list.chained ≡ true → change_once (back_calls list att netns mappings addrs) ≡ true
+once-back list att netns mappings addrs h =
+    let chain = all_chained_calls list.chained att netns mappings (first_plugin_result list att netns addrs) in
+    let put = CachePut att (cached_of list att netns mappings addrs) ∷ [] in
+    once-after_none (calls_after list.first att netns (given_by_list list addrs)) (chain ++ put) (none-after list.first att netns (given_by_list list addrs))
+    (once-then_none chain put (once-all_chained list.chained att netns mappings (first_plugin_result list att netns addrs) h) refl)
+
+-- ---- links
+
+among-left : {X : Type 0} (x : X) (xs ys : List X) → IsAmong x xs → IsAmong x (xs ++ ys)
+among-left x [] ys h = absurd h
+among-left x (z ∷ zs) ys h = elim h [ inl e ↦ inl e | inr more ↦ inr (among-left x zs ys more) ]
+
+among-right : {X : Type 0} (x : X) (xs ys : List X) → IsAmong x ys → IsAmong x (xs ++ ys)
+among-right x [] ys h = h
+among-right x (z ∷ zs) ys h = inr (among-right x zs ys h)
+
+are-left : {X : Type 0} (links xs ys : List X) → AreAmong links xs → AreAmong links (xs ++ ys)
+are-left [] xs ys h = tt
+are-left (x ∷ more) xs ys h = (among-left x xs ys h.0, are-left more xs ys h.1)
+
+are-right : {X : Type 0} (links xs ys : List X) → AreAmong links ys → AreAmong links (xs ++ ys)
+are-right [] xs ys h = tt
+are-right (x ∷ more) xs ys h = (among-right x xs ys h.0, are-right more xs ys h.1)
+
+pub each_link_is_wanted : EachLinkIsWanted
+each_link_is_wanted list c given links once a =
+    let att = att_of c in
+    let mappings = mappings_of list c in
+    let start : Share = record no_objects { links = untuned list att c.netns } in
+    let all : (share_after_calls start (back_calls list att c.netns mappings given)).links ≡ (wanted list att c.netns mappings given).links =
+    links-calls start (with_leases list c given) (back_calls list att c.netns mappings given) (sym (untuned-links list c given)) ∙ ap (λ (s : Share). s.links) (makes-wanted list att c.netns mappings given) in
+    let parts : change_once (a.made ++ a.left) ≡ true = ap change_once (sym a.part) ∙ once-back list att c.netns mappings given once in
+    elim (one-side a.made a.left parts) [
+      | inl none ↦ are-right links (wanted list att c.netns mappings given).links (untuned list att c.netns) (subst (AreAmong links) (links-none start a.made none) a.among)
+      | inr none ↦
+          let whole : links_after_part list c a.made ≡ (wanted list att c.netns mappings given).links =
+          sym (links-none (share_after_calls start a.made) a.left none) ∙ ap (λ (s : Share). s.links) (sym (share_after_calls-append start a.made a.left)) ∙ ap (λ l. (share_after_calls start l).links) (sym a.part) ∙ all in
+          are-left links (wanted list att c.netns mappings given).links (untuned list att c.netns) (subst (AreAmong links) whole a.among)
+    ]
