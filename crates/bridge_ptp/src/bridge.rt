@@ -1,12 +1,8 @@
 //! The `bridge` plugin.
 
-ghost use Rattle.std.specs.Prelude.{◌≡◌, ◌++◌, ◌∷◌, [], map, find, Some, IfOk, OnOk};
+ghost use Rattle.std.specs.Prelude.{◌≡◌, ◌++◌, ◌∷◌, [], map, Some, IfOk, OnOk};
 ghost use Rattle.std.specs.List.{list_any};
-ghost use Rattle.std.specs.Option.{option_copied};
-ghost use Rattle.cni_addr.specs.Codes.{family_eq};
 ghost use Rattle.cni_addr.specs.Equal.{addr_eq, cidr_eq};
-ghost use Rattle.host_local.specs.Conf.{routes_of};
-ghost use Rattle.host_local.specs.Results.{ip_of};
 ghost use Rattle.kernel_types.specs.declared.call.Call.TheVariants.{GatewayEnsure};
 ghost use Rattle.plan_words.specs.Keys.{push_unless_there};
 ghost use Rattle.bridge_ptp.specs.Bridge as plan;
@@ -15,11 +11,12 @@ ghost use Rattle.bridge_ptp.specs.Results as results;
 use crate::interfaces::{bridge_interface, host_interface, inner_interface, ips_at};
 use cni_addr::{Cidr, Duplicate, Family, Items, NoMemory, Text};
 use cni_result::{AddResult, Interface, IpEntry, RouteEntry, Version};
+use host_local::{configured_routes, ips_of};
 use kernel_types::{Att, Call, Given, Kind};
-use net_conf::{BridgeConf, HostLocalConf};
+use net_conf::BridgeConf;
 use plan_words::{
-    addresses_on, ask_all, ask_forward, default_route, host_end, inner_end, masquerade_rules,
-    routes_on,
+    addresses_on, ask_all, ask_forward, default_route, first_of_family, host_end, inner_end,
+    masquerade_rules, routes_on,
 };
 use std::alloc::Global;
 
@@ -63,25 +60,10 @@ pub fn bridge_before(
 
 // ---- routes
 
-fn configured(alloc: Global, ipam: &Option<HostLocalConf>) -> Result<Items<RouteEntry>, NoMemory>
-    ensures { IfOk result (λ entries. entries ≡ routes_of ipam.now) }
-{
-    match ipam {
-        Some(conf) => conf.routes.copy(),
-        None => Ok(Items::new(alloc)),
-    }
-}
-
 fn has_destination(entries: &[RouteEntry], dst: &Cidr) -> bool
     ensures { result ≡ list_any (λ r. cidr_eq r.dst dst.now) entries.now }
 {
     entries.iter().any(|r| r.dst == *dst)
-}
-
-fn first_of_family<'a>(ips: &'a [IpEntry], family: Family) -> Option<&'a IpEntry>
-    ensures { option_copied result ≡ find (λ ip. family_eq ip.address.addr.family family) ips.now }
-{
-    ips.iter().find(|ip| ip.address.addr.family == family)
 }
 
 fn push_route(entries: &mut Items<RouteEntry>, dst: Cidr, ip: &IpEntry) -> Result<(), NoMemory>
@@ -208,20 +190,6 @@ fn ask_gateways(
 
 // ---- after the addresses
 
-fn ips_of(alloc: Global, given: &[Given]) -> Result<Vec<IpEntry>, NoMemory>
-    ensures { IfOk result (λ ips. ips.items ≡ map ip_of given.now) }
-{
-    let mut ips = Vec::with_capacity(alloc, given.len())?;
-    for g in given {
-        ips.push(IpEntry {
-            address: g.address,
-            gateway: Some(g.gateway),
-            interface: None,
-        })?;
-    }
-    Ok(ips)
-}
-
 /// The calls for the given addresses: addresses and routes of the container, with `isGateway` the gateways on the
 /// bridge and forwarding, with `ipMasq` the masquerade rules.
 pub fn bridge_after(
@@ -233,7 +201,7 @@ pub fn bridge_after(
 ) -> Result<Items<Call>, NoMemory>
     ensures { IfOk result (λ calls. calls ≡ plan.bridge_calls_after conf.now att.now netns.now given.now) }
 {
-    let configured = configured(alloc, &conf.ipam)?;
+    let configured = configured_routes(alloc, &conf.ipam)?;
     let ips = ips_of(alloc, given)?;
     let entries = result_routes(conf.is_default_gateway, &configured, ips.as_slice())?;
     let addresses = addresses_on(alloc, att, netns, given)?;

@@ -14,4 +14,4 @@ pub mod leases;
 pub mod results;
 
 pub use leases::{given, given_of, lease_calls, release_kinds};
-pub use results::{ipam_result, no_dns};
+pub use results::{configured_routes, ipam_result, ips_of, no_dns};

@@ -1,10 +1,11 @@
 //! The plugin's result.
 
 ghost use Rattle.std.specs.Prelude.{◌≡◌, map, IfOk, Some};
+ghost use Rattle.host_local.specs.Conf.{routes_of};
 ghost use Rattle.host_local.specs.Results as results;
 
 use cni_addr::{Duplicate, Items, NoMemory, Text};
-use cni_result::{AddResult, Dns, IpEntry, Version};
+use cni_result::{AddResult, Dns, IpEntry, RouteEntry, Version};
 use kernel_types::Given;
 use net_conf::HostLocalConf;
 use std::alloc::Global;
@@ -21,7 +22,8 @@ pub fn no_dns(alloc: Global) -> Result<Dns, NoMemory>
     })
 }
 
-fn ips_of(alloc: Global, given: &[Given]) -> Result<Items<IpEntry>, NoMemory>
+/// The given addresses with their gateways, of no interface yet.
+pub fn ips_of(alloc: Global, given: &[Given]) -> Result<Items<IpEntry>, NoMemory>
     ensures { IfOk result (λ ips. ips ≡ map results.ip_of given.now) }
 {
     let mut ips = Vec::with_capacity(alloc, given.len())?;
@@ -33,6 +35,19 @@ fn ips_of(alloc: Global, given: &[Given]) -> Result<Items<IpEntry>, NoMemory>
         })?;
     }
     Ok(Items::of_vec(ips))
+}
+
+/// The configured routes; none where no addresses are given.
+pub fn configured_routes(
+    alloc: Global,
+    ipam: &Option<HostLocalConf>,
+) -> Result<Items<RouteEntry>, NoMemory>
+    ensures { IfOk result (λ entries. entries ≡ routes_of ipam.now) }
+{
+    match ipam {
+        Some(conf) => conf.routes.copy(),
+        None => Ok(Items::new(alloc)),
+    }
 }
 
 /// The given addresses with their gateways, and the configured routes: what the plugin that makes the interface

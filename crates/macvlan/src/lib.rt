@@ -12,14 +12,14 @@
 pub mod laws;
 
 ghost use Rattle.std.specs.Prelude.{◌≡◌, IfOk};
-ghost use Rattle.host_local.specs.Conf.{routes_of};
 ghost use Rattle.macvlan.specs.Macvlan as plan;
 
 use bridge_ptp::interfaces::{inner_interface, ips_at};
 use cni_addr::{Duplicate, Items, NoMemory, Text};
-use cni_result::{AddResult, RouteEntry};
+use cni_result::AddResult;
+use host_local::configured_routes;
 use kernel_types::{Att, Call, Given, Kind};
-use net_conf::{HostLocalConf, MacvlanConf};
+use net_conf::MacvlanConf;
 use plan_words::{addresses_on, ask_all, macvlan_link, routes_on};
 use std::alloc::Global;
 
@@ -36,18 +36,6 @@ pub fn before(
     let mut calls = Items::new(alloc);
     calls.push(Call::MacvlanAdd { link })?;
     Ok(calls)
-}
-
-fn configured_routes(
-    alloc: Global,
-    ipam: &Option<HostLocalConf>,
-) -> Result<Items<RouteEntry>, NoMemory>
-    ensures { IfOk result (λ entries. entries ≡ routes_of ipam.now) }
-{
-    match ipam {
-        Some(conf) => conf.routes.copy(),
-        None => Ok(Items::new(alloc)),
-    }
 }
 
 /// The calls for the given addresses: addresses and routes of the container.

@@ -11,9 +11,11 @@
 #![tactic(auto)]
 
 pub mod asked;
+pub mod families;
 pub mod shapes;
 
 pub use asked::{Asked, ask_all, push_unless_there};
+pub use families::first_of_family;
 pub use shapes::{
     address_on, addresses_on, ask_forward, default_route, host_end, inner_end, lease_of,
     macvlan_link, masquerade_rules, route_on, routes_on,

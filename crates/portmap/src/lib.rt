@@ -11,7 +11,6 @@
 pub mod laws;
 
 ghost use Rattle.std.specs.Prelude.{◌≡◌, ◌∷◌, [], find, fold, option_map, IfOk, OnOk};
-ghost use Rattle.std.specs.Option.{option_copied};
 ghost use Rattle.cni_addr.specs.Codes.{family_eq};
 ghost use Rattle.cni_addr.specs.Network as network;
 ghost use Rattle.kernel_types.specs.Equal.{rule_eq};
@@ -23,7 +22,7 @@ use cni_addr::{Addr, Cidr, Duplicate, Family, Items, NoMemory, network_of, whole
 use cni_result::{AddResult, IpEntry, PortMapping};
 use kernel_types::{Att, Call, Chain, Kind, Rule, Table, Tag, Target};
 use net_conf::PortmapConf;
-use plan_words::{ask_all, push_unless_there};
+use plan_words::{ask_all, first_of_family, push_unless_there};
 use std::alloc::Global;
 
 /// `127.0.0.1/32`
@@ -156,12 +155,6 @@ fn push_rules_to(
     Ok(())
 }
 
-fn first_of_family<'a>(ips: &'a [IpEntry], family: Family) -> Option<&'a IpEntry>
-    ensures { option_copied result ≡ find (λ ip. family_eq ip.address.addr.family family) ips.now }
-{
-    ips.iter().find(|ip| ip.address.addr.family == family)
-}
-
 fn push_rules_for(
     rules: &mut Vec<Rule>,
     snat: bool,
@@ -237,3 +230,6 @@ pub fn kinds() -> [Kind; 1]
 {
     [Kind::Rules]
 }
+
+#[cfg(test)]
+mod tests;
