@@ -1,9 +1,9 @@
 -- When lists and a pod file make a plan, and why they make none.
-use Rattle.std.specs.Prelude.{ℕ, ◌+◌, Bool, not, ◌&&◌, List, [], ◌∷◌, ◌++◌, position, is_some, Option, Some, None, Result, Ok, Err, if◌then◌else◌}
+use Rattle.std.specs.Prelude.{ℕ, ◌+◌, not, ◌&&◌, List, [], ◌∷◌, ◌++◌, position, is_some, Option, Some, None, Result, Ok, Err, if◌then◌else◌}
 use Rattle.std.specs.List.{list_any}
 use Rattle.std.specs.Str.{bytes_eq}
 use Rattle.net_conf.specs.declared.list.NetList.{NetList}
-use Rattle.pod_workers.specs.Plans.{Placed, commands_of, list_for, is_of_network, is_built}
+use Rattle.pod_workers.specs.Plans.{commands_of, list_for, is_of_network, is_built}
 use Rattle.pod_workers.specs.declared.plan.Plan.{Plan}
 use Rattle.pod_workers.specs.declared.plan.PlanError.{PlanError}
 use Rattle.pod_workers.specs.declared.plan.PlanError.TheVariants.{NotBuiltCommand, SameName, NoNetwork}
@@ -32,3 +32,8 @@ joined p =
     unless (λ place. NotBuiltCommand (place + 1)) (first_not_built p)
     (unless (λ place. SameName place) (first_repeat_after [] 0 p.lists)
     (unless (λ place. NoNetwork (place + 1)) (first_without_list p) (Ok p)))
+
+-- the plan, unless it is refused
+abbrev pub plan_unless : Option PlanError → Plan → Result Plan PlanError
+plan_unless None p = Ok p
+plan_unless (Some refusal) p = Err refusal

@@ -1,12 +1,15 @@
 -- Laws over every legal world, whatever was interleaved, stopped or refused memory.
-use Rattle.std.specs.Prelude.{◌≡◌, ℕ, false, List}
+use Rattle.std.specs.Prelude.{◌≡◌, ℕ, ◌≤◌, true, false, List, length, Ok}
+use Rattle.std.specs.List.{list_all}
 use Rattle.kernel_types.specs.Allowed.{IsAllowed}
 use Rattle.kernel_types.specs.Sound.{IsSound, NoAddressTwice}
 use Rattle.kernel_types.specs.declared.call.Call.{Call}
+use Rattle.pod_workers.specs.Join.{joined}
 use Rattle.pod_workers.specs.Legal.{Legal}
-use Rattle.pod_workers.specs.Plans.{Placed}
+use Rattle.pod_workers.specs.Plans.{Placed, IsOpening, IsWellFormed, AreNumbered, has_pools_apart, commands_of}
 use Rattle.pod_workers.specs.World.{World, IsReady, host_of, own_replies, next_of}
 use Rattle.pod_workers.specs.declared.plan.Next.TheVariants as next
+use Rattle.pod_workers.specs.declared.plan.Plan.{Plan}
 
 -- each host that a plan comes to is sound
 abbrev pub EveryHostIsSound : Type 0
@@ -20,3 +23,9 @@ NoAddressIsLeasedTwice = (w : World) → Legal w → (network : List ℕ) → No
 abbrev pub EveryCallMayBeMade : Type 0
 EveryCallMayBeMade =
     (w : World) (n : ℕ) (c : Placed) (call : Call) → Legal w → IsReady w n c → next_of w c.command (own_replies w n) ≡ next.Call call false → IsAllowed (host_of w) call
+
+-- a plan that was joined is well formed, where its opening, its pools and its numbers are
+abbrev pub JoinedPlansAreWellFormed : Type 0
+JoinedPlansAreWellFormed =
+    (p q : Plan) → joined p ≡ Ok q → IsOpening p.pods.opening → list_all has_pools_apart p.lists ≡ true → AreNumbered p
+    → length (commands_of p) ≤ 65536 → length p.pods.rounds ≤ 65536 → IsWellFormed q

@@ -1,0 +1,12 @@
+use Rattle.std.proofs.Common.{sym, ◌∙◌}
+use Rattle.pod_workers.proofs.Positions.{scanned-found, scanned-more, scanned-none}
+use Rattle.pod_workers.proofs.join.first_not_built.Goals as goal
+
+pub returns-in-Some : goal.returns-in-Some
+returns-in-Some c = scanned-found _ _ _ _ _ _ _ c.loop-commands.invariant c.loop-commands-test.true (c.as_slice-commands.ensures ∙ c.commands-item.is) (sym c.in-Some.ensures)
+
+pub loop-commands-preserved : goal.loop-commands-preserved
+loop-commands-preserved c = scanned-more _ _ _ _ _ _ c.loop-commands.invariant c.loop-commands-test.true (c.as_slice-commands.ensures ∙ c.commands-item.is) (sym c.not_built_in.ensures ∙ c.in_default.is)
+
+pub returns : goal.returns
+returns c = scanned-none _ _ _ _ c.loop-commands.invariant c.loop-commands-test.false
