@@ -1,11 +1,11 @@
 -- Every host that a legal world comes to is sound, each last address is a candidate of its pool, and each call that a
 -- run makes may be made.
-use Rattle.std.proofs.Common.{◌≡◌, ℕ, zero, suc, ◌+◌, Bool, true, false, not, cond, List, [], ◌∷◌, ◌++◌, map, length, Option, Some, None, refl, sym, ◌∙◌, ap, subst, arith, inl, inr}
+use Rattle.std.proofs.Common.{◌≡◌, ℕ, zero, suc, Bool, true, false, cond, List, [], ◌∷◌, ◌++◌, map, length, Option, Some, None, refl, sym, ◌∙◌, ap, subst, arith, inl, inr}
 use Rattle.std.proofs.lemmas.Option.{same_Some, none-some}
 use Rattle.std.proofs.lemmas.Bool.Decides.{eqb_tells}
 use Rattle.std.proofs.lemmas.Slice.Eq.{bytes_eq-Decides}
-use Rattle.std.specs.Prelude.{if◌then◌else◌, find, ◌&&◌, ◌==◌, ◌⊎◌, slice_get}
-use Rattle.std.specs.List.{list_any, list_all}
+use Rattle.std.specs.Prelude.{if◌then◌else◌, find, slice_get}
+use Rattle.std.specs.List.{list_all}
 use Rattle.std.specs.Option.{option_map}
 use Rattle.std.specs.Str.{bytes_eq}
 use Rattle.cni_addr.specs.declared.address.Addr.{Addr}
@@ -16,7 +16,7 @@ use Rattle.net_conf.specs.declared.list.NetList.{NetList}
 use Rattle.pod_file.specs.declared.command.Command.{Command}
 use Rattle.kernel_types.specs.Allowed.{IsAllowed}
 use Rattle.kernel_types.specs.Apply.{apply}
-use Rattle.kernel_types.specs.Apply.Calls.{is_of_pool, last_leased, moved_last, with_last, lease_taken, lease_next_of, leased_addresses}
+use Rattle.kernel_types.specs.Apply.Calls.{is_of_pool, last_leased, moved_last, lease_taken, leased_addresses}
 use Rattle.kernel_types.specs.Replies.{is_fault}
 use Rattle.kernel_types.specs.Sound.{IsSound, NoAddressTwice}
 use Rattle.kernel_types.specs.Touch.{Touches, TouchesTag}
@@ -36,21 +36,20 @@ use Rattle.kernel_types.specs.declared.call.Kind.{Kind}
 use Rattle.kernel_types.specs.declared.call.Kind.TheVariants as kinds
 use Rattle.kernel_types.specs.declared.call.Reply.{Reply}
 use Rattle.kernel_types.specs.declared.call.Reply.TheVariants.{Leased}
-use Rattle.plan_words.specs.PlanCalls.{is_plan_call_of}
 use Rattle.cni_verbs.specs.CommandWords.{att_of}
 use Rattle.cni_verbs.specs.declared.answer.Answer.{Answer}
 use Rattle.cni_verbs.specs.declared.answer.Answer.TheVariants.{Stopped}
-use Rattle.cni_verbs.specs.Script.{State, AtBegin, BeforeLeases, Leasing, AfterLeases, ReadingCache, Deleting, Over, Turn, Calls, Finishes, turn, script, state_after}
+use Rattle.cni_verbs.specs.Script.{State, AtBegin, BeforeLeases, Leasing, AfterLeases, ReadingCache, Deleting, Over, Turn, Calls, Finishes, turn, state_after}
 use Rattle.cni_verbs.specs.Progress.{turn_by}
 use Rattle.cni_verbs.specs.Wanted.{sets_of, deletion}
 use Rattle.pod_workers.specs.Legal.{Legal, IsBegun, begins, steps, refused_memory, turns}
-use Rattle.pod_workers.specs.Plans.{Placed, IsWellFormed, commands_of, list_for, has_pools_apart}
-use Rattle.pod_workers.specs.World.{World, IsReady, after, host_on, host_of, own_replies, next_by, next_of, is_stop, is_cut, is_faulty, reply_to, entry_of, with_entry, answered, done, stepped, next_round}
+use Rattle.pod_workers.specs.Plans.{Placed, IsWellFormed, list_for, has_pools_apart}
+use Rattle.pod_workers.specs.World.{World, IsReady, after, host_on, host_of, own_replies, next_by, next_of, is_cut, is_faulty, entry_of, done}
 use Rattle.pod_workers.specs.declared.plan.Entry.{Entry}
 use Rattle.pod_workers.specs.declared.plan.Next.{Next}
 use Rattle.pod_workers.specs.declared.plan.Next.TheVariants as next
 use Rattle.pod_workers.specs.declared.plan.Plan.{Plan}
-use Rattle.pod_workers.proofs.Planned.{IsPlain, IsPlanned, AllPlanned, IsRest, LeftArePlanned, left-are-planned}
+use Rattle.pod_workers.proofs.Planned.{IsPlanned, IsRest, LeftArePlanned, left-are-planned}
 
 -- ---- lists
 

@@ -1,8 +1,7 @@
 -- One world goes on from another.
-use Rattle.std.specs.Prelude.{◌≡◌, ℕ, ◌<◌, List, ◌++◌, Option, Some, slice_get}
+use Rattle.std.specs.Prelude.{◌≡◌, ℕ, List, ◌++◌, Option, Some, slice_get}
 use Rattle.cni_verbs.specs.declared.answer.Answer.{Answer}
-use Rattle.pod_workers.specs.Plans.{Placed, commands_of}
-use Rattle.pod_workers.specs.World.{World, IsRoundOver, is_in_round, next_round}
+use Rattle.pod_workers.specs.World.{World, IsRoundOver, next_round}
 use Rattle.pod_workers.specs.declared.plan.Entry.{Entry}
 
 abbrev pub BeginsWith : List Entry → List Entry → Type 0

@@ -1,8 +1,10 @@
 pub mod Extends
 pub mod Facts
+pub mod Index
 pub mod Join
 pub mod Laws
 pub mod Legal
 pub mod Order
 pub mod Plans
+pub mod Slots
 pub mod World

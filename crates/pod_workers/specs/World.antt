@@ -1,5 +1,5 @@
 -- A plan, its history and answers, and what one step makes of them.
-use Rattle.std.specs.Prelude.{◌≡◌, ℕ, ◌+◌, ◌-◌, ◌<◌, ◌==◌, Bool, true, false, ◌||◌, ◌&&◌, List, [], ◌∷◌, ◌++◌, length, map, Option, Some, None, slice_get, slice_set, nat_le, if◌then◌else◌}
+use Rattle.std.specs.Prelude.{◌≡◌, ℕ, ◌+◌, ◌-◌, ◌<◌, ◌==◌, Bool, false, ◌||◌, ◌&&◌, List, [], ◌∷◌, ◌++◌, length, map, Option, Some, None, slice_get, slice_set, nat_le, if◌then◌else◌}
 use Rattle.std.specs.List.{list_any}
 use Rattle.cni_verbs.specs.Progress.{turn_by, answer_by}
 use Rattle.cni_verbs.specs.Script.{Turn, Calls, Finishes}
@@ -154,6 +154,9 @@ abbrev pub answer_or_none : Option (Option Answer) → Option Answer
 answer_or_none None = None
 answer_or_none (Some o) = o
 
+abbrev pub answer_in : List (Option Answer) → ℕ → Option Answer
+answer_in answers number = if number == 0 then None else answer_or_none (slice_get answers (number - 1))
+
 -- the answer of the command of this number, from 1
 abbrev pub answer_at : World → ℕ → Option Answer
-answer_at w number = if number == 0 then None else answer_or_none (slice_get w.answers (number - 1))
+answer_at w number = answer_in w.answers number

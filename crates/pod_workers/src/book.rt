@@ -1,26 +1,37 @@
 //! The book: a plan, the kernel that it is carried out on, what was done, and who is answered.
 
-ghost use Rattle.std.specs.Prelude.{◌≡◌, ◌+◌, ◌<◌, ℕ, Some, slice_get, length, nat_le, IfOk, OnOk, OnErr, MatchBool};
+ghost use Rattle.std.specs.Prelude.{◌≡◌, ◌+◌, ◌<◌, ◌≤◌, ◌^◌, ℕ, ◌-◌, Some, slice_get, length, nat_le, IfOk, IsTrue, OnOk, OnErr, MatchBool};
 ghost use Rattle.std.specs.Option.{option_copied};
 ghost use Rattle.cni_verbs.specs.declared.answer.Answer.TheVariants.{OutOfMemory};
-ghost use Rattle.pod_workers.specs.Extends.{Rounds};
+ghost use Rattle.pod_workers.specs.Extends.{Extends, Rounds};
+ghost use Rattle.pod_workers.specs.Index.{is_cut_by, is_place_in};
 ghost use Rattle.pod_workers.specs.Legal.{Legal};
 ghost use Rattle.pod_workers.specs.Plans.{IsWellFormed, Placed, commands_of};
-ghost use Rattle.pod_workers.specs.World.{IsReadyNumber, answer_at, answered, begun, end_of, host_of, next_of, own_replies, stepped};
+ghost use Rattle.pod_workers.specs.Slots.{AreNumbersOf};
+ghost use Rattle.pod_workers.specs.World.{IsReadyNumber, IsRoundOver, answer_at, answer_in, answered, begun, end_of, host_of, next_of, next_round, own_replies, stepped};
 
+use crate::index::{Place, command_at, index_of, may_step, place_at};
 use crate::plan::{Entry, Plan, StepEnd};
+use crate::slots::{Outcome, Slot, blanks, carry_on, put_at, take_at};
 use cni_addr::NoMemory;
 use cni_verbs::Answer;
 use kernel_model::Kernel;
 use kernel_types::Host;
 use std::alloc::Global;
-use std::convert::Infallible;
 use std::marker::Model;
 
+/// A plan, the kernel that it is carried out on, and all that was done so far.
 #[derive(Drop)]
 pub struct Book<K: Kernel> {
+    plan: Plan,
     kernel: K,
-    never: Infallible,
+    history: Vec<Entry>,
+    answers: Vec<Option<Answer>>,
+    slots: Vec<Option<Slot>>,
+    places: Vec<Place>,
+    // How many commands the rounds before the current one have.
+    before: usize,
+    round: u32,
 }
 
 impl<K: Kernel> Model for Book<K> {
@@ -28,7 +39,11 @@ impl<K: Kernel> Model for Book<K> {
 
     ghost Value = { World };
 
-    ghost view = { λ book. elim book.never [ ] };
+    ghost use Rattle.pod_workers.specs.Slots.{IsKept};
+
+    ghost view = { λ b. record { plan = b.plan; history = b.history.items; answers = b.answers.items; round = b.round } };
+
+    ghost invariant = { λ b. IsKept (K.host b.kernel) b.slots.items b.places.items b.before (record { plan = b.plan; history = b.history.items; answers = b.answers.items; round = b.round }) };
 }
 
 impl<K: Kernel + Drop> Book<K> {
@@ -38,27 +53,39 @@ impl<K: Kernel + Drop> Book<K> {
         requires opening { K.host kernel ≡ plan.pods.opening }
         ensures { IfOk result (λ book. book ≡ begun plan) }
     {
-        Err(NoMemory)
+        let places = index_of(alloc, plan.pods.rounds.as_slice())?;
+        let answers = blanks(alloc, places.len())?;
+        let slots = blanks(alloc, places.len())?;
+        Ok(Book {
+            plan,
+            kernel,
+            history: Vec::new(alloc),
+            answers,
+            slots,
+            places,
+            before: 0,
+            round: 0,
+        })
     }
 
     pub fn plan(&self) -> &Plan
         ensures { result.now ≡ self.now.plan }
     {
-        match self.never {}
+        &self.plan
     }
 
     /// The calls that were made and their replies, oldest first.
     pub fn history(&self) -> &[Entry]
         ensures { result.now ≡ self.now.history }
     {
-        match self.never {}
+        self.history.as_slice()
     }
 
     /// The answer of the command of this number, from 1, where it has one.
     pub fn answer(&self, command: u32) -> Option<&Answer>
         ensures { option_copied result ≡ answer_at self.now command }
     {
-        match self.never {}
+        answer_in(self.answers.as_slice(), command)
     }
 
     /// The answers of all commands, in file order.
@@ -72,37 +99,76 @@ impl<K: Kernel + Drop> Book<K> {
     pub fn host(&self, alloc: Global) -> Result<Host, NoMemory>
         ensures { IfOk result (λ host. host ≡ host_of self.now) }
     {
-        match self.never {}
+        self.kernel.host(alloc)
     }
 
     /// The current round, from 0.
     pub fn round(&self) -> u32
         ensures { result ≡ self.now.round }
     {
-        match self.never {}
+        self.round
     }
 
     /// No round is left.
     pub fn ended(&self) -> bool
         ensures { result ≡ nat_le (length self.now.plan.pods.rounds) self.now.round }
     {
-        match self.never {}
+        self.plan.pods.rounds.as_slice().len() <= self.round as usize
     }
 
     /// Whether the command of this number may step.
     pub fn ready(&self, command: u32) -> bool
         ensures { MatchBool result (IsReadyNumber self.now command) (IsReadyNumber self.now command → ⊥) }
     {
-        match self.never {}
+        if command == 0 || self.places.len() < command as usize {
+            return false;
+        }
+        let n = (command - 1) as usize;
+        let place = place_at(self.places.as_slice(), n);
+        may_step(place, self.answers.as_slice(), self.round, n)
     }
 
+    /// One step of the command of this number: a call, or its answer. Where memory is refused, host and history stay as
+    /// they were, and the command is answered so.
     pub fn step(&mut self, command: u32) -> Result<StepEnd, NoMemory>
         requires { IsReadyNumber self.old command }
         ensures ok { OnOk result ((n : ℕ) (c : Placed) → command ≡ n + 1 → slice_get (commands_of self.old.plan) n ≡ Some c → self.new ≡ stepped self.old n c.command) }
         ensures end { IfOk result (λ end. (n : ℕ) (c : Placed) → command ≡ n + 1 → slice_get (commands_of self.old.plan) n ≡ Some c → end ≡ end_of (next_of self.old c.command (own_replies self.old n))) }
         ensures err { OnErr result ((n : ℕ) → command ≡ n + 1 → self.new ≡ answered self.old n OutOfMemory) }
     {
-        match self.never {}
+        let n = (command - 1) as usize;
+        let place = place_at(self.places.as_slice(), n);
+        let cut = is_cut(
+            self.plan.stop_at,
+            self.history.as_slice(),
+            self.places.as_slice(),
+            self.round,
+        );
+        let slot = take_at(&mut self.slots, n);
+        let of = command_at(self.plan.pods.rounds.as_slice(), place);
+        match carry_on(
+            &mut self.kernel,
+            &mut self.history,
+            self.plan.lists.as_slice(),
+            of,
+            cut,
+            slot,
+        ) {
+            Err(NoMemory) => {
+                put_at(&mut self.answers, n, Answer::OutOfMemory);
+                Err(NoMemory)
+            }
+            Ok(outcome) => match outcome {
+                Outcome::Went(slot) => {
+                    put_at(&mut self.slots, n, slot);
+                    Ok(StepEnd::Went)
+                }
+                Outcome::Over(answer) => {
+                    put_at(&mut self.answers, n, answer);
+                    Ok(StepEnd::Over)
+                }
+            },
+        }
     }
 
     /// Steps each command of the current round to its answer, in file order, and makes the next round current.
@@ -110,13 +176,87 @@ impl<K: Kernel + Drop> Book<K> {
         requires { self.old.round < length self.old.plan.pods.rounds }
         ensures { Rounds self.old self.new }
     {
-        match self.never {}
+        let (first, end) = self.numbers();
+        for number in first..end {
+            self.finish(number);
+            self.is_legal();
+        }
+        self.turn();
+    }
+
+    /// Steps a command until it may step no more.
+    fn finish(&mut self, command: u32)
+        ensures extends { Extends self.old self.new }
+        ensures over { IsReadyNumber self.new command → ⊥ }
+    {
+        while self.ready(command) {
+            let _entries = self.history().len();
+            let _ = self.step(command);
+        }
+    }
+
+    /// The numbers of the current round's commands: the first, and one more than the last.
+    fn numbers(&self) -> (u32, u32)
+        requires { self.now.round < length self.now.plan.pods.rounds }
+        ensures { AreNumbersOf self.now result.0 result.1 }
+    {
+        let commands = self.plan.pods.rounds.as_slice()[self.round as usize].as_slice();
+        let first = self.before as u32 + 1;
+        (first, first + commands.len() as u32)
+    }
+
+    /// Makes the next round current.
+    fn turn(&mut self)
+        requires left { self.old.round < length self.old.plan.pods.rounds }
+        requires over { IsRoundOver self.old }
+        ensures { self.new ≡ next_round self.old }
+    {
+        let commands = self.plan.pods.rounds.as_slice()[self.round as usize].as_slice();
+        self.before += commands.len();
+        self.round += 1;
     }
 
     /// What every book is: it does nothing, and opens the fact to a caller's proof.
     pub fn is_legal(&self)
         ensures { Legal self.now }
     {
-        match self.never {}
+        let _legal = &self.plan;
+    }
+}
+
+fn answer_in(answers: &[Option<Answer>], command: u32) -> Option<&Answer>
+    ensures { option_copied result ≡ answer_in answers.now command }
+{
+    if command == 0 {
+        return None;
+    }
+    match answers.get((command - 1) as usize) {
+        None => None,
+        Some(answer) => answer.as_ref(),
+    }
+}
+
+/// Whether the plan stops the round here: its last allowed entry is the last of the history, and of this round.
+fn is_cut(stop_at: Option<u32>, history: &[Entry], places: &[Place], round: u32) -> bool
+    ensures cut { result ≡ is_cut_by stop_at history.now places.now round }
+    ensures small { IsTrue result → length history.now < 2 ^ 32 }
+{
+    match stop_at {
+        None => false,
+        Some(number) => match history.last() {
+            None => false,
+            Some(entry) => {
+                history.len() == number as usize && is_of_round(places, entry.command, round)
+            }
+        },
+    }
+}
+
+fn is_of_round(places: &[Place], command: u32, round: u32) -> bool
+    ensures { result ≡ is_place_in round (slice_get places.now (command - 1)) }
+{
+    match places.get(command.saturating_sub(1) as usize) {
+        None => false,
+        Some(place) => place.round == round,
     }
 }

@@ -11,11 +11,14 @@
 #![tactic(auto)]
 
 pub mod book;
+mod index;
 mod join;
 pub mod laws;
 pub mod plan;
+mod slots;
 
 pub use book::Book;
+pub use join::joined_plans_are_well_formed;
 pub use laws::{
     each_answer_is_given, each_command_is_open_after_its_entry, each_entry_is_made,
     each_front_is_legal, each_world_of_the_clauses_is_legal, every_answer_is_due,

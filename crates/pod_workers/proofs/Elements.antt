@@ -1,0 +1,28 @@
+-- Lists: an element by its place, in two lists joined and after a map.
+use Rattle.std.proofs.Common.{◌≡◌, ℕ, zero, suc, ◌+◌, ◌<◌, ◌⊎◌, List, [], ◌∷◌, ◌++◌, length, map, Some, slice_get, refl, sym, ◌∙◌, ap, arith, inl, inr}
+use Rattle.std.proofs.lemmas.Option.{same_Some, none-some}
+
+pub slice_get-left : {X : Type 0} (xs ys : List X) (i : ℕ) → i < length xs → slice_get (xs ++ ys) i ≡ slice_get xs i
+slice_get-left [] ys i h = absurd (omega arith)
+slice_get-left (x ∷ xs) ys zero h = refl
+slice_get-left (x ∷ xs) ys (suc i) h = slice_get-left xs ys i (omega arith)
+
+pub slice_get-right : {X : Type 0} (xs ys : List X) (i : ℕ) → slice_get (xs ++ ys) (length xs + i) ≡ slice_get ys i
+slice_get-right [] ys i = let e : 0 + i ≡ i = omega arith in ap (slice_get ys) e
+slice_get-right (x ∷ xs) ys i = let e : length (x ∷ xs) + i ≡ suc (length xs + i) = omega arith in ap (slice_get (x ∷ (xs ++ ys))) e ∙ slice_get-right xs ys i
+
+pub slice_get-last : {X : Type 0} (xs : List X) (y : X) → slice_get (xs ++ y ∷ []) (length xs) ≡ Some y
+slice_get-last [] y = refl
+slice_get-last (x ∷ xs) y = slice_get-last xs y
+
+-- an element of a list with one more at the end is an earlier one, or that one
+pub at_snoc : {X : Type 0} (xs : List X) (y x : X) (i : ℕ) → slice_get (xs ++ y ∷ []) i ≡ Some x → ((i < length xs) × (slice_get xs i ≡ Some x)) ⊎ ((i ≡ length xs) × (x ≡ y))
+at_snoc [] y x zero is = inr (refl, same_Some x y (sym is))
+at_snoc [] y x (suc i) is = absurd (none-some x is)
+at_snoc (z ∷ zs) y x zero is = inl (omega arith, is)
+at_snoc (z ∷ zs) y x (suc i) is = elim (at_snoc zs y x i is) [ inl t ↦ (let less = t.0 in inl (omega arith, t.1)) | inr t ↦ inr (ap suc t.0, t.1) ]
+
+pub slice_get-map_some : {X Y : Type 0} (f : X → Y) (xs : List X) (i : ℕ) (y : Y) → slice_get (map f xs) i ≡ Some y → (x : X) × (slice_get xs i ≡ Some x) × (f x ≡ y)
+slice_get-map_some f [] i y is = absurd (none-some y is)
+slice_get-map_some f (x ∷ xs) zero y is = (x, refl, same_Some (f x) y is)
+slice_get-map_some f (x ∷ xs) (suc i) y is = slice_get-map_some f xs i y is

@@ -1,0 +1,430 @@
+-- Each change of a step keeps what a book keeps.
+use Rattle.std.proofs.Common.{◌≡◌, ℕ, zero, suc, ◌+◌, ◌-◌, ◌<◌, ◌≤◌, ◌^◌, Bool, true, false, List, [], ◌∷◌, ◌++◌, length, map, Option, Some, None, slice_get, slice_set, refl, sym, ◌∙◌, ap, subst, arith, inl, inr}
+use Rattle.std.specs.Prelude.{if◌then◌else◌, ◌||◌, find, nat_le, replicate, IsSome}
+use Rattle.std.specs.Str.{bytes_eq}
+use Rattle.std.proofs.lemmas.List.{length-set, length-map, length-replicate}
+use Rattle.std.proofs.lemmas.Option.{same_Some, none-some, slice_get_within}
+use Rattle.std.proofs.lemmas.Bool.{false≢true}
+use Rattle.std.proofs.lemmas.Bool.Decides.{eqb_tells, leb_tells}
+use Rattle.cni_verbs.specs.Progress.{progress, advanced, turn_by}
+use Rattle.cni_verbs.specs.Script.{State, Over, Turn, Calls, Finishes, turn, state_from, start_state, advance}
+use Rattle.cni_verbs.specs.declared.answer.Answer.{Answer}
+use Rattle.cni_verbs.specs.declared.answer.Answer.TheVariants.{OutOfMemory, Stopped}
+use Rattle.cni_verbs.specs.declared.answer.Ending.TheVariants.{Yes}
+use Rattle.kernel_types.specs.declared.call.Call.{Call}
+use Rattle.kernel_types.specs.declared.call.Reply.{Reply}
+use Rattle.kernel_types.specs.declared.object.Host.{Host}
+use Rattle.net_conf.specs.declared.list.NetList.{NetList}
+use Rattle.pod_file.specs.declared.command.Command.{Command}
+use Rattle.pod_workers.specs.Index.{IsIndex, command_in, is_cut_by}
+use Rattle.pod_workers.specs.Legal.{Legal, IsBegun, begins, steps, refused_memory}
+use Rattle.pod_workers.specs.Plans.{IsWellFormed, Placed, commands_of, list_for, placed_from}
+use Rattle.pod_workers.specs.Slots.{Fits, IsDone, IsKept, IsWithin, MayBeMade, MayCarryOn, entry_by, next_in, opened, opened_by, slot_after}
+use Rattle.pod_workers.specs.World.{World, AllNone, IsReady, IsReadyNumber, answered, begun, done, end_of, entry_of, host_of, host_on, is_cut, is_faulty, is_stop, next_by, next_of, own_replies, reply_to, stepped, with_entry}
+use Rattle.pod_workers.specs.declared.index.Place.{Place}
+use Rattle.pod_workers.specs.declared.plan.Entry.{Entry}
+use Rattle.pod_workers.specs.declared.plan.Next.{Next}
+use Rattle.pod_workers.specs.declared.plan.Next.TheVariants as next
+use Rattle.pod_workers.specs.declared.plan.Plan.{Plan}
+use Rattle.pod_workers.specs.declared.plan.StepEnd.{StepEnd}
+use Rattle.pod_workers.specs.declared.plan.StepEnd.TheVariants as ends
+use Rattle.pod_workers.specs.declared.slots.Slot.{Slot}
+use Rattle.pod_workers.specs.declared.slots.Outcome.{Outcome}
+use Rattle.pod_workers.specs.declared.slots.Outcome.TheVariants as outcome
+use Rattle.pod_workers.proofs.Histories.{slice_get-set_same, slice_get-set_other, replies_of-own, replies_of-other, after-append, length-replies_of, length-append_one}
+use Rattle.pod_workers.proofs.ReadyByIndex.{cut-is}
+use Rattle.pod_workers.proofs.Sound.{allowed_next, fine}
+
+-- ---- a run and its replies
+
+state_from-append : (list : NetList) (c : Command) (made : ℕ) (s : State) (rs : List Reply) (r : Reply)
+    → state_from list c made s (rs ++ r ∷ []) ≡ advance list c (made + length rs + 1) (state_from list c made s rs) r
+state_from-append list c made s [] r = ap (λ k. advance list c k s r) (omega arith)
+state_from-append list c made s (x ∷ xs) r =
+    state_from-append list c (made + 1) (advance list c (made + 1) s x) xs r
+    ∙ ap (λ k. advance list c k (state_from list c (made + 1) (advance list c (made + 1) s x) xs) r) (omega arith)
+
+-- one more reply
+progress-append : (list : Option NetList) (c : Command) (rs : List Reply) (r : Reply) → progress list c (rs ++ r ∷ []) ≡ advanced (progress list c rs) r
+progress-append None c rs r = ap (λ m. record { list = None; command = c; made = m; state = Over Yes [] }) (length-append_one rs r)
+progress-append (Some list) c rs r =
+    let state_is = state_from-append list c 0 (start_state c) rs r ∙ ap (λ k. advance list c k (state_from list c 0 (start_state c) rs) r) (omega arith) in
+    ap (λ m. record { list = Some list; command = c; made = m; state = state_from list c 0 (start_state c) (rs ++ r ∷ []) }) (length-append_one rs r)
+    ∙ ap (λ s. record { list = Some list; command = c; made = length rs + 1; state = s }) state_is
+
+turn-of : (list : Option NetList) (c : Command) (rs : List Reply) → turn c (progress list c rs).state ≡ turn_by list c rs
+unfolding turn
+turn-of None c rs = refl
+turn-of (Some list) c rs = refl
+
+none-made : (stop : Option ℕ) → IsWithin stop 0
+none-made None = tt
+none-made (Some most) = omega arith
+
+-- the run that was given these replies
+abbrev pub slot_at : Option NetList → Command → List Reply → Slot
+slot_at list c rs = record { run = progress list c rs; made = length rs }
+
+pub opened-is : (list : Option NetList) (c : Command) (rs : List Reply) (s : Option Slot) → Fits list c rs s → opened list c s ≡ slot_at list c rs
+opened-is list c rs None fits = ap (slot_at list c) (sym fits)
+opened-is list c rs (Some s) fits = ap (λ m. record { run = s.run; made = m }) fits.0 ∙ ap (λ r. record { run = r; made = length rs }) fits.1
+
+pub within-fits : (list : Option NetList) (c : Command) (rs : List Reply) (s : Option Slot) → Fits list c rs s → IsWithin c.stop (length rs)
+within-fits list c rs None fits = subst (λ (q : List Reply). IsWithin c.stop (length q)) (sym fits) (none-made c.stop)
+within-fits list c rs (Some s) fits = subst (IsWithin c.stop) fits.0 fits.2
+
+found-list : (p : Plan) (c : Command) → find (λ l. bytes_eq l.name c.network) p.lists ≡ list_for p c
+unfolding list_for
+found-list p c = refl
+
+-- ---- one step
+
+-- a command of a book that may step, with its run
+pub record IsHere (host : Host) (slots : List (Option Slot)) (places : List Place) (before : ℕ) (w : World) (n : ℕ) (c : Placed) (s : Option Slot) : Type 0 where
+  pub kept : IsKept host slots places before w
+  pub ready : IsReady w n c
+  pub run : opened_by w.plan.lists c.command s ≡ slot_at (list_for w.plan c.command) c.command (own_replies w n)
+  pub within : IsWithin c.command.stop (length (own_replies w n))
+  pub number : c.command.number ≡ n + 1
+
+pub here : (host : Host) (slots : List (Option Slot)) (places : List Place) (before : ℕ) (w : World) (n : ℕ) (c : Placed) (s : Option Slot) → IsKept host slots places before w → IsReady w n c
+    → slice_get slots n ≡ Some s → IsHere host slots places before w n c s
+unfolding opened_by
+here host slots places before w n c s kept ready slot =
+    let fits = kept.runs n c s ready.there slot ready.unanswered in
+    record {
+      kept = kept;
+      ready = ready;
+      run = ap (λ l. opened l c.command s) (found-list w.plan c.command) ∙ opened-is (list_for w.plan c.command) c.command (own_replies w n) s fits;
+      within = within-fits (list_for w.plan c.command) c.command (own_replies w n) s fits;
+      number = (fine w kept.legal).plan.numbers n c ready.there;
+    }
+
+-- what the run does next is the world's next
+next-here : (w : World) (n : ℕ) (c : Command) (s : Slot) (cut : Bool) → s ≡ slot_at (list_for w.plan c) c (own_replies w n) → cut ≡ is_cut w → next_in c cut s ≡ next_of w c (own_replies w n)
+unfolding next_in
+next-here w n c s cut run cut_is =
+    let list = list_for w.plan c in
+    let rs = own_replies w n in
+    ap (next_in c cut) run ∙ ap (λ b. next_in c b (slot_at list c rs)) cut_is ∙ ap (next_by list c (length rs) (is_cut w)) (turn-of list c rs)
+
+may-be-made : (w : World) (n : ℕ) (c : Placed) (x : Next) → Legal w → IsReady w n c → next_of w c.command (own_replies w n) ≡ x → MayBeMade (host_of w) x
+may-be-made w n c (next.Answer a) legal ready is = tt
+may-be-made w n c (next.Call call faulty) legal ready is = λ real. allowed_next w n c call legal ready (is ∙ ap (next.Call call) real)
+
+pub may-carry-on : (host : Host) (slots : List (Option Slot)) (places : List Place) (before : ℕ) (w : World) (n : ℕ) (c : Placed) (s : Option Slot) (cut : Bool)
+    → IsHere host slots places before w n c s → cut ≡ is_cut w → (cut ≡ true → length w.history < 2 ^ 32)
+    → MayCarryOn host w.history c.command cut (opened_by w.plan.lists c.command s)
+may-carry-on host slots places before w n c s cut h cut_is small =
+    let rs = own_replies w n in
+    let list = list_for w.plan c.command in
+    let few = length-replies_of n w.history in
+    let P : Slot → Type 0 = MayCarryOn host w.history c.command cut in
+    let Q : Host → Type 0 = λ k. MayBeMade k (next_in c.command cut (slot_at list c.command rs)) in
+    let made = subst (MayBeMade (host_of w)) (sym (next-here w n c.command (slot_at list c.command rs) cut refl cut_is)) (may-be-made w n c (next_of w c.command rs) h.kept.legal h.ready refl) in
+    subst P (sym h.run) (record {
+      of_command = refl;
+      counted = refl;
+      few = few;
+      countable = (h.within, λ is. let less = small is in omega arith);
+      allowed = subst Q (sym h.kept.host_is) made;
+    })
+
+-- an answer leaves the host and all other runs
+answer_keeps : (host : Host) (slots : List (Option Slot)) (places : List Place) (before : ℕ) (w : World) (n : ℕ) (c : Placed) (a : Answer) → IsKept host slots places before w → IsReady w n c → Legal (answered w n a)
+    → IsKept host (slice_set slots n None) places before (answered w n a)
+answer_keeps host slots places before w n c a kept ready legal = record {
+  legal = legal;
+  host_is = kept.host_is;
+  slots_long = length-set slots n None ∙ kept.slots_long;
+  answers_long = length-set w.answers n (Some a) ∙ kept.answers_long;
+  index = kept.index;
+  runs = λ m d o at_m slot_m open_m. elim (eqb_tells m n) [
+    | inl t ↦
+        let same = slice_get-set_same w.answers n (Some a) (slice_get_within w.answers n None ready.unanswered) in
+        absurd (none-some a (same_Some None (Some a) (sym open_m ∙ ap (slice_get (slice_set w.answers n (Some a))) t.1 ∙ same)))
+    | inr f ↦ kept.runs m d o at_m (sym (slice_get-set_other slots n m None f.1) ∙ slot_m) (sym (slice_get-set_other w.answers n m (Some a) f.1) ∙ open_m)
+  ];
+  before_is = kept.before_is;
+  round_within = kept.round_within;
+}
+
+-- a call moves the host, and its own run alone
+call_keeps : (host : Host) (slots : List (Option Slot)) (places : List Place) (before : ℕ) (w : World) (n : ℕ) (c : Placed) (e : Entry) (s : Slot)
+    → IsKept host slots places before w → IsReady w n c → Legal (with_entry w e) → e.command ≡ n + 1
+    → Fits (list_for w.plan c.command) c.command (own_replies w n ++ e.reply ∷ []) (Some s)
+    → IsKept (host_on host e) (slice_set slots n (Some s)) places before (with_entry w e)
+call_keeps host slots places before w n c e s kept ready legal own fits =
+    let within : n < length slots = rw kept.slots_long (slice_get_within (commands_of w.plan) n c ready.there) in
+    record {
+      legal = legal;
+      host_is = ap (λ h. host_on h e) kept.host_is ∙ sym (after-append w.plan.pods.opening w.history e);
+      slots_long = length-set slots n (Some s) ∙ kept.slots_long;
+      answers_long = kept.answers_long;
+      index = kept.index;
+      runs = λ m d o at_m slot_m open_m. elim (eqb_tells m n) [
+        | inl t ↦
+            let same_d : d ≡ c = same_Some d c (sym at_m ∙ ap (slice_get (commands_of w.plan)) t.1 ∙ ready.there) in
+            let same_o : o ≡ Some s = same_Some o (Some s) (sym slot_m ∙ ap (slice_get (slice_set slots n (Some s))) t.1 ∙ slice_get-set_same slots n (Some s) within) in
+            rw (same_d, same_o, t.1, replies_of-own n w.history e own) fits
+        | inr f ↦
+            let other = f.1 in
+            subst (λ rs. Fits (list_for w.plan d.command) d.command rs o) (sym (replies_of-other m w.history e (λ k. other (omega arith))))
+            (kept.runs m d o at_m (sym (slice_get-set_other slots n m (Some s) other) ∙ slot_m) open_m)
+      ];
+      before_is = kept.before_is;
+      round_within = kept.round_within;
+    }
+
+nat-less : (most made : ℕ) → nat_le most made ≡ false → made + 1 ≤ most
+nat-less most made below = elim (leb_tells most made) [ inl t ↦ absurd (false≢true (sym below ∙ t.0)) | inr f ↦ (let less = f.1 in omega arith) ]
+
+not-stopped-by : (a b : Bool) (x : Answer) (k call : Call) (f g : Bool) → (if a || b then next.Answer x else next.Call k f) ≡ next.Call call g → a ≡ false
+not-stopped-by true b x k call f g is = absurd cc
+not-stopped-by false b x k call f g is = refl
+
+-- a call is made below the stop
+within-more : (stop : Option ℕ) (made : ℕ) → is_stop stop made ≡ false → IsWithin stop (made + 1)
+within-more None made below = tt
+within-more (Some most) made below = nat-less most made below
+
+not-stopped : (list : Option NetList) (c : Command) (made : ℕ) (cut : Bool) (t : Turn) (call : Call) (faulty : Bool) → next_by list c made cut t ≡ next.Call call faulty → is_stop c.stop made ≡ false
+not-stopped list c made cut (Finishes f) call faulty is = absurd cc
+not-stopped list c made cut (Calls k) call faulty is = not-stopped-by (is_stop c.stop made) cut (Stopped made) k call (is_faulty c made) faulty is
+
+-- ---- a step as it was done
+
+-- what a step leaves, where the run goes on
+pub record IsLeft (host : Host) (slots : List (Option Slot)) (places : List Place) (before : ℕ) (w v : World) (n : ℕ) (c : Command) (end : StepEnd) : Type 0 where
+  pub kept : IsKept host slots places before v
+  pub made : v ≡ stepped w n c
+  pub end_is : end ≡ end_of (next_of w c (own_replies w n))
+
+abbrev pub world_with : World → List Entry → List (Option Answer) → World
+world_with w h answers = record { plan = w.plan; history = h; answers = answers; round = w.round }
+
+went-by : (host host' : Host) (slots : List (Option Slot)) (places : List Place) (before : ℕ) (w : World) (n : ℕ) (c : Placed) (h' : List Entry) (t : Slot) (x : Next)
+    → IsKept host slots places before w → IsReady w n c → c.command.number ≡ n + 1 → next_of w c.command (own_replies w n) ≡ x
+    → IsDone host host' w.history h' c.command (slot_at (list_for w.plan c.command) c.command (own_replies w n)) x (outcome.Went t)
+    → IsLeft host' (slice_set slots n (Some t)) places before w (world_with w h' w.answers) n c.command ends.Went
+unfolding IsDone
+went-by host host' slots places before w n c h' t (next.Answer a) kept ready number is d = absurd d
+went-by host host' slots places before w n c h' t (next.Call call faulty) kept ready number is d =
+    let rs = own_replies w n in
+    let list = list_for w.plan c.command in
+    let e = entry_by host c.command call faulty in
+    let same_entry : e ≡ entry_of (host_of w) n call faulty =
+    ap (λ k. entry_by k c.command call faulty) kept.host_is ∙ ap (λ k. record { command = k; call = call; reply = reply_to (host_of w) call faulty }) number in
+    let made : with_entry w e ≡ stepped w n c.command = ap (with_entry w) same_entry ∙ sym (ap (done w n) is) in
+    let legal : Legal (with_entry w e) = steps w (with_entry w e) n c kept.legal ready made in
+    let goes = not-stopped list c.command (length rs) (is_cut w) (turn_by list c.command rs) call faulty is in
+    let more = length-append_one rs e.reply in
+    let fits : Fits list c.command (rs ++ e.reply ∷ []) (Some (slot_after (slot_at list c.command rs) e.reply)) =
+    (sym more, sym (progress-append list c.command rs e.reply), within-more c.command.stop (length rs) goes) in
+    let still = call_keeps host slots places before w n c e (slot_after (slot_at list c.command rs) e.reply) kept ready legal number fits in
+    record {
+      kept = rw (d.0, d.1, d.2) still;
+      made = ap (λ h. world_with w h w.answers) d.2 ∙ made;
+      end_is = sym (ap end_of is);
+    }
+
+over-by : (host host' : Host) (slots : List (Option Slot)) (places : List Place) (before : ℕ) (w : World) (n : ℕ) (c : Placed) (h' : List Entry) (b : Answer) (x : Next)
+    → IsKept host slots places before w → IsReady w n c → next_of w c.command (own_replies w n) ≡ x
+    → IsDone host host' w.history h' c.command (slot_at (list_for w.plan c.command) c.command (own_replies w n)) x (outcome.Over b)
+    → IsLeft host' (slice_set slots n None) places before w (world_with w h' (slice_set w.answers n (Some b))) n c.command ends.Over
+unfolding IsDone
+over-by host host' slots places before w n c h' b (next.Call call faulty) kept ready is d = absurd d
+over-by host host' slots places before w n c h' b (next.Answer a) kept ready is d =
+    let made : answered w n b ≡ stepped w n c.command = ap (answered w n) d.0 ∙ sym (ap (done w n) is) in
+    let still = answer_keeps host slots places before w n c b kept ready (steps w (answered w n b) n c kept.legal ready made) in
+    record {
+      kept = rw (d.1, d.2) still;
+      made = ap (λ h. world_with w h (slice_set w.answers n (Some b))) d.2 ∙ made;
+      end_is = sym (ap end_of is);
+    }
+
+done-at : (host host' : Host) (w : World) (n : ℕ) (c : Command) (s : Slot) (cut : Bool) (h' : List Entry) (o : Outcome) → s ≡ slot_at (list_for w.plan c) c (own_replies w n) → cut ≡ is_cut w
+    → IsDone host host' w.history h' c s (next_in c cut s) o → IsDone host host' w.history h' c (slot_at (list_for w.plan c) c (own_replies w n)) (next_of w c (own_replies w n)) o
+done-at host host' w n c s cut h' o run cut_is d =
+    subst (λ x. IsDone host host' w.history h' c (slot_at (list_for w.plan c) c (own_replies w n)) x o) (next-here w n c s cut run cut_is)
+    (subst (λ t. IsDone host host' w.history h' c t (next_in c cut s) o) run d)
+
+pub went-here : (host host' : Host) (slots : List (Option Slot)) (places : List Place) (before : ℕ) (w : World) (n : ℕ) (c : Placed) (s : Option Slot) (cut : Bool) (h' : List Entry) (t : Slot)
+    → IsHere host slots places before w n c s → cut ≡ is_cut w
+    → IsDone host host' w.history h' c.command (opened_by w.plan.lists c.command s) (next_in c.command cut (opened_by w.plan.lists c.command s)) (outcome.Went t)
+    → IsLeft host' (slice_set slots n (Some t)) places before w (world_with w h' w.answers) n c.command ends.Went
+went-here host host' slots places before w n c s cut h' t h cut_is d =
+    went-by host host' slots places before w n c h' t _ h.kept h.ready h.number refl (done-at host host' w n c.command (opened_by w.plan.lists c.command s) cut h' (outcome.Went t) h.run cut_is d)
+
+pub over-here : (host host' : Host) (slots : List (Option Slot)) (places : List Place) (before : ℕ) (w : World) (n : ℕ) (c : Placed) (s : Option Slot) (cut : Bool) (h' : List Entry) (b : Answer)
+    → IsHere host slots places before w n c s → cut ≡ is_cut w
+    → IsDone host host' w.history h' c.command (opened_by w.plan.lists c.command s) (next_in c.command cut (opened_by w.plan.lists c.command s)) (outcome.Over b)
+    → IsLeft host' (slice_set slots n None) places before w (world_with w h' (slice_set w.answers n (Some b))) n c.command ends.Over
+over-here host host' slots places before w n c s cut h' b h cut_is d =
+    over-by host host' slots places before w n c h' b _ h.kept h.ready refl (done-at host host' w n c.command (opened_by w.plan.lists c.command s) cut h' (outcome.Over b) h.run cut_is d)
+
+-- want of memory answers, and leaves the host
+pub refused-here : (host host' : Host) (slots : List (Option Slot)) (places : List Place) (before : ℕ) (w : World) (n : ℕ) (c : Placed) (s : Option Slot) (h' : List Entry) → IsHere host slots places before w n c s
+    → host' ≡ host → h' ≡ w.history → IsKept host' (slice_set slots n None) places before (world_with w h' (slice_set w.answers n (Some OutOfMemory)))
+refused-here host host' slots places before w n c s h' h same_host same_history =
+    let still = answer_keeps host slots places before w n c OutOfMemory h.kept h.ready (refused_memory w (answered w n OutOfMemory) n c h.kept.legal h.ready refl) in
+    rw (same_host, same_history) still
+
+-- ---- a book as it is begun
+
+all-none : (xs : List Placed) → AllNone {T = Answer} (map (λ (c : Placed). None) xs)
+all-none [] n o is = absurd (none-some o is)
+all-none (x ∷ xs) zero o is = sym (same_Some None o is)
+all-none (x ∷ xs) (suc n) o is = all-none xs n o is
+
+is-begun : (p : Plan) → IsWellFormed p → IsBegun (begun p)
+is-begun p well = record { plan = well; empty = refl; long = length-map (commands_of p) _; unanswered = all-none (commands_of p); round = refl }
+
+replicate-none : {X : Type 0} (n : ℕ) (i : ℕ) (o : Option X) → slice_get (replicate n None) i ≡ Some o → o ≡ None
+replicate-none zero i o is = absurd (none-some o is)
+replicate-none (suc n) zero o is = sym (same_Some None o is)
+replicate-none (suc n) (suc i) o is = replicate-none n i o is
+
+blanks-of : (xs : List Placed) → replicate {A = Option Answer} (length xs) None ≡ map (λ (c : Placed). None) xs
+blanks-of [] = refl
+blanks-of (x ∷ xs) = ap (λ (os : List (Option Answer)). None ∷ os) (blanks-of xs)
+
+pub blank-answers : (xs : List Placed) (n : ℕ) → n ≡ length xs → replicate {A = Option Answer} n None ≡ map (λ (c : Placed). None) xs
+blank-answers xs n is = ap (λ k. replicate k None) is ∙ blanks-of xs
+
+fits-blank : (list : Option NetList) (c : Command) (s : Option Slot) → s ≡ None → Fits list c [] s
+fits-blank list c s is = rw is refl
+
+pub begun-kept : (p : Plan) (host : Host) (places : List Place) (count : ℕ) → IsWellFormed p → host ≡ p.pods.opening → IsIndex p.pods.rounds (commands_of p) places → count ≡ length places
+    → IsKept host (replicate count None) places 0 (begun p)
+begun-kept p host places count well host_is index count_is = record {
+  legal = begins (begun p) (is-begun p well);
+  host_is = host_is;
+  slots_long = length-replicate count None ∙ count_is ∙ index.long;
+  answers_long = length-map (commands_of p) _;
+  index = index;
+  runs = λ n c s at_n slot_n open_n. fits-blank _ c.command s (replicate-none count n s slot_n);
+  before_is = refl;
+  round_within = omega arith;
+}
+
+-- ---- the step of a book
+
+-- the command that a step found by the index is the ready one
+pub record IsFound (host : Host) (slots : List (Option Slot)) (places : List Place) (before : ℕ) (w : World) (number n : ℕ) (s : Option Slot) (of : Command) : Type 0 where
+  pub command : Placed
+  pub here : IsHere host slots places before w n command s
+  pub of_is : of ≡ command.command
+  pub number_is : number ≡ n + 1
+
+pub found : (host : Host) (slots : List (Option Slot)) (places : List Place) (before : ℕ) (w v : World) (number n : ℕ) (p : Place) (s : Option Slot) (of : Command) → IsKept host slots places before w → w ≡ v
+    → IsReadyNumber v number → n ≡ number - 1 → slice_get places n ≡ Some p → command_in w.plan.pods.rounds p ≡ Some of → slice_get slots n ≡ Some s
+    → IsFound host slots places before w number n s of
+found host slots places before w v number n p s of kept same ready place at_n command slot =
+    let r = subst (λ u. IsReadyNumber u number) (sym same) ready in
+    let is = r.2 in
+    let same_n : r.0 ≡ n = omega arith in
+    let now : IsReady w n r.1 = subst (λ k. IsReady w k r.1) same_n r.3 in
+    let placed = kept.index.each n r.1 p now.there at_n in
+    record {
+      command = r.1;
+      here = here host slots places before w n r.1 s kept now slot;
+      of_is = same_Some of r.1.command (sym command ∙ placed.command);
+      number_is = omega arith;
+    }
+
+pub found-may : (host : Host) (slots : List (Option Slot)) (places : List Place) (before : ℕ) (w : World) (number n : ℕ) (s : Option Slot) (of : Command) (cut : Bool) → IsFound host slots places before w number n s of
+    → cut ≡ is_cut_by w.plan.stop_at w.history places w.round → (cut ≡ true → length w.history < 2 ^ 32) → MayCarryOn host w.history of cut (opened_by w.plan.lists of s)
+found-may host slots places before w number n s of cut f cut_is small =
+    subst (λ k. MayCarryOn host w.history k cut (opened_by w.plan.lists k s)) (sym f.of_is)
+    (may-carry-on host slots places before w n f.command s cut f.here (cut-is w places cut f.here.kept.index cut_is) small)
+
+pub found-within : (host : Host) (slots : List (Option Slot)) (places : List Place) (before : ℕ) (w : World) (number n : ℕ) (s : Option Slot) (of : Command) → IsFound host slots places before w number n s of
+    → (n < length w.answers) × (n < length slots)
+found-within host slots places before w number n s of f =
+    let within : n < length (commands_of w.plan) = slice_get_within (commands_of w.plan) n f.command f.here.ready.there in
+    (rw f.here.kept.answers_long within, rw f.here.kept.slots_long within)
+
+pub found-went : (host host' : Host) (slots : List (Option Slot)) (places : List Place) (before : ℕ) (w : World) (number n : ℕ) (s : Option Slot) (of : Command) (cut : Bool) (h' : List Entry) (o : Outcome) (t : Slot)
+    → IsFound host slots places before w number n s of → cut ≡ is_cut_by w.plan.stop_at w.history places w.round
+    → IsDone host host' w.history h' of (opened_by w.plan.lists of s) (next_in of cut (opened_by w.plan.lists of s)) o → o ≡ outcome.Went t
+    → (c : Placed) × (slice_get (commands_of w.plan) n ≡ Some c) × IsLeft host' (slice_set slots n (Some t)) places before w (world_with w h' w.answers) n c.command ends.Went
+found-went host host' slots places before w number n s of cut h' o t f cut_is d o_is =
+    let e = subst (λ k. IsDone host host' w.history h' k (opened_by w.plan.lists k s) (next_in k cut (opened_by w.plan.lists k s)) o) f.of_is d in
+    let g = subst (IsDone host host' w.history h' f.command.command (opened_by w.plan.lists f.command.command s) (next_in f.command.command cut (opened_by w.plan.lists f.command.command s))) o_is e in
+    (f.command, f.here.ready.there, went-here host host' slots places before w n f.command s cut h' t f.here (cut-is w places cut f.here.kept.index cut_is) g)
+
+pub found-over : (host host' : Host) (slots : List (Option Slot)) (places : List Place) (before : ℕ) (w : World) (number n : ℕ) (s : Option Slot) (of : Command) (cut : Bool) (h' : List Entry) (o : Outcome) (b : Answer)
+    → IsFound host slots places before w number n s of → cut ≡ is_cut_by w.plan.stop_at w.history places w.round
+    → IsDone host host' w.history h' of (opened_by w.plan.lists of s) (next_in of cut (opened_by w.plan.lists of s)) o → o ≡ outcome.Over b
+    → (c : Placed) × (slice_get (commands_of w.plan) n ≡ Some c) × IsLeft host' (slice_set slots n None) places before w (world_with w h' (slice_set w.answers n (Some b))) n c.command ends.Over
+found-over host host' slots places before w number n s of cut h' o b f cut_is d o_is =
+    let e = subst (λ k. IsDone host host' w.history h' k (opened_by w.plan.lists k s) (next_in k cut (opened_by w.plan.lists k s)) o) f.of_is d in
+    let g = subst (IsDone host host' w.history h' f.command.command (opened_by w.plan.lists f.command.command s) (next_in f.command.command cut (opened_by w.plan.lists f.command.command s))) o_is e in
+    (f.command, f.here.ready.there, over-here host host' slots places before w n f.command s cut h' b f.here (cut-is w places cut f.here.kept.index cut_is) g)
+
+pub found-refused : (host host' : Host) (slots : List (Option Slot)) (places : List Place) (before : ℕ) (w : World) (number n : ℕ) (s : Option Slot) (of : Command) (h' : List Entry) → IsFound host slots places before w number n s of
+    → (host' ≡ host) × (h' ≡ w.history) → IsKept host' (slice_set slots n None) places before (world_with w h' (slice_set w.answers n (Some OutOfMemory)))
+found-refused host host' slots places before w number n s of h' f same = refused-here host host' slots places before w n f.command s h' f.here same.0 same.1
+
+-- what a step left is what the contract of a step says
+pub left-stepped : (host : Host) (slots : List (Option Slot)) (places : List Place) (before : ℕ) (w v u : World) (number n : ℕ) (end : StepEnd)
+    → number ≡ n + 1 → w ≡ v → (c : Placed) × (slice_get (commands_of w.plan) n ≡ Some c) × IsLeft host slots places before w u n c.command end
+    → (m : ℕ) (d : Placed) → number ≡ m + 1 → slice_get (commands_of v.plan) m ≡ Some d → u ≡ stepped v m d.command
+left-stepped host slots places before w v u number n end number_is same left m d is at_m =
+    let same_n : n ≡ m = omega arith in
+    let same_c : left.0 ≡ d = same_Some left.0 d (sym left.1 ∙ ap (λ k. slice_get (commands_of w.plan) k) same_n ∙ ap (λ (x : World). slice_get (commands_of x.plan) m) same ∙ at_m) in
+    left.2.made ∙ ap (λ (x : World). stepped x n left.0.command) same ∙ ap (λ k. stepped v k left.0.command) same_n ∙ ap (λ (x : Placed). stepped v m x.command) same_c
+
+pub left-end : (host : Host) (slots : List (Option Slot)) (places : List Place) (before : ℕ) (w v u : World) (number n : ℕ) (end : StepEnd)
+    → number ≡ n + 1 → w ≡ v → (c : Placed) × (slice_get (commands_of w.plan) n ≡ Some c) × IsLeft host slots places before w u n c.command end
+    → (m : ℕ) (d : Placed) → number ≡ m + 1 → slice_get (commands_of v.plan) m ≡ Some d → end ≡ end_of (next_of v d.command (own_replies v m))
+left-end host slots places before w v u number n end number_is same left m d is at_m =
+    let same_n : n ≡ m = omega arith in
+    let same_c : left.0 ≡ d = same_Some left.0 d (sym left.1 ∙ ap (λ k. slice_get (commands_of w.plan) k) same_n ∙ ap (λ (x : World). slice_get (commands_of x.plan) m) same ∙ at_m) in
+    left.2.end_is ∙ ap (λ (x : World). end_of (next_of x left.0.command (own_replies x n))) same ∙ ap (λ k. end_of (next_of v left.0.command (own_replies v k))) same_n
+    ∙ ap (λ (x : Placed). end_of (next_of v x.command (own_replies v m))) same_c
+
+pub refused-answered : (w v : World) (number n : ℕ) (h' : List Entry) → number ≡ n + 1 → w ≡ v → h' ≡ w.history → (m : ℕ) → number ≡ m + 1 → world_with w h' (slice_set w.answers n (Some OutOfMemory)) ≡ answered v m OutOfMemory
+refused-answered w v number n h' number_is same history m is =
+    let same_n : n ≡ m = omega arith in
+    ap (λ h. world_with w h (slice_set w.answers n (Some OutOfMemory))) history ∙ ap (λ k. answered w k OutOfMemory) same_n ∙ ap (λ (x : World). answered x m OutOfMemory) same
+
+-- ---- what a ready number gives the code
+
+pub number-within : (host : Host) (slots : List (Option Slot)) (places : List Place) (before : ℕ) (w v : World) (number : ℕ) → IsKept host slots places before w → w ≡ v → IsReadyNumber v number
+    → (1 ≤ number) × (number - 1 < length places) × (number - 1 < length slots) × (number - 1 < length w.answers)
+number-within host slots places before w v number kept same ready =
+    let r = subst (λ u. IsReadyNumber u number) (sym same) ready in
+    let is = r.2 in
+    let within = slice_get_within (commands_of w.plan) r.0 r.1 r.3.there in
+    let a = kept.index.long in
+    let b = kept.slots_long in
+    let d = kept.answers_long in
+    (omega arith, omega arith, omega arith, omega arith)
+
+pub number-command : (host : Host) (slots : List (Option Slot)) (places : List Place) (before : ℕ) (w v : World) (number : ℕ) (p : Place) → IsKept host slots places before w → w ≡ v → IsReadyNumber v number
+    → slice_get places (number - 1) ≡ Some p → IsSome (command_in w.plan.pods.rounds p)
+number-command host slots places before w v number p kept same ready at_n =
+    let r = subst (λ u. IsReadyNumber u number) (sym same) ready in
+    let is = r.2 in
+    let same_n : r.0 ≡ number - 1 = omega arith in
+    let placed = kept.index.each (number - 1) r.1 p (ap (slice_get (commands_of w.plan)) (sym same_n) ∙ r.3.there) at_n in
+    subst IsSome (sym placed.command) refl
+
+-- ---- a book as it is begun
+
+pub begun-is : (p : Plan) (count : ℕ) (places : List Place) (history : List Entry) (answers : List (Option Answer)) → IsIndex p.pods.rounds (placed_from 0 p.pods.rounds) places → count ≡ length places → history ≡ []
+    → answers ≡ replicate count None → record { plan = p; history = history; answers = answers; round = 0 } ≡ begun p
+unfolding commands_of
+begun-is p count places history answers index count_is none blank =
+    ap (λ h. record { plan = p; history = h; answers = answers; round = 0 }) none
+    ∙ ap (λ a. record { plan = p; history = []; answers = a; round = 0 }) (blank ∙ blank-answers (placed_from 0 p.pods.rounds) count (count_is ∙ index.long))
+
+pub begun-here : (p : Plan) (host : Host) (count more : ℕ) (places : List Place) (history : List Entry) (answers : List (Option Answer)) (slots : List (Option Slot)) → IsWellFormed p → host ≡ p.pods.opening
+    → IsIndex p.pods.rounds (placed_from 0 p.pods.rounds) places → count ≡ length places → more ≡ length places → history ≡ [] → answers ≡ replicate count None → slots ≡ replicate more None
+    → IsKept host slots places 0 (record { plan = p; history = history; answers = answers; round = 0 })
+unfolding commands_of
+begun-here p host count more places history answers slots well host_is index count_is more_is none blank empty =
+    subst (IsKept host slots places 0) (sym (begun-is p count places history answers index count_is none blank))
+    (subst (λ ss. IsKept host ss places 0 (begun p)) (sym empty) (begun-kept p host places more well host_is index more_is))

@@ -1,0 +1,164 @@
+-- Who may step, by the index.
+use Rattle.std.proofs.Common.{◌≡◌, ◌≢◌, ℕ, suc, ◌+◌, ◌-◌, ◌<◌, ◌⊎◌, ◌==◌, Bool, true, false, List, [], ◌∷◌, length, get_or, Option, Some, None, slice_get, refl, sym, ◌∙◌, ap, subst, arith, inl, inr}
+use Rattle.std.specs.Prelude.{MatchBool, ◌&&◌}
+use Rattle.std.proofs.lemmas.Bool.{false≢true, cases_lt}
+use Rattle.std.proofs.lemmas.Bool.Decides.{eqb_tells}
+use Rattle.std.proofs.lemmas.Option.{same_Some, none-some, slice_get-get_or, slice_get_within}
+use Rattle.cni_verbs.specs.declared.answer.Answer.{Answer}
+use Rattle.kernel_types.specs.declared.object.Host.{Host}
+use Rattle.pod_file.specs.declared.command.Command.{Command}
+use Rattle.pod_workers.specs.Index.{IsIndex, IsLatest, IsOf, IsPlaced, is_answered, is_cut_after, is_cut_by, is_open, is_place_in, lets_through, may_step_by}
+use Rattle.pod_workers.specs.Plans.{Placed, commands_of}
+use Rattle.pod_workers.specs.Slots.{IsKept}
+use Rattle.pod_workers.specs.World.{World, Blocks, IsAnswered, IsReady, IsReadyNumber, is_cut, is_cut_at, is_in_round, last_entry}
+use Rattle.pod_workers.specs.declared.index.Place.{Place}
+use Rattle.pod_workers.specs.declared.plan.Entry.{Entry}
+use Rattle.pod_workers.specs.declared.slots.Slot.{Slot}
+use Rattle.pod_workers.proofs.Order.{IsInOrder, in_order, not_both}
+
+both-true : (a b : Bool) → (a && b) ≡ true → (a ≡ true) × (b ≡ true)
+both-true true b h = (refl, h)
+both-true false b h = absurd (false≢true h)
+
+same-number : (a b : ℕ) → (a == b) ≡ true → a ≡ b
+same-number a b h = elim (eqb_tells a b) [ inl t ↦ t.1 | inr f ↦ absurd (false≢true (sym f.0 ∙ h)) ]
+
+number-same : (a b : ℕ) → a ≡ b → (a == b) ≡ true
+number-same a b h = elim (eqb_tells a b) [ inl t ↦ t.0 | inr f ↦ absurd (f.1 h) ]
+
+is-open : (o : Option (Option Answer)) → is_open o ≡ true → o ≡ Some None
+is-open None h = absurd (false≢true h)
+is-open (Some None) h = refl
+is-open (Some (Some a)) h = absurd (false≢true h)
+
+is-answered : (o : Option (Option Answer)) → is_answered o ≡ true → (a : Answer) × (o ≡ Some (Some a))
+is-answered None h = absurd (false≢true h)
+is-answered (Some None) h = absurd (false≢true h)
+is-answered (Some (Some a)) h = (a, refl)
+
+answered-is : (o : Option (Option Answer)) → ((x : Option Answer) → o ≡ Some x → x ≢ None) → o ≢ None → is_answered o ≡ true
+answered-is None h some = absurd (some refl)
+answered-is (Some None) h some = absurd (h None refl refl)
+answered-is (Some (Some a)) h some = refl
+
+unequal : (a b : ℕ) → a ≢ b → (a < b) ⊎ ((b < a) ⊎ (a ≡ b))
+unequal a b other = elim (cases_lt a b) [ inl less ↦ inl less | inr more ↦ inr (inl (omega arith)) ]
+
+three : (a b : ℕ) → (a < b) ⊎ ((b < a) ⊎ (a ≡ b))
+three a b = elim (eqb_tells a b) [ inl t ↦ inr (inr t.1) | inr f ↦ unequal a b f.1 ]
+
+-- ---- a command that the index lets through is the first of its container
+
+clear-by : (w : World) (n : ℕ) (c : Placed) (previous : Option ℕ) → IsInOrder w → n < length w.answers → c.round ≡ w.round → IsLatest (commands_of w.plan) n c.round c.command.container previous
+    → lets_through w.answers previous ≡ true
+    → (m : ℕ) (d : Placed) (o : Option Answer) → m < n → slice_get (commands_of w.plan) m ≡ Some d → slice_get w.answers m ≡ Some o → ¬ Blocks d o w.round c.command.container
+clear-by w n c None order within current latest through m d o less at_m answer blocks = latest m d (omega arith) less at_m (blocks.0 ∙ sym current, blocks.1)
+clear-by w n c (Some k) order within current latest through m d o less at_m answer blocks =
+    let a = is-answered (slice_get w.answers k) through in
+    let of_ : IsOf d c.round c.command.container = (blocks.0 ∙ sym current, blocks.1) in
+    let x = latest.1.0 in
+    let open_m : slice_get w.answers m ≡ Some None = answer ∙ ap Some blocks.2 in
+    elim (three m k) [
+      | inl before ↦
+          elim (order.first m k d x before at_m latest.1.1 (of_.0 ∙ sym latest.1.2.0) (of_.1 ∙ sym latest.1.2.1)) [
+            | inl untouched ↦ not_both w k a untouched.no_answer
+            | inr done ↦ not_both w m done open_m
+          ]
+      | inr other ↦ elim other [
+        | inl after ↦ latest.2 m d (omega arith) less at_m of_
+        | inr same ↦ not_both w m (subst (IsAnswered w) (sym same) a) open_m
+      ]
+    ]
+
+through-by : (w : World) (n : ℕ) (c : Placed) (previous : Option ℕ) → n < length w.answers → IsReady w n c → IsLatest (commands_of w.plan) n c.round c.command.container previous → lets_through w.answers previous ≡ true
+through-by w n c None within ready latest = refl
+through-by w n c (Some k) within ready latest =
+    let less = latest.0 in
+    let short : k < length w.answers = omega arith in
+    answered-is (slice_get w.answers k)
+    (λ x is none. ready.first k latest.1.0 x less latest.1.1 is (latest.1.2.0 ∙ ready.current, latest.1.2.1, none))
+    (λ none. none-some _ (sym none ∙ slice_get-get_or w.answers k None short))
+
+-- ---- both ways
+
+ready-where : (w : World) (n : ℕ) (c : Placed) (p : Place) → IsInOrder w → n < length w.answers → slice_get (commands_of w.plan) n ≡ Some c → IsPlaced w.plan.pods.rounds (commands_of w.plan) n c p
+    → may_step_by p w.answers w.round n ≡ true → IsReady w n c
+ready-where w n c p order within at_n placed passes =
+    let a = both-true (p.round == w.round) _ passes in
+    let b = both-true (is_open (slice_get w.answers n)) _ a.1 in
+    let current : c.round ≡ w.round = placed.round_is ∙ same-number p.round w.round a.0 in
+    record {
+      there = at_n;
+      current = current;
+      unanswered = is-open (slice_get w.answers n) b.0;
+      first = clear-by w n c p.previous order within current placed.previous b.1;
+    }
+
+where-ready : (w : World) (n : ℕ) (c : Placed) (p : Place) → n < length w.answers → IsPlaced w.plan.pods.rounds (commands_of w.plan) n c p → IsReady w n c → may_step_by p w.answers w.round n ≡ true
+where-ready w n c p within placed ready =
+    let here : (p.round == w.round) ≡ true = number-same p.round w.round (sym placed.round_is ∙ ready.current) in
+    let unanswered : is_open (slice_get w.answers n) ≡ true = ap is_open ready.unanswered in
+    let through = through-by w n c p.previous within ready placed.previous in
+    rw (here, unanswered) through
+
+ready-by : (b : Bool) (w : World) (n : ℕ) (c : Placed) (p : Place) (number : ℕ) → number ≡ n + 1 → IsInOrder w → n < length w.answers → slice_get (commands_of w.plan) n ≡ Some c
+    → IsPlaced w.plan.pods.rounds (commands_of w.plan) n c p → b ≡ may_step_by p w.answers w.round n → MatchBool b (IsReadyNumber w number) (IsReadyNumber w number → ⊥)
+ready-by true w n c p number is order within at_n placed tells = (n, c, is, ready-where w n c p order within at_n placed (sym tells))
+ready-by false w n c p number is order within at_n placed tells = λ r.
+    let same_n : r.0 ≡ n = (let e = r.2 in omega arith) in
+    let ready : IsReady w n r.1 = subst (λ k. IsReady w k r.1) same_n r.3 in
+    let same_c : r.1 ≡ c = same_Some r.1 c (sym ready.there ∙ at_n) in
+    false≢true (tells ∙ where-ready w n c p within placed (subst (IsReady w n) same_c ready))
+
+placed-default : (commands : List Placed) (n : ℕ) → n < length commands → Placed
+placed-default [] n within = absurd (omega arith)
+placed-default (c ∷ cs) n within = c
+
+-- whether the command of this number may step
+pub ready-tells : (b : Bool) (host : Host) (slots : List (Option Slot)) (places : List Place) (before : ℕ) (w v : World) (n : ℕ) (p : Place) (number : ℕ) → IsKept host slots places before w → w ≡ v → number ≡ n + 1
+    → slice_get places n ≡ Some p → b ≡ may_step_by p w.answers w.round n → MatchBool b (IsReadyNumber v number) (IsReadyNumber v number → ⊥)
+ready-tells b host slots places before w v n p number kept same is place tells =
+    let within : n < length (commands_of w.plan) = rw (sym kept.index.long) (slice_get_within places n p place) in
+    let short : n < length w.answers = rw kept.answers_long within in
+    let c = get_or (commands_of w.plan) n (placed-default (commands_of w.plan) n within) in
+    let at_n = slice_get-get_or (commands_of w.plan) n (placed-default (commands_of w.plan) n within) within in
+    subst (λ u. MatchBool b (IsReadyNumber u number) (IsReadyNumber u number → ⊥)) same
+    (ready-by b w n c p number is (in_order w kept.legal) short at_n (kept.index.each n c p at_n place) tells)
+
+-- no command has a number outside
+pub none-ready : (host : Host) (slots : List (Option Slot)) (places : List Place) (before : ℕ) (w v : World) (number : ℕ) → IsKept host slots places before w → w ≡ v → (number ≡ 0) ⊎ (length places < number) → IsReadyNumber v number → ⊥
+none-ready host slots places before w v number kept same outside r =
+    let within : r.0 < length (commands_of v.plan) = slice_get_within (commands_of v.plan) r.0 r.1 r.3.there in
+    let long : length places ≡ length (commands_of v.plan) = kept.index.long ∙ ap (λ (u : World). length (commands_of u.plan)) same in
+    let e = r.2 in
+    elim outside [ inl none ↦ absurd (omega arith) | inr past ↦ absurd (omega arith) ]
+
+-- ---- where a round is stopped
+
+last-entry-is : (h : List Entry) → last_entry h ≡ slice_get h (length h - 1)
+last-entry-is [] = refl
+last-entry-is (e ∷ []) = refl
+last-entry-is (e ∷ f ∷ es) =
+    let same : suc (length (f ∷ es) - 1) ≡ length (e ∷ f ∷ es) - 1 = omega arith in
+    last-entry-is (f ∷ es) ∙ ap (slice_get (e ∷ f ∷ es)) same
+
+place-in-round : (rounds : List (List Command)) (commands : List Placed) (places : List Place) (round k : ℕ) → IsIndex rounds commands places → (o : Option Placed) → slice_get commands k ≡ o → (q : Option Place) → slice_get places k ≡ q → is_place_in round q ≡ is_in_round round o
+place-in-round rounds commands places round k index (Some c) at_k (Some p) place_k = ap (λ r. r == round) (sym (index.each k c p at_k place_k).round_is)
+place-in-round rounds commands places round k index None at_k None place_k = refl
+place-in-round rounds commands places round k index (Some c) at_k None place_k =
+    absurd (let within = slice_get_within commands k c at_k in none-some _ (sym place_k ∙ slice_get-get_or places k (record { round = 0; within = 0; previous = None }) (rw index.long within)))
+place-in-round rounds commands places round k index None at_k (Some p) place_k =
+    absurd (let within = slice_get_within places k p place_k in let short : k < length commands = rw (sym index.long) within in none-some _ (sym at_k ∙ slice_get-get_or commands k (placed-default commands k short) short))
+
+cut-after : (w : World) (places : List Place) (number : ℕ) (o : Option Entry) → IsIndex w.plan.pods.rounds (commands_of w.plan) places → is_cut_after number w.history places w.round o ≡ is_cut_at (Some number) w o
+cut-after w places number None index = refl
+cut-after w places number (Some e) index =
+    ap (λ b. length w.history == number && b)
+    (place-in-round w.plan.pods.rounds (commands_of w.plan) places w.round (e.command - 1) index (slice_get (commands_of w.plan) (e.command - 1)) refl (slice_get places (e.command - 1)) refl)
+
+cut-at : (w : World) (places : List Place) (stop_at : Option ℕ) → IsIndex w.plan.pods.rounds (commands_of w.plan) places → is_cut_by stop_at w.history places w.round ≡ is_cut_at stop_at w (last_entry w.history)
+cut-at w places None index = refl
+cut-at w places (Some number) index = cut-after w places number (slice_get w.history (length w.history - 1)) index ∙ ap (is_cut_at (Some number) w) (sym (last-entry-is w.history))
+
+pub cut-is : (w : World) (places : List Place) (cut : Bool) → IsIndex w.plan.pods.rounds (commands_of w.plan) places → cut ≡ is_cut_by w.plan.stop_at w.history places w.round → cut ≡ is_cut w
+cut-is w places cut index tells = tells ∙ cut-at w places w.plan.stop_at index

@@ -1,0 +1,245 @@
+-- A round's commands are stepped to their answers one after another, and the next round is current.
+use Rattle.std.proofs.Common.{◌≡◌, ℕ, zero, suc, ◌+◌, ◌-◌, ◌<◌, ◌≤◌, List, [], ◌∷◌, ◌++◌, length, map, take, Option, Some, None, Result, Ok, Err, OnOk, OnErr, slice_get, slice_set, get_or, refl, sym, ◌∙◌, ap, subst, arith, inl, inr}
+use Rattle.std.proofs.lemmas.List.{append-nil, append_assoc, length-append, length-map}
+use Rattle.std.proofs.lemmas.Bool.{cases_lt}
+use Rattle.std.proofs.lemmas.Bool.Decides.{eqb_tells}
+use Rattle.std.proofs.lemmas.Option.{same_Some, none-some, slice_get_within, slice_get_read}
+use Rattle.cni_addr.specs.declared.memory.NoMemory.{NoMemory}
+use Rattle.cni_verbs.specs.declared.answer.Answer.{Answer}
+use Rattle.cni_verbs.specs.declared.answer.Answer.TheVariants.{OutOfMemory}
+use Rattle.kernel_types.specs.declared.object.Host.{Host}
+use Rattle.pod_file.specs.declared.command.Command.{Command}
+use Rattle.pod_workers.specs.Extends.{Extends, Rounds}
+use Rattle.pod_workers.specs.Legal.{Legal, turns}
+use Rattle.pod_workers.specs.Plans.{Placed, commands_of, in_round, placed_from}
+use Rattle.pod_workers.specs.Slots.{AreNumbersOf, IsKept}
+use Rattle.pod_workers.specs.World.{World, IsAnswered, IsReadyNumber, IsRoundOver, answered, done, next_of, next_round, own_replies, stepped}
+use Rattle.pod_workers.specs.declared.index.Place.{Place}
+use Rattle.pod_workers.specs.declared.plan.Next.{Next}
+use Rattle.pod_workers.specs.declared.plan.Next.TheVariants as next
+use Rattle.pod_workers.specs.declared.plan.Plan.{Plan}
+use Rattle.pod_workers.specs.declared.plan.StepEnd.{StepEnd}
+use Rattle.pod_workers.specs.declared.slots.Slot.{Slot}
+use Rattle.pod_workers.proofs.Histories.{slice_get-set_same, slice_get-set_other, length-append_one}
+use Rattle.pod_workers.proofs.Order.{in_order, not_both, open_or_answered}
+use Rattle.pod_workers.proofs.Rounds.{placed-fits, placed_from-more, placed_from-front, round-of, rounds-before}
+use Rattle.pod_workers.proofs.Elements.{slice_get-left, slice_get-right}
+use Rattle.pod_workers.proofs.Sound.{fine}
+
+-- ---- one world goes on from another
+
+pub extends_refl : (w : World) → Extends w w
+extends_refl w = record { plan_is = refl; round_is = refl; entries = ([], sym (append-nil w.history)); answers_stand = λ n a is. is }
+
+pub extends_trans : (u v w : World) → Extends u v → Extends v w → Extends u w
+extends_trans u v w e f = record {
+  plan_is = f.plan_is ∙ e.plan_is;
+  round_is = f.round_is ∙ e.round_is;
+  entries = (e.entries.0 ++ f.entries.0, f.entries.1 ∙ ap (λ h. h ++ f.entries.0) e.entries.1 ∙ append_assoc u.history e.entries.0 f.entries.0);
+  answers_stand = λ n a is. f.answers_stand n a (e.answers_stand n a is);
+}
+
+answered_extends : (w : World) (n : ℕ) (a : Answer) → slice_get w.answers n ≡ Some None → Extends w (answered w n a)
+answered_extends w n a unanswered = record {
+  plan_is = refl;
+  round_is = refl;
+  entries = ([], sym (append-nil w.history));
+  answers_stand = λ m b is. elim (eqb_tells m n) [
+    | inl t ↦ absurd (none-some b (same_Some None (Some b) (sym unanswered ∙ ap (slice_get w.answers) (sym t.1) ∙ is)))
+    | inr f ↦ slice_get-set_other w.answers n m (Some a) f.1 ∙ is
+  ];
+}
+
+done_extends : (w : World) (n : ℕ) (x : Next) → slice_get w.answers n ≡ Some None → Extends w (done w n x)
+done_extends w n (next.Answer a) unanswered = answered_extends w n a unanswered
+done_extends w n (next.Call call faulty) unanswered = record { plan_is = refl; round_is = refl; entries = (_, refl); answers_stand = λ m a is. is }
+
+-- whatever a step of a ready command gives
+abbrev pub IsStepped : Result StepEnd NoMemory → World → World → ℕ → Type 0
+IsStepped r v w number =
+    OnOk r ((n : ℕ) (c : Placed) → number ≡ n + 1 → slice_get (commands_of v.plan) n ≡ Some c → w ≡ stepped v n c.command)
+    × OnErr r ((n : ℕ) → number ≡ n + 1 → w ≡ answered v n OutOfMemory)
+
+pub step_extends : (r : Result StepEnd NoMemory) (v w : World) (number : ℕ) → IsReadyNumber v number → IsStepped r v w number → Extends v w
+step_extends (Ok x) v w number ready is =
+    subst (Extends v) (sym (is.0 ready.0 ready.1 ready.2 ready.3.there)) (done_extends v ready.0 (next_of v ready.1.command (own_replies v ready.0)) ready.3.unanswered)
+step_extends (Err x) v w number ready is = subst (Extends v) (sym (is.1 ready.0 ready.2)) (answered_extends v ready.0 OutOfMemory ready.3.unanswered)
+
+-- ---- a step adds an entry or gives an answer, so there are no more steps than room for entries
+
+abbrev pub open_at : Option (Option Answer) → ℕ
+open_at None = 0
+open_at (Some None) = 1
+open_at (Some (Some a)) = 0
+
+-- how many entries still find room, and one where the command has no answer
+abbrev pub room_left : ℕ → World → ℕ → ℕ
+room_left most w number = (most - length w.history) + open_at (slice_get w.answers (number - 1))
+
+answer_takes : (most : ℕ) (w : World) (n number : ℕ) (a : Answer) → number ≡ n + 1 → slice_get w.answers n ≡ Some None → room_left most (answered w n a) number < room_left most w number
+answer_takes most w n number a is unanswered =
+    let place : number - 1 ≡ n = omega arith in
+    let before : open_at (slice_get w.answers (number - 1)) ≡ 1 = ap (λ k. open_at (slice_get w.answers k)) place ∙ ap open_at unanswered in
+    let now : open_at (slice_get (slice_set w.answers n (Some a)) (number - 1)) ≡ 0 =
+    ap (λ k. open_at (slice_get (slice_set w.answers n (Some a)) k)) place ∙ ap open_at (slice_get-set_same w.answers n (Some a) (slice_get_within w.answers n None unanswered)) in
+    omega (arith, before, now)
+
+less-room : (most made more left : ℕ) → made < most → more ≡ made + 1 → (most - more) + left < (most - made) + left
+less-room most made more left room is = omega arith
+
+done_takes : (most : ℕ) (w : World) (n number : ℕ) (x : Next) → number ≡ n + 1 → slice_get w.answers n ≡ Some None → length w.history < most → room_left most (done w n x) number < room_left most w number
+done_takes most w n number (next.Answer a) is unanswered room = answer_takes most w n number a is unanswered
+done_takes most w n number (next.Call call faulty) is unanswered room =
+    less-room most (length w.history) _ (open_at (slice_get w.answers (number - 1))) room (length-append_one w.history _)
+
+pub step_takes : (most : ℕ) (r : Result StepEnd NoMemory) (v w : World) (number : ℕ) → IsReadyNumber v number → IsStepped r v w number → length v.history < most → room_left most w number < room_left most v number
+step_takes most (Ok x) v w number ready is room =
+    subst (λ u. room_left most u number < room_left most v number) (sym (is.0 ready.0 ready.1 ready.2 ready.3.there))
+    (done_takes most v ready.0 number (next_of v ready.1.command (own_replies v ready.0)) ready.2 ready.3.unanswered room)
+step_takes most (Err x) v w number ready is room =
+    subst (λ u. room_left most u number < room_left most v number) (sym (is.1 ready.0 ready.2)) (answer_takes most v ready.0 number OutOfMemory ready.2 ready.3.unanswered)
+
+-- ---- the numbers of a round
+
+placed-all : (w : World) → commands_of w.plan ≡ placed_from 0 w.plan.pods.rounds
+unfolding commands_of
+placed-all w = refl
+
+not-before : (rounds : List (List Command)) (round n : ℕ) (c : Placed) → slice_get (placed_from 0 rounds) n ≡ Some c → c.round ≡ round → length (placed_from 0 (take round rounds)) ≤ n
+not-before rounds round n c at_n is = elim (cases_lt n (length (placed_from 0 (take round rounds)))) [
+  | inl less ↦
+      let f = placed_from-front 0 round rounds in
+      let there : slice_get (placed_from 0 (take round rounds)) n ≡ Some c = sym (slice_get-left (placed_from 0 (take round rounds)) f.0 n less) ∙ ap (λ xs. slice_get xs n) (sym f.1) ∙ at_n in
+      absurd (let low = rounds-before round rounds n c there in omega arith)
+  | inr more ↦ more
+]
+
+-- after the round's own commands come those of later rounds
+later-round : (r i : ℕ) (rounds : List (List Command)) (cs : List Command) → slice_get rounds i ≡ Some cs → (n : ℕ) (c : Placed) → slice_get (placed_from r rounds) n ≡ Some c
+    → length (placed_from r (take i rounds)) + length cs ≤ n → r + i < c.round
+later-round r i [] cs is n c at_n past = absurd (none-some cs is)
+later-round r zero (x ∷ xs) cs is n c at_n past =
+    let same : x ≡ cs = same_Some x cs is in
+    let long : length (map (in_round r) x) ≡ length cs = length-map x (in_round r) ∙ ap length same in
+    let k = n - length (map (in_round r) x) in
+    let place : length (map (in_round r) x) + k ≡ n = omega arith in
+    let there : slice_get (placed_from (r + 1) xs) k ≡ Some c =
+    sym (slice_get-right (map (in_round r) x) (placed_from (r + 1) xs) k) ∙ ap (slice_get (map (in_round r) x ++ placed_from (r + 1) xs)) place ∙ at_n in
+    let low = (round-of (r + 1) xs k c there).0 in
+    omega arith
+later-round r (suc i) (x ∷ xs) cs is n c at_n past =
+    let long = length-append (map (in_round r) x) (placed_from (r + 1) (take i xs)) in
+    let k = n - length (map (in_round r) x) in
+    let place : length (map (in_round r) x) + k ≡ n = omega (arith, long) in
+    let there : slice_get (placed_from (r + 1) xs) k ≡ Some c =
+    sym (slice_get-right (map (in_round r) x) (placed_from (r + 1) xs) k) ∙ ap (slice_get (map (in_round r) x ++ placed_from (r + 1) xs)) place ∙ at_n in
+    let rest = later-round (r + 1) i xs cs is k c there (omega (arith, long)) in
+    omega arith
+
+pub numbers-of : (host : Host) (slots : List (Option Slot)) (places : List Place) (before : ℕ) (w v : World) (cs : List Command) → IsKept host slots places before w → w ≡ v
+    → slice_get w.plan.pods.rounds w.round ≡ Some cs → AreNumbersOf v (before + 1) (before + length cs + 1)
+numbers-of host slots places before w v cs kept same is = subst (λ u. AreNumbersOf u (before + 1) (before + length cs + 1)) same (record {
+  ordered = omega arith;
+  all = λ n c at_n current.
+      let there : slice_get (placed_from 0 w.plan.pods.rounds) n ≡ Some c = ap (λ xs. slice_get xs n) (sym (placed-all w)) ∙ at_n in
+      let low = not-before w.plan.pods.rounds w.round n c there current in
+      let before_is = kept.before_is in (
+        omega arith,
+        elim (cases_lt n (before + length cs)) [
+          | inl less ↦ omega arith
+          | inr past ↦ absurd (let later = later-round 0 w.round w.plan.pods.rounds cs is n c there (omega arith) in omega arith)
+        ],
+      );
+})
+
+-- ---- command after command
+
+-- each command of the round with a number below this one is answered
+abbrev pub AllBelow : World → ℕ → Type 0
+AllBelow w number = (n : ℕ) (c : Placed) → n + 1 < number → slice_get (commands_of w.plan) n ≡ Some c → c.round ≡ w.round → IsAnswered w n
+
+below-stays : (v w : World) (number : ℕ) → Extends v w → AllBelow v number → AllBelow w number
+below-stays v w number e below n c less at_n current =
+    let a = below n c less (ap (λ p. slice_get (commands_of p) n) (sym e.plan_is) ∙ at_n) (current ∙ e.round_is) in
+    (a.0, e.answers_stand n a.0 a.1)
+
+-- a command of the round that may not step, though all before it are answered, has its answer
+answered-then : (w : World) (number n : ℕ) (c : Placed) → Legal w → AllBelow w number → (IsReadyNumber w number → ⊥) → number ≡ n + 1 → slice_get (commands_of w.plan) n ≡ Some c → c.round ≡ w.round → IsAnswered w n
+answered-then w number n c legal below not is at_n current = elim (open_or_answered w n c (in_order w legal) at_n) [
+  | inl unanswered ↦
+      absurd (not (
+        n,
+        c,
+        is,
+        record {
+          there = at_n;
+          current = current;
+          unanswered = unanswered;
+          first = λ m d o less at_m answer blocks. not_both w m (below m d (omega arith) at_m blocks.0) (answer ∙ ap Some blocks.2);
+        },
+      ))
+  | inr a ↦ a
+]
+
+pub below-more : (v w : World) (number : ℕ) → Extends v w → Legal w → AllBelow v number → (IsReadyNumber w number → ⊥) → AllBelow w (number + 1)
+below-more v w number e legal below not n c less at_n current =
+    let stays = below-stays v w number e below in
+    elim (eqb_tells (n + 1) number) [
+      | inl t ↦ answered-then w number n c legal stays not (sym t.1) at_n current
+      | inr f ↦ (let other = f.1 in stays n c (omega arith) at_n current)
+    ]
+
+pub none-below : (w : World) (first end : ℕ) → AreNumbersOf w first end → AllBelow w first
+none-below w first end numbers n c less at_n current = absurd (let low = (numbers.all n c at_n current).0 in omega arith)
+
+pub round-is-over : (v w : World) (first end number : ℕ) → AreNumbersOf v first end → Extends v w → end ≤ number → AllBelow w number → IsRoundOver w
+round-is-over v w first end number numbers e past below n c at_n current =
+    let high = (numbers.all n c (ap (λ p. slice_get (commands_of p) n) (sym e.plan_is) ∙ at_n) (current ∙ e.round_is)).1 in
+    below n c (omega arith) at_n current
+
+pub rounds-from : (v w u : World) → Extends v w → IsRoundOver w → u ≡ next_round w → Rounds v u
+rounds-from v w u e over is = record { last = w; extends = e; over = over; next_is = is }
+
+-- ---- the next round
+
+pub turned-keeps : (host : Host) (slots : List (Option Slot)) (places : List Place) (before : ℕ) (w : World) (cs : List Command) → IsKept host slots places before w → slice_get w.plan.pods.rounds w.round ≡ Some cs
+    → IsRoundOver w → IsKept host slots places (before + length cs) (next_round w)
+turned-keeps host slots places before w cs kept is over =
+    let within : w.round < length w.plan.pods.rounds = slice_get_within w.plan.pods.rounds w.round cs is in
+    let more : length (placed_from 0 (take (suc w.round) w.plan.pods.rounds)) ≡ length (placed_from 0 (take w.round w.plan.pods.rounds)) + length cs =
+    ap length (placed_from-more 0 w.round w.plan.pods.rounds cs is) ∙ length-append (placed_from 0 (take w.round w.plan.pods.rounds)) (map (in_round (0 + w.round)) cs)
+    ∙ ap (λ k. length (placed_from 0 (take w.round w.plan.pods.rounds)) + k) (length-map cs (in_round (0 + w.round))) in
+    let next_is : suc w.round ≡ w.round + 1 = omega arith in
+    record {
+      legal = turns w (next_round w) kept.legal within over refl;
+      host_is = kept.host_is;
+      slots_long = kept.slots_long;
+      answers_long = kept.answers_long;
+      index = kept.index;
+      runs = kept.runs;
+      before_is = ap (λ k. k + length cs) kept.before_is ∙ sym more ∙ ap (λ k. length (placed_from 0 (take k w.plan.pods.rounds))) next_is;
+      round_within = omega arith;
+    }
+
+-- ---- where the code reads a round
+
+pub round-there : (rounds xs : List (List Command)) (round : ℕ) (cs d : List Command) → xs ≡ rounds → round < length rounds → d ≡ get_or xs round d → cs ≡ d → slice_get rounds round ≡ Some cs
+round-there rounds xs round cs d xs_is within d_is cs_is =
+    slice_get_read rounds (length rounds) round cs refl within (cs_is ∙ d_is ∙ ap (λ ys. get_or ys round d) xs_is ∙ ap (get_or rounds round) (sym cs_is))
+
+pub round-fits : (host : Host) (slots : List (Option Slot)) (places : List Place) (before : ℕ) (w : World) (cs : List Command) → IsKept host slots places before w → slice_get w.plan.pods.rounds w.round ≡ Some cs
+    → (before + length cs ≤ 65536) × (w.round < 65536)
+round-fits host slots places before w cs kept is =
+    let fits = placed-fits w.plan.pods.rounds w.round cs is in
+    let all = ap length (placed-all w) in
+    let bounds = (fine w kept.legal).plan.bounds in
+    let rounds = (fine w kept.legal).plan.rounds in
+    let before_is = kept.before_is in
+    let within = slice_get_within w.plan.pods.rounds w.round cs is in
+    (omega (arith, fits, all, bounds, before_is), omega (arith, within, rounds))
+
+pub still-left : (v w : World) → Extends v w → v.round < length v.plan.pods.rounds → w.round < length w.plan.pods.rounds
+still-left v w e less =
+    let plan = ap (λ (p : Plan). length p.pods.rounds) e.plan_is in
+    let round = e.round_is in
+    omega (arith, plan, round, less)

@@ -1,0 +1,153 @@
+-- What a run does next, by its state.
+use Rattle.std.proofs.Common.{◌≡◌, ℕ, Bool, true, false, List, [], ◌∷◌, ◌++◌, Option, Some, None, refl, sym, ◌∙◌, ap, subst}
+use Rattle.std.specs.Prelude.{option_map, if◌then◌else◌, ◌||◌}
+use Rattle.std.proofs.lemmas.Bool.{false≢true}
+use Rattle.std.proofs.lemmas.Option.{same_Some, none-some}
+use Rattle.cni_verbs.specs.Progress.{answer_by}
+use Rattle.cni_verbs.specs.Script.{IsOpen, State, AtBegin, BeforeLeases, Leasing, AfterLeases, ReadingCache, Deleting, Over, Turn, Calls, Finishes, Finish, turn, next_call, finish_of}
+use Rattle.cni_verbs.specs.declared.answer.Answer.{Answer}
+use Rattle.cni_verbs.specs.declared.answer.Answer.TheVariants.{Stopped}
+use Rattle.kernel_types.specs.Allowed.{IsAllowed}
+use Rattle.kernel_types.specs.Apply.{apply}
+use Rattle.kernel_types.specs.Replies.{holds_text_or_list}
+use Rattle.kernel_types.specs.declared.call.Call.{Call}
+use Rattle.kernel_types.specs.declared.call.Reply.{Reply}
+use Rattle.kernel_types.specs.declared.object.Host.{Host}
+use Rattle.kernel_types.proofs.Replies.{IsReplyOf-apply}
+use Rattle.net_conf.specs.declared.list.NetList.{NetList}
+use Rattle.pod_file.specs.declared.command.Command.{Command}
+use Rattle.pod_workers.specs.Slots.{IsDone, MayBeMade, entry_by, host_after, next_in, slot_after}
+use Rattle.pod_workers.specs.World.{host_on, is_faulty, is_stop, next_by, reply_to}
+use Rattle.pod_workers.specs.declared.plan.Next.{Next}
+use Rattle.pod_workers.specs.declared.plan.Next.TheVariants as next
+use Rattle.pod_workers.specs.declared.plan.Entry.{Entry}
+use Rattle.pod_workers.specs.declared.slots.Slot.{Slot}
+use Rattle.pod_workers.specs.declared.slots.Outcome.TheVariants as outcome
+
+turn-calls : (c : Command) (s : State) (call : Call) → next_call c s ≡ Some call → turn c s ≡ Calls call
+unfolding next_call turn
+turn-calls c AtBegin call is = ap Calls (same_Some _ call is)
+turn-calls c (BeforeLeases next left) call is = ap Calls (same_Some _ call is)
+turn-calls c (Leasing next left given) call is = ap Calls (same_Some _ call is)
+turn-calls c (AfterLeases next left given) call is = ap Calls (same_Some _ call is)
+turn-calls c (ReadingCache ending) call is = ap Calls (same_Some _ call is)
+turn-calls c (Deleting next left ending) call is = ap Calls (same_Some _ call is)
+turn-calls c (Over ending given) call is = absurd (none-some call is)
+
+turn-finishes : (c : Command) (s : State) (f : Finish) → finish_of s ≡ Some f → turn c s ≡ Finishes f
+unfolding finish_of turn
+turn-finishes c AtBegin f is = absurd (none-some f is)
+turn-finishes c (BeforeLeases next left) f is = absurd (none-some f is)
+turn-finishes c (Leasing next left given) f is = absurd (none-some f is)
+turn-finishes c (AfterLeases next left given) f is = absurd (none-some f is)
+turn-finishes c (ReadingCache ending) f is = absurd (none-some f is)
+turn-finishes c (Deleting next left ending) f is = absurd (none-some f is)
+turn-finishes c (Over ending given) f is = ap Finishes (same_Some _ f is)
+
+over-finishes : (c : Command) (s : State) → next_call c s ≡ None → (f : Finish) × (finish_of s ≡ Some f)
+unfolding next_call finish_of
+over-finishes c AtBegin is = absurd (none-some _ (sym is))
+over-finishes c (BeforeLeases next left) is = absurd (none-some _ (sym is))
+over-finishes c (Leasing next left given) is = absurd (none-some _ (sym is))
+over-finishes c (AfterLeases next left given) is = absurd (none-some _ (sym is))
+over-finishes c (ReadingCache ending) is = absurd (none-some _ (sym is))
+over-finishes c (Deleting next left ending) is = absurd (none-some _ (sym is))
+over-finishes c (Over ending given) is = (record { ending = ending; given = given }, refl)
+
+open-where : (c : Command) (s : State) (call : Call) → turn c s ≡ Calls call → IsOpen s
+unfolding turn
+open-where c AtBegin call is = tt
+open-where c (BeforeLeases next left) call is = tt
+open-where c (Leasing next left given) call is = tt
+open-where c (AfterLeases next left given) call is = tt
+open-where c (ReadingCache ending) call is = tt
+open-where c (Deleting next left ending) call is = tt
+open-where c (Over ending given) call is = absurd cc
+
+-- ---- a run that has a call to make
+
+look-by : (list : Option NetList) (c : Command) (made : ℕ) (call : Call) (b : Bool) → b ≡ false → (if b then next.Answer (Stopped made) else next.Call call (is_faulty c made)) ≡ next.Call call (is_faulty c made)
+look-by list c made call true below = absurd (false≢true (sym below))
+look-by list c made call false below = refl
+
+pub look-call : (s : Slot) (c : Command) (cut stopped : Bool) (call : Call) → s.run.command ≡ c → stopped ≡ (is_stop c.stop s.made || cut) → stopped ≡ false → next_call s.run.command s.run.state ≡ Some call
+    → next.Call call (is_faulty c s.made) ≡ next_in c cut s
+unfolding next_in
+look-call s c cut stopped call of_command stop below is =
+    sym (ap (next_by s.run.list c s.made cut) (turn-calls c s.run.state call (ap (λ k. next_call k s.run.state) (sym of_command) ∙ is)) ∙ look-by s.run.list c s.made call _ (sym stop ∙ below))
+
+stop-by : (made : ℕ) (n : Next) (b : Bool) → b ≡ true → (if b then next.Answer (Stopped made) else n) ≡ next.Answer (Stopped made)
+stop-by made n true reached = refl
+stop-by made n false reached = absurd (false≢true reached)
+
+unfinished : (c : Command) (s : State) → finish_of s ≡ None → (call : Call) × (next_call c s ≡ Some call)
+unfolding next_call finish_of
+unfinished c AtBegin is = (_, refl)
+unfinished c (BeforeLeases next left) is = (_, refl)
+unfinished c (Leasing next left given) is = (_, refl)
+unfinished c (AfterLeases next left given) is = (_, refl)
+unfinished c (ReadingCache ending) is = (_, refl)
+unfinished c (Deleting next left ending) is = (_, refl)
+unfinished c (Over ending given) is = absurd (none-some _ (sym is))
+
+none-of : (list : Option NetList) (c : Command) (o : Option Finish) → option_map (answer_by list c) o ≡ None → o ≡ None
+none-of list c None is = refl
+none-of list c (Some f) is = absurd (none-some _ (sym is))
+
+pub look-stop : (s : Slot) (c : Command) (cut stopped : Bool) → s.run.command ≡ c → stopped ≡ (is_stop c.stop s.made || cut) → stopped ≡ true → option_map (answer_by s.run.list s.run.command) (finish_of s.run.state) ≡ None
+    → next.Answer (Stopped s.made) ≡ next_in c cut s
+unfolding next_in
+look-stop s c cut stopped of_command stop reached no_answer =
+    let u = unfinished c s.run.state (none-of s.run.list s.run.command (finish_of s.run.state) no_answer) in
+    sym (ap (next_by s.run.list c s.made cut) (turn-calls c s.run.state u.0 u.1) ∙ stop-by s.made (next.Call u.0 (is_faulty c s.made)) _ (sym stop ∙ reached))
+
+call-open : (list : Option NetList) (c : Command) (made : ℕ) (cut : Bool) (s : State) (t : Turn) (call : Call) (faulty : Bool) → turn c s ≡ t → next_by list c made cut t ≡ next.Call call faulty → IsOpen s
+call-open list c made cut s (Finishes f) call faulty t_is is = absurd cc
+call-open list c made cut s (Calls k) call faulty t_is is = open-where c s k t_is
+
+pub next-open : (s : Slot) (c : Command) (cut : Bool) (call : Call) (faulty : Bool) → next_in c cut s ≡ next.Call call faulty → IsOpen s.run.state
+unfolding next_in
+next-open s c cut call faulty is = call-open s.run.list c s.made cut s.run.state (turn c s.run.state) call faulty refl is
+
+-- ---- a run that is over
+
+answer-by : (list : Option NetList) (c : Command) (o : Option Finish) (s : State) (made : ℕ) (cut : Bool) (a : Answer) → finish_of s ≡ o → option_map (answer_by list c) o ≡ Some a → next.Answer a ≡ next_by list c made cut (turn c s)
+answer-by list c None s made cut a o_is is = absurd (none-some a is)
+answer-by list c (Some f) s made cut a o_is is = ap next.Answer (sym (same_Some _ a is)) ∙ sym (ap (next_by list c made cut) (turn-finishes c s f o_is))
+
+pub look-answer : (s : Slot) (c : Command) (cut : Bool) (a : Answer) → s.run.command ≡ c → option_map (answer_by s.run.list s.run.command) (finish_of s.run.state) ≡ Some a → next.Answer a ≡ next_in c cut s
+unfolding next_in
+look-answer s c cut a of_command is =
+    answer-by s.run.list c (finish_of s.run.state) s.run.state s.made cut a refl (ap (λ k. option_map (answer_by s.run.list k) (finish_of s.run.state)) (sym of_command) ∙ is)
+
+-- a run without a call has an answer
+pub look-either : (s : Slot) → next_call s.run.command s.run.state ≡ None → option_map (answer_by s.run.list s.run.command) (finish_of s.run.state) ≡ None → ⊥
+look-either s none no_answer =
+    let f = over-finishes s.run.command s.run.state none in
+    none-some _ (sym no_answer ∙ ap (option_map (answer_by s.run.list s.run.command)) f.1)
+
+-- ---- what was done
+
+pub done-over : (host host' : Host) (h h' : List Entry) (c : Command) (s : Slot) (x : Next) (a : Answer) → x ≡ next.Answer a → host' ≡ host → h' ≡ h → IsDone host host' h h' c s x (outcome.Over a)
+unfolding IsDone
+done-over host host' h h' c s x a is same_host same_history = subst (λ y. IsDone host host' h h' c s y (outcome.Over a)) (sym is) (refl, same_host, same_history)
+
+pub done-went : (host host' : Host) (h h' : List Entry) (c : Command) (s t : Slot) (x : Next) (call : Call) (faulty : Bool) (reply : Reply) → x ≡ next.Call call faulty → reply ≡ reply_to host call faulty
+    → host' ≡ host_on host (entry_by host c call faulty) → h' ≡ h ++ entry_by host c call faulty ∷ [] → t ≡ slot_after s reply → IsDone host host' h h' c s x (outcome.Went t)
+unfolding IsDone
+done-went host host' h h' c s t x call faulty reply is replied host_is history_is after =
+    subst (λ y. IsDone host host' h h' c s y (outcome.Went t)) (sym is) (after ∙ ap (slot_after s) replied, host_is, history_is)
+
+pub may-call : (host : Host) (x : Next) (call : Call) (faulty : Bool) → MayBeMade host x → x ≡ next.Call call faulty → faulty ≡ false → IsAllowed host call
+may-call host x call faulty may is = let P : Next → Type 0 = MayBeMade host in subst P is may
+
+-- ---- the host after a call
+
+pub call-host : (host host' : Host) (command : ℕ) (call : Call) (faulty : Bool) → host' ≡ host_after host call faulty → host' ≡ host_on host (record { command = command; call = call; reply = reply_to host call faulty })
+call-host host host' command call true is = is
+call-host host host' command call false is = is ∙ sym (ap (λ b. if b then host else (apply host call).0) (IsReplyOf-apply host call).no_fault)
+
+-- a reply that may be refused a copy left the host
+pub refused-copy : (host host' : Host) (call : Call) (faulty : Bool) (reply : Reply) → host' ≡ host_after host call faulty → reply ≡ reply_to host call faulty → holds_text_or_list reply ≡ true → host' ≡ host
+refused-copy host host' call true reply is replied holds = is
+refused-copy host host' call false reply is replied holds = is ∙ (IsReplyOf-apply host call).leaves (ap holds_text_or_list (sym replied) ∙ holds)

@@ -1,0 +1,22 @@
+use Rattle.pod_workers.proofs.RoundDone.{below-more, extends_refl, extends_trans, none-below, round-is-over, rounds-from, still-left}
+use Rattle.pod_workers.proofs.book.Book.round_alone.Goals as goal
+
+pub loop-number-init : goal.loop-number-init
+loop-number-init g c = record { extends = extends_refl _; below = none-below _ _ c.numbers-first.result.1 c.numbers-first.ensures }
+
+pub loop-number-preserved : goal.loop-number-preserved
+loop-number-preserved g c = record {
+  extends = extends_trans _ _ _ c.loop-number.invariant.extends c.finish.ensures.extends;
+  below = below-more _ _ _ c.finish.ensures.extends c.is_legal.ensures c.loop-number.invariant.below c.finish.ensures.over;
+}
+
+pub turn-requires : goal.turn-requires
+turn-requires g c = record {
+  left = still-left _ _ c.loop-number.invariant.extends c.requires;
+  over = round-is-over _ _ _ _ c.loop-number.number c.numbers-first.ensures c.loop-number.invariant.extends c.loop-number-test.false c.loop-number.invariant.below;
+}
+
+pub returns : goal.returns
+returns g c =
+    rounds-from _ _ _ c.loop-number.invariant.extends
+    (round-is-over _ _ _ _ c.loop-number.number c.numbers-first.ensures c.loop-number.invariant.extends c.loop-number-test.false c.loop-number.invariant.below) c.turn.ensures

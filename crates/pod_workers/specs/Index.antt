@@ -1,0 +1,78 @@
+-- Where each command stands, and the command before it of its container in its round.
+use Rattle.std.specs.Prelude.{◌≡◌, ℕ, ◌+◌, ◌-◌, ◌<◌, ◌≤◌, ◌==◌, ◌&&◌, Bool, true, false, List, Option, Some, None, length, slice_get}
+use Rattle.cni_verbs.specs.declared.answer.Answer.{Answer}
+use Rattle.pod_file.specs.declared.command.Command.{Command}
+use Rattle.pod_workers.specs.Plans.{Placed}
+use Rattle.pod_workers.specs.declared.index.Place.{Place}
+use Rattle.pod_workers.specs.declared.plan.Entry.{Entry}
+
+-- the command is of this round and container
+abbrev pub IsOf : Placed → ℕ → List ℕ → Type 0
+IsOf c round container = (c.round ≡ round) × (c.command.container ≡ container)
+
+-- no command at a place from `start` on and before `end` is of this round and container
+abbrev pub NoneOf : List Placed → ℕ → ℕ → ℕ → List ℕ → Type 0
+NoneOf commands start end round container =
+    (k : ℕ) (d : Placed) → start ≤ k → k < end → slice_get commands k ≡ Some d → ¬ IsOf d round container
+
+-- the last place before `end` whose command is of this round and container, if there is one
+abbrev pub IsLatest : List Placed → ℕ → ℕ → List ℕ → Option ℕ → Type 0
+IsLatest commands end round container None = NoneOf commands 0 end round container
+IsLatest commands end round container (Some m) =
+    (m < end) × ((d : Placed) × (slice_get commands m ≡ Some d) × IsOf d round container) × NoneOf commands (m + 1) end round container
+
+-- all are of earlier rounds
+abbrev pub AreBefore : ℕ → List Placed → Type 0
+AreBefore round commands = (k : ℕ) (d : Placed) → slice_get commands k ≡ Some d → d.round < round
+
+abbrev pub nth_of : Option (List Command) → ℕ → Option Command
+nth_of None within = None
+nth_of (Some commands) within = slice_get commands within
+
+-- the command that stands at this place of the rounds
+abbrev pub command_in : List (List Command) → Place → Option Command
+command_in rounds p = nth_of (slice_get rounds p.round) p.within
+
+-- the index is right about the command at place n
+pub record IsPlaced (rounds : List (List Command)) (commands : List Placed) (n : ℕ) (c : Placed) (p : Place) : Type 0 where
+  pub command : command_in rounds p ≡ Some c.command
+  pub round_is : c.round ≡ p.round
+  pub previous : IsLatest commands n c.round c.command.container p.previous
+
+pub record IsIndex (rounds : List (List Command)) (commands : List Placed) (places : List Place) : Type 0 where
+  pub long : length places ≡ length commands
+  pub each : (n : ℕ) (c : Placed) (p : Place) → slice_get commands n ≡ Some c → slice_get places n ≡ Some p → IsPlaced rounds commands n c p
+
+-- ---- who may step, by the index
+
+abbrev pub is_open : Option (Option Answer) → Bool
+is_open None = false
+is_open (Some None) = true
+is_open (Some (Some a)) = false
+
+abbrev pub is_answered : Option (Option Answer) → Bool
+is_answered None = false
+is_answered (Some None) = false
+is_answered (Some (Some a)) = true
+
+abbrev pub lets_through : List (Option Answer) → Option ℕ → Bool
+lets_through answers None = true
+lets_through answers (Some m) = is_answered (slice_get answers m)
+
+-- of this round, not answered, and the command before it of its container is
+abbrev pub may_step_by : Place → List (Option Answer) → ℕ → ℕ → Bool
+may_step_by p answers round n = p.round == round && (is_open (slice_get answers n) && lets_through answers p.previous)
+
+-- ---- where the plan stops a round, by the index
+
+abbrev pub is_place_in : ℕ → Option Place → Bool
+is_place_in round None = false
+is_place_in round (Some p) = p.round == round
+
+abbrev pub is_cut_after : ℕ → List Entry → List Place → ℕ → Option Entry → Bool
+is_cut_after number h places round None = false
+is_cut_after number h places round (Some e) = length h == number && is_place_in round (slice_get places (e.command - 1))
+
+abbrev pub is_cut_by : Option ℕ → List Entry → List Place → ℕ → Bool
+is_cut_by None h places round = false
+is_cut_by (Some number) h places round = is_cut_after number h places round (slice_get h (length h - 1))

@@ -1,0 +1,271 @@
+//! The runs of a book's commands, and one step of one run.
+
+ghost use Rattle.std.specs.Prelude.{◌≡◌, ◌+◌, ◌<◌, ◌==◌, ◌^◌, [], ◌∷◌, ◌++◌, ◌||◌, None, Some, IfOk, IsTrue, OnErr, length, replicate, true, false, slice_get, slice_set};
+ghost use Rattle.std.specs.List.{list_any};
+ghost use Rattle.cni_verbs.specs.Script.{IsOpen};
+ghost use Rattle.kernel_types.specs.Allowed.{IsAllowed};
+ghost use Rattle.kernel_types.specs.Replies.{holds_text_or_list};
+ghost use Rattle.pod_workers.specs.Slots.{IsCountable, IsDone, IsWithin, MayCarryOn, host_after, next_in, opened_by, slot_after};
+ghost use Rattle.pod_workers.specs.World.{host_on, is_stop, reply_to};
+
+use crate::join::list_named;
+use crate::plan::{Entry, Next};
+use cni_addr::{Duplicate, NoMemory};
+use cni_verbs::{Answer, Run};
+use kernel_model::Kernel;
+use kernel_types::{Call, Reply};
+use net_conf::NetList;
+use pod_file::Command;
+use std::alloc::Global;
+
+/// A run in progress, and how many calls it has made.
+#[derive(Drop)]
+pub struct Slot {
+    pub run: Run,
+    pub made: u64,
+}
+
+/// What a step came to: the run goes on, or the command is answered.
+#[derive(Drop)]
+pub enum Outcome {
+    Went(Slot),
+    Over(Answer),
+}
+
+/// As many places as are asked for, with nothing in them.
+pub fn blanks<T: Drop>(alloc: Global, count: usize) -> Result<Vec<Option<T>>, NoMemory>
+    ensures { IfOk result (λ blanks. blanks.items ≡ replicate count None) }
+{
+    let mut blanks = Vec::with_capacity(alloc, count)?;
+    for _made in 0..count {
+        blanks.push(None)?;
+    }
+    Ok(blanks)
+}
+
+/// Takes out what lies at a place.
+pub fn take_at<T: Drop>(items: &mut Vec<Option<T>>, n: usize) -> Option<T>
+    requires { n < length items.old.items }
+    ensures taken { slice_get items.old.items n ≡ Some result }
+    ensures left { items.new.items ≡ slice_set items.old.items n None }
+{
+    items[n].take()
+}
+
+pub fn put_at<T: Drop>(items: &mut Vec<Option<T>>, n: usize, item: T)
+    requires { n < length items.old.items }
+    ensures { items.new.items ≡ slice_set items.old.items n (Some item) }
+{
+    items[n] = Some(item);
+}
+
+/// One step of one command. Its memory is taken before host and history change.
+pub fn carry_on<K: Kernel>(
+    kernel: &mut K,
+    history: &mut Vec<Entry>,
+    lists: &[NetList],
+    command: &Command,
+    cut: bool,
+    slot: Option<Slot>,
+) -> Result<Outcome, NoMemory>
+    requires { MayCarryOn (K.host kernel.old) history.old.items command.now cut (opened_by lists.now command.now slot) }
+    ensures ok { IfOk result (λ outcome. IsDone (K.host kernel.old) (K.host kernel.new) history.old.items history.new.items command.now (opened_by lists.now command.now slot) (next_in command.now cut (opened_by lists.now command.now slot)) outcome) }
+    ensures err { OnErr result ((K.host kernel.new ≡ K.host kernel.old) × (history.new.items ≡ history.old.items)) }
+{
+    let slot = open(*history.allocator(), lists, command, slot)?;
+    act(kernel, history, command, cut, slot)
+}
+
+/// The run of a slot, begun where it isn't.
+#[tactic(auto, unfolding(crate::specs::Slots::opened_by))]
+fn open(
+    alloc: Global,
+    lists: &[NetList],
+    command: &Command,
+    slot: Option<Slot>,
+) -> Result<Slot, NoMemory>
+    ensures { IfOk result (λ slot'. slot' ≡ opened_by lists.now command.now slot) }
+{
+    match slot {
+        Some(slot) => Ok(slot),
+        None => Ok(Slot {
+            run: Run::start(alloc, list_named(lists, &command.network), command)?,
+            made: 0,
+        }),
+    }
+}
+
+// A run, a call and a reply are let go by `drop`, which keeps the code that takes them apart in one place.
+fn act<K: Kernel>(
+    kernel: &mut K,
+    history: &mut Vec<Entry>,
+    command: &Command,
+    cut: bool,
+    mut slot: Slot,
+) -> Result<Outcome, NoMemory>
+    requires { MayCarryOn (K.host kernel.old) history.old.items command.now cut slot }
+    ensures ok { IfOk result (λ outcome. IsDone (K.host kernel.old) (K.host kernel.new) history.old.items history.new.items command.now slot (next_in command.now cut slot) outcome) }
+    ensures err { OnErr result ((K.host kernel.new ≡ K.host kernel.old) × (history.new.items ≡ history.old.items)) }
+{
+    match look(&mut slot, command, cut) {
+        Err(NoMemory) => {
+            drop(slot);
+            Err(NoMemory)
+        }
+        Ok(Next::Answer(answer)) => {
+            drop(slot);
+            Ok(Outcome::Over(answer))
+        }
+        Ok(Next::Call(call, faulty)) => match make(kernel, history, command.number, call, faulty) {
+            Err(NoMemory) => {
+                drop(slot);
+                Err(NoMemory)
+            }
+            Ok(reply) => Ok(Outcome::Went(went(slot, reply))),
+        },
+    }
+}
+
+/// What a run does next: its script's answer, else a stop, else a call.
+fn look(slot: &mut Slot, command: &Command, cut: bool) -> Result<Next, NoMemory>
+    requires of_command { slot.old.run.command ≡ command.now }
+    requires countable { IsCountable command.now cut slot.old.made }
+    ensures next { IfOk result (λ next. next ≡ next_in command.now cut slot.old) }
+    ensures same { slot.new ≡ slot.old }
+{
+    slot.run.prepare()?;
+    let made = slot.made;
+    match slot.run.answer()? {
+        Some(answer) => Ok(Next::Answer(answer)),
+        None => {
+            if is_stopped(command.stop, cut, made) {
+                Ok(Next::Answer(Answer::Stopped { calls: made as u32 }))
+            } else {
+                match slot.run.next()? {
+                    Some(call) => Ok(Next::Call(call, is_faulty(command.faults.as_slice(), made))),
+                    None => unreachable!(),
+                }
+            }
+        }
+    }
+}
+
+fn is_stopped(stop: Option<u32>, cut: bool, made: u64) -> bool
+    requires within { IsWithin stop made }
+    requires cut { cut ≡ true → made < 2 ^ 32 }
+    ensures stop { result ≡ (is_stop stop made || cut) }
+    ensures small { IsTrue result → made < 2 ^ 32 }
+{
+    match stop {
+        None => cut,
+        Some(most) => most as u64 <= made || cut,
+    }
+}
+
+fn is_faulty(faults: &[u32], made: u64) -> bool
+    ensures { result ≡ list_any (λ k. k == made + 1) faults.now }
+{
+    faults.iter().any(|fault| is_after(*fault, made))
+}
+
+fn is_after(number: u32, made: u64) -> bool
+    ensures { result ≡ (number == made + 1) }
+{
+    number > 0 && made == (number - 1) as u64
+}
+
+/// Makes a call, or meets the listed fault, and enters it.
+fn make<K: Kernel>(
+    kernel: &mut K,
+    history: &mut Vec<Entry>,
+    command: u32,
+    call: Call,
+    faulty: bool,
+) -> Result<Reply, NoMemory>
+    requires { faulty ≡ false → IsAllowed (K.host kernel.old) call }
+    ensures reply { IfOk result (λ reply. reply ≡ reply_to (K.host kernel.old) call faulty) }
+    ensures host { IfOk result (λ reply. K.host kernel.new ≡ host_on (K.host kernel.old) (record { command = command; call = call; reply = reply_to (K.host kernel.old) call faulty })) }
+    ensures history { IfOk result (λ reply. history.new.items ≡ history.old.items ++ record { command = command; call = call; reply = reply_to (K.host kernel.old) call faulty } ∷ []) }
+    ensures room { IfOk result (λ reply. length history.old.items + 1 < 2 ^ 64) }
+    ensures err { OnErr result ((K.host kernel.new ≡ K.host kernel.old) × (history.new.items ≡ history.old.items)) }
+{
+    let alloc = *history.allocator();
+    if history.reserve(1).is_err() {
+        drop(call);
+        return Err(NoMemory);
+    }
+    match replied(alloc, kernel, &call, faulty) {
+        Err(NoMemory) => {
+            drop(call);
+            Err(NoMemory)
+        }
+        Ok(reply) => match twin(&reply) {
+            Err(NoMemory) => {
+                drop(reply);
+                drop(call);
+                Err(NoMemory)
+            }
+            Ok(kept) => {
+                history.push_reserved(Entry {
+                    command,
+                    call,
+                    reply: kept,
+                });
+                let _length = history.len();
+                Ok(reply)
+            }
+        },
+    }
+}
+
+fn replied<K: Kernel>(
+    alloc: Global,
+    kernel: &mut K,
+    call: &Call,
+    faulty: bool,
+) -> Result<Reply, NoMemory>
+    requires { faulty ≡ false → IsAllowed (K.host kernel.old) call.now }
+    ensures reply { IfOk result (λ reply. reply ≡ reply_to (K.host kernel.old) call.now faulty) }
+    ensures host { IfOk result (λ reply. K.host kernel.new ≡ host_after (K.host kernel.old) call.now faulty) }
+    ensures err { OnErr result (K.host kernel.new ≡ K.host kernel.old) }
+{
+    if faulty {
+        Ok(Reply::Fault)
+    } else {
+        kernel.call(alloc, call)
+    }
+}
+
+/// A copy of a reply. Memory can be wanting only where the reply holds a text or a list.
+fn twin(reply: &Reply) -> Result<Reply, NoMemory>
+    ensures ok { IfOk result (λ twin. twin ≡ reply.now) }
+    ensures err { OnErr result (holds_text_or_list reply.now ≡ true) }
+{
+    match reply {
+        Reply::Done => Ok(Reply::Done),
+        Reply::NoNs => Ok(Reply::NoNs),
+        Reply::NoLink => Ok(Reply::NoLink),
+        Reply::Taken(tag) => Ok(Reply::Taken(tag.copy()?)),
+        Reply::Empty => Ok(Reply::Empty),
+        Reply::Leased(addr) => Ok(Reply::Leased(*addr)),
+        Reply::Gone(gone) => Ok(Reply::Gone(*gone)),
+        Reply::Has(has) => Ok(Reply::Has(*has)),
+        Reply::Owners(owners) => Ok(Reply::Owners(owners.copy()?)),
+        Reply::Entry(cached) => Ok(Reply::Entry(cached.copy()?)),
+        Reply::Fault => Ok(Reply::Fault),
+    }
+}
+
+fn went(slot: Slot, reply: Reply) -> Slot
+    requires unfinished { IsOpen slot.run.state }
+    requires numbered { slot.run.made + 1 < 2 ^ 64 }
+    requires counted { slot.made + 1 < 2 ^ 64 }
+    ensures { result ≡ slot_after slot reply }
+{
+    let Slot { mut run, made } = slot;
+    run.take(reply);
+    Slot {
+        run,
+        made: made + 1,
+    }
+}
