@@ -92,7 +92,7 @@ impl<K: Kernel + Drop> Book<K> {
     pub fn answers(&self) -> &[Option<Answer>]
         ensures { result.now ≡ self.now.answers }
     {
-        match self.never {}
+        self.answers.as_slice()
     }
 
     /// A copy of the host.

@@ -1,12 +1,17 @@
-//! Plans, what a step makes of them, and what is true of every history.
+//! Plans, the book that carries them out, and what is true of every history.
 //!
 //! A world is a plan, its history, the answers given and the current round (`specs/World.antt`); the host and each run's
-//! state follow from it. `Legal` says which worlds allowed steps reach, with stops, listed faults and rounds. The laws
-//! speak of all of them. The book that takes the steps isn't here yet.
+//! state follow from it. `Legal` says which worlds allowed steps reach, with stops, listed faults and rounds. To the crates
+//! above a [`Book`] promises to be such a world, whose kernel means what its history comes to: a ready command's step makes
+//! exactly what `stepped` says, or is refused memory, and a round is carried to its end. [`Plan::join`] gives a plan or
+//! its first refusal. The laws speak of all legal worlds, however commands interleaved, stopped or failed.
 //!
 //! ```text
-//! every_host_is_sound()         // a proof above gets the law by calling it
-//! no_address_is_leased_twice()
+//! let plan = Plan::join(lists, pods, None)?;
+//! let mut book = Book::begin(alloc, plan, ListKernel::of_host(opening))?;
+//! book.step(1)?;       // Went: the first call of command 1 was made
+//! book.round_alone();  // each command of the round has its answer, and the next round is current
+//! book.answer(1)       // Some(Answer::Added(..))
 //! ```
 #![tactic(auto)]
 
