@@ -1,3 +1,4 @@
+pub mod ApartLemmas
 pub mod Endings
 pub mod JsonOrder
 pub mod ListFacts

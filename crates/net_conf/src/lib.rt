@@ -11,6 +11,7 @@
 //! ```
 #![tactic(auto)]
 
+mod apart;
 mod bridge;
 pub mod chained;
 mod copies;

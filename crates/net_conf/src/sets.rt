@@ -12,11 +12,11 @@ ghost use Rattle.net_conf.specs.Ranges.{range_at};
 ghost use Rattle.net_conf.specs.Refusals.{is_want_of_memory};
 ghost use Rattle.net_conf.specs.Sets as wanted;
 
+use crate::apart::share_no_address;
 use crate::error::{ConfError, invalid};
 use crate::ranges::range;
 use cni_addr::{Family, Items, NoMemory, Range, RangeSet};
 use cni_json::{Field, Value, field_list};
-use ip_pool::are_apart;
 use std::alloc::Global;
 
 /// The set that the object's own `subnet` gives, and then those of its `ranges`.
@@ -176,8 +176,8 @@ fn all_ranges(alloc: Global, list: &[Value]) -> Result<Items<Range>, ConfError>
 fn separate(alloc: Global, sets: &[RangeSet]) -> Result<(), ConfError>
     ensures { GivesAs is_want_of_memory (λ t. t) result (wanted.separate sets.now) }
 {
-    let ranges = ranges_of(alloc, sets)?;
-    if are_apart(&ranges) && all_of_one_family(sets) {
+    let mut ranges = ranges_of(alloc, sets)?;
+    if share_no_address(&mut ranges) && all_of_one_family(sets) {
         Ok(())
     } else {
         Err(invalid(alloc, "ranges"))
