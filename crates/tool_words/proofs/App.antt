@@ -1,0 +1,81 @@
+-- The command, an argument at a time, and what it makes of the words.
+use Rattle.std.proofs.Common.{◌≡◌, List, [], ◌∷◌, true, false, refl, sym, ap, ap₂, ◌∙◌, inl, inr, arith, ne_eqb, codes, Some}
+use Rattle.clap.specs.Walk.{Rule, Text, is_empty, rows_of, all_of}
+use Rattle.clap.specs.Matches.{found_of}
+use Rattle.clap.specs.Values.{kind_of}
+use Rattle.clap.specs.Kinds.{Kinds, IsAmong, HasKind}
+use Rattle.clap.specs.declared.error.Error.{Error}
+use Rattle.clap.specs.declared.error.kind.ErrorKind.{ErrorKind}
+use Rattle.clap.specs.declared.error.kind.ErrorKind.TheVariants.{OutOfMemory, ValueValidation, MissingRequiredArgument, ArgumentConflict}
+use Rattle.clap.specs.declared.parser.matches.ArgMatches.{ArgMatches}
+use Rattle.clap.specs.Simple.{App, app_of, with_rule, is_simple, matches_of, HasMatchesOf}
+use Rattle.clap.specs.Faults.{is_simple_and_free, fault_of}
+use Rattle.clap.specs.Built.{AddsArg}
+use Rattle.clap.specs.declared.builder.arg.Arg.{Arg}
+use Rattle.clap.specs.declared.builder.command.Command.{Command}
+use Rattle.clap.proofs.OnLiterals.{clap_on_literals}
+use Rattle.tool_words.specs.Command.{the_app, IsArg, fits, rows}
+
+-- one argument more
+pub with_arg : (old new : Command) (a : Arg) (app : App) (rule : Rule) → AddsArg old a new → app_of old ≡ app → IsArg a rule → app_of new ≡ with_rule app rule
+with_arg old new a app rule adds is arg = adds.shape arg.1 ∙ ap₂ with_rule is arg.0
+
+is_simple-the_app : is_simple the_app ≡ true
+unfolding clap_on_literals
+is_simple-the_app = refl
+
+is_simple_and_free-the_app : is_simple_and_free the_app ≡ true
+unfolding clap_on_literals
+is_simple_and_free-the_app = refl
+
+pub fit : (app : App) (given words : List Text) → app ≡ the_app → given ≡ words → (is_simple_and_free app ≡ true → fault_of app given ≡ []) → fits words ≡ true
+unfolding fits
+fit app given words is same h =
+    let none : fault_of the_app words ≡ [] = ap₂ fault_of (sym is) (sym same) ∙ h (ap is_simple_and_free is ∙ is_simple_and_free-the_app) in
+    ap is_empty none
+
+pub rows-fit : (app : App) (given words : List Text) (m : ArgMatches) → app ≡ the_app → given ≡ words → HasMatchesOf app given m → rows_of (found_of m) ≡ rows words
+unfolding rows
+rows-fit app given words m is same h = (h (ap is_simple is ∙ is_simple-the_app)).0 ∙ ap₂ matches_of is same
+
+not_empty : (k : ErrorKind) (kinds : Kinds) → IsAmong k kinds → is_empty kinds ≡ false
+not_empty k [] h = absurd h
+not_empty k (x ∷ xs) h = ne_eqb _ _ (λ e. omega arith)
+
+pub not_fit : (app : App) (given words : List Text) (e : Error) → app ≡ the_app → given ≡ words → (is_simple_and_free app ≡ true → HasKind (fault_of app given) e)
+    → (kind_of e ≡ OutOfMemory → ⊥) → fits words ≡ false
+unfolding fits
+not_fit app given words e is same h other =
+    elim (h (ap is_simple_and_free is ∙ is_simple_and_free-the_app)) [
+      | inl memory ↦ absurd (other memory)
+      | inr among ↦ ap is_empty (ap₂ fault_of (sym is) (sym same)) ∙ not_empty (kind_of e) (fault_of app given) among
+    ]
+
+-- words that are written out: a whole line, a number that is too large, and no word
+worked_line : fault_of the_app (codes "--threads" ∷ codes "4" ∷ codes "p.json" ∷ codes "a.json" ∷ codes "--dump" ∷ codes "b.json" ∷ []) ≡ []
+unfolding clap_on_literals
+worked_line = refl
+
+worked_too_many : fault_of the_app (codes "--threads" ∷ codes "17" ∷ codes "p.json" ∷ []) ≡ ValueValidation ∷ []
+unfolding clap_on_literals
+worked_too_many = refl
+
+worked_none : fault_of the_app [] ≡ MissingRequiredArgument ∷ []
+unfolding clap_on_literals
+worked_none = refl
+
+worked_plus : fault_of the_app (codes "--threads=+04" ∷ codes "p.json" ∷ []) ≡ []
+unfolding clap_on_literals
+worked_plus = refl
+
+worked_lists : all_of (codes "LIST") (matches_of the_app (codes "p.json" ∷ codes "a.json" ∷ codes "--dump" ∷ codes "b.json" ∷ [])) ≡ Some (codes "a.json" ∷ codes "b.json" ∷ [])
+unfolding clap_on_literals
+worked_lists = refl
+
+worked_dash : fault_of the_app (codes "--" ∷ codes "-p" ∷ codes "--dump" ∷ []) ≡ []
+unfolding clap_on_literals
+worked_dash = refl
+
+worked_twice : fault_of the_app (codes "--dump" ∷ codes "--dump" ∷ codes "p" ∷ []) ≡ ArgumentConflict ∷ []
+unfolding clap_on_literals
+worked_twice = refl

@@ -1,0 +1,51 @@
+-- The command line as clap takes it: two options, two flags, PODS and LISTs.
+use Rattle.std.specs.Prelude.{◌≡◌, Bool, List, ℕ, codes, pos, true, false, Some}
+use Rattle.clap.specs.Lexer.{usize_max}
+use Rattle.clap.specs.Walk.{Rule, Row, Text, rule_of, is_empty}
+use Rattle.clap.specs.Simple.{App, new_app, new_rule, with_rule, on_top, matches_of}
+use Rattle.clap.specs.Faults.{fault_of}
+use Rattle.clap.specs.declared.builder.action.ArgAction.TheVariants.{SetTrue}
+use Rattle.clap.specs.declared.builder.arg.Arg.{Arg}
+use Rattle.clap.specs.declared.builder.value_parser.ValueParser.{ValueParser}
+use Rattle.clap.specs.declared.builder.value_parser.ValueParser.TheVariants as parser
+
+-- whole numbers from 1 to the most
+abbrev pub counts_to : ℕ → ValueParser
+counts_to most = parser.Signed (pos 1) (pos most)
+
+abbrev pub number_rule : Text → ℕ → Rule
+number_rule name most = record (new_rule name) { long = Some name; parser = Some (counts_to most) }
+
+abbrev pub threads_rule : Rule
+threads_rule = number_rule (codes "threads") 16
+
+abbrev pub stop_rule : Rule
+stop_rule = number_rule (codes "stop-at") 4294967295
+
+abbrev pub flag_rule : Text → Rule
+flag_rule name = record (new_rule name) { long = Some name; action = Some SetTrue; parser = Some parser.Bool }
+
+abbrev pub pods_rule : Rule
+pods_rule = record (new_rule (codes "PODS")) { required = true }
+
+abbrev pub list_rule : Rule
+list_rule = record (new_rule (codes "LIST")) { range = Some (record { start_inclusive = 0; end_inclusive = usize_max }) }
+
+abbrev pub bare_app : App
+bare_app = on_top (λ s. record s { no_binary_name = true; disable_help_flag = true; disable_version_flag = true }) (new_app (codes "cnitool"))
+
+abbrev pub the_app : App
+the_app = with_rule (with_rule (with_rule (with_rule (with_rule (with_rule bare_app threads_rule) stop_rule)
+    (flag_rule (codes "trace"))) (flag_rule (codes "dump"))) pods_rule) list_rule
+
+-- the argument has these rules, and is its command's own
+abbrev pub IsArg : Arg → Rule → Type 0
+IsArg a rule = (rule_of a ≡ rule) × (a.global ≡ false)
+
+-- the command takes the words: clap finds no fault in them
+unfoldable pub fits : List Text → Bool
+fits words = is_empty (fault_of the_app words)
+
+-- what the command makes of words that it takes
+unfoldable pub rows : List Text → List Row
+rows words = matches_of the_app words

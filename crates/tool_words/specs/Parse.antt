@@ -1,0 +1,30 @@
+-- What is known of a parse that succeeds.
+use Rattle.std.specs.Prelude.{◌≡◌, true, List, codes, Some, Result, Ok, Err, false, ⊤}
+use Rattle.clap.specs.Matches.{found_of, one_text}
+use Rattle.clap.specs.Values.{Accepts, read_as, reading_of}
+use Rattle.clap.specs.Walk.{Text, rows_of}
+use Rattle.clap.specs.declared.builder.value_parser.ValueParser.{ValueParser}
+use Rattle.clap.specs.declared.builder.value_parser.ValueParser.TheVariants as parser
+use Rattle.clap.specs.declared.parser.matches.ArgMatches.{ArgMatches}
+use Rattle.tool_words.specs.Command.{fits, rows, counts_to}
+use Rattle.tool_words.specs.declared.words.WordsEnd.{WordsEnd}
+use Rattle.tool_words.specs.declared.words.WordsEnd.TheVariants.{Usage, NoMemory}
+
+-- a value that the argument has passed its parser, and is read as the parser says
+abbrev pub Passes : ArgMatches → Text → ValueParser → Type 0
+Passes m name q = (text : Text) → one_text (found_of m) name ≡ Some text
+    → (given : Text) × (text ≡ read_as (reading_of q) given) × Accepts false q given
+
+pub record IsParseOf (words : List Text) (m : ArgMatches) : Type 0 where
+  pub fit : fits words ≡ true
+  pub rows_are : rows_of (found_of m) ≡ rows words
+  pub threads : Passes m (codes "threads") (counts_to 16)
+  pub stop_at : Passes m (codes "stop-at") (counts_to 4294967295)
+  pub trace : Passes m (codes "trace") parser.Bool
+  pub dump : Passes m (codes "dump") parser.Bool
+
+-- a parse of the words; or the command does not take them; or memory ran out
+abbrev pub Parses : List Text → Result ArgMatches WordsEnd → Type 0
+Parses words (Ok m) = IsParseOf words m
+Parses words (Err Usage) = fits words ≡ false
+Parses words (Err NoMemory) = ⊤

@@ -1,0 +1,67 @@
+//! The command line by the builder of clap.
+
+ghost use Rattle.std.specs.Prelude.{◌≡◌, IfOk};
+ghost use Rattle.clap.specs.Words.{app_of};
+ghost use Rattle.tool_words.specs.Command.{IsArg, bare_app, flag_rule, list_rule, pods_rule, stop_rule, the_app, threads_rule};
+
+use clap::{Arg, ArgAction, Command, value_parser};
+use std::alloc::{AllocError, Global};
+
+fn threads<'a>(alloc: Global) -> Arg<'a>
+    ensures { IsArg result threads_rule }
+{
+    Arg::new(alloc, "threads")
+        .long("threads")
+        .value_parser(value_parser!(u8).range(1..=16))
+}
+
+fn stop_at<'a>(alloc: Global) -> Arg<'a>
+    ensures { IsArg result stop_rule }
+{
+    Arg::new(alloc, "stop-at")
+        .long("stop-at")
+        .value_parser(value_parser!(u32).range(1..))
+}
+
+fn flag<'a>(alloc: Global, name: &'a str) -> Arg<'a>
+    ensures { IsArg result (flag_rule name.entry.now) }
+{
+    Arg::new(alloc, name)
+        .long(name)
+        .action(ArgAction::SetTrue)
+        .value_parser(value_parser!(bool))
+}
+
+fn pods<'a>(alloc: Global) -> Arg<'a>
+    ensures { IsArg result pods_rule }
+{
+    Arg::new(alloc, "PODS").required(true)
+}
+
+fn list<'a>(alloc: Global) -> Arg<'a>
+    ensures { IsArg result list_rule }
+{
+    Arg::new(alloc, "LIST").num_args(0..)
+}
+
+fn bare<'a>(alloc: Global) -> Command<'a>
+    ensures { app_of result ≡ bare_app }
+{
+    Command::new(alloc, "cnitool")
+        .no_binary_name(true)
+        .disable_help_flag(true)
+        .disable_version_flag(true)
+}
+
+/// The command: two options, two flags, PODS and LISTs.
+pub(crate) fn make_command<'a>(alloc: Global) -> Result<Command<'a>, AllocError>
+    ensures { IfOk result (λ c. app_of c ≡ the_app) }
+{
+    let with_threads = bare(alloc).arg(threads(alloc))?;
+    let with_stop = with_threads.arg(stop_at(alloc))?;
+    let with_trace = with_stop.arg(flag(alloc, "trace"))?;
+    let with_dump = with_trace.arg(flag(alloc, "dump"))?;
+    let with_pods = with_dump.arg(pods(alloc))?;
+    let with_list = with_pods.arg(list(alloc))?;
+    Ok(with_list)
+}

@@ -1,0 +1,68 @@
+//! A parse of the words, and what single arguments have in it.
+
+ghost use Rattle.std.specs.Prelude.{◌≡◌, ◌≤◌, IfSome, codes, map, option_map};
+ghost use Rattle.clap.specs.Matches.{found_of};
+ghost use Rattle.clap.specs.Walk.{first_of, rows_of};
+ghost use Rattle.clap.specs.declared.builder.value_parser.ValueParser.TheVariants as parser;
+ghost use Rattle.tool_words.specs.Command.{counts_to};
+ghost use Rattle.tool_words.specs.Parse.{Parses, Passes};
+ghost use Rattle.tool_words.specs.Words.{flag_at, lists_at, number_at};
+
+use crate::command::make_command;
+use crate::words::WordsEnd;
+use clap::ArgMatches;
+use clap::error::ErrorKind;
+use cni_addr::Text;
+use std::alloc::Global;
+
+/// The matches of the words, as clap takes them for the command.
+pub(crate) fn parse<'a>(alloc: Global, words: &'a [Text]) -> Result<ArgMatches<'a>, WordsEnd>
+    ensures { Parses words.entry.now result }
+{
+    let Ok(command) = make_command(alloc) else {
+        return Err(WordsEnd::NoMemory);
+    };
+    match command.try_get_matches_from(words) {
+        Ok(matches) => Ok(matches),
+        Err(error) => match error.kind() {
+            ErrorKind::OutOfMemory => Err(WordsEnd::NoMemory),
+            _ => Err(WordsEnd::Usage),
+        },
+    }
+}
+
+pub(crate) fn threads<'a>(matches: &ArgMatches<'a>) -> Option<u8>
+    requires { Passes matches.now (codes "threads") (counts_to 16) }
+    ensures value { result ≡ number_at (codes "threads") (rows_of (found_of matches.now)) }
+    ensures range { IfSome result (λ n. (1 ≤ n) × (n ≤ 16)) }
+{
+    matches.get_one("threads")
+}
+
+pub(crate) fn stop_at<'a>(matches: &ArgMatches<'a>) -> Option<u32>
+    requires { Passes matches.now (codes "stop-at") (counts_to 4294967295) }
+    ensures value { result ≡ number_at (codes "stop-at") (rows_of (found_of matches.now)) }
+    ensures range { IfSome result (λ n. (1 ≤ n) × (n ≤ 4294967295)) }
+{
+    matches.get_one("stop-at")
+}
+
+pub(crate) fn flag<'a>(matches: &ArgMatches<'a>, name: &str) -> bool
+    requires { Passes matches.now name.now parser.Bool }
+    ensures { result ≡ flag_at name.now (rows_of (found_of matches.now)) }
+{
+    matches.get_flag(name)
+}
+
+pub(crate) fn pods<'a>(matches: &ArgMatches<'a>) -> Option<&'a str>
+    ensures { option_map (λ s. s.now) result
+        ≡ first_of (codes "PODS") (rows_of (found_of matches.now)) }
+{
+    matches.get_str("PODS")
+}
+
+pub(crate) fn lists<'m, 'a>(matches: &'m ArgMatches<'a>) -> &'m [&'a str]
+    ensures { map (λ v. v.now) result.now ≡ lists_at (rows_of (found_of matches.entry.now)) }
+{
+    matches.get_strs("LIST").unwrap_or_default()
+}
