@@ -88,3 +88,50 @@ fn names(alloc: Global, pods: &str, lists: &[&str]) -> Result<(Text, Items<Text>
     }
     Ok((Text::of(alloc, pods)?, copies))
 }
+
+#[cfg(test)]
+mod tests {
+    use super::*;
+    use std::test::Fail;
+
+    fn read(alloc: Global, line: &str) -> Result<Words, WordsEnd> {
+        let mut words = Items::new(alloc);
+        for word in line.split(' ') {
+            let Ok(word) = Text::of(alloc, word) else {
+                return Err(WordsEnd::NoMemory);
+            };
+            if words.push(word).is_err() {
+                return Err(WordsEnd::NoMemory);
+            }
+        }
+        read_words(alloc, words.as_slice())
+    }
+
+    #[test]
+    fn reads_options_flags_and_names(rt: HostRuntime) -> Result<(), Fail> {
+        let line = "--threads=+04 --stop-at 7 p.json a.json --dump b.json";
+        let words = read(rt.alloc(), line).ok().ok_or("taken")?;
+        assert_eq!(rt; words.threads, 4);
+        assert_eq!(rt; words.stop_at, Some(7));
+        assert!(rt; words.dump && !words.trace);
+        assert_eq!(rt; words.pods.as_str(), "p.json");
+        assert_eq!(rt; words.lists.as_slice().len(), 2);
+        Ok(())
+    }
+
+    #[test]
+    fn refuses_other_words(rt: HostRuntime) {
+        for line in [
+            "--threads 17 p",
+            "--stop-at 0 p",
+            "gen:5",
+            "--dump --dump p",
+        ] {
+            assert_eq!(rt;
+                read(rt.alloc(), line).err(),
+                Some(WordsEnd::Usage),
+                "{line}"
+            );
+        }
+    }
+}

@@ -1,0 +1,64 @@
+//! The program `cnitool`: carries out a pod file's commands on a modelled kernel, and prints what they are answered.
+//!
+//! ```text
+//! cnitool [--threads N] [--stop-at N] [--trace] [--dump] PODS [LIST]..
+//! ```
+//!
+//! What it does is `tool_run`'s [`run_alone`]; here are its words, its files and its output. It ends with the status of
+//! that call. Where the system doesn't give the words, nothing is written, and the status is 6 for want of memory and 7
+//! else, as for a word that isn't UTF-8.
+#![tactic(auto)]
+
+use cni_addr::{Items, NoMemory, Text};
+use cni_io::{RealFiles, RealSink};
+use std::env;
+use std::io::ErrorKind;
+use std::process::ExitCode;
+use tool_run::run_alone;
+
+/// Why there are no words.
+#[derive(Clone, Copy)]
+enum NoWords {
+    Memory,
+    Unreadable,
+}
+
+impl NoWords {
+    fn status(self) -> u8 {
+        match self {
+            NoWords::Memory => 6,
+            NoWords::Unreadable => 7,
+        }
+    }
+}
+
+impl From<NoMemory> for NoWords {
+    fn from(_refused: NoMemory) -> NoWords {
+        NoWords::Memory
+    }
+}
+
+fn main(rt: HostRuntime) -> ExitCode {
+    let words = match read_words(&rt) {
+        Ok(words) => words,
+        Err(end) => return ExitCode::from(end.status()),
+    };
+    let mut files = RealFiles::new(&rt);
+    let mut sink = RealSink::new(rt.stdout());
+    let outcome = run_alone(rt.alloc(), words.as_slice(), &mut files, &mut sink);
+    ExitCode::from(outcome.status)
+}
+
+/// The words of the program, without its name.
+fn read_words(rt: &HostRuntime) -> Result<Items<Text>, NoWords> {
+    let given = match env::args(rt) {
+        Ok(given) => given,
+        Err(error) if error.kind() == ErrorKind::OutOfMemory => return Err(NoWords::Memory),
+        Err(_) => return Err(NoWords::Unreadable),
+    };
+    let mut words = Items::new(rt.alloc());
+    for word in given.skip(1) {
+        words.push(Text::of(rt.alloc(), word.as_str())?)?;
+    }
+    Ok(words)
+}

@@ -1,0 +1,8 @@
+use Rattle.std.proofs.Common.{◌≡◌, ◌-◌, length}
+use Rattle.tool_run.proofs.carry.run_rounds.Given as goal
+
+abbrev pub invariant-loop-book : goal.invariant-loop-book
+invariant-loop-book g l = l.book.plan ≡ l.initial.book.plan
+
+abbrev pub decreases-loop-book : goal.decreases-loop-book
+decreases-loop-book g l = length l.initial.book.plan.pods.rounds - l.book.round

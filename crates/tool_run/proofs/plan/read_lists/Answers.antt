@@ -1,0 +1,31 @@
+use Rattle.std.proofs.Common.{◌≡◌, ◌∙◌, ◌+◌, ap, subst, arith, ℕ, List, [], ◌∷◌, ◌++◌, sym, length}
+use Rattle.std.specs.List.{All, slice_index_or}
+use Rattle.std.proofs.lemmas.List.{length-append}
+use Rattle.std.proofs.lemmas.List.Elements.{All-push}
+use Rattle.net_conf.specs.declared.list.NetList.{NetList}
+use Rattle.tool_run.specs.Causes.{IsReadList}
+use Rattle.tool_run.proofs.Lists.{Rest, pushed, rest-next}
+use Rattle.tool_run.proofs.plan.read_lists.Goals as goal
+
+pub loop-name-preserved : goal.loop-name-preserved
+loop-name-preserved g c =
+    let before = c.loop-name.invariant in
+    let read = c.in_ok-list.ensures in
+    let names = c.args.names.now in
+    let i = c.loop-name.name-index in
+    let front = c.loop-name.lists in
+    let list = c.in_ok-list.list in
+    let files = g.F.Files.files c.args.files.now in
+    let name = c.as_str.result.now in
+    let grown : c.push.new.self ≡ front ++ list ∷ [] = pushed c.push.result _ (sym c.is_err.ensures.value ∙ c.if-is_err.false) c.push.ensures.ok in
+    let at : name ≡ slice_index_or names i name = subst (λ (n : List ℕ). n ≡ slice_index_or names i n) (sym c.as_str.ensures) c.name-item.is in
+    let rest = rest-next files names front i name list c.loop-name-test.true at before.rest (λ stored told. read.gives stored (before.keeps ∙ told)) in
+    let longer : length (front ++ list ∷ []) ≡ i + 1 = length-append front (list ∷ []) ∙ ap (λ n. n + 1) before.count in
+    record {
+      keeps = read.keeps ∙ before.keeps;
+      later = omega (arith, before.later, read.later);
+      bounded = λ low. read.bounded;
+      rest = subst (λ (ls : List NetList). Rest files names ls (i + 1)) (sym grown) rest;
+      read = subst (All IsReadList) (sym grown) (All-push IsReadList front list before.read read.read);
+      count = ap length grown ∙ longer;
+    }

@@ -1,0 +1,6 @@
+pub mod Causes
+pub mod Ends
+pub mod Lines
+pub mod Refusals
+pub mod Statuses
+pub mod Verdict

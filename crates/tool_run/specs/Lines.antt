@@ -1,0 +1,28 @@
+-- The lines that stand in place of a text.
+use Rattle.std.specs.Prelude.{ℕ, List, codes}
+use Rattle.serde_json.specs.Data.{Data, object, no_members, put}
+use Rattle.cni_json.specs.Json.{line_of}
+use Rattle.cni_result.specs.Members.{text_data, ◌▷◌}
+use Rattle.cni_result.specs.Results.{error_data}
+use Rattle.cni_result.specs.declared.error.CniError.{CniError}
+
+-- the words aren't taken
+abbrev pub usage_line : List ℕ
+usage_line = codes "{\"error\":\"usage\"}\n"
+
+unfoldable pub file_data : Data → List ℕ → Data
+file_data error file = object (no_members
+    ▷ put (codes "error") error
+    ▷ put (codes "file") (text_data file))
+
+-- a word on a file, as in `{"error":"missing","file":"net.json"}`
+abbrev pub word_line : List ℕ → List ℕ → List ℕ
+word_line word file = line_of (file_data (text_data word) file)
+
+-- an error on a file
+abbrev pub error_line : CniError → List ℕ → List ℕ
+error_line error file = line_of (file_data (error_data error) file)
+
+-- a file that could not be read
+abbrev pub unread_line : List ℕ → List ℕ
+unread_line file = word_line (codes "read") file

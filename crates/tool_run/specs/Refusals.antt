@@ -1,0 +1,49 @@
+-- Why a file or a plan is refused, as an error (CNI specification, section 5, "Error"). The texts are this project's own.
+use Rattle.std.specs.Prelude.{ℕ, List, [], ◌++◌, codes, decimal, slice_index_or}
+use Rattle.cni_result.specs.declared.error.CniError.{CniError}
+use Rattle.cni_result.specs.declared.version.Version.TheVariants.{V1_1}
+use Rattle.net_conf.specs.declared.error.ConfError.{ConfError}
+use Rattle.net_conf.specs.declared.error.ConfError.TheVariants as conf
+use Rattle.pod_file.specs.declared.error.PodError.{PodError}
+use Rattle.pod_file.specs.declared.error.PodError.TheVariants as pods
+use Rattle.pod_text.specs.Lines.{memory_error}
+use Rattle.pod_workers.specs.declared.plan.PlanError.{PlanError}
+use Rattle.pod_workers.specs.declared.plan.PlanError.TheVariants as plans
+use Rattle.tool_words.specs.declared.words.Words.{Words}
+
+abbrev pub refused : ℕ → List ℕ → CniError
+refused code msg = record { version = V1_1; code = code; msg = msg; details = [] }
+
+abbrev pub not_decoded : CniError
+not_decoded = refused 6 (codes "decoding failed")
+
+abbrev pub invalid_list : List ℕ → CniError
+invalid_list why = refused 7 (codes "invalid network configuration: " ++ why)
+
+abbrev pub invalid_pods : List ℕ → CniError
+invalid_pods why = refused 7 (codes "invalid pod file: " ++ why)
+
+abbrev pub list_error : ConfError → CniError
+list_error (conf.Version found) = refused 1 (codes "incompatible CNI version: " ++ found)
+list_error (conf.Unsupported key value) = refused 2 (codes "unsupported field " ++ (key ++ (codes ": " ++ value)))
+list_error conf.Decode = not_decoded
+list_error (conf.Invalid why) = invalid_list why
+list_error conf.NoMemory = memory_error
+
+abbrev pub pods_error : PodError → CniError
+pods_error pods.Decode = not_decoded
+pods_error pods.Number = invalid_pods (codes "number")
+pods_error (pods.Shape path) = invalid_pods path
+pods_error (pods.Alone round) = invalid_pods (codes "rounds[" ++ (decimal round ++ codes "] is not alone"))
+pods_error pods.NoMemory = memory_error
+
+abbrev pub plan_error : PlanError → CniError
+plan_error (plans.NotBuiltCommand number) = invalid_pods (codes "not built " ++ decimal number)
+plan_error (plans.SameName place) = invalid_list (codes "name")
+plan_error (plans.NoNetwork number) = invalid_pods (codes "no network for command " ++ decimal number)
+
+-- the file that makes the plan fail
+abbrev pub file_at_fault : Words → PlanError → List ℕ
+file_at_fault words (plans.NotBuiltCommand number) = words.pods
+file_at_fault words (plans.SameName place) = slice_index_or words.lists place []
+file_at_fault words (plans.NoNetwork number) = words.pods

@@ -1,0 +1,88 @@
+-- What words and files come to, before anything runs.
+use Rattle.std.specs.Prelude.{ℕ, List, [], ◌∷◌, Bool, codes, Option, Some, None, Result, Ok, Err}
+use Rattle.cni_io.specs.Files.{StoredFiles, file_of}
+use Rattle.cni_io.specs.declared.files.FileFault.{FileFault}
+use Rattle.cni_io.specs.declared.files.FileFault.TheVariants as fault
+use Rattle.cni_json.specs.Outcome.{◌>>=◌}
+use Rattle.net_conf.specs.List.{list_of}
+use Rattle.net_conf.specs.declared.list.NetList.{NetList}
+use Rattle.pod_file.specs.PodFile.{pods_of}
+use Rattle.pod_file.specs.declared.pods.Pods.{Pods}
+use Rattle.pod_workers.specs.Join.{joined}
+use Rattle.pod_workers.specs.declared.plan.Plan.{Plan}
+use Rattle.tool_words.specs.Words.{words_of}
+use Rattle.tool_words.specs.declared.words.Words.{Words}
+use Rattle.tool_run.specs.Lines.{word_line, unread_line, error_line}
+use Rattle.tool_run.specs.Refusals.{list_error, pods_error, plan_error, file_at_fault}
+
+-- a value, or the line that tells why there is none
+abbrev pub Told : Type 0 → Type 0
+Told A = Result A (List ℕ)
+
+-- the most bytes of a file
+abbrev pub limit : ℕ
+limit = 16777216
+
+abbrev pub fault_line : FileFault → List ℕ → List ℕ
+fault_line fault.Missing file = word_line (codes "missing") file
+fault_line (fault.TooLarge most) file = word_line (codes "too large") file
+fault_line fault.Failed file = unread_line file
+fault_line fault.NoMemory file = word_line (codes "out of memory") file
+
+-- a value, or what is printed of the error
+abbrev pub told : {A E : Type 0} → (E → List ℕ) → Result A E → Told A
+told line (Ok x) = Ok x
+told line (Err e) = Err (line e)
+
+abbrev pub bytes_in : StoredFiles → List ℕ → Told (List ℕ)
+bytes_in files file = told (λ e. fault_line e file) (file_of files limit file)
+
+abbrev pub told_pods : List ℕ → List ℕ → Told Pods
+told_pods file bytes = told (λ e. error_line (pods_error e) file) (pods_of bytes)
+
+abbrev pub told_list : List ℕ → List ℕ → Told NetList
+told_list file bytes = told (λ e. error_line (list_error e) file) (list_of bytes)
+
+unfoldable pub pods_in : StoredFiles → List ℕ → Told Pods
+pods_in files file = bytes_in files file >>= told_pods file
+
+unfoldable pub list_in : StoredFiles → List ℕ → Told NetList
+list_in files file = bytes_in files file >>= told_list file
+
+-- each list in order, up to the first that is refused
+abbrev pub lists_in : StoredFiles → List (List ℕ) → Told (List NetList)
+lists_in files [] = Ok []
+lists_in files (name ∷ names) = do
+  list ← list_in files name
+  lists ← lists_in files names
+  Ok (list ∷ lists)
+
+abbrev pub plan_from : Words → Pods → List NetList → Plan
+plan_from words pods lists = record { lists = lists; pods = pods; stop_at = words.stop_at }
+
+unfoldable pub told_plan : Words → Pods → List NetList → Told Plan
+told_plan words pods lists = told (λ e. error_line (plan_error e) (file_at_fault words e)) (joined (plan_from words pods lists))
+
+-- the pod file, then each list, then the plan
+unfoldable pub plan_of : StoredFiles → Words → Told Plan
+plan_of files words = do
+  pods ← pods_in files words.pods
+  lists ← lists_in files words.lists
+  told_plan words pods lists
+
+-- the words aren't taken; a line tells what is refused; or a plan is carried out, and printed with its trace and dump where asked
+pub data Verdict : Type 0 where
+  usage : Verdict
+  line : List ℕ → Verdict
+  carry : Plan → (trace dump : Bool) → Verdict
+
+abbrev pub verdict_on : Words → Told Plan → Verdict
+verdict_on words (Ok plan) = carry plan words.trace words.dump
+verdict_on words (Err text) = line text
+
+abbrev pub verdict_if : Option Words → StoredFiles → Verdict
+verdict_if None files = usage
+verdict_if (Some words) files = verdict_on words (plan_of files words)
+
+abbrev pub verdict_of : List (List ℕ) → StoredFiles → Verdict
+verdict_of words files = verdict_if (words_of words) files

@@ -1,0 +1,52 @@
+//! The lines that stand in place of a text.
+
+ghost use Rattle.std.specs.Prelude.{◌≡◌, IfOk, false};
+ghost use Rattle.serde_json.specs.View.{view};
+ghost use Rattle.serde_json.specs.Written.{has_float};
+ghost use Rattle.tool_run.specs.Lines.{error_line, file_data, word_line};
+ghost use Rattle.cni_json.specs.Json.{line_of};
+
+use cni_addr::NoMemory;
+use cni_result::{CniError, JsonObject, error_value};
+use serde_json::Value;
+use std::alloc::Global;
+
+/// The words aren't taken.
+pub(crate) const USAGE: &[u8] = b"{\"error\":\"usage\"}\n";
+
+/// A word on a file.
+pub(crate) fn word_line(alloc: Global, word: &str, file: &str) -> Result<Vec<u8>, NoMemory>
+    ensures { IfOk result (λ line. line.items ≡ word_line word.now file.now) }
+{
+    file_line(alloc, Value::try_from_str(alloc, word)?, file)
+}
+
+/// An error on a file.
+pub(crate) fn error_line(alloc: Global, error: &CniError, file: &str) -> Result<Vec<u8>, NoMemory>
+    ensures { IfOk result (λ line. line.items ≡ error_line error.now file.now) }
+{
+    file_line(alloc, error_value(alloc, error)?, file)
+}
+
+fn file_line(alloc: Global, error: Value, file: &str) -> Result<Vec<u8>, NoMemory>
+    requires { has_float (view error) ≡ false }
+    ensures { IfOk result (λ line. line.items ≡ line_of (file_data (view error) file.now)) }
+{
+    let value = file_value(alloc, error, file)?;
+    match cni_json::line(alloc, &value) {
+        Ok(line) => Ok(line),
+        Err(_) => Err(NoMemory),
+    }
+}
+
+#[tactic(auto, using(crate::proofs::Whole::file_is_whole), unfolding(crate::specs::Lines::file_data))]
+fn file_value(alloc: Global, error: Value, file: &str) -> Result<Value, NoMemory>
+    requires { has_float (view error) ≡ false }
+    ensures data { IfOk result (λ value. view value ≡ file_data (view error) file.now) }
+    ensures whole { IfOk result (λ value. has_float (view value) ≡ false) }
+{
+    let mut object = JsonObject::new(alloc);
+    object.put_value("error", error)?;
+    object.put_text("file", file)?;
+    Ok(object.into_value())
+}

@@ -1,0 +1,186 @@
+//! The plan that the words and the files come to, or why there is none.
+
+ghost use Rattle.std.specs.Prelude.{◌≡◌, ◌≤◌, ◌<◌, ◌^◌, ◌∷◌, [], IfOk, IfErr, All, length};
+ghost use Rattle.pod_workers.specs.Plans.{IsWellFormed};
+ghost use Rattle.tool_run.specs.Causes.{GivesTold, IsReadList, IsReadPods, Steps, StopsUnread, StopsWith};
+ghost use Rattle.tool_run.specs.Lines.{error_line, unread_line, word_line};
+ghost use Rattle.tool_run.specs.Verdict.{bytes_in, list_in, lists_in, plan_of, pods_in, told_list, told_plan, told_pods};
+
+use crate::laws::read_plans_are_well_formed;
+use crate::lines;
+use crate::refusals::{file_at_fault, list_error, plan_error, pods_error};
+use cni_addr::{Items, NoMemory, Text};
+use cni_io::{FileFault, Files};
+use cni_result::CniError;
+use net_conf::{ConfError, NetList};
+use pod_file::{PodError, Pods};
+use pod_workers::Plan;
+use std::alloc::Global;
+use tool_words::Words;
+
+/// The most bytes of a file.
+const LIMIT: u64 = 16_777_216;
+
+/// Why there is no plan.
+#[derive(Drop)]
+pub(crate) enum Stop {
+    /// A file or the plan is refused, and this line says why.
+    Line(Vec<u8>),
+    /// A read failed, and this line names the file.
+    Unread(Vec<u8>),
+    /// Memory ran out.
+    NoMemory,
+}
+
+/// Reads the pod file, then each network list in order, and joins them.
+#[tactic(auto, using(crate::proofs::Stopping::stopping), unfolding(crate::specs::Verdict::plan_of))]
+pub(crate) fn read_plan<F: Files>(alloc: Global, files: &mut F, words: &Words) -> Result<Plan, Stop>
+    requires { length words.now.lists ≤ 64 }
+    ensures gives { Steps (λ plan. plan) (F.files files.old) (F.faults files.old) (F.faults files.new)
+        (words.now.pods ∷ words.now.lists) (λ stored. plan_of stored words.now) result }
+    ensures well_formed { IfOk result IsWellFormed }
+    ensures keeps { F.files files.new ≡ F.files files.old }
+    ensures later { F.faults files.old ≤ F.faults files.new }
+    ensures bounded { F.faults files.new < 2 ^ 64 }
+{
+    let pods = read_pods(alloc, files, words.pods.as_str())?;
+    let lists = read_lists(alloc, files, words.lists.as_slice())?;
+    join(alloc, words, pods, lists)
+}
+
+#[tactic(auto, using(crate::proofs::Stopping::stopping), unfolding(crate::specs::Verdict::told_plan))]
+fn join(alloc: Global, words: &Words, pods: Pods, lists: Items<NetList>) -> Result<Plan, Stop>
+    requires few { length lists ≤ 64 }
+    requires pods_read { IsReadPods pods }
+    requires lists_read { All IsReadList lists }
+    ensures gives { GivesTold result (told_plan words.now pods lists) }
+    ensures well_formed { IfOk result IsWellFormed }
+{
+    read_plans_are_well_formed();
+    match Plan::join(lists, pods, words.stop_at) {
+        Ok(plan) => Ok(plan),
+        Err(end) => Err(refused(alloc, plan_error(alloc, end), file_at_fault(words, end))),
+    }
+}
+
+#[tactic(auto, using(crate::proofs::Stopping::stopping), unfolding(crate::specs::Verdict::pods_in))]
+fn read_pods<F: Files>(alloc: Global, files: &mut F, file: &str) -> Result<Pods, Stop>
+    ensures gives { Steps (λ pods. pods) (F.files files.old) (F.faults files.old) (F.faults files.new)
+        (file.now ∷ []) (λ stored. pods_in stored file.now) result }
+    ensures read { IfOk result IsReadPods }
+    ensures keeps { F.files files.new ≡ F.files files.old }
+    ensures later { F.faults files.old ≤ F.faults files.new }
+    ensures bounded { F.faults files.new < 2 ^ 64 }
+{
+    let bytes = read_bytes(alloc, files, file)?;
+    pods_of_bytes(alloc, bytes.as_slice(), file)
+}
+
+#[tactic(auto, using(crate::proofs::Stopping::stopping))]
+fn pods_of_bytes(alloc: Global, bytes: &[u8], file: &str) -> Result<Pods, Stop>
+    ensures gives { GivesTold result (told_pods file.now bytes.now) }
+    ensures read { IfOk result IsReadPods }
+{
+    match pod_file::read_pods(alloc, bytes) {
+        Ok(pods) => Ok(pods),
+        Err(PodError::NoMemory) => Err(Stop::NoMemory),
+        Err(end) => Err(refused(alloc, pods_error(alloc, &end), file)),
+    }
+}
+
+fn read_lists<F: Files>(
+    alloc: Global,
+    files: &mut F,
+    names: &[Text],
+) -> Result<Items<NetList>, Stop>
+    ensures gives { Steps (λ lists. lists) (F.files files.old) (F.faults files.old) (F.faults files.new)
+        names.now (λ stored. lists_in stored names.now) result }
+    ensures read { IfOk result (All IsReadList) }
+    ensures count { IfOk result (λ lists. length lists ≡ length names.now) }
+    ensures keeps { F.files files.new ≡ F.files files.old }
+    ensures later { F.faults files.old ≤ F.faults files.new }
+    ensures bounded { F.faults files.old < 2 ^ 64 → F.faults files.new < 2 ^ 64 }
+{
+    let mut lists = Items::new(alloc);
+    for name in names {
+        let list = read_list(alloc, files, name.as_str())?;
+        if lists.push(list).is_err() {
+            return Err(Stop::NoMemory);
+        }
+    }
+    Ok(lists)
+}
+
+#[tactic(auto, using(crate::proofs::Stopping::stopping), unfolding(crate::specs::Verdict::list_in))]
+fn read_list<F: Files>(alloc: Global, files: &mut F, file: &str) -> Result<NetList, Stop>
+    ensures gives { Steps (λ list. list) (F.files files.old) (F.faults files.old) (F.faults files.new)
+        (file.now ∷ []) (λ stored. list_in stored file.now) result }
+    ensures read { IfOk result IsReadList }
+    ensures keeps { F.files files.new ≡ F.files files.old }
+    ensures later { F.faults files.old ≤ F.faults files.new }
+    ensures bounded { F.faults files.new < 2 ^ 64 }
+{
+    let bytes = read_bytes(alloc, files, file)?;
+    list_of_bytes(alloc, bytes.as_slice(), file)
+}
+
+#[tactic(auto, using(crate::proofs::Stopping::stopping))]
+fn list_of_bytes(alloc: Global, bytes: &[u8], file: &str) -> Result<NetList, Stop>
+    ensures gives { GivesTold result (told_list file.now bytes.now) }
+    ensures read { IfOk result IsReadList }
+{
+    match net_conf::read_list(alloc, bytes) {
+        Ok(list) => Ok(list),
+        Err(ConfError::NoMemory) => Err(Stop::NoMemory),
+        Err(end) => Err(refused(alloc, list_error(alloc, &end), file)),
+    }
+}
+
+#[tactic(auto, using(crate::proofs::Stopping::stopping))]
+fn read_bytes<F: Files>(alloc: Global, files: &mut F, file: &str) -> Result<Vec<u8>, Stop>
+    ensures gives { Steps (λ bytes. bytes.items) (F.files files.old) (F.faults files.old) (F.faults files.new)
+        (file.now ∷ []) (λ stored. bytes_in stored file.now) result }
+    ensures keeps { F.files files.new ≡ F.files files.old }
+    ensures later { F.faults files.old ≤ F.faults files.new }
+    ensures bounded { F.faults files.new < 2 ^ 64 }
+{
+    match files.read(alloc, file, LIMIT) {
+        Ok(bytes) => Ok(bytes),
+        Err(FileFault::Missing) => Err(worded(alloc, "missing", file)),
+        Err(FileFault::TooLarge { .. }) => Err(worded(alloc, "too large", file)),
+        Err(FileFault::Failed) => Err(unread(alloc, file)),
+        Err(FileFault::NoMemory) => Err(Stop::NoMemory),
+    }
+}
+
+fn worded(alloc: Global, word: &str, file: &str) -> Stop
+    ensures { StopsWith result (word_line word.now file.now) }
+{
+    match lines::word_line(alloc, word, file) {
+        Ok(line) => Stop::Line(line),
+        Err(NoMemory) => Stop::NoMemory,
+    }
+}
+
+fn unread(alloc: Global, file: &str) -> Stop
+    ensures { StopsUnread result (unread_line file.now) }
+{
+    match lines::word_line(alloc, "read", file) {
+        Ok(line) => Stop::Unread(line),
+        Err(NoMemory) => Stop::NoMemory,
+    }
+}
+
+/// A stop with the line of an error, if there was memory for it.
+fn refused(alloc: Global, error: Result<CniError, NoMemory>, file: &str) -> Stop
+    ensures line { IfOk error (λ e. StopsWith result (error_line e file.now)) }
+    ensures memory { IfErr error (λ _. result ≡ Stop.NoMemory) }
+{
+    let Ok(error) = error else {
+        return Stop::NoMemory;
+    };
+    match lines::error_line(alloc, &error, file) {
+        Ok(line) => Stop::Line(line),
+        Err(NoMemory) => Stop::NoMemory,
+    }
+}

@@ -1,0 +1,120 @@
+//! Why a file or a plan is refused, as an error.
+
+ghost use Rattle.std.specs.Prelude.{◌≡◌, IfOk};
+ghost use Rattle.pod_text.specs.Lines as texts;
+ghost use Rattle.tool_run.specs.Refusals as refusals;
+ghost use Rattle.tool_run.specs.Refusals.{file_at_fault, list_error, plan_error, pods_error, refused};
+
+use cni_addr::{NoMemory, Text};
+use cni_result::{CniError, Version};
+use net_conf::ConfError;
+use pod_file::PodError;
+use pod_workers::PlanError;
+use std::alloc::Global;
+use tool_words::Words;
+
+/// The error of a network list that is refused.
+pub(crate) fn list_error(alloc: Global, error: &ConfError) -> Result<CniError, NoMemory>
+    ensures { IfOk result (λ e. e ≡ list_error error.now) }
+{
+    match error {
+        ConfError::Version { found } => {
+            let found = found.as_str();
+            let msg = format!(in alloc; "incompatible CNI version: {found}")?;
+            refused(alloc, 1, msg.as_str())
+        }
+        ConfError::Unsupported { key, value } => {
+            let key = key.as_str();
+            let value = value.as_str();
+            let msg = format!(in alloc; "unsupported field {key}: {value}")?;
+            refused(alloc, 2, msg.as_str())
+        }
+        ConfError::Decode => not_decoded(alloc),
+        ConfError::Invalid { why } => invalid_list(alloc, why.as_str()),
+        ConfError::NoMemory => memory_error(alloc),
+    }
+}
+
+/// The error of a pod file that is refused.
+pub(crate) fn pods_error(alloc: Global, error: &PodError) -> Result<CniError, NoMemory>
+    ensures { IfOk result (λ e. e ≡ pods_error error.now) }
+{
+    match error {
+        PodError::Decode => not_decoded(alloc),
+        PodError::Number => invalid_pods(alloc, "number"),
+        PodError::Shape { path } => invalid_pods(alloc, path.as_str()),
+        PodError::Alone { round } => {
+            let round = *round;
+            let why = format!(in alloc; "rounds[{round}] is not alone")?;
+            invalid_pods(alloc, why.as_str())
+        }
+        PodError::NoMemory => memory_error(alloc),
+    }
+}
+
+/// The error of a plan that is refused.
+pub(crate) fn plan_error(alloc: Global, error: PlanError) -> Result<CniError, NoMemory>
+    ensures { IfOk result (λ e. e ≡ plan_error error) }
+{
+    match error {
+        PlanError::NotBuiltCommand { command } => {
+            let why = format!(in alloc; "not built {command}")?;
+            invalid_pods(alloc, why.as_str())
+        }
+        PlanError::SameName { .. } => invalid_list(alloc, "name"),
+        PlanError::NoNetwork { command } => {
+            let why = format!(in alloc; "no network for command {command}")?;
+            invalid_pods(alloc, why.as_str())
+        }
+    }
+}
+
+/// The file that makes the plan fail: a list whose name an earlier one has, and else the pod file.
+pub(crate) fn file_at_fault(words: &Words, error: PlanError) -> &str
+    ensures { result.now ≡ file_at_fault words.entry.now error }
+{
+    match error {
+        PlanError::SameName { list } => match words.lists.as_slice().get(list as usize) {
+            Some(name) => name.as_str(),
+            None => "",
+        },
+        PlanError::NotBuiltCommand { .. } | PlanError::NoNetwork { .. } => words.pods.as_str(),
+    }
+}
+
+fn refused(alloc: Global, code: u32, msg: &str) -> Result<CniError, NoMemory>
+    ensures { IfOk result (λ e. e ≡ refused code msg.now) }
+{
+    Ok(CniError {
+        version: Version::V1_1,
+        code,
+        msg: Text::of(alloc, msg)?,
+        details: Text::of(alloc, "")?,
+    })
+}
+
+fn not_decoded(alloc: Global) -> Result<CniError, NoMemory>
+    ensures { IfOk result (λ e. e ≡ refusals.not_decoded) }
+{
+    refused(alloc, 6, "decoding failed")
+}
+
+fn memory_error(alloc: Global) -> Result<CniError, NoMemory>
+    ensures { IfOk result (λ e. e ≡ texts.memory_error) }
+{
+    refused(alloc, 104, "out of memory")
+}
+
+fn invalid_list(alloc: Global, why: &str) -> Result<CniError, NoMemory>
+    ensures { IfOk result (λ e. e ≡ refusals.invalid_list why.now) }
+{
+    let msg = format!(in alloc; "invalid network configuration: {why}")?;
+    refused(alloc, 7, msg.as_str())
+}
+
+fn invalid_pods(alloc: Global, why: &str) -> Result<CniError, NoMemory>
+    ensures { IfOk result (λ e. e ≡ refusals.invalid_pods why.now) }
+{
+    let msg = format!(in alloc; "invalid pod file: {why}")?;
+    refused(alloc, 7, msg.as_str())
+}

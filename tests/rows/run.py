@@ -1,0 +1,126 @@
+#!/usr/bin/env python3
+"""Runs a built program on the rows of rows.json, and compares what it writes and its status.
+
+    run.py PROGRAM [WORD]      the rows whose names hold WORD; without one, all
+
+A row has the files that lie where the program runs, the words, and what is expected:
+
+    status      the exit status
+    stdout      all lines
+    answers     the lines of the commands, which come first
+    calls       by command number: how many calls it made, or their kinds in order (the words ask for a trace)
+    dump        the lines of the dump, or the kinds of its objects where they are single words
+    waits_for   a verb without which the row can't run yet
+
+A file is a JSON value that is written compactly, or `@NAME`, one of the lists; or {"text": ..}, {"size": N} or {"directory": true}.
+In a line `<HV N/C/I>`, `<MH N/C/I>` and `<MC N/C/I>` are the host end's name, its MAC and the container end's MAC of the
+attachment of container C to network N by interface I, and `<ML NAME>` is the MAC of another link; they are derived here.
+"""
+
+import hashlib
+import json
+import os
+import pathlib
+import re
+import subprocess
+import sys
+import tempfile
+
+HERE = pathlib.Path(__file__).resolve().parent
+
+
+def mac(digest):
+    return ":".join(f"{byte:02x}" for byte in b"\x0a" + digest)
+
+
+def derive(match):
+    kind, of = match.group(1), match.group(2)
+    if kind == "ML":
+        return mac(hashlib.sha256(of.encode()).digest()[:5])
+    digest = hashlib.sha256("\n".join(of.split("/")).encode()).digest()
+    if kind == "HV":
+        return "veth" + digest[:4].hex()
+    return mac(digest[9:14] if kind == "MH" else digest[4:9])
+
+
+def expanded(line):
+    return re.sub(r"<(HV|MH|MC|ML) ([^>]*)>", derive, line)
+
+
+def put_file(path, content, lists):
+    if isinstance(content, str) and content.startswith("@"):
+        content = lists[content[1:]]
+    if isinstance(content, dict) and content.get("directory"):
+        path.mkdir()
+    elif isinstance(content, dict) and "size" in content:
+        path.write_bytes(b" " * content["size"])
+    elif isinstance(content, dict) and "text" in content:
+        path.write_text(content["text"], encoding="utf-8")
+    else:
+        path.write_text(json.dumps(content, separators=(",", ":")), encoding="utf-8")
+
+
+def calls_of(lines):
+    calls = {}
+    for line in lines:
+        calls.setdefault(str(line["n"]), []).append(line["call"])
+    return calls
+
+
+def differences(row, status, out):
+    """What is other than expected, a text each."""
+    if status != row["status"]:
+        yield f"status {status} and not {row['status']}"
+    lines = out.decode("utf-8").splitlines()
+    if out and not out.endswith(b"\n"):
+        yield "no line feed at the end"
+    read = [json.loads(line) for line in lines]
+    answers = [line for line, value in zip(lines, read) if "verb" in value]
+    calls = calls_of(value for value in read if "call" in value)
+    dump = [line for line, value in zip(lines, read) if "kind" in value]
+    wanted = [("stdout", lines), ("answers", answers)]
+    for key, got in wanted:
+        if key in row and got != [expanded(line) for line in row[key]]:
+            yield f"{key}: {json.dumps(got)}"
+    for number, made in row.get("calls", {}).items():
+        got = calls.get(number, [])
+        if (len(got) if isinstance(made, int) else got) != made:
+            yield f"calls of command {number}: {got}"
+    if "dump" in row:
+        kinds = [json.loads(line)["kind"] for line in dump]
+        got = kinds if all(line.isalpha() for line in row["dump"]) else dump
+        if got != [expanded(line) for line in row["dump"]]:
+            yield f"dump: {json.dumps(got)}"
+
+
+def run(program, row, lists):
+    with tempfile.TemporaryDirectory() as folder:
+        for name, content in row.get("files", {}).items():
+            put_file(pathlib.Path(folder) / name, content, lists)
+        out = open(row["stdout_to"], "wb") if "stdout_to" in row else subprocess.PIPE
+        done = subprocess.run([program, *row["words"]], cwd=folder, stdout=out, timeout=120)
+        return list(differences(row, done.returncode, done.stdout or b""))
+
+
+def main():
+    program = os.path.abspath(sys.argv[1])
+    word = sys.argv[2] if len(sys.argv) > 2 else ""
+    table = json.loads((HERE / "rows.json").read_text(encoding="utf-8"))
+    passed = failed = waiting = 0
+    for row in table["rows"]:
+        if word not in row["name"]:
+            continue
+        if "waits_for" in row:
+            waiting += 1
+            continue
+        found = run(program, row, table["lists"])
+        passed += not found
+        failed += bool(found)
+        for text in found:
+            print(f"{row['name']}: {text}")
+    print(f"rows: {passed} passed, {failed} failed, {waiting} wait for verbs that aren't there yet")
+    return 1 if failed else 0
+
+
+if __name__ == "__main__":
+    sys.exit(main())
