@@ -24,6 +24,8 @@ mod place;
 pub mod pods;
 mod read;
 mod rounds;
+#[cfg(test)]
+mod tests;
 
 pub use command::{Command, RawMapping, ValidAtt, Verb};
 pub use error::PodError;
