@@ -46,6 +46,8 @@ use Rattle.host_local.specs.Conf.{routes_of}
 use Rattle.host_local.specs.Results.{ip_of}
 use Rattle.bridge_ptp.specs.Bridge as bridge
 use Rattle.bridge_ptp.specs.Ptp as ptp
+use Rattle.bridge_ptp.specs.declared.ptp.AddressOrRoute.{AddressOrRoute}
+use Rattle.bridge_ptp.specs.declared.ptp.AddressOrRoute.TheVariants.{Address, Route}
 use Rattle.bridge_ptp.specs.Results.{bridge_routes}
 use Rattle.portmap.specs.Portmap.{portmap_rules, mapping_rules, rules_for, host_ip_allows, dnat_of, masquerades_of, from_host}
 use Rattle.firewall_tuning.specs.Firewall.{firewall_rules, forward_of}
@@ -165,20 +167,20 @@ planned-gateways conf att gs =
     (planned-append att (map (GatewayEnsure conf.bridge) (bridge.gateways gs)) (forward_calls gs)
     (planned-map att (GatewayEnsure conf.bridge) (λ c. true) (λ c t. (refl, tt)) (bridge.gateways gs) (list_all-true (bridge.gateways gs))) (planned-forward att gs))
 
-abbrev own_object : Att → ptp.AddressOrRoute → Bool
-own_object att (ptp.Address obj) = is_own att obj.tag
-own_object att (ptp.Route obj) = is_own att obj.tag
+abbrev own_object : Att → AddressOrRoute → Bool
+own_object att (Address obj) = is_own att obj.tag
+own_object att (Route obj) = is_own att obj.tag
 
-planned-object : (att : Att) (x : ptp.AddressOrRoute) → own_object att x ≡ true → IsPlanned att (ptp.call_for x)
-planned-object att (ptp.Address obj) own = (own, tt)
-planned-object att (ptp.Route obj) own = (own, tt)
+planned-object : (att : Att) (x : AddressOrRoute) → own_object att x ≡ true → IsPlanned att (ptp.call_for x)
+planned-object att (Address obj) own = (own, tt)
+planned-object att (Route obj) own = (own, tt)
 
 own-ptp : (conf : _) (att : Att) (netns : List ℕ) (gs : List Given) → list_all (own_object att) (ptp.ptp_objects conf att netns gs) ≡ true
 own-ptp conf att netns gs =
-    list_all-each_key_once (own_object att) ptp.same_key (flat_map (ptp.ptp_objects_for att netns) gs ++ map (λ r. ptp.Route (route_on att netns gs r)) conf.ipam.routes)
-    (list_all-append (own_object att) (flat_map (ptp.ptp_objects_for att netns) gs) (map (λ r. ptp.Route (route_on att netns gs r)) conf.ipam.routes)
+    list_all-each_key_once (own_object att) ptp.same_key (flat_map (ptp.ptp_objects_for att netns) gs ++ map (λ r. Route (route_on att netns gs r)) conf.ipam.routes)
+    (list_all-append (own_object att) (flat_map (ptp.ptp_objects_for att netns) gs) (map (λ r. Route (route_on att netns gs r)) conf.ipam.routes)
     (list_all-flat (own_object att) (ptp.ptp_objects_for att netns) (λ g. grind (arith, att_eq-refl att)) gs)
-    (list_all-every (own_object att) (λ r. ptp.Route (route_on att netns gs r)) (λ r. att_eq-refl att) conf.ipam.routes))
+    (list_all-every (own_object att) (λ r. Route (route_on att netns gs r)) (λ r. att_eq-refl att) conf.ipam.routes))
 
 planned-after : (first : First) (att : Att) (netns : List ℕ) (gs : List Given) → AllPlanned att (calls_after first att netns gs)
 planned-after (Bridge c) att netns gs =
