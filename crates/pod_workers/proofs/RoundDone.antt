@@ -11,6 +11,7 @@ use Rattle.kernel_types.specs.declared.object.Host.{Host}
 use Rattle.pod_file.specs.declared.command.Command.{Command}
 use Rattle.pod_workers.specs.Extends.{Extends, Rounds}
 use Rattle.pod_workers.specs.Legal.{Legal, turns}
+use Rattle.pod_workers.specs.Order.{EarlierAreAnswered, IsInFileOrder}
 use Rattle.pod_workers.specs.Plans.{Placed, commands_of, in_round, placed_from}
 use Rattle.pod_workers.specs.Slots.{AreNumbersOf, IsKept}
 use Rattle.pod_workers.specs.World.{World, IsAnswered, IsReadyNumber, IsRoundOver, answered, done, next_of, next_round, own_replies, stepped}
@@ -20,6 +21,7 @@ use Rattle.pod_workers.specs.declared.plan.Next.TheVariants as next
 use Rattle.pod_workers.specs.declared.plan.Plan.{Plan}
 use Rattle.pod_workers.specs.declared.plan.StepEnd.{StepEnd}
 use Rattle.pod_workers.specs.declared.slots.Slot.{Slot}
+use Rattle.pod_workers.proofs.FileOrder.{file_order_answered, file_order_next_round, file_order_stepped}
 use Rattle.pod_workers.proofs.Histories.{slice_get-set_same, slice_get-set_other, length-append_one}
 use Rattle.pod_workers.proofs.Order.{in_order, not_both, open_or_answered}
 use Rattle.pod_workers.proofs.Rounds.{placed-fits, placed_from-more, placed_from-front, round-of, rounds-before}
@@ -243,3 +245,27 @@ still-left v w e less =
     let plan = ap (λ (p : Plan). length p.pods.rounds) e.plan_is in
     let round = e.round_is in
     omega (arith, plan, round, less)
+
+-- ---- the order of the file
+
+earlier-stays : (v w : World) (n : ℕ) → Extends v w → EarlierAreAnswered v n → EarlierAreAnswered w n
+earlier-stays v w n e earlier m d less at_m current =
+    let a = earlier m d less (ap (λ p. slice_get (commands_of p) m) (sym e.plan_is) ∙ at_m) (current ∙ e.round_is) in
+    (a.0, e.answers_stand m a.0 a.1)
+
+step-in-order : (r : Result StepEnd NoMemory) (v w : World) (number : ℕ) → IsReadyNumber v number → IsStepped r v w number → Legal v → IsInFileOrder v
+    → ((n : ℕ) → number ≡ n + 1 → EarlierAreAnswered v n) → IsInFileOrder w
+step-in-order (Ok x) v w number ready is legal order earlier =
+    subst IsInFileOrder (sym (is.0 ready.0 ready.1 ready.2 ready.3.there)) (file_order_stepped v ready.0 ready.1 legal order ready.3 (earlier ready.0 ready.2))
+step-in-order (Err x) v w number ready is legal order earlier = subst IsInFileOrder (sym (is.1 ready.0 ready.2)) (file_order_answered v ready.0 ready.1 OutOfMemory order ready.3)
+
+-- one step more of the first open command keeps the file's order
+pub order-more : (r : Result StepEnd NoMemory) (u v w : World) (number : ℕ) → IsReadyNumber v number → IsStepped r v w number → Legal v → Extends u v → IsInFileOrder v
+    → ((n : ℕ) → number ≡ n + 1 → EarlierAreAnswered u n) → IsInFileOrder w
+order-more r u v w number ready is legal e order earlier = step-in-order r v w number ready is legal order (λ n n_is. earlier-stays u v n e (earlier n n_is))
+
+pub below-earlier : (w : World) (number n : ℕ) → AllBelow w number → number ≡ n + 1 → EarlierAreAnswered w n
+below-earlier w number n below is m d less at_m current = below m d (omega arith) at_m current
+
+pub turned-in-order : (w u : World) → IsInFileOrder w → u ≡ next_round w → IsInFileOrder u
+turned-in-order w u order is = subst IsInFileOrder (sym is) (file_order_next_round w order)

@@ -6,6 +6,7 @@ ghost use Rattle.cni_verbs.specs.declared.answer.Answer.TheVariants.{OutOfMemory
 ghost use Rattle.pod_workers.specs.Extends.{Extends, Rounds};
 ghost use Rattle.pod_workers.specs.Index.{is_cut_by, is_place_in};
 ghost use Rattle.pod_workers.specs.Legal.{Legal};
+ghost use Rattle.pod_workers.specs.Order.{EarlierAreAnswered, IsInFileOrder};
 ghost use Rattle.pod_workers.specs.Plans.{IsWellFormed, Placed, commands_of};
 ghost use Rattle.pod_workers.specs.Slots.{AreNumbersOf};
 ghost use Rattle.pod_workers.specs.World.{IsReadyNumber, IsRoundOver, answer_at, answer_in, answered, begun, end_of, host_of, next_of, next_round, own_replies, stepped};
@@ -47,7 +48,8 @@ impl<K: Kernel> Model for Book<K> {
 }
 
 impl<K: Kernel + Drop> Book<K> {
-    /// A book of the plan, with nothing done yet. It makes room for every command's answer.
+    /// A book of the plan, with nothing done yet. It makes room for every command's answer and looks up where each command
+    /// stands; where memory is refused for that, plan and kernel are let go.
     pub fn begin(alloc: Global, plan: Plan, kernel: K) -> Result<Book<K>, NoMemory>
         requires well_formed { IsWellFormed plan }
         requires opening { K.host kernel ≡ plan.pods.opening }
@@ -68,6 +70,7 @@ impl<K: Kernel + Drop> Book<K> {
         })
     }
 
+    /// The plan that is carried out.
     pub fn plan(&self) -> &Plan
         ensures { result.now ≡ self.now.plan }
     {
@@ -116,7 +119,8 @@ impl<K: Kernel + Drop> Book<K> {
         self.plan.pods.rounds.as_slice().len() <= self.round as usize
     }
 
-    /// Whether the command of this number may step.
+    /// Whether the command of this number, from 1, may step: it is of the current round and has no answer, and the command
+    /// before it of its container in the round has one. A number that is no command's may not.
     pub fn ready(&self, command: u32) -> bool
         ensures { MatchBool result (IsReadyNumber self.now command) (IsReadyNumber self.now command → ⊥) }
     {
@@ -145,12 +149,12 @@ impl<K: Kernel + Drop> Book<K> {
             self.round,
         );
         let slot = take_at(&mut self.slots, n);
-        let of = command_at(self.plan.pods.rounds.as_slice(), place);
+        let task = command_at(self.plan.pods.rounds.as_slice(), place);
         match carry_on(
             &mut self.kernel,
             &mut self.history,
             self.plan.lists.as_slice(),
-            of,
+            task,
             cut,
             slot,
         ) {
@@ -171,10 +175,12 @@ impl<K: Kernel + Drop> Book<K> {
         }
     }
 
-    /// Steps each command of the current round to its answer, in file order, and makes the next round current.
+    /// Steps each command of the current round to its answer, in file order, and makes the next round current. It ends,
+    /// since a step gives an answer or enters a call, and a history has no more entries than memory has room for.
     pub fn round_alone(&mut self)
         requires { self.old.round < length self.old.plan.pods.rounds }
-        ensures { Rounds self.old self.new }
+        ensures rounds { Rounds self.old self.new }
+        ensures order { IsInFileOrder self.old → IsInFileOrder self.new }
     {
         let (first, end) = self.numbers();
         for number in first..end {
@@ -188,8 +194,10 @@ impl<K: Kernel + Drop> Book<K> {
     fn finish(&mut self, command: u32)
         ensures extends { Extends self.old self.new }
         ensures over { IsReadyNumber self.new command → ⊥ }
+        ensures order { ((n : ℕ) → command ≡ n + 1 → EarlierAreAnswered self.old n) → IsInFileOrder self.old → IsInFileOrder self.new }
     {
         while self.ready(command) {
+            self.is_legal();
             let _entries = self.history().len();
             let _ = self.step(command);
         }

@@ -1,17 +1,18 @@
 //! Plans, the book that carries them out, and what is true of every history.
 //!
 //! A world is a plan, its history, the answers given and the current round (`specs/World.antt`); the host and each run's
-//! state follow from it. `Legal` says which worlds allowed steps reach, with stops, listed faults and rounds. To the crates
-//! above a [`Book`] promises to be such a world, whose kernel means what its history comes to: a ready command's step makes
-//! exactly what `stepped` says, or is refused memory, and a round is carried to its end. [`Plan::join`] gives a plan or
-//! its first refusal. The laws speak of all legal worlds, however commands interleaved, stopped or failed.
+//! state follow from it. `Legal` says which worlds allowed steps reach, with stops, listed faults and rounds. A [`Book`]
+//! is such a world, and takes the steps: what it promises above is that each step is the definition's, that a refusal of
+//! memory changes neither host nor history, and that a round comes to its end. The laws speak of all legal worlds.
 //!
 //! ```text
-//! let plan = Plan::join(lists, pods, None)?;
-//! let mut book = Book::begin(alloc, plan, ListKernel::of_host(opening))?;
-//! book.step(1)?;       // Went: the first call of command 1 was made
-//! book.round_alone();  // each command of the round has its answer, and the next round is current
-//! book.answer(1)       // Some(Answer::Added(..))
+//! let plan = Plan::join(lists, pods, None)?;           // or the first refusal: a verb, a repeated name, a network
+//! let mut book = Book::begin(alloc, plan, kernel)?;    // nothing done, round 0
+//! while !book.ended() {
+//!     book.round_alone();                              // each command of the round to its answer, in file order
+//! }
+//! book.answer(1)                                       // what the first command came to
+//! every_host_is_sound();                               // a proof above gets a law by calling it
 //! ```
 #![tactic(auto)]
 

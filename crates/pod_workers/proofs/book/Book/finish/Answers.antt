@@ -1,14 +1,19 @@
 use Rattle.std.proofs.Common.{◌^◌}
-use Rattle.pod_workers.proofs.RoundDone.{extends_refl, extends_trans, step_extends, step_takes}
+use Rattle.pod_workers.proofs.RoundDone.{extends_refl, extends_trans, order-more, step_extends, step_takes}
 use Rattle.pod_workers.proofs.book.Book.finish.Goals as goal
 
 pub loop-self-init : goal.loop-self-init
-loop-self-init g c = extends_refl _
+loop-self-init g c = record { extends = extends_refl _; order = λ earlier order. order }
 
 pub loop-self-preserved : goal.loop-self-preserved
 loop-self-preserved g c =
-    extends_trans _ _ _ c.loop-self.invariant
-    (step_extends c.step.result c.loop-self.self c.step.new.self c.args.command (rw c.loop-self-test.true at c.ready.ensures) (c.step.ensures.ok, c.step.ensures.err))
+    let ready = rw c.loop-self-test.true at c.ready.ensures in
+    record {
+      extends = extends_trans _ _ _ c.loop-self.invariant.extends (step_extends c.step.result c.loop-self.self c.step.new.self c.args.command ready (c.step.ensures.ok, c.step.ensures.err));
+      order = λ earlier order.
+          order-more c.step.result c.args.self.now c.loop-self.self c.step.new.self c.args.command ready (c.step.ensures.ok, c.step.ensures.err) c.is_legal.ensures c.loop-self.invariant.extends
+          (c.loop-self.invariant.order earlier order) earlier;
+    }
 
 pub loop-self-smaller : goal.loop-self-smaller
 loop-self-smaller g c =

@@ -1,10 +1,14 @@
-use Rattle.std.proofs.Common.{◌^◌}
+use Rattle.std.proofs.Common.{◌≡◌, ℕ, ◌+◌, ◌^◌}
 use Rattle.pod_workers.specs.Extends.{Extends}
+use Rattle.pod_workers.specs.Order.{EarlierAreAnswered, IsInFileOrder}
 use Rattle.pod_workers.proofs.RoundDone.{room_left}
 use Rattle.pod_workers.proofs.book.Book.finish.Given as goal
 
 abbrev pub invariant-loop-self : goal.invariant-loop-self
-invariant-loop-self g l = Extends l.fn.self l.self
+invariant-loop-self g l = record {
+  extends : Extends l.fn.self l.self;
+  order : ((n : ℕ) → l.command ≡ n + 1 → EarlierAreAnswered l.fn.self n) → IsInFileOrder l.fn.self → IsInFileOrder l.self;
+}
 
 abbrev pub decreases-loop-self : goal.decreases-loop-self
 decreases-loop-self g l = room_left (2 ^ 64) l.self l.command
