@@ -32,7 +32,7 @@ pair_of (k ∷ []) = None
 pair_of (k ∷ v ∷ []) = if length k == 0 then None else Some (k, v)
 pair_of (k ∷ v ∷ w ∷ more) = None
 
-abbrev pub argument_of : List ℕ → Option (List ℕ × List ℕ)
+unfoldable pub argument_of : List ℕ → Option (List ℕ × List ℕ)
 argument_of piece = pair_of (slice_split (λ b. b == 61) piece)
 
 unfoldable pub are_arguments : List ℕ → Bool

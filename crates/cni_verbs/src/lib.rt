@@ -2,16 +2,29 @@
 //!
 //! To the book above it promises definitions: what a verb asks of its command's words (`specs/CommandWords.antt`), the
 //! calls of an ADD, the objects that it wants and its result (`specs/Wanted.antt`), the next call or the end as a function
-//! of all replies so far (`specs/Script.antt`), and the errors (`specs/Answers.antt`). The run that follows the script one
-//! reply at a time isn't here yet.
+//! of all replies so far (`specs/Script.antt`), and the errors (`specs/Answers.antt`). A [`Run`] follows the script one
+//! reply at a time and keeps no replies: it is seen as the list, the command and the script's state (`specs/Progress.antt`),
+//! its next call and its answer are the script's, and to take a reply wants no memory.
 //!
 //! ```text
-//! Cause::PoolEmpty(0) // code 102, "pool empty", details "set 0"
+//! let mut run = Run::start(alloc, Some(&list), &add)?;
+//! run.next()?              // Begin
+//! run.take(Reply::NoNs);
+//! run.next()?              // None
+//! run.answer()?            // Refused: code 100, "namespace missing", with the namespace as its details
 //! ```
 #![tactic(auto)]
 
+mod advance;
 pub mod answer;
+mod call_copy;
+pub mod errors;
+mod next;
+mod phase;
 pub mod run;
+mod start;
+pub mod wanted;
+pub mod words;
 
 pub use answer::{Answer, Cause, Ending, Skip, WordFaults};
 pub use run::Run;

@@ -1,67 +1,191 @@
 //! One command's run, a call at a time.
 
-ghost use Rattle.std.specs.Prelude.{◌≡◌, ◌+◌, ◌<◌, ◌^◌, [], IfOk, option_map};
+ghost use Rattle.std.specs.Prelude.{◌≡◌, ◌+◌, ◌<◌, ◌≤◌, ◌^◌, [], None, Some, IfOk, length, option_map, vec_capacity};
 ghost use Rattle.std.specs.Option.{option_copied};
 ghost use Rattle.cni_verbs.specs.Progress.{progress, advanced, answer_by};
-ghost use Rattle.cni_verbs.specs.Script.{IsOpen, next_call, finish_of};
+ghost use Rattle.cni_verbs.specs.Phases.{IsPhaseOf};
+ghost use Rattle.cni_verbs.specs.Script.{IsOpen, before_of, start_state, next_call, finish_of};
+ghost use Rattle.cni_verbs.specs.Wanted.{sets_of, kinds_of};
 
-use crate::answer::Answer;
-use cni_addr::NoMemory;
-use kernel_types::{Call, Reply};
+use crate::advance::after;
+use crate::answer::{Answer, Ending};
+use crate::next::{answer_of, back_of, before_of, next_of};
+use crate::phase::Phase;
+use crate::start::first_phase;
+use crate::wanted::{kinds_of, sets_of};
+use cni_addr::{Addr, Duplicate, Items, NoMemory};
+use kernel_types::{Call, Kind, Reply};
 use net_conf::NetList;
 use pod_file::Command;
 use std::alloc::Global;
-use std::convert::Infallible;
 use std::marker::Model;
+use std::mem::replace;
 
+/// The most sets that a list has.
+const MOST_SETS: usize = 65_536;
+
+/// The run of one command. It keeps how far it has come and what it was leased, and no replies.
 #[derive(Drop)]
 pub struct Run {
-    never: Infallible,
+    list: Option<NetList>,
+    command: Command,
+    made: u64,
+    phase: Phase,
+    before: Items<Call>,
+    kinds: Items<Kind>,
+    // With room for one address of each set, so that a reply takes no memory.
+    given: Vec<Addr>,
 }
 
 impl Model for Run {
+    ghost use Rattle.std.specs.Prelude.{vec_capacity};
+    ghost use Rattle.cni_verbs.specs.Phases.{IsKeptBy, state_by_phase};
     ghost use Rattle.cni_verbs.specs.Progress.{Progress};
 
     ghost Value = { Progress };
 
-    ghost view = { λ run. elim run.never [ ] };
+    ghost view = { λ r. record { list = r.list; command = r.command; made = r.made; state = state_by_phase r.list r.command r.given.items r.phase } };
+
+    ghost invariant = { λ r. IsKeptBy r.list r.command r.before r.kinds (vec_capacity r.given) r.made r.given.items r.phase };
 }
 
 impl Run {
-    pub fn start(
-        alloc: Global,
-        list: Option<&NetList>,
-        command: &Command,
-    ) -> Result<Run, NoMemory>
+    /// The run of a command of this list, or of a command of no network, before its first call. A list with more sets
+    /// than the 65,536 that a list is read with is refused as for want of memory.
+    pub fn start(alloc: Global, list: Option<&NetList>, command: &Command) -> Result<Run, NoMemory>
         ensures { IfOk result (λ run. run ≡ progress (option_copied list.entry) command.now []) }
     {
-        Err(NoMemory)
+        match list {
+            Some(list) => Run::of_list(alloc, list, command),
+            None => Run::of_no_list(alloc, command),
+        }
     }
 
-    /// Makes what the next call is looked up in, where it isn't made yet. It changes nothing that is seen.
+    fn of_list(alloc: Global, list: &NetList, command: &Command) -> Result<Run, NoMemory>
+        ensures { IfOk result (λ run. run ≡ progress (Some list.now) command.now []) }
+    {
+        let sets = sets_of(list).len();
+        if sets > MOST_SETS {
+            return Err(NoMemory);
+        }
+        let before = before_of(alloc, list, command)?;
+        let kinds = kinds_of(alloc, list)?;
+        let given = Vec::with_capacity(alloc, sets)?;
+        let list_copy = list.copy()?;
+        let command_copy = command.copy(alloc)?;
+        let phase = first_phase(alloc, command)?;
+        Ok(Run::begun(list_copy, command_copy, phase, before, kinds, given))
+    }
+
+    fn begun(
+        list: NetList,
+        command: Command,
+        phase: Phase,
+        before: Items<Call>,
+        kinds: Items<Kind>,
+        given: Vec<Addr>,
+    ) -> Run
+        requires phase { IsPhaseOf list command 0 [] phase (start_state command) }
+        requires before { before ≡ before_of list command }
+        requires kinds { kinds ≡ kinds_of list }
+        requires few { length (sets_of list) < 2 ^ 32 }
+        requires room { length (sets_of list) ≤ vec_capacity given }
+        requires empty { given.items ≡ [] }
+        ensures { result ≡ progress (Some list) command [] }
+    {
+        let run = Run {
+            list: Some(list),
+            command,
+            made: 0,
+            phase,
+            before,
+            kinds,
+            given,
+        };
+        run
+    }
+
+    fn of_no_list(alloc: Global, command: &Command) -> Result<Run, NoMemory>
+        ensures { IfOk result (λ run. run ≡ progress None command.now []) }
+    {
+        let command = command.copy(alloc)?;
+        Ok(Run {
+            list: None,
+            command,
+            made: 0,
+            phase: Phase::Over(Ending::Yes),
+            before: Items::new(alloc),
+            kinds: Items::new(alloc),
+            given: Vec::new(alloc),
+        })
+    }
+
+    /// Makes what the next call is looked up in, where it isn't made yet. It changes nothing that is seen, whether memory
+    /// lacks or not; without it [`Run::next`] makes the same anew at each call after the leases.
     pub fn prepare(&mut self) -> Result<(), NoMemory>
         ensures { self.new ≡ self.old }
     {
-        match self.never {}
+        let alloc = *self.given.allocator();
+        if let Some(list) = &self.list {
+            let given = self.given.as_slice();
+            if self.phase.lacks_calls() {
+                let calls = back_of(alloc, list, &self.command, given)?;
+                self.phase.keep_calls(calls);
+            }
+        }
+        Ok(())
     }
 
+    /// The call to make next, or none where the run is over.
     pub fn next(&self) -> Result<Option<Call>, NoMemory>
         ensures { IfOk result (λ call. call ≡ next_call self.now.command self.now.state) }
     {
-        match self.never {}
+        let alloc = *self.given.allocator();
+        match &self.list {
+            Some(list) => next_of(
+                alloc,
+                list,
+                &self.command,
+                self.before.as_slice(),
+                self.kinds.as_slice(),
+                self.given.as_slice(),
+                &self.phase,
+            ),
+            None => Ok(None),
+        }
     }
 
+    /// Takes the reply to the call that [`Run::next`] gave. Takes no memory.
     pub fn take(&mut self, reply: Reply)
         requires open { IsOpen self.old.state }
         requires numbered { self.old.made + 1 < 2 ^ 64 }
         ensures { self.new ≡ advanced self.old reply }
     {
-        match self.never {}
+        let sets = match &self.list {
+            Some(list) => sets_of(list).len(),
+            None => unreachable!(),
+        };
+        let calls = self.before.as_slice().len();
+        let phase = replace(&mut self.phase, Phase::AtBegin);
+        self.phase = after(phase, calls, &mut self.given, sets, self.made, reply);
+        self.made += 1;
     }
 
+    /// What the command is answered, where the run is over.
     pub fn answer(&self) -> Result<Option<Answer>, NoMemory>
         ensures { IfOk result (λ answer. answer ≡ option_map (answer_by self.now.list self.now.command) (finish_of self.now.state)) }
     {
-        match self.never {}
+        let alloc = *self.given.allocator();
+        match &self.list {
+            Some(list) => answer_of(
+                alloc,
+                list,
+                &self.command,
+                self.kinds.as_slice(),
+                self.given.as_slice(),
+                &self.phase,
+            ),
+            None => Ok(Some(Answer::Yes)),
+        }
     }
 }

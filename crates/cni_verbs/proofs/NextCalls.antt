@@ -1,0 +1,206 @@
+-- What a phase calls next, and how it ends.
+use Rattle.std.proofs.Common.{◌≡◌, ℕ, ◌+◌, ◌^◌, ◌<◌, ◌≤◌, List, [], ◌∷◌, length, drop, refl, sym, ap, ◌∙◌, subst, arith, Option, Some, None, Result, inl, inr}
+use Rattle.std.specs.Prelude.{◌⊎◌, slice_get, option_map, IfOk, Ok, Err}
+use Rattle.std.proofs.lemmas.List.{drop_all}
+use Rattle.cni_addr.specs.declared.address.Addr.{Addr}
+use Rattle.cni_addr.specs.declared.range.RangeSet.{RangeSet}
+use Rattle.net_conf.specs.declared.list.NetList.{NetList}
+use Rattle.pod_file.specs.declared.command.Command.{Command}
+use Rattle.kernel_types.specs.declared.call.Kind.{Kind}
+use Rattle.kernel_types.specs.declared.call.Call.{Call}
+use Rattle.kernel_types.specs.declared.call.Call.TheVariants.{Begin, LeaseNext, CacheGet}
+use Rattle.cni_verbs.specs.CommandWords.{att_of}
+use Rattle.cni_verbs.specs.Wanted.{sets_of, kinds_of, deletion}
+use Rattle.cni_verbs.specs.Script as script
+use Rattle.cni_verbs.specs.Script.{State, Finish, before_of, back_of, next_call, finish_of}
+use Rattle.cni_verbs.specs.Phases.{Stands, IsPrepared, IsKept, IsPhaseOf, state_in, state_by_phase}
+use Rattle.cni_verbs.specs.Progress.{answer_by}
+use Rattle.cni_verbs.specs.declared.answer.Answer.TheVariants as answers
+use Rattle.cni_verbs.specs.declared.answer.Ending.{Ending}
+use Rattle.cni_verbs.specs.declared.answer.Ending.TheVariants.{Added}
+use Rattle.cni_verbs.specs.declared.phase.Phase.{Phase}
+use Rattle.cni_verbs.specs.declared.phase.Phase.TheVariants as phases
+use Rattle.cni_verbs.proofs.PhaseSteps.{IsLeft, left_of, left_or_none}
+
+pub ok_by : {A E : Type 0} (r : Result A E) {x y : A} → x ≡ y → IfOk r (λ v. v ≡ x) → IfOk r (λ v. v ≡ y)
+ok_by (Ok v) e h = h ∙ e
+ok_by (Err w) e h = h
+
+-- ---- the next call
+
+pub next_begin : (list : NetList) (c : Command) (addrs : List Addr) (phase : Phase) → phase ≡ phases.AtBegin → Some (Begin (att_of c) c.netns) ≡ next_call c (state_in list c addrs phase)
+unfolding next_call
+next_begin list c addrs phase is = sym (ap (λ p. next_call c (state_in list c addrs p)) is)
+
+at_before : (list : NetList) (c : Command) (passed : ℕ) → passed < length (before_of list c) → slice_get (before_of list c) passed ≡ next_call c (script.before_leases list c (drop passed (before_of list c)))
+unfolding next_call
+at_before list c passed h =
+    let left = left_of (before_of list c) passed h in
+    left.1.0 ∙ sym (ap (λ calls. next_call c (script.before_leases list c calls)) left.1.1)
+
+pub next_before : (list : NetList) (c : Command) (before : List Call) (kinds : List Kind) (room made passed : ℕ) (addrs : List Addr) (phase : Phase)
+    → IsKept list c before kinds room made addrs phase → phase ≡ phases.BeforeLeases passed → slice_get before passed ≡ next_call c (state_in list c addrs phase)
+next_before list c before kinds room made passed addrs phase kept is =
+    let S : Phase → Type 0 = λ p. Stands (length before) (length (sets_of list)) made addrs p in
+    let here : (passed < length before) × (addrs ≡ []) = subst S is kept.stands in
+    let same = ap length kept.before_is in
+    let lt : passed < length (before_of list c) = let below = here.0 in omega arith in
+    ap (λ calls. slice_get calls passed) kept.before_is
+    ∙ at_before list c passed lt
+    ∙ sym (ap (λ p. next_call c (state_in list c addrs p)) is)
+
+at_lease : (list : NetList) (c : Command) (addrs : List Addr) → length addrs < length (sets_of list)
+    → option_map (LeaseNext (att_of c) (length addrs)) (slice_get (sets_of list) (length addrs)) ≡ next_call c (script.leasing list c (drop (length addrs) (sets_of list)) addrs)
+unfolding next_call
+at_lease list c addrs h =
+    let left = left_of (sets_of list) (length addrs) h in
+    ap (option_map (LeaseNext (att_of c) (length addrs))) left.1.0
+    ∙ sym (ap (λ sets. next_call c (script.leasing list c sets addrs)) left.1.1)
+
+pub next_lease : (list : NetList) (c : Command) (before : List Call) (kinds : List Kind) (room made : ℕ) (addrs : List Addr) (phase : Phase)
+    → IsKept list c before kinds room made addrs phase → phase ≡ phases.Leasing
+    → option_map (LeaseNext (att_of c) (length addrs)) (slice_get (sets_of list) (length addrs)) ≡ next_call c (state_in list c addrs phase)
+next_lease list c before kinds room made addrs phase kept is =
+    let S : Phase → Type 0 = λ p. Stands (length before) (length (sets_of list)) made addrs p in
+    at_lease list c addrs (subst S is kept.stands) ∙ sym (ap (λ p. next_call c (state_in list c addrs p)) is)
+
+at_after : (c : Command) (calls : List Call) (passed : ℕ) (addrs : List Addr) → slice_get calls passed ≡ next_call c (script.after_leases (drop passed calls) addrs)
+unfolding next_call
+at_after c calls passed addrs =
+    elim (left_or_none calls passed) [
+      | inl w ↦ w.1.0 ∙ sym (ap (λ left. next_call c (script.after_leases left addrs)) w.1.1)
+      | inr w ↦ w.0 ∙ sym (ap (λ left. next_call c (script.after_leases left addrs)) w.1)
+    ]
+
+pub next_after : (list : NetList) (c : Command) (passed : ℕ) (kept : Option (List Call)) (addrs : List Addr) (phase : Phase) → phase ≡ phases.AfterLeases passed kept
+    → slice_get (back_of list c addrs) passed ≡ next_call c (state_in list c addrs phase)
+next_after list c passed kept addrs phase is = at_after c (back_of list c addrs) passed addrs ∙ sym (ap (λ p. next_call c (state_in list c addrs p)) is)
+
+pub next_cache : (list : NetList) (c : Command) (ending : Ending) (addrs : List Addr) (phase : Phase) → phase ≡ phases.ReadingCache ending → Some (CacheGet (att_of c)) ≡ next_call c (state_in list c addrs phase)
+unfolding next_call
+next_cache list c ending addrs phase is = sym (ap (λ p. next_call c (state_in list c addrs p)) is)
+
+at_deletion : (c : Command) (kinds : List Kind) (passed : ℕ) (ending : Ending) → option_map (deletion (att_of c)) (slice_get kinds passed) ≡ next_call c (script.deleting (drop passed kinds) ending)
+unfolding next_call
+at_deletion c kinds passed ending =
+    elim (left_or_none kinds passed) [
+      | inl w ↦ ap (option_map (deletion (att_of c))) w.1.0 ∙ sym (ap (λ left. next_call c (script.deleting left ending)) w.1.1)
+      | inr w ↦ ap (option_map (deletion (att_of c))) w.0 ∙ sym (ap (λ left. next_call c (script.deleting left ending)) w.1)
+    ]
+
+pub next_deletion : (list : NetList) (c : Command) (before : List Call) (kinds : List Kind) (room made passed : ℕ) (ending : Ending) (addrs : List Addr) (phase : Phase)
+    → IsKept list c before kinds room made addrs phase → phase ≡ phases.Deleting passed ending
+    → option_map (deletion (att_of c)) (slice_get kinds passed) ≡ next_call c (state_in list c addrs phase)
+next_deletion list c before kinds room made passed ending addrs phase kept is =
+    at_deletion c kinds passed ending
+    ∙ ap (λ ks. next_call c (script.deleting (drop passed ks) ending)) kept.kinds_is
+    ∙ sym (ap (λ p. next_call c (state_in list c addrs p)) is)
+
+pub next_over : (list : NetList) (c : Command) (ending : Ending) (addrs : List Addr) (phase : Phase) → phase ≡ phases.Over ending → None ≡ next_call c (state_in list c addrs phase)
+unfolding next_call
+next_over list c ending addrs phase is = sym (ap (λ p. next_call c (state_in list c addrs p)) is)
+
+-- ---- the end
+
+calls_are_left : (calls : List Call) (passed : ℕ) (addrs : List Addr) → passed < length calls → finish_of (script.after_leases (drop passed calls) addrs) ≡ None
+unfolding finish_of
+calls_are_left calls passed addrs h =
+    let left = left_of calls passed h in
+    ap (λ rest. finish_of (script.after_leases rest addrs)) left.1.1
+
+kinds_are_left : (kinds : List Kind) (passed : ℕ) (ending : Ending) → passed < length kinds → finish_of (script.deleting (drop passed kinds) ending) ≡ None
+unfolding finish_of
+kinds_are_left kinds passed ending h =
+    let left = left_of kinds passed h in
+    ap (λ rest. finish_of (script.deleting rest ending)) left.1.1
+
+begin_is_open : {A : Type 0} (list : NetList) (c : Command) (addrs : List Addr) (phase : Phase) (f : Finish → A) → phase ≡ phases.AtBegin
+    → None ≡ option_map f (finish_of (state_in list c addrs phase))
+unfolding finish_of
+begin_is_open list c addrs phase f is = sym (ap (λ p. option_map f (finish_of (state_in list c addrs p))) is)
+
+pub after_is_open : {A : Type 0} (list : NetList) (c : Command) (passed : ℕ) (kept : Option (List Call)) (addrs : List Addr) (phase : Phase) (f : Finish → A)
+    → phase ≡ phases.AfterLeases passed kept → passed < length (back_of list c addrs) → None ≡ option_map f (finish_of (state_in list c addrs phase))
+after_is_open list c passed kept addrs phase f is h =
+    sym (ap (λ p. option_map f (finish_of (state_in list c addrs p))) is ∙ ap (option_map f) (calls_are_left (back_of list c addrs) passed addrs h))
+
+pub deleting_is_open : {A : Type 0} (list : NetList) (c : Command) (passed : ℕ) (ending : Ending) (kinds : List Kind) (addrs : List Addr) (phase : Phase) (f : Finish → A)
+    → phase ≡ phases.Deleting passed ending → kinds ≡ kinds_of list → passed < length kinds → None ≡ option_map f (finish_of (state_in list c addrs phase))
+deleting_is_open list c passed ending kinds addrs phase f is same h =
+    sym (ap (λ p. option_map f (finish_of (state_in list c addrs p))) is
+    ∙ ap (λ ks. option_map f (finish_of (script.deleting (drop passed ks) ending))) (sym same)
+    ∙ ap (option_map f) (kinds_are_left kinds passed ending h))
+
+before_is_open : {A : Type 0} (list : NetList) (c : Command) (before : List Call) (kinds : List Kind) (room made passed : ℕ) (addrs : List Addr) (phase : Phase) (f : Finish → A)
+    → IsKept list c before kinds room made addrs phase → phase ≡ phases.BeforeLeases passed → None ≡ option_map f (finish_of (state_in list c addrs phase))
+unfolding finish_of
+before_is_open list c before kinds room made passed addrs phase f kept is =
+    let S : Phase → Type 0 = λ p. Stands (length before) (length (sets_of list)) made addrs p in
+    let here : (passed < length before) × (addrs ≡ []) = subst S is kept.stands in
+    let same = ap length kept.before_is in
+    let lt : passed < length (before_of list c) = let below = here.0 in omega arith in
+    let left = left_of (before_of list c) passed lt in
+    sym (ap (λ p. option_map f (finish_of (state_in list c addrs p))) is
+    ∙ ap (λ calls. option_map f (finish_of (script.before_leases list c calls))) left.1.1)
+
+leasing_is_open : {A : Type 0} (list : NetList) (c : Command) (before : List Call) (kinds : List Kind) (room made : ℕ) (addrs : List Addr) (phase : Phase) (f : Finish → A)
+    → IsKept list c before kinds room made addrs phase → phase ≡ phases.Leasing → None ≡ option_map f (finish_of (state_in list c addrs phase))
+unfolding finish_of
+leasing_is_open list c before kinds room made addrs phase f kept is =
+    let S : Phase → Type 0 = λ p. Stands (length before) (length (sets_of list)) made addrs p in
+    let left = left_of (sets_of list) (length addrs) (subst S is kept.stands) in
+    sym (ap (λ p. option_map f (finish_of (state_in list c addrs p))) is
+    ∙ ap (λ sets. option_map f (finish_of (script.leasing list c sets addrs))) left.1.1)
+
+cache_is_open : {A : Type 0} (list : NetList) (c : Command) (ending : Ending) (addrs : List Addr) (phase : Phase) (f : Finish → A) → phase ≡ phases.ReadingCache ending
+    → None ≡ option_map f (finish_of (state_in list c addrs phase))
+unfolding finish_of
+cache_is_open list c ending addrs phase f is = sym (ap (λ p. option_map f (finish_of (state_in list c addrs p))) is)
+
+pub early_is_open : {A : Type 0} (list : NetList) (c : Command) (before : List Call) (kinds : List Kind) (room made : ℕ) (addrs : List Addr) (phase : Phase) (f : Finish → A)
+    → IsKept list c before kinds room made addrs phase
+    → (phase ≡ phases.AtBegin) ⊎ (((passed : ℕ) × (phase ≡ phases.BeforeLeases passed)) ⊎ ((phase ≡ phases.Leasing) ⊎ ((ending : Ending) × (phase ≡ phases.ReadingCache ending))))
+    → None ≡ option_map f (finish_of (state_in list c addrs phase))
+early_is_open list c before kinds room made addrs phase f kept (inl is) = begin_is_open list c addrs phase f is
+early_is_open list c before kinds room made addrs phase f kept (inr (inl w)) = before_is_open list c before kinds room made w.0 addrs phase f kept w.1
+early_is_open list c before kinds room made addrs phase f kept (inr (inr (inl is))) = leasing_is_open list c before kinds room made addrs phase f kept is
+early_is_open list c before kinds room made addrs phase f kept (inr (inr (inr w))) = cache_is_open list c w.0 addrs phase f w.1
+
+-- ---- the start
+
+pub kept_at_start : (list : NetList) (c : Command) (before : List Call) (kinds : List Kind) (room : ℕ) (given : List Addr) (phase : Phase)
+    → IsPhaseOf list c 0 [] phase (script.start_state c) → before ≡ before_of list c → kinds ≡ kinds_of list → length (sets_of list) < 2 ^ 32
+    → length (sets_of list) ≤ room → given ≡ [] → IsKept list c before kinds room 0 given phase
+kept_at_start list c before kinds room given phase starts before_is kinds_is few room_is none =
+    let B : List Call → Type 0 = λ calls. Stands (length calls) (length (sets_of list)) 0 [] phase in
+    let G : List Addr → Type 0 = λ addrs. Stands (length before) (length (sets_of list)) 0 addrs phase in
+    let R : List Addr → Type 0 = λ addrs. IsPrepared list c addrs phase in
+    record {
+      before_is = before_is;
+      kinds_is = kinds_is;
+      few = few;
+      room_is = room_is;
+      stands = subst G (sym none) (subst B (sym before_is) starts.stands);
+      prepared = subst R (sym none) starts.prepared;
+    }
+
+pub seen_at_start : (list : NetList) (c : Command) (given : List Addr) (phase : Phase) → IsPhaseOf list c 0 [] phase (script.start_state c) → given ≡ []
+    → state_in list c given phase ≡ script.start_state c
+seen_at_start list c given phase starts none = ap (λ addrs. state_in list c addrs phase) none ∙ starts.is
+
+-- the phase of a command is that of its copy
+pub starts_for : (l k : NetList) (c d : Command) (phase : Phase) → d ≡ c → ((list : NetList) → IsPhaseOf list c 0 [] phase (script.start_state c)) → IsPhaseOf k d 0 [] phase (script.start_state d)
+starts_for l k c d phase same h =
+    let P : Command → Type 0 = λ x. IsPhaseOf k x 0 [] phase (script.start_state x) in
+    subst P (sym same) (h k)
+
+-- ---- no network
+
+pub no_list_calls : (list : Option NetList) (c : Command) (addrs : List Addr) (phase : Phase) → list ≡ None → next_call c (state_by_phase list c addrs phase) ≡ None
+unfolding next_call
+no_list_calls list c addrs phase none = ap (λ l. next_call c (state_by_phase l c addrs phase)) none
+
+pub no_list_answers : (list : Option NetList) (c : Command) (addrs : List Addr) (phase : Phase) → list ≡ None
+    → option_map (answer_by list c) (finish_of (state_by_phase list c addrs phase)) ≡ Some answers.Yes
+unfolding finish_of
+no_list_answers list c addrs phase none = ap (λ l. option_map (answer_by l c) (finish_of (state_by_phase l c addrs phase))) none

@@ -1,0 +1,191 @@
+-- Each phase after a reply stands for the script's state after it.
+use Rattle.std.proofs.Common.{◌≡◌, ℕ, ◌+◌, ◌<◌, ◌≤◌, Bool, true, false, List, [], ◌∷◌, ◌++◌, length, drop, refl, sym, ap, ◌∙◌, subst, arith, Option, Some, None}
+use Rattle.std.specs.Prelude.{◌⊎◌, slice_get, ⊤}
+use Rattle.std.proofs.Common.{inl, inr, suc, add-one, drop-cons, get_or}
+use Rattle.std.proofs.lemmas.List.{drop_all}
+use Rattle.std.proofs.lemmas.Option.{slice_get_cases}
+use Rattle.std.proofs.lemmas.Bool.{cases_lt}
+use Rattle.cni_addr.specs.declared.address.Addr.{Addr}
+use Rattle.cni_addr.specs.declared.range.RangeSet.{RangeSet}
+use Rattle.net_conf.specs.declared.list.NetList.{NetList}
+use Rattle.pod_file.specs.declared.command.Command.{Command}
+use Rattle.kernel_types.specs.declared.call.Kind.{Kind}
+use Rattle.kernel_types.specs.declared.call.Call.{Call}
+use Rattle.kernel_types.specs.declared.call.Reply.{Reply}
+use Rattle.kernel_types.specs.declared.call.Reply.TheVariants.{Leased}
+use Rattle.cni_verbs.specs.Wanted.{sets_of, kinds_of}
+use Rattle.cni_verbs.specs.Script as script
+use Rattle.cni_verbs.specs.Script.{State, before_of, back_of, cause_of, faulted, advance, IsOpen}
+use Rattle.cni_verbs.specs.Phases.{Stands, IsPrepared, IsPhaseOf, state_in}
+use Rattle.cni_verbs.specs.declared.answer.Ending.{Ending}
+use Rattle.cni_verbs.specs.declared.phase.Phase.{Phase}
+use Rattle.cni_verbs.specs.declared.phase.Phase.TheVariants as phases
+
+-- ---- what is left of a list
+
+abbrev pub IsLeft : {X : Type 0} → List X → ℕ → X → Type 0
+IsLeft xs n x = (slice_get xs n ≡ Some x) × (drop n xs ≡ x ∷ drop (n + 1) xs)
+
+left_at : {X : Type 0} (xs : List X) (n : ℕ) (x : X) → n < length xs → slice_get xs n ≡ Some x → get_or xs n x ≡ x → IsLeft xs n x
+left_at xs n x h got is = (got, drop-cons xs n x h ∙ ap (λ y. y ∷ drop (suc n) xs) is ∙ ap (λ k. x ∷ drop k xs) (sym (add-one n)))
+
+pub left_of : {X : Type 0} (xs : List X) (n : ℕ) → n < length xs → (x : X) × IsLeft xs n x
+left_of {X} xs n h =
+    elim (slice_get_cases xs n).1 as (λ w. (x : X) × IsLeft xs n x) [
+      | inl w ↦ (w.0, left_at xs n w.0 w.1 w.2 w.3)
+      | inr w ↦ absurd (omega arith)
+    ]
+
+-- an element is left at this place, or nothing
+pub left_or_none : {X : Type 0} (xs : List X) (n : ℕ) → ((x : X) × IsLeft xs n x) ⊎ ((slice_get xs n ≡ None) × (drop n xs ≡ []))
+left_or_none {X} xs n =
+    elim (slice_get_cases xs n).1 as (λ w. ((x : X) × IsLeft xs n x) ⊎ ((slice_get xs n ≡ None) × (drop n xs ≡ []))) [
+      | inl w ↦ inl (w.0, left_at xs n w.0 w.1 w.2 w.3)
+      | inr w ↦ inr (w.1, drop_all n xs w.0)
+    ]
+
+-- ---- where work is left
+
+pub calls_over : (list : NetList) (c : Command) (made passed calls : ℕ) (phase : Phase) → length (before_of list c) ≡ calls → calls ≤ passed
+    → IsPhaseOf list c made [] phase (script.leasing list c (drop 0 (sets_of list)) [])
+    → IsPhaseOf list c made [] phase (script.before_leases list c (drop passed (before_of list c)))
+calls_over list c made passed calls phase all h goes =
+    let over : length (before_of list c) ≤ passed = omega arith in
+    let P : State → Type 0 = λ state. IsPhaseOf list c made [] phase state in
+    subst P (sym (ap (script.before_leases list c) (drop_all passed (before_of list c) over))) goes
+
+-- ---- the script's step, by the phase
+
+pub steps_before : (list : NetList) (c : Command) (number passed : ℕ) (r : Reply) → passed < length (before_of list c)
+    → script.at_call_before list c number (drop (passed + 1) (before_of list c)) r ≡ advance list c number (script.before_leases list c (drop passed (before_of list c))) r
+unfolding advance
+steps_before list c number passed r h =
+    let left = left_of (before_of list c) passed h in
+    sym (ap (λ calls. advance list c number (script.before_leases list c calls) r) left.1.1)
+
+pub steps_lease : (list : NetList) (c : Command) (number : ℕ) (addrs : List Addr) (r : Reply) → length addrs < length (sets_of list)
+    → script.at_lease list c number (drop (length addrs + 1) (sets_of list)) addrs r ≡ advance list c number (script.leasing list c (drop (length addrs) (sets_of list)) addrs) r
+unfolding advance
+steps_lease list c number addrs r h =
+    let left = left_of (sets_of list) (length addrs) h in
+    sym (ap (λ sets. advance list c number (script.leasing list c sets addrs) r) left.1.1)
+
+-- an open state has work left in its list
+opens_after : (calls : List Call) (passed : ℕ) (addrs : List Addr) → IsOpen (script.after_leases (drop passed calls) addrs) → passed < length calls
+opens_after calls passed addrs h =
+    elim (cases_lt passed (length calls)) [
+      | inl lt ↦ lt
+      | inr le ↦ absurd (subst (λ left. IsOpen (script.after_leases left addrs)) (drop_all passed calls le) h)
+    ]
+
+pub steps_after : (list : NetList) (c : Command) (number passed : ℕ) (addrs : List Addr) (r : Reply) → IsOpen (script.after_leases (drop passed (back_of list c addrs)) addrs)
+    → script.at_call_after number (drop (passed + 1) (back_of list c addrs)) addrs r ≡ advance list c number (script.after_leases (drop passed (back_of list c addrs)) addrs) r
+unfolding advance
+steps_after list c number passed addrs r h =
+    let left = left_of (back_of list c addrs) passed (opens_after (back_of list c addrs) passed addrs h) in
+    sym (ap (λ calls. advance list c number (script.after_leases calls addrs) r) left.1.1)
+
+opens_deleting : (kinds : List Kind) (passed : ℕ) (ending : Ending) → IsOpen (script.deleting (drop passed kinds) ending) → passed < length kinds
+opens_deleting kinds passed ending h =
+    elim (cases_lt passed (length kinds)) [
+      | inl lt ↦ lt
+      | inr le ↦ absurd (subst (λ left. IsOpen (script.deleting left ending)) (drop_all passed kinds le) h)
+    ]
+
+pub kind_left : (list : NetList) (passed : ℕ) (ending : Ending) → IsOpen (script.deleting (drop passed (kinds_of list)) ending)
+    → (kind : Kind) × (drop passed (kinds_of list) ≡ kind ∷ drop (passed + 1) (kinds_of list))
+kind_left list passed ending h =
+    let left = left_of (kinds_of list) passed (opens_deleting (kinds_of list) passed ending h) in
+    (left.0, left.1.1)
+
+pub steps_deletion : (list : NetList) (c : Command) (number passed : ℕ) (kind : Kind) (ending : Ending) (r : Reply)
+    → drop passed (kinds_of list) ≡ kind ∷ drop (passed + 1) (kinds_of list)
+    → script.at_deletion number kind (drop (passed + 1) (kinds_of list)) ending r ≡ advance list c number (script.deleting (drop passed (kinds_of list)) ending) r
+unfolding advance
+steps_deletion list c number passed kind ending r here = sym (ap (λ kinds. advance list c number (script.deleting kinds ending) r) here)
+
+pub steps_begin : (list : NetList) (c : Command) (number : ℕ) (r : Reply) → script.at_begin list c number r ≡ advance list c number script.AtBegin r
+unfolding advance
+steps_begin list c number r = refl
+
+pub steps_cache : (list : NetList) (c : Command) (number : ℕ) (ending : Ending) (r : Reply) → script.at_cache list number ending r ≡ advance list c number (script.ReadingCache ending) r
+unfolding advance
+steps_cache list c number ending r = refl
+
+-- the same phase, for an equal state
+pub at_state : (list : NetList) (c : Command) (made : ℕ) (addrs : List Addr) (phase : Phase) {a b : State} → a ≡ b → IsPhaseOf list c made addrs phase a → IsPhaseOf list c made addrs phase b
+at_state list c made addrs phase e h =
+    let P : State → Type 0 = λ state. IsPhaseOf list c made addrs phase state in
+    subst P e h
+
+pub leased_goes : (list : NetList) (c : Command) (number len : ℕ) (old addrs : List Addr) (addr : Addr) (r : Reply) (phase : Phase)
+    → addrs ≡ old ++ addr ∷ [] → len ≡ length old + 1 → r ≡ Leased addr
+    → IsPhaseOf list c number addrs phase (script.leasing list c (drop len (sets_of list)) addrs)
+    → IsPhaseOf list c number addrs phase (script.at_lease list c number (drop (length old + 1) (sets_of list)) old r)
+leased_goes list c number len old addrs addr r phase items len_is is h =
+    at_state list c number addrs phase
+    (ap (λ n. script.leasing list c (drop n (sets_of list)) addrs) len_is
+    ∙ ap (λ gs. script.leasing list c (drop (length old + 1) (sets_of list)) gs) items
+    ∙ sym (ap (λ reply. script.at_lease list c number (drop (length old + 1) (sets_of list)) old reply) is))
+    h
+
+-- ---- each phase
+
+abbrev pub Goes : NetList → Command → ℕ → List Addr → List Addr → Phase → Reply → Phase → Type 0
+Goes list c made old new phase r next = IsPhaseOf list c (made + 1) new next (advance list c (made + 1) (state_in list c old phase) r)
+
+pub goes_begin : (list : NetList) (c : Command) (calls sets made : ℕ) (addrs : List Addr) (phase : Phase) (r : Reply) (next : Phase) → phase ≡ phases.AtBegin
+    → Stands calls sets made addrs phase → IsPhaseOf list c (made + 1) [] next (script.at_begin list c (made + 1) r) → Goes list c made addrs addrs phase r next
+goes_begin list c calls sets made addrs phase r next is stands h =
+    let S : Phase → Type 0 = λ p. Stands calls sets made addrs p in
+    let none : addrs ≡ [] = subst S is stands in
+    let G : List Addr → Type 0 = λ a. Goes list c made a a phases.AtBegin r next in
+    let F : Phase → Type 0 = λ p. Goes list c made addrs addrs p r next in
+    subst F (sym is) (subst G (sym none) (at_state list c (made + 1) [] next (steps_begin list c (made + 1) r) h))
+
+pub goes_before : (list : NetList) (c : Command) (calls sets made passed : ℕ) (addrs : List Addr) (phase : Phase) (r : Reply) (next : Phase) → phase ≡ phases.BeforeLeases passed
+    → Stands calls sets made addrs phase → length (before_of list c) ≡ calls
+    → IsPhaseOf list c (made + 1) [] next (script.at_call_before list c (made + 1) (drop (passed + 1) (before_of list c)) r) → Goes list c made addrs addrs phase r next
+goes_before list c calls sets made passed addrs phase r next is stands all h =
+    let S : Phase → Type 0 = λ p. Stands calls sets made addrs p in
+    let here : (passed < calls) × (addrs ≡ []) = subst S is stands in
+    let lt : passed < length (before_of list c) = let below : passed < calls = here.0 in omega arith in
+    let G : List Addr → Type 0 = λ a. Goes list c made a a (phases.BeforeLeases passed) r next in
+    let F : Phase → Type 0 = λ p. Goes list c made addrs addrs p r next in
+    subst F (sym is) (subst G (sym here.1) (at_state list c (made + 1) [] next (steps_before list c (made + 1) passed r lt) h))
+
+pub goes_lease : (list : NetList) (c : Command) (calls sets made : ℕ) (old new : List Addr) (phase : Phase) (r : Reply) (next : Phase) → phase ≡ phases.Leasing
+    → Stands calls sets made old phase → length (sets_of list) ≡ sets
+    → IsPhaseOf list c (made + 1) new next (script.at_lease list c (made + 1) (drop (length old + 1) (sets_of list)) old r) → Goes list c made old new phase r next
+goes_lease list c calls sets made old new phase r next is stands all h =
+    let S : Phase → Type 0 = λ p. Stands calls sets made old p in
+    let lt : length old < length (sets_of list) = let below : length old < sets = subst S is stands in omega arith in
+    let F : Phase → Type 0 = λ p. Goes list c made old new p r next in
+    subst F (sym is) (at_state list c (made + 1) new next (steps_lease list c (made + 1) old r lt) h)
+
+pub goes_after : (list : NetList) (c : Command) (made passed : ℕ) (kept : Option (List Call)) (addrs : List Addr) (phase : Phase) (r : Reply) (next : Phase) → phase ≡ phases.AfterLeases passed kept
+    → IsPrepared list c addrs phase → IsOpen (state_in list c addrs phase)
+    → (IsPrepared list c addrs (phases.AfterLeases passed kept) → IsPhaseOf list c (made + 1) addrs next (script.at_call_after (made + 1) (drop (passed + 1) (back_of list c addrs)) addrs r))
+    → Goes list c made addrs addrs phase r next
+goes_after list c made passed kept addrs phase r next is prepared opens h =
+    let R : Phase → Type 0 = λ p. IsPrepared list c addrs p in
+    let O : Phase → Type 0 = λ p. IsOpen (state_in list c addrs p) in
+    let F : Phase → Type 0 = λ p. Goes list c made addrs addrs p r next in
+    subst F (sym is) (at_state list c (made + 1) addrs next (steps_after list c (made + 1) passed addrs r (subst O is opens)) (h (subst R is prepared)))
+
+pub goes_cache : (list : NetList) (c : Command) (made : ℕ) (ending : Ending) (addrs : List Addr) (phase : Phase) (r : Reply) (next : Phase) → phase ≡ phases.ReadingCache ending
+    → IsPhaseOf list c (made + 1) addrs next (script.at_cache list (made + 1) ending r) → Goes list c made addrs addrs phase r next
+goes_cache list c made ending addrs phase r next is h =
+    let F : Phase → Type 0 = λ p. Goes list c made addrs addrs p r next in
+    subst F (sym is) (at_state list c (made + 1) addrs next (steps_cache list c (made + 1) ending r) h)
+
+pub goes_deleting : (list : NetList) (c : Command) (made passed : ℕ) (ending : Ending) (addrs : List Addr) (phase : Phase) (r : Reply) (next : Phase) → phase ≡ phases.Deleting passed ending
+    → IsOpen (state_in list c addrs phase)
+    → ((kind : Kind) → drop passed (kinds_of list) ≡ kind ∷ drop (passed + 1) (kinds_of list)
+    → IsPhaseOf list c (made + 1) addrs next (script.at_deletion (made + 1) kind (drop (passed + 1) (kinds_of list)) ending r))
+    → Goes list c made addrs addrs phase r next
+goes_deleting list c made passed ending addrs phase r next is opens h =
+    let O : Phase → Type 0 = λ p. IsOpen (state_in list c addrs p) in
+    let left = kind_left list passed ending (subst O is opens) in
+    let F : Phase → Type 0 = λ p. Goes list c made addrs addrs p r next in
+    subst F (sym is) (at_state list c (made + 1) addrs next (steps_deletion list c (made + 1) passed left.0 ending r left.1) (h left.0 left.1))

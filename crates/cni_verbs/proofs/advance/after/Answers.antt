@@ -1,0 +1,33 @@
+use Rattle.std.proofs.Common.{◌+◌}
+use Rattle.cni_verbs.proofs.PhaseSteps.{goes_begin, goes_before, goes_lease, goes_after, goes_cache, goes_deleting}
+use Rattle.cni_verbs.proofs.advance.after.Goals as goal
+
+pub returns-in-AtBegin-clause-phase : goal.returns-in-AtBegin-clause-phase
+returns-in-AtBegin-clause-phase c = λ list command calls sets prepared opens.
+    goes_begin list command c.args.calls c.args.sets c.args.made c.args.given.now.items c.args.phase c.args.reply c.after_begin.result
+    c.in-AtBegin.is c.requires.stands (c.after_begin.ensures list command calls sets)
+
+pub returns-in-BeforeLeases-clause-phase : goal.returns-in-BeforeLeases-clause-phase
+returns-in-BeforeLeases-clause-phase c = λ list command calls sets prepared opens.
+    goes_before list command c.args.calls c.args.sets c.args.made _ c.args.given.now.items c.args.phase c.args.reply c.after_call_before.result
+    c.in-BeforeLeases.is c.requires.stands calls (c.after_call_before.ensures list command calls sets)
+
+pub returns-in-Leasing-clause-phase : goal.returns-in-Leasing-clause-phase
+returns-in-Leasing-clause-phase c = λ list command calls sets prepared opens.
+    goes_lease list command c.args.calls c.args.sets c.args.made c.args.given.now.items c.after_lease.new.given.items c.args.phase c.args.reply c.after_lease.result
+    c.in-Leasing.is c.requires.stands sets (c.after_lease.ensures.phase list command sets)
+
+pub returns-in-AfterLeases-clause-phase : goal.returns-in-AfterLeases-clause-phase
+returns-in-AfterLeases-clause-phase c = λ list command calls sets prepared opens.
+    goes_after list command c.args.made _ _ c.args.given.now.items c.args.phase c.args.reply c.after_call_after.result
+    c.in-AfterLeases.is prepared opens (c.after_call_after.ensures list command c.args.given.now.items)
+
+pub returns-in-ReadingCache-clause-phase : goal.returns-in-ReadingCache-clause-phase
+returns-in-ReadingCache-clause-phase c = λ list command calls sets prepared opens.
+    goes_cache list command c.args.made _ c.args.given.now.items c.args.phase c.args.reply c.after_cache.result
+    c.in-ReadingCache.is (c.after_cache.ensures list command c.args.given.now.items)
+
+pub returns-in-Deleting-clause-phase : goal.returns-in-Deleting-clause-phase
+returns-in-Deleting-clause-phase c = λ list command calls sets prepared opens.
+    goes_deleting list command c.args.made _ _ c.args.given.now.items c.args.phase c.args.reply c.after_deletion.result
+    c.in-Deleting.is opens (c.after_deletion.ensures list command c.args.given.now.items)

@@ -1,0 +1,40 @@
+use Rattle.std.proofs.Common.{◌∙◌, ap, length}
+use Rattle.std.specs.Prelude.{option_map, slice_get}
+use Rattle.kernel_types.specs.declared.call.Call.TheVariants.{LeaseNext}
+use Rattle.cni_verbs.specs.CommandWords.{att_of}
+use Rattle.cni_verbs.proofs.NextCalls.{ok_by, next_begin, next_before, next_lease, next_after, next_cache, next_deletion, next_over}
+use Rattle.cni_verbs.proofs.next.next_of.Goals as goal
+
+pub returns-in-AtBegin : goal.returns-in-AtBegin
+returns-in-AtBegin c =
+    ok_by c.begin.result (next_begin c.args.list.now c.args.command.now c.args.given.now c.args.phase.now c.in-AtBegin.is) c.begin.ensures
+
+pub returns-in-BeforeLeases : goal.returns-in-BeforeLeases
+returns-in-BeforeLeases c =
+    ok_by c.call_at.result
+    (next_before c.args.list.now c.args.command.now c.args.before.now c.args.kinds.now c.requires.0 c.requires.1 _ c.args.given.now c.args.phase.now c.requires.2 c.in-BeforeLeases.is)
+    c.call_at.ensures
+
+pub returns-in-Leasing : goal.returns-in-Leasing
+returns-in-Leasing c =
+    ok_by c.lease_at.result
+    (ap (λ sets. option_map (LeaseNext (att_of c.args.command.now) (length c.args.given.now)) (slice_get sets (length c.args.given.now))) c.sets_of.ensures
+    ∙ next_lease c.args.list.now c.args.command.now c.args.before.now c.args.kinds.now c.requires.0 c.requires.1 c.args.given.now c.args.phase.now c.requires.2 c.in-Leasing.is)
+    c.lease_at.ensures
+
+pub returns-in-AfterLeases : goal.returns-in-AfterLeases
+returns-in-AfterLeases c =
+    ok_by c.call_after.result (next_after c.args.list.now c.args.command.now _ _ c.args.given.now c.args.phase.now c.in-AfterLeases.is) c.call_after.ensures
+
+pub returns-in-ReadingCache : goal.returns-in-ReadingCache
+returns-in-ReadingCache c =
+    ok_by c.cache_get.result (next_cache c.args.list.now c.args.command.now _ c.args.given.now c.args.phase.now c.in-ReadingCache.is) c.cache_get.ensures
+
+pub returns-in-Deleting : goal.returns-in-Deleting
+returns-in-Deleting c =
+    ok_by c.deletion_at.result
+    (next_deletion c.args.list.now c.args.command.now c.args.before.now c.args.kinds.now c.requires.0 c.requires.1 _ _ c.args.given.now c.args.phase.now c.requires.2 c.in-Deleting.is)
+    c.deletion_at.ensures
+
+pub returns-in-Over : goal.returns-in-Over
+returns-in-Over c = next_over c.args.list.now c.args.command.now _ c.args.given.now c.args.phase.now c.in-Over.is

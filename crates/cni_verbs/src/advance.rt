@@ -1,0 +1,180 @@
+//! The phase after a reply. Nothing here takes memory.
+
+ghost use Rattle.std.specs.Prelude.{◌≡◌, ℕ, ◌+◌, ◌<◌, ◌≤◌, ◌^◌, [], ◌∷◌, ◌++◌, List, length, drop, Some, None, vec_capacity};
+ghost use Rattle.cni_addr.specs.declared.address.Addr.{Addr};
+ghost use Rattle.net_conf.specs.declared.list.NetList.{NetList};
+ghost use Rattle.pod_file.specs.declared.command.Command.{Command};
+ghost use Rattle.kernel_types.specs.declared.call.Kind.{Kind};
+ghost use Rattle.cni_verbs.specs.Wanted.{sets_of, kinds_of};
+ghost use Rattle.cni_verbs.specs.Script.{IsOpen, before_of, back_of};
+ghost use Rattle.cni_verbs.specs.Script as script;
+ghost use Rattle.cni_verbs.specs.Phases.{Stands, IsPrepared, IsPhaseOf, state_in};
+
+use crate::answer::{Cause, Ending};
+use crate::phase::Phase;
+use cni_addr::{Addr, Items};
+use kernel_types::{Call, Reply};
+
+// ---- refusals
+
+fn cause_of(set: u32, number: u64, reply: Reply) -> Cause
+    ensures { result ≡ script.cause_of set number reply }
+{
+    match reply {
+        Reply::NoNs => Cause::NoNamespace,
+        Reply::NoLink => Cause::NoMaster,
+        Reply::Taken(tag) => Cause::NameTaken(tag),
+        Reply::Empty => Cause::PoolEmpty(set),
+        Reply::Done
+        | Reply::Leased(_)
+        | Reply::Gone(_)
+        | Reply::Has(_)
+        | Reply::Owners(_)
+        | Reply::Entry(_)
+        | Reply::Fault => Cause::Fault(number),
+    }
+}
+
+fn faulted(number: u64, ending: Ending) -> Ending
+    ensures { result ≡ script.faulted number ending }
+{
+    match ending {
+        Ending::Added | Ending::Yes => Ending::Refused(Cause::Fault(number)),
+        Ending::Refused(cause) => Ending::Refused(cause),
+    }
+}
+
+// ---- where work is left
+
+fn leasing(given: usize, sets: usize) -> Phase
+    ensures { (list : NetList) (c : Command) (made : ℕ) (addrs : List Addr) → length (sets_of list) ≡ sets → length addrs ≡ given
+        → IsPhaseOf list c made addrs result (script.leasing list c (drop given (sets_of list)) addrs) }
+{
+    if given < sets {
+        Phase::Leasing
+    } else {
+        Phase::AfterLeases {
+            passed: 0,
+            calls: None,
+        }
+    }
+}
+
+fn before_leases(passed: usize, calls: usize, sets: usize) -> Phase
+    ensures { (list : NetList) (c : Command) (made : ℕ) → length (before_of list c) ≡ calls → length (sets_of list) ≡ sets
+        → IsPhaseOf list c made [] result (script.before_leases list c (drop passed (before_of list c))) }
+{
+    if passed < calls {
+        Phase::BeforeLeases(passed)
+    } else {
+        leasing(0, sets)
+    }
+}
+
+// ---- one reply
+
+fn after_begin(calls: usize, sets: usize, number: u64, reply: Reply) -> Phase
+    ensures { (list : NetList) (c : Command) → length (before_of list c) ≡ calls → length (sets_of list) ≡ sets
+        → IsPhaseOf list c number [] result (script.at_begin list c number reply) }
+{
+    match reply {
+        Reply::Done => before_leases(0, calls, sets),
+        refusal => Phase::Over(Ending::Refused(cause_of(0, number, refusal))),
+    }
+}
+
+fn after_call_before(passed: usize, calls: usize, sets: usize, number: u64, reply: Reply) -> Phase
+    requires { passed < calls }
+    ensures { (list : NetList) (c : Command) → length (before_of list c) ≡ calls → length (sets_of list) ≡ sets
+        → IsPhaseOf list c number [] result (script.at_call_before list c number (drop (passed + 1) (before_of list c)) reply) }
+{
+    match reply {
+        Reply::Done => before_leases(passed + 1, calls, sets),
+        refusal => Phase::ReadingCache(Ending::Refused(cause_of(0, number, refusal))),
+    }
+}
+
+fn after_lease(given: &mut Vec<Addr>, sets: usize, number: u64, reply: Reply) -> Phase
+    requires left { length given.old.items < sets }
+    requires few { sets < 2 ^ 32 }
+    requires room { sets ≤ vec_capacity given.old }
+    ensures phase { (list : NetList) (c : Command) → length (sets_of list) ≡ sets
+        → IsPhaseOf list c number given.new.items result (script.at_lease list c number (drop (length given.old.items + 1) (sets_of list)) given.old.items reply) }
+    ensures room { sets ≤ vec_capacity given.new }
+{
+    match reply {
+        Reply::Leased(addr) => {
+            given.push_reserved(addr);
+            leasing(given.len(), sets)
+        }
+        refusal => {
+            let set = given.len() as u32;
+            Phase::ReadingCache(Ending::Refused(cause_of(set, number, refusal)))
+        }
+    }
+}
+
+fn after_call_after(passed: usize, calls: Option<Items<Call>>, number: u64, reply: Reply) -> Phase
+    requires { passed < number }
+    ensures { (list : NetList) (c : Command) (addrs : List Addr) → IsPrepared list c addrs (Phase.AfterLeases passed calls)
+        → IsPhaseOf list c number addrs result (script.at_call_after number (drop (passed + 1) (back_of list c addrs)) addrs reply) }
+{
+    match reply {
+        Reply::Done => Phase::AfterLeases {
+            passed: passed + 1,
+            calls,
+        },
+        refusal => Phase::ReadingCache(Ending::Refused(cause_of(0, number, refusal))),
+    }
+}
+
+fn after_cache(number: u64, ending: Ending, reply: Reply) -> Phase
+    ensures { (list : NetList) (c : Command) (addrs : List Addr) → IsPhaseOf list c number addrs result (script.at_cache list number ending reply) }
+{
+    match reply {
+        Reply::Fault => Phase::Over(faulted(number, ending)),
+        _ => Phase::Deleting(0, ending),
+    }
+}
+
+fn after_deletion(passed: usize, number: u64, ending: Ending, reply: Reply) -> Phase
+    requires { passed < number }
+    ensures { (list : NetList) (c : Command) (addrs : List Addr) (kind : Kind) → drop passed (kinds_of list) ≡ kind ∷ drop (passed + 1) (kinds_of list)
+        → IsPhaseOf list c number addrs result (script.at_deletion number kind (drop (passed + 1) (kinds_of list)) ending reply) }
+{
+    match reply {
+        Reply::Gone(false) => Phase::Deleting(passed + 1, ending),
+        Reply::Fault => Phase::Over(faulted(number, ending)),
+        _ => Phase::Deleting(passed, ending),
+    }
+}
+
+/// The phase after a reply, where so many calls were made before it. A leased address is put to the given ones.
+pub(crate) fn after(
+    phase: Phase,
+    calls: usize,
+    given: &mut Vec<Addr>,
+    sets: usize,
+    made: u64,
+    reply: Reply,
+) -> Phase
+    requires numbered { made + 1 < 2 ^ 64 }
+    requires stands { Stands calls sets made given.old.items phase }
+    requires few { sets < 2 ^ 32 }
+    requires room { sets ≤ vec_capacity given.old }
+    ensures phase { (list : NetList) (c : Command) → length (before_of list c) ≡ calls → length (sets_of list) ≡ sets
+        → IsPrepared list c given.old.items phase → IsOpen (state_in list c given.old.items phase)
+        → IsPhaseOf list c (made + 1) given.new.items result (script.advance list c (made + 1) (state_in list c given.old.items phase) reply) }
+    ensures room { sets ≤ vec_capacity given.new }
+{
+    let number = made + 1;
+    match phase {
+        Phase::AtBegin => after_begin(calls, sets, number, reply),
+        Phase::BeforeLeases(passed) => after_call_before(passed, calls, sets, number, reply),
+        Phase::Leasing => after_lease(given, sets, number, reply),
+        Phase::AfterLeases { passed, calls } => after_call_after(passed, calls, number, reply),
+        Phase::ReadingCache(ending) => after_cache(number, ending, reply),
+        Phase::Deleting(passed, ending) => after_deletion(passed, number, ending, reply),
+        Phase::Over(ending) => Phase::Over(ending),
+    }
+}

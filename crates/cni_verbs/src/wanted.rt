@@ -1,0 +1,350 @@
+//! The calls of an ADD, its result, and the kinds of objects that a DEL takes back, each as the plugins of a list make
+//! it one after another.
+
+ghost use Rattle.std.specs.Prelude.{◌≡◌, ◌++◌, ◌∷◌, [], ◌≤◌, length, IfOk, OnOk};
+ghost use Rattle.std.specs.Option.{option_copied};
+ghost use Rattle.host_local.specs.Conf.{ipam_of};
+ghost use Rattle.host_local.specs.Results.{ipam_result_of};
+ghost use Rattle.kernel_types.specs.declared.call.Call.TheVariants as call;
+ghost use Rattle.cni_verbs.specs.CommandWords.{mappings_of};
+ghost use Rattle.cni_verbs.specs.Wanted as wanted;
+
+use bridge_ptp::{
+    bridge_after, bridge_before, bridge_kinds, bridge_result, ptp_after, ptp_before, ptp_kinds,
+    ptp_result,
+};
+use cni_addr::{Addr, Duplicate, Items, NoMemory, RangeSet, Text};
+use cni_result::{AddResult, Cached, PortMapping, Version};
+use firewall_tuning::{
+    firewall_calls, firewall_kinds, firewall_result, tuning_calls, tuning_kinds, tuning_result,
+};
+use host_local::given_of;
+use kernel_types::{Att, Call, Given, Kind};
+use net_conf::{Chained, First, HostLocalConf, NetList};
+use std::alloc::Global;
+
+// ---- the first plugin
+
+/// The calls of the first plugin before an address is leased.
+pub fn calls_before(
+    alloc: Global,
+    first: &First,
+    att: &Att,
+    netns: &Text,
+) -> Result<Items<Call>, NoMemory>
+    ensures { IfOk result (λ calls. calls ≡ wanted.calls_before first.now att.now netns.now) }
+{
+    match first {
+        First::Bridge(conf) => bridge_before(alloc, conf, att, netns),
+        First::Ptp(conf) => ptp_before(alloc, conf, att, netns),
+        First::Macvlan(conf) => macvlan::before(alloc, conf, att, netns),
+    }
+}
+
+fn calls_after(
+    alloc: Global,
+    first: &First,
+    att: &Att,
+    netns: &Text,
+    given: &[Given],
+) -> Result<Items<Call>, NoMemory>
+    ensures { IfOk result (λ calls. calls ≡ wanted.calls_after first.now att.now netns.now given.now) }
+{
+    match first {
+        First::Bridge(conf) => bridge_after(alloc, conf, att, netns, given),
+        First::Ptp(conf) => ptp_after(alloc, conf, att, netns, given),
+        First::Macvlan(conf) => macvlan::after(alloc, conf, att, netns, given),
+    }
+}
+
+fn first_result(
+    alloc: Global,
+    first: &First,
+    att: &Att,
+    netns: &Text,
+    ipam: &AddResult,
+) -> Result<AddResult, NoMemory>
+    ensures { IfOk result (λ r. r ≡ wanted.first_result first.now att.now netns.now ipam.now) }
+{
+    match first {
+        First::Bridge(conf) => bridge_result(alloc, conf, att, netns, ipam),
+        First::Ptp(conf) => ptp_result(alloc, conf, att, netns, ipam),
+        First::Macvlan(conf) => macvlan::result(alloc, conf, att, netns, ipam),
+    }
+}
+
+fn first_kinds(alloc: Global, first: &First) -> Result<Items<Kind>, NoMemory>
+    ensures { IfOk result (λ kinds. kinds ≡ wanted.first_kinds first.now) }
+{
+    match first {
+        First::Bridge(conf) => bridge_kinds(alloc, conf),
+        First::Ptp(conf) => ptp_kinds(alloc, conf),
+        First::Macvlan(conf) => macvlan::kinds(alloc, conf),
+    }
+}
+
+// ---- addresses
+
+fn ipam_of(first: &First) -> Option<&HostLocalConf>
+    ensures { option_copied result ≡ ipam_of first.now }
+{
+    match first {
+        First::Bridge(conf) => conf.ipam.as_ref(),
+        First::Ptp(conf) => Some(&conf.ipam),
+        First::Macvlan(conf) => conf.ipam.as_ref(),
+    }
+}
+
+/// The range sets of the list, of each of which an ADD leases one address. Takes no memory.
+pub fn sets_of(list: &NetList) -> &[RangeSet]
+    ensures { result.now ≡ wanted.sets_of list.now }
+{
+    match ipam_of(&list.first) {
+        Some(ipam) => ipam.sets.as_slice(),
+        None => &[],
+    }
+}
+
+fn ipam_result(
+    alloc: Global,
+    first: &First,
+    given: &[Given],
+    version: Version,
+) -> Result<AddResult, NoMemory>
+    ensures { IfOk result (λ r. r ≡ ipam_result_of (ipam_of first.now) given.now version) }
+{
+    match ipam_of(first) {
+        Some(ipam) => host_local::ipam_result(alloc, ipam, given, version),
+        None => {
+            let nothing = HostLocalConf {
+                sets: Items::new(alloc),
+                routes: Items::new(alloc),
+            };
+            host_local::ipam_result(alloc, &nothing, given, version)
+        }
+    }
+}
+
+fn first_plugin_result(
+    alloc: Global,
+    list: &NetList,
+    att: &Att,
+    netns: &Text,
+    given: &[Given],
+) -> Result<AddResult, NoMemory>
+    ensures { IfOk result (λ r. r ≡ wanted.first_result list.now.first att.now netns.now
+        (ipam_result_of (ipam_of list.now.first) given.now list.now.version)) }
+{
+    let ipam = ipam_result(alloc, &list.first, given, list.version)?;
+    first_result(alloc, &list.first, att, netns, &ipam)
+}
+
+// ---- the chained plugins
+
+fn chained_calls(
+    alloc: Global,
+    chained: &Chained,
+    att: &Att,
+    netns: &Text,
+    mappings: &[PortMapping],
+    prev: &AddResult,
+) -> Result<Items<Call>, NoMemory>
+    ensures { IfOk result (λ calls. calls ≡ wanted.chained_calls chained.now att.now netns.now mappings.now prev.now.ips) }
+{
+    match chained {
+        Chained::Portmap(conf) => portmap::calls(alloc, conf, att, mappings, prev),
+        Chained::Firewall(_) => firewall_calls(alloc, att, prev),
+        Chained::Tuning(conf) => tuning_calls(alloc, conf, att, netns),
+    }
+}
+
+fn chained_result(alloc: Global, chained: &Chained, prev: &AddResult) -> Result<AddResult, NoMemory>
+    ensures { IfOk result (λ r. r ≡ wanted.chained_result chained.now prev.now) }
+{
+    match chained {
+        Chained::Portmap(_) => portmap::result(prev),
+        Chained::Firewall(_) => firewall_result(prev),
+        Chained::Tuning(conf) => tuning_result(alloc, conf, prev),
+    }
+}
+
+fn chained_kinds(chained: &Chained) -> [Kind; 1]
+    ensures { result ≡ wanted.chained_kinds chained.now }
+{
+    match chained {
+        Chained::Portmap(_) => portmap::kinds(),
+        Chained::Firewall(_) => firewall_kinds(),
+        Chained::Tuning(_) => tuning_kinds(),
+    }
+}
+
+fn all_chained_results(
+    alloc: Global,
+    chained: &[Chained],
+    first: AddResult,
+) -> Result<AddResult, NoMemory>
+    ensures { IfOk result (λ r. r ≡ wanted.all_chained_results chained.now first) }
+{
+    let mut prev = first;
+    for plugin in chained {
+        prev = chained_result(alloc, plugin, &prev)?;
+    }
+    Ok(prev)
+}
+
+/// What the chained plugins call, and the result of the last.
+#[derive(Drop)]
+struct ChainPlan {
+    calls: Items<Call>,
+    last: AddResult,
+}
+
+fn push_all(calls: &mut Vec<Call>, more: Items<Call>) -> Result<(), NoMemory>
+    ensures { OnOk result (calls.new.items ≡ calls.old.items ++ more) }
+{
+    let mut more = more.into_vec();
+    calls.append(&mut more)?;
+    Ok(())
+}
+
+fn chain(
+    alloc: Global,
+    chained: &[Chained],
+    att: &Att,
+    netns: &Text,
+    mappings: &[PortMapping],
+    first: AddResult,
+) -> Result<ChainPlan, NoMemory>
+    ensures calls { IfOk result (λ all. all.calls ≡ wanted.all_chained_calls chained.now att.now netns.now mappings.now first) }
+    ensures last { IfOk result (λ all. all.last ≡ wanted.all_chained_results chained.now first) }
+{
+    let mut calls = Vec::new(alloc);
+    let mut prev = first;
+    for plugin in chained {
+        push_all(
+            &mut calls,
+            chained_calls(alloc, plugin, att, netns, mappings, &prev)?,
+        )?;
+        prev = chained_result(alloc, plugin, &prev)?;
+    }
+    Ok(ChainPlan {
+        calls: Items::of_vec(calls),
+        last: prev,
+    })
+}
+
+// ---- the result
+
+/// The result of an ADD that was leased these addresses, the k-th of the k-th set: that of the last plugin.
+#[tactic(auto, unfolding(crate::specs::Wanted::result_of_add))]
+pub fn result_of_add(
+    alloc: Global,
+    list: &NetList,
+    att: &Att,
+    netns: &Text,
+    addrs: &[Addr],
+) -> Result<AddResult, NoMemory>
+    ensures { IfOk result (λ r. r ≡ wanted.result_of_add list.now att.now netns.now addrs.now) }
+{
+    let given = given_of(alloc, sets_of(list), addrs)?;
+    let first = first_plugin_result(alloc, list, att, netns, given.as_slice())?;
+    all_chained_results(alloc, list.chained.as_slice(), first)
+}
+
+// ---- the calls
+
+fn cache_put(
+    att: &Att,
+    netns: &Text,
+    mappings: Items<PortMapping>,
+    last: AddResult,
+) -> Result<Call, NoMemory>
+    ensures { IfOk result (λ put. put ≡ call.CachePut att.now (record { netns = netns.now; mappings = mappings; result = last })) }
+{
+    Ok(Call::CachePut {
+        att: att.copy()?,
+        cached: Cached {
+            netns: netns.copy()?,
+            mappings,
+            result: last,
+        },
+    })
+}
+
+/// The calls of an ADD after its last lease, where it was leased these addresses: those of the first plugin, those of
+/// each chained one, and the cached entry.
+#[tactic(auto, unfolding(crate::specs::Wanted::result_of_add))]
+pub fn back_calls(
+    alloc: Global,
+    list: &NetList,
+    att: &Att,
+    netns: &Text,
+    mappings: Items<PortMapping>,
+    addrs: &[Addr],
+) -> Result<Items<Call>, NoMemory>
+    ensures { IfOk result (λ calls. calls ≡ wanted.back_calls list.now att.now netns.now mappings addrs.now) }
+{
+    let given = given_of(alloc, sets_of(list), addrs)?;
+    let first = first_plugin_result(alloc, list, att, netns, given.as_slice())?;
+    let after = calls_after(alloc, &list.first, att, netns, given.as_slice())?;
+    let chain = chain(
+        alloc,
+        list.chained.as_slice(),
+        att,
+        netns,
+        mappings.as_slice(),
+        first,
+    )?;
+    let mut calls = after.into_vec();
+    push_all(&mut calls, chain.calls)?;
+    calls.push(cache_put(att, netns, mappings, chain.last)?)?;
+    Ok(Items::of_vec(calls))
+}
+
+// ---- deletions
+
+fn chained_kinds_reversed(alloc: Global, chained: &[Chained]) -> Result<Vec<Kind>, NoMemory>
+    ensures { IfOk result (λ kinds. kinds.items ≡ wanted.chained_kinds_reversed chained.now) }
+{
+    let mut kinds = Vec::with_capacity(alloc, chained.len())?;
+    let mut left = chained.len();
+    while left > 0 {
+        left -= 1;
+        let [kind] = chained_kinds(&chained[left]);
+        kinds.push(kind)?;
+    }
+    Ok(kinds)
+}
+
+fn push_kinds(kinds: &mut Vec<Kind>, more: &[Kind]) -> Result<(), NoMemory>
+    ensures { OnOk result (kinds.new.items ≡ kinds.old.items ++ more.now) }
+{
+    for kind in more {
+        kinds.push(*kind)?;
+    }
+    Ok(())
+}
+
+/// The kinds of objects that are taken back, the last plugin's first, and the cached entry at the end. A kind may come
+/// twice.
+pub fn kinds_of(alloc: Global, list: &NetList) -> Result<Items<Kind>, NoMemory>
+    ensures { IfOk result (λ kinds. kinds ≡ wanted.kinds_of list.now) }
+{
+    let mut kinds = chained_kinds_reversed(alloc, list.chained.as_slice())?;
+    push_kinds(&mut kinds, first_kinds(alloc, &list.first)?.as_slice())?;
+    kinds.push(Kind::Cached)?;
+    Ok(Items::of_vec(kinds))
+}
+
+/// The call that takes back the attachment's objects of a kind.
+pub fn deletion(att: Att, kind: Kind) -> Call
+    ensures { result ≡ wanted.deletion att kind }
+{
+    match kind {
+        Kind::Links => Call::LinkDel { att },
+        Kind::Rules => Call::RuleDel { att },
+        Kind::Settings => Call::SettingDel { att },
+        Kind::Leases => Call::LeaseDel { att },
+        Kind::Cached => Call::CacheDel { att },
+    }
+}

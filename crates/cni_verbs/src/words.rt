@@ -1,0 +1,283 @@
+//! What a verb asks of its command's words, before its first call.
+
+ghost use Rattle.std.specs.Prelude.{◌≡◌, ◌==◌, ◌&&◌, ◌++◌, not, length, Some, None, is_some, find, filter_map, option_map, option_to_list, IfOk, OnOk};
+ghost use Rattle.std.specs.List.{list_all, list_any, slice_split};
+ghost use Rattle.std.specs.Option.{option_copied};
+ghost use Rattle.std.specs.Str.{bytes_eq};
+ghost use Rattle.cni_verbs.specs.CommandWords as words;
+
+use crate::answer::{Cause, WordFaults};
+use cni_addr::{Addr, Items, NoMemory, Text, read_addr};
+use cni_result::{PortMapping, Proto};
+use net_conf::{Chained, NetList, is_container_id, is_interface_name};
+use pod_file::{Command, RawMapping};
+use std::alloc::Global;
+
+// ---- arguments
+
+fn has_equals_sign(text: &str) -> bool
+    ensures { result ≡ list_any (λ b. b == 61) text.now }
+{
+    text.bytes().any(|byte| byte == b'=')
+}
+
+fn is_pair(key: &str, value: &str) -> bool
+    ensures { result ≡ (not (length key.now == 0) && not (list_any (λ b. b == 61) value.now)) }
+{
+    !key.is_empty() && !has_equals_sign(value)
+}
+
+fn argument_of(piece: &str) -> Option<(&str, &str)>
+    ensures { option_map (λ pair. (pair.0.now, pair.1.now)) result ≡ words.argument_of piece.now }
+{
+    match piece.split_once('=') {
+        Some((key, value)) => {
+            if is_pair(key, value) {
+                Some((key, value))
+            } else {
+                None
+            }
+        }
+        None => None,
+    }
+}
+
+fn is_argument(piece: &str) -> bool
+    ensures { result ≡ is_some (words.argument_of piece.now) }
+{
+    argument_of(piece).is_some()
+}
+
+fn all_arguments(text: &str) -> bool
+    ensures { result ≡ list_all (λ piece. is_some (words.argument_of piece)) (slice_split (λ b. b == 59) text.now) }
+{
+    text.split(';').all(|piece| is_argument(piece))
+}
+
+/// Whether the text is nothing, or `KEY=VALUE` pairs that `;` joins (CNI specification, section 2, `CNI_ARGS`). No key
+/// is empty, and `=` stands once in each pair. Takes no memory.
+#[tactic(auto, unfolding(crate::specs::CommandWords::are_arguments))]
+pub fn are_arguments(text: &str) -> bool
+    ensures { result ≡ words.are_arguments text.now }
+{
+    text.is_empty() || all_arguments(text)
+}
+
+fn value_if<'a>(key: &str, piece: &'a str) -> Option<&'a str>
+    ensures { option_copied result ≡ option_map (λ pair. pair.1) (find (λ pair. bytes_eq pair.0 key.now) (option_to_list (words.argument_of piece.now))) }
+{
+    match argument_of(piece) {
+        Some((own, value)) => { if own == key { Some(value) } else { None } }
+        None => None,
+    }
+}
+
+/// The value of the first pair with this key, if there is one. What isn't a pair is passed over. Takes no memory.
+pub fn value_of_argument<'a>(key: &str, text: &'a str) -> Option<&'a str>
+    ensures { option_copied result ≡ words.value_of_argument key.now text.now }
+{
+    let mut rest = text;
+    'pieces: loop {
+        match rest.split_once(';') {
+            Some((piece, later)) => match value_if(key, piece) {
+                Some(value) => return Some(value),
+                None => rest = later,
+            },
+            None => return value_if(key, rest),
+        }
+    }
+}
+
+// ---- port mappings
+
+fn proto_of(text: &str) -> Option<Proto>
+    ensures { result ≡ words.proto_of text.now }
+{
+    if text == "tcp" || text.is_empty() {
+        Some(Proto::Tcp)
+    } else if text == "udp" {
+        Some(Proto::Udp)
+    } else if text == "sctp" {
+        Some(Proto::Sctp)
+    } else {
+        None
+    }
+}
+
+fn is_any_host(text: &str) -> bool
+    ensures { result ≡ words.is_any_host text.now }
+{
+    text.is_empty() || text == "0.0.0.0" || text == "::"
+}
+
+fn host_ip_of(text: &str) -> Option<Option<Addr>>
+    ensures { result ≡ words.host_ip_of text.now }
+{
+    if is_any_host(text) {
+        return Some(None);
+    }
+    match read_addr(text.as_bytes()) {
+        Some(addr) => Some(Some(addr)),
+        None => None,
+    }
+}
+
+fn is_port(number: u64) -> bool
+    ensures { result ≡ words.is_port number }
+{
+    0 < number && number < 65536
+}
+
+fn mapping_by(
+    host_port: u64,
+    container_port: u64,
+    protocol: Proto,
+    host_ip: Option<Addr>,
+) -> Option<PortMapping>
+    ensures { result ≡ words.mapping_by host_port container_port (Some protocol) (Some host_ip) }
+{
+    if is_port(host_port) && is_port(container_port) {
+        Some(PortMapping {
+            host_port: host_port as u16,
+            container_port: container_port as u16,
+            protocol,
+            host_ip,
+        })
+    } else {
+        None
+    }
+}
+
+/// The mapping, where both ports are 1 to 65535, the protocol is `tcp`, `udp`, `sctp` or not given, and the address is
+/// one or not given (the `portMappings` capability). Takes no memory.
+pub fn mapping_of(raw: &RawMapping) -> Option<PortMapping>
+    ensures { result ≡ words.mapping_of raw.now }
+{
+    let protocol = proto_of(raw.protocol.as_str())?;
+    let host_ip = host_ip_of(raw.host_ip.as_str())?;
+    mapping_by(raw.host_port, raw.container_port, protocol, host_ip)
+}
+
+fn can_be_taken(raw: &RawMapping) -> bool
+    ensures { result ≡ is_some (words.mapping_of raw.now) }
+{
+    mapping_of(raw).is_some()
+}
+
+fn takes_mappings(chained: &Chained) -> bool
+    ensures { result ≡ words.takes_mappings chained.now }
+{
+    match chained {
+        Chained::Portmap(conf) => conf.mappings,
+        Chained::Firewall(_) => false,
+        Chained::Tuning(_) => false,
+    }
+}
+
+fn some_takes(chained: &[Chained]) -> bool
+    ensures { result ≡ list_any words.takes_mappings chained.now }
+{
+    chained.iter().any(|plugin| takes_mappings(plugin))
+}
+
+fn all_mappings(alloc: Global, raws: &[RawMapping]) -> Result<Vec<PortMapping>, NoMemory>
+    ensures { IfOk result (λ mappings. mappings.items ≡ filter_map words.mapping_of raws.now) }
+{
+    Ok(
+        raws.iter()
+            .filter_map(|raw| mapping_of(raw))
+            .collect(alloc)?,
+    )
+}
+
+/// The mappings that reach the plugins of the list: none where no `portmap` is handed them.
+#[tactic(auto, unfolding(crate::specs::CommandWords::mappings_of))]
+pub fn mappings_of(
+    alloc: Global,
+    list: &NetList,
+    command: &Command,
+) -> Result<Items<PortMapping>, NoMemory>
+    ensures { IfOk result (λ mappings. mappings ≡ words.mappings_of list.now command.now) }
+{
+    if some_takes(list.chained.as_slice()) {
+        let mappings = all_mappings(alloc, command.mappings.as_slice())?;
+        Ok(Items::of_vec(mappings))
+    } else {
+        Ok(Items::new(alloc))
+    }
+}
+
+// ---- the tests, in order
+
+fn any_fault(faults: WordFaults) -> bool
+    ensures { result ≡ words.any_fault faults }
+{
+    faults.container || faults.netns || faults.ifname || faults.args
+}
+
+fn add_faults(command: &Command) -> WordFaults
+    ensures { result ≡ words.add_faults command.now }
+{
+    WordFaults {
+        container: !is_container_id(command.container.as_str()),
+        netns: command.netns.as_str().is_empty(),
+        ifname: !is_interface_name(command.ifname.as_str()),
+        args: !are_arguments(command.args.as_str()),
+    }
+}
+
+fn del_faults(command: &Command) -> WordFaults
+    ensures { result ≡ words.del_faults command.now }
+{
+    WordFaults {
+        container: !is_container_id(command.container.as_str()),
+        netns: false,
+        ifname: !is_interface_name(command.ifname.as_str()),
+        args: false,
+    }
+}
+
+fn all_can_be_taken(raws: &[RawMapping]) -> bool
+    ensures { result ≡ list_all (λ raw. is_some (words.mapping_of raw)) raws.now }
+{
+    raws.iter().all(|raw| can_be_taken(raw))
+}
+
+fn mapping_refusal(command: &Command) -> Option<Cause>
+    ensures { result ≡ words.by_ip_argument command.now None }
+{
+    if all_can_be_taken(command.mappings.as_slice()) {
+        None
+    } else {
+        Some(Cause::BadMapping)
+    }
+}
+
+/// Why an ADD refuses its words, if it does: words outside their grammar come before the argument `IP`, and that before
+/// the mappings.
+#[tactic(auto, unfolding(crate::specs::CommandWords::add_refusal))]
+pub fn add_refusal(alloc: Global, command: &Command) -> Result<Option<Cause>, NoMemory>
+    ensures { IfOk result (λ cause. cause ≡ words.add_refusal command.now) }
+{
+    let faults = add_faults(command);
+    if any_fault(faults) {
+        return Ok(Some(Cause::BadWords(faults)));
+    }
+    match value_of_argument("IP", command.args.as_str()) {
+        Some(value) => Ok(Some(Cause::IpArgument(Text::of(alloc, value)?))),
+        None => Ok(mapping_refusal(command)),
+    }
+}
+
+/// Why a DEL refuses its words, if it does. It needs neither a namespace nor arguments. Takes no memory.
+#[tactic(auto, unfolding(crate::specs::CommandWords::del_refusal))]
+pub fn del_refusal(command: &Command) -> Option<Cause>
+    ensures { result ≡ words.del_refusal command.now }
+{
+    let faults = del_faults(command);
+    if any_fault(faults) {
+        Some(Cause::BadWords(faults))
+    } else {
+        None
+    }
+}
