@@ -36,12 +36,12 @@ verb_text verbs.NsDel = codes "NSDEL"
 verb_text verbs.Drop = codes "DROP"
 verb_text verbs.Flush = codes "FLUSH"
 
--- the key of the network list that disables a verb (CNI specification, section 1, "Configuration format")
+-- the key of the network list that disables a verb (CNI specification, section 1, "Network configuration format")
 abbrev pub skip_text : Skip → List ℕ
 skip_text skips.Check = codes "disableCheck"
 skip_text skips.Gc = codes "disableGC"
 
--- the answer to VERSION (CNI specification, section 5, "Version")
+-- the answer to VERSION (CNI specification, section 5, "Result Types")
 unfoldable pub versions_data : Version → Data
 versions_data version = object (no_members
     ▷ put (codes "cniVersion") (version_data version)
