@@ -14,8 +14,6 @@
 pub mod answers;
 pub mod parts;
 pub mod statuses;
-#[cfg(test)]
-mod tests;
 
 pub use answers::{answer_line, answer_value, skip_text, verb_text};
 pub use parts::text;
