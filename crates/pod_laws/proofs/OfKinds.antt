@@ -37,7 +37,9 @@ use Rattle.host_local.specs.Conf.{ipam_of, range_sets_of, routes_of}
 use Rattle.host_local.specs.Results.{ip_of}
 use Rattle.bridge_ptp.specs.Bridge.{gateways, gateway_calls, rule_kinds, lease_kinds}
 use Rattle.bridge_ptp.specs.Results.{bridge_routes}
-use Rattle.bridge_ptp.specs.Ptp.{AddressOrRoute, Address, Route, call_for, ptp_objects}
+use Rattle.bridge_ptp.specs.declared.ptp.AddressOrRoute.{AddressOrRoute}
+use Rattle.bridge_ptp.specs.declared.ptp.AddressOrRoute.TheVariants.{Address, Route}
+use Rattle.bridge_ptp.specs.Ptp.{call_for, ptp_objects}
 use Rattle.firewall_tuning.specs.Tuning.{tuning_settings, sets_any, link_set_calls}
 use Rattle.cni_verbs.specs.Wanted.{sets_of, calls_before, calls_after, chained_calls, all_chained_calls, chained_result, first_kinds, chained_kinds, chained_kinds_reversed, kinds_of, back_calls, given_by_list, first_plugin_result, cached_of}
 

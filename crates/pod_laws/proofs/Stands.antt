@@ -36,7 +36,9 @@ use Rattle.plan_words.proofs.KeyLists.{list_all-append, list_all-every}
 use Rattle.host_local.specs.Conf.{routes_of}
 use Rattle.host_local.specs.Results.{ip_of}
 use Rattle.bridge_ptp.specs.Bridge.{gateways, gateway_calls}
-use Rattle.bridge_ptp.specs.Ptp.{AddressOrRoute, Address, Route, call_for, ptp_objects}
+use Rattle.bridge_ptp.specs.declared.ptp.AddressOrRoute.{AddressOrRoute}
+use Rattle.bridge_ptp.specs.declared.ptp.AddressOrRoute.TheVariants.{Address, Route}
+use Rattle.bridge_ptp.specs.Ptp.{call_for, ptp_objects}
 use Rattle.bridge_ptp.specs.Results.{bridge_routes}
 use Rattle.portmap.specs.Portmap.{portmap_rules}
 use Rattle.firewall_tuning.specs.Firewall.{firewall_rules}
