@@ -1,5 +1,5 @@
 #!/usr/bin/env python3
-"""Runs a built program on the rows of rows.json, and compares what it writes and its status.
+"""Runs a built program on the rows of rows.json and of ../readers, and compares what it writes and its status.
 
     run.py PROGRAM [WORD]      the rows whose names hold WORD; without one, all
 
@@ -10,6 +10,7 @@ A row has the files that lie where the program runs, the words, and what is expe
     answers     the lines of the commands, which come first
     calls       by command number: how many calls it made, or their kinds in order (the words ask for a trace)
     dump        the lines of the dump, or the kinds of its objects where they are single words
+    later       instead of what is printed: the file is read, so a refusal is one that comes after reading
     waits_for   a verb without which the row can't run yet
 
 A file is a JSON value that is written compactly, or `@NAME`, one of the lists; or {"text": ..}, {"size": N} or {"directory": true}.
@@ -27,6 +28,7 @@ import sys
 import tempfile
 
 HERE = pathlib.Path(__file__).resolve().parent
+LATER = re.compile(r"invalid pod file: (no network for command|not built) \d+")
 
 
 def mac(digest):
@@ -67,8 +69,37 @@ def calls_of(lines):
     return calls
 
 
+def reader_rows():
+    """The tables of what readers take and refuse, each row as a run."""
+    for table, file in (("network_lists", "net.json"), ("pod_files", "pods.json")):
+        path = HERE.parent / "readers" / f"{table}.json"
+        found = json.loads(path.read_text(encoding="utf-8")) if path.exists() else []
+        for number, row in enumerate(found, 1):
+            files = {"pods.json": {"rounds": []}, file: {"text": row["input"]}}
+            run_row = {"name": f"{table} {number}, {row['about']}", "files": files, "words": list(files)}
+            if "code" in row:
+                error = {"cniVersion": "1.1.0", "code": row["code"], "details": "", "msg": row["msg"]}
+                line = json.dumps({"error": error, "file": file}, separators=(",", ":"), ensure_ascii=False)
+                yield {**run_row, "status": 3, "stdout": [line]}
+            elif file == "net.json":
+                yield {**run_row, "status": 0, "stdout": []}
+            else:
+                yield {**run_row, "later": True}
+
+
+def is_read(status, lines):
+    if status != 3:
+        return status in (0, 1, 8)
+    error = json.loads(lines[0])["error"] if lines else ""
+    return isinstance(error, dict) and LATER.fullmatch(error["msg"]) is not None
+
+
 def differences(row, status, out):
     """What is other than expected, a text each."""
+    if "later" in row:
+        if not is_read(status, out.decode("utf-8").splitlines()):
+            yield f"status {status}: {out.decode('utf-8')}"
+        return
     if status != row["status"]:
         yield f"status {status} and not {row['status']}"
     lines = out.decode("utf-8").splitlines()
@@ -107,7 +138,7 @@ def main():
     word = sys.argv[2] if len(sys.argv) > 2 else ""
     table = json.loads((HERE / "rows.json").read_text(encoding="utf-8"))
     passed = failed = waiting = 0
-    for row in table["rows"]:
+    for row in [*table["rows"], *reader_rows()]:
         if word not in row["name"]:
             continue
         if "waits_for" in row:
