@@ -1,10 +1,10 @@
 -- The bridge of a list is there from the moment when its plugin ensured it.
-use Rattle.std.proofs.Common.{◌≡◌, ℕ, ◌+◌, Bool, true, false, not, List, [], ◌∷◌, ◌++◌, map, length, Option, Some, None, slice_get, refl, sym, ◌∙◌, ap, subst, inl, inr, ◌⊎◌, arith}
+use Rattle.std.proofs.Common.{◌≡◌, ℕ, ◌+◌, Bool, true, false, not, List, [], ◌∷◌, ◌++◌, length, Option, Some, None, slice_get, refl, sym, ◌∙◌, ap, subst, inl, inr, ◌⊎◌, arith}
 use Rattle.std.proofs.lemmas.Bool.{cases_Bool}
 use Rattle.std.proofs.lemmas.Bool.Decides.{eqb_tells}
 use Rattle.std.proofs.lemmas.Option.{same_Some}
 use Rattle.std.proofs.lemmas.Slice.Eq.{bytes_eq-Decides}
-use Rattle.std.specs.Prelude.{filter, find, ◌&&◌, ◌||◌, if◌then◌else◌}
+use Rattle.std.specs.Prelude.{filter, find, ◌&&◌, if◌then◌else◌}
 use Rattle.std.specs.List.{list_any, list_all}
 use Rattle.std.specs.Str.{bytes_eq}
 use Rattle.std.specs.Cmp.Lexicographic.{nat_list_eq_equiv}
@@ -22,7 +22,6 @@ use Rattle.kernel_types.specs.Apply.{apply}
 use Rattle.kernel_types.specs.Apply.Calls.{bridge_or_new, new_bridge, has_bridge_as_master}
 use Rattle.kernel_types.specs.Isolation.{ensures_shared, is_from_outside}
 use Rattle.kernel_types.specs.Sound.{IsSound, is_owned_kind, link_fits_tag}
-use Rattle.kernel_types.specs.Touch.{Touches}
 use Rattle.kernel_types.specs.Words.{is_bridge, is_host_bridge, is_host_link, is_owned, has_host_bridge}
 use Rattle.kernel_types.proofs.EveryCall.{Touches-apply}
 use Rattle.kernel_types.proofs.Isolation.{KeepsUnowned-Touches}
@@ -36,12 +35,12 @@ use Rattle.kernel_types.specs.declared.object.Tag.{Tag}
 use Rattle.kernel_types.specs.declared.object.Tag.TheVariants as tags
 use Rattle.kernel_types.specs.declared.call.Kind.{Kind}
 use Rattle.kernel_types.specs.declared.call.Call.{Call}
-use Rattle.kernel_types.specs.declared.call.Call.TheVariants.{Begin, BridgeEnsure, GatewayEnsure, ForwardEnsure, VethAdd, MacvlanAdd, LinkSet, AddrAdd, RouteAdd, RuleAppend, SettingSet, LeaseNext, CachePut, LinkDel, RuleDel, SettingDel, LeaseDel, CacheDel, HasObj, CacheGet, OwnersOf, PoolFree, NsChange, Outside}
+use Rattle.kernel_types.specs.declared.call.Call.TheVariants.{BridgeEnsure, GatewayEnsure, ForwardEnsure, NsChange, Outside}
 use Rattle.kernel_types.specs.declared.call.Reply.{Reply}
 use Rattle.kernel_types.specs.declared.call.Reply.TheVariants.{Done, Taken, Leased, Gone, Fault}
 use Rattle.plan_words.specs.PlanCalls.{is_call_of}
 use Rattle.cni_verbs.specs.CommandWords.{att_of, add_refusal, del_refusal}
-use Rattle.cni_verbs.specs.Script.{State, AtBegin, BeforeLeases, Leasing, AfterLeases, ReadingCache, Deleting, Over, Turn, Calls, before_of, back_of, after_leases, leasing, before_leases, deleting, at_begin, at_call_before, at_lease, at_call_after, at_cache, at_deletion, advance, unless_refused, start_of, start_state, turn}
+use Rattle.cni_verbs.specs.Script.{State, AtBegin, BeforeLeases, Leasing, AfterLeases, ReadingCache, Deleting, Over, Calls, before_of, back_of, after_leases, leasing, before_leases, deleting, at_begin, at_call_before, at_lease, at_call_after, at_cache, at_deletion, advance, unless_refused, start_of, turn}
 use Rattle.cni_verbs.specs.Wanted.{sets_of, calls_before, kinds_of}
 use Rattle.cni_verbs.specs.declared.answer.Cause.{Cause}
 use Rattle.cni_verbs.specs.declared.answer.Ending.{Ending}
@@ -110,7 +109,7 @@ bridge-stays host (ForwardEnsure family) name sound allowed inside there =
 bridge-stays host call name sound allowed inside there = stays-unshared host call name sound allowed inside refl there
 
 -- a call of one attachment isn't the world's outside
-call-inside : (att : Att) (call : Call) → is_call_of att call ≡ true → is_from_outside call ≡ false
+pub call-inside : (att : Att) (call : Call) → is_call_of att call ≡ true → is_from_outside call ≡ false
 call-inside att (NsChange name add) is = cc
 call-inside att (Outside change) is = cc
 call-inside att _ is = refl

@@ -1,15 +1,13 @@
 -- Each entry of a DEL removes own objects alone, and changes nothing where there are none.
-use Rattle.std.proofs.Common.{◌≡◌, ℕ, ◌+◌, Bool, true, false, List, [], ◌∷◌, ◌++◌, Option, Some, None, slice_get, refl, sym, ◌∙◌, ap, subst, inl, inr, ◌⊎◌, arith}
+use Rattle.std.proofs.Common.{◌≡◌, ℕ, ◌+◌, Bool, true, false, List, [], ◌∷◌, ◌++◌, Option, Some, None, slice_get, refl, sym, ◌∙◌, ap, subst, inl, inr, arith}
 use Rattle.std.proofs.lemmas.Option.{same_Some}
-use Rattle.std.specs.Prelude.{find, filter}
+use Rattle.std.specs.Prelude.{find}
 use Rattle.std.specs.List.{list_any}
 use Rattle.net_conf.specs.declared.list.NetList.{NetList}
 use Rattle.pod_file.specs.declared.command.Command.{Command}
 use Rattle.pod_file.specs.declared.command.Verb.TheVariants as verbs
 use Rattle.kernel_types.specs.Apply.{apply}
 use Rattle.kernel_types.specs.Apply.Calls.{without_link}
-use Rattle.kernel_types.specs.Isolation.{RemovesOwn}
-use Rattle.kernel_types.specs.Lists.{without_first}
 use Rattle.kernel_types.specs.Sound.{IsSound}
 use Rattle.kernel_types.specs.Words.{is_own}
 use Rattle.kernel_types.proofs.DropsOwn.{RemovesOwn-apply, RemovesOwn-nothing}
@@ -24,18 +22,17 @@ use Rattle.kernel_types.specs.declared.call.Call.TheVariants.{CacheGet}
 use Rattle.plan_words.specs.Share.{Share, share_of, no_objects}
 use Rattle.plan_words.proofs.Deletions.{empty_none}
 use Rattle.cni_verbs.specs.CommandWords.{att_of}
-use Rattle.cni_verbs.specs.Script.{State, AtBegin, BeforeLeases, Leasing, AfterLeases, ReadingCache, Deleting, Over, Turn, Calls, turn}
+use Rattle.cni_verbs.specs.Script.{State, AtBegin, BeforeLeases, Leasing, AfterLeases, ReadingCache, Deleting, Over, Calls, turn}
 use Rattle.cni_verbs.specs.Wanted.{deletion}
-use Rattle.pod_workers.specs.Legal.{Legal}
-use Rattle.pod_workers.specs.Plans.{Placed, IsWellFormed, commands_of}
+use Rattle.pod_workers.specs.Plans.{Placed, commands_of}
 use Rattle.pod_workers.specs.World.{World, after, entry_of, host_of, host_on}
 use Rattle.pod_workers.specs.declared.plan.Entry.{Entry}
 use Rattle.pod_workers.specs.declared.plan.Plan.{Plan}
 use Rattle.pod_workers.proofs.Histories.{after-append}
 use Rattle.pod_workers.proofs.Sound.{sound_host}
+use Rattle.pod_workers.proofs.Splits.{split_nil, split_snoc}
 use Rattle.pod_laws.specs.Deleted.{DeletesOwnAlone, EachDeletionIsOwn}
 use Rattle.pod_laws.specs.Moments.{own_entries}
-use Rattle.pod_laws.proofs.Entries.{split_nil, split_push}
 use Rattle.pod_laws.proofs.Steps.{GoesOn, by-entries, on-entry, own-state, every-run-now}
 use Rattle.pod_laws.proofs.Undoing.{Undoing, undone-start, undone-step}
 use Rattle.pod_laws.proofs.Within.{deletes-deletion}
@@ -100,15 +97,15 @@ delete-kept : (w : World) (n : ℕ) (c : Placed) (list : NetList) (call : Call) 
 delete-kept w n c list call faulty on was = λ m d before later e at verb number is.
     let x = entry_of (host_of w) n call faulty in
     let opening = w.plan.pods.opening in
-    elim (split_push w.history before later x e is) [
+    elim (split_snoc w.history before later x e is) [
       | inl t ↦
-          let place : m ≡ n = let a : e.command ≡ m + 1 = number in let b : n + 1 ≡ e.command = ap (λ (y : Entry). y.command) t.1 in omega (arith, a, b) in
+          let place : m ≡ n = let a : e.command ≡ m + 1 = number in let b : n + 1 ≡ e.command = ap (λ (y : Entry). y.command) t.2 in omega (arith, a, b) in
           let same : d ≡ c = same_Some d c (sym at ∙ ap (slice_get (commands_of w.plan)) place ∙ on.ready.there) in
           let now = deletes-now w n c list call faulty on (ap (λ (y : Placed). y.command.verb) (sym same) ∙ verb) in
           let at_host : DeletesOwnAlone (att_of c.command) (after opening w.history) (after opening (w.history ++ x ∷ [])) = subst (DeletesOwnAlone (att_of c.command) (host_of w)) (sym (after-append opening w.history x)) now in
           let P : List Entry → Entry → Placed → Type 0 = λ h y z. DeletesOwnAlone (att_of z.command) (after opening h) (after opening (h ++ y ∷ [])) in
-          subst (λ h. P h e d) t.0 (subst (λ y. P w.history y d) t.1 (subst (P w.history x) (sym same) at_host))
-      | inr t ↦ was m d before t.0 e at verb number t.1
+          subst (λ h. P h e d) t.1 (subst (λ y. P w.history y d) t.2 (subst (P w.history x) (sym same) at_host))
+      | inr t ↦ was m d before t.0 e at verb number t.2
     ]
 
 pub each_deletion_is_own : EachDeletionIsOwn

@@ -1,7 +1,7 @@
 -- The entries of one command in a history that is one entry longer.
-use Rattle.std.proofs.Common.{◌≡◌, ◌≢◌, ℕ, ◌+◌, ◌==◌, Bool, true, false, List, [], ◌∷◌, ◌++◌, map, length, refl, sym, ◌∙◌, ap, inl, inr, ◌⊎◌, arith}
+use Rattle.std.proofs.Common.{◌≡◌, ◌≢◌, ℕ, ◌+◌, Bool, true, false, List, [], ◌∷◌, ◌++◌, map, refl, ◌∙◌, ap, inl, inr, arith}
 use Rattle.std.proofs.lemmas.Bool.Decides.{eqb_tells}
-use Rattle.std.specs.Prelude.{filter, if◌then◌else◌, ◌||◌}
+use Rattle.std.specs.Prelude.{if◌then◌else◌, ◌||◌}
 use Rattle.std.specs.List.{list_any}
 use Rattle.kernel_types.proofs.ListLemmas.{list_any-append_right}
 use Rattle.kernel_types.specs.declared.call.Reply.{Reply}
@@ -64,24 +64,3 @@ until_last-other n [] e is = ap (λ b. if b then e ∷ [] else []) (any-other (i
 until_last-other n (x ∷ xs) e is =
     ap (λ b. if b then x ∷ until_last n (xs ++ e ∷ []) else []) (any-other (is_of n) (x ∷ xs) e is)
     ∙ ap (λ t. if list_any (is_of n) (x ∷ xs) then x ∷ t else []) (until_last-other n xs e is)
-
--- ---- a list that is split at an element
-
-cons_parts : {X : Type 0} (x y : X) (xs ys : List X) → x ∷ xs ≡ y ∷ ys → (x ≡ y) × (xs ≡ ys)
-cons_parts x y xs ys e = (cc, cc)
-
-pub split_nil : {X : Type 0} (before later : List X) (e : X) → [] ≡ before ++ e ∷ later → ⊥
-split_nil [] later e is = cc
-split_nil (b ∷ bs) later e is = cc
-
--- a split of a list that is one longer is at the new element, or it is one of the list
-pub split_push : {X : Type 0} (h before later : List X) (x e : X) → h ++ x ∷ [] ≡ before ++ e ∷ later → ((h ≡ before) × (x ≡ e)) ⊎ ((more : List X) × (h ≡ before ++ e ∷ more))
-split_push [] [] later x e is = inl (refl, (cons_parts x e [] later is).0)
-split_push [] (b ∷ bs) later x e is = absurd (split_nil bs later e (cons_parts x b [] (bs ++ e ∷ later) is).1)
-split_push (y ∷ ys) [] later x e is = inr (ys, ap (λ z. z ∷ ys) (cons_parts y e (ys ++ x ∷ []) later is).0)
-split_push (y ∷ ys) (b ∷ bs) later x e is =
-    let p = cons_parts y b (ys ++ x ∷ []) (bs ++ e ∷ later) is in
-    elim (split_push ys bs later x e p.1) [
-      | inl t ↦ inl (ap (λ z. y ∷ z) t.0 ∙ ap (λ z. z ∷ bs) p.0, t.1)
-      | inr t ↦ inr (t.0, ap (λ z. y ∷ z) t.1 ∙ ap (λ z. z ∷ (bs ++ e ∷ t.0)) p.0)
-    ]

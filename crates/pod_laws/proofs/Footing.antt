@@ -1,7 +1,6 @@
 -- A plan's call finds what it stands on, unless it is `macvlan`'s: its links are there, and so is the list's bridge.
-use Rattle.std.proofs.Common.{◌≡◌, ℕ, ◌+◌, Bool, true, false, List, [], ◌∷◌, ◌++◌, map, length, Option, Some, None, refl, sym, ◌∙◌, ap, subst, inl, inr, ◌⊎◌, arith}
-use Rattle.std.proofs.lemmas.Slice.Eq.{bytes_eq-Decides}
-use Rattle.std.specs.Prelude.{filter, find, filter_map, flat_map, ◌&&◌, ◌||◌, if◌then◌else◌}
+use Rattle.std.proofs.Common.{◌≡◌, ℕ, Bool, true, false, List, [], ◌∷◌, ◌++◌, map, Option, Some, None, refl, ◌∙◌, arith}
+use Rattle.std.specs.Prelude.{filter, find, flat_map, ◌&&◌, if◌then◌else◌}
 use Rattle.std.specs.List.{list_any, list_all}
 use Rattle.std.specs.Option.{option_map, option_or}
 use Rattle.std.specs.Str.{bytes_eq}
@@ -26,7 +25,7 @@ use Rattle.kernel_types.specs.Apply.Calls.{append_unless_taken, bridge_or_new, n
 use Rattle.kernel_types.specs.Equal.{addr_eq, rule_eq}
 use Rattle.kernel_types.specs.Names.{host_name_of}
 use Rattle.kernel_types.specs.Words.{is_own, is_host_ns, is_host_link, is_bridge, is_link_of, has_named_ns, has_host_bridge, link_at}
-use Rattle.kernel_types.proofs.Cases.{by_test, att_eq-refl, tag_eq-refl, tag_eq-own}
+use Rattle.kernel_types.proofs.Cases.{by_test, tag_eq-refl, tag_eq-own}
 use Rattle.kernel_types.proofs.ListLemmas.{list_any-append_left, list_any-map, list_any-same_test, list_any-weaker}
 use Rattle.kernel_types.specs.declared.object.Att.{Att}
 use Rattle.kernel_types.specs.declared.object.Host.{Host}
@@ -37,10 +36,10 @@ use Rattle.kernel_types.specs.declared.object.RouteObj.{RouteObj}
 use Rattle.kernel_types.specs.declared.object.Tag.{Tag}
 use Rattle.kernel_types.specs.declared.object.Tag.TheVariants.{Own}
 use Rattle.kernel_types.specs.declared.call.Call.{Call}
-use Rattle.kernel_types.specs.declared.call.Call.TheVariants.{Begin, BridgeEnsure, GatewayEnsure, ForwardEnsure, VethAdd, MacvlanAdd, LinkSet, AddrAdd, RouteAdd, RuleAppend, SettingSet, LeaseNext, CachePut, LinkDel, RuleDel, SettingDel, LeaseDel, CacheDel, HasObj, CacheGet, OwnersOf, PoolFree, NsChange, Outside}
+use Rattle.kernel_types.specs.declared.call.Call.TheVariants.{BridgeEnsure, GatewayEnsure, ForwardEnsure, VethAdd, MacvlanAdd, LinkSet, AddrAdd, RouteAdd, RuleAppend, SettingSet, CachePut}
 use Rattle.kernel_types.specs.declared.call.Given.{Given}
 use Rattle.kernel_types.specs.declared.call.Reply.{Reply}
-use Rattle.kernel_types.specs.declared.call.Reply.TheVariants.{Done, NoNs, NoLink, Taken}
+use Rattle.kernel_types.specs.declared.call.Reply.TheVariants.{Done, NoLink, Taken}
 use Rattle.plan_words.specs.PlanCalls.{is_plan_call_of}
 use Rattle.plan_words.specs.Shapes.{host_end, inner_end, macvlan_link, address_on, route_on, addresses_on, routes_on, masquerade_rules, forward_for, forward_calls}
 use Rattle.plan_words.specs.Share.{Share, share_of, share_after_call, share_after_calls}

@@ -1,6 +1,6 @@
 -- What the calls so far have made is a front of what all of them make.
-use Rattle.std.proofs.Common.{◌≡◌, ℕ, Bool, true, false, List, [], ◌∷◌, ◌++◌, map, refl, sym, ◌∙◌, ap, subst, inl, inr, ◌⊎◌, append_assoc, arith}
-use Rattle.std.proofs.lemmas.List.{append-nil, map-append}
+use Rattle.std.proofs.Common.{◌≡◌, ℕ, Bool, true, false, List, [], ◌∷◌, ◌++◌, map, refl, sym, ◌∙◌, ap, subst, inl, inr, append_assoc}
+use Rattle.std.proofs.lemmas.List.{append-nil}
 use Rattle.std.specs.Prelude.{filter, ◌&&◌, if◌then◌else◌}
 use Rattle.std.specs.List.{list_all}
 use Rattle.cni_addr.specs.declared.address.Addr.{Addr}
@@ -14,7 +14,6 @@ use Rattle.kernel_types.specs.Touch.{DropsOnly}
 use Rattle.kernel_types.specs.Words.{is_own}
 use Rattle.kernel_types.specs.declared.object.Att.{Att}
 use Rattle.kernel_types.specs.declared.object.Host.{Host}
-use Rattle.kernel_types.specs.declared.object.Link.{Link}
 use Rattle.kernel_types.specs.declared.object.Tag.TheVariants.{Own}
 use Rattle.kernel_types.specs.declared.call.Call.{Call}
 use Rattle.kernel_types.specs.declared.call.Call.TheVariants.{Begin, BridgeEnsure, GatewayEnsure, ForwardEnsure, VethAdd, MacvlanAdd, LinkSet, AddrAdd, RouteAdd, RuleAppend, SettingSet, LeaseNext, CachePut, LinkDel, RuleDel, SettingDel, LeaseDel, CacheDel, HasObj, CacheGet, OwnersOf, PoolFree, NsChange, Outside}
@@ -22,7 +21,7 @@ use Rattle.plan_words.specs.Share.{Share, share_of, no_objects, share_after_call
 use Rattle.plan_words.proofs.CallLists.{share_after_calls-append}
 use Rattle.cni_verbs.specs.CommandWords.{att_of, mappings_of}
 use Rattle.cni_verbs.specs.Script.{before_of, back_of}
-use Rattle.cni_verbs.specs.Wanted.{calls_before, share_before, untuned, wanted}
+use Rattle.cni_verbs.specs.Wanted.{calls_before, share_before, untuned}
 use Rattle.pod_laws.specs.AskedFor.{IsAmong, AreAmong, links_after_part, AreLinksOf, AreAskedFor}
 use Rattle.pod_laws.proofs.Achieved.{with_leases, wanted_by, no_leases}
 use Rattle.pod_laws.proofs.WantedShare.{made-before, makes-wanted}

@@ -1,5 +1,6 @@
 pub mod Achieved
 pub mod Asked
+pub mod Begins
 pub mod Bridges
 pub mod Causes
 pub mod DeletedEntries
@@ -7,10 +8,12 @@ pub mod Due
 pub mod Entries
 pub mod Footing
 pub mod Fronts
+pub mod LastAddresses
 pub mod LeasedRuns
 pub mod OfAnswers
 pub mod OfKinds
 pub mod OtherEntries
+pub mod Rest
 pub mod Stands
 pub mod Steps
 pub mod TunedLinks

@@ -1,28 +1,26 @@
 -- What answers say, from what holds of the runs that came to them.
-use Rattle.std.proofs.Common.{◌≡◌, ℕ, Bool, true, false, List, [], ◌∷◌, ◌++◌, length, Option, Some, None, slice_get, refl, sym, ◌∙◌, ap, subst, inl, inr, ◌⊎◌, arith}
+use Rattle.std.proofs.Common.{◌≡◌, ℕ, Bool, true, false, List, [], ◌∷◌, ◌++◌, Option, Some, None, slice_get, refl, sym, ◌∙◌, ap, subst, inl, inr, ◌⊎◌, arith}
 use Rattle.std.proofs.lemmas.Option.{none-some}
-use Rattle.std.specs.Prelude.{if◌then◌else◌, ◌&&◌}
+use Rattle.std.specs.Prelude.{if◌then◌else◌}
 use Rattle.std.specs.List.{list_all}
 use Rattle.cni_addr.specs.declared.address.Addr.{Addr}
 use Rattle.cni_result.specs.declared.error.CniError.{CniError}
 use Rattle.cni_result.specs.declared.result.AddResult.{AddResult}
 use Rattle.net_conf.specs.declared.list.NetList.{NetList}
 use Rattle.pod_file.specs.declared.command.Command.{Command}
-use Rattle.pod_file.specs.declared.command.Verb.{Verb}
 use Rattle.pod_file.specs.declared.command.Verb.TheVariants as verbs
 use Rattle.kernel_types.specs.Equal.{addr_eq}
 use Rattle.kernel_types.specs.Lists.{distinct}
 use Rattle.kernel_types.specs.Replies.{is_fault}
 use Rattle.kernel_types.specs.Sound.{IsSound}
 use Rattle.kernel_types.proofs.ListLemmas.{list_any-append_right}
-use Rattle.kernel_types.specs.declared.object.Att.{Att}
 use Rattle.kernel_types.specs.declared.call.Call.{Call}
 use Rattle.kernel_types.specs.declared.call.Reply.{Reply}
 use Rattle.kernel_types.specs.declared.call.Reply.TheVariants.{Fault}
-use Rattle.plan_words.specs.Share.{Share, share_of, no_objects}
+use Rattle.plan_words.specs.Share.{Share, share_of}
 use Rattle.cni_verbs.specs.Answers.{answer_of, error_of}
 use Rattle.cni_verbs.specs.CommandWords.{add_refusal, att_of, del_refusal, mappings_of}
-use Rattle.cni_verbs.specs.Script.{State, Over, leases_in}
+use Rattle.cni_verbs.specs.Script.{leases_in}
 use Rattle.cni_verbs.specs.Wanted.{result_of_add, sets_of, wanted}
 use Rattle.cni_verbs.specs.declared.answer.Answer.{Answer}
 use Rattle.cni_verbs.specs.declared.answer.Answer.TheVariants as answers
@@ -37,12 +35,12 @@ use Rattle.pod_laws.specs.Added.{AreCandidates, WasAdded, HasMade}
 use Rattle.pod_laws.specs.Deleted.{WasDeleted, HasDeleted, IsUndeletedByWords, IsUndeletedByFault, WasNotDeleted, AnswersOfDel, IsAnswerOfDel, CalmIsDeleted, IsYesOrCutOff}
 use Rattle.pod_laws.specs.Moments.{has_fault, host_at_end, own_entries}
 use Rattle.pod_laws.specs.Refused.{is_granted, lets_go_on, IsCause, no_namespace, name_taken, pool_empty, no_master, fault, IsResultOrCutOff, UnrefusedIsAdded, WasRefused, IsRefusedFor, AnswersOfAdd, IsAnswerOfAdd, BeginLeavesTheHost}
-use Rattle.pod_laws.proofs.Achieved.{Achieved, IsAddedWith, leased_in, achieved-start, achieved-step}
-use Rattle.pod_laws.proofs.Due.{IsOver, IsCutOff, answer-due}
+use Rattle.pod_laws.proofs.Achieved.{Achieved, IsAddedWith, achieved-start, achieved-step}
+use Rattle.pod_laws.proofs.Due.{IsCutOff, answer-due}
 use Rattle.pod_laws.proofs.Entries.{replies-own_entries}
 use Rattle.pod_laws.proofs.LeasedRuns.{IsOverLeased, LeasedRun, leased-start, leased-step, leases-distinct, sound-at_end}
 use Rattle.pod_laws.proofs.Steps.{every-run, listed-command}
-use Rattle.pod_laws.proofs.Undoing.{Undoing, Ends, IsUnrefused, IsAddRefused, IsDelRefused, IsDelDone, undone-start, undone-step}
+use Rattle.pod_laws.proofs.Undoing.{Undoing, Ends, undone-start, undone-step}
 
 -- ---- answers by endings
 

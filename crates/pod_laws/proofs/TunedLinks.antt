@@ -1,6 +1,6 @@
 -- Where `tuning` comes at most once, each link of an attachment is a wanted one, or one as it was before `tuning`.
 use Rattle.std.proofs.Common.{◌≡◌, ℕ, Bool, true, false, not, List, [], ◌∷◌, ◌++◌, map, refl, sym, ◌∙◌, ap, subst, inl, inr, ◌⊎◌, arith}
-use Rattle.std.specs.Prelude.{◌&&◌, ◌||◌, if◌then◌else◌}
+use Rattle.std.specs.Prelude.{◌||◌, if◌then◌else◌}
 use Rattle.std.specs.List.{list_any}
 use Rattle.cni_addr.specs.Codes.{family_eq}
 use Rattle.cni_addr.specs.declared.address.Addr.{Addr}
@@ -14,12 +14,10 @@ use Rattle.net_conf.specs.declared.first.First.TheVariants.{Bridge, Ptp, Macvlan
 use Rattle.net_conf.specs.declared.chained.Chained.{Chained}
 use Rattle.net_conf.specs.declared.chained.Chained.TheVariants.{Portmap, Firewall, Tuning}
 use Rattle.net_conf.specs.declared.list.NetList.{NetList}
-use Rattle.pod_file.specs.declared.command.Command.{Command}
 use Rattle.kernel_types.proofs.ListLemmas.{list_any-append_none}
 use Rattle.kernel_types.specs.declared.object.Att.{Att}
-use Rattle.kernel_types.specs.declared.object.Link.{Link}
 use Rattle.kernel_types.specs.declared.call.Call.{Call}
-use Rattle.kernel_types.specs.declared.call.Call.TheVariants.{Begin, BridgeEnsure, GatewayEnsure, ForwardEnsure, VethAdd, MacvlanAdd, LinkSet, AddrAdd, RouteAdd, RuleAppend, SettingSet, LeaseNext, CachePut, LinkDel, RuleDel, SettingDel, LeaseDel, CacheDel, HasObj, CacheGet, OwnersOf, PoolFree, NsChange, Outside}
+use Rattle.kernel_types.specs.declared.call.Call.TheVariants.{GatewayEnsure, ForwardEnsure, VethAdd, MacvlanAdd, LinkSet, AddrAdd, RouteAdd, RuleAppend, SettingSet, CachePut}
 use Rattle.kernel_types.specs.declared.call.Given.{Given}
 use Rattle.plan_words.specs.Shapes.{addresses_on, routes_on, masquerade_rules, forward_for, forward_calls}
 use Rattle.plan_words.specs.Share.{Share, no_objects, share_after_call, share_after_calls}
@@ -36,7 +34,7 @@ use Rattle.firewall_tuning.specs.Firewall.{firewall_rules}
 use Rattle.firewall_tuning.specs.Tuning.{tuning_settings, sets_any, link_set_calls}
 use Rattle.cni_verbs.specs.CommandWords.{att_of, mappings_of}
 use Rattle.cni_verbs.specs.Wanted.{calls_after, chained_calls, all_chained_calls, chained_result, back_calls, given_by_list, first_plugin_result, cached_of, untuned, wanted}
-use Rattle.pod_laws.specs.AskedFor.{IsAmong, AreAmong, AreLinksOf, links_after_part, is_tuning, tunes_once, EachLinkIsWanted}
+use Rattle.pod_laws.specs.AskedFor.{IsAmong, AreAmong, links_after_part, is_tuning, tunes_once, EachLinkIsWanted}
 use Rattle.pod_laws.proofs.Achieved.{with_leases}
 use Rattle.pod_laws.proofs.Fronts.{links-calls, untuned-links}
 use Rattle.pod_laws.proofs.WantedShare.{makes-wanted}

@@ -1,7 +1,7 @@
 -- How far the undoing of a refused ADD, or a DEL, has come after each entry, and why.
 use Rattle.std.proofs.Common.{◌≡◌, ◌≢◌, ℕ, ◌+◌, Bool, true, false, List, [], ◌∷◌, ◌++◌, length, Option, Some, None, refl, sym, ◌∙◌, ap, subst, inl, inr, ◌⊎◌, append_assoc, arith}
-use Rattle.std.specs.Prelude.{find, if◌then◌else◌, ◌||◌}
-use Rattle.std.specs.List.{list_any, list_all}
+use Rattle.std.specs.Prelude.{find}
+use Rattle.std.specs.List.{list_all}
 use Rattle.cni_addr.specs.declared.address.Addr.{Addr}
 use Rattle.cni_addr.specs.declared.range.RangeSet.{RangeSet}
 use Rattle.net_conf.specs.declared.list.NetList.{NetList}
@@ -21,32 +21,31 @@ use Rattle.kernel_types.specs.declared.object.Link.{Link}
 use Rattle.kernel_types.specs.declared.call.Kind.{Kind}
 use Rattle.kernel_types.specs.declared.call.Kind.TheVariants as kinds
 use Rattle.kernel_types.specs.declared.call.Call.{Call}
-use Rattle.kernel_types.specs.declared.call.Call.TheVariants.{Begin, LeaseNext, CacheGet}
+use Rattle.kernel_types.specs.declared.call.Call.TheVariants.{Begin, LeaseNext}
 use Rattle.kernel_types.specs.declared.call.Reply.{Reply}
-use Rattle.kernel_types.specs.declared.call.Reply.TheVariants.{Done, NoNs, NoLink, Taken, Empty, Leased, Gone, Has, Owners, Entry as Kept, Fault}
+use Rattle.kernel_types.specs.declared.call.Reply.TheVariants.{Done, NoLink, Leased, Gone, Fault}
 use Rattle.plan_words.specs.PlanCalls.{is_plan_call_of}
 use Rattle.plan_words.specs.Share.{Share, share_of, no_objects}
 use Rattle.plan_words.proofs.Deletions.{gone-none, gone-links, no-links}
 use Rattle.cni_verbs.specs.CommandWords.{att_of, add_refusal, del_refusal}
-use Rattle.cni_verbs.specs.Script.{State, AtBegin, BeforeLeases, Leasing, AfterLeases, ReadingCache, Deleting, Over, Turn, Calls, before_of, back_of, after_leases, leasing, before_leases, deleting, faulted, cause_of, at_begin, at_call_before, at_lease, at_call_after, at_cache, at_deletion, advance, unless_refused, start_of, start_state, turn}
+use Rattle.cni_verbs.specs.Script.{State, AtBegin, BeforeLeases, Leasing, AfterLeases, ReadingCache, Deleting, Over, Calls, before_of, back_of, after_leases, leasing, before_leases, deleting, faulted, cause_of, at_begin, at_call_before, at_lease, at_call_after, at_cache, at_deletion, advance, unless_refused, start_of, turn}
 use Rattle.cni_verbs.specs.Wanted.{sets_of, kinds_of, deletion}
 use Rattle.cni_verbs.specs.declared.answer.Cause.{Cause}
-use Rattle.cni_verbs.specs.declared.answer.Cause.TheVariants as causes
 use Rattle.cni_verbs.specs.declared.answer.Ending.{Ending}
 use Rattle.cni_verbs.specs.declared.answer.Ending.TheVariants.{Added, Yes, Refused}
-use Rattle.pod_workers.specs.Plans.{Placed, is_built}
-use Rattle.pod_workers.specs.World.{World, entry_of, host_of, host_on, reply_to}
+use Rattle.pod_workers.specs.Plans.{is_built}
+use Rattle.pod_workers.specs.World.{entry_of, host_of, host_on, reply_to}
 use Rattle.pod_workers.specs.declared.plan.Entry.{Entry}
 use Rattle.pod_workers.proofs.Planned.{LeftArePlanned}
 use Rattle.pod_workers.proofs.Sound.{sound_host}
 use Rattle.pod_laws.specs.Deleted.{HasDeleted, IsUndeletedByWords, IsUndeletedByFault}
 use Rattle.pod_laws.specs.Moments.{has_fault, own_entries}
-use Rattle.pod_laws.specs.Refused.{is_granted, lets_go_on, IsCause, FirstRefusal, IsRefusedByWords, IsRefusedAtBegin, IsRefusedLater, IsRefusedFor}
+use Rattle.pod_laws.specs.Refused.{is_granted, lets_go_on, FirstRefusal, IsRefusedFor}
 use Rattle.pod_laws.proofs.Causes.{Refuses, begin-refused, plan-refused, lease-refused}
 use Rattle.pod_laws.proofs.Footing.{IsMacvlan}
 use Rattle.pod_laws.proofs.OfKinds.{IsWithin, IsWithin-removes}
 use Rattle.pod_laws.proofs.Stands.{no_link-now}
-use Rattle.pod_laws.proofs.Steps.{GoesOn, StartsWith, IsRunFact, host-made, on-entry, own-state, sound-entered}
+use Rattle.pod_laws.proofs.Steps.{StartsWith, IsRunFact, host-made, on-entry, own-state, sound-entered}
 use Rattle.pod_laws.proofs.Within.{deletes-deletion, within-entered}
 
 -- ---- what led to a state

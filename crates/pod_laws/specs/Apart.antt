@@ -1,16 +1,53 @@
--- An entry of one attachment leaves all others alone.
-use Rattle.std.specs.Prelude.{◌≡◌, ℕ, ◌+◌, false, List, [], ◌∷◌, ◌++◌, Some, slice_get}
+-- An entry of one attachment leaves all others alone, and what none owns.
+use Rattle.std.specs.Prelude.{◌≡◌, ℕ, ◌+◌, Bool, true, false, List, [], ◌∷◌, ◌++◌, filter, Some, slice_get}
 use Rattle.cni_verbs.specs.CommandWords.{att_of}
 use Rattle.kernel_types.specs.Equal.{att_eq}
+use Rattle.kernel_types.specs.Isolation.{KeepsWhere}
+use Rattle.kernel_types.specs.Touch.{is_base}
 use Rattle.kernel_types.specs.declared.object.Att.{Att}
+use Rattle.kernel_types.specs.declared.object.Host.{Host}
+use Rattle.kernel_types.specs.declared.object.Tag.{Tag}
+use Rattle.kernel_types.specs.declared.object.Tag.TheVariants.{Outside, Base, Own}
 use Rattle.plan_words.specs.Share.{share_of}
 use Rattle.pod_workers.specs.Legal.{Legal}
 use Rattle.pod_workers.specs.Plans.{Placed, commands_of}
 use Rattle.pod_workers.specs.World.{World, after}
 use Rattle.pod_workers.specs.declared.plan.Entry.{Entry}
 
--- each entry of an ADD or a DEL, from the start of its run
+-- each entry of an ADD or a DEL leaves the objects of every other attachment, from the start of its run
 abbrev pub EachEntryLeavesOthers : Type 0
 EachEntryLeavesOthers = (w : World) → Legal w → (n : ℕ) (c : Placed) (before later : List Entry) (e : Entry) (other : Att)
     → slice_get (commands_of w.plan) n ≡ Some c → e.command ≡ n + 1 → att_eq (att_of c.command) other ≡ false → w.history ≡ before ++ e ∷ later
     → share_of other (after w.plan.pods.opening (before ++ e ∷ [])) ≡ share_of other (after w.plan.pods.opening before)
+
+-- ---- what no attachment owns
+
+abbrev pub is_outside : Tag → Bool
+is_outside Outside = true
+is_outside Base = false
+is_outside (Own att) = false
+
+-- the second list begins with the first
+abbrev pub GrowsAtEnd : {X : Type 0} → List X → List X → Type 0
+GrowsAtEnd {X} old new = (more : List X) × (new ≡ old ++ more)
+
+-- each shared object stays, and more may stand behind them
+pub record KeepsShared (old new : Host) : Type 0 where
+  pub namespaces : GrowsAtEnd (filter (λ n. is_base n.tag) old.namespaces) (filter (λ n. is_base n.tag) new.namespaces)
+  pub links : GrowsAtEnd (filter (λ l. is_base l.tag) old.links) (filter (λ l. is_base l.tag) new.links)
+  pub addresses : GrowsAtEnd (filter (λ a. is_base a.tag) old.addresses) (filter (λ a. is_base a.tag) new.addresses)
+  pub routes : GrowsAtEnd (filter (λ r. is_base r.tag) old.routes) (filter (λ r. is_base r.tag) new.routes)
+  pub rules : GrowsAtEnd (filter (λ r. is_base r.tag) old.rules) (filter (λ r. is_base r.tag) new.rules)
+  pub settings : GrowsAtEnd (filter (λ s. is_base s.tag) old.settings) (filter (λ s. is_base s.tag) new.settings)
+  pub leases : GrowsAtEnd (filter (λ l. is_base l.tag) old.leases) (filter (λ l. is_base l.tag) new.leases)
+  pub cached : GrowsAtEnd (filter (λ c. is_base c.tag) old.cached) (filter (λ c. is_base c.tag) new.cached)
+
+-- what was made outside is the same, list by list, and nothing shared goes
+pub record KeepsTheRest (old new : Host) : Type 0 where
+  pub outside : KeepsWhere is_outside old new
+  pub shared : KeepsShared old new
+
+-- each entry of a history
+abbrev pub EachEntryKeepsTheRest : Type 0
+EachEntryKeepsTheRest = (w : World) → Legal w → (before later : List Entry) (e : Entry) → w.history ≡ before ++ e ∷ later
+    → KeepsTheRest (after w.plan.pods.opening before) (after w.plan.pods.opening (before ++ e ∷ []))

@@ -1,17 +1,13 @@
 -- Each object that an attachment has is one that an ADD of it asked for.
-use Rattle.std.specs.Prelude.{◌≡◌, ℕ, ◌+◌, ◌⊎◌, Bool, true, false, ◌&&◌, not, List, [], ◌∷◌, ◌++◌, find, Option, Some, None, slice_get, if◌then◌else◌}
+use Rattle.std.specs.Prelude.{◌≡◌, ℕ, ◌+◌, ◌⊎◌, Bool, true, false, ◌&&◌, not, List, [], ◌∷◌, ◌++◌, Option, Some, None, slice_get, if◌then◌else◌}
 use Rattle.std.specs.List.{list_any}
 use Rattle.std.specs.Option.{option_or}
-use Rattle.std.specs.Str.{bytes_eq}
 use Rattle.cni_addr.specs.declared.address.Addr.{Addr}
-use Rattle.cni_addr.specs.declared.range.RangeSet.{RangeSet}
 use Rattle.cni_verbs.specs.CommandWords.{att_of, mappings_of}
 use Rattle.cni_verbs.specs.Script.{leases_in}
-use Rattle.cni_verbs.specs.Wanted.{back_calls, sets_of, untuned, wanted}
-use Rattle.ip_pool.specs.NextAddress.{is_candidate}
+use Rattle.cni_verbs.specs.Wanted.{back_calls, untuned, wanted}
 use Rattle.kernel_types.specs.Equal.{att_eq}
 use Rattle.kernel_types.specs.declared.object.Att.{Att}
-use Rattle.kernel_types.specs.declared.object.Last.{Last}
 use Rattle.kernel_types.specs.declared.object.Link.{Link}
 use Rattle.kernel_types.specs.declared.call.Call.{Call}
 use Rattle.kernel_types.specs.declared.call.Call.TheVariants.{Begin, BridgeEnsure, GatewayEnsure, ForwardEnsure, VethAdd, MacvlanAdd, LinkSet, AddrAdd, RouteAdd, RuleAppend, SettingSet, LeaseNext, CachePut, LinkDel, RuleDel, SettingDel, LeaseDel, CacheDel, HasObj, CacheGet, OwnersOf, PoolFree, NsChange, Outside}
@@ -25,7 +21,7 @@ use Rattle.pod_file.specs.declared.command.Command.{Command}
 use Rattle.pod_file.specs.declared.command.Verb.TheVariants as verbs
 use Rattle.pod_workers.specs.Legal.{Legal}
 use Rattle.pod_workers.specs.Plans.{Placed, commands_of, list_for}
-use Rattle.pod_workers.specs.World.{World, after, host_of, replies_of}
+use Rattle.pod_workers.specs.World.{World, after, replies_of}
 use Rattle.pod_workers.specs.declared.plan.Entry.{Entry}
 use Rattle.pod_workers.specs.declared.plan.Plan.{Plan}
 
@@ -146,16 +142,3 @@ tunes_once (c ∷ cs) = if is_tuning c then not (list_any is_tuning cs) else tun
 abbrev pub EachLinkIsWanted : Type 0
 EachLinkIsWanted = (list : NetList) (c : Command) (given : List Addr) (links : List Link) → tunes_once list.chained ≡ true → AreLinksOf list c given links
     → AreAmong links ((wanted list (att_of c) c.netns (mappings_of list c) given).links ++ untuned list (att_of c) c.netns)
-
--- ---- the addresses that were leased last
-
--- the address is a candidate of the set of its number in the list of its network
-abbrev pub IsLastOfSet : Plan → Last → Type 0
-IsLastOfSet p last = (list : NetList) (set : RangeSet) → find (λ l. bytes_eq l.name last.network) p.lists ≡ Some list → slice_get (sets_of list) last.set ≡ Some set → is_candidate set last.addr ≡ true
-
-abbrev pub AreLastsOfSets : Plan → List Last → Type 0
-AreLastsOfSets p [] = Unit {0}
-AreLastsOfSets p (last ∷ lasts) = IsLastOfSet p last × AreLastsOfSets p lasts
-
-abbrev pub EachLastIsCandidate : Type 0
-EachLastIsCandidate = (w : World) → Legal w → AreLastsOfSets w.plan (host_of w).lasts

@@ -1,5 +1,5 @@
 -- What a DEL leaves (CNI specification, section 3, "Deleting an attachment").
-use Rattle.std.specs.Prelude.{◌≡◌, ℕ, ◌+◌, ◌⊎◌, true, false, List, [], ◌∷◌, ◌++◌, length, Some, None, slice_get}
+use Rattle.std.specs.Prelude.{◌≡◌, ℕ, ◌+◌, ◌⊎◌, false, List, [], ◌∷◌, ◌++◌, length, Some, None, slice_get}
 use Rattle.cni_result.specs.declared.error.CniError.{CniError}
 use Rattle.cni_verbs.specs.Answers.{error_of}
 use Rattle.cni_verbs.specs.CommandWords.{att_of, del_refusal}

@@ -2,5 +2,6 @@ pub mod Added
 pub mod Apart
 pub mod AskedFor
 pub mod Deleted
+pub mod Lasts
 pub mod Moments
 pub mod Refused

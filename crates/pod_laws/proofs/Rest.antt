@@ -1,0 +1,177 @@
+-- Each entry leaves what was made outside, and removes nothing that is shared.
+use Rattle.std.proofs.Common.{◌≡◌, ℕ, Bool, true, false, not, List, [], ◌∷◌, ◌++◌, refl, sym, ◌∙◌, ap, subst, inl, inr}
+use Rattle.std.proofs.lemmas.List.{append-nil}
+use Rattle.std.specs.Prelude.{filter}
+use Rattle.net_conf.specs.declared.list.NetList.{NetList}
+use Rattle.kernel_types.specs.Allowed.{IsAllowed}
+use Rattle.kernel_types.specs.Apply.{apply}
+use Rattle.kernel_types.specs.Isolation.{KeepsWhere, KeepsUnowned, ensures_shared, is_from_outside}
+use Rattle.kernel_types.specs.Sound.{IsSound}
+use Rattle.kernel_types.specs.Touch.{AddsBridge, AddsAddress, AddsSetting, is_base}
+use Rattle.kernel_types.specs.Words.{is_owned}
+use Rattle.kernel_types.proofs.EveryCall.{Touches-apply}
+use Rattle.kernel_types.proofs.Isolation.{KeepsUnowned-Touches, KeepsWhere-nothing, KeepsWhere-AddsBridge, KeepsWhere-AddsAddress, KeepsWhere-AddsSetting}
+use Rattle.kernel_types.specs.declared.object.Host.{Host}
+use Rattle.kernel_types.specs.declared.object.Tag.{Tag}
+use Rattle.kernel_types.specs.declared.object.Tag.TheVariants as tags
+use Rattle.kernel_types.specs.declared.call.Call.{Call}
+use Rattle.kernel_types.specs.declared.call.Call.TheVariants.{BridgeEnsure, GatewayEnsure, ForwardEnsure}
+use Rattle.plan_words.proofs.KeyLists.{filter-push_kept, filter-within}
+use Rattle.cni_verbs.specs.CommandWords.{att_of}
+use Rattle.pod_workers.specs.Plans.{Placed}
+use Rattle.pod_workers.specs.World.{World, after, entry_of, host_of, host_on, own_replies}
+use Rattle.pod_workers.specs.declared.plan.Entry.{Entry}
+use Rattle.pod_workers.specs.declared.plan.Plan.{Plan}
+use Rattle.pod_workers.proofs.Histories.{after-append}
+use Rattle.pod_workers.proofs.Planned.{left-are-planned}
+use Rattle.pod_workers.proofs.Sound.{sound_host}
+use Rattle.pod_workers.proofs.Splits.{split_nil, split_snoc}
+use Rattle.pod_laws.specs.Apart.{is_outside, GrowsAtEnd, KeepsShared, KeepsTheRest, EachEntryKeepsTheRest}
+use Rattle.pod_laws.proofs.Bridges.{call-inside}
+use Rattle.pod_laws.proofs.Steps.{GoesOn, by-entries, on-entry, own-turn}
+
+-- ---- what is unowned is the same
+
+within-list : {X : Type 0} (p q : X → Bool) → ((x : X) → p x ≡ true → q x ≡ true) → (old new : List X) → filter q new ≡ filter q old → filter p new ≡ filter p old
+within-list p q w old new e = sym (filter-within p q w new) ∙ ap (filter p) e ∙ filter-within p q w old
+
+keeps-within : (test : Tag → Bool) (old new : Host) → ((t : Tag) → test t ≡ true → not (is_owned t) ≡ true) → KeepsUnowned old new → KeepsWhere test old new
+keeps-within test old new w k = record {
+  namespaces = within-list (λ x. test x.tag) (λ x. not (is_owned x.tag)) (λ x. w x.tag) old.namespaces new.namespaces k.namespaces;
+  links = within-list (λ x. test x.tag) (λ x. not (is_owned x.tag)) (λ x. w x.tag) old.links new.links k.links;
+  addresses = within-list (λ x. test x.tag) (λ x. not (is_owned x.tag)) (λ x. w x.tag) old.addresses new.addresses k.addresses;
+  routes = within-list (λ x. test x.tag) (λ x. not (is_owned x.tag)) (λ x. w x.tag) old.routes new.routes k.routes;
+  rules = within-list (λ x. test x.tag) (λ x. not (is_owned x.tag)) (λ x. w x.tag) old.rules new.rules k.rules;
+  settings = within-list (λ x. test x.tag) (λ x. not (is_owned x.tag)) (λ x. w x.tag) old.settings new.settings k.settings;
+  leases = within-list (λ x. test x.tag) (λ x. not (is_owned x.tag)) (λ x. w x.tag) old.leases new.leases k.leases;
+  cached = within-list (λ x. test x.tag) (λ x. not (is_owned x.tag)) (λ x. w x.tag) old.cached new.cached k.cached;
+}
+
+same-list : {X : Type 0} (old new : List X) → new ≡ old → GrowsAtEnd old new
+same-list old new e = ([], e ∙ sym (append-nil old))
+
+shared-same : (old new : Host) → KeepsWhere is_base old new → KeepsShared old new
+shared-same old new k = record {
+  namespaces = same-list _ _ k.namespaces;
+  links = same-list _ _ k.links;
+  addresses = same-list _ _ k.addresses;
+  routes = same-list _ _ k.routes;
+  rules = same-list _ _ k.rules;
+  settings = same-list _ _ k.settings;
+  leases = same-list _ _ k.leases;
+  cached = same-list _ _ k.cached;
+}
+
+outside-unowned : (t : Tag) → is_outside t ≡ true → not (is_owned t) ≡ true
+outside-unowned tags.Outside h = refl
+outside-unowned tags.Base h = refl
+outside-unowned (tags.Own att) h = cc
+
+base-unowned : (t : Tag) → is_base t ≡ true → not (is_owned t) ≡ true
+base-unowned tags.Outside h = refl
+base-unowned tags.Base h = refl
+base-unowned (tags.Own att) h = cc
+
+rest-unowned : (old new : Host) → KeepsUnowned old new → KeepsTheRest old new
+rest-unowned old new k = record { outside = keeps-within is_outside old new outside-unowned k; shared = shared-same old new (keeps-within is_base old new base-unowned k) }
+
+rest-nothing : (host : Host) → KeepsTheRest host host
+rest-nothing host = record { outside = KeepsWhere-nothing is_outside host; shared = shared-same host host (KeepsWhere-nothing is_base host) }
+
+-- ---- one shared object more
+
+shared-nothing : (host : Host) → KeepsShared host host
+shared-nothing host = shared-same host host (KeepsWhere-nothing is_base host)
+
+shared-bridge : (old new : Host) → AddsBridge old new → KeepsShared old new
+shared-bridge old new adds = elim adds [
+  | inl e ↦ subst (KeepsShared old) (sym e) (shared-nothing old)
+  | inr more ↦
+      let s = shared-nothing old in
+      subst (KeepsShared old) (sym more.2)
+      (record {
+        namespaces = s.namespaces;
+        links = (more.0 ∷ [], filter-push_kept (λ l. is_base l.tag) old.links more.0 (ap is_base more.1));
+        addresses = s.addresses;
+        routes = s.routes;
+        rules = s.rules;
+        settings = s.settings;
+        leases = s.leases;
+        cached = s.cached;
+      })
+]
+
+shared-address : (old new : Host) → AddsAddress old new → KeepsShared old new
+shared-address old new adds = elim adds [
+  | inl e ↦ subst (KeepsShared old) (sym e) (shared-nothing old)
+  | inr more ↦
+      let s = shared-nothing old in
+      subst (KeepsShared old) (sym more.2)
+      (record {
+        namespaces = s.namespaces;
+        links = s.links;
+        addresses = (more.0 ∷ [], filter-push_kept (λ a. is_base a.tag) old.addresses more.0 (ap is_base more.1));
+        routes = s.routes;
+        rules = s.rules;
+        settings = s.settings;
+        leases = s.leases;
+        cached = s.cached;
+      })
+]
+
+shared-setting : (old new : Host) → AddsSetting old new → KeepsShared old new
+shared-setting old new adds = elim adds [
+  | inl e ↦ subst (KeepsShared old) (sym e) (shared-nothing old)
+  | inr more ↦
+      let s = shared-nothing old in
+      subst (KeepsShared old) (sym more.2)
+      (record {
+        namespaces = s.namespaces;
+        links = s.links;
+        addresses = s.addresses;
+        routes = s.routes;
+        rules = s.rules;
+        settings = (more.0 ∷ [], filter-push_kept (λ x. is_base x.tag) old.settings more.0 (ap is_base more.1));
+        leases = s.leases;
+        cached = s.cached;
+      })
+]
+
+-- ---- each call
+
+rest-unshared : (host : Host) (call : Call) → IsSound host → IsAllowed host call → is_from_outside call ≡ false → ensures_shared call ≡ false → KeepsTheRest host (apply host call).0
+rest-unshared host call sound allowed inside own = rest-unowned host (apply host call).0 (KeepsUnowned-Touches call host (apply host call).0 inside own (Touches-apply host call sound allowed))
+
+rest-call : (host : Host) (call : Call) → IsSound host → IsAllowed host call → is_from_outside call ≡ false → KeepsTheRest host (apply host call).0
+rest-call host (BridgeEnsure name mtu promisc) sound allowed inside =
+    let adds = Touches-apply host (BridgeEnsure name mtu promisc) sound allowed in
+    record { outside = KeepsWhere-AddsBridge is_outside host (apply host (BridgeEnsure name mtu promisc)).0 refl adds; shared = shared-bridge host (apply host (BridgeEnsure name mtu promisc)).0 adds }
+rest-call host (GatewayEnsure bridge cidr) sound allowed inside =
+    let adds = Touches-apply host (GatewayEnsure bridge cidr) sound allowed in
+    record { outside = KeepsWhere-AddsAddress is_outside host (apply host (GatewayEnsure bridge cidr)).0 refl adds; shared = shared-address host (apply host (GatewayEnsure bridge cidr)).0 adds }
+rest-call host (ForwardEnsure family) sound allowed inside =
+    let adds = Touches-apply host (ForwardEnsure family) sound allowed in
+    record { outside = KeepsWhere-AddsSetting is_outside host (apply host (ForwardEnsure family)).0 refl adds; shared = shared-setting host (apply host (ForwardEnsure family)).0 adds }
+rest-call host call sound allowed inside = rest-unshared host call sound allowed inside refl
+
+-- ---- each entry
+
+abbrev AllKeep : Plan → List Entry → Type 0
+AllKeep p h = (before later : List Entry) (e : Entry) → h ≡ before ++ e ∷ later → KeepsTheRest (after p.pods.opening before) (after p.pods.opening (before ++ e ∷ []))
+
+keep-kept : (w : World) (n : ℕ) (c : Placed) (list : NetList) (call : Call) (faulty : Bool) → GoesOn w n c list call faulty → AllKeep w.plan w.history → AllKeep w.plan (w.history ++ entry_of (host_of w) n call faulty ∷ [])
+keep-kept w n c list call faulty on was = λ before later e is.
+    let x = entry_of (host_of w) n call faulty in
+    let opening = w.plan.pods.opening in
+    elim (split_snoc w.history before later x e is) [
+      | inl t ↦
+          let own = own-turn list c.command _ call (left-are-planned list c.command (own_replies w n)) on.turn_is in
+          let now : KeepsTheRest (host_of w) (host_on (host_of w) x) = on-entry (λ k. KeepsTheRest (host_of w) k) (host_of w) n call faulty (rest-nothing (host_of w))
+          (λ f. rest-call (host_of w) call (sound_host w on.legal) (on.allowed f) (call-inside (att_of c.command) call own)) in
+          let P : List Entry → Entry → Type 0 = λ h y. KeepsTheRest (after opening h) (after opening (h ++ y ∷ [])) in
+          subst (λ h. P h e) t.1 (subst (P w.history) t.2 (subst (KeepsTheRest (host_of w)) (sym (after-append opening w.history x)) now))
+      | inr t ↦ was before t.0 e t.2
+    ]
+
+pub each_entry_keeps_the_rest : EachEntryKeepsTheRest
+each_entry_keeps_the_rest w legal before later e is = by-entries AllKeep (λ p well b l x split. absurd (split_nil b l x split)) keep-kept w legal before later e is
