@@ -1,10 +1,9 @@
 #!/usr/bin/env python3
-"""Writes the tables that the readers' own tests go through.
+"""Writes the table that the tests of crates/pod_file go through.
 
     python3 tests/readers/write_tables.py
 
-reads network_lists.json and pod_files.json beside this file, and writes rows.rt into crates/net_conf/src/tests and
-crates/pod_file/src/tests. A file that has white space around it, or a character outside printable ASCII, doesn't fit in a
+reads pod_files.json beside this file, and writes rows.rt into crates/pod_file/src/tests. A file that has white space around it, or a character outside printable ASCII, doesn't fit in a
 line of a table, and is left out there. Python's standard library is enough.
 """
 
@@ -12,7 +11,7 @@ import json
 import pathlib
 
 HERE = pathlib.Path(__file__).resolve().parent
-TABLES = {"network_lists.json": "net_conf", "pod_files.json": "pod_file"}
+TABLES = {"pod_files.json": "pod_file"}
 BEGIN = '//! Written by tests/readers/write_tables.py: what comes of a file, and the file.\n\npub(super) const ROWS: &str = r#"'
 
 
