@@ -28,6 +28,3 @@ pub mod words;
 
 pub use answer::{Answer, Cause, Ending, Skip, WordFaults};
 pub use run::Run;
-
-#[cfg(test)]
-mod tests;
