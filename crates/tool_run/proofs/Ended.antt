@@ -110,7 +110,8 @@ ended r (due.Text book text) o settles rep =
       plan = comes_to_plan r.words r.files w book.plan settles.1 told;
       over = made.1;
       legal = made.2;
-    }) (record { by = w; words_are = settles.1; text = made.3 }) rep.1
+      in_file_order = made.3;
+    }) (record { by = w; words_are = settles.1; text = made.4 }) rep.1
 ended r due.NoMemory o settles rep = of_memory rep.1 rep.0 rep.2
 
 -- ---- what follows

@@ -5,6 +5,7 @@ use Rattle.cni_io.specs.Files.{StoredFiles}
 use Rattle.pod_text.specs.Lines.{text_of}
 use Rattle.pod_text.specs.Statuses.{status_of}
 use Rattle.pod_workers.specs.Legal.{Legal}
+use Rattle.pod_workers.specs.Order.{IsInFileOrder}
 use Rattle.pod_workers.specs.declared.plan.Plan.{Plan}
 use Rattle.tool_words.specs.Words.{words_of}
 use Rattle.tool_words.specs.declared.words.Words.{Words}
@@ -30,13 +31,13 @@ Reported old new before now (Text book bytes) outcome =
     (outcome.book ≡ Some book) × Reports old new before now bytes.items (status_of book.answers) outcome.status
 Reported old new before now NoMemory outcome = (outcome.book ≡ None) × (outcome.status ≡ 6) × (new ≡ old)
 
--- the text of the plan's book, every round of which is over, or memory ran out
+-- the text of the plan's book, whose commands went in file order and every round of which is over, or memory ran out
 abbrev pub SettlesPlan : Words → Plan → Due → Type 0
 SettlesPlan words plan Usage = ⊥
 SettlesPlan words plan (Line line) = ⊥
 SettlesPlan words plan (Unread line) = ⊥
 SettlesPlan words plan (Text book bytes) =
-    (book.plan ≡ plan) × (length plan.pods.rounds ≤ book.round) × Legal book × (bytes.items ≡ text_of book words.trace words.dump)
+    (book.plan ≡ plan) × (length plan.pods.rounds ≤ book.round) × Legal book × IsInFileOrder book × (bytes.items ≡ text_of book words.trace words.dump)
 SettlesPlan words plan NoMemory = ⊤
 
 abbrev pub SettlesFor : Words → Option StoredFiles → ℕ → ℕ → Due → Type 0

@@ -4,6 +4,7 @@ use Rattle.std.specs.Io.KnownBytes.{append_known}
 use Rattle.cni_io.specs.Files.{StoredFiles}
 use Rattle.pod_text.specs.Lines.{text_of}
 use Rattle.pod_workers.specs.Legal.{Legal}
+use Rattle.pod_workers.specs.Order.{IsInFileOrder}
 use Rattle.pod_workers.specs.World.{World}
 use Rattle.tool_words.specs.Words.{words_of}
 use Rattle.tool_words.specs.declared.words.Words.{Words}
@@ -28,13 +29,14 @@ WroteFront old new bytes = (n : ℕ) × (new ≡ append_known old (take n bytes)
 abbrev pub ComesTo : List (List ℕ) → Option StoredFiles → Verdict → Type 0
 ComesTo words files verdict = WhereTold files (λ stored. verdict_of words stored ≡ verdict)
 
--- a legal book of the plan that the words and the files come to, with every round over
+-- a legal book of the plan that the words and the files come to, whose commands went in file order, with every round over
 pub record IsCarriedOut (words : List (List ℕ)) (files : Option StoredFiles) (book : World) : Type 0 where
   pub by : Words
   pub words_are : words_of words ≡ Some by
   pub plan : ComesTo words files (carry book.plan by.trace by.dump)
   pub over : length book.plan.pods.rounds ≤ book.round
   pub legal : Legal book
+  pub in_file_order : IsInFileOrder book
 
 -- the whole text of the book, with the trace and the dump that the words ask for
 pub record IsTextOf (words : List (List ℕ)) (book : World) (bytes : List ℕ) : Type 0 where

@@ -2,6 +2,7 @@
 
 ghost use Rattle.std.specs.Prelude.{◌≡◌, ◌≤◌, IfOk, length};
 ghost use Rattle.pod_workers.specs.Legal.{Legal};
+ghost use Rattle.pod_workers.specs.Order.{IsInFileOrder};
 ghost use Rattle.pod_workers.specs.Plans.{IsWellFormed};
 ghost use Rattle.pod_workers.specs.World.{begun};
 
@@ -16,6 +17,7 @@ pub(crate) fn carry_out(alloc: Global, plan: Plan) -> Result<Book<ListKernel>, N
     ensures plan { IfOk result (λ book. book.plan ≡ plan) }
     ensures over { IfOk result (λ book. length plan.pods.rounds ≤ book.round) }
     ensures legal { IfOk result Legal }
+    ensures order { IfOk result IsInFileOrder }
 {
     let mut book = begin(alloc, plan)?;
     run_rounds(&mut book);
@@ -25,16 +27,19 @@ pub(crate) fn carry_out(alloc: Global, plan: Plan) -> Result<Book<ListKernel>, N
 
 fn begin(alloc: Global, plan: Plan) -> Result<Book<ListKernel>, NoMemory>
     requires { IsWellFormed plan }
-    ensures { IfOk result (λ book. book ≡ begun plan) }
+    ensures begun { IfOk result (λ book. book ≡ begun plan) }
+    ensures order { IfOk result IsInFileOrder }
 {
     let opening = plan.pods.opening.copy()?;
-    Book::begin(alloc, plan, ListKernel::of_host(opening))
+    let book = Book::begin(alloc, plan, ListKernel::of_host(opening))?;
+    Ok(book)
 }
 
 /// Runs every round that is left.
 fn run_rounds<K: Kernel + Drop>(book: &mut Book<K>)
     ensures plan { book.new.plan ≡ book.old.plan }
     ensures over { length book.old.plan.pods.rounds ≤ book.new.round }
+    ensures order { IsInFileOrder book.old → IsInFileOrder book.new }
 {
     while !book.ended() {
         book.round_alone();
