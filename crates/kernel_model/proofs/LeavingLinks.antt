@@ -10,13 +10,7 @@ use Rattle.kernel_types.specs.declared.object.Att.{Att}
 use Rattle.kernel_types.specs.declared.object.Link.{Link}
 use Rattle.kernel_types.specs.declared.object.LinkKey.{LinkKey}
 use Rattle.kernel_types.specs.declared.object.Host.{Host}
-use Rattle.kernel_model.proofs.FirstFound.{passes-find}
-
-pub goes_with-itself : (l : Link) → goes_with l.ns l.name l ≡ true
-goes_with-itself l = grind (arith, nat_list_eq_equiv.refl l.ns, nat_list_eq_equiv.refl l.name)
-
-pub link_del-found : (host : Host) (att : Att) (link : Link) → find (λ l. is_own att l.tag) host.links ≡ Some link → (without_links (goes_with link.ns link.name) host, Gone true) ≡ link_del_of host att
-link_del-found host att link found = ap (without_link host) (sym found)
+use Rattle.kernel_types.proofs.ListLemmas.{passes-find}
 
 -- the link that stands at a place has that place
 place-found : (ns name : List ℕ) (links : List Link) (link : Link) → find (is_at ns name) links ≡ Some link → is_at ns name link ≡ true

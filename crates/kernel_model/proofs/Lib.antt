@@ -1,4 +1,3 @@
-pub mod FirstFound
 pub mod ListTests
 pub mod LeavingLinks
 pub mod EachOnce
