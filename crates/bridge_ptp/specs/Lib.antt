@@ -1,3 +1,4 @@
 pub mod Bridge
 pub mod Ptp
+pub mod PtpKeys
 pub mod Results

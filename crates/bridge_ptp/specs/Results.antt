@@ -50,6 +50,10 @@ default_unless_there routes (Some ip) =
 abbrev pub missing_default : Family → List RouteEntry → List IpEntry → List RouteEntry
 missing_default family routes ips = default_unless_there routes (find (λ ip. family_eq ip.address.addr.family family) ips)
 
+-- what `isDefaultGateway` adds for a family
+abbrev pub added_default : Bool → Family → List RouteEntry → List IpEntry → List RouteEntry
+added_default is_default_gateway family routes ips = if is_default_gateway then missing_default family routes ips else []
+
 -- `isDefaultGateway` adds the default routes at the end, IPv4 first
 abbrev pub bridge_routes : Bool → List RouteEntry → List IpEntry → List RouteEntry
 bridge_routes is_default_gateway routes ips =

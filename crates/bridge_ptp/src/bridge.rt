@@ -60,7 +60,8 @@ pub fn bridge_before(
 
 // ---- routes
 
-fn has_destination(entries: &[RouteEntry], dst: &Cidr) -> bool
+/// Whether a route leads there.
+pub(crate) fn has_destination(entries: &[RouteEntry], dst: &Cidr) -> bool
     ensures { result ≡ list_any (λ r. cidr_eq r.dst dst.now) entries.now }
 {
     entries.iter().any(|r| r.dst == *dst)

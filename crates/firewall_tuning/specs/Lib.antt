@@ -1,3 +1,4 @@
+pub mod Counts
 pub mod Firewall
 pub mod Shares
 pub mod Tuning

@@ -7,12 +7,15 @@
 //! ```text
 //! firewall_calls(alloc, &att, &prev)?       // two RuleAppend an address
 //! tuning_calls(alloc, &conf, &att, &netns)? // SettingSet for each sysctl, LinkSet where the link is changed
+//! firewall_count(given.as_slice())          // how many they are, without memory
 //! ```
 #![tactic(auto)]
 
+pub mod counts;
 pub mod firewall;
 pub mod laws;
 pub mod tuning;
 
+pub use counts::{firewall_count, setting_count, tuning_count};
 pub use firewall::{firewall_calls, firewall_kinds, firewall_result};
 pub use tuning::{tuning_calls, tuning_kinds, tuning_result};

@@ -43,7 +43,8 @@ fn settings_of(
 
 // ---- the container's link
 
-fn sets_any(conf: &TuningConf) -> bool
+/// Whether any value of the link is configured.
+pub(crate) fn sets_any(conf: &TuningConf) -> bool
     ensures { result ≡ plan.sets_any conf.now }
 {
     conf.mac.is_some()

@@ -1,5 +1,5 @@
 -- The leases of an attachment, and what a leased address means by its range (the `host-local` plugin).
-use Rattle.std.specs.Prelude.{ℕ, ◌+◌, Bool, ◌&&◌, nat_le, List, [], ◌∷◌, ◌++◌, find, option_map, option_to_list}
+use Rattle.std.specs.Prelude.{ℕ, ◌+◌, Bool, ◌&&◌, nat_le, List, [], ◌∷◌, ◌++◌, find, Option, option_map, option_to_list}
 use Rattle.cni_addr.specs.Codes.{family_eq}
 use Rattle.cni_addr.specs.declared.address.Addr.{Addr}
 use Rattle.cni_addr.specs.declared.range.Range.{Range}
@@ -34,3 +34,9 @@ abbrev pub given_of : List RangeSet → List Addr → List Given
 given_of [] addrs = []
 given_of (set ∷ sets) [] = []
 given_of (set ∷ sets) (addr ∷ addrs) = given_in set addr ++ given_of sets addrs
+
+-- what is at each place, where the k-th address has a range in the k-th set
+abbrev pub given_row : List RangeSet → List Addr → List (Option Given)
+given_row [] addrs = []
+given_row (set ∷ sets) [] = []
+given_row (set ∷ sets) (addr ∷ addrs) = option_map (given_by addr) (find (range_contains addr) set.ranges) ∷ given_row sets addrs

@@ -1,4 +1,6 @@
 pub mod Keys
 pub mod PlanCalls
+pub mod Rows
+pub mod RuleKeys
 pub mod Shapes
 pub mod Share

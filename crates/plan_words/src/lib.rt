@@ -11,11 +11,15 @@
 #![tactic(auto)]
 
 pub mod asked;
+pub mod counts;
 pub mod families;
+pub mod rows;
 pub mod shapes;
 
 pub use asked::{Asked, ask_all, push_unless_there};
+pub use counts::{count_addresses, count_forward_calls, count_masquerade_rules, count_routes};
 pub use families::first_of_family;
+pub use rows::{GivenRow, Row, count_keys, first_given};
 pub use shapes::{
     address_on, addresses_on, ask_forward, default_route, host_end, inner_end, lease_of,
     macvlan_link, masquerade_rules, route_on, routes_on,

@@ -1,2 +1,3 @@
+pub mod PortKeys
 pub mod Portmap
 pub mod Share

@@ -5,9 +5,11 @@
 //!
 //! ```text
 //! portmap::calls(alloc, &conf, &att, &mappings, &prev)? // three RuleAppend a mapping
+//! portmap::count(&conf, mappings.as_slice(), given.as_slice()) // how many they are, without memory
 //! ```
 #![tactic(auto)]
 
+pub mod counts;
 pub mod laws;
 
 ghost use Rattle.std.specs.Prelude.{◌≡◌, ◌∷◌, [], find, fold, option_map, IfOk, OnOk};
@@ -20,13 +22,14 @@ ghost use Rattle.portmap.specs.Portmap as plan;
 
 use cni_addr::{Addr, Cidr, Duplicate, Family, Items, NoMemory, network_of, whole};
 use cni_result::{AddResult, IpEntry, PortMapping};
+pub use counts::{MappingRow, count};
 use kernel_types::{Att, Call, Chain, Kind, Rule, Table, Tag, Target};
 use net_conf::PortmapConf;
 use plan_words::{ask_all, first_of_family, push_unless_there};
 use std::alloc::Global;
 
 /// `127.0.0.1/32`
-fn loopback() -> Cidr
+pub(crate) fn loopback() -> Cidr
     ensures { result ≡ plan.loopback }
 {
     Cidr {
@@ -38,7 +41,8 @@ fn loopback() -> Cidr
     }
 }
 
-fn host_ip_allows(mapping: &PortMapping, addr: &Addr) -> bool
+/// Whether the mapping asks for no host address of the other family.
+pub(crate) fn host_ip_allows(mapping: &PortMapping, addr: &Addr) -> bool
     ensures { result ≡ plan.host_ip_allows mapping.now.host_ip addr.now }
 {
     match mapping.host_ip {

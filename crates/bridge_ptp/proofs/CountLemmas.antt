@@ -1,0 +1,84 @@
+-- The keys of what `bridge` makes after the leases.
+use Rattle.std.proofs.Common.{◌≡◌, ℕ, zero, suc, ◌+◌, ◌-◌, ◌<◌, ◌≤◌, Bool, true, false, cond, List, [], ◌∷◌, ◌++◌, map, length, Option, Some, None, refl, sym, ◌∙◌, ap, arith}
+use Rattle.std.specs.Prelude.{find, slice_get, option_map, option_to_list, if◌then◌else◌}
+use Rattle.std.specs.List.{list_any}
+use Rattle.std.proofs.lemmas.List.{length-append, length-map, map-append, append-nil}
+use Rattle.std.proofs.lemmas.Option.{slice_get-map, slice_get_read}
+use Rattle.cni_addr.specs.Codes.{family_eq}
+use Rattle.cni_addr.specs.Equal.{cidr_eq}
+use Rattle.cni_addr.specs.declared.address.Cidr.{Cidr}
+use Rattle.cni_addr.specs.declared.address.Family.{Family}
+use Rattle.cni_addr.specs.declared.address.Family.TheVariants.{V4, V6}
+use Rattle.cni_result.specs.declared.result.IpEntry.{IpEntry}
+use Rattle.cni_result.specs.declared.result.RouteEntry.{RouteEntry}
+use Rattle.kernel_types.specs.declared.call.Given.{Given}
+use Rattle.plan_words.specs.Rows.{present}
+use Rattle.plan_words.specs.Shapes.{default_route}
+use Rattle.plan_words.proofs.RowLemmas.{slice_get-before, slice_get-behind, present-append, present-keys}
+use Rattle.host_local.specs.Results.{ip_of}
+use Rattle.bridge_ptp.specs.Results.{default_unless_there, missing_default, added_default, bridge_routes}
+
+-- ---- the default routes
+
+find-step : (b : Bool) (g : Given) (o : Option Given) (p : Option IpEntry) → p ≡ option_map ip_of o → cond b (Some (ip_of g)) p ≡ option_map ip_of (cond b (Some g) o)
+find-step true g o p h = refl
+find-step false g o p h = h
+
+-- the first address of a family is that of the first given one
+pub find-ips : (family : Family) (given : List Given) → find (λ ip. family_eq ip.address.addr.family family) (map ip_of given) ≡ option_map ip_of (find (λ g. family_eq g.address.addr.family family) given)
+find-ips family [] = refl
+find-ips family (g ∷ gs) = find-step (family_eq g.address.addr.family family) g (find (λ x. family_eq x.address.addr.family family) gs) (find (λ ip. family_eq ip.address.addr.family family) (map ip_of gs)) (find-ips family gs)
+
+by-there : (b : Bool) (r : RouteEntry) → map (λ x. x.dst) (if b then [] else r ∷ []) ≡ (if b then [] else r.dst ∷ [])
+by-there true r = refl
+by-there false r = refl
+
+pub default-found : (family : Family) (configured : List RouteEntry) (given : List Given) (g : Given) (keys : List Cidr) → find (λ x. family_eq x.address.addr.family family) given ≡ Some g
+    → keys ≡ (if list_any (λ r. cidr_eq r.dst (default_route g.address.addr.family)) configured then [] else default_route g.address.addr.family ∷ [])
+    → keys ≡ map (λ r. r.dst) (missing_default family configured (map ip_of given))
+default-found family configured given g keys at is =
+    is
+    ∙ sym (by-there (list_any (λ r. cidr_eq r.dst (default_route g.address.addr.family)) configured) (record { dst = default_route g.address.addr.family; gw = Some g.gateway }))
+    ∙ sym (ap (λ o. map (λ r. r.dst) (default_unless_there configured o)) (find-ips family given ∙ ap (option_map ip_of) at))
+
+pub default-none : (family : Family) (configured : List RouteEntry) (given : List Given) → find (λ x. family_eq x.address.addr.family family) given ≡ None → [] ≡ map (λ r. r.dst) (missing_default family configured (map ip_of given))
+default-none family configured given at = sym (ap (λ o. map (λ r. r.dst) (default_unless_there configured o)) (find-ips family given ∙ ap (option_map ip_of) at))
+
+pub ruleset default_steps = (default-found, default-none)
+
+pub present-two : {X : Type 0} (o p : Option X) → present (o ∷ p ∷ []) ≡ option_to_list o ++ option_to_list p
+present-two None None = refl
+present-two None (Some y) = refl
+present-two (Some x) None = refl
+present-two (Some x) (Some y) = refl
+
+bridge_routes-added : (b : Bool) (configured : List RouteEntry) (ips : List IpEntry) → bridge_routes b configured ips ≡ configured ++ (added_default b V4 configured ips ++ added_default b V6 configured ips)
+bridge_routes-added true configured ips = refl
+bridge_routes-added false configured ips = sym (append-nil configured)
+
+-- the keys are the destinations
+pub present-routes : (b : Bool) (configured : List RouteEntry) (ips : List IpEntry) (v4 v6 : Option Cidr) → option_to_list v4 ≡ map (λ r. r.dst) (added_default b V4 configured ips) → option_to_list v6 ≡ map (λ r. r.dst) (added_default b V6 configured ips)
+    → present (map (λ r. Some r.dst) configured ++ v4 ∷ v6 ∷ []) ≡ map (λ r. r.dst) (bridge_routes b configured ips)
+present-routes b configured ips v4 v6 is4 is6 =
+    let a4 = added_default b V4 configured ips in
+    let a6 = added_default b V6 configured ips in
+    present-append (map (λ r. Some r.dst) configured) (v4 ∷ v6 ∷ [])
+    ∙ ap (λ l. l ++ present (v4 ∷ v6 ∷ [])) (present-keys (λ (r : RouteEntry). r.dst) configured)
+    ∙ ap (λ l. map (λ (r : RouteEntry). r.dst) configured ++ l) (present-two v4 v6 ∙ ap (λ l. l ++ option_to_list v6) is4 ∙ ap (λ l. map (λ (r : RouteEntry). r.dst) a4 ++ l) is6 ∙ sym (map-append (λ (r : RouteEntry). r.dst) a4 a6))
+    ∙ sym (map-append (λ (r : RouteEntry). r.dst) configured (a4 ++ a6))
+    ∙ sym (ap (map (λ (r : RouteEntry). r.dst)) (bridge_routes-added b configured ips))
+
+-- ---- places
+
+pub place-before : {X : Type 0} (xs ys : List X) (i : ℕ) (x : X) → i < length xs → slice_get xs i ≡ Some x → slice_get (xs ++ ys) i ≡ Some x
+place-before xs ys i x lt at = slice_get-before xs ys i lt ∙ at
+
+pub place-first : {X : Type 0} (xs : List X) (y z : X) (i : ℕ) → i ≡ length xs → slice_get (xs ++ y ∷ z ∷ []) i ≡ Some y
+place-first xs y z i e = slice_get-behind xs (y ∷ z ∷ []) (length xs) i 0 refl (omega arith)
+
+pub place-second : {X : Type 0} (xs : List X) (y z : X) (i : ℕ) → i ≡ length xs + 1 → slice_get (xs ++ y ∷ z ∷ []) i ≡ Some z
+place-second xs y z i e = slice_get-behind xs (y ∷ z ∷ []) (length xs) i 1 refl (omega arith)
+
+pub ruleset row_steps = (slice_get-map, length-map)
+
+pub ruleset place_steps = (place-before, place-first, place-second, slice_get-map, length-map, length-append, slice_get_read)

@@ -1,0 +1,30 @@
+use Rattle.std.proofs.Common.{◌≡◌, ◌+◌, ◌++◌, length, map, sym, ◌∙◌, ap, arith}
+use Rattle.std.proofs.lemmas.List.{length-append, length-map}
+use Rattle.kernel_types.specs.declared.call.Call.TheVariants.{AddrAdd, RouteAdd, RuleAppend}
+use Rattle.plan_words.specs.Rows.{present}
+use Rattle.plan_words.specs.Shapes.{addresses_on, routes_on, masquerade_rules}
+use Rattle.host_local.specs.Conf.{routes_of}
+use Rattle.host_local.specs.Results.{ip_of}
+use Rattle.bridge_ptp.specs.Bridge.{gateway_calls}
+use Rattle.bridge_ptp.specs.Results.{bridge_routes}
+use Rattle.bridge_ptp.proofs.bridge_counts.bridge_after_count.Goals as goal
+
+pub returns : goal.returns
+returns g c = λ att netns.
+    let all = present (g.G.GivenRow.values c.args.given) in
+    let conf = c.args.conf.now in
+    let addresses = addresses_on att netns all in
+    let routes = routes_on att netns all (bridge_routes conf.is_default_gateway (routes_of conf.ipam) (map ip_of all)) in
+    let gateways = gateway_calls conf all in
+    let rules = masquerade_rules conf.ip_masq att all in
+    let counted : c.count_of_routes.result ≡ length addresses + length routes + length gateways + length rules = rw c.routes_of.ensures at (c.count_of_routes.ensures att netns all) in
+    length-append (map AddrAdd addresses) (map RouteAdd routes ++ (gateways ++ map RuleAppend rules))
+    ∙ omega (
+      arith,
+      length-append (map RouteAdd routes) (gateways ++ map RuleAppend rules),
+      length-append gateways (map RuleAppend rules),
+      length-map addresses AddrAdd,
+      length-map routes RouteAdd,
+      length-map rules RuleAppend,
+      counted,
+    )

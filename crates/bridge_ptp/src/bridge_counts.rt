@@ -1,0 +1,209 @@
+//! How many calls `bridge` makes after the leases. Nothing here takes memory.
+
+ghost use Rattle.std.specs.Prelude.{◌≡◌, ◌+◌, ◌*◌, ◌≤◌, ℕ, [], ◌∷◌, List, map, length, option_to_list, if◌then◌else◌};
+ghost use Rattle.std.specs.List.{list_any};
+ghost use Rattle.cni_addr.specs.Equal.{cidr_eq};
+ghost use Rattle.kernel_types.specs.declared.object.Att.{Att};
+ghost use Rattle.kernel_types.specs.declared.call.Given.{Given};
+ghost use Rattle.plan_words.specs.Rows.{present};
+ghost use Rattle.plan_words.specs.Shapes as shapes;
+ghost use Rattle.host_local.specs.Results.{ip_of};
+ghost use Rattle.bridge_ptp.specs.Bridge as plan;
+ghost use Rattle.bridge_ptp.specs.Results as results;
+
+use crate::bridge::has_destination;
+use cni_addr::{Addr, Cidr, Family};
+use cni_result::RouteEntry;
+use host_local::routes_of;
+use kernel_types::Given;
+use net_conf::BridgeConf;
+use plan_words::{
+    GivenRow, Row, count_addresses, count_forward_calls, count_keys, count_masquerade_rules,
+    default_route, first_given,
+};
+
+// ---- routes
+
+fn default_if_missing(configured: &[RouteEntry], given: &Given) -> Option<Cidr>
+    ensures { option_to_list result ≡ (if list_any (λ r. cidr_eq r.dst (shapes.default_route given.now.address.addr.family)) configured.now then [] else shapes.default_route given.now.address.addr.family ∷ []) }
+{
+    let family = given.address.addr.family;
+    let dst = default_route(family);
+    if has_destination(configured, &dst) {
+        None
+    } else {
+        Some(dst)
+    }
+}
+
+/// The default route of the family that is added to the configured ones, if one is.
+#[tactic(auto, using(crate::proofs::CountLemmas::default_steps))]
+fn missing_default<G: GivenRow>(
+    configured: &[RouteEntry],
+    family: Family,
+    given: &G,
+) -> Option<Cidr>
+    ensures { option_to_list result ≡ map (λ r. r.dst) (results.missing_default family configured.now (map ip_of (present (G.values given.now)))) }
+{
+    match first_given(given, family) {
+        Some(g) => default_if_missing(configured, &g),
+        None => None,
+    }
+}
+
+/// The configured destinations, and those of the default routes that are added.
+#[derive(Clone, Copy)]
+struct RouteKeys<'a> {
+    configured: &'a [RouteEntry],
+    v4: Option<Cidr>,
+    v6: Option<Cidr>,
+}
+
+impl<'a> Row<Cidr> for RouteKeys<'a> {
+    ghost use Rattle.std.specs.Prelude.{◌++◌, ◌∷◌, [], map, Some};
+
+    ghost values = { λ row. map (λ r. Some r.dst) row.configured.now ++ row.v4 ∷ row.v6 ∷ [] };
+
+    fn places(&self) -> usize {
+        self.configured.len() + 2
+    }
+
+    #[tactic(auto, using(crate::proofs::CountLemmas::place_steps))]
+    fn at(&self, place: usize) -> Option<Cidr> {
+        let configured = self.configured.len();
+        if place < configured {
+            Some(self.configured[place].dst)
+        } else if place == configured {
+            self.v4
+        } else {
+            self.v6
+        }
+    }
+}
+
+fn added_default<G: GivenRow>(
+    is_default_gateway: bool,
+    configured: &[RouteEntry],
+    family: Family,
+    given: &G,
+) -> Option<Cidr>
+    ensures { option_to_list result ≡ map (λ r. r.dst) (results.added_default is_default_gateway family configured.now (map ip_of (present (G.values given.now)))) }
+{
+    if is_default_gateway {
+        missing_default(configured, family, given)
+    } else {
+        None
+    }
+}
+
+fn count_routes<G: GivenRow>(
+    is_default_gateway: bool,
+    configured: &[RouteEntry],
+    given: &G,
+) -> usize
+    ensures count { (att : Att) (netns : List ℕ) (all : List Given)
+        → result ≡ length (shapes.routes_on att netns all (results.bridge_routes is_default_gateway configured.now (map ip_of (present (G.values given.now))))) }
+    ensures most { result ≤ length configured.now + 2 }
+{
+    let v4 = added_default(is_default_gateway, configured, Family::V4, given);
+    let v6 = added_default(is_default_gateway, configured, Family::V6, given);
+    count_keys(&RouteKeys { configured, v4, v6 })
+}
+
+// ---- gateways
+
+/// A gateway on the bridge is told from the others by the address alone.
+#[derive(Clone, Copy)]
+struct GatewayKeys<G>(G);
+
+impl<G: GivenRow> Row<Addr> for GatewayKeys<G> {
+    ghost use Rattle.std.specs.Prelude.{map, option_map};
+
+    ghost values = { λ row. map (option_map (λ g. g.gateway)) (G.values row.0) };
+
+    fn places(&self) -> usize {
+        self.0.places()
+    }
+
+    #[tactic(auto, using(crate::proofs::CountLemmas::row_steps))]
+    fn at(&self, place: usize) -> Option<Addr> {
+        match self.0.given_at(place) {
+            Some(g) => Some(g.gateway),
+            None => None,
+        }
+    }
+}
+
+fn count_gateways<G: GivenRow + Copy>(given: G) -> usize
+    ensures count { result ≡ length (plan.gateways (present (G.values given))) }
+    ensures most { result ≤ length (G.values given) }
+{
+    count_keys(&GatewayKeys(given))
+}
+
+fn count_gateway_calls<G: GivenRow + Copy>(conf: &BridgeConf, given: G) -> usize
+    ensures count { result ≡ length (plan.gateway_calls conf.now (present (G.values given))) }
+    ensures most { result ≤ length (G.values given) + 2 }
+{
+    if conf.is_gateway {
+        let _places = given.places();
+        count_gateways(given) + count_forward_calls(&given)
+    } else {
+        0
+    }
+}
+
+// ---- all
+
+fn count_of_objects<G: GivenRow + Copy>(
+    conf: &BridgeConf,
+    configured: &[RouteEntry],
+    given: G,
+) -> usize
+    ensures count { (att : Att) (netns : List ℕ) (all : List Given)
+        → result ≡ length (shapes.addresses_on att netns (present (G.values given)))
+        + length (shapes.routes_on att netns all (results.bridge_routes conf.now.is_default_gateway configured.now (map ip_of (present (G.values given)))))
+        + length (shapes.masquerade_rules conf.now.ip_masq att (present (G.values given))) }
+    ensures most { result ≤ 3 * length (G.values given) + length configured.now + 2 }
+{
+    let _places = given.places();
+    let _few = 16 * configured.len();
+    let addresses = count_addresses(given);
+    let routes = count_routes(conf.is_default_gateway, configured, &given);
+    let rules = count_masquerade_rules(conf.ip_masq, given);
+    addresses + routes + rules
+}
+
+fn count_of_routes<G: GivenRow + Copy>(
+    conf: &BridgeConf,
+    configured: &[RouteEntry],
+    given: G,
+) -> usize
+    ensures { (att : Att) (netns : List ℕ) (all : List Given)
+        → result ≡ length (shapes.addresses_on att netns (present (G.values given)))
+        + length (shapes.routes_on att netns all (results.bridge_routes conf.now.is_default_gateway configured.now (map ip_of (present (G.values given)))))
+        + length (plan.gateway_calls conf.now (present (G.values given)))
+        + length (shapes.masquerade_rules conf.now.ip_masq att (present (G.values given))) }
+{
+    let _places = given.places();
+    let _few = 16 * configured.len();
+    let objects = count_of_objects(conf, configured, given);
+    objects + count_gateway_calls(conf, given)
+}
+
+/// How many addresses, routes and rules `bridge` makes after the leases, for any attachment that is given these
+/// addresses: what comes twice by its key is made once. Takes no memory; quadratic in the addresses and in the routes.
+pub fn bridge_object_count<G: GivenRow + Copy>(conf: &BridgeConf, given: G) -> usize
+    ensures { (att : Att) (netns : List ℕ) → let share = plan.bridge_share_after conf.now att netns (present (G.values given)) in
+        length share.addresses + length share.routes + length share.rules ≡ result }
+{
+    count_of_objects(conf, routes_of(&conf.ipam), given)
+}
+
+/// How many calls `bridge` makes after the leases, for any attachment that is given these addresses: what comes twice by
+/// its key is asked for once. Takes no memory; quadratic in the addresses and in the routes.
+pub fn bridge_after_count<G: GivenRow + Copy>(conf: &BridgeConf, given: G) -> usize
+    ensures { (att : Att) (netns : List ℕ) → length (plan.bridge_calls_after conf.now att netns (present (G.values given))) ≡ result }
+{
+    count_of_routes(conf, routes_of(&conf.ipam), given)
+}

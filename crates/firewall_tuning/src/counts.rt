@@ -1,0 +1,127 @@
+//! How many calls `firewall` and `tuning` make. Nothing here takes memory.
+
+ghost use Rattle.std.specs.Prelude.{◌≡◌, ◌+◌, ◌*◌, ◌≤◌, ℕ, List, length, map, take, slice_get, Some};
+ghost use Rattle.std.specs.List.{list_any};
+ghost use Rattle.std.specs.Str.{bytes_eq};
+ghost use Rattle.cni_result.specs.declared.result.IpEntry.{IpEntry};
+ghost use Rattle.net_conf.specs.declared.chained.Sysctl.{Sysctl};
+ghost use Rattle.kernel_types.specs.declared.object.Att.{Att};
+ghost use Rattle.plan_words.specs.Keys.{each_key_once};
+ghost use Rattle.plan_words.specs.Rows.{present};
+ghost use Rattle.firewall_tuning.specs.Counts as counts;
+ghost use Rattle.firewall_tuning.specs.Firewall as plan;
+ghost use Rattle.firewall_tuning.specs.Tuning as tuning;
+
+use crate::tuning::sets_any;
+use cni_addr::Addr;
+use kernel_types::Given;
+use net_conf::{Sysctl, TuningConf};
+use plan_words::{GivenRow, Row, count_keys};
+
+// ---- firewall
+
+/// What tells a rule of an attachment from its others: the address, and whether it lets through what answers it.
+#[derive(Clone, Copy, PartialEq, Eq)]
+struct ForwardKey {
+    addr: Addr,
+    is_reply: bool,
+}
+
+fn forward_keys(given: &Given) -> [ForwardKey; 2]
+    ensures { result ≡ counts.forward_keys given.now }
+{
+    let addr = given.address.addr;
+    let reply = ForwardKey {
+        addr,
+        is_reply: true,
+    };
+    let from = ForwardKey {
+        addr,
+        is_reply: false,
+    };
+    [reply, from]
+}
+
+#[derive(Clone, Copy)]
+struct ForwardKeys<G>(G);
+
+impl<G: GivenRow> Row<ForwardKey> for ForwardKeys<G> {
+    ghost use Rattle.plan_words.specs.Rows.{spread};
+    ghost use Rattle.firewall_tuning.specs.Counts.{forward_keys};
+
+    ghost values = { λ row. spread forward_keys 2 (G.values row.0) };
+
+    #[tactic(auto, using(crate::proofs::CountLemmas::forward_steps))]
+    fn places(&self) -> usize {
+        2 * self.0.places()
+    }
+
+    #[tactic(auto, using(crate::proofs::CountLemmas::forward_steps))]
+    fn at(&self, place: usize) -> Option<ForwardKey> {
+        match self.0.given_at(place / 2) {
+            Some(given) => {
+                let keys = forward_keys(&given);
+                Some(keys[place % 2])
+            }
+            None => None,
+        }
+    }
+}
+
+/// How many calls `firewall` makes where the result before it has these given addresses: an address that comes twice
+/// has its rules once. Takes no memory; quadratic in the addresses.
+#[tactic(auto, using(crate::proofs::CountLemmas::forward_steps))]
+pub fn firewall_count<G: GivenRow + Copy>(given: G) -> usize
+    ensures count { (att : Att) (ips : List IpEntry) → map (λ ip. ip.address) ips ≡ map (λ g. g.address) (present (G.values given)) → length (plan.firewall_calls_of att ips) ≡ result }
+    ensures most { result ≤ 2 * length (G.values given) }
+{
+    count_keys(&ForwardKeys(given))
+}
+
+// ---- tuning
+
+fn is_set_before(sysctls: &[Sysctl], place: usize, sysctl: &Sysctl) -> bool
+    requires { place ≤ length sysctls.now }
+    ensures { result ≡ list_any (λ s. bytes_eq s.key sysctl.now.key) (take place sysctls.now) }
+{
+    let before = &sysctls[..place];
+    before.iter().any(|s| s.key == sysctl.key)
+}
+
+fn count_settings(sysctls: &[Sysctl]) -> usize
+    ensures count { result ≡ length (each_key_once counts.is_same_key sysctls.now) }
+    ensures most { result ≤ length sysctls.now }
+{
+    let mut count = 0;
+    for place in 0..sysctls.len() {
+        if !is_set_before(sysctls, place, &sysctls[place]) {
+            count += 1;
+        }
+    }
+    count
+}
+
+fn count_link_calls(conf: &TuningConf) -> usize
+    ensures count { (att : Att) (netns : List ℕ) → result ≡ length (tuning.link_set_calls conf.now att netns) }
+    ensures most { result ≤ 1 }
+{
+    if sets_any(conf) { 1 } else { 0 }
+}
+
+/// How many calls `tuning` makes, for any attachment: a setting whose key comes twice is made once. Takes no memory;
+/// quadratic in the settings.
+pub fn tuning_count(conf: &TuningConf) -> usize
+    ensures { (att : Att) (netns : List ℕ) → length (tuning.tuning_calls_of conf.now att netns) ≡ result }
+{
+    let sysctls = conf.sysctl.as_slice();
+    let _few = 2 * sysctls.len();
+    count_settings(sysctls) + count_link_calls(conf)
+}
+
+/// How many settings `tuning` makes, for any attachment: one whose key comes twice is made once. Takes no memory;
+/// quadratic in the settings.
+pub fn setting_count(conf: &TuningConf) -> usize
+    ensures { (att : Att) (netns : List ℕ) → length (tuning.tuning_settings conf.now att netns) ≡ result }
+{
+    count_settings(conf.sysctl.as_slice())
+}

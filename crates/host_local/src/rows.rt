@@ -1,0 +1,83 @@
+//! What leased addresses mean, each computed when it is asked for.
+
+ghost use Rattle.std.specs.Prelude.{◌≡◌, ◌<◌, Some, length, map, slice_get};
+ghost use Rattle.host_local.specs.Conf.{routes_of};
+
+use crate::leases::find_given;
+use cni_addr::{Addr, RangeSet};
+use cni_result::{IpEntry, RouteEntry};
+use kernel_types::Given;
+use net_conf::HostLocalConf;
+use plan_words::GivenRow;
+
+/// What addresses mean, the k-th by the k-th set. Takes no memory; what is at a place is found in time linear in the
+/// ranges of its set.
+#[derive(Clone, Copy)]
+pub struct GivenBySets<'a> {
+    pub sets: &'a [RangeSet],
+    pub addrs: &'a [Addr],
+}
+
+impl<'a> GivenRow for GivenBySets<'a> {
+    ghost use Rattle.host_local.specs.Leases.{given_row};
+
+    ghost values = { λ row. given_row row.sets.now row.addrs.now };
+
+    #[tactic(auto, using(crate::proofs::RowLemmas::row_steps))]
+    fn places(&self) -> usize {
+        let addrs = self.addrs.len();
+        let _few = 16 * addrs;
+        self.sets.len().min(addrs)
+    }
+
+    #[tactic(auto, using(crate::proofs::RowLemmas::row_steps))]
+    fn given_at(&self, place: usize) -> Option<Given> {
+        find_given(&self.sets[place], &self.addrs[place])
+    }
+}
+
+/// What the addresses of a result mean, the k-th by the k-th set. Takes no memory, as with [`GivenBySets`].
+#[derive(Clone, Copy)]
+pub struct GivenByIps<'a> {
+    pub sets: &'a [RangeSet],
+    pub ips: &'a [IpEntry],
+}
+
+#[tactic(auto, using(crate::proofs::RowLemmas::addr_steps))]
+fn addr_at(ips: &[IpEntry], place: usize) -> Addr
+    requires { place < length ips.now }
+    ensures { slice_get (map (λ ip. ip.address.addr) ips.now) place ≡ Some result }
+{
+    let ip = ips[place];
+    ip.address.addr
+}
+
+impl<'a> GivenRow for GivenByIps<'a> {
+    ghost use Rattle.std.specs.Prelude.{map};
+    ghost use Rattle.host_local.specs.Leases.{given_row};
+
+    ghost values = { λ row. given_row row.sets.now (map (λ ip. ip.address.addr) row.ips.now) };
+
+    #[tactic(auto, using(crate::proofs::RowLemmas::ip_steps))]
+    fn places(&self) -> usize {
+        let ips = self.ips.len();
+        let _few = 16 * ips;
+        self.sets.len().min(ips)
+    }
+
+    #[tactic(auto, using(crate::proofs::RowLemmas::ip_steps))]
+    fn given_at(&self, place: usize) -> Option<Given> {
+        let addr = addr_at(self.ips, place);
+        find_given(&self.sets[place], &addr)
+    }
+}
+
+/// The configured routes; none where no addresses are given. Takes no memory.
+pub fn routes_of(ipam: &Option<HostLocalConf>) -> &[RouteEntry]
+    ensures { result.now ≡ routes_of ipam.now }
+{
+    match ipam {
+        Some(conf) => conf.routes.as_slice(),
+        None => &[],
+    }
+}
