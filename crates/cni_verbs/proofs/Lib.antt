@@ -1,3 +1,10 @@
 pub mod Arguments
+pub mod Asked
+pub mod BackCounts
+pub mod CheckCounts
+pub mod Ends
+pub mod Gathered
 pub mod NextCalls
 pub mod PhaseSteps
+pub mod Spaced
+pub mod WantedShare

@@ -13,11 +13,12 @@ use Rattle.cni_verbs.specs.CommandWords.{att_of}
 use Rattle.cni_verbs.specs.Wanted.{sets_of, kinds_of, deletion}
 use Rattle.cni_verbs.specs.Script as script
 use Rattle.cni_verbs.specs.Script.{State, Finish, before_of, back_of, next_call, finish_of}
-use Rattle.cni_verbs.specs.Phases.{Stands, IsPrepared, IsKept, IsPhaseOf, state_in, state_by_phase}
+use Rattle.cni_verbs.specs.Phases.{Stands, IsPrepared, IsKept, IsKeptBy, IsPhaseOf, IsSameButPrepared, denied, questions_about, questions_left, state_in, state_outside, state_by_phase}
 use Rattle.cni_verbs.specs.Progress.{answer_by}
-use Rattle.cni_verbs.specs.declared.answer.Answer.TheVariants as answers
 use Rattle.cni_verbs.specs.declared.answer.Ending.{Ending}
-use Rattle.cni_verbs.specs.declared.answer.Ending.TheVariants.{Added}
+use Rattle.cni_verbs.specs.declared.answer.Ending.TheVariants.{Yes, Refused}
+use Rattle.cni_verbs.specs.declared.answer.Question.{Question}
+use Rattle.cni_verbs.specs.declared.inquiry.Inquiry.{Inquiry}
 use Rattle.cni_verbs.specs.declared.phase.Phase.{Phase}
 use Rattle.cni_verbs.specs.declared.phase.Phase.TheVariants as phases
 use Rattle.cni_verbs.proofs.PhaseSteps.{IsLeft, left_of, left_or_none}
@@ -25,6 +26,10 @@ use Rattle.cni_verbs.proofs.PhaseSteps.{IsLeft, left_of, left_or_none}
 pub ok_by : {A E : Type 0} (r : Result A E) {x y : A} → x ≡ y → IfOk r (λ v. v ≡ x) → IfOk r (λ v. v ≡ y)
 ok_by (Ok v) e h = h ∙ e
 ok_by (Err w) e h = h
+
+pub ok_some_by : {A E : Type 0} (r : Result A E) {x : A} {y : Option A} → Some x ≡ y → IfOk r (λ v. v ≡ x) → IfOk r (λ v. Some v ≡ y)
+ok_some_by (Ok v) e h = ap Some h ∙ e
+ok_some_by (Err w) e h = h
 
 -- ---- the next call
 
@@ -76,9 +81,11 @@ pub next_after : (list : NetList) (c : Command) (passed : ℕ) (kept : Option (L
     → slice_get (back_of list c addrs) passed ≡ next_call c (state_in list c addrs phase)
 next_after list c passed kept addrs phase is = at_after c (back_of list c addrs) passed addrs ∙ sym (ap (λ p. next_call c (state_in list c addrs p)) is)
 
-pub next_cache : (list : NetList) (c : Command) (ending : Ending) (addrs : List Addr) (phase : Phase) → phase ≡ phases.ReadingCache ending → Some (CacheGet (att_of c)) ≡ next_call c (state_in list c addrs phase)
+pub next_cache : (list : NetList) (c : Command) (addrs : List Addr) (phase : Phase) → ((ending : Ending) × (phase ≡ phases.ReadingCache ending)) ⊎ (phase ≡ phases.FindingEntry)
+    → Some (CacheGet (att_of c)) ≡ next_call c (state_in list c addrs phase)
 unfolding next_call
-next_cache list c ending addrs phase is = sym (ap (λ p. next_call c (state_in list c addrs p)) is)
+next_cache list c addrs phase (inl w) = sym (ap (λ p. next_call c (state_in list c addrs p)) w.1)
+next_cache list c addrs phase (inr is) = sym (ap (λ p. next_call c (state_in list c addrs p)) is)
 
 at_deletion : (c : Command) (kinds : List Kind) (passed : ℕ) (ending : Ending) → option_map (deletion (att_of c)) (slice_get kinds passed) ≡ next_call c (script.deleting (drop passed kinds) ending)
 unfolding next_call
@@ -96,9 +103,33 @@ next_deletion list c before kinds room made passed ending addrs phase kept is =
     ∙ ap (λ ks. next_call c (script.deleting (drop passed ks) ending)) kept.kinds_is
     ∙ sym (ap (λ p. next_call c (state_in list c addrs p)) is)
 
-pub next_over : (list : NetList) (c : Command) (ending : Ending) (addrs : List Addr) (phase : Phase) → phase ≡ phases.Over ending → None ≡ next_call c (state_in list c addrs phase)
+at_question : (c : Command) (questions : List Question) (passed : ℕ) → option_map (λ question. question.call) (slice_get questions passed) ≡ next_call c (script.asking (drop passed questions))
 unfolding next_call
-next_over list c ending addrs phase is = sym (ap (λ p. next_call c (state_in list c addrs p)) is)
+at_question c questions passed =
+    elim (left_or_none questions passed) [
+      | inl w ↦ ap (option_map (λ question. question.call)) w.1.0 ∙ sym (ap (λ left. next_call c (script.asking left)) w.1.1)
+      | inr w ↦ ap (option_map (λ question. question.call)) w.0 ∙ sym (ap (λ left. next_call c (script.asking left)) w.1)
+    ]
+
+pub next_asking : (list : NetList) (c : Command) (inquiry : Inquiry) (addrs : List Addr) (phase : Phase) → phase ≡ phases.Asking inquiry
+    → option_map (λ question. question.call) (slice_get (questions_about list c inquiry.about) inquiry.passed) ≡ next_call c (state_in list c addrs phase)
+next_asking list c inquiry addrs phase is =
+    at_question c (questions_about list c inquiry.about) inquiry.passed ∙ sym (ap (λ p. next_call c (state_in list c addrs p)) is)
+
+pub next_change : (list : NetList) (c : Command) (change : Call) (addrs : List Addr) (phase : Phase) → phase ≡ phases.Changing change → Some change ≡ next_call c (state_in list c addrs phase)
+unfolding next_call
+next_change list c change addrs phase is = sym (ap (λ p. next_call c (state_in list c addrs p)) is)
+
+at_denial : (c : Command) (questions : List Question) → None ≡ next_call c (denied questions)
+unfolding next_call
+at_denial c [] = refl
+at_denial c (question ∷ questions) = refl
+
+pub next_over : (list : NetList) (c : Command) (addrs : List Addr) (phase : Phase) → ((inquiry : Inquiry) × (phase ≡ phases.Denied inquiry)) ⊎ ((ending : Ending) × (phase ≡ phases.Over ending))
+    → None ≡ next_call c (state_in list c addrs phase)
+unfolding next_call
+next_over list c addrs phase (inl w) = at_denial c (questions_left list c w.0) ∙ sym (ap (λ p. next_call c (state_in list c addrs p)) w.1)
+next_over list c addrs phase (inr w) = sym (ap (λ p. next_call c (state_in list c addrs p)) w.1)
 
 -- ---- the end
 
@@ -157,19 +188,71 @@ cache_is_open : {A : Type 0} (list : NetList) (c : Command) (ending : Ending) (a
 unfolding finish_of
 cache_is_open list c ending addrs phase f is = sym (ap (λ p. option_map f (finish_of (state_in list c addrs p))) is)
 
+entry_is_open : {A : Type 0} (list : NetList) (c : Command) (addrs : List Addr) (phase : Phase) (f : Finish → A) → phase ≡ phases.FindingEntry
+    → None ≡ option_map f (finish_of (state_in list c addrs phase))
+unfolding finish_of
+entry_is_open list c addrs phase f is = sym (ap (λ p. option_map f (finish_of (state_in list c addrs p))) is)
+
+change_is_open : {A : Type 0} (list : NetList) (c : Command) (change : Call) (addrs : List Addr) (phase : Phase) (f : Finish → A) → phase ≡ phases.Changing change
+    → None ≡ option_map f (finish_of (state_in list c addrs phase))
+unfolding finish_of
+change_is_open list c change addrs phase f is = sym (ap (λ p. option_map f (finish_of (state_in list c addrs p))) is)
+
+questions_are_left : (questions : List Question) (passed : ℕ) → passed < length questions → finish_of (script.asking (drop passed questions)) ≡ None
+unfolding finish_of
+questions_are_left questions passed h =
+    let left = left_of questions passed h in
+    ap (λ rest. finish_of (script.asking rest)) left.1.1
+
+pub asking_is_open : {A : Type 0} (list : NetList) (c : Command) (inquiry : Inquiry) (addrs : List Addr) (phase : Phase) (f : Finish → A)
+    → phase ≡ phases.Asking inquiry → inquiry.passed < length (questions_about list c inquiry.about) → None ≡ option_map f (finish_of (state_in list c addrs phase))
+asking_is_open list c inquiry addrs phase f is h =
+    sym (ap (λ p. option_map f (finish_of (state_in list c addrs p))) is
+    ∙ ap (option_map f) (questions_are_left (questions_about list c inquiry.about) inquiry.passed h))
+
+pub asking_is_over : {A : Type 0} (list : NetList) (c : Command) (inquiry : Inquiry) (addrs : List Addr) (phase : Phase) (f : Finish → A)
+    → phase ≡ phases.Asking inquiry → length (questions_about list c inquiry.about) ≤ inquiry.passed
+    → Some (f (record { ending = Yes; given = [] })) ≡ option_map f (finish_of (state_in list c addrs phase))
+unfolding finish_of
+asking_is_over list c inquiry addrs phase f is h =
+    sym (ap (λ p. option_map f (finish_of (state_in list c addrs p))) is
+    ∙ ap (λ rest. option_map f (finish_of (script.asking rest))) (drop_all inquiry.passed (questions_about list c inquiry.about) h))
+
+pub denied_finish : {A : Type 0} (questions : List Question) (place : ℕ) (question : Question) (f : Finish → A) → slice_get questions place ≡ Some question
+    → Some (f (record { ending = Refused question.lack; given = [] })) ≡ option_map f (finish_of (denied (drop place questions)))
+unfolding finish_of
+denied_finish questions place question f got =
+    elim (left_or_none questions place) [
+      | inl w ↦
+          let same : w.0 ≡ question = let e = w.1.0 in cc in
+          sym (ap (λ rest. option_map f (finish_of (denied rest))) w.1.1 ∙ ap (λ q. Some (f (record { ending = Refused q.lack; given = [] }))) same)
+      | inr w ↦ let e = w.0 in absurd cc
+    ]
+
+pub denied_none : {A : Type 0} (questions : List Question) (place : ℕ) (f : Finish → A) → slice_get questions place ≡ None
+    → Some (f (record { ending = Yes; given = [] })) ≡ option_map f (finish_of (denied (drop place questions)))
+unfolding finish_of
+denied_none questions place f got =
+    elim (left_or_none questions place) [
+      | inl w ↦ let e = w.1.0 in absurd cc
+      | inr w ↦ sym (ap (λ rest. option_map f (finish_of (denied rest))) w.1)
+    ]
+
 pub early_is_open : {A : Type 0} (list : NetList) (c : Command) (before : List Call) (kinds : List Kind) (room made : ℕ) (addrs : List Addr) (phase : Phase) (f : Finish → A)
     → IsKept list c before kinds room made addrs phase
-    → (phase ≡ phases.AtBegin) ⊎ (((passed : ℕ) × (phase ≡ phases.BeforeLeases passed)) ⊎ ((phase ≡ phases.Leasing) ⊎ ((ending : Ending) × (phase ≡ phases.ReadingCache ending))))
+    → (phase ≡ phases.AtBegin) ⊎ (((passed : ℕ) × (phase ≡ phases.BeforeLeases passed)) ⊎ ((phase ≡ phases.Leasing) ⊎ (((ending : Ending) × (phase ≡ phases.ReadingCache ending)) ⊎ ((phase ≡ phases.FindingEntry) ⊎ ((change : Call) × (phase ≡ phases.Changing change))))))
     → None ≡ option_map f (finish_of (state_in list c addrs phase))
 early_is_open list c before kinds room made addrs phase f kept (inl is) = begin_is_open list c addrs phase f is
 early_is_open list c before kinds room made addrs phase f kept (inr (inl w)) = before_is_open list c before kinds room made w.0 addrs phase f kept w.1
 early_is_open list c before kinds room made addrs phase f kept (inr (inr (inl is))) = leasing_is_open list c before kinds room made addrs phase f kept is
-early_is_open list c before kinds room made addrs phase f kept (inr (inr (inr w))) = cache_is_open list c w.0 addrs phase f w.1
+early_is_open list c before kinds room made addrs phase f kept (inr (inr (inr (inl w)))) = cache_is_open list c w.0 addrs phase f w.1
+early_is_open list c before kinds room made addrs phase f kept (inr (inr (inr (inr (inl is))))) = entry_is_open list c addrs phase f is
+early_is_open list c before kinds room made addrs phase f kept (inr (inr (inr (inr (inr w))))) = change_is_open list c w.0 addrs phase f w.1
 
 -- ---- the start
 
 pub kept_at_start : (list : NetList) (c : Command) (before : List Call) (kinds : List Kind) (room : ℕ) (given : List Addr) (phase : Phase)
-    → IsPhaseOf list c 0 [] phase (script.start_state c) → before ≡ before_of list c → kinds ≡ kinds_of list → length (sets_of list) < 2 ^ 32
+    → IsPhaseOf list c 0 [] phase (script.start_state list c) → before ≡ before_of list c → kinds ≡ kinds_of list → length (sets_of list) < 2 ^ 32
     → length (sets_of list) ≤ room → given ≡ [] → IsKept list c before kinds room 0 given phase
 kept_at_start list c before kinds room given phase starts before_is kinds_is few room_is none =
     let B : List Call → Type 0 = λ calls. Stands (length calls) (length (sets_of list)) 0 [] phase in
@@ -184,23 +267,44 @@ kept_at_start list c before kinds room given phase starts before_is kinds_is few
       prepared = subst R (sym none) starts.prepared;
     }
 
-pub seen_at_start : (list : NetList) (c : Command) (given : List Addr) (phase : Phase) → IsPhaseOf list c 0 [] phase (script.start_state c) → given ≡ []
-    → state_in list c given phase ≡ script.start_state c
+pub seen_at_start : (list : NetList) (c : Command) (given : List Addr) (phase : Phase) → IsPhaseOf list c 0 [] phase (script.start_state list c) → given ≡ []
+    → state_in list c given phase ≡ script.start_state list c
 seen_at_start list c given phase starts none = ap (λ addrs. state_in list c addrs phase) none ∙ starts.is
 
--- the phase of a command is that of its copy
-pub starts_for : (l k : NetList) (c d : Command) (phase : Phase) → d ≡ c → ((list : NetList) → IsPhaseOf list c 0 [] phase (script.start_state c)) → IsPhaseOf k d 0 [] phase (script.start_state d)
-starts_for l k c d phase same h =
-    let P : Command → Type 0 = λ x. IsPhaseOf k x 0 [] phase (script.start_state x) in
-    subst P (sym same) (h k)
+-- the phase of a list and a command is that of their copies
+pub starts_for : (l k : NetList) (c d : Command) (phase : Phase) → k ≡ l → d ≡ c → IsPhaseOf l c 0 [] phase (script.start_state l c) → IsPhaseOf k d 0 [] phase (script.start_state k d)
+starts_for l k c d phase same_list same h =
+    let L : NetList → Type 0 = λ x. IsPhaseOf x c 0 [] phase (script.start_state x c) in
+    let P : Command → Type 0 = λ x. IsPhaseOf k x 0 [] phase (script.start_state k x) in
+    subst P (sym same) (subst L (sym same_list) h)
 
--- ---- no network
+-- ---- what is prepared
 
-pub no_list_calls : (list : Option NetList) (c : Command) (addrs : List Addr) (phase : Phase) → list ≡ None → next_call c (state_by_phase list c addrs phase) ≡ None
-unfolding next_call
-no_list_calls list c addrs phase none = ap (λ l. next_call c (state_by_phase l c addrs phase)) none
+-- the invariant holds on where the phase means the same
+pub kept_prepared : (list : Option NetList) (l : NetList) (c : Command) (before : List Call) (kinds : List Kind) (room made : ℕ) (given addrs : List Addr) (old new : Phase)
+    → list ≡ Some l → addrs ≡ given → IsSameButPrepared l c addrs old new
+    → IsKeptBy list c before kinds room made given old → IsKeptBy list c before kinds room made given new
+kept_prepared list l c before kinds room made given addrs old new is seen same kept =
+    let O : Option NetList → Type 0 = λ o. IsKeptBy o c before kinds room made given old in
+    let N : Option NetList → Type 0 = λ o. IsKeptBy o c before kinds room made given new in
+    let A : List Addr → Type 0 = λ a. IsSameButPrepared l c a old new in
+    let before_that : IsKept l c before kinds room made given old = subst O is kept in
+    let goes_on : IsSameButPrepared l c given old new = subst A seen same in
+    subst N (sym is) (record {
+      before_is = before_that.before_is;
+      kinds_is = before_that.kinds_is;
+      few = before_that.few;
+      room_is = before_that.room_is;
+      stands = goes_on.stands (length before) (length (sets_of l)) made before_that.stands;
+      prepared = goes_on.prepared before_that.prepared;
+    })
 
-pub no_list_answers : (list : Option NetList) (c : Command) (addrs : List Addr) (phase : Phase) → list ≡ None
-    → option_map (answer_by list c) (finish_of (state_by_phase list c addrs phase)) ≡ Some answers.Yes
-unfolding finish_of
-no_list_answers list c addrs phase none = ap (λ l. option_map (answer_by l c) (finish_of (state_by_phase l c addrs phase))) none
+-- ---- a change from outside
+
+pub outside_next : (list : Option NetList) (c : Command) (addrs : List Addr) (phase : Phase) → list ≡ None
+    → next_call c (state_outside phase) ≡ next_call c (state_by_phase list c addrs phase)
+outside_next list c addrs phase none = sym (ap (λ l. next_call c (state_by_phase l c addrs phase)) none)
+
+pub outside_finish : (list : Option NetList) (c : Command) (addrs : List Addr) (phase : Phase) → list ≡ None
+    → option_map (answer_by None c) (finish_of (state_outside phase)) ≡ option_map (answer_by list c) (finish_of (state_by_phase list c addrs phase))
+outside_finish list c addrs phase none = sym (ap (λ l. option_map (answer_by l c) (finish_of (state_by_phase l c addrs phase))) none)

@@ -16,8 +16,10 @@ use Rattle.kernel_types.specs.declared.call.Reply.TheVariants.{Leased}
 use Rattle.cni_verbs.specs.Wanted.{sets_of, kinds_of}
 use Rattle.cni_verbs.specs.Script as script
 use Rattle.cni_verbs.specs.Script.{State, before_of, back_of, cause_of, faulted, advance, IsOpen}
-use Rattle.cni_verbs.specs.Phases.{Stands, IsPrepared, IsPhaseOf, state_in}
+use Rattle.cni_verbs.specs.Phases.{Stands, IsPrepared, IsReady, IsPhaseOf, denied, questions_about, questions_left, state_in}
 use Rattle.cni_verbs.specs.declared.answer.Ending.{Ending}
+use Rattle.cni_verbs.specs.declared.answer.Question.{Question}
+use Rattle.cni_verbs.specs.declared.inquiry.Inquiry.{Inquiry}
 use Rattle.cni_verbs.specs.declared.phase.Phase.{Phase}
 use Rattle.cni_verbs.specs.declared.phase.Phase.TheVariants as phases
 
@@ -71,7 +73,7 @@ steps_lease list c number addrs r h =
     sym (ap (λ sets. advance list c number (script.leasing list c sets addrs) r) left.1.1)
 
 -- an open state has work left in its list
-opens_after : (calls : List Call) (passed : ℕ) (addrs : List Addr) → IsOpen (script.after_leases (drop passed calls) addrs) → passed < length calls
+pub opens_after : (calls : List Call) (passed : ℕ) (addrs : List Addr) → IsOpen (script.after_leases (drop passed calls) addrs) → passed < length calls
 opens_after calls passed addrs h =
     elim (cases_lt passed (length calls)) [
       | inl lt ↦ lt
@@ -85,7 +87,7 @@ steps_after list c number passed addrs r h =
     let left = left_of (back_of list c addrs) passed (opens_after (back_of list c addrs) passed addrs h) in
     sym (ap (λ calls. advance list c number (script.after_leases calls addrs) r) left.1.1)
 
-opens_deleting : (kinds : List Kind) (passed : ℕ) (ending : Ending) → IsOpen (script.deleting (drop passed kinds) ending) → passed < length kinds
+pub opens_deleting : (kinds : List Kind) (passed : ℕ) (ending : Ending) → IsOpen (script.deleting (drop passed kinds) ending) → passed < length kinds
 opens_deleting kinds passed ending h =
     elim (cases_lt passed (length kinds)) [
       | inl lt ↦ lt
@@ -103,6 +105,37 @@ pub steps_deletion : (list : NetList) (c : Command) (number passed : ℕ) (kind 
     → script.at_deletion number kind (drop (passed + 1) (kinds_of list)) ending r ≡ advance list c number (script.deleting (drop passed (kinds_of list)) ending) r
 unfolding advance
 steps_deletion list c number passed kind ending r here = sym (ap (λ kinds. advance list c number (script.deleting kinds ending) r) here)
+
+pub opens_asking : (questions : List Question) (passed : ℕ) → IsOpen (script.asking (drop passed questions)) → passed < length questions
+opens_asking questions passed h =
+    elim (cases_lt passed (length questions)) [
+      | inl lt ↦ lt
+      | inr le ↦ absurd (subst (λ left. IsOpen (script.asking left)) (drop_all passed questions le) h)
+    ]
+
+question_left : (list : NetList) (c : Command) (inquiry : Inquiry) → IsOpen (script.asking (questions_left list c inquiry))
+    → (question : Question) × (questions_left list c inquiry ≡ question ∷ drop (inquiry.passed + 1) (questions_about list c inquiry.about))
+question_left list c inquiry h =
+    let left = left_of (questions_about list c inquiry.about) inquiry.passed (opens_asking (questions_about list c inquiry.about) inquiry.passed h) in
+    (left.0, left.1.1)
+
+steps_question : (list : NetList) (c : Command) (number : ℕ) (question : Question) (inquiry : Inquiry) (r : Reply)
+    → questions_left list c inquiry ≡ question ∷ drop (inquiry.passed + 1) (questions_about list c inquiry.about)
+    → script.at_question number question (drop (inquiry.passed + 1) (questions_about list c inquiry.about)) r ≡ advance list c number (script.asking (questions_left list c inquiry)) r
+unfolding advance
+steps_question list c number question inquiry r here = sym (ap (λ questions. advance list c number (script.asking questions) r) here)
+
+steps_entry : (list : NetList) (c : Command) (number : ℕ) (r : Reply) → script.at_entry list c number r ≡ advance list c number script.FindingEntry r
+unfolding advance
+steps_entry list c number r = refl
+
+steps_changing : (list : NetList) (c : Command) (number : ℕ) (change : Call) (r : Reply) → script.Over (script.changed number r) [] ≡ advance list c number (script.Changing change) r
+unfolding advance
+steps_changing list c number change r = refl
+
+pub denied_is_over : (questions : List Question) → IsOpen (denied questions) → ⊥
+denied_is_over [] h = h
+denied_is_over (question ∷ questions) h = h
 
 pub steps_begin : (list : NetList) (c : Command) (number : ℕ) (r : Reply) → script.at_begin list c number r ≡ advance list c number script.AtBegin r
 unfolding advance
@@ -189,3 +222,31 @@ goes_deleting list c made passed ending addrs phase r next is opens h =
     let left = kind_left list passed ending (subst O is opens) in
     let F : Phase → Type 0 = λ p. Goes list c made addrs addrs p r next in
     subst F (sym is) (at_state list c (made + 1) addrs next (steps_deletion list c (made + 1) passed left.0 ending r left.1) (h left.0 left.1))
+
+pub goes_entry : (list : NetList) (c : Command) (made : ℕ) (addrs : List Addr) (phase : Phase) (r : Reply) (next : Phase) → phase ≡ phases.FindingEntry
+    → IsPhaseOf list c (made + 1) addrs next (script.at_entry list c (made + 1) r) → Goes list c made addrs addrs phase r next
+goes_entry list c made addrs phase r next is h =
+    let F : Phase → Type 0 = λ p. Goes list c made addrs addrs p r next in
+    subst F (sym is) (at_state list c (made + 1) addrs next (steps_entry list c (made + 1) r) h)
+
+pub goes_asking : (list : NetList) (c : Command) (made : ℕ) (inquiry : Inquiry) (addrs : List Addr) (phase : Phase) (r : Reply) (next : Phase) → phase ≡ phases.Asking inquiry
+    → IsPrepared list c addrs phase → IsOpen (state_in list c addrs phase)
+    → ((question : Question) → IsReady list c inquiry → questions_left list c inquiry ≡ question ∷ drop (inquiry.passed + 1) (questions_about list c inquiry.about)
+    → IsPhaseOf list c (made + 1) addrs next (script.at_question (made + 1) question (drop (inquiry.passed + 1) (questions_about list c inquiry.about)) r))
+    → Goes list c made addrs addrs phase r next
+goes_asking list c made inquiry addrs phase r next is prepared opens h =
+    let R : Phase → Type 0 = λ p. IsPrepared list c addrs p in
+    let O : Phase → Type 0 = λ p. IsOpen (state_in list c addrs p) in
+    let left = question_left list c inquiry (subst O is opens) in
+    let F : Phase → Type 0 = λ p. Goes list c made addrs addrs p r next in
+    subst F (sym is) (at_state list c (made + 1) addrs next (steps_question list c (made + 1) left.0 inquiry r left.1) (h left.0 (subst R is prepared) left.1))
+
+pub goes_changing : (list : NetList) (c : Command) (made : ℕ) (change : Call) (addrs : List Addr) (phase : Phase) (r : Reply) (next : Phase) → phase ≡ phases.Changing change
+    → IsPhaseOf list c (made + 1) addrs next (script.Over (script.changed (made + 1) r) []) → Goes list c made addrs addrs phase r next
+goes_changing list c made change addrs phase r next is h =
+    let F : Phase → Type 0 = λ p. Goes list c made addrs addrs p r next in
+    subst F (sym is) (at_state list c (made + 1) addrs next (steps_changing list c (made + 1) change r) h)
+
+pub over_goes : (list : NetList) (c : Command) (made : ℕ) (addrs : List Addr) (ending changed : Ending) → ending ≡ changed
+    → IsPhaseOf list c made addrs (phases.Over ending) (script.Over changed [])
+over_goes list c made addrs ending changed same = record { is = ap (λ e. script.Over e []) same; stands = tt; prepared = tt }

@@ -3,21 +3,31 @@ use Rattle.std.specs.Prelude.{ℕ, Bool, List, [], ◌∷◌, ◌++◌, filter, 
 use Rattle.std.specs.Fmt.{decimal}
 use Rattle.serde_json.specs.Data.{string}
 use Rattle.serde_json.specs.Written.{compact_text}
+use Rattle.cni_addr.specs.AddrText.{addr_text}
+use Rattle.cni_addr.specs.CidrText.{cidr_text}
 use Rattle.cni_addr.specs.declared.address.Addr.{Addr}
 use Rattle.cni_result.specs.declared.error.CniError.{CniError}
+use Rattle.cni_result.specs.Results.{version_text}
 use Rattle.cni_result.specs.declared.version.Version.{Version}
+use Rattle.cni_result.specs.declared.version.Version.TheVariants.{V1_1}
 use Rattle.net_conf.specs.declared.list.NetList.{NetList}
 use Rattle.pod_file.specs.declared.command.Command.{Command}
-use Rattle.kernel_types.specs.Texts.{tag_text}
+use Rattle.pod_file.specs.declared.command.Verb.{Verb}
+use Rattle.pod_file.specs.declared.command.Verb.TheVariants as verbs
+use Rattle.kernel_text.specs.Words.{chain_text, table_text}
+use Rattle.kernel_types.specs.Texts.{attachment_text, tag_text}
+use Rattle.kernel_types.specs.Words.{is_host_ns}
 use Rattle.cni_verbs.specs.CommandWords.{att_of}
 use Rattle.cni_verbs.specs.Script.{Finish}
 use Rattle.cni_verbs.specs.Wanted.{result_of_add}
 use Rattle.cni_verbs.specs.declared.answer.Answer.{Answer}
 use Rattle.cni_verbs.specs.declared.answer.Answer.TheVariants as answers
 use Rattle.cni_verbs.specs.declared.answer.Cause.{Cause}
-use Rattle.cni_verbs.specs.declared.answer.Cause.TheVariants.{BadWords, IpArgument, BadMapping, NoNamespace, NameTaken, PoolEmpty, NoMaster, Fault}
+use Rattle.cni_verbs.specs.declared.answer.Cause.TheVariants.{BadWords, IpArgument, BadMapping, NoNamespace, NameTaken, PoolEmpty, NoMaster, Fault, Faults, TooOld, Unknown, NoFreeAddress, MasterAbsent, NothingThere, Missing}
 use Rattle.cni_verbs.specs.declared.answer.Ending.{Ending}
-use Rattle.cni_verbs.specs.declared.answer.Ending.TheVariants.{Added, Yes, Refused}
+use Rattle.cni_verbs.specs.declared.answer.Ending.TheVariants.{Added, Yes, Skipped, Versions, Refused}
+use Rattle.cni_verbs.specs.declared.answer.Missed.{Missed}
+use Rattle.cni_verbs.specs.declared.answer.Missed.TheVariants as missed
 use Rattle.cni_verbs.specs.declared.answer.WordFaults.{WordFaults}
 
 abbrev pub code_of : Cause → ℕ
@@ -29,6 +39,13 @@ code_of (NameTaken tag) = 101
 code_of (PoolEmpty set) = 102
 code_of NoMaster = 7
 code_of (Fault call) = 103
+code_of (Faults calls) = 103
+code_of (TooOld version) = 1
+code_of Unknown = 3
+code_of (NoFreeAddress set) = 50
+code_of (MasterAbsent name) = 50
+code_of NothingThere = 105
+code_of (Missing what) = 110
 
 -- ---- messages
 
@@ -60,8 +77,45 @@ message_of (NameTaken tag) = codes "name taken"
 message_of (PoolEmpty set) = codes "pool empty"
 message_of NoMaster = codes "invalid network configuration: master"
 message_of (Fault call) = codes "kernel fault"
+message_of (Faults calls) = codes "kernel fault"
+message_of (TooOld version) = codes "incompatible CNI version: " ++ version_text version
+message_of Unknown = codes "container unknown"
+message_of (NoFreeAddress set) = codes "not available"
+message_of (MasterAbsent name) = codes "not available"
+message_of NothingThere = codes "nothing there"
+message_of (Missing what) = codes "check failed"
 
 -- ---- details
+
+-- a verb as pod files spell it
+abbrev pub verb_text : Verb → List ℕ
+verb_text verbs.Add = codes "ADD"
+verb_text verbs.Check = codes "CHECK"
+verb_text verbs.Del = codes "DEL"
+verb_text verbs.Gc = codes "GC"
+verb_text verbs.Status = codes "STATUS"
+verb_text verbs.Version = codes "VERSION"
+verb_text verbs.NsAdd = codes "NSADD"
+verb_text verbs.NsDel = codes "NSDEL"
+verb_text verbs.Drop = codes "DROP"
+verb_text verbs.Flush = codes "FLUSH"
+
+-- a namespace; the host's has no name
+abbrev pub place_text : List ℕ → List ℕ
+place_text ns = if is_host_ns ns then codes "-" else ns
+
+abbrev pub call_text : ℕ → List ℕ
+call_text number = codes "call " ++ decimal number
+
+-- an object by its key, a rule by its place
+abbrev pub missed_text : Missed → List ℕ
+missed_text (missed.Bridge name) = codes "bridge " ++ name
+missed_text (missed.Link ns name) = codes "link " ++ place_text ns ++ codes " " ++ name
+missed_text (missed.Address ns link cidr) = codes "address " ++ place_text ns ++ codes " " ++ link ++ codes " " ++ cidr_text cidr
+missed_text (missed.Route ns link dst) = codes "route " ++ place_text ns ++ codes " " ++ link ++ codes " " ++ cidr_text dst
+missed_text (missed.Rule table chain number) = codes "rule " ++ table_text table ++ codes " " ++ chain_text chain ++ codes " " ++ decimal number
+missed_text (missed.Setting ns key) = codes "setting " ++ place_text ns ++ codes " " ++ key
+missed_text (missed.Lease addr) = codes "lease " ++ addr_text addr
 
 abbrev pub details_of : Command → Cause → List ℕ
 details_of c (BadWords faults) = []
@@ -71,7 +125,14 @@ details_of c NoNamespace = c.netns
 details_of c (NameTaken tag) = tag_text tag
 details_of c (PoolEmpty set) = codes "set " ++ decimal set
 details_of c NoMaster = []
-details_of c (Fault call) = codes "call " ++ decimal call
+details_of c (Fault call) = call_text call
+details_of c (Faults calls) = joined_by_comma (map call_text calls)
+details_of c (TooOld version) = verb_text c.verb
+details_of c Unknown = attachment_text (att_of c)
+details_of c (NoFreeAddress set) = codes "set " ++ decimal set
+details_of c (MasterAbsent name) = codes "master " ++ name
+details_of c NothingThere = c.ifname
+details_of c (Missing what) = missed_text what
 
 unfoldable pub error_of : Version → Command → Cause → CniError
 error_of version c cause = record { version = version; code = code_of cause; msg = message_of cause; details = details_of c cause }
@@ -81,7 +142,20 @@ error_of version c cause = record { version = version; code = code_of cause; msg
 abbrev pub answer_by : NetList → Command → Ending → List Addr → Answer
 answer_by list c Added given = answers.Added (result_of_add list (att_of c) c.netns given)
 answer_by list c Yes given = answers.Yes
+answer_by list c (Skipped skip) given = answers.Skipped skip
+answer_by list c Versions given = answers.Versions list.version
 answer_by list c (Refused cause) given = answers.Refused (error_of list.version c cause)
 
 unfoldable pub answer_of : NetList → Command → Finish → Answer
 answer_of list c finish = answer_by list c finish.ending finish.given
+
+-- a change from outside has no list; its errors are of the newest version
+abbrev pub outside_by : Command → Ending → Answer
+outside_by c Added = answers.Yes
+outside_by c Yes = answers.Yes
+outside_by c (Skipped skip) = answers.Skipped skip
+outside_by c Versions = answers.Versions V1_1
+outside_by c (Refused cause) = answers.Refused (error_of V1_1 c cause)
+
+unfoldable pub answer_outside : Command → Finish → Answer
+answer_outside c finish = outside_by c finish.ending

@@ -100,6 +100,9 @@ add_faults c = record {
 abbrev pub del_faults : Command → WordFaults
 del_faults c = record { container = not (is_container_id c.container); netns = false; ifname = not (is_interface_name c.ifname); args = false }
 
+abbrev pub refusal_by : WordFaults → Option Cause
+refusal_by faults = if any_fault faults then Some (BadWords faults) else None
+
 abbrev pub by_mappings : Bool → Option Cause
 by_mappings true = None
 by_mappings false = Some BadMapping
@@ -115,6 +118,14 @@ add_refusal c =
     then Some (BadWords (add_faults c))
     else by_ip_argument c (value_of_argument (codes "IP") c.args)
 
--- why a DEL refuses its words, if it does
+-- why a DEL or a CHECK refuses its words, if it does
 unfoldable pub del_refusal : Command → Option Cause
-del_refusal c = if any_fault (del_faults c) then Some (BadWords (del_faults c)) else None
+del_refusal c = refusal_by (del_faults c)
+
+-- why a change of a namespace refuses its words, if it does
+unfoldable pub netns_refusal : Command → Option Cause
+netns_refusal c = refusal_by (record { container = false; netns = is_host_ns c.netns; ifname = false; args = false })
+
+-- why the loss of a link refuses its words, if it does
+unfoldable pub drop_refusal : Command → Option Cause
+drop_refusal c = refusal_by (record { container = false; netns = is_host_ns c.netns; ifname = not (is_interface_name c.ifname); args = false })

@@ -3,5 +3,7 @@ pub mod Codes
 pub mod CommandWords
 pub mod Phases
 pub mod Progress
+pub mod Questions
 pub mod Script
+pub mod Sweep
 pub mod Wanted

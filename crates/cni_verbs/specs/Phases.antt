@@ -1,16 +1,37 @@
 -- What a run keeps in place of its script's state: how many of each list of the plan are behind it.
-use Rattle.std.specs.Prelude.{◌≡◌, ℕ, ◌<◌, ◌≤◌, ◌^◌, List, [], length, drop, Option, Some, None, MatchOption, ⊤}
+use Rattle.std.specs.Prelude.{◌≡◌, ℕ, ◌<◌, ◌≤◌, ◌^◌, List, [], ◌∷◌, length, drop, Option, Some, None, MatchOption, ⊤}
 use Rattle.cni_addr.specs.declared.address.Addr.{Addr}
+use Rattle.cni_result.specs.declared.cached.Cached.{Cached}
 use Rattle.net_conf.specs.declared.list.NetList.{NetList}
 use Rattle.pod_file.specs.declared.command.Command.{Command}
 use Rattle.kernel_types.specs.declared.call.Call.{Call}
 use Rattle.kernel_types.specs.declared.call.Kind.{Kind}
 use Rattle.cni_verbs.specs.Wanted.{sets_of, kinds_of}
-use Rattle.cni_verbs.specs.Script.{State, Over, before_of, back_of, after_leases, leasing, before_leases, deleting}
+use Rattle.cni_verbs.specs.Questions.{check_questions, status_questions}
+use Rattle.cni_verbs.specs.Script.{State, Over, before_of, back_of, after_leases, leasing, before_leases, deleting, asking}
 use Rattle.cni_verbs.specs.Script as states
-use Rattle.cni_verbs.specs.declared.answer.Ending.TheVariants.{Yes}
+use Rattle.cni_verbs.specs.declared.answer.Ending.TheVariants.{Yes, Refused}
+use Rattle.cni_verbs.specs.declared.answer.Question.{Question}
+use Rattle.cni_verbs.specs.declared.inquiry.Inquiry.{Inquiry}
 use Rattle.cni_verbs.specs.declared.phase.Phase.{Phase}
 use Rattle.cni_verbs.specs.declared.phase.Phase.TheVariants as phases
+
+-- ---- questions
+
+-- a CHECK asks about a cached entry, a STATUS about none
+abbrev pub questions_about : NetList → Command → Option Cached → List Question
+questions_about list c None = status_questions list c
+questions_about list c (Some cached) = check_questions list c cached
+
+-- the end of a run whose next question was denied
+abbrev pub denied : List Question → State
+denied [] = Over Yes []
+denied (question ∷ questions) = Over (Refused question.lack) []
+
+abbrev pub questions_left : NetList → Command → Inquiry → List Question
+questions_left list c inquiry = drop inquiry.passed (questions_about list c inquiry.about)
+
+-- ---- the state of a phase
 
 -- the state of a run in this phase that was given these addresses
 abbrev pub state_in : NetList → Command → List Addr → Phase → State
@@ -20,12 +41,31 @@ state_in list c given phases.Leasing = leasing list c (drop (length given) (sets
 state_in list c given (phases.AfterLeases passed prepared) = after_leases (drop passed (back_of list c given)) given
 state_in list c given (phases.ReadingCache ending) = states.ReadingCache ending
 state_in list c given (phases.Deleting passed ending) = deleting (drop passed (kinds_of list)) ending
+state_in list c given phases.FindingEntry = states.FindingEntry
+state_in list c given (phases.Asking inquiry) = asking (questions_left list c inquiry)
+state_in list c given (phases.Denied inquiry) = denied (questions_left list c inquiry)
+state_in list c given (phases.Changing change) = states.Changing change
 state_in list c given (phases.Over ending) = Over ending []
 
--- the run of no network has nothing to do
+-- the state of a run of no network: one change is left, or none
+abbrev pub state_outside : Phase → State
+state_outside phases.AtBegin = Over Yes []
+state_outside (phases.BeforeLeases passed) = Over Yes []
+state_outside phases.Leasing = Over Yes []
+state_outside (phases.AfterLeases passed prepared) = Over Yes []
+state_outside (phases.ReadingCache ending) = Over Yes []
+state_outside (phases.Deleting passed ending) = Over Yes []
+state_outside phases.FindingEntry = Over Yes []
+state_outside (phases.Asking inquiry) = Over Yes []
+state_outside (phases.Denied inquiry) = Over Yes []
+state_outside (phases.Changing change) = states.Changing change
+state_outside (phases.Over ending) = Over ending []
+
 abbrev pub state_by_phase : Option NetList → Command → List Addr → Phase → State
-state_by_phase None c given phase = Over Yes []
+state_by_phase None c given phase = state_outside phase
 state_by_phase (Some list) c given phase = state_in list c given phase
+
+-- ---- what is kept
 
 -- a phase has work left in its own list, of so many calls before the leases and so many sets, and has passed no more
 -- than the calls that were made
@@ -36,7 +76,15 @@ Stands calls sets made given phases.Leasing = length given < sets
 Stands calls sets made given (phases.AfterLeases passed prepared) = passed ≤ made
 Stands calls sets made given (phases.ReadingCache ending) = ⊤
 Stands calls sets made given (phases.Deleting passed ending) = passed ≤ made
+Stands calls sets made given phases.FindingEntry = ⊤
+Stands calls sets made given (phases.Asking inquiry) = inquiry.passed ≤ made
+Stands calls sets made given (phases.Denied inquiry) = ⊤
+Stands calls sets made given (phases.Changing change) = ⊤
 Stands calls sets made given (phases.Over ending) = ⊤
+
+-- where the questions are prepared, they are those of what is asked about
+abbrev pub IsReady : NetList → Command → Inquiry → Type 0
+IsReady list c inquiry = MatchOption inquiry.questions ⊤ (λ questions. questions ≡ questions_about list c inquiry.about)
 
 -- where the calls after the leases are prepared, they are those of these addresses
 abbrev pub IsPrepared : NetList → Command → List Addr → Phase → Type 0
@@ -46,17 +94,11 @@ IsPrepared list c given phases.Leasing = ⊤
 IsPrepared list c given (phases.AfterLeases passed prepared) = MatchOption prepared ⊤ (λ calls. calls ≡ back_of list c given)
 IsPrepared list c given (phases.ReadingCache ending) = ⊤
 IsPrepared list c given (phases.Deleting passed ending) = ⊤
+IsPrepared list c given phases.FindingEntry = ⊤
+IsPrepared list c given (phases.Asking inquiry) = IsReady list c inquiry
+IsPrepared list c given (phases.Denied inquiry) = IsReady list c inquiry
+IsPrepared list c given (phases.Changing change) = ⊤
 IsPrepared list c given (phases.Over ending) = ⊤
-
--- the phase with these calls after the leases, where it has such
-abbrev pub with_calls : Phase → List Call → Phase
-with_calls phases.AtBegin calls = phases.AtBegin
-with_calls (phases.BeforeLeases passed) calls = phases.BeforeLeases passed
-with_calls phases.Leasing calls = phases.Leasing
-with_calls (phases.AfterLeases passed prepared) calls = phases.AfterLeases passed (Some calls)
-with_calls (phases.ReadingCache ending) calls = phases.ReadingCache ending
-with_calls (phases.Deleting passed ending) calls = phases.Deleting passed ending
-with_calls (phases.Over ending) calls = phases.Over ending
 
 -- a run of this list keeps the parts of its plan, and has room for an address of each set
 pub record IsKept (list : NetList) (c : Command) (before : List Call) (kinds : List Kind) (room : ℕ) (made : ℕ) (given : List Addr) (phase : Phase) : Type 0 where
@@ -76,3 +118,9 @@ pub record IsPhaseOf (list : NetList) (c : Command) (made : ℕ) (given : List A
   pub is : state_in list c given phase ≡ state
   pub stands : Stands (length (before_of list c)) (length (sets_of list)) made given phase
   pub prepared : IsPrepared list c given phase
+
+-- the phase means the same, and may hold more that is prepared
+pub record IsSameButPrepared (list : NetList) (c : Command) (given : List Addr) (old new : Phase) : Type 0 where
+  pub state : state_in list c given new ≡ state_in list c given old
+  pub stands : (calls sets made : ℕ) → Stands calls sets made given old → Stands calls sets made given new
+  pub prepared : IsPrepared list c given old → IsPrepared list c given new

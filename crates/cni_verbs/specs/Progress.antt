@@ -1,13 +1,26 @@
 -- How far the run of a command has come.
-use Rattle.std.specs.Prelude.{ℕ, ◌+◌, List, [], length, Option, Some, None}
+use Rattle.std.specs.Prelude.{ℕ, ◌+◌, Bool, true, false, List, [], length, Option, Some, None}
 use Rattle.net_conf.specs.declared.list.NetList.{NetList}
 use Rattle.pod_file.specs.declared.command.Command.{Command}
+use Rattle.pod_file.specs.declared.command.Verb.{Verb}
+use Rattle.pod_file.specs.declared.command.Verb.TheVariants as verbs
 use Rattle.kernel_types.specs.declared.call.Reply.{Reply}
-use Rattle.cni_verbs.specs.Answers.{answer_of}
-use Rattle.cni_verbs.specs.Script.{State, Over, Turn, Finishes, Finish, script, state_after, advance}
+use Rattle.cni_verbs.specs.Answers.{answer_of, answer_outside}
+use Rattle.cni_verbs.specs.Script.{State, Turn, Finish, turn, script, state_after, advance, outside_after, outside_advance}
 use Rattle.cni_verbs.specs.declared.answer.Answer.{Answer}
-use Rattle.cni_verbs.specs.declared.answer.Answer.TheVariants as answers
-use Rattle.cni_verbs.specs.declared.answer.Ending.TheVariants.{Yes}
+
+-- a garbage collection, which keeps more than a run does
+abbrev pub is_gc : Verb → Bool
+is_gc verbs.Add = false
+is_gc verbs.Check = false
+is_gc verbs.Del = false
+is_gc verbs.Gc = true
+is_gc verbs.Status = false
+is_gc verbs.Version = false
+is_gc verbs.NsAdd = false
+is_gc verbs.NsDel = false
+is_gc verbs.Drop = false
+is_gc verbs.Flush = false
 
 -- the list of the command's network, the command, how many replies it was given, and what is left to do
 pub record Progress : Type 0 where
@@ -16,9 +29,9 @@ pub record Progress : Type 0 where
   pub made : ℕ
   pub state : State
 
--- a command of no network has nothing to do
+-- a command of no network is a change from outside
 abbrev pub state_by : Option NetList → Command → List Reply → State
-state_by None c rs = Over Yes []
+state_by None c rs = outside_after c rs
 state_by (Some list) c rs = state_after list c rs
 
 -- the run of a command that was given these replies
@@ -27,7 +40,7 @@ progress list c rs = record { list = list; command = c; made = length rs; state 
 
 -- the state after one more reply, which has this number
 abbrev pub advance_by : Option NetList → Command → ℕ → State → Reply → State
-advance_by None c number s r = s
+advance_by None c number s r = outside_advance number s r
 advance_by (Some list) c number s r = advance list c number s r
 
 abbrev pub advanced : Progress → Reply → Progress
@@ -40,10 +53,10 @@ advanced p r = record {
 
 -- the script of a command
 abbrev pub turn_by : Option NetList → Command → List Reply → Turn
-turn_by None c rs = Finishes (record { ending = Yes; given = [] })
+turn_by None c rs = turn c (outside_after c rs)
 turn_by (Some list) c rs = script list c rs
 
 -- the answer of a command whose script ends so
 abbrev pub answer_by : Option NetList → Command → Finish → Answer
-answer_by None c finish = answers.Yes
+answer_by None c finish = answer_outside c finish
 answer_by (Some list) c finish = answer_of list c finish

@@ -1,26 +1,36 @@
 -- What a verb calls and what it answers, as a function of the list, the command and all replies so far.
-use Rattle.std.specs.Prelude.{◌≡◌, ℕ, ◌+◌, Bool, true, false, List, [], ◌∷◌, ◌++◌, length, filter_map, Option, Some, None, ⊤}
+use Rattle.std.specs.Prelude.{◌≡◌, ℕ, ◌+◌, Bool, true, false, List, [], ◌∷◌, ◌++◌, length, filter_map, Option, Some, None, ⊤, if◌then◌else◌}
 use Rattle.cni_addr.specs.declared.address.Addr.{Addr}
 use Rattle.cni_addr.specs.declared.range.RangeSet.{RangeSet}
-use Rattle.cni_result.specs.declared.result.AddResult.{AddResult}
+use Rattle.cni_result.specs.declared.cached.Cached.{Cached}
+use Rattle.cni_result.specs.declared.version.Version.{Version}
+use Rattle.cni_result.specs.declared.version.Version.TheVariants.{V1_0, V1_1}
 use Rattle.net_conf.specs.declared.list.NetList.{NetList}
 use Rattle.pod_file.specs.declared.command.Command.{Command}
 use Rattle.pod_file.specs.declared.command.Verb.{Verb}
 use Rattle.pod_file.specs.declared.command.Verb.TheVariants as verbs
 use Rattle.kernel_types.specs.declared.call.Kind.{Kind}
 use Rattle.kernel_types.specs.declared.call.Call.{Call}
-use Rattle.kernel_types.specs.declared.call.Call.TheVariants.{Begin, LeaseNext, CacheGet}
+use Rattle.kernel_types.specs.declared.call.Call.TheVariants.{Begin, LeaseNext, CacheGet, OwnersOf, NsChange, Outside}
+use Rattle.kernel_types.specs.declared.call.Change.TheVariants.{DropLink, Flush}
+use Rattle.kernel_types.specs.declared.object.Table.{Table}
+use Rattle.kernel_types.specs.Replies.{is_fault}
 use Rattle.kernel_types.specs.declared.call.Reply.{Reply}
 use Rattle.kernel_types.specs.declared.call.Reply.TheVariants.{Done, NoNs, NoLink, Taken, Empty, Leased, Gone, Has, Owners, Entry, Fault}
-use Rattle.cni_verbs.specs.CommandWords.{att_of, mappings_of, add_refusal, del_refusal}
-use Rattle.cni_verbs.specs.Wanted.{sets_of, calls_before, back_calls, result_of_add, kinds_of, deletion}
+use Rattle.cni_verbs.specs.CommandWords.{att_of, mappings_of, add_refusal, del_refusal, netns_refusal, drop_refusal}
+use Rattle.cni_verbs.specs.Questions.{check_questions, status_questions}
+use Rattle.cni_verbs.specs.Sweep.{Gc, Job, Sweep, Work, start_work, step_call, worked}
+use Rattle.cni_verbs.specs.Wanted.{sets_of, calls_before, back_calls, kinds_of, deletion}
 use Rattle.cni_verbs.specs.declared.answer.Cause.{Cause}
 use Rattle.cni_verbs.specs.declared.answer.Cause.TheVariants as causes
 use Rattle.cni_verbs.specs.declared.answer.Ending.{Ending}
-use Rattle.cni_verbs.specs.declared.answer.Ending.TheVariants.{Added, Yes, Refused}
+use Rattle.cni_verbs.specs.declared.answer.Ending.TheVariants.{Added, Yes, Skipped, Versions, Refused}
+use Rattle.cni_verbs.specs.declared.answer.Question.{Question}
+use Rattle.cni_verbs.specs.declared.answer.Skip.TheVariants as skips
 
 -- What is left to do: Begin and all after it; the calls before the leases; sets to lease from; the calls after the
--- leases; the cached entry to read, ahead of the deletions; kinds to delete; nothing.
+-- leases; the cached entry to read, ahead of the deletions; kinds to delete; the cached entry to read, ahead of the
+-- questions of a check; questions; one change from outside; the work of a collection, with its faults so far; nothing.
 pub data State : Type 0 where
   AtBegin : State
   BeforeLeases : (next : Call) (left : List Call) → State
@@ -28,6 +38,10 @@ pub data State : Type 0 where
   AfterLeases : (next : Call) (left : List Call) (given : List Addr) → State
   ReadingCache : (ending : Ending) → State
   Deleting : (next : Kind) (left : List Kind) (ending : Ending) → State
+  FindingEntry : State
+  Asking : (next : Question) (left : List Question) → State
+  Changing : (change : Call) → State
+  Collecting : (work : Work) (faults : List ℕ) → State
   Over : (ending : Ending) (given : List Addr) → State
 
 -- ---- the parts of a command's plan
@@ -56,6 +70,14 @@ abbrev pub deleting : List Kind → Ending → State
 deleting [] ending = Over ending []
 deleting (kind ∷ kinds) ending = Deleting kind kinds ending
 
+abbrev pub asking : List Question → State
+asking [] = Over Yes []
+asking (question ∷ questions) = Asking question questions
+
+-- what a collection is asked for
+abbrev pub gc_of : NetList → Command → Gc
+gc_of list c = record { network = c.network; valid = c.valid; kinds = kinds_of list }
+
 -- ---- a refusal
 
 -- why a reply refuses an ADD. A reply that is no answer to the call counts as a fault
@@ -76,6 +98,8 @@ cause_of set number Fault = causes.Fault number
 abbrev pub faulted : ℕ → Ending → Ending
 faulted number Added = Refused (causes.Fault number)
 faulted number Yes = Refused (causes.Fault number)
+faulted number (Skipped skip) = Refused (causes.Fault number)
+faulted number Versions = Refused (causes.Fault number)
 faulted number (Refused cause) = Refused cause
 
 -- ---- one reply, the one of this number
@@ -106,6 +130,39 @@ at_deletion number kind left ending (Gone false) = deleting left ending
 at_deletion number kind left ending Fault = Over (faulted number ending) []
 at_deletion number kind left ending r = Deleting kind left ending
 
+-- the questions of a check, where the attachment has a cached entry
+abbrev pub checking : NetList → Command → Option Cached → State
+checking list c None = Over (Refused causes.Unknown) []
+checking list c (Some cached) = asking (check_questions list c cached)
+
+abbrev pub at_entry : NetList → Command → ℕ → Reply → State
+at_entry list c number (Entry cached) = checking list c cached
+at_entry list c number r = Over (Refused (causes.Fault number)) []
+
+abbrev pub at_question : ℕ → Question → List Question → Reply → State
+at_question number question left (Has true) = asking left
+at_question number question left (Has false) = Over (Refused question.lack) []
+at_question number question left r = Over (Refused (causes.Fault number)) []
+
+-- how a change from outside ends
+abbrev pub changed : ℕ → Reply → Ending
+changed number Done = Yes
+changed number NoNs = Refused causes.NoNamespace
+changed number NoLink = Yes
+changed number (Taken tag) = Refused (causes.NameTaken tag)
+changed number Empty = Yes
+changed number (Leased addr) = Yes
+changed number (Gone true) = Yes
+changed number (Gone false) = Refused causes.NothingThere
+changed number (Has has) = Yes
+changed number (Owners owners) = Yes
+changed number (Entry cached) = Yes
+changed number Fault = Refused (causes.Fault number)
+
+abbrev pub noted : ℕ → List ℕ → Bool → List ℕ
+noted number faults true = faults ++ number ∷ []
+noted number faults false = faults
+
 unfoldable pub advance : NetList → Command → ℕ → State → Reply → State
 advance list c number AtBegin r = at_begin list c number r
 advance list c number (BeforeLeases next left) r = at_call_before list c number left r
@@ -113,6 +170,10 @@ advance list c number (Leasing next left given) r = at_lease list c number left 
 advance list c number (AfterLeases next left given) r = at_call_after number left given r
 advance list c number (ReadingCache ending) r = at_cache list number ending r
 advance list c number (Deleting next left ending) r = at_deletion number next left ending r
+advance list c number FindingEntry r = at_entry list c number r
+advance list c number (Asking next left) r = at_question number next left r
+advance list c number (Changing change) r = Over (changed number r) []
+advance list c number (Collecting work faults) r = Collecting (worked (gc_of list c) work.jobs work.sweeps r) (noted number faults (is_fault r))
 advance list c number (Over ending given) r = Over ending given
 
 -- ---- the start
@@ -121,21 +182,26 @@ abbrev pub unless_refused : Option Cause → State → State
 unless_refused None state = state
 unless_refused (Some cause) state = Over (Refused cause) []
 
--- the verbs that no plan has yet are over at once
-abbrev pub start_of : Verb → Command → State
-start_of verbs.Add c = unless_refused (add_refusal c) AtBegin
-start_of verbs.Del c = unless_refused (del_refusal c) (ReadingCache Yes)
-start_of verbs.Check c = Over Yes []
-start_of verbs.Gc c = Over Yes []
-start_of verbs.Status c = Over Yes []
-start_of verbs.Version c = Over Yes []
-start_of verbs.NsAdd c = Over Yes []
-start_of verbs.NsDel c = Over Yes []
-start_of verbs.Drop c = Over Yes []
-start_of verbs.Flush c = Over Yes []
+-- the verbs that came with version 1.1.0
+abbrev pub unless_old : Version → State → State
+unless_old V1_0 state = Over (Refused (causes.TooOld V1_0)) []
+unless_old V1_1 state = state
 
-abbrev pub start_state : Command → State
-start_state c = start_of c.verb c
+-- the verbs that speak of no network have no list, and are begun by `outside_start`
+abbrev pub start_of : NetList → Verb → Command → State
+start_of list verbs.Add c = unless_refused (add_refusal c) AtBegin
+start_of list verbs.Del c = unless_refused (del_refusal c) (ReadingCache Yes)
+start_of list verbs.Check c = unless_refused (del_refusal c) (if list.disable_check then Over (Skipped skips.Check) [] else FindingEntry)
+start_of list verbs.Gc c = unless_old list.version (if list.disable_gc then Over (Skipped skips.Gc) [] else Collecting (start_work (gc_of list c)) [])
+start_of list verbs.Status c = unless_old list.version (asking (status_questions list c))
+start_of list verbs.Version c = Over Versions []
+start_of list verbs.NsAdd c = Over Yes []
+start_of list verbs.NsDel c = Over Yes []
+start_of list verbs.Drop c = Over Yes []
+start_of list verbs.Flush c = Over Yes []
+
+abbrev pub start_state : NetList → Command → State
+start_state list c = start_of list c.verb c
 
 -- ---- all replies
 
@@ -145,9 +211,52 @@ state_from list c made s [] = s
 state_from list c made s (r ∷ rs) = state_from list c (made + 1) (advance list c (made + 1) s r) rs
 
 abbrev pub state_after : NetList → Command → List Reply → State
-state_after list c rs = state_from list c 0 (start_state c) rs
+state_after list c rs = state_from list c 0 (start_state list c) rs
+
+-- ---- a change from outside, which has no list
+
+abbrev pub flush_by : Option Table → State
+flush_by None = Over Yes []
+flush_by (Some table) = Changing (Outside (Flush table))
+
+abbrev pub outside_of : Verb → Command → State
+outside_of verbs.NsAdd c = unless_refused (netns_refusal c) (Changing (NsChange c.netns true))
+outside_of verbs.NsDel c = unless_refused (netns_refusal c) (Changing (NsChange c.netns false))
+outside_of verbs.Drop c = unless_refused (drop_refusal c) (Changing (Outside (DropLink (record { ns = c.netns; name = c.ifname }))))
+outside_of verbs.Flush c = flush_by c.table
+outside_of verbs.Add c = Over Yes []
+outside_of verbs.Check c = Over Yes []
+outside_of verbs.Del c = Over Yes []
+outside_of verbs.Gc c = Over Yes []
+outside_of verbs.Status c = Over Yes []
+outside_of verbs.Version c = Over Yes []
+
+abbrev pub outside_start : Command → State
+outside_start c = outside_of c.verb c
+
+-- its one reply ends it
+abbrev pub outside_advance : ℕ → State → Reply → State
+outside_advance number (Changing change) r = Over (changed number r) []
+outside_advance number s r = s
+
+abbrev pub outside_from : ℕ → State → List Reply → State
+outside_from made s [] = s
+outside_from made s (r ∷ rs) = outside_from (made + 1) (outside_advance (made + 1) s r) rs
+
+abbrev pub outside_after : Command → List Reply → State
+outside_after c rs = outside_from 0 (outside_start c) rs
 
 -- ---- the next call, or the answer
+
+-- a collection that met no fault is answered without an error
+abbrev pub swept : List ℕ → Ending
+swept [] = Yes
+swept (number ∷ numbers) = Refused (causes.Faults (number ∷ numbers))
+
+abbrev pub call_of_work : List ℕ → List Job → List Sweep → Option Call
+call_of_work network [] [] = None
+call_of_work network [] (s ∷ sweeps) = Some (OwnersOf network s.kind)
+call_of_work network (j ∷ jobs) sweeps = Some (step_call j.att j.step)
 
 unfoldable pub next_call : Command → State → Option Call
 next_call c AtBegin = Some (Begin (att_of c) c.netns)
@@ -156,12 +265,21 @@ next_call c (Leasing next left given) = Some (LeaseNext (att_of c) (length given
 next_call c (AfterLeases next left given) = Some next
 next_call c (ReadingCache ending) = Some (CacheGet (att_of c))
 next_call c (Deleting next left ending) = Some (deletion (att_of c) next)
+next_call c FindingEntry = Some (CacheGet (att_of c))
+next_call c (Asking next left) = Some next.call
+next_call c (Changing change) = Some change
+next_call c (Collecting work faults) = call_of_work c.network work.jobs work.sweeps
 next_call c (Over ending given) = None
 
 -- how the script ends, and with which addresses
 pub record Finish : Type 0 where
   pub ending : Ending
   pub given : List Addr
+
+abbrev pub finish_of_work : List Job → List Sweep → List ℕ → Option Finish
+finish_of_work [] [] faults = Some (record { ending = swept faults; given = [] })
+finish_of_work [] (s ∷ sweeps) faults = None
+finish_of_work (j ∷ jobs) sweeps faults = None
 
 unfoldable pub finish_of : State → Option Finish
 finish_of AtBegin = None
@@ -170,12 +288,21 @@ finish_of (Leasing next left given) = None
 finish_of (AfterLeases next left given) = None
 finish_of (ReadingCache ending) = None
 finish_of (Deleting next left ending) = None
+finish_of FindingEntry = None
+finish_of (Asking next left) = None
+finish_of (Changing change) = None
+finish_of (Collecting work faults) = finish_of_work work.jobs work.sweeps faults
 finish_of (Over ending given) = Some (record { ending = ending; given = given })
 
 -- the next call, or the end
 pub data Turn : Type 0 where
   Calls : (call : Call) → Turn
   Finishes : (finish : Finish) → Turn
+
+abbrev pub turn_of_work : List ℕ → List Job → List Sweep → List ℕ → Turn
+turn_of_work network [] [] faults = Finishes (record { ending = swept faults; given = [] })
+turn_of_work network [] (s ∷ sweeps) faults = Calls (OwnersOf network s.kind)
+turn_of_work network (j ∷ jobs) sweeps faults = Calls (step_call j.att j.step)
 
 unfoldable pub turn : Command → State → Turn
 turn c AtBegin = Calls (Begin (att_of c) c.netns)
@@ -184,10 +311,19 @@ turn c (Leasing next left given) = Calls (LeaseNext (att_of c) (length given) ne
 turn c (AfterLeases next left given) = Calls next
 turn c (ReadingCache ending) = Calls (CacheGet (att_of c))
 turn c (Deleting next left ending) = Calls (deletion (att_of c) next)
+turn c FindingEntry = Calls (CacheGet (att_of c))
+turn c (Asking next left) = Calls next.call
+turn c (Changing change) = Calls change
+turn c (Collecting work faults) = turn_of_work c.network work.jobs work.sweeps faults
 turn c (Over ending given) = Finishes (record { ending = ending; given = given })
 
 abbrev pub script : NetList → Command → List Reply → Turn
 script list c rs = turn c (state_after list c rs)
+
+abbrev pub IsWork : List Job → List Sweep → Type 0
+IsWork [] [] = ⊥
+IsWork [] (s ∷ sweeps) = ⊤
+IsWork (j ∷ jobs) sweeps = ⊤
 
 -- a run in this state has a call to make
 abbrev pub IsOpen : State → Type 0
@@ -197,6 +333,10 @@ IsOpen (Leasing next left given) = ⊤
 IsOpen (AfterLeases next left given) = ⊤
 IsOpen (ReadingCache ending) = ⊤
 IsOpen (Deleting next left ending) = ⊤
+IsOpen FindingEntry = ⊤
+IsOpen (Asking next left) = ⊤
+IsOpen (Changing change) = ⊤
+IsOpen (Collecting work faults) = IsWork work.jobs work.sweeps
 IsOpen (Over ending given) = ⊥
 
 -- ---- the leases of a run

@@ -1,19 +1,24 @@
 //! The phase after a reply. Nothing here takes memory.
 
-ghost use Rattle.std.specs.Prelude.{◌≡◌, ℕ, ◌+◌, ◌<◌, ◌≤◌, ◌^◌, [], ◌∷◌, ◌++◌, List, length, drop, Some, None, vec_capacity};
+ghost use Rattle.std.specs.Prelude.{◌≡◌, ℕ, ◌+◌, ◌<◌, ◌≤◌, ◌^◌, [], ◌∷◌, ◌++◌, List, length, drop, Some, None, MatchBool, vec_capacity};
 ghost use Rattle.cni_addr.specs.declared.address.Addr.{Addr};
 ghost use Rattle.net_conf.specs.declared.list.NetList.{NetList};
 ghost use Rattle.pod_file.specs.declared.command.Command.{Command};
+ghost use Rattle.kernel_types.specs.declared.call.Call.{Call};
 ghost use Rattle.kernel_types.specs.declared.call.Kind.{Kind};
+ghost use Rattle.kernel_types.specs.declared.call.Reply.{Reply};
 ghost use Rattle.cni_verbs.specs.Wanted.{sets_of, kinds_of};
 ghost use Rattle.cni_verbs.specs.Script.{IsOpen, before_of, back_of};
 ghost use Rattle.cni_verbs.specs.Script as script;
-ghost use Rattle.cni_verbs.specs.Phases.{Stands, IsPrepared, IsPhaseOf, state_in};
+ghost use Rattle.cni_verbs.specs.declared.answer.Question.{Question};
+ghost use Rattle.cni_verbs.specs.Phases.{Stands, IsPrepared, IsReady, IsPhaseOf, questions_about, questions_left, state_in, state_outside};
 
 use crate::answer::{Cause, Ending};
+use crate::inquiry::Inquiry;
 use crate::phase::Phase;
 use cni_addr::{Addr, Items};
 use kernel_types::{Call, Reply};
+use std::mem::replace;
 
 // ---- refusals
 
@@ -39,7 +44,9 @@ fn faulted(number: u64, ending: Ending) -> Ending
     ensures { result ≡ script.faulted number ending }
 {
     match ending {
-        Ending::Added | Ending::Yes => Ending::Refused(Cause::Fault(number)),
+        Ending::Added | Ending::Yes | Ending::Skipped(_) | Ending::Versions => {
+            Ending::Refused(Cause::Fault(number))
+        }
         Ending::Refused(cause) => Ending::Refused(cause),
     }
 }
@@ -149,9 +156,113 @@ fn after_deletion(passed: usize, number: u64, ending: Ending, reply: Reply) -> P
     }
 }
 
-/// The phase after a reply, where so many calls were made before it. A leased address is put to the given ones.
+fn after_entry(number: u64, reply: Reply) -> Phase
+    ensures { (list : NetList) (c : Command) (addrs : List Addr) → IsPhaseOf list c number addrs result (script.at_entry list c number reply) }
+{
+    match reply {
+        Reply::Entry(Some(cached)) => Phase::Asking(Inquiry {
+            about: Some(cached),
+            passed: 0,
+            questions: None,
+        }),
+        Reply::Entry(None) => Phase::Over(Ending::Refused(Cause::Unknown)),
+        Reply::Done
+        | Reply::NoNs
+        | Reply::NoLink
+        | Reply::Taken(_)
+        | Reply::Empty
+        | Reply::Leased(_)
+        | Reply::Gone(_)
+        | Reply::Has(_)
+        | Reply::Owners(_)
+        | Reply::Fault => Phase::Over(Ending::Refused(Cause::Fault(number))),
+    }
+}
+
+fn after_question(mut inquiry: Inquiry, number: u64, reply: Reply) -> Phase
+    requires { inquiry.passed < number }
+    ensures { (list : NetList) (c : Command) (addrs : List Addr) (question : Question) → IsReady list c inquiry
+        → questions_left list c inquiry ≡ question ∷ drop (inquiry.passed + 1) (questions_about list c inquiry.about)
+        → IsPhaseOf list c number addrs result (script.at_question number question (drop (inquiry.passed + 1) (questions_about list c inquiry.about)) reply) }
+{
+    match reply {
+        Reply::Has(true) => {
+            inquiry.passed += 1;
+            Phase::Asking(inquiry)
+        }
+        Reply::Has(false) => Phase::Denied(inquiry),
+        Reply::Done
+        | Reply::NoNs
+        | Reply::NoLink
+        | Reply::Taken(_)
+        | Reply::Empty
+        | Reply::Leased(_)
+        | Reply::Gone(_)
+        | Reply::Owners(_)
+        | Reply::Entry(_)
+        | Reply::Fault => Phase::Over(Ending::Refused(Cause::Fault(number))),
+    }
+}
+
+// ---- a change from outside
+
+fn changed(number: u64, reply: Reply) -> Ending
+    ensures { result ≡ script.changed number reply }
+{
+    match reply {
+        Reply::NoNs => Ending::Refused(Cause::NoNamespace),
+        Reply::Taken(tag) => Ending::Refused(Cause::NameTaken(tag)),
+        Reply::Gone(false) => Ending::Refused(Cause::NothingThere),
+        Reply::Fault => Ending::Refused(Cause::Fault(number)),
+        Reply::Done
+        | Reply::NoLink
+        | Reply::Empty
+        | Reply::Leased(_)
+        | Reply::Gone(true)
+        | Reply::Has(_)
+        | Reply::Owners(_)
+        | Reply::Entry(_) => Ending::Yes,
+    }
+}
+
+fn is_changing(phase: &Phase) -> bool
+    ensures { MatchBool result
+        ((change : Call) × (phase.now ≡ Phase.Changing change))
+        ((number : ℕ) (reply : Reply) → script.outside_advance number (state_outside phase.now) reply ≡ state_outside phase.now) }
+{
+    match phase {
+        Phase::Changing(_) => true,
+        Phase::AtBegin
+        | Phase::BeforeLeases(_)
+        | Phase::Leasing
+        | Phase::AfterLeases { .. }
+        | Phase::ReadingCache(_)
+        | Phase::Deleting(_, _)
+        | Phase::FindingEntry
+        | Phase::Asking(_)
+        | Phase::Denied(_)
+        | Phase::Over(_) => false,
+    }
+}
+
+/// What a reply, the one of this number, makes of the phase of a run of no network.
+pub(crate) fn after_outside(phase: &mut Phase, number: u64, reply: Reply)
+    ensures { state_outside phase.new ≡ script.outside_advance number (state_outside phase.old) reply }
+{
+    if is_changing(phase) {
+        let old = replace(phase, Phase::Over(changed(number, reply)));
+        drop(old);
+    } else {
+        drop(reply);
+    }
+}
+
+// ---- every phase
+
+/// The phase after a reply, where so many calls were made before it. A leased address is put to the given ones, and what
+/// the phase held is handed on.
 pub(crate) fn after(
-    phase: Phase,
+    phase: &mut Phase,
     calls: usize,
     given: &mut Vec<Addr>,
     sets: usize,
@@ -159,22 +270,29 @@ pub(crate) fn after(
     reply: Reply,
 ) -> Phase
     requires numbered { made + 1 < 2 ^ 64 }
-    requires stands { Stands calls sets made given.old.items phase }
+    requires stands { Stands calls sets made given.old.items phase.old }
     requires few { sets < 2 ^ 32 }
     requires room { sets ≤ vec_capacity given.old }
     ensures phase { (list : NetList) (c : Command) → length (before_of list c) ≡ calls → length (sets_of list) ≡ sets
-        → IsPrepared list c given.old.items phase → IsOpen (state_in list c given.old.items phase)
-        → IsPhaseOf list c (made + 1) given.new.items result (script.advance list c (made + 1) (state_in list c given.old.items phase) reply) }
+        → IsPrepared list c given.old.items phase.old → IsOpen (state_in list c given.old.items phase.old)
+        → IsPhaseOf list c (made + 1) given.new.items result (script.advance list c (made + 1) (state_in list c given.old.items phase.old) reply) }
     ensures room { sets ≤ vec_capacity given.new }
 {
     let number = made + 1;
     match phase {
         Phase::AtBegin => after_begin(calls, sets, number, reply),
-        Phase::BeforeLeases(passed) => after_call_before(passed, calls, sets, number, reply),
+        Phase::BeforeLeases(passed) => after_call_before(*passed, calls, sets, number, reply),
         Phase::Leasing => after_lease(given, sets, number, reply),
-        Phase::AfterLeases { passed, calls } => after_call_after(passed, calls, number, reply),
-        Phase::ReadingCache(ending) => after_cache(number, ending, reply),
-        Phase::Deleting(passed, ending) => after_deletion(passed, number, ending, reply),
-        Phase::Over(ending) => Phase::Over(ending),
+        Phase::AfterLeases { passed, calls } => {
+            after_call_after(*passed, calls.take(), number, reply)
+        }
+        Phase::ReadingCache(ending) => after_cache(number, replace(ending, Ending::Yes), reply),
+        Phase::Deleting(passed, ending) => {
+            after_deletion(*passed, number, replace(ending, Ending::Yes), reply)
+        }
+        Phase::FindingEntry => after_entry(number, reply),
+        Phase::Asking(inquiry) => after_question(inquiry.hand_on(), number, reply),
+        Phase::Changing(_) => Phase::Over(changed(number, reply)),
+        Phase::Denied(_) | Phase::Over(_) => Phase::Over(changed(number, reply)),
     }
 }

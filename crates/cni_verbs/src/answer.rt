@@ -1,8 +1,12 @@
 //! What a command is answered, and why an attachment's verb refuses.
 
-use cni_addr::{Duplicate, NoMemory, Text};
+ghost use Rattle.std.specs.Prelude.{◌≡◌};
+ghost use Rattle.cni_verbs.specs.Answers.{verb_text};
+
+use cni_addr::{Addr, Cidr, Items, Text};
 use cni_result::{AddResult, CniError, Version};
-use kernel_types::Tag;
+use kernel_types::{Call, Chain, Table, Tag};
+use pod_file::Verb;
 
 /// A verb that a list disables (`disableCheck`, `disableGC`).
 #[derive(Clone, Copy)]
@@ -59,6 +63,38 @@ pub struct WordFaults {
     pub args: bool,
 }
 
+/// An object that a check found missing, as the error names it.
+#[derive(PartialEq, Eq, Drop)]
+pub enum Missed {
+    /// The bridge of this name, with the MAC address of the result.
+    Bridge(Text),
+    Link {
+        ns: Text,
+        name: Text,
+    },
+    Address {
+        ns: Text,
+        link: Text,
+        cidr: Cidr,
+    },
+    Route {
+        ns: Text,
+        link: Text,
+        dst: Cidr,
+    },
+    /// The number counts the wanted rules from 1.
+    Rule {
+        table: Table,
+        chain: Chain,
+        number: u64,
+    },
+    Setting {
+        ns: Text,
+        key: Text,
+    },
+    Lease(Addr),
+}
+
 /// Why a verb refuses.
 #[derive(PartialEq, Eq, Drop)]
 pub enum Cause {
@@ -78,21 +114,27 @@ pub enum Cause {
     NoMaster,
     /// The call of this number, from 1, was a fault (code 103).
     Fault(u64),
+    /// The calls of these numbers, from 1, were faults, and the verb went on (code 103).
+    Faults(Items<u64>),
+    /// The list is of this version, which is older than the verb (code 1).
+    TooOld(Version),
+    /// The attachment has no cached result (code 3).
+    Unknown,
+    /// The range set of this number, from 0, has no free address to give (code 50).
+    NoFreeAddress(u32),
+    /// The `master` of `macvlan` of this name isn't there (code 50).
+    MasterAbsent(Text),
+    /// What was to be taken away isn't there (code 105).
+    NothingThere,
+    /// An object that the cached result names isn't there (code 110).
+    Missing(Missed),
 }
 
-impl Duplicate for Cause {
-    fn copy(&self) -> Result<Cause, NoMemory> {
-        match self {
-            Cause::BadWords(faults) => Ok(Cause::BadWords(*faults)),
-            Cause::IpArgument(value) => Ok(Cause::IpArgument(value.copy()?)),
-            Cause::BadMapping => Ok(Cause::BadMapping),
-            Cause::NoNamespace => Ok(Cause::NoNamespace),
-            Cause::NameTaken(tag) => Ok(Cause::NameTaken(tag.copy()?)),
-            Cause::PoolEmpty(set) => Ok(Cause::PoolEmpty(*set)),
-            Cause::NoMaster => Ok(Cause::NoMaster),
-            Cause::Fault(call) => Ok(Cause::Fault(*call)),
-        }
-    }
+/// A call that asks something, and why the verb refuses where the answer is no.
+#[derive(PartialEq, Eq, Drop)]
+pub struct Question {
+    pub call: Call,
+    pub lack: Cause,
 }
 
 /// How a run ends. The result of an ADD is made from the addresses that it was leased, when it is asked for.
@@ -100,5 +142,25 @@ impl Duplicate for Cause {
 pub enum Ending {
     Added,
     Yes,
+    Skipped(Skip),
+    Versions,
     Refused(Cause),
+}
+
+/// The verb as pod files spell it. Takes no memory.
+pub fn verb_text(verb: Verb) -> &'static str
+    ensures { result.now ≡ verb_text verb }
+{
+    match verb {
+        Verb::Add => "ADD",
+        Verb::Check => "CHECK",
+        Verb::Del => "DEL",
+        Verb::Gc => "GC",
+        Verb::Status => "STATUS",
+        Verb::Version => "VERSION",
+        Verb::NsAdd => "NSADD",
+        Verb::NsDel => "NSDEL",
+        Verb::Drop => "DROP",
+        Verb::Flush => "FLUSH",
+    }
 }

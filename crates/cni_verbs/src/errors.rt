@@ -1,15 +1,16 @@
 //! The errors of refusals (CNI specification, section 5, "Error").
 
-ghost use Rattle.std.specs.Prelude.{◌≡◌, ◌++◌, codes, string_bytes, IfOk, OnOk};
+ghost use Rattle.std.specs.Prelude.{◌≡◌, ◌++◌, codes, decimal, map, string_bytes, IfOk, OnOk};
 ghost use Rattle.serde_json.specs.Data.{string};
 ghost use Rattle.serde_json.specs.Written.{compact_text};
-ghost use Rattle.kernel_types.specs.Texts.{attachment_text, tag_text};
 ghost use Rattle.cni_verbs.specs.Answers as answers;
 
-use crate::answer::{Cause, WordFaults};
+use crate::answer::{Cause, WordFaults, verb_text};
+use crate::missed::missed_text;
+use crate::words::att_of;
 use cni_addr::{Duplicate, Items, NoMemory, Text};
-use cni_result::{CniError, Version};
-use kernel_types::{Att, Tag};
+use cni_result::{CniError, Version, version_text};
+use kernel_text::{attachment_text, tag_text};
 use pod_file::Command;
 use serde_json::Value;
 use std::alloc::Global;
@@ -25,7 +26,12 @@ fn code_of(cause: &Cause) -> u32
         Cause::NameTaken(_) => 101,
         Cause::PoolEmpty(_) => 102,
         Cause::NoMaster => 7,
-        Cause::Fault(_) => 103,
+        Cause::Fault(_) | Cause::Faults(_) => 103,
+        Cause::TooOld(_) => 1,
+        Cause::Unknown => 3,
+        Cause::NoFreeAddress(_) | Cause::MasterAbsent(_) => 50,
+        Cause::NothingThere => 105,
+        Cause::Missing(_) => 110,
     }
 }
 
@@ -73,13 +79,20 @@ fn push_joined(text: &mut String, names: &[Text]) -> Result<(), NoMemory>
     }
 }
 
+/// The texts with `, ` between them, after a start.
+fn joined(alloc: Global, start: &str, names: &[Text]) -> Result<Text, NoMemory>
+    ensures { IfOk result (λ text. text ≡ start.now ++ answers.joined_by_comma names.now) }
+{
+    let mut text = String::from_str(alloc, start)?;
+    push_joined(&mut text, names)?;
+    Text::of(alloc, text.as_str())
+}
+
 fn words_message(alloc: Global, faults: WordFaults) -> Result<Text, NoMemory>
     ensures { IfOk result (λ text. text ≡ answers.message_of (Cause.BadWords faults)) }
 {
     let names = variables_of(alloc, faults)?;
-    let mut message = String::from_str(alloc, "invalid environment variables: ")?;
-    push_joined(&mut message, names.as_slice())?;
-    Text::of(alloc, message.as_str())
+    joined(alloc, "invalid environment variables: ", names.as_slice())
 }
 
 /// The text as JSON writes it, in quotes.
@@ -99,6 +112,16 @@ fn argument_message(alloc: Global, value: &Text) -> Result<Text, NoMemory>
     Text::of(alloc, message.as_str())
 }
 
+fn version_message(alloc: Global, version: Version) -> Result<Text, NoMemory>
+    ensures { IfOk result (λ text. text ≡ answers.message_of (Cause.TooOld version)) }
+{
+    let version = version_text(version);
+    Text::of(
+        alloc,
+        format!(in alloc; "incompatible CNI version: {version}")?.as_str(),
+    )
+}
+
 fn message_of(alloc: Global, cause: &Cause) -> Result<Text, NoMemory>
     ensures { IfOk result (λ text. text ≡ answers.message_of cause.now) }
 {
@@ -110,32 +133,51 @@ fn message_of(alloc: Global, cause: &Cause) -> Result<Text, NoMemory>
         Cause::NameTaken(_) => Text::of(alloc, "name taken"),
         Cause::PoolEmpty(_) => Text::of(alloc, "pool empty"),
         Cause::NoMaster => Text::of(alloc, "invalid network configuration: master"),
-        Cause::Fault(_) => Text::of(alloc, "kernel fault"),
+        Cause::Fault(_) | Cause::Faults(_) => Text::of(alloc, "kernel fault"),
+        Cause::TooOld(version) => version_message(alloc, *version),
+        Cause::Unknown => Text::of(alloc, "container unknown"),
+        Cause::NoFreeAddress(_) | Cause::MasterAbsent(_) => Text::of(alloc, "not available"),
+        Cause::NothingThere => Text::of(alloc, "nothing there"),
+        Cause::Missing(_) => Text::of(alloc, "check failed"),
     }
 }
 
 // ---- details
 
-fn attachment_text(alloc: Global, att: &Att) -> Result<Text, NoMemory>
-    ensures { IfOk result (λ text. text ≡ attachment_text att.now) }
+fn set_text(alloc: Global, set: u32) -> Result<Text, NoMemory>
+    ensures { IfOk result (λ text. text ≡ codes "set " ++ decimal set) }
 {
-    let network = att.network.as_str();
-    let container = att.container.as_str();
-    let ifname = att.ifname.as_str();
-    Text::of(
-        alloc,
-        format!(in alloc; "{network}/{container}/{ifname}")?.as_str(),
-    )
+    Text::of(alloc, format!(in alloc; "set {set}")?.as_str())
 }
 
-fn owner_text(alloc: Global, tag: &Tag) -> Result<Text, NoMemory>
-    ensures { IfOk result (λ text. text ≡ tag_text tag.now) }
+fn call_text(alloc: Global, number: u64) -> Result<Text, NoMemory>
+    ensures { IfOk result (λ text. text ≡ answers.call_text number) }
 {
-    match tag {
-        Tag::Outside => Text::of(alloc, "outside"),
-        Tag::Base => Text::of(alloc, "base"),
-        Tag::Own(att) => attachment_text(alloc, att),
+    Text::of(alloc, format!(in alloc; "call {number}")?.as_str())
+}
+
+fn call_texts(alloc: Global, numbers: &[u64]) -> Result<Items<Text>, NoMemory>
+    ensures { IfOk result (λ texts. texts ≡ map answers.call_text numbers.now) }
+{
+    let mut texts = Vec::with_capacity(alloc, numbers.len())?;
+    for number in numbers {
+        texts.push(call_text(alloc, *number)?)?;
     }
+    Ok(Items::of_vec(texts))
+}
+
+fn calls_text(alloc: Global, numbers: &[u64]) -> Result<Text, NoMemory>
+    ensures { IfOk result (λ text. text ≡ answers.joined_by_comma (map answers.call_text numbers.now)) }
+{
+    let texts = call_texts(alloc, numbers)?;
+    joined(alloc, "", texts.as_slice())
+}
+
+fn master_text(alloc: Global, name: &Text) -> Result<Text, NoMemory>
+    ensures { IfOk result (λ text. text ≡ codes "master " ++ name.now) }
+{
+    let name = name.as_str();
+    Text::of(alloc, format!(in alloc; "master {name}")?.as_str())
 }
 
 fn details_of(alloc: Global, command: &Command, cause: &Cause) -> Result<Text, NoMemory>
@@ -143,9 +185,15 @@ fn details_of(alloc: Global, command: &Command, cause: &Cause) -> Result<Text, N
 {
     match cause {
         Cause::NoNamespace => command.netns.copy(),
-        Cause::NameTaken(tag) => owner_text(alloc, tag),
-        Cause::PoolEmpty(set) => Text::of(alloc, format!(in alloc; "set {set}")?.as_str()),
-        Cause::Fault(call) => Text::of(alloc, format!(in alloc; "call {call}")?.as_str()),
+        Cause::NameTaken(tag) => tag_text(alloc, tag),
+        Cause::PoolEmpty(set) | Cause::NoFreeAddress(set) => set_text(alloc, *set),
+        Cause::Fault(number) => call_text(alloc, *number),
+        Cause::Faults(numbers) => calls_text(alloc, numbers.as_slice()),
+        Cause::TooOld(_) => Text::of(alloc, verb_text(command.verb)),
+        Cause::Unknown => attachment_text(alloc, &att_of(command)?),
+        Cause::MasterAbsent(name) => master_text(alloc, name),
+        Cause::NothingThere => command.ifname.copy(),
+        Cause::Missing(missed) => missed_text(alloc, missed),
         Cause::BadWords(_) | Cause::IpArgument(_) | Cause::BadMapping | Cause::NoMaster => {
             Text::of(alloc, "")
         }

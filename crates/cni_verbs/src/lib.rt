@@ -1,10 +1,12 @@
 //! What a verb calls and what it answers.
 //!
 //! To the book above it promises definitions: what a verb asks of its command's words (`specs/CommandWords.antt`), the
-//! calls of an ADD, the objects that it wants and its result (`specs/Wanted.antt`), the next call or the end as a function
-//! of all replies so far (`specs/Script.antt`), and the errors (`specs/Answers.antt`). A [`Run`] follows the script one
-//! reply at a time and keeps no replies: it is seen as the list, the command and the script's state (`specs/Progress.antt`),
-//! its next call and its answer are the script's, and to take a reply wants no memory.
+//! calls of an ADD, the objects that it wants and its result (`specs/Wanted.antt`), the questions of a CHECK and of a
+//! STATUS (`specs/Questions.antt`), the next call or the end as a function of all replies so far (`specs/Script.antt`), and
+//! the errors (`specs/Answers.antt`). A [`Run`] follows the script one reply at a time and keeps no replies: it is seen as
+//! the list, the command and the script's state (`specs/Progress.antt`), its next call and its answer are the script's, and
+//! to take a reply wants no memory. A command of no network runs too: it is one change from outside. A garbage collection
+//! isn't a `Run`.
 //!
 //! ```text
 //! let mut run = Run::start(alloc, Some(&list), &add)?;
@@ -18,13 +20,22 @@
 mod advance;
 pub mod answer;
 mod call_copy;
+mod check_counts;
+mod counts;
+mod ending;
 pub mod errors;
+mod inquiry;
+mod missed;
 mod next;
+mod over;
 mod phase;
+mod prepare;
+mod questions;
 pub mod run;
+mod share;
 mod start;
 pub mod wanted;
 pub mod words;
 
-pub use answer::{Answer, Cause, Ending, Skip, WordFaults};
+pub use answer::{Answer, Cause, Ending, Missed, Question, Skip, WordFaults, verb_text};
 pub use run::Run;

@@ -1,9 +1,7 @@
 //! How far a run has come.
 
-ghost use Rattle.std.specs.Prelude.{◌≡◌};
-ghost use Rattle.cni_verbs.specs.Phases.{with_calls};
-
 use crate::answer::Ending;
+use crate::inquiry::Inquiry;
 use cni_addr::Items;
 use kernel_types::Call;
 
@@ -25,35 +23,13 @@ pub(crate) enum Phase {
     ReadingCache(Ending),
     /// Nothing is left of so many kinds.
     Deleting(usize, Ending),
+    /// The cached entry is read ahead of the questions of a check.
+    FindingEntry,
+    /// Questions are asked one by one.
+    Asking(Inquiry),
+    /// The question at this place was answered with no. Its cause is looked up when the answer is asked for.
+    Denied(Inquiry),
+    /// A change from outside is made by this call.
+    Changing(Call),
     Over(Ending),
-}
-
-impl Phase {
-    /// Whether the calls after the leases are asked for and not made.
-    pub(crate) fn lacks_calls(&self) -> bool {
-        match self {
-            Phase::AfterLeases { passed: _, calls } => calls.is_none(),
-            Phase::AtBegin
-            | Phase::BeforeLeases(_)
-            | Phase::Leasing
-            | Phase::ReadingCache(_)
-            | Phase::Deleting(_, _)
-            | Phase::Over(_) => false,
-        }
-    }
-
-    /// Keeps the calls after the leases, where they are asked for.
-    pub(crate) fn keep_calls(&mut self, all: Items<Call>)
-        ensures { self.new ≡ with_calls self.old all }
-    {
-        match self {
-            Phase::AfterLeases { passed: _, calls } => *calls = Some(all),
-            Phase::AtBegin
-            | Phase::BeforeLeases(_)
-            | Phase::Leasing
-            | Phase::ReadingCache(_)
-            | Phase::Deleting(_, _)
-            | Phase::Over(_) => {}
-        }
-    }
 }

@@ -1,17 +1,20 @@
 //! One command's run, a call at a time.
 
-ghost use Rattle.std.specs.Prelude.{◌≡◌, ◌+◌, ◌<◌, ◌≤◌, ◌^◌, [], None, Some, IfOk, length, option_map, vec_capacity};
+ghost use Rattle.std.specs.Prelude.{◌≡◌, ◌+◌, ◌<◌, ◌≤◌, ◌^◌, is_some, false, true, [], None, Some, IfOk, length, option_map, vec_capacity, MatchBool};
 ghost use Rattle.std.specs.Option.{option_copied};
-ghost use Rattle.cni_verbs.specs.Progress.{progress, advanced, answer_by};
-ghost use Rattle.cni_verbs.specs.Phases.{IsPhaseOf};
-ghost use Rattle.cni_verbs.specs.Script.{IsOpen, before_of, start_state, next_call, finish_of};
+ghost use Rattle.cni_verbs.specs.Progress.{is_gc, progress, advanced, answer_by};
+ghost use Rattle.cni_verbs.specs.Phases.{IsPhaseOf, state_outside};
+ghost use Rattle.cni_verbs.specs.Script.{IsOpen, before_of, start_state, outside_start, next_call, finish_of};
 ghost use Rattle.cni_verbs.specs.Wanted.{sets_of, kinds_of};
 
-use crate::advance::after;
-use crate::answer::{Answer, Ending};
-use crate::next::{answer_of, back_of, before_of, next_of};
+use crate::advance::{after, after_outside};
+use crate::answer::Answer;
+use crate::ending::{answer_of, answer_outside};
+use crate::next::{before_of, next_of, next_outside};
+use crate::over::{is_over, is_over_outside};
 use crate::phase::Phase;
-use crate::start::first_phase;
+use crate::prepare::prepare_phase;
+use crate::start::{first_outside, first_phase};
 use crate::wanted::{kinds_of, sets_of};
 use cni_addr::{Addr, Duplicate, Items, NoMemory};
 use kernel_types::{Call, Kind, Reply};
@@ -51,8 +54,10 @@ impl Model for Run {
 
 impl Run {
     /// The run of a command of this list, or of a command of no network, before its first call. A list with more sets
-    /// than the 65,536 that a list is read with is refused as for want of memory.
+    /// than the 65,536 that a list is read with is refused as for want of memory. A garbage collection isn't a run: it
+    /// keeps owners and sweeps.
     pub fn start(alloc: Global, list: Option<&NetList>, command: &Command) -> Result<Run, NoMemory>
+        requires { is_gc command.now.verb ≡ false }
         ensures { IfOk result (λ run. run ≡ progress (option_copied list.entry) command.now []) }
     {
         match list {
@@ -62,6 +67,7 @@ impl Run {
     }
 
     fn of_list(alloc: Global, list: &NetList, command: &Command) -> Result<Run, NoMemory>
+        requires { is_gc command.now.verb ≡ false }
         ensures { IfOk result (λ run. run ≡ progress (Some list.now) command.now []) }
     {
         let sets = sets_of(list).len();
@@ -73,7 +79,7 @@ impl Run {
         let given = Vec::with_capacity(alloc, sets)?;
         let list_copy = list.copy()?;
         let command_copy = command.copy(alloc)?;
-        let phase = first_phase(alloc, command)?;
+        let phase = first_phase(alloc, list, command)?;
         Ok(Run::begun(list_copy, command_copy, phase, before, kinds, given))
     }
 
@@ -85,7 +91,7 @@ impl Run {
         kinds: Items<Kind>,
         given: Vec<Addr>,
     ) -> Run
-        requires phase { IsPhaseOf list command 0 [] phase (start_state command) }
+        requires phase { IsPhaseOf list command 0 [] phase (start_state list command) }
         requires before { before ≡ before_of list command }
         requires kinds { kinds ≡ kinds_of list }
         requires few { length (sets_of list) < 2 ^ 32 }
@@ -108,30 +114,36 @@ impl Run {
     fn of_no_list(alloc: Global, command: &Command) -> Result<Run, NoMemory>
         ensures { IfOk result (λ run. run ≡ progress None command.now []) }
     {
-        let command = command.copy(alloc)?;
-        Ok(Run {
+        let twin = command.copy(alloc)?;
+        let phase = first_outside(command)?;
+        Ok(Run::begun_outside(alloc, twin, phase))
+    }
+
+    fn begun_outside(alloc: Global, command: Command, phase: Phase) -> Run
+        requires { state_outside phase ≡ outside_start command }
+        ensures { result ≡ progress None command [] }
+    {
+        let run = Run {
             list: None,
             command,
             made: 0,
-            phase: Phase::Over(Ending::Yes),
+            phase,
             before: Items::new(alloc),
             kinds: Items::new(alloc),
             given: Vec::new(alloc),
-        })
+        };
+        run
     }
 
     /// Makes what the next call is looked up in, where it isn't made yet. It changes nothing that is seen, whether memory
-    /// lacks or not; without it [`Run::next`] makes the same anew at each call after the leases.
+    /// lacks or not; without it [`Run::next`] makes the same anew at each call after the leases and at each question.
     pub fn prepare(&mut self) -> Result<(), NoMemory>
         ensures { self.new ≡ self.old }
     {
         let alloc = *self.given.allocator();
         if let Some(list) = &self.list {
             let given = self.given.as_slice();
-            if self.phase.lacks_calls() {
-                let calls = back_of(alloc, list, &self.command, given)?;
-                self.phase.keep_calls(calls);
-            }
+            prepare_phase(alloc, list, &self.command, given, &mut self.phase)?;
         }
         Ok(())
     }
@@ -151,7 +163,7 @@ impl Run {
                 self.given.as_slice(),
                 &self.phase,
             ),
-            None => Ok(None),
+            None => next_outside(&self.command, &self.phase),
         }
     }
 
@@ -161,14 +173,61 @@ impl Run {
         requires numbered { self.old.made + 1 < 2 ^ 64 }
         ensures { self.new ≡ advanced self.old reply }
     {
+        if self.list.is_some() {
+            self.take_by_list(reply);
+        } else {
+            self.take_outside(reply);
+        }
+    }
+
+    fn take_by_list(&mut self, reply: Reply)
+        requires listed { is_some self.old.list ≡ true }
+        requires open { IsOpen self.old.state }
+        requires numbered { self.old.made + 1 < 2 ^ 64 }
+        ensures { self.new ≡ advanced self.old reply }
+    {
         let sets = match &self.list {
             Some(list) => sets_of(list).len(),
             None => unreachable!(),
         };
         let calls = self.before.as_slice().len();
-        let phase = replace(&mut self.phase, Phase::AtBegin);
-        self.phase = after(phase, calls, &mut self.given, sets, self.made, reply);
+        let next = after(
+            &mut self.phase,
+            calls,
+            &mut self.given,
+            sets,
+            self.made,
+            reply,
+        );
+        let old = replace(&mut self.phase, next);
+        drop(old);
         self.made += 1;
+    }
+
+    fn take_outside(&mut self, reply: Reply)
+        requires alone { self.old.list ≡ None }
+        requires numbered { self.old.made + 1 < 2 ^ 64 }
+        ensures { self.new ≡ advanced self.old reply }
+    {
+        after_outside(&mut self.phase, self.made + 1, reply);
+        self.made += 1;
+    }
+
+    /// Whether the run has no call left to make. Takes no memory; quadratic in the addresses, the routes, the mappings and
+    /// the settings where [`Run::prepare`] didn't run or wanted memory, else at once.
+    pub fn over(&self) -> bool
+        ensures { MatchBool result (IsOpen self.now.state → ⊥) (IsOpen self.now.state) }
+    {
+        match &self.list {
+            Some(list) => is_over(
+                list,
+                &self.command,
+                self.kinds.as_slice(),
+                self.given.as_slice(),
+                &self.phase,
+            ),
+            None => is_over_outside(&self.phase),
+        }
     }
 
     /// What the command is answered, where the run is over.
@@ -185,7 +244,7 @@ impl Run {
                 self.given.as_slice(),
                 &self.phase,
             ),
-            None => Ok(Some(Answer::Yes)),
+            None => answer_outside(alloc, &self.command, &self.phase),
         }
     }
 }

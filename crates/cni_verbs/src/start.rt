@@ -1,18 +1,28 @@
 //! How a run begins.
 
-ghost use Rattle.std.specs.Prelude.{◌≡◌, [], IfOk};
+ghost use Rattle.std.specs.Prelude.{◌≡◌, false, [], IfOk};
 ghost use Rattle.net_conf.specs.declared.list.NetList.{NetList};
-ghost use Rattle.cni_verbs.specs.CommandWords.{add_refusal, del_refusal};
-ghost use Rattle.cni_verbs.specs.Script.{AtBegin, ReadingCache, start_state, unless_refused};
+ghost use Rattle.kernel_types.specs.declared.call.Call.TheVariants as call;
+ghost use Rattle.kernel_types.specs.declared.call.Change.TheVariants as change;
+ghost use Rattle.cni_verbs.specs.CommandWords.{add_refusal, del_refusal, netns_refusal, drop_refusal};
+ghost use Rattle.cni_verbs.specs.Questions.{status_questions};
+ghost use Rattle.cni_verbs.specs.Script.{AtBegin, ReadingCache, Changing, start_of, start_state, outside_start, flush_by, unless_refused, unless_old, asking};
+ghost use Rattle.cni_verbs.specs.Progress.{is_gc};
 ghost use Rattle.cni_verbs.specs.declared.answer.Ending.TheVariants as ending;
-ghost use Rattle.cni_verbs.specs.Phases.{IsPhaseOf};
+ghost use Rattle.cni_verbs.specs.Phases.{IsPhaseOf, state_outside};
 
-use crate::answer::Ending;
+use crate::answer::{Cause, Ending, Skip};
+use crate::inquiry::Inquiry;
 use crate::phase::Phase;
-use crate::words::{add_refusal, del_refusal};
-use cni_addr::NoMemory;
+use crate::words::{add_refusal, del_refusal, drop_refusal, netns_refusal};
+use cni_addr::{Duplicate, NoMemory};
+use cni_result::Version;
+use kernel_types::{Call, Change, LinkKey, Table};
+use net_conf::NetList;
 use pod_file::{Command, Verb};
 use std::alloc::Global;
+
+// ---- verbs of a network
 
 fn first_of_add(alloc: Global, command: &Command) -> Result<Phase, NoMemory>
     ensures { IfOk result (λ phase. (list : NetList) → IsPhaseOf list command.now 0 [] phase (unless_refused (add_refusal command.now) AtBegin)) }
@@ -32,20 +42,108 @@ fn first_of_del(command: &Command) -> Phase
     }
 }
 
-/// The phase of a run that was given no reply. Words outside their grammar end an ADD or a DEL before its first call.
-pub(crate) fn first_phase(alloc: Global, command: &Command) -> Result<Phase, NoMemory>
-    ensures { IfOk result (λ phase. (list : NetList) → IsPhaseOf list command.now 0 [] phase (start_state command.now)) }
+fn first_of_check(list: &NetList, command: &Command) -> Phase
+    ensures { IsPhaseOf list.now command.now 0 [] result (start_of list.now Verb.Check command.now) }
+{
+    match del_refusal(command) {
+        Some(cause) => Phase::Over(Ending::Refused(cause)),
+        None => {
+            if list.disable_check {
+                Phase::Over(Ending::Skipped(Skip::Check))
+            } else {
+                Phase::FindingEntry
+            }
+        }
+    }
+}
+
+fn first_of_status(list: &NetList) -> Phase
+    ensures { (c : Command) → IsPhaseOf list.now c 0 [] result (unless_old list.now.version (asking (status_questions list.now c))) }
+{
+    match list.version {
+        Version::V1_0 => Phase::Over(Ending::Refused(Cause::TooOld(Version::V1_0))),
+        Version::V1_1 => Phase::Asking(Inquiry {
+            about: None,
+            passed: 0,
+            questions: None,
+        }),
+    }
+}
+
+/// The phase of a run of this list that was given no reply. Words outside their grammar end an ADD, a CHECK or a DEL before
+/// its first call, and so does a list that is older than STATUS or disables CHECK.
+pub(crate) fn first_phase(
+    alloc: Global,
+    list: &NetList,
+    command: &Command,
+) -> Result<Phase, NoMemory>
+    requires { is_gc command.now.verb ≡ false }
+    ensures { IfOk result (λ phase. IsPhaseOf list.now command.now 0 [] phase (start_state list.now command.now)) }
 {
     match command.verb {
         Verb::Add => first_of_add(alloc, command),
+        Verb::Check => Ok(first_of_check(list, command)),
         Verb::Del => Ok(first_of_del(command)),
-        Verb::Check
-        | Verb::Gc
-        | Verb::Status
-        | Verb::Version
-        | Verb::NsAdd
-        | Verb::NsDel
-        | Verb::Drop
-        | Verb::Flush => Ok(Phase::Over(Ending::Yes)),
+        Verb::Gc => unreachable!(),
+        Verb::Status => Ok(first_of_status(list)),
+        Verb::Version => Ok(Phase::Over(Ending::Versions)),
+        Verb::NsAdd | Verb::NsDel | Verb::Drop | Verb::Flush => Ok(Phase::Over(Ending::Yes)),
+    }
+}
+
+// ---- changes from outside
+
+fn change_of_namespace(command: &Command, add: bool) -> Result<Phase, NoMemory>
+    ensures { IfOk result (λ phase. state_outside phase ≡ unless_refused (netns_refusal command.now) (Changing (call.NsChange command.now.netns add))) }
+{
+    match netns_refusal(command) {
+        Some(cause) => Ok(Phase::Over(Ending::Refused(cause))),
+        None => Ok(Phase::Changing(Call::NsChange {
+            name: command.netns.copy()?,
+            add,
+        })),
+    }
+}
+
+fn loss_of_link(command: &Command) -> Result<Phase, NoMemory>
+    ensures { IfOk result (λ phase. state_outside phase ≡ unless_refused (drop_refusal command.now) (Changing (call.Outside (change.DropLink (record { ns = command.now.netns; name = command.now.ifname }))))) }
+{
+    match drop_refusal(command) {
+        Some(cause) => Ok(Phase::Over(Ending::Refused(cause))),
+        None => {
+            let key = LinkKey {
+                ns: command.netns.copy()?,
+                name: command.ifname.copy()?,
+            };
+            Ok(Phase::Changing(Call::Outside {
+                change: Change::DropLink(key),
+            }))
+        }
+    }
+}
+
+fn flush_of(table: Option<Table>) -> Phase
+    ensures { state_outside result ≡ flush_by table }
+{
+    match table {
+        Some(table) => Phase::Changing(Call::Outside {
+            change: Change::Flush(table),
+        }),
+        None => Phase::Over(Ending::Yes),
+    }
+}
+
+/// The phase of a run of no network before its call. Words outside their grammar end it there.
+pub(crate) fn first_outside(command: &Command) -> Result<Phase, NoMemory>
+    ensures { IfOk result (λ phase. state_outside phase ≡ outside_start command.now) }
+{
+    match command.verb {
+        Verb::NsAdd => change_of_namespace(command, true),
+        Verb::NsDel => change_of_namespace(command, false),
+        Verb::Drop => loss_of_link(command),
+        Verb::Flush => Ok(flush_of(command.table)),
+        Verb::Add | Verb::Check | Verb::Del | Verb::Gc | Verb::Status | Verb::Version => {
+            Ok(Phase::Over(Ending::Yes))
+        }
     }
 }

@@ -7,11 +7,23 @@ ghost use Rattle.std.specs.Str.{bytes_eq};
 ghost use Rattle.cni_verbs.specs.CommandWords as words;
 
 use crate::answer::{Cause, WordFaults};
-use cni_addr::{Addr, Items, NoMemory, Text, read_addr};
+use cni_addr::{Addr, Duplicate, Items, NoMemory, Text, read_addr};
 use cni_result::{PortMapping, Proto};
+use kernel_types::Att;
 use net_conf::{Chained, NetList, is_container_id, is_interface_name};
 use pod_file::{Command, RawMapping};
 use std::alloc::Global;
+
+/// The attachment that the command speaks of.
+pub(crate) fn att_of(command: &Command) -> Result<Att, NoMemory>
+    ensures { IfOk result (λ att. att ≡ words.att_of command.now) }
+{
+    Ok(Att {
+        network: command.network.copy()?,
+        container: command.container.copy()?,
+        ifname: command.ifname.copy()?,
+    })
+}
 
 // ---- arguments
 
@@ -174,7 +186,8 @@ fn takes_mappings(chained: &Chained) -> bool
     }
 }
 
-fn some_takes(chained: &[Chained]) -> bool
+/// Whether some `portmap` is handed the mappings.
+pub(crate) fn some_takes(chained: &[Chained]) -> bool
     ensures { result ≡ list_any words.takes_mappings chained.now }
 {
     chained.iter().any(|plugin| takes_mappings(plugin))
@@ -269,15 +282,46 @@ pub fn add_refusal(alloc: Global, command: &Command) -> Result<Option<Cause>, No
     }
 }
 
-/// Why a DEL refuses its words, if it does. It needs neither a namespace nor arguments. Takes no memory.
-#[tactic(auto, unfolding(crate::specs::CommandWords::del_refusal))]
-pub fn del_refusal(command: &Command) -> Option<Cause>
-    ensures { result ≡ words.del_refusal command.now }
+fn refusal_by(faults: WordFaults) -> Option<Cause>
+    ensures { result ≡ words.refusal_by faults }
 {
-    let faults = del_faults(command);
     if any_fault(faults) {
         Some(Cause::BadWords(faults))
     } else {
         None
     }
+}
+
+/// Why a DEL or a CHECK refuses its words, if it does. They need neither a namespace nor arguments. Takes no memory.
+#[tactic(auto, unfolding(crate::specs::CommandWords::del_refusal))]
+pub fn del_refusal(command: &Command) -> Option<Cause>
+    ensures { result ≡ words.del_refusal command.now }
+{
+    refusal_by(del_faults(command))
+}
+
+/// Why a change of a namespace refuses its words, if it does: it needs the namespace. Takes no memory.
+#[tactic(auto, unfolding(crate::specs::CommandWords::netns_refusal))]
+pub fn netns_refusal(command: &Command) -> Option<Cause>
+    ensures { result ≡ words.netns_refusal command.now }
+{
+    refusal_by(WordFaults {
+        container: false,
+        netns: command.netns.as_str().is_empty(),
+        ifname: false,
+        args: false,
+    })
+}
+
+/// Why the loss of a link refuses its words, if it does: it needs the namespace and the link's name. Takes no memory.
+#[tactic(auto, unfolding(crate::specs::CommandWords::drop_refusal))]
+pub fn drop_refusal(command: &Command) -> Option<Cause>
+    ensures { result ≡ words.drop_refusal command.now }
+{
+    refusal_by(WordFaults {
+        container: false,
+        netns: command.netns.as_str().is_empty(),
+        ifname: !is_interface_name(command.ifname.as_str()),
+        args: false,
+    })
 }

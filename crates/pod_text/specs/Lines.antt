@@ -8,6 +8,7 @@ use Rattle.cni_result.specs.Results.{version_data, result_data, error_data}
 use Rattle.cni_result.specs.declared.error.CniError.{CniError}
 use Rattle.cni_result.specs.declared.version.Version.{Version}
 use Rattle.cni_result.specs.declared.version.Version.TheVariants.{V1_0, V1_1}
+use Rattle.cni_verbs.specs.Answers.{verb_text}
 use Rattle.cni_verbs.specs.declared.answer.Answer.{Answer}
 use Rattle.cni_verbs.specs.declared.answer.Answer.TheVariants.{Added, Yes, Skipped, Versions, Refused, OutOfMemory, Stopped}
 use Rattle.cni_verbs.specs.declared.answer.Skip.{Skip}
@@ -15,26 +16,11 @@ use Rattle.cni_verbs.specs.declared.answer.Skip.TheVariants as skips
 use Rattle.kernel_text.specs.Dump.{dump_of}
 use Rattle.kernel_text.specs.Replies.{trace_data}
 use Rattle.pod_file.specs.declared.command.Command.{Command}
-use Rattle.pod_file.specs.declared.command.Verb.{Verb}
-use Rattle.pod_file.specs.declared.command.Verb.TheVariants as verbs
 use Rattle.pod_workers.specs.Plans.{commands_of}
 use Rattle.pod_workers.specs.World.{World, answer_at, host_of}
 use Rattle.pod_workers.specs.declared.plan.Entry.{Entry}
 
 -- ---- one answer
-
--- a verb as pod files spell it
-abbrev pub verb_text : Verb → List ℕ
-verb_text verbs.Add = codes "ADD"
-verb_text verbs.Check = codes "CHECK"
-verb_text verbs.Del = codes "DEL"
-verb_text verbs.Gc = codes "GC"
-verb_text verbs.Status = codes "STATUS"
-verb_text verbs.Version = codes "VERSION"
-verb_text verbs.NsAdd = codes "NSADD"
-verb_text verbs.NsDel = codes "NSDEL"
-verb_text verbs.Drop = codes "DROP"
-verb_text verbs.Flush = codes "FLUSH"
 
 -- the key of the network list that disables a verb (CNI specification, section 1, "Network configuration format")
 abbrev pub skip_text : Skip → List ℕ

@@ -5,33 +5,15 @@ ghost use Rattle.serde_json.specs.View.{view};
 ghost use Rattle.serde_json.specs.Written.{has_float};
 ghost use Rattle.cni_json.specs.Json.{line_of};
 ghost use Rattle.cni_result.specs.Members.{members_of};
-ghost use Rattle.pod_text.specs.Lines.{verb_text, skip_text, versions_data, memory_error, put_answer, answer_data};
+ghost use Rattle.pod_text.specs.Lines.{skip_text, versions_data, memory_error, put_answer, answer_data};
 
 use cni_addr::{NoMemory, Text};
 use cni_json::line;
 use cni_result::{CniError, JsonObject, Version, error_value, to_value};
-use cni_verbs::{Answer, Skip};
-use pod_file::{Command, Verb};
+use cni_verbs::{Answer, Skip, verb_text};
+use pod_file::Command;
 use serde_json::Value;
 use std::alloc::Global;
-
-/// The verb as pod files spell it. Takes no memory.
-pub fn verb_text(verb: Verb) -> &'static str
-    ensures { result.now ≡ verb_text verb }
-{
-    match verb {
-        Verb::Add => "ADD",
-        Verb::Check => "CHECK",
-        Verb::Del => "DEL",
-        Verb::Gc => "GC",
-        Verb::Status => "STATUS",
-        Verb::Version => "VERSION",
-        Verb::NsAdd => "NSADD",
-        Verb::NsDel => "NSDEL",
-        Verb::Drop => "DROP",
-        Verb::Flush => "FLUSH",
-    }
-}
 
 /// The key of the network list that disables the verb. Takes no memory.
 pub fn skip_text(skip: Skip) -> &'static str

@@ -1,8 +1,8 @@
-use Rattle.std.proofs.Common.{◌∙◌, ap, length}
+use Rattle.std.proofs.Common.{◌∙◌, Some, ap, length}
 use Rattle.std.specs.Prelude.{option_map, slice_get}
 use Rattle.kernel_types.specs.declared.call.Call.TheVariants.{LeaseNext}
 use Rattle.cni_verbs.specs.CommandWords.{att_of}
-use Rattle.cni_verbs.proofs.NextCalls.{ok_by, next_begin, next_before, next_lease, next_after, next_cache, next_deletion, next_over}
+use Rattle.cni_verbs.proofs.NextCalls.{ok_by, next_begin, next_before, next_lease, next_after, next_cache, next_deletion, next_asking, next_change, next_over}
 use Rattle.cni_verbs.proofs.next.next_of.Goals as goal
 
 pub returns-in-AtBegin : goal.returns-in-AtBegin
@@ -28,7 +28,7 @@ returns-in-AfterLeases c =
 
 pub returns-in-ReadingCache : goal.returns-in-ReadingCache
 returns-in-ReadingCache c =
-    ok_by c.cache_get.result (next_cache c.args.list.now c.args.command.now _ c.args.given.now c.args.phase.now c.in-ReadingCache.is) c.cache_get.ensures
+    ok_by c.cache_get.result (next_cache c.args.list.now c.args.command.now c.args.given.now c.args.phase.now c.in-ReadingCache.is) c.cache_get.ensures
 
 pub returns-in-Deleting : goal.returns-in-Deleting
 returns-in-Deleting c =
@@ -36,5 +36,13 @@ returns-in-Deleting c =
     (next_deletion c.args.list.now c.args.command.now c.args.before.now c.args.kinds.now c.requires.0 c.requires.1 _ _ c.args.given.now c.args.phase.now c.requires.2 c.in-Deleting.is)
     c.deletion_at.ensures
 
-pub returns-in-Over : goal.returns-in-Over
-returns-in-Over c = next_over c.args.list.now c.args.command.now _ c.args.given.now c.args.phase.now c.in-Over.is
+pub returns-in-Asking : goal.returns-in-Asking
+returns-in-Asking c =
+    ok_by c.call_asked.result (next_asking c.args.list.now c.args.command.now _ c.args.given.now c.args.phase.now c.in-Asking.is) c.call_asked.ensures
+
+pub returns-in_ok-copy_call-in-Changing : goal.returns-in_ok-copy_call-in-Changing
+returns-in_ok-copy_call-in-Changing c =
+    ap Some c.in_ok-copy_call-in-Changing.ensures ∙ next_change c.args.list.now c.args.command.now _ c.args.given.now c.args.phase.now c.in-Changing.is
+
+pub returns-in-Denied : goal.returns-in-Denied
+returns-in-Denied c = next_over c.args.list.now c.args.command.now c.args.given.now c.args.phase.now c.in-Denied.is

@@ -4,6 +4,16 @@ use Rattle.cni_verbs.proofs.PhaseSteps.{at_state}
 use Rattle.cni_verbs.proofs.start.first_phase.Goals as goal
 
 pub returns-in-Del : goal.returns-in-Del
-returns-in-Del c = λ list.
-    at_state list c.args.command.now 0 [] c.first_of_del.result
-    (sym (ap (λ verb. start_of verb c.args.command.now) c.in-Del.is)) (c.first_of_del.ensures list)
+returns-in-Del c =
+    at_state c.args.list.now c.args.command.now 0 [] c.first_of_del.result
+    (sym (ap (λ verb. start_of c.args.list.now verb c.args.command.now) c.in-Del.is)) (c.first_of_del.ensures c.args.list.now)
+
+pub returns-in-Check : goal.returns-in-Check
+returns-in-Check c =
+    at_state c.args.list.now c.args.command.now 0 [] c.first_of_check.result
+    (sym (ap (λ verb. start_of c.args.list.now verb c.args.command.now) c.in-Check.is)) c.first_of_check.ensures
+
+pub returns-in-Status : goal.returns-in-Status
+returns-in-Status c =
+    at_state c.args.list.now c.args.command.now 0 [] c.first_of_status.result
+    (sym (ap (λ verb. start_of c.args.list.now verb c.args.command.now) c.in-Status.is)) (c.first_of_status.ensures c.args.command.now)

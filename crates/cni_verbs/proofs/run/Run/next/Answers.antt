@@ -1,8 +1,11 @@
-use Rattle.std.proofs.Common.{◌≡◌, ◌∙◌, None, sym, ap}
+use Rattle.std.proofs.Common.{◌∙◌, ap}
 use Rattle.cni_verbs.specs.Script.{next_call}
-use Rattle.cni_verbs.proofs.NextCalls.{no_list_calls}
+use Rattle.cni_verbs.proofs.NextCalls.{ok_by, outside_next}
 use Rattle.cni_verbs.proofs.run.Run.next.Goals as goal
 
 pub returns-in-None : goal.returns-in-None
 returns-in-None c =
-    sym (ap (λ p. next_call p.command p.state) (sym c.self.view_is) ∙ no_list_calls c.self.inside.list c.self.inside.command c.self.inside.given.items c.self.inside.phase c.in-None.is)
+    ok_by c.next_outside.result
+    (outside_next c.self.inside.list c.self.inside.command c.self.inside.given.items c.self.inside.phase c.in-None.is
+    ∙ ap (λ p. next_call p.command p.state) c.self.view_is)
+    c.next_outside.ensures

@@ -10,7 +10,7 @@ use Rattle.cni_verbs.proofs.run.Run.of_list.Goals as goal
 pub begun-requires-clause-phase : goal.begun-requires-clause-phase
 begun-requires-clause-phase c =
     starts_for c.args.list.now c.in_ok-list_copy.list_copy c.args.command.now c.in_ok-command_copy.command_copy c.in_ok-phase.phase
-    c.in_ok-command_copy.ensures c.in_ok-phase.ensures
+    c.in_ok-list_copy.ensures c.in_ok-command_copy.ensures c.in_ok-phase.ensures
 
 pub begun-requires-clause-before : goal.begun-requires-clause-before
 begun-requires-clause-before c =

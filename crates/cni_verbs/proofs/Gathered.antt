@@ -1,0 +1,34 @@
+-- The calls of an ADD with the addresses of its cached result make what the cached result says that there is.
+use Rattle.std.proofs.Common.{◌≡◌, List, [], ◌++◌, map, refl}
+use Rattle.cni_addr.specs.declared.address.Addr.{Addr}
+use Rattle.cni_result.specs.declared.cached.Cached.{Cached}
+use Rattle.cni_result.specs.declared.cached.PortMapping.{PortMapping}
+use Rattle.cni_result.specs.declared.result.Interface.{Interface}
+use Rattle.net_conf.specs.declared.first.First.{First}
+use Rattle.net_conf.specs.declared.list.NetList.{NetList}
+use Rattle.pod_file.specs.declared.command.Command.{Command}
+use Rattle.kernel_types.specs.declared.object.Att.{Att}
+use Rattle.kernel_types.specs.declared.call.Call.{Call}
+use Rattle.plan_words.specs.Shapes.{lease_of}
+use Rattle.plan_words.specs.Share.{Share, no_objects, share_after_calls}
+use Rattle.cni_verbs.specs.CommandWords.{att_of}
+use Rattle.cni_verbs.specs.Questions.{bridge_questions, share_questions, addresses_in, cached_share}
+use Rattle.cni_verbs.specs.Wanted.{calls_before, back_calls}
+use Rattle.cni_verbs.specs.declared.answer.Question.{Question}
+use Rattle.cni_verbs.proofs.WantedShare.{makes-wanted}
+
+pub gathered : (list : NetList) (c : Command) (cached : Cached) (att : Att) (addrs leased given : List Addr) (mappings : List PortMapping) (before first back second : List Call) (none made with_leases all : Share)
+    → att ≡ att_of c → addrs ≡ addresses_in cached.result → mappings ≡ cached.mappings
+    → none ≡ no_objects → before ≡ calls_before list.first att cached.netns → first ≡ before → made ≡ share_after_calls none first
+    → leased ≡ addrs → with_leases ≡ record made { leases = map (lease_of att) leased }
+    → given ≡ addrs → back ≡ back_calls list att cached.netns mappings given → second ≡ back → all ≡ share_after_calls with_leases second
+    → all ≡ cached_share list c cached
+gathered list c cached att addrs leased given mappings before first back second none made with_leases all is_att is_addrs is_mappings is_none is_before is_first is_made is_leased is_leases is_given is_back is_second is_all =
+    rw (is_all, is_second, is_back, is_leases, is_made, is_first, is_before, is_none, is_leased, is_given, is_mappings, is_addrs, is_att)
+    (makes-wanted list (att_of c) cached.netns cached.mappings (addresses_in cached.result))
+
+-- the questions of the bridge and of what was gathered are all that a check asks
+pub checked : (first : First) (listed interfaces : List Interface) (none front all : List Question) (made said : Share)
+    → none ≡ [] → listed ≡ interfaces → front ≡ none ++ bridge_questions first listed → made ≡ said → all ≡ front ++ share_questions made
+    → all ≡ bridge_questions first interfaces ++ share_questions said
+checked first listed interfaces none front all made said is_none is_listed is_front is_made is_all = rw (is_all, is_front, is_none, is_listed, is_made) refl

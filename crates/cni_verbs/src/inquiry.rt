@@ -1,0 +1,100 @@
+//! What a CHECK or a STATUS asks, one question at a time.
+
+ghost use Rattle.std.specs.Prelude.{◌≡◌, IfOk, length, option_map, slice_get};
+ghost use Rattle.cni_verbs.specs.Phases.{IsReady, questions_about};
+
+use crate::answer::Question;
+use crate::call_copy::copy_call;
+use crate::questions::{check_questions, status_questions};
+use cni_addr::{Items, NoMemory};
+use cni_result::Cached;
+use kernel_types::Call;
+use net_conf::NetList;
+use pod_file::Command;
+use std::alloc::Global;
+
+/// What is asked, and how far. A CHECK has the cached entry that it asks about, a STATUS has none.
+#[derive(Drop)]
+pub(crate) struct Inquiry {
+    pub about: Option<Cached>,
+    /// So many questions were answered with yes.
+    pub passed: usize,
+    /// The list of them is made when it is first asked for.
+    pub questions: Option<Items<Question>>,
+}
+
+impl Inquiry {
+    /// What is asked, and how far, handed on. What stays behind asks nothing of use.
+    pub(crate) fn hand_on(&mut self) -> Inquiry
+        ensures { result ≡ self.old }
+    {
+        Inquiry {
+            about: self.about.take(),
+            passed: self.passed,
+            questions: self.questions.take(),
+        }
+    }
+}
+
+/// The questions of a CHECK about this cached entry, or of a STATUS.
+pub(crate) fn questions_about(
+    alloc: Global,
+    list: &NetList,
+    command: &Command,
+    about: &Option<Cached>,
+) -> Result<Items<Question>, NoMemory>
+    ensures { IfOk result (λ questions. questions ≡ questions_about list.now command.now about.now) }
+{
+    match about {
+        Some(cached) => check_questions(alloc, list, command, cached),
+        None => status_questions(alloc, list, command),
+    }
+}
+
+fn call_of(questions: &[Question], place: usize) -> Result<Option<Call>, NoMemory>
+    ensures { IfOk result (λ next. next ≡ option_map (λ question. question.call) (slice_get questions.now place)) }
+{
+    match questions.get(place) {
+        Some(question) => Ok(Some(copy_call(&question.call)?)),
+        None => Ok(None),
+    }
+}
+
+/// The call of the question that is asked next, or none where all were answered.
+pub(crate) fn call_asked(
+    alloc: Global,
+    list: &NetList,
+    command: &Command,
+    inquiry: &Inquiry,
+) -> Result<Option<Call>, NoMemory>
+    requires { IsReady list.now command.now inquiry.now }
+    ensures { IfOk result (λ next. next ≡ option_map (λ question. question.call) (slice_get (questions_about list.now command.now inquiry.now.about) inquiry.now.passed)) }
+{
+    match &inquiry.questions {
+        Some(questions) => call_of(questions.as_slice(), inquiry.passed),
+        None => {
+            let questions = questions_about(alloc, list, command, &inquiry.about)?;
+            call_of(questions.as_slice(), inquiry.passed)
+        }
+    }
+}
+
+/// How many questions there are, with those that were answered.
+pub(crate) fn count_asked(
+    alloc: Global,
+    list: &NetList,
+    command: &Command,
+    inquiry: &Inquiry,
+) -> Result<usize, NoMemory>
+    requires { IsReady list.now command.now inquiry.now }
+    ensures { IfOk result (λ count. count ≡ length (questions_about list.now command.now inquiry.now.about)) }
+{
+    match &inquiry.questions {
+        Some(questions) => Ok(questions.as_slice().len()),
+        None => Ok(
+            questions_about(alloc, list, command, &inquiry.about)?
+                .as_slice()
+                .len(),
+        ),
+    }
+}

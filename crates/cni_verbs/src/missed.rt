@@ -1,0 +1,91 @@
+//! What a check missed, as its error names it.
+
+ghost use Rattle.std.specs.Prelude.{◌≡◌, ◌++◌, codes, IfOk};
+ghost use Rattle.cni_addr.specs.CidrText.{cidr_text};
+ghost use Rattle.cni_verbs.specs.Answers as answers;
+
+use crate::answer::Missed;
+use cni_addr::{Addr, Cidr, NoMemory, Text, write_addr, write_cidr};
+use kernel_text::words::{chain_text, table_text};
+use kernel_types::{Chain, Table};
+use std::alloc::Global;
+
+fn place_text(ns: &str) -> &str
+    ensures { result.now ≡ answers.place_text ns.entry.now }
+{
+    if ns.is_empty() { "-" } else { ns }
+}
+
+fn bridge_text(alloc: Global, name: &Text) -> Result<Text, NoMemory>
+    ensures { IfOk result (λ text. text ≡ codes "bridge " ++ name.now) }
+{
+    let name = name.as_str();
+    Text::of(alloc, format!(in alloc; "bridge {name}")?.as_str())
+}
+
+/// What has a name of its own in a namespace, after the word for what it is.
+fn named_text(alloc: Global, word: &str, ns: &Text, name: &Text) -> Result<Text, NoMemory>
+    ensures { IfOk result (λ text. text ≡ word.now ++ codes " " ++ answers.place_text ns.now ++ codes " " ++ name.now) }
+{
+    let place = place_text(ns.as_str());
+    let name = name.as_str();
+    Text::of(alloc, format!(in alloc; "{word} {place} {name}")?.as_str())
+}
+
+/// What a link has of a network, after the word for what it is.
+fn on_link_text(
+    alloc: Global,
+    word: &str,
+    ns: &Text,
+    link: &Text,
+    cidr: &Cidr,
+) -> Result<Text, NoMemory>
+    ensures { IfOk result (λ text. text ≡ word.now ++ codes " " ++ answers.place_text ns.now ++ codes " " ++ link.now ++ codes " " ++ cidr_text cidr.now) }
+{
+    let place = place_text(ns.as_str());
+    let link = link.as_str();
+    let cidr = write_cidr(alloc, cidr)?;
+    let network = cidr.as_str();
+    Text::of(
+        alloc,
+        format!(in alloc; "{word} {place} {link} {network}")?.as_str(),
+    )
+}
+
+fn rule_text(alloc: Global, table: Table, chain: Chain, number: u64) -> Result<Text, NoMemory>
+    ensures { IfOk result (λ text. text ≡ answers.missed_text (Missed.Rule table chain number)) }
+{
+    let table = table_text(table);
+    let chain = chain_text(chain);
+    Text::of(
+        alloc,
+        format!(in alloc; "rule {table} {chain} {number}")?.as_str(),
+    )
+}
+
+fn lease_text(alloc: Global, addr: &Addr) -> Result<Text, NoMemory>
+    ensures { IfOk result (λ text. text ≡ answers.missed_text (Missed.Lease addr.now)) }
+{
+    let addr = write_addr(alloc, addr)?;
+    let address = addr.as_str();
+    Text::of(alloc, format!(in alloc; "lease {address}")?.as_str())
+}
+
+/// What was missed: an object by its key, a rule by its place. The host's namespace is written `-`. The spelling is this project's own.
+pub(crate) fn missed_text(alloc: Global, missed: &Missed) -> Result<Text, NoMemory>
+    ensures { IfOk result (λ text. text ≡ answers.missed_text missed.now) }
+{
+    match missed {
+        Missed::Bridge(name) => bridge_text(alloc, name),
+        Missed::Link { ns, name } => named_text(alloc, "link", ns, name),
+        Missed::Address { ns, link, cidr } => on_link_text(alloc, "address", ns, link, cidr),
+        Missed::Route { ns, link, dst } => on_link_text(alloc, "route", ns, link, dst),
+        Missed::Rule {
+            table,
+            chain,
+            number,
+        } => rule_text(alloc, *table, *chain, *number),
+        Missed::Setting { ns, key } => named_text(alloc, "setting", ns, key),
+        Missed::Lease(addr) => lease_text(alloc, addr),
+    }
+}

@@ -1,0 +1,60 @@
+//! What the next call is looked up in, made ahead.
+
+ghost use Rattle.std.specs.Prelude.{◌≡◌};
+ghost use Rattle.cni_verbs.specs.Phases.{IsReady, IsSameButPrepared};
+
+use crate::inquiry::{Inquiry, questions_about};
+use crate::next::back_of;
+use crate::phase::Phase;
+use cni_addr::{Addr, NoMemory};
+use net_conf::NetList;
+use pod_file::Command;
+use std::alloc::Global;
+
+fn prepare_inquiry(
+    alloc: Global,
+    list: &NetList,
+    command: &Command,
+    inquiry: &mut Inquiry,
+) -> Result<(), NoMemory>
+    ensures about { inquiry.new.about ≡ inquiry.old.about }
+    ensures passed { inquiry.new.passed ≡ inquiry.old.passed }
+    ensures ready { IsReady list.now command.now inquiry.old → IsReady list.now command.now inquiry.new }
+{
+    if inquiry.questions.is_none() {
+        let questions = questions_about(alloc, list, command, &inquiry.about)?;
+        inquiry.questions = Some(questions);
+    }
+    Ok(())
+}
+
+/// Makes the calls after the leases or the questions, where the phase asks for them and they aren't made. The phase means
+/// the same, whether memory lacks or not.
+pub(crate) fn prepare_phase(
+    alloc: Global,
+    list: &NetList,
+    command: &Command,
+    given: &[Addr],
+    phase: &mut Phase,
+) -> Result<(), NoMemory>
+    ensures { IsSameButPrepared list.now command.now given.now phase.old phase.new }
+{
+    match phase {
+        Phase::AfterLeases { passed: _, calls } => {
+            if calls.is_none() {
+                *calls = Some(back_of(alloc, list, command, given)?);
+            }
+            Ok(())
+        }
+        Phase::Asking(inquiry) => prepare_inquiry(alloc, list, command, inquiry),
+        Phase::AtBegin
+        | Phase::BeforeLeases(_)
+        | Phase::Leasing
+        | Phase::ReadingCache(_)
+        | Phase::Deleting(_, _)
+        | Phase::FindingEntry
+        | Phase::Denied(_)
+        | Phase::Changing(_)
+        | Phase::Over(_) => Ok(()),
+    }
+}

@@ -1,0 +1,337 @@
+//! What CHECK and STATUS ask of the kernel.
+
+ghost use Rattle.std.specs.Prelude.{◌≡◌, ◌+◌, ◌++◌, ◌∷◌, [], map, IfOk, OnOk};
+ghost use Rattle.kernel_types.specs.declared.call.Call.TheVariants as calls;
+ghost use Rattle.cni_verbs.specs.Questions as asked;
+
+use crate::answer::{Cause, Missed, Question};
+use crate::share::{Objects, no_objects};
+use crate::wanted::{back_calls, calls_before, sets_of};
+use crate::words::att_of;
+use cni_addr::{Addr, Duplicate, Items, Mac, NoMemory, RangeSet, Text};
+use cni_result::{AddResult, Cached, Interface};
+use kernel_types::{AddrObj, Call, Lease, Link, Object, Probe, RouteObj, Rule, Setting};
+use net_conf::{First, NetList};
+use pod_file::Command;
+use std::alloc::Global;
+
+// ---- the objects of an attachment
+
+/// An object that a check asks for by itself.
+trait Checked {
+    ghost use Rattle.std.specs.Prelude.{◌≡◌, IfOk};
+    ghost use Rattle.cni_verbs.specs.declared.answer.Question.{Question};
+
+    ghost question: { Self → Question };
+
+    /// Whether it is there as it is, and what is missed otherwise.
+    fn ask(&self) -> Result<Question, NoMemory>
+        ensures { IfOk result (λ q. q ≡ question self.now) };
+}
+
+fn asks_for(object: Object, missed: Missed) -> Question
+    ensures { result ≡ asked.asks_for object missed }
+{
+    Question {
+        call: Call::HasObj {
+            probe: Probe::Whole(object),
+        },
+        lack: Cause::Missing(missed),
+    }
+}
+
+impl Checked for Link {
+    ghost use Rattle.cni_verbs.specs.Questions.{link_question};
+
+    ghost question = { link_question };
+
+    fn ask(&self) -> Result<Question, NoMemory> {
+        let missed = Missed::Link {
+            ns: self.ns.copy()?,
+            name: self.name.copy()?,
+        };
+        Ok(asks_for(Object::Link(self.copy()?), missed))
+    }
+}
+
+impl Checked for AddrObj {
+    ghost use Rattle.cni_verbs.specs.Questions.{address_question};
+
+    ghost question = { address_question };
+
+    fn ask(&self) -> Result<Question, NoMemory> {
+        let missed = Missed::Address {
+            ns: self.ns.copy()?,
+            link: self.link.copy()?,
+            cidr: self.cidr,
+        };
+        Ok(asks_for(Object::Address(self.copy()?), missed))
+    }
+}
+
+impl Checked for RouteObj {
+    ghost use Rattle.cni_verbs.specs.Questions.{route_question};
+
+    ghost question = { route_question };
+
+    fn ask(&self) -> Result<Question, NoMemory> {
+        let missed = Missed::Route {
+            ns: self.ns.copy()?,
+            link: self.link.copy()?,
+            dst: self.dst,
+        };
+        Ok(asks_for(Object::Route(self.copy()?), missed))
+    }
+}
+
+impl Checked for Setting {
+    ghost use Rattle.cni_verbs.specs.Questions.{setting_question};
+
+    ghost question = { setting_question };
+
+    fn ask(&self) -> Result<Question, NoMemory> {
+        let missed = Missed::Setting {
+            ns: self.ns.copy()?,
+            key: self.key.copy()?,
+        };
+        Ok(asks_for(Object::Setting(self.copy()?), missed))
+    }
+}
+
+impl Checked for Lease {
+    ghost use Rattle.cni_verbs.specs.Questions.{lease_question};
+
+    ghost question = { lease_question };
+
+    fn ask(&self) -> Result<Question, NoMemory> {
+        let missed = Missed::Lease(self.addr);
+        Ok(asks_for(Object::Lease(self.copy()?), missed))
+    }
+}
+
+fn ask_each<T: Checked>(questions: &mut Vec<Question>, objects: &[T]) -> Result<(), NoMemory>
+    ensures { OnOk result (questions.new.items ≡ questions.old.items ++ map T.question objects.now) }
+{
+    for object in objects {
+        let question = object.ask()?;
+        questions.push(question)?;
+    }
+    Ok(())
+}
+
+fn rule_question(rule: &Rule, number: u64) -> Result<Question, NoMemory>
+    ensures { IfOk result (λ q. q ≡ asked.asks_for (Object.Rule rule.now) (Missed.Rule rule.now.table rule.now.chain number)) }
+{
+    let missed = Missed::Rule {
+        table: rule.table,
+        chain: rule.chain,
+        number,
+    };
+    Ok(asks_for(Object::Rule(rule.copy()?), missed))
+}
+
+fn ask_rules(questions: &mut Vec<Question>, rules: &[Rule]) -> Result<(), NoMemory>
+    ensures { OnOk result (questions.new.items ≡ questions.old.items ++ asked.rule_questions 1 rules.now) }
+{
+    for (place, rule) in rules.iter().enumerate() {
+        let question = rule_question(rule, place as u64 + 1)?;
+        questions.push(question)?;
+    }
+    Ok(())
+}
+
+fn ask_share(questions: &mut Vec<Question>, share: &Objects) -> Result<(), NoMemory>
+    ensures { OnOk result (questions.new.items ≡ questions.old.items ++ asked.share_questions share.now) }
+{
+    ask_each(questions, share.links.as_slice())?;
+    ask_each(questions, share.addresses.as_slice())?;
+    ask_each(questions, share.routes.as_slice())?;
+    ask_rules(questions, share.rules.as_slice())?;
+    ask_each(questions, share.settings.as_slice())?;
+    ask_each(questions, share.leases.as_slice())?;
+    Ok(())
+}
+
+// ---- the bridge
+
+fn bridge_question(name: &Text, mac: Mac) -> Result<Question, NoMemory>
+    ensures { IfOk result (λ q. q ≡ record { call = calls.HasObj (Probe.BridgeAt name.now mac); lack = Cause.Missing (Missed.Bridge name.now) }) }
+{
+    let bridge = name.copy()?;
+    let missed = name.copy()?;
+    Ok(Question {
+        call: Call::HasObj {
+            probe: Probe::BridgeAt { name: bridge, mac },
+        },
+        lack: Cause::Missing(Missed::Bridge(missed)),
+    })
+}
+
+fn ask_bridge_by_mac(
+    questions: &mut Vec<Question>,
+    name: &Text,
+    mac: Option<Mac>,
+) -> Result<(), NoMemory>
+    ensures { OnOk result (questions.new.items ≡ questions.old.items ++ asked.bridge_by_mac name.now mac) }
+{
+    match mac {
+        Some(mac) => {
+            let question = bridge_question(name, mac)?;
+            questions.push(question)?;
+            Ok(())
+        }
+        None => Ok(()),
+    }
+}
+
+fn ask_first_interface(
+    questions: &mut Vec<Question>,
+    interfaces: &[Interface],
+) -> Result<(), NoMemory>
+    ensures { OnOk result (questions.new.items ≡ questions.old.items ++ asked.first_interface interfaces.now) }
+{
+    match interfaces {
+        [first, ..] => ask_bridge_by_mac(questions, &first.name, first.mac),
+        [] => Ok(()),
+    }
+}
+
+fn ask_bridge(
+    questions: &mut Vec<Question>,
+    first: &First,
+    interfaces: &[Interface],
+) -> Result<(), NoMemory>
+    ensures { OnOk result (questions.new.items ≡ questions.old.items ++ asked.bridge_questions first.now interfaces.now) }
+{
+    match first {
+        First::Bridge(_) => ask_first_interface(questions, interfaces),
+        First::Ptp(_) | First::Macvlan(_) => Ok(()),
+    }
+}
+
+// ---- CHECK
+
+fn addresses_in(alloc: Global, added: &AddResult) -> Result<Vec<Addr>, NoMemory>
+    ensures { IfOk result (λ addrs. addrs.items ≡ asked.addresses_in added.now) }
+{
+    let ips = added.ips.as_slice();
+    let mut addrs = Vec::with_capacity(alloc, ips.len())?;
+    for ip in ips {
+        addrs.push(ip.address.addr)?;
+    }
+    Ok(addrs)
+}
+
+fn cached_share(
+    alloc: Global,
+    list: &NetList,
+    command: &Command,
+    cached: &Cached,
+) -> Result<Objects, NoMemory>
+    ensures { IfOk result (λ share. share ≡ asked.cached_share list.now command.now cached.now) }
+{
+    let att = att_of(command)?;
+    let addrs = addresses_in(alloc, &cached.result)?;
+    let mappings = cached.mappings.copy()?;
+    let mut share = no_objects(alloc);
+    let before = calls_before(alloc, &list.first, &att, &cached.netns)?;
+    share.take_calls(before.as_slice())?;
+    share.take_leases(alloc, &att, addrs.as_slice())?;
+    let back = back_calls(alloc, list, &att, &cached.netns, mappings, addrs.as_slice())?;
+    share.take_calls(back.as_slice())?;
+    Ok(share)
+}
+
+/// The questions of a CHECK: the bridge that the cached result names, then each object that the attachment was to
+/// have: links, addresses, routes, rules, settings, leases. Linear in the calls of the ADD and the links.
+pub(crate) fn check_questions(
+    alloc: Global,
+    list: &NetList,
+    command: &Command,
+    cached: &Cached,
+) -> Result<Items<Question>, NoMemory>
+    ensures { IfOk result (λ questions. questions ≡ asked.check_questions list.now command.now cached.now) }
+{
+    let mut questions = Vec::new(alloc);
+    ask_bridge(
+        &mut questions,
+        &list.first,
+        cached.result.interfaces.as_slice(),
+    )?;
+    let share = cached_share(alloc, list, command, cached)?;
+    ask_share(&mut questions, &share)?;
+    Ok(Items::of_vec(questions))
+}
+
+// ---- STATUS
+
+fn pool_question(network: &Text, place: usize, set: &RangeSet) -> Result<Question, NoMemory>
+    ensures { IfOk result (λ q. q ≡ record { call = calls.PoolFree network.now set.now; lack = Cause.NoFreeAddress place }) }
+{
+    // A list is read with 65,536 sets at most.
+    let Ok(number) = u32::try_from(place) else {
+        return Err(NoMemory);
+    };
+    let network = network.copy()?;
+    let set = set.copy()?;
+    Ok(Question {
+        call: Call::PoolFree { network, set },
+        lack: Cause::NoFreeAddress(number),
+    })
+}
+
+fn ask_pools(
+    questions: &mut Vec<Question>,
+    network: &Text,
+    sets: &[RangeSet],
+) -> Result<(), NoMemory>
+    ensures { OnOk result (questions.new.items ≡ questions.old.items ++ asked.pool_questions network.now 0 sets.now) }
+{
+    for (place, set) in sets.iter().enumerate() {
+        let question = pool_question(network, place, set)?;
+        questions.push(question)?;
+    }
+    Ok(())
+}
+
+fn master_question(name: &Text) -> Result<Question, NoMemory>
+    ensures { IfOk result (λ q. q ≡ record { call = calls.HasObj (Probe.Master name.now); lack = Cause.MasterAbsent name.now }) }
+{
+    let master = name.copy()?;
+    let absent = name.copy()?;
+    Ok(Question {
+        call: Call::HasObj {
+            probe: Probe::Master { name: master },
+        },
+        lack: Cause::MasterAbsent(absent),
+    })
+}
+
+fn ask_master(questions: &mut Vec<Question>, first: &First) -> Result<(), NoMemory>
+    ensures { OnOk result (questions.new.items ≡ questions.old.items ++ asked.master_questions first.now) }
+{
+    match first {
+        First::Macvlan(conf) => {
+            let question = master_question(&conf.master)?;
+            questions.push(question)?;
+            Ok(())
+        }
+        First::Bridge(_) | First::Ptp(_) => Ok(()),
+    }
+}
+
+/// The questions of a STATUS: a free address in each range set, then the master of `macvlan`. A list with 2^32 sets or
+/// more is refused as for want of memory.
+#[tactic(auto, unfolding(crate::specs::Questions::status_questions))]
+pub(crate) fn status_questions(
+    alloc: Global,
+    list: &NetList,
+    command: &Command,
+) -> Result<Items<Question>, NoMemory>
+    ensures { IfOk result (λ questions. questions ≡ asked.status_questions list.now command.now) }
+{
+    let mut questions = Vec::new(alloc);
+    ask_pools(&mut questions, &command.network, sets_of(list))?;
+    ask_master(&mut questions, &list.first)?;
+    Ok(Items::of_vec(questions))
+}

@@ -1,0 +1,232 @@
+//! The objects of an attachment, gathered from the calls that make them.
+
+ghost use Rattle.std.specs.Prelude.{◌≡◌, ◌++◌, ◌∷◌, [], map, OnOk};
+ghost use Rattle.kernel_types.specs.Apply.Calls.{is_own_at, set_link, with_values};
+ghost use Rattle.kernel_types.specs.Words.{is_own};
+ghost use Rattle.plan_words.specs.Share.{no_objects, share_after_call, share_after_calls};
+ghost use Rattle.plan_words.specs.Shapes as shapes;
+
+use cni_addr::{Addr, Duplicate, Mac, NoMemory};
+use cni_result::Cached;
+use kernel_types::{
+    AddrObj, Att, CachedObj, Call, Lease, Link, LinkKey, RouteObj, Rule, Setting, Tag,
+};
+use plan_words::lease_of;
+use std::alloc::Global;
+use std::marker::Model;
+
+/// Objects of one attachment, list by list.
+#[derive(Drop)]
+pub(crate) struct Objects {
+    pub(crate) links: Vec<Link>,
+    pub(crate) addresses: Vec<AddrObj>,
+    pub(crate) routes: Vec<RouteObj>,
+    pub(crate) rules: Vec<Rule>,
+    pub(crate) settings: Vec<Setting>,
+    pub(crate) leases: Vec<Lease>,
+    pub(crate) cached: Vec<CachedObj>,
+}
+
+impl Model for Objects {
+    ghost use Rattle.plan_words.specs.Share.{Share};
+
+    ghost Value = { Share };
+
+    ghost view = { λ o. record { links = o.links.items; addresses = o.addresses.items; routes = o.routes.items; rules = o.rules.items; settings = o.settings.items; leases = o.leases.items; cached = o.cached.items } };
+}
+
+/// None of any kind. Takes no memory.
+pub(crate) fn no_objects(alloc: Global) -> Objects
+    ensures { result ≡ no_objects }
+{
+    Objects {
+        links: Vec::new(alloc),
+        addresses: Vec::new(alloc),
+        routes: Vec::new(alloc),
+        rules: Vec::new(alloc),
+        settings: Vec::new(alloc),
+        leases: Vec::new(alloc),
+        cached: Vec::new(alloc),
+    }
+}
+
+// ---- the values of a link
+
+fn is_own(att: &Att, tag: &Tag) -> bool
+    ensures { result ≡ is_own att.now tag.now }
+{
+    match tag {
+        Tag::Own(own) => own == att,
+        Tag::Outside | Tag::Base => false,
+    }
+}
+
+fn is_own_at(att: &Att, key: &LinkKey, link: &Link) -> bool
+    ensures { result ≡ is_own_at att.now key.now link.now }
+{
+    link.ns == key.ns && link.name == key.name && is_own(att, &link.tag)
+}
+
+/// Gives the link the values that are there; a mode is never turned off.
+fn set_values(
+    link: &mut Link,
+    mac: Option<Mac>,
+    mtu: Option<u32>,
+    tx_qlen: Option<u32>,
+    promisc: bool,
+    allmulti: bool,
+)
+    ensures { link.new ≡ with_values mac mtu tx_qlen promisc allmulti link.old }
+{
+    link.mac = mac.unwrap_or(link.mac);
+    link.mtu = mtu.unwrap_or(link.mtu);
+    link.tx_qlen = tx_qlen.unwrap_or(link.tx_qlen);
+    link.promisc = promisc || link.promisc;
+    link.allmulti = allmulti || link.allmulti;
+}
+
+fn set_link(
+    link: &mut Link,
+    att: &Att,
+    key: &LinkKey,
+    mac: Option<Mac>,
+    mtu: Option<u32>,
+    tx_qlen: Option<u32>,
+    promisc: bool,
+    allmulti: bool,
+)
+    ensures { link.new ≡ set_link att.now key.now mac mtu tx_qlen promisc allmulti link.old }
+{
+    if is_own_at(att, key, link) {
+        set_values(link, mac, mtu, tx_qlen, promisc, allmulti);
+    }
+}
+
+/// Gives the attachment's link at the place its values.
+fn set_links(
+    links: &mut Vec<Link>,
+    att: &Att,
+    key: &LinkKey,
+    mac: Option<Mac>,
+    mtu: Option<u32>,
+    tx_qlen: Option<u32>,
+    promisc: bool,
+    allmulti: bool,
+)
+    ensures { links.new.items ≡ map (set_link att.now key.now mac mtu tx_qlen promisc allmulti) links.old.items }
+{
+    for link in links.iter_mut() {
+        set_link(link, att, key, mac, mtu, tx_qlen, promisc, allmulti);
+    }
+}
+
+// ---- calls
+
+/// Puts an equal item at the end.
+fn push<T: Duplicate + Drop>(list: &mut Vec<T>, item: &T) -> Result<(), NoMemory>
+    ensures { OnOk result (list.new.items ≡ list.old.items ++ item.now ∷ []) }
+{
+    let twin = item.copy()?;
+    list.push(twin)?;
+    Ok(())
+}
+
+fn push_both(links: &mut Vec<Link>, first: &Link, second: &Link) -> Result<(), NoMemory>
+    ensures { OnOk result (links.new.items ≡ links.old.items ++ first.now ∷ second.now ∷ []) }
+{
+    push(links, first)?;
+    push(links, second)
+}
+
+fn push_cached(list: &mut Vec<CachedObj>, att: &Att, cached: &Cached) -> Result<(), NoMemory>
+    ensures { OnOk result (list.new.items ≡ list.old.items ++ record { cached = cached.now; tag = Tag.Own att.now } ∷ []) }
+{
+    let cached = cached.copy()?;
+    let tag = Tag::Own(att.copy()?);
+    list.push(CachedObj { cached, tag })?;
+    Ok(())
+}
+
+impl Objects {
+    /// Takes what the call makes of its attachment's objects. What a lease gives is in its reply, and not taken here.
+    fn take_call(&mut self, call: &Call) -> Result<(), NoMemory>
+        ensures { OnOk result (self.new ≡ share_after_call self.old call.now) }
+    {
+        match call {
+            Call::VethAdd {
+                host_end,
+                inner_end,
+            } => push_both(&mut self.links, host_end, inner_end),
+            Call::MacvlanAdd { link } => push(&mut self.links, link),
+            Call::LinkSet {
+                att,
+                key,
+                mac,
+                mtu,
+                tx_qlen,
+                promisc,
+                allmulti,
+            } => {
+                set_links(
+                    &mut self.links,
+                    att,
+                    key,
+                    *mac,
+                    *mtu,
+                    *tx_qlen,
+                    *promisc,
+                    *allmulti,
+                );
+                Ok(())
+            }
+            Call::AddrAdd { obj } => push(&mut self.addresses, obj),
+            Call::RouteAdd { obj } => push(&mut self.routes, obj),
+            Call::RuleAppend { rule } => push(&mut self.rules, rule),
+            Call::SettingSet { setting } => push(&mut self.settings, setting),
+            Call::CachePut { att, cached } => push_cached(&mut self.cached, att, cached),
+            Call::Begin { .. }
+            | Call::BridgeEnsure { .. }
+            | Call::GatewayEnsure { .. }
+            | Call::ForwardEnsure { .. }
+            | Call::LeaseNext { .. }
+            | Call::LinkDel { .. }
+            | Call::RuleDel { .. }
+            | Call::SettingDel { .. }
+            | Call::LeaseDel { .. }
+            | Call::CacheDel { .. }
+            | Call::HasObj { .. }
+            | Call::CacheGet { .. }
+            | Call::OwnersOf { .. }
+            | Call::PoolFree { .. }
+            | Call::NsChange { .. }
+            | Call::Outside { .. } => Ok(()),
+        }
+    }
+
+    /// Takes what the calls make, one after another.
+    pub(crate) fn take_calls(&mut self, calls: &[Call]) -> Result<(), NoMemory>
+        ensures { OnOk result (self.new ≡ share_after_calls self.old calls.now) }
+    {
+        for call in calls {
+            self.take_call(call)?;
+        }
+        Ok(())
+    }
+
+    /// Takes the leases of the addresses, in place of the leases that were there.
+    pub(crate) fn take_leases(
+        &mut self,
+        alloc: Global,
+        att: &Att,
+        addrs: &[Addr],
+    ) -> Result<(), NoMemory>
+        ensures { OnOk result (self.new ≡ record self.old { leases = map (shapes.lease_of att.now) addrs.now }) }
+    {
+        let mut leases = Vec::with_capacity(alloc, addrs.len())?;
+        for addr in addrs {
+            leases.push(lease_of(att, *addr)?)?;
+        }
+        self.leases = leases;
+        Ok(())
+    }
+}
