@@ -1,0 +1,267 @@
+-- Each call of a collection lowers a weight, so there are few.
+use Rattle.std.proofs.Common.{◌≡◌, ℕ, ◌+◌, ◌*◌, ◌<◌, ◌≤◌, Bool, true, false, not, cond, ap, List, [], ◌∷◌, ◌++◌, length, Some, None, refl, sym, ◌∙◌, subst, inl, inr, arith, suc-mul, mul-add, mul-le-mul_right, length-append}
+use Rattle.std.proofs.lemmas.List.{length-map}
+use Rattle.std.specs.Prelude.{filter, map, ◌||◌}
+use Rattle.std.specs.List.{list_any, list_all, filter_map, cons_option}
+use Rattle.std.specs.Str.{bytes_eq}
+use Rattle.std.proofs.lemmas.Option.{same_Some, none-some}
+use Rattle.std.proofs.lemmas.List.Folds.{list_all-append}
+use Rattle.kernel_types.specs.Equal.{att_eq}
+use Rattle.kernel_types.specs.Lists.{firsts, distinct, without_first}
+use Rattle.kernel_types.specs.Words.{is_own}
+use Rattle.kernel_types.specs.Apply.Calls.{tags_of, owner_in}
+use Rattle.kernel_types.specs.Replies.{is_fault}
+use Rattle.kernel_types.specs.Sound.{IsSound}
+use Rattle.kernel_types.specs.declared.object.Att.{Att}
+use Rattle.kernel_types.specs.declared.object.Tag.{Tag}
+use Rattle.kernel_types.specs.declared.object.Tag.TheVariants.{Outside, Base, Own}
+use Rattle.kernel_types.specs.declared.object.Host.{Host}
+use Rattle.kernel_types.specs.declared.object.Link.{Link}
+use Rattle.kernel_types.specs.declared.object.AddrObj.{AddrObj}
+use Rattle.kernel_types.specs.declared.object.RouteObj.{RouteObj}
+use Rattle.kernel_types.specs.declared.object.Rule.{Rule}
+use Rattle.kernel_types.specs.declared.object.Setting.{Setting}
+use Rattle.kernel_types.specs.declared.object.Lease.{Lease}
+use Rattle.kernel_types.specs.declared.object.CachedObj.{CachedObj}
+use Rattle.kernel_types.specs.declared.call.Call.{Call}
+use Rattle.kernel_types.specs.declared.call.Call.TheVariants.{OwnersOf}
+use Rattle.kernel_types.specs.declared.call.Kind.{Kind}
+use Rattle.kernel_types.specs.declared.call.Kind.TheVariants.{Links, Rules, Settings, Leases, Cached}
+use Rattle.kernel_types.specs.declared.call.Reply.{Reply}
+use Rattle.kernel_types.specs.declared.call.Reply.TheVariants.{Gone}
+use Rattle.kernel_types.proofs.Cases.{att_eq-refl}
+use Rattle.kernel_types.proofs.Isolation.{att_eq-same}
+use Rattle.kernel_types.proofs.ListLemmas.{distinct-filter, list_all-filter}
+use Rattle.kernel_types.proofs.TouchRemoval.{list_all-both}
+use Rattle.net_conf.specs.declared.list.NetList.{NetList}
+use Rattle.pod_file.specs.declared.command.ValidAtt.{ValidAtt}
+use Rattle.cni_verbs.specs.Script.{call_of_work, gc_of}
+use Rattle.cni_verbs.specs.Sweep.{Gc, Step, Look, Delete, Sweep, Job, is_valid, step_call, job_of, after_step, worked}
+use Rattle.cni_verbs.specs.Wanted.{deletion, kinds_of, first_kinds, chained_kinds_reversed}
+use Rattle.gc_sweep.specs.Bound.{stale_owners, all_tags, objects_by, kinds_over_plugins, GcBound}
+use Rattle.gc_sweep.specs.Keep.{goes, IsWithin}
+use Rattle.gc_sweep.specs.Trace.{Made, host_by, reply_by, host_on}
+use Rattle.gc_sweep.proofs.Covered.{WorkKept, Next, work_step, work_start}
+use Rattle.gc_sweep.proofs.Deletions.{deletes}
+use Rattle.gc_sweep.proofs.Kept.{tags_within}
+use Rattle.gc_sweep.proofs.Lists.{list_all-none, list_all-sublist}
+use Rattle.gc_sweep.proofs.Machine.{Point, start_point, point_after, IsTrail}
+use Rattle.gc_sweep.proofs.Owners.{is_stale, goes_own, own_goes, owners_cover, owners_stale, has_att, list_all-firsts}
+use Rattle.gc_sweep.proofs.Runs.{trail, early_or, early_makes_none}
+use Rattle.gc_sweep.proofs.Weights.{jobs_weight, total, weight}
+
+-- ---- no more distinct owners than there are
+
+none_filtered : (x : Att) (xs : List Att) → list_any (att_eq x) (filter (λ y. not (att_eq x y)) xs) ≡ false
+none_filtered x [] = refl
+none_filtered x (y ∷ ys) = grind (arith, none_filtered x ys)
+
+distinct-firsts : (xs : List Att) → distinct att_eq (firsts att_eq xs) ≡ true
+distinct-firsts [] = refl
+distinct-firsts (x ∷ xs) = let rest = distinct-filter att_eq (λ y. not (att_eq x y)) (firsts att_eq xs) (distinct-firsts xs) in grind (arith, rest, none_filtered x (firsts att_eq xs))
+
+list_any-without_other : {X : Type 0} (p q : X → Bool) → ((y : X) → q y ≡ true → p y ≡ false) → (ys : List X) → list_any p ys ≡ true → list_any p (without_first q ys) ≡ true
+list_any-without_other p q w [] h = h
+list_any-without_other p q w (y ∷ ys) h = grind (arith, h, w y, list_any-without_other p q w ys)
+
+length-without_first : {X : Type 0} (q : X → Bool) (ys : List X) → list_any q ys ≡ true → length (without_first q ys) < length ys
+length-without_first q [] h = cc
+length-without_first q (y ∷ ys) h = grind (arith, h, length-without_first q ys)
+
+by_bool : {C : Type 0} (b : Bool) → (b ≡ true → C) → (b ≡ false → C) → C
+by_bool true h g = h refl
+by_bool false h g = g refl
+
+apart_same : (x a y : Att) → not (att_eq x a) ≡ true → att_eq x y ≡ true → att_eq a y ≡ false
+apart_same x a y differ xy =
+    by_bool (att_eq a y)
+    (λ ay. let e : a ≡ x = att_eq-same a y ay ∙ sym (att_eq-same x y xy) in let same : att_eq x a ≡ true = rw e (att_eq-refl x) in grind (arith, differ, same))
+    (λ e. e)
+
+pigeon : (xs ys : List Att) → distinct att_eq xs ≡ true → list_all (λ a. list_any (att_eq a) ys) xs ≡ true → length xs ≤ length ys
+pigeon [] ys d h = omega arith
+pigeon (x ∷ xs) ys d h =
+    let here : list_any (att_eq x) ys ≡ true = grind (arith, h) in
+    let shorter = length-without_first (att_eq x) ys here in
+    let others = list_all-none (att_eq x) xs (grind (arith, d)) in
+    let later : list_all (λ a. list_any (att_eq a) (without_first (att_eq x) ys)) xs ≡ true =
+    list_all-both (λ a. not (att_eq x a)) (λ a. list_any (att_eq a) ys) (λ a. list_any (att_eq a) (without_first (att_eq x) ys))
+    (λ a differ there. list_any-without_other (att_eq a) (att_eq x) (λ y xy. apart_same x a y differ xy) ys there) xs others (grind (arith, h)) in
+    let rest = pigeon xs (without_first (att_eq x) ys) (grind (arith, d)) later in
+    omega arith
+
+abbrev is_in : List ℕ → List ValidAtt → List Att → Tag → Bool
+is_in network valid ys t = not (goes network valid t) || has_att ys t
+
+in_case : (b : Bool) (a : Att) (p : Tag → Bool) (xs : List Att) → p (Own a) ≡ true → list_all (λ x. p (Own x)) xs ≡ true → list_all (λ x. p (Own x)) (cons_option (cond b (Some a) None) xs) ≡ true
+in_case true a p xs e h = grind (arith, e, h)
+in_case false a p xs e h = h
+
+tags_owners : (network : List ℕ) (p : Tag → Bool) (ts : List Tag) → list_all p ts ≡ true → list_all (λ x. p (Own x)) (filter_map (owner_in network) ts) ≡ true
+tags_owners network p [] h = refl
+tags_owners network p (Outside ∷ ts) h = tags_owners network p ts (grind (arith, h))
+tags_owners network p (Base ∷ ts) h = tags_owners network p ts (grind (arith, h))
+tags_owners network p (Own a ∷ ts) h = in_case (bytes_eq a.network network) a p (filter_map (owner_in network) ts) (grind (arith, h)) (tags_owners network p ts (grind (arith, h)))
+
+-- where each tag that goes has its owner among those of the second list
+fewer_owners : (network : List ℕ) (valid : List ValidAtt) (few many : List Tag) → ((p : Tag → Bool) → list_all p many ≡ true → list_all p few ≡ true)
+    → length (stale_owners network valid few) ≤ length (stale_owners network valid many)
+fewer_owners network valid few many sub =
+    let ys = stale_owners network valid many in
+    let named : list_all (λ x. is_in network valid ys (Own x)) (filter_map (owner_in network) few) ≡ true = tags_owners network (is_in network valid ys) few (sub (is_in network valid ys) (owners_cover network valid many)) in
+    let first = list_all-firsts (λ x. is_in network valid ys (Own x)) (filter_map (owner_in network) few) named in
+    let kept = list_all-filter (λ x. is_in network valid ys (Own x)) (λ a. not (is_valid valid a)) (firsts att_eq (filter_map (owner_in network) few)) first in
+    pigeon (stale_owners network valid few) ys (distinct-filter att_eq (λ a. not (is_valid valid a)) _ (distinct-firsts (filter_map (owner_in network) few)))
+    (list_all-both (is_stale network valid) (λ x. is_in network valid ys (Own x)) (λ a. list_any (att_eq a) ys) (λ a s i. grind (arith, s, i, goes_own network valid a)) (stale_owners network valid few) (owners_stale network valid few) kept)
+
+all_of_kind : (p : Tag → Bool) (h : Host) (kind : Kind) → list_all p (all_tags h) ≡ true → list_all p (tags_of h kind) ≡ true
+all_of_kind p h Links a = grind (arith, a, list_all-append {X = Tag})
+all_of_kind p h Rules a = grind (arith, a, list_all-append {X = Tag})
+all_of_kind p h Settings a = grind (arith, a, list_all-append {X = Tag})
+all_of_kind p h Leases a = grind (arith, a, list_all-append {X = Tag})
+all_of_kind p h Cached a = grind (arith, a, list_all-append {X = Tag})
+
+pub owners_at_start : (gc : Gc) (h k : Host) (kind : Kind) → IsWithin k h → length (stale_owners gc.network gc.valid (tags_of k kind)) ≤ length (stale_owners gc.network gc.valid (all_tags h))
+owners_at_start gc h k kind w =
+    fewer_owners gc.network gc.valid (tags_of k kind) (all_tags h) (λ p a. list_all-sublist p (tags_of k kind) (tags_of h kind) (tags_within k h kind w) (all_of_kind p h kind a))
+
+-- ---- each call lowers the weight
+
+jobs_weight-map : (s : Sweep) (xs : List Att) → jobs_weight (map (job_of s) xs) ≡ length xs * (1 + length s.more)
+jobs_weight-map s [] = omega arith
+jobs_weight-map s (x ∷ xs) = let rest = jobs_weight-map s xs in let one = suc-mul (length xs) (1 + length s.more) in omega arith
+
+jobs_weight-after : (att : Att) (more : List Step) (js : List Job) → jobs_weight (after_step att more js) ≡ length more + jobs_weight js
+jobs_weight-after att [] js = omega arith
+jobs_weight-after att (s ∷ more) js = omega arith
+
+abbrev pub Falls : Gc → ℕ → (Tag → Bool) → List Job → List Sweep → Host → Call → Reply → Type 0
+Falls gc m p js ss k call r = weight m p (worked gc js ss r).jobs (worked gc js ss r).sweeps (host_by (is_fault r) k call) < weight m p js ss k
+
+ask_falls : (gc : Gc) (m : ℕ) (p : Tag → Bool) (s : Sweep) (ss : List Sweep) (k : Host) (faulty : Bool) → length (stale_owners gc.network gc.valid (tags_of k s.kind)) ≤ m
+    → Falls gc m p [] (s ∷ ss) k (OwnersOf gc.network s.kind) (reply_by faulty k (OwnersOf gc.network s.kind))
+ask_falls gc m p s ss k true few = omega arith
+ask_falls gc m p s ss k false few =
+    let owners = stale_owners gc.network gc.valid (tags_of k s.kind) in
+    let jobs = jobs_weight-map s owners in
+    let most : length owners * (1 + length s.more) ≤ m * (1 + length s.more) = mul-le-mul_right (1 + length s.more) few in
+    omega arith
+
+drop_falls : (gc : Gc) (m : ℕ) (p : Tag → Bool) (att : Att) (d : Kind) (more : List Step) (js : List Job) (ss : List Sweep) (k : Host) → ((t : Tag) → is_own att t ≡ true → p t ≡ true) → IsSound k
+    → (b : Bool) → list_any (is_own att) (tags_of k d) ≡ b → Falls gc m p (record { att = att; step = Delete d; more = more } ∷ js) ss k (deletion att d) (Gone b)
+drop_falls gc m p att d more js ss k w sound true is = let f = (deletes att d k sound).fewer p w is in omega arith
+drop_falls gc m p att d more js ss k w sound false is =
+    let left = jobs_weight-after att more js in
+    let P : Host → Type 0 = λ x. weight m p (after_step att more js) ss x < weight m p (record { att = att; step = Delete d; more = more } ∷ js) ss k in
+    subst P (sym ((deletes att d k sound).none is)) (omega arith)
+
+step_falls : (gc : Gc) (m : ℕ) (p : Tag → Bool) (att : Att) (step : Step) (more : List Step) (js : List Job) (ss : List Sweep) (k : Host) (faulty : Bool) → ((t : Tag) → is_own att t ≡ true → p t ≡ true) → IsSound k
+    → Falls gc m p (record { att = att; step = step; more = more } ∷ js) ss k (step_call att step) (reply_by faulty k (step_call att step))
+step_falls gc m p att step more js ss k true w sound = omega arith
+step_falls gc m p att Look more js ss k false w sound = let left = jobs_weight-after att more js in omega arith
+step_falls gc m p att (Delete d) more js ss k false w sound =
+    let P : Reply → Type 0 = λ r. Falls gc m p (record { att = att; step = Delete d; more = more } ∷ js) ss k (deletion att d) r in
+    subst P (sym (deletes att d k sound).reply) (drop_falls gc m p att d more js ss k w sound (list_any (is_own att) (tags_of k d)) refl)
+
+-- the objects of each owner that is left pass
+abbrev pub AllPass : (Tag → Bool) → List Job → Type 0
+AllPass p [] = Unit {0}
+AllPass p (j ∷ js) = ((t : Tag) → is_own j.att t ≡ true → p t ≡ true) × AllPass p js
+
+pub work_falls : (gc : Gc) (m : ℕ) (p : Tag → Bool) (js : List Job) (ss : List Sweep) (k : Host) (call : Call) (faulty : Bool) → call_of_work gc.network js ss ≡ Some call → IsSound k → AllPass p js
+    → ((kind : Kind) → length (stale_owners gc.network gc.valid (tags_of k kind)) ≤ m) → Falls gc m p js ss k call (reply_by faulty k call)
+work_falls gc m p [] [] k call faulty is sound w few = absurd (none-some call is)
+work_falls gc m p [] (s ∷ ss) k call faulty is sound w few =
+    subst (λ c. Falls gc m p [] (s ∷ ss) k c (reply_by faulty k c)) (same_Some (OwnersOf gc.network s.kind) call is) (ask_falls gc m p s ss k faulty (few s.kind))
+work_falls gc m p (j ∷ js) ss k call faulty is sound w few =
+    subst (λ c. Falls gc m p (j ∷ js) ss k c (reply_by faulty k c)) (same_Some (step_call j.att j.step) call is) (step_falls gc m p j.att j.step j.more js ss k faulty w.0 sound)
+
+pub stale_pass : (gc : Gc) (js : List Job) → list_all (λ (j : Job). is_stale gc.network gc.valid j.att) js ≡ true → AllPass (goes gc.network gc.valid) js
+stale_pass gc [] h = tt
+stale_pass gc (j ∷ js) h = (own_goes gc.network gc.valid j.att (grind (arith, h)), stale_pass gc js (grind (arith, h)))
+
+-- the weight bounds the calls that are left
+pub run_bound : (gc : Gc) (h : Host) (es : List Made) (s : Point) (k : Host) (rest : List Made) → WorkKept gc h es s.work.jobs s.work.sweeps k → IsTrail gc s k rest
+    → length rest ≤ weight (length (stale_owners gc.network gc.valid (all_tags h))) (goes gc.network gc.valid) s.work.jobs s.work.sweeps k
+run_bound gc h es s k [] v run = omega arith
+run_bound gc h es s k (e ∷ rest) v run =
+    let m = length (stale_owners gc.network gc.valid (all_tags h)) in
+    let p = goes gc.network gc.valid in
+    let P : Reply → Type 0 = λ r. Next gc h es s.work.jobs s.work.sweeps k e.call r in
+    let next : Next gc h es s.work.jobs s.work.sweeps k e.call e.reply = subst P (sym run.1.1) (work_step gc h es s.work.jobs s.work.sweeps k e.call run.1.0 run.0 v) in
+    let later = run_bound gc h (es ++ e ∷ []) (point_after gc s e.reply) (host_on k e) rest next run.2 in
+    let falls : Falls gc m p s.work.jobs s.work.sweeps k e.call e.reply = subst (Falls gc m p s.work.jobs s.work.sweeps k e.call) (sym run.1.1)
+    (work_falls gc m p s.work.jobs s.work.sweeps k e.call run.1.0 run.0 v.stays.sound (stale_pass gc s.work.jobs v.stale) (λ kind. owners_at_start gc h k kind v.stays.within)) in
+    omega arith
+
+-- ---- all calls
+
+count_map : {X : Type 0} (test : Tag → Bool) (tag : X → Tag) (xs : List X) → length (filter test (map tag xs)) ≡ length (filter (λ x. test (tag x)) xs)
+count_map test tag [] = refl
+count_map test tag (x ∷ xs) = grind (arith, count_map test tag xs)
+
+count_append : (test : Tag → Bool) (xs ys : List Tag) → length (filter test (xs ++ ys)) ≡ length (filter test xs) + length (filter test ys)
+count_append test [] ys = omega arith
+count_append test (x ∷ xs) ys = grind (arith, count_append test xs ys)
+
+count_more : (test : Tag → Bool) (n : ℕ) (xs ys : List Tag) → n ≤ length (filter test xs) → n + length (filter test ys) ≤ length (filter test (xs ++ ys))
+count_more test n xs ys le = let sum = count_append test xs ys in omega arith
+
+count_over : (test : Tag → Bool) (n : ℕ) (xs ys : List Tag) → n ≤ length (filter test xs) → n ≤ length (filter test (xs ++ ys))
+count_over test n xs ys le = let sum = count_append test xs ys in omega arith
+
+at_most_itself : (n : ℕ) → n ≤ n
+at_most_itself n = omega arith
+
+some_of_all : (test : Tag → Bool) (a b c d e f g : List Tag)
+    → length (filter test a) + length (filter test d) + length (filter test e) + length (filter test f) + length (filter test g) ≤ length (filter test (a ++ b ++ c ++ d ++ e ++ f ++ g))
+some_of_all test a b c d e f g =
+    count_more test _ (a ++ b ++ c ++ d ++ e ++ f) g (count_more test _ (a ++ b ++ c ++ d ++ e) f (count_more test _ (a ++ b ++ c ++ d) e (count_more test _ (a ++ b ++ c) d (count_over test _ (a ++ b) c (count_over test _ a b (at_most_itself (length (filter test a))))))))
+
+same_sum : (a b c d e v w x y z n : ℕ) → v ≡ a → w ≡ b → x ≡ c → y ≡ d → z ≡ e → v + w + x + y + z ≤ n → a + b + c + d + e ≤ n
+same_sum a b c d e v w x y z n h1 h2 h3 h4 h5 le = omega arith
+
+total_most : (test : Tag → Bool) (h : Host) → total test h ≤ objects_by test h
+total_most test h =
+    same_sum _ _ _ _ _ _ _ _ _ _ _
+    (count_map test (λ (l : Link). l.tag) h.links)
+    (count_map test (λ (r : Rule). r.tag) h.rules)
+    (count_map test (λ (s : Setting). s.tag) h.settings)
+    (count_map test (λ (l : Lease). l.tag) h.leases)
+    (count_map test (λ (c : CachedObj). c.tag) h.cached)
+    (some_of_all test (map (λ (l : Link). l.tag) h.links) (map (λ (a : AddrObj). a.tag) h.addresses) (map (λ (r : RouteObj). r.tag) h.routes) (map (λ (r : Rule). r.tag) h.rules)
+    (map (λ (s : Setting). s.tag) h.settings) (map (λ (l : Lease). l.tag) h.leases) (map (λ (c : CachedObj). c.tag) h.cached))
+
+kinds_number : (list : NetList) → length (kinds_of list) ≡ kinds_over_plugins list + 1
+kinds_number list =
+    let a = length-append (chained_kinds_reversed list.chained) (first_kinds list.first ++ Cached ∷ []) in
+    let b = length-append (first_kinds list.first) (Cached ∷ []) in
+    omega arith
+
+bound_collected : (gc : Gc) (h : Host) (es : List Made) → IsSound h → IsTrail gc (start_point gc) h es
+    → length es ≤ 6 + length (stale_owners gc.network gc.valid (all_tags h)) * (length gc.kinds + 6) + objects_by (goes gc.network gc.valid) h
+bound_collected gc h es sound run =
+    let m = length (stale_owners gc.network gc.valid (all_tags h)) in
+    let b = run_bound gc h [] (start_point gc) h es (work_start gc h sound) run in
+    let most = total_most (goes gc.network gc.valid) h in
+    let c : length (map Delete gc.kinds) ≡ length gc.kinds = length-map gc.kinds Delete in
+    let all : m * (1 + length (map Delete gc.kinds)) ≡ m * (length gc.kinds + 1) = ap (λ n. m * n) (omega arith) in
+    let sum : length gc.kinds + 6 ≡ (length gc.kinds + 1) + 5 = omega arith in
+    let split : m * (length gc.kinds + 6) ≡ m * (length gc.kinds + 1) + m * 5 = ap (λ n. m * n) sum ∙ mul-add m (length gc.kinds + 1) 5 in
+    let five : m * 1 + m * 1 + m * 1 + m * 1 + m * 1 ≡ m * 5 = omega arith in
+    omega arith
+
+none_made : (m k n : ℕ) (es : List Made) → es ≡ [] → length es ≤ 6 + m * k + n
+none_made m k n es none = rw none (omega arith)
+
+pub gc_bound : GcBound
+gc_bound list c host es gc sound run = elim (early_or list c gc) [
+  | inl collected ↦
+      let b = bound_collected (gc_of list c) host es sound (trail list c host es gc collected run) in
+      let m = length (stale_owners c.network c.valid (all_tags host)) in
+      let k = kinds_number list in
+      let sum : length (kinds_of list) + 6 ≡ kinds_over_plugins list + 7 = omega arith in
+      let same : m * (length (kinds_of list) + 6) ≡ m * (kinds_over_plugins list + 7) = ap (λ n. m * n) sum in
+      omega arith
+  | inr early ↦ none_made (length (stale_owners c.network c.valid (all_tags host))) (kinds_over_plugins list + 7) (objects_by (goes c.network c.valid) host) es (early_makes_none list c host es early run)
+]

@@ -1,0 +1,12 @@
+pub mod Calls
+pub mod Covered
+pub mod Deletions
+pub mod Kept
+pub mod Leaves
+pub mod Lists
+pub mod Machine
+pub mod Owners
+pub mod Phases
+pub mod Places
+pub mod Runs
+pub mod Weights

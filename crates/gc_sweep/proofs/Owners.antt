@@ -1,0 +1,123 @@
+-- The owners that a kernel names are all that there are.
+use Rattle.std.proofs.Common.{◌≡◌, ℕ, Bool, true, false, not, cond, List, [], ◌∷◌, Some, None, refl, ◌∙◌, arith}
+use Rattle.std.specs.Prelude.{filter, map, ◌&&◌, ◌||◌}
+use Rattle.std.specs.List.{list_any, list_all, filter_map, cons_option}
+use Rattle.std.specs.Str.{bytes_eq}
+use Rattle.kernel_types.specs.Equal.{att_eq}
+use Rattle.kernel_types.specs.Lists.{firsts}
+use Rattle.kernel_types.specs.Words.{is_own}
+use Rattle.kernel_types.specs.Apply.Calls.{owner_in}
+use Rattle.kernel_types.specs.Sound.{is_of_network}
+use Rattle.kernel_types.specs.declared.object.Att.{Att}
+use Rattle.kernel_types.specs.declared.object.Tag.{Tag}
+use Rattle.kernel_types.specs.declared.object.Tag.TheVariants.{Outside, Base, Own}
+use Rattle.kernel_types.proofs.Cases.{att_eq-refl}
+use Rattle.kernel_types.proofs.Isolation.{att_eq-same, is_own-one}
+use Rattle.pod_file.specs.declared.command.ValidAtt.{ValidAtt}
+use Rattle.cni_verbs.specs.Sweep.{is_named, is_valid}
+use Rattle.gc_sweep.specs.Keep.{name_of, goes}
+use Rattle.kernel_types.specs.Parts as parts
+use Rattle.std.specs.Cmp.Lexicographic.{nat_list_eq_equiv}
+use Rattle.gc_sweep.specs.Bound.{stale_owners}
+use Rattle.kernel_types.proofs.ListLemmas.{list_all-weaker, list_all-filter}
+use Rattle.gc_sweep.proofs.Lists.{list_any-kept_all}
+
+-- the attachment is of the network and outside the valid list
+abbrev pub is_stale : List ℕ → List ValidAtt → Att → Bool
+is_stale network valid att = bytes_eq att.network network && not (is_valid valid att)
+
+named_same : (a : Att) (v : ValidAtt) → parts.is_named a (name_of v) ≡ is_named a v
+named_same a v = grind (arith, nat_list_eq_equiv.symm a.container v.container, nat_list_eq_equiv.symm a.ifname v.ifname)
+
+valid_same : (a : Att) (valid : List ValidAtt) → list_any (parts.is_named a) (map name_of valid) ≡ is_valid valid a
+valid_same a [] = refl
+valid_same a (v ∷ valid) = grind (arith, named_same a v, valid_same a valid)
+
+pub goes_own : (network : List ℕ) (valid : List ValidAtt) (a : Att) → goes network valid (Own a) ≡ is_stale network valid a
+goes_own network valid a = grind (arith, valid_same a valid)
+
+-- a stale attachment's objects go
+pub own_goes : (network : List ℕ) (valid : List ValidAtt) (a : Att) → is_stale network valid a ≡ true → (t : Tag) → is_own a t ≡ true → goes network valid t ≡ true
+own_goes network valid a stale t h = rw (is_own-one a t h) (goes_own network valid a ∙ stale)
+
+abbrev pub has_att : List Att → Tag → Bool
+has_att atts t = list_any (λ a. is_own a t) atts
+
+more_owners : (x : Att) (xs : List Att) (network : List ℕ) (ts : List Tag) → list_all (λ t. not (is_of_network network t) || has_att xs t) ts ≡ true → list_all (λ t. not (is_of_network network t) || has_att (x ∷ xs) t) ts ≡ true
+more_owners x xs network ts h = list_all-weaker (λ t. not (is_of_network network t) || has_att xs t) (λ t. not (is_of_network network t) || has_att (x ∷ xs) t) (λ t g. grind (arith, g)) ts h
+
+abbrev owned_by : List Att → List ℕ → Tag → Bool
+owned_by xs network t = not (is_of_network network t) || has_att xs t
+
+own_case : (b : Bool) (a : Att) (network : List ℕ) (xs : List Att) (ts : List Tag) → list_all (owned_by xs network) ts ≡ true
+    → ((not b || has_att (cons_option (cond b (Some a) None) xs) (Own a)) && list_all (owned_by (cons_option (cond b (Some a) None) xs) network) ts) ≡ true
+own_case true a network xs ts h = grind (arith, att_eq-refl a, more_owners a xs network ts h)
+own_case false a network xs ts h = h
+
+owners_all : (network : List ℕ) (ts : List Tag) → list_all (owned_by (filter_map (owner_in network) ts) network) ts ≡ true
+owners_all network [] = refl
+owners_all network (Outside ∷ ts) = owners_all network ts
+owners_all network (Base ∷ ts) = owners_all network ts
+owners_all network (Own a ∷ ts) = own_case (bytes_eq a.network network) a network (filter_map (owner_in network) ts) ts (owners_all network ts)
+
+by_bool : {C : Type 0} (b : Bool) → (b ≡ true → C) → (b ≡ false → C) → C
+by_bool true h g = h refl
+by_bool false h g = g refl
+
+is_other : (x y : Att) (t : Tag) → is_own x t ≡ false → is_own y t ≡ true → not (att_eq x y) ≡ true
+is_other x y t fails passes =
+    by_bool (att_eq x y)
+    (λ e. let same : is_own x t ≡ true = rw (att_eq-same x y e) passes in grind (arith, fails, same))
+    (λ e. rw e refl)
+
+firsts_has : (xs : List Att) (t : Tag) → has_att xs t ≡ true → has_att (firsts att_eq xs) t ≡ true
+firsts_has [] t h = h
+firsts_has (x ∷ xs) t h =
+    by_bool (is_own x t)
+    (λ yes. grind (arith, yes))
+    (λ no. let later = list_any-kept_all (λ a. is_own a t) (λ y. not (att_eq x y)) (λ y. is_other x y t no) (firsts att_eq xs) (firsts_has xs t (grind (arith, h, no))) in grind (arith, later))
+
+stale_has : (network : List ℕ) (valid : List ValidAtt) (xs : List Att) (t : Tag) → goes network valid t ≡ true → has_att xs t ≡ true → has_att (filter (λ a. not (is_valid valid a)) xs) t ≡ true
+stale_has network valid xs t stale h =
+    list_any-kept_all (λ a. is_own a t) (λ a. not (is_valid valid a)) (λ a own. let here : goes network valid (Own a) ≡ true = rw (is_own-one a t own) at stale in grind (arith, here, goes_own network valid a)) xs h
+
+goes_of : (network : List ℕ) (valid : List ValidAtt) (t : Tag) → goes network valid t ≡ true → is_of_network network t ≡ true
+goes_of network valid Outside h = cc
+goes_of network valid Base h = cc
+goes_of network valid (Own a) h = grind (arith, h, goes_own network valid a)
+
+owned_or_stays : (network : List ℕ) (valid : List ValidAtt) (xs : List Att) (t : Tag) → owned_by xs network t ≡ true → (not (goes network valid t) || has_att (filter (λ a. not (is_valid valid a)) (firsts att_eq xs)) t) ≡ true
+owned_or_stays network valid xs t h =
+    by_bool (goes network valid t)
+    (λ yes. let there : has_att xs t ≡ true = grind (arith, h, goes_of network valid t yes) in grind (arith, stale_has network valid (firsts att_eq xs) t yes (firsts_has xs t there)))
+    (λ no. grind (arith, no))
+
+pub owners_cover : (network : List ℕ) (valid : List ValidAtt) (ts : List Tag) → list_all (λ t. not (goes network valid t) || has_att (stale_owners network valid ts) t) ts ≡ true
+owners_cover network valid ts =
+    list_all-weaker (owned_by (filter_map (owner_in network) ts) network) (λ t. not (goes network valid t) || has_att (stale_owners network valid ts) t)
+    (owned_or_stays network valid (filter_map (owner_in network) ts)) ts (owners_all network ts)
+
+-- ---- each of them is stale
+
+list_all-filter_both : (p q : Att → Bool) (xs : List Att) → list_all p xs ≡ true → list_all (λ a. p a && q a) (filter q xs) ≡ true
+list_all-filter_both p q [] h = refl
+list_all-filter_both p q (x ∷ xs) h = grind (arith, h, list_all-filter_both p q xs)
+
+named_case : (b : Bool) (a : Att) (network : List ℕ) (xs : List Att) → bytes_eq a.network network ≡ b → list_all (λ x. bytes_eq x.network network) xs ≡ true → list_all (λ x. bytes_eq x.network network) (cons_option (cond b (Some a) None) xs) ≡ true
+named_case true a network xs e h = grind (arith, e, h)
+named_case false a network xs e h = h
+
+owners_named : (network : List ℕ) (ts : List Tag) → list_all (λ x. bytes_eq x.network network) (filter_map (owner_in network) ts) ≡ true
+owners_named network [] = refl
+owners_named network (Outside ∷ ts) = owners_named network ts
+owners_named network (Base ∷ ts) = owners_named network ts
+owners_named network (Own a ∷ ts) = named_case (bytes_eq a.network network) a network (filter_map (owner_in network) ts) refl (owners_named network ts)
+
+pub list_all-firsts : (p : Att → Bool) (xs : List Att) → list_all p xs ≡ true → list_all p (firsts att_eq xs) ≡ true
+list_all-firsts p [] h = refl
+list_all-firsts p (x ∷ xs) h = let rest = list_all-filter p (λ y. not (att_eq x y)) (firsts att_eq xs) (list_all-firsts p xs (grind (arith, h))) in grind (arith, h, rest)
+
+pub owners_stale : (network : List ℕ) (valid : List ValidAtt) (ts : List Tag) → list_all (is_stale network valid) (stale_owners network valid ts) ≡ true
+owners_stale network valid ts =
+    list_all-filter_both (λ x. bytes_eq x.network network) (λ a. not (is_valid valid a)) (firsts att_eq (filter_map (owner_in network) ts))
+    (list_all-firsts (λ x. bytes_eq x.network network) (filter_map (owner_in network) ts) (owners_named network ts))

@@ -1,0 +1,169 @@
+-- A run's state, by its list and its work.
+use Rattle.std.proofs.Common.{◌≡◌, ℕ, ◌+◌, Bool, true, false, List, [], ◌∷◌, length, Option, Some, None, refl, sym, ◌∙◌, ap, subst, arith}
+use Rattle.std.specs.Prelude.{option_map, nat_lt, ◌==◌}
+use Rattle.std.proofs.lemmas.Bool.Decides.{nat_tests}
+use Rattle.cni_result.specs.declared.version.Version.{Version}
+use Rattle.cni_result.specs.declared.version.Version.TheVariants.{V1_0, V1_1}
+use Rattle.net_conf.specs.declared.list.NetList.{NetList}
+use Rattle.pod_file.specs.declared.command.Command.{Command}
+use Rattle.pod_file.specs.declared.command.Verb.{Verb}
+use Rattle.pod_file.specs.declared.command.Verb.TheVariants as verbs
+use Rattle.kernel_types.specs.declared.call.Kind.{Kind}
+use Rattle.kernel_types.specs.declared.call.Reply.{Reply}
+use Rattle.kernel_types.specs.Replies.{is_fault}
+use Rattle.cni_verbs.specs.Answers.{answer_of, error_of}
+use Rattle.cni_verbs.specs.Progress.{Progress, is_gc, progress, advanced, answer_by}
+use Rattle.cni_verbs.specs.Script.{State, Collecting, IsOpen, start_state, start_of, advance, next_call, call_of_work, finish_of, finish_of_work, gc_of, noted}
+use Rattle.cni_verbs.specs.Sweep.{Job, Sweep, Work, all_sweeps, start_work, worked}
+use Rattle.cni_verbs.specs.Wanted.{kinds_of}
+use Rattle.cni_verbs.specs.declared.answer.Answer.{Answer}
+use Rattle.cni_verbs.specs.declared.answer.Answer.TheVariants.{Yes, Refused}
+use Rattle.cni_verbs.specs.declared.answer.Cause.TheVariants as causes
+use Rattle.pod_file.specs.declared.command.ValidAtt.{ValidAtt}
+use Rattle.gc_sweep.specs.View.{moved, move_by}
+use Rattle.gc_sweep.specs.declared.place.Move.{Move}
+use Rattle.gc_sweep.proofs.Places.{work_taken}
+use Rattle.gc_sweep.specs.View.{state_by, is_early, early_answer, progress_of, work_of, has_no_work, IsPlace, jobs_left, sweeps_after}
+use Rattle.gc_sweep.specs.declared.place.Place.{Place}
+
+-- ---- the start
+
+starts_by : (list : NetList) (c : Command) (v : Verb) → is_gc v ≡ true → state_by list.version list.disable_gc (start_work (gc_of list c)) [] ≡ start_of list v c
+starts_by list c verbs.Add h = cc
+starts_by list c verbs.Check h = cc
+starts_by list c verbs.Del h = cc
+starts_by list c verbs.Gc h = refl
+starts_by list c verbs.Status h = cc
+starts_by list c verbs.Version h = cc
+starts_by list c verbs.NsAdd h = cc
+starts_by list c verbs.NsDel h = cc
+starts_by list c verbs.Drop h = cc
+starts_by list c verbs.Flush h = cc
+
+pub starts : (list : NetList) (c : Command) → is_gc c.verb ≡ true → state_by list.version list.disable_gc (start_work (gc_of list c)) [] ≡ start_state list c
+starts list c h = starts_by list c c.verb h
+
+-- the run of copies of a list and a command is theirs
+pub starts_as : (list twin : NetList) (c d : Command) (p : Place) → is_gc c.verb ≡ true → twin ≡ list → d ≡ c → work_of (kinds_of twin) p ≡ record { jobs = []; sweeps = all_sweeps (kinds_of twin) }
+    → progress_of twin d 0 p [] ≡ progress (Some list) c []
+starts_as list twin c d p gc same_list same_command work =
+    let f : Work → Progress = λ w. record { list = Some twin; command = d; made = 0; state = state_by twin.version twin.disable_gc w [] } in
+    let g : NetList → Command → Progress = λ l e. record { list = Some l; command = e; made = 0; state = state_by l.version l.disable_gc (start_work (gc_of l e)) [] } in
+    let s : State → Progress = λ x. record { list = Some list; command = c; made = 0; state = x } in
+    ap f work ∙ ap (λ l. g l d) same_list ∙ ap (g list) same_command ∙ ap s (starts list c gc)
+
+-- ---- the next call
+
+pub late : (version : Version) (disabled : Bool) (w : Work) (faults : List ℕ) → is_early version disabled ≡ false → state_by version disabled w faults ≡ Collecting w faults
+late V1_0 disabled w faults h = cc
+late V1_1 true w faults h = cc
+late V1_1 false w faults h = refl
+
+next_early_by : (version : Version) (disabled : Bool) (w : Work) (faults : List ℕ) (c : Command) → is_early version disabled ≡ true → next_call c (state_by version disabled w faults) ≡ None
+unfolding next_call
+next_early_by V1_0 disabled w faults c h = refl
+next_early_by V1_1 true w faults c h = refl
+next_early_by V1_1 false w faults c h = cc
+
+pub next_early : (version : Version) (disabled : Bool) (w : Work) (faults : List ℕ) (c : Command) → is_early version disabled ≡ true → None ≡ next_call c (state_by version disabled w faults)
+next_early version disabled w faults c h = sym (next_early_by version disabled w faults c h)
+
+next_working : (c : Command) (w : Work) (faults : List ℕ) → next_call c (Collecting w faults) ≡ call_of_work c.network w.jobs w.sweeps
+unfolding next_call
+next_working c w faults = refl
+
+pub next_late : (list : NetList) (c : Command) (p : Place) (faults : List ℕ) (ks : List Kind) → ks ≡ kinds_of list → is_early list.version list.disable_gc ≡ false
+    → call_of_work c.network (jobs_left ks p) (sweeps_after ks p.stage) ≡ next_call c (state_by list.version list.disable_gc (work_of (kinds_of list) p) faults)
+next_late list c p faults ks same h =
+    let w = work_of (kinds_of list) p in
+    ap (λ k. call_of_work c.network (jobs_left k p) (sweeps_after k p.stage)) same
+    ∙ sym (ap (next_call c) (late list.version list.disable_gc w faults h) ∙ next_working c w faults)
+
+-- ---- a reply
+
+pub open_late : (version : Version) (disabled : Bool) (w : Work) (faults : List ℕ) → IsOpen (state_by version disabled w faults) → is_early version disabled ≡ false
+open_late V1_0 disabled w faults h = absurd h
+open_late V1_1 true w faults h = absurd h
+open_late V1_1 false w faults h = refl
+
+advance_working : (list : NetList) (c : Command) (number : ℕ) (w : Work) (faults : List ℕ) (r : Reply) → advance list c number (Collecting w faults) r ≡ Collecting (worked (gc_of list c) w.jobs w.sweeps r) (noted number faults (is_fault r))
+unfolding advance
+advance_working list c number w faults r = refl
+
+-- the progress with another work and other faults
+abbrev pub progress_with : NetList → Command → ℕ → Work → List ℕ → Progress
+progress_with list c made w faults = record { list = Some list; command = c; made = made; state = state_by list.version list.disable_gc w faults }
+
+pub advances : (list : NetList) (c : Command) (made : ℕ) (w v : Work) (faults more : List ℕ) (r : Reply) → IsOpen (state_by list.version list.disable_gc w faults) → v ≡ worked (gc_of list c) w.jobs w.sweeps r → more ≡ noted (made + 1) faults (is_fault r)
+    → progress_with list c (made + 1) v more ≡ advanced (progress_with list c made w faults) r
+advances list c made w v faults more r opened work note =
+    let later = open_late list.version list.disable_gc w faults opened in
+    let s : State → Progress = λ x. record { list = Some list; command = c; made = made + 1; state = x } in
+    let now : state_by list.version list.disable_gc v more ≡ advance list c (made + 1) (state_by list.version list.disable_gc w faults) r =
+    late list.version list.disable_gc v more later
+    ∙ ap (λ x. Collecting x more) work
+    ∙ ap (Collecting (worked (gc_of list c) w.jobs w.sweeps r)) note
+    ∙ sym (advance_working list c (made + 1) w faults r)
+    ∙ ap (λ x. advance list c (made + 1) x r) (sym (late list.version list.disable_gc w faults later)) in
+    ap s now
+
+-- the progress after a reply, by what its steps ensure
+pub taken : (list : NetList) (c : Command) (made : ℕ) (ks ls : List Kind) (valid : List ValidAtt) (p q : Place) (faults more : List ℕ) (r : Reply) (move : Move) (b : Bool)
+    → IsOpen (state_by list.version list.disable_gc (work_of (kinds_of list) p) faults) → ks ≡ kinds_of list → IsPlace ks p → ls ≡ ks → valid ≡ c.valid
+    → b ≡ nat_lt p.at (length p.owners.items) → move ≡ move_by b r → work_of ls q ≡ moved valid (jobs_left ls p) (sweeps_after ls p.stage) move → more ≡ noted (made + 1) faults (is_fault r)
+    → progress_of list c (made + 1) q more ≡ advanced (progress_of list c made p faults) r
+taken list c made ks ls valid p q faults more r move b opened ks_is within ls_is valid_is has is work note =
+    let P : List Kind → List ValidAtt → Type 0 = λ k v. work_of k q ≡ moved v (jobs_left k p) (sweeps_after k p.stage) move in
+    let moves : P (kinds_of list) c.valid = subst (P (kinds_of list)) valid_is (subst (λ k. P k valid) (ls_is ∙ ks_is) work) in
+    let place : IsPlace (kinds_of list) p = subst (λ k. IsPlace k p) ks_is within in
+    advances list c made (work_of (kinds_of list) p) (work_of (kinds_of list) q) faults more r opened (work_taken (gc_of list c) p q r move b place has is moves) note
+
+-- ---- the answer
+
+answers_early : (version : Version) (disabled : Bool) (list : NetList) (c : Command) (w : Work) (faults : List ℕ) (a : Answer) → version ≡ list.version → early_answer version disabled c ≡ Some a
+    → Some a ≡ option_map (answer_by (Some list) c) (finish_of (state_by version disabled w faults))
+unfolding finish_of answer_of
+answers_early V1_0 disabled list c w faults a is h = sym h ∙ ap (λ v. Some (Refused (error_of v c (causes.TooOld V1_0)))) is
+answers_early V1_1 true list c w faults a is h = sym h
+answers_early V1_1 false list c w faults a is h = cc
+
+pub answers_before : (list : NetList) (c : Command) (w : Work) (faults : List ℕ) (a : Answer) → Some a ≡ early_answer list.version list.disable_gc c
+    → Some a ≡ option_map (answer_by (Some list) c) (finish_of (state_by list.version list.disable_gc w faults))
+answers_before list c w faults a h = answers_early list.version list.disable_gc list c w faults a refl (sym h)
+
+finish_working : (w : Work) (faults : List ℕ) → finish_of (Collecting w faults) ≡ finish_of_work w.jobs w.sweeps faults
+unfolding finish_of
+finish_working w faults = refl
+
+none_early : (version : Version) (disabled : Bool) (c : Command) → None ≡ early_answer version disabled c → is_early version disabled ≡ false
+none_early V1_0 disabled c h = cc
+none_early V1_1 true c h = cc
+none_early V1_1 false c h = refl
+
+pub answers_after : (list : NetList) (c : Command) (p : Place) (faults : List ℕ) (ks : List Kind) → ks ≡ kinds_of list → None ≡ early_answer list.version list.disable_gc c
+    → option_map (answer_by (Some list) c) (finish_of_work (jobs_left ks p) (sweeps_after ks p.stage) faults) ≡ option_map (answer_by (Some list) c) (finish_of (state_by list.version list.disable_gc (work_of (kinds_of list) p) faults))
+answers_after list c p faults ks same h =
+    let w = work_of (kinds_of list) p in
+    ap (λ k. option_map (answer_by (Some list) c) (finish_of_work (jobs_left k p) (sweeps_after k p.stage) faults)) same
+    ∙ ap (option_map (answer_by (Some list) c)) (sym (ap finish_of (late list.version list.disable_gc w faults (none_early list.version list.disable_gc c h)) ∙ finish_working w faults))
+
+no_length : (k : ℕ) (ks : List ℕ) → (length (k ∷ ks) == 0) ≡ true → ⊥
+no_length k ks h = let n : length (k ∷ ks) ≡ 0 = grind (arith, nat_tests, h) in omega arith
+
+abbrev answer_of_work : NetList → Command → List Job → List Sweep → List ℕ → Option Answer
+answer_of_work list c jobs sweeps faults = option_map (answer_by (Some list) c) (finish_of_work jobs sweeps faults)
+
+pub ends_clean : (list : NetList) (c : Command) (jobs : List Job) (sweeps : List Sweep) (faults : List ℕ) → has_no_work jobs sweeps ≡ true → (length faults == 0) ≡ true → Some Yes ≡ answer_of_work list c jobs sweeps faults
+unfolding answer_of
+ends_clean list c [] [] [] h clean = refl
+ends_clean list c [] [] (k ∷ faults) h clean = absurd (no_length k faults clean)
+ends_clean list c [] (s ∷ sweeps) faults h clean = cc
+ends_clean list c (j ∷ jobs) sweeps faults h clean = cc
+
+pub ends_faulty : (list : NetList) (c : Command) (jobs : List Job) (sweeps : List Sweep) (faults : List ℕ) → has_no_work jobs sweeps ≡ true → (length faults == 0) ≡ false
+    → Some (Refused (error_of list.version c (causes.Faults faults))) ≡ answer_of_work list c jobs sweeps faults
+unfolding answer_of
+ends_faulty list c [] [] [] h some = cc
+ends_faulty list c [] [] (k ∷ faults) h some = refl
+ends_faulty list c [] (s ∷ sweeps) faults h some = cc
+ends_faulty list c (j ∷ jobs) sweeps faults h some = cc

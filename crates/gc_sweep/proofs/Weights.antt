@@ -1,0 +1,29 @@
+-- What every call of a collection lowers: m is the most owners that a sweep can name.
+use Rattle.std.proofs.Common.{ℕ, ◌+◌, ◌*◌, Bool, List, [], ◌∷◌, length}
+use Rattle.std.specs.Prelude.{filter}
+use Rattle.kernel_types.specs.declared.object.Tag.{Tag}
+use Rattle.kernel_types.specs.declared.object.Host.{Host}
+use Rattle.cni_verbs.specs.Sweep.{Job, Sweep}
+
+abbrev pub sweep_weight : ℕ → Sweep → ℕ
+sweep_weight m s = 1 + m * (1 + length s.more)
+
+abbrev pub sweeps_weight : ℕ → List Sweep → ℕ
+sweeps_weight m [] = 0
+sweeps_weight m (s ∷ ss) = sweep_weight m s + sweeps_weight m ss
+
+abbrev pub jobs_weight : List Job → ℕ
+jobs_weight [] = 0
+jobs_weight (j ∷ js) = 1 + length j.more + jobs_weight js
+
+-- how many objects of the five kinds have a tag that passes
+abbrev pub total : (Tag → Bool) → Host → ℕ
+total p h =
+    length (filter (λ l. p l.tag) h.links)
+    + length (filter (λ r. p r.tag) h.rules)
+    + length (filter (λ s. p s.tag) h.settings)
+    + length (filter (λ l. p l.tag) h.leases)
+    + length (filter (λ c. p c.tag) h.cached)
+
+abbrev pub weight : ℕ → (Tag → Bool) → List Job → List Sweep → Host → ℕ
+weight m p js ss h = sweeps_weight m ss + jobs_weight js + total p h

@@ -1,0 +1,27 @@
+use Rattle.std.proofs.Common.{◌≡◌, ◌∙◌, ap, sym, subst, Option, Some, List, length}
+use Rattle.std.specs.Prelude.{IfOk, ℕ, ◌==◌}
+use Rattle.cni_verbs.specs.Answers.{error_of}
+use Rattle.cni_verbs.specs.declared.answer.Answer.{Answer}
+use Rattle.cni_verbs.specs.declared.answer.Answer.TheVariants.{Refused}
+use Rattle.cni_verbs.specs.declared.answer.Cause.TheVariants as causes
+use Rattle.gc_sweep.specs.View.{jobs_left, sweeps_after}
+use Rattle.gc_sweep.proofs.Phases.{ends_clean, ends_faulty}
+use Rattle.gc_sweep.proofs.run.work_answer.Goals as goal
+
+pub returns-then-is_empty : goal.returns-then-is_empty
+returns-then-is_empty c =
+    let ks = c.args.kinds.now in
+    let p = c.args.place.now in
+    let over = sym (c.is_done.ensures ks c.requires) ∙ c.if-is_done.true in
+    let clean = ap (λ (l : List ℕ). length l == 0) (sym c.as_slice.ensures) ∙ sym c.is_empty.ensures ∙ c.if-is_empty.true in
+    ends_clean c.args.list.now c.args.command.now (jobs_left ks p) (sweeps_after ks p.stage) c.args.faults.now over clean
+
+pub returns-in_ok-faults : goal.returns-in_ok-faults
+returns-in_ok-faults c =
+    let ks = c.args.kinds.now in
+    let p = c.args.place.now in
+    let over = sym (c.is_done.ensures ks c.requires) ∙ c.if-is_done.true in
+    let some = ap (λ (l : List ℕ). length l == 0) (sym c.as_slice.ensures) ∙ sym c.is_empty.ensures ∙ c.if-is_empty.false in
+    let P : Option Answer → Type 0 = λ x. IfOk c.refused.result (λ (answer : Option Answer). answer ≡ x) in
+    let told = ap (λ (l : List ℕ). Some (Refused (error_of c.args.list.now.version c.args.command.now (causes.Faults l)))) c.in_ok-faults.ensures in
+    subst P (told ∙ ends_faulty c.args.list.now c.args.command.now (jobs_left ks p) (sweeps_after ks p.stage) c.args.faults.now over some) c.refused.ensures

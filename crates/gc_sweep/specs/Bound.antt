@@ -1,0 +1,44 @@
+-- How many calls a garbage collection can make.
+use Rattle.std.specs.Prelude.{◌≡◌, ℕ, ◌+◌, ◌*◌, ◌≤◌, Bool, true, not, List, ◌++◌, map, filter, filter_map, length}
+use Rattle.kernel_types.specs.Equal.{att_eq}
+use Rattle.kernel_types.specs.Lists.{firsts}
+use Rattle.kernel_types.specs.Apply.Calls.{owner_in}
+use Rattle.kernel_types.specs.Sound.{IsSound}
+use Rattle.kernel_types.specs.declared.object.Att.{Att}
+use Rattle.kernel_types.specs.declared.object.Tag.{Tag}
+use Rattle.kernel_types.specs.declared.object.Host.{Host}
+use Rattle.net_conf.specs.declared.list.NetList.{NetList}
+use Rattle.pod_file.specs.declared.command.Command.{Command}
+use Rattle.pod_file.specs.declared.command.ValidAtt.{ValidAtt}
+use Rattle.cni_verbs.specs.Sweep.{is_valid}
+use Rattle.cni_verbs.specs.Wanted.{first_kinds, chained_kinds_reversed}
+use Rattle.gc_sweep.specs.Keep.{goes}
+use Rattle.gc_sweep.specs.Trace.{Made, IsRun}
+use Rattle.cni_verbs.specs.Progress.{is_gc}
+
+-- the attachments of the network outside the valid list that these tags name, each once
+abbrev pub stale_owners : List ℕ → List ValidAtt → List Tag → List Att
+stale_owners network valid tags = filter (λ a. not (is_valid valid a)) (firsts att_eq (filter_map (owner_in network) tags))
+
+abbrev pub all_tags : Host → List Tag
+all_tags host =
+    map (λ l. l.tag) host.links
+    ++ map (λ a. a.tag) host.addresses
+    ++ map (λ r. r.tag) host.routes
+    ++ map (λ r. r.tag) host.rules
+    ++ map (λ s. s.tag) host.settings
+    ++ map (λ l. l.tag) host.leases
+    ++ map (λ c. c.tag) host.cached
+
+-- how many objects have a tag that passes
+abbrev pub objects_by : (Tag → Bool) → Host → ℕ
+objects_by test host = length (filter test (all_tags host))
+
+-- the kinds over all plugins, as often as they come
+abbrev pub kinds_over_plugins : NetList → ℕ
+kinds_over_plugins list = length (first_kinds list.first) + length (chained_kinds_reversed list.chained)
+
+-- six; for each stale attachment seven more than the kinds; and one for each object that is not kept
+abbrev pub GcBound : Type 0
+GcBound = (list : NetList) (c : Command) (host : Host) (es : List Made) → is_gc c.verb ≡ true → IsSound host → IsRun list c host es
+    → length es ≤ 6 + length (stale_owners c.network c.valid (all_tags host)) * (kinds_over_plugins list + 7) + objects_by (goes c.network c.valid) host

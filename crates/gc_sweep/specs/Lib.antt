@@ -1,0 +1,5 @@
+pub mod Bound
+pub mod Keep
+pub mod Sweep
+pub mod Trace
+pub mod View

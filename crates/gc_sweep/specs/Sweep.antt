@@ -1,0 +1,63 @@
+-- What a garbage collection leaves, and what it answers.
+use Rattle.std.specs.Prelude.{◌≡◌, ℕ, ◌+◌, Bool, true, false, ◌||◌, List, [], ◌∷◌, if◌then◌else◌}
+use Rattle.std.specs.List.{list_all}
+use Rattle.cni_result.specs.declared.version.Version.TheVariants.{V1_1}
+use Rattle.kernel_types.specs.Apply.Calls.{tags_of}
+use Rattle.kernel_types.specs.Replies.{is_fault}
+use Rattle.kernel_types.specs.Sound.{IsSound}
+use Rattle.kernel_types.specs.declared.object.Tag.{Tag}
+use Rattle.kernel_types.specs.declared.object.Host.{Host}
+use Rattle.kernel_types.specs.declared.call.Kind.{Kind}
+use Rattle.kernel_types.specs.declared.call.Kind.TheVariants.{Links}
+use Rattle.net_conf.specs.declared.list.NetList.{NetList}
+use Rattle.pod_file.specs.declared.command.Command.{Command}
+use Rattle.pod_file.specs.declared.command.ValidAtt.{ValidAtt}
+use Rattle.cni_verbs.specs.Script.{swept}
+use Rattle.cni_verbs.specs.declared.answer.Ending.{Ending}
+use Rattle.cni_verbs.specs.declared.answer.Ending.TheVariants.{Yes}
+use Rattle.gc_sweep.specs.Keep.{stays, keep, IsWithin}
+use Rattle.gc_sweep.specs.Trace.{Made, IsRun, Ends, host_from, is_blamed}
+use Rattle.cni_verbs.specs.Progress.{is_gc}
+
+-- the list is of the verb's version, and doesn't disable it
+pub record IsCollected (list : NetList) : Type 0 where
+  pub version : list.version ≡ V1_1
+  pub enabled : list.disable_gc ≡ false
+
+-- a collection that is answered without an error leaves what is kept
+abbrev pub YesKeeps : Type 0
+YesKeeps = (list : NetList) (c : Command) (host : Host) (es : List Made) → is_gc c.verb ≡ true → IsSound host → IsRun list c host es → Ends list c es Yes
+    → host_from host es ≡ keep c.network c.valid host
+
+-- it loses nothing that is kept, and adds nothing
+pub record Bounds (c : Command) (old new : Host) : Type 0 where
+  pub lower : IsWithin (keep c.network c.valid old) new
+  pub upper : IsWithin new old
+
+-- so does one that was stopped anywhere
+abbrev pub AlwaysBounded : Type 0
+AlwaysBounded = (list : NetList) (c : Command) (host : Host) (es : List Made) → is_gc c.verb ≡ true → IsSound host → IsRun list c host es → Bounds c host (host_from host es)
+
+-- an object is kept, or a call about its kind and tag was faulty
+abbrev pub is_excused : List ℕ → List ValidAtt → List Made → Kind → Tag → Bool
+is_excused network valid es kind tag = stays network valid tag || is_blamed es kind tag
+
+-- addresses and routes count as links
+pub record AreExcused (network : List ℕ) (valid : List ValidAtt) (es : List Made) (host : Host) : Type 0 where
+  pub of_kind : (kind : Kind) → list_all (is_excused network valid es kind) (tags_of host kind) ≡ true
+  pub addresses : list_all (λ a. is_excused network valid es Links a.tag) host.addresses ≡ true
+  pub routes : list_all (λ r. is_excused network valid es Links r.tag) host.routes ≡ true
+
+-- what one that came to its end leaves over is excused
+abbrev pub OverExcused : Type 0
+OverExcused = (list : NetList) (c : Command) (host : Host) (es : List Made) (ending : Ending) → is_gc c.verb ≡ true → IsCollected list → IsSound host → IsRun list c host es → Ends list c es ending
+    → AreExcused c.network c.valid es (host_from host es)
+
+-- the numbers of the faulty calls, counted from the one after `made`
+abbrev pub fault_numbers : ℕ → List Made → List ℕ
+fault_numbers made [] = []
+fault_numbers made (e ∷ es) = if is_fault e.reply then (made + 1) ∷ fault_numbers (made + 1) es else fault_numbers (made + 1) es
+
+-- without a fault the answer is no error, and else its error names all calls that were faulty
+abbrev pub FaultsNamed : Type 0
+FaultsNamed = (list : NetList) (c : Command) (es : List Made) (ending : Ending) → is_gc c.verb ≡ true → IsCollected list → Ends list c es ending → ending ≡ swept (fault_numbers 0 es)

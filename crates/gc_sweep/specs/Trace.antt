@@ -1,0 +1,91 @@
+-- What a collection that is alone with a host has done.
+use Rattle.std.specs.Prelude.{◌≡◌, ℕ, ◌+◌, Bool, true, false, ◌&&◌, List, [], ◌∷◌, map, Some}
+use Rattle.std.specs.List.{list_any}
+use Rattle.kernel_types.specs.Apply.{apply}
+use Rattle.kernel_types.specs.Codes.{kind_eq}
+use Rattle.kernel_types.specs.Replies.{is_fault}
+use Rattle.kernel_types.specs.Words.{is_own}
+use Rattle.kernel_types.specs.declared.object.Tag.{Tag}
+use Rattle.kernel_types.specs.declared.object.Host.{Host}
+use Rattle.kernel_types.specs.declared.call.Call.{Call}
+use Rattle.kernel_types.specs.declared.call.Call.TheVariants.{Begin, BridgeEnsure, GatewayEnsure, ForwardEnsure, VethAdd, MacvlanAdd, LinkSet, AddrAdd, RouteAdd, RuleAppend, SettingSet, LeaseNext, CachePut, LinkDel, RuleDel, SettingDel, LeaseDel, CacheDel, HasObj, CacheGet, OwnersOf, PoolFree, NsChange, Outside}
+use Rattle.kernel_types.specs.declared.call.Kind.{Kind}
+use Rattle.kernel_types.specs.declared.call.Kind.TheVariants.{Links, Rules, Settings, Leases, Cached}
+use Rattle.kernel_types.specs.declared.call.Reply.{Reply}
+use Rattle.kernel_types.specs.declared.call.Reply.TheVariants.{Fault}
+use Rattle.net_conf.specs.declared.list.NetList.{NetList}
+use Rattle.pod_file.specs.declared.command.Command.{Command}
+use Rattle.cni_verbs.specs.Script.{State, start_state, advance, next_call, state_after, finish_of}
+use Rattle.cni_verbs.specs.declared.answer.Ending.{Ending}
+
+-- a call and its reply
+pub record Made : Type 0 where
+  pub call : Call
+  pub reply : Reply
+
+-- a faulty call is not made
+abbrev pub host_by : Bool → Host → Call → Host
+host_by true host call = host
+host_by false host call = (apply host call).0
+
+abbrev pub reply_by : Bool → Host → Call → Reply
+reply_by true host call = Fault
+reply_by false host call = (apply host call).1
+
+-- the host after an entry
+abbrev pub host_on : Host → Made → Host
+host_on host e = host_by (is_fault e.reply) host e.call
+
+abbrev pub host_from : Host → List Made → Host
+host_from host [] = host
+host_from host (e ∷ es) = host_from (host_on host e) es
+
+-- each entry is the script's next call, with the host's reply or a fault
+abbrev pub IsRunFrom : NetList → Command → ℕ → State → Host → List Made → Type 0
+IsRunFrom list c made s host [] = Unit {0}
+IsRunFrom list c made s host (e ∷ es) =
+    (next_call c s ≡ Some e.call) × ((faulty : Bool) × (e.reply ≡ reply_by faulty host e.call)) × IsRunFrom list c (made + 1) (advance list c (made + 1) s e.reply) (host_on host e) es
+
+abbrev pub IsRun : NetList → Command → Host → List Made → Type 0
+IsRun list c host es = IsRunFrom list c 0 (start_state list c) host es
+
+abbrev pub replies : List Made → List Reply
+replies es = map (λ e. e.reply) es
+
+-- the script is over after these entries, and ends so
+abbrev pub Ends : NetList → Command → List Made → Ending → Type 0
+Ends list c es ending = finish_of (state_after list c (replies es)) ≡ Some (record { ending = ending; given = [] })
+
+-- the call asks for the owners of the kind, or deletes the kind for this tag's attachment
+abbrev pub is_about : Kind → Tag → Call → Bool
+is_about kind tag (Begin att netns) = false
+is_about kind tag (BridgeEnsure name mtu promisc) = false
+is_about kind tag (GatewayEnsure bridge cidr) = false
+is_about kind tag (ForwardEnsure family) = false
+is_about kind tag (VethAdd host_end inner_end) = false
+is_about kind tag (MacvlanAdd link) = false
+is_about kind tag (LinkSet att key mac mtu tx_qlen promisc allmulti) = false
+is_about kind tag (AddrAdd obj) = false
+is_about kind tag (RouteAdd obj) = false
+is_about kind tag (RuleAppend rule) = false
+is_about kind tag (SettingSet setting) = false
+is_about kind tag (LeaseNext att number set) = false
+is_about kind tag (CachePut att cached) = false
+is_about kind tag (LinkDel att) = kind_eq Links kind && is_own att tag
+is_about kind tag (RuleDel att) = kind_eq Rules kind && is_own att tag
+is_about kind tag (SettingDel att) = kind_eq Settings kind && is_own att tag
+is_about kind tag (LeaseDel att) = kind_eq Leases kind && is_own att tag
+is_about kind tag (CacheDel att) = kind_eq Cached kind && is_own att tag
+is_about kind tag (HasObj probe) = false
+is_about kind tag (CacheGet att) = false
+is_about kind tag (OwnersOf network asked) = kind_eq asked kind
+is_about kind tag (PoolFree network set) = false
+is_about kind tag (NsChange name add) = false
+is_about kind tag (Outside change) = false
+
+abbrev pub blames : Kind → Tag → Made → Bool
+blames kind tag e = is_fault e.reply && is_about kind tag e.call
+
+-- some call about objects of this kind and tag was faulty
+abbrev pub is_blamed : List Made → Kind → Tag → Bool
+is_blamed es kind tag = list_any (blames kind tag) es

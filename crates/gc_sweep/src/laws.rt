@@ -1,0 +1,32 @@
+//! Laws of collections that are alone with a host. Each function does nothing: its contract is the law, and a proof above
+//! gets it by calling the function.
+
+ghost use Rattle.gc_sweep.specs.Bound.{GcBound};
+ghost use Rattle.gc_sweep.specs.Sweep.{YesKeeps, AlwaysBounded, OverExcused, FaultsNamed};
+
+/// A collection that is answered without an error leaves exactly what its valid list keeps.
+#[tactic(auto, using(crate::proofs::Leaves::yes_keeps))]
+pub fn a_clean_collection_leaves_what_is_kept()
+    ensures { YesKeeps }
+{}
+
+/// A collection, wherever it stopped, loses nothing that is kept and adds nothing.
+pub fn every_collection_is_bounded()
+    ensures { AlwaysBounded }
+{}
+
+/// What a collection that came to its end leaves over had a faulty call.
+pub fn what_is_left_over_is_excused()
+    ensures { OverExcused }
+{}
+
+/// The answer names every call that was faulty.
+pub fn every_fault_is_named()
+    ensures { FaultsNamed }
+{}
+
+/// A collection makes at most so many calls.
+#[tactic(auto, using(crate::proofs::Calls::gc_bound))]
+pub fn a_collection_makes_few_calls()
+    ensures { GcBound }
+{}

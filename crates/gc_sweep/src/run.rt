@@ -1,0 +1,219 @@
+//! The run of a garbage collection, a call at a time.
+
+ghost use Rattle.std.specs.Prelude.{◌≡◌, ◌+◌, ◌<◌, ◌^◌, IfOk, OnOk, OnErr, IsOk, MatchBool, Some, None, [], false, true, option_map};
+ghost use Rattle.kernel_types.specs.Replies.{is_fault};
+ghost use Rattle.cni_verbs.specs.Answers.{error_of};
+ghost use Rattle.cni_verbs.specs.Progress.{is_gc, progress, advanced, answer_by};
+ghost use Rattle.cni_verbs.specs.Script.{IsOpen, next_call, finish_of, finish_of_work, noted};
+ghost use Rattle.cni_verbs.specs.declared.answer.Answer.TheVariants.{Refused};
+ghost use Rattle.gc_sweep.specs.View.{is_early, early_answer, jobs_left, sweeps_after, IsPlace};
+
+use crate::place::{Place, go, move_of, next_call};
+use cni_addr::{Duplicate, Items, NoMemory};
+use cni_result::Version;
+use cni_verbs::errors::error_of;
+use cni_verbs::wanted::kinds_of;
+use cni_verbs::{Answer, Cause, Skip};
+use kernel_types::{Call, Kind, Reply};
+use net_conf::NetList;
+use pod_file::Command;
+use std::alloc::Global;
+use std::marker::Model;
+
+/// The run of one collection. It keeps the owners of the sweep at hand and the numbers of its faults, and no replies.
+#[derive(Drop)]
+pub struct GcRun {
+    list: NetList,
+    command: Command,
+    made: u64,
+    kinds: Items<Kind>,
+    place: Place,
+    faults: Items<u64>,
+}
+
+impl Model for GcRun {
+    ghost use Rattle.cni_verbs.specs.Progress.{Progress};
+    ghost use Rattle.gc_sweep.specs.View.{progress_of, IsInRange};
+
+    ghost Value = { Progress };
+
+    ghost view = { λ r. progress_of r.list r.command r.made r.place r.faults };
+
+    ghost invariant = { λ r. IsInRange r.list r.kinds r.place };
+}
+
+impl GcRun {
+    /// The run of a collection of this list's network, before its first call.
+    pub fn start(alloc: Global, list: &NetList, command: &Command) -> Result<GcRun, NoMemory>
+        requires { is_gc command.now.verb ≡ true }
+        ensures { IfOk result (λ run. run ≡ progress (Some list.now) command.now []) }
+    {
+        let list_copy = list.copy()?;
+        let command_copy = command.copy(alloc)?;
+        let kinds = kinds_of(alloc, list)?;
+        Ok(GcRun {
+            list: list_copy,
+            command: command_copy,
+            made: 0,
+            kinds,
+            place: Place::start(alloc),
+            faults: Items::new(alloc),
+        })
+    }
+
+    /// The call to make next, or none where the run is over.
+    pub fn next(&self) -> Result<Option<Call>, NoMemory>
+        ensures { IfOk result (λ call. call ≡ next_call self.now.command self.now.state) }
+    {
+        if is_early(&self.list) {
+            Ok(None)
+        } else {
+            next_call(&self.command.network, self.kinds.as_slice(), &self.place)
+        }
+    }
+
+    /// Takes the reply to the call that [`GcRun::next`] gave. Memory is wanted for a fault's number alone.
+    pub fn take(&mut self, reply: Reply) -> Result<(), NoMemory>
+        requires open { IsOpen self.old.state }
+        requires numbered { self.old.made + 1 < 2 ^ 64 }
+        ensures ok { OnOk result (self.new ≡ advanced self.old reply) }
+        ensures err { OnErr result (self.new ≡ self.old) }
+        ensures frees { is_fault reply ≡ false → IsOk result }
+    {
+        let faulty = is_fault(&reply);
+        note(&mut self.faults, self.made + 1, faulty)?;
+        self.made += 1;
+        let reply = move_of(self.place.has_owner(), reply);
+        go(
+            self.kinds.as_slice(),
+            self.command.valid.as_slice(),
+            &mut self.place,
+            reply,
+        );
+        Ok(())
+    }
+
+    /// Whether no call is left to make.
+    pub fn over(&self) -> bool
+        ensures { MatchBool result (IsOpen self.now.state → ⊥) (IsOpen self.now.state) }
+    {
+        is_early(&self.list) || self.place.is_done()
+    }
+
+    /// What the command is answered, where the run is over. A fault doesn't end a collection: the error names each call
+    /// that was one.
+    pub fn answer(&self) -> Result<Option<Answer>, NoMemory>
+        ensures { IfOk result (λ answer. answer ≡ option_map (answer_by self.now.list self.now.command) (finish_of self.now.state)) }
+    {
+        let alloc = *self.place.owners.allocator();
+        match early_answer(alloc, &self.list, &self.command)? {
+            Some(answer) => Ok(Some(answer)),
+            None => work_answer(
+                alloc,
+                &self.list,
+                &self.command,
+                self.kinds.as_slice(),
+                &self.place,
+                &self.faults,
+            ),
+        }
+    }
+}
+
+/// Whether the list gives its answer before any call.
+fn is_early(list: &NetList) -> bool
+    ensures { result ≡ is_early list.now.version list.now.disable_gc }
+{
+    match list.version {
+        Version::V1_0 => true,
+        Version::V1_1 => list.disable_gc,
+    }
+}
+
+fn refused(
+    alloc: Global,
+    list: &NetList,
+    command: &Command,
+    cause: Cause,
+) -> Result<Option<Answer>, NoMemory>
+    ensures { IfOk result (λ answer. answer ≡ Some (Refused (error_of list.now.version command.now cause))) }
+{
+    let error = error_of(alloc, list.version, command, &cause)?;
+    Ok(Some(Answer::Refused(error)))
+}
+
+/// The answer that the list gives before any call, if it gives one.
+fn early_answer(
+    alloc: Global,
+    list: &NetList,
+    command: &Command,
+) -> Result<Option<Answer>, NoMemory>
+    ensures { IfOk result (λ answer. answer ≡ early_answer list.now.version list.now.disable_gc command.now) }
+{
+    match list.version {
+        Version::V1_0 => refused(alloc, list, command, Cause::TooOld(Version::V1_0)),
+        Version::V1_1 => {
+            if list.disable_gc {
+                Ok(Some(Answer::Skipped(Skip::Gc)))
+            } else {
+                Ok(None)
+            }
+        }
+    }
+}
+
+/// The answer where no work is left.
+fn work_answer(
+    alloc: Global,
+    list: &NetList,
+    command: &Command,
+    kinds: &[Kind],
+    place: &Place,
+    faults: &Items<u64>,
+) -> Result<Option<Answer>, NoMemory>
+    requires { IsPlace kinds.now place.now }
+    ensures { IfOk result (λ answer. answer ≡ option_map (answer_by (Some list.now) command.now)
+        (finish_of_work (jobs_left kinds.now place.now) (sweeps_after kinds.now place.now.stage) faults.now)) }
+{
+    if place.is_done() {
+        if faults.as_slice().is_empty() {
+            Ok(Some(Answer::Yes))
+        } else {
+            let faults = copy_numbers(alloc, faults)?;
+            refused(alloc, list, command, Cause::Faults(faults))
+        }
+    } else {
+        Ok(None)
+    }
+}
+
+fn copy_numbers(alloc: Global, numbers: &Items<u64>) -> Result<Items<u64>, NoMemory>
+    ensures { IfOk result (λ twin. twin ≡ numbers.now) }
+{
+    let mut twin = Items::new(alloc);
+    for number in numbers.as_slice() {
+        twin.push(*number)?;
+    }
+    Ok(twin)
+}
+
+fn is_fault(reply: &Reply) -> bool
+    ensures { result ≡ is_fault reply.now }
+{
+    match reply {
+        Reply::Fault => true,
+        _ => false,
+    }
+}
+
+/// Adds the number of a faulty call.
+fn note(faults: &mut Items<u64>, number: u64, faulty: bool) -> Result<(), NoMemory>
+    ensures ok { OnOk result (faults.new ≡ noted number faults.old faulty) }
+    ensures err { OnErr result (faults.new ≡ faults.old) }
+    ensures frees { faulty ≡ false → IsOk result }
+{
+    if faulty {
+        faults.push(number)?;
+    }
+    Ok(())
+}
