@@ -1,6 +1,6 @@
 -- A plan that was joined is well formed.
 use Rattle.std.proofs.Common.{◌≡◌, ℕ, ◌+◌, ◌<◌, Bool, true, false, not, cond, List, [], ◌∷◌, ◌++◌, length, take, drop, get_or, Option, Some, None, Result, Ok, Err, refl, sym, ◌∙◌, ap, subst, arith}
-use Rattle.std.specs.Prelude.{if◌then◌else◌, ◌&&◌, ◌||◌, find, is_some, position}
+use Rattle.std.specs.Prelude.{if◌then◌else◌, ◌&&◌, ◌||◌, is_some, position}
 use Rattle.std.specs.List.{list_any, list_all, position_from}
 use Rattle.std.specs.Str.{bytes_eq}
 use Rattle.std.proofs.lemmas.Iterator.Adapters.{position_from-zero}
@@ -9,12 +9,12 @@ use Rattle.std.proofs.lemmas.Option.{none-some}
 use Rattle.kernel_types.specs.Lists.{distinct}
 use Rattle.net_conf.specs.declared.list.NetList.{NetList}
 use Rattle.pod_file.specs.declared.command.Command.{Command}
-use Rattle.pod_workers.specs.Join.{joined, plan_unless, unless, first_repeat_after, first_not_built, first_without_list}
+use Rattle.pod_workers.specs.Join.{joined, plan_unless, unless, first_repeat_after, first_without_list}
 use Rattle.pod_workers.specs.Laws.{JoinedPlansAreWellFormed}
-use Rattle.pod_workers.specs.Plans.{placed_from, IsWellFormed, commands_of, list_for, is_built, is_of_network}
+use Rattle.pod_workers.specs.Plans.{placed_from, IsWellFormed, commands_of, list_for, list_in, is_of_network}
 use Rattle.pod_workers.specs.declared.plan.Plan.{Plan}
 use Rattle.pod_workers.specs.declared.plan.PlanError.{PlanError}
-use Rattle.pod_workers.specs.declared.plan.PlanError.TheVariants.{NotBuiltCommand, SameName, NoNetwork}
+use Rattle.pod_workers.specs.declared.plan.PlanError.TheVariants.{SameName, NoNetwork}
 
 -- where none passes a test, all pass another one
 all-from : {X : Type 0} (q p : X → Bool) → ((x : X) → q x ≡ false → p x ≡ true) → (i : ℕ) (xs : List X) → position_from q i xs ≡ None → list_all p xs ≡ true
@@ -78,35 +78,29 @@ unless-ok f (Some k) r q h = cc
 
 pub record IsJoined (p q : Plan) : Type 0 where
   pub same : p ≡ q
-  pub built : first_not_built p ≡ None
   pub names : first_repeat_after [] 0 p.lists ≡ None
   pub networks : first_without_list p ≡ None
 
 -- ---- what isn't
 
-pub joined-not_built : (p : Plan) (place : ℕ) → Some place ≡ first_not_built p → joined p ≡ Err (NotBuiltCommand (place + 1))
+pub joined-same_name : (p : Plan) (place : ℕ) → Some place ≡ first_repeat_after [] 0 p.lists → joined p ≡ Err (SameName place)
 unfolding joined
-joined-not_built p place is = rw (sym is) refl
+joined-same_name p place is = rw (sym is) refl
 
-pub joined-same_name : (p : Plan) (place : ℕ) → None ≡ first_not_built p → Some place ≡ first_repeat_after [] 0 p.lists → joined p ≡ Err (SameName place)
+pub joined-no_network : (p : Plan) (place : ℕ) → None ≡ first_repeat_after [] 0 p.lists → Some place ≡ first_without_list p → joined p ≡ Err (NoNetwork (place + 1))
 unfolding joined
-joined-same_name p place built is = rw (sym built, sym is) refl
+joined-no_network p place names is = rw (sym names, sym is) refl
 
-pub joined-no_network : (p : Plan) (place : ℕ) → None ≡ first_not_built p → None ≡ first_repeat_after [] 0 p.lists → Some place ≡ first_without_list p → joined p ≡ Err (NoNetwork (place + 1))
+pub joined-ok : (p : Plan) → None ≡ first_repeat_after [] 0 p.lists → None ≡ first_without_list p → joined p ≡ Ok p
 unfolding joined
-joined-no_network p place built names is = rw (sym built, sym names, sym is) refl
-
-pub joined-ok : (p : Plan) → None ≡ first_not_built p → None ≡ first_repeat_after [] 0 p.lists → None ≡ first_without_list p → joined p ≡ Ok p
-unfolding joined
-joined-ok p built names networks = rw (sym built, sym names, sym networks) refl
+joined-ok p names networks = rw (sym names, sym networks) refl
 
 pub is-joined : (p q : Plan) → joined p ≡ Ok q → IsJoined p q
 unfolding joined
 is-joined p q h =
-    let a = unless-ok _ (first_not_built p) _ q h in
-    let b = unless-ok _ (first_repeat_after [] 0 p.lists) _ q a.1 in
+    let b = unless-ok _ (first_repeat_after [] 0 p.lists) _ q h in
     let d = unless-ok _ (first_without_list p) _ q b.1 in
-    record { same = (let e = d.1 in cc); built = a.0; names = b.0; networks = d.0 }
+    record { same = (let e = d.1 in cc); names = b.0; networks = d.0 }
 
 has-list : (a b : Bool) → (a && not b) ≡ false → (not a || b) ≡ true
 has-list true true h = refl
@@ -114,15 +108,15 @@ has-list true false h = cc
 has-list false b h = refl
 
 pub joined_is_well_formed : JoinedPlansAreWellFormed
-joined_is_well_formed p q h opening pools numbers bounds rounds =
+joined_is_well_formed p q h opening pools numbers alone bounds rounds =
     let j = is-joined p q h in
     let well : IsWellFormed p = record {
       opening = opening;
       pools = pools;
       names = (apart [] 0 p.lists j.names).1;
-      built = all-where_none _ (λ c. is_built c.command.verb) (λ c passed. grind (arith, passed)) (commands_of p) j.built;
       networks = all-where_none _ (λ c. not (is_of_network c.command.verb) || is_some (list_for p c.command)) (λ c passed. has-list _ _ passed) (commands_of p) j.networks;
       numbers = numbers;
+      alone = alone;
       bounds = bounds;
       rounds = rounds;
     } in
@@ -151,37 +145,26 @@ repeats-later lists i l within is has_none so_far =
 
 -- ---- refusals, by the lists and the rounds alone
 
-abbrev first_unbuilt : List (List Command) → Option ℕ
-first_unbuilt rounds = position (λ c. not (is_built c.command.verb)) (placed_from 0 rounds)
-
 abbrev first_unlisted : List NetList → List (List Command) → Option ℕ
-first_unlisted lists rounds = position (λ c. is_of_network c.command.verb && not (is_some (find (λ l. bytes_eq l.name c.command.network) lists))) (placed_from 0 rounds)
-
-unbuilt-of : (p : Plan) → first_not_built p ≡ first_unbuilt p.pods.rounds
-unfolding commands_of
-unbuilt-of p = refl
+first_unlisted lists rounds = position (λ c. is_of_network c.command.verb && not (is_some (list_in lists c.command))) (placed_from 0 rounds)
 
 unlisted-of : (p : Plan) → first_without_list p ≡ first_unlisted p.lists p.pods.rounds
 unfolding commands_of list_for
 unlisted-of p = refl
 
-pub refusal-not_built : (lists : List NetList) (rounds : List (List Command)) (place : ℕ) → Some place ≡ first_unbuilt rounds
-    → (p : Plan) → p.lists ≡ lists → p.pods.rounds ≡ rounds → joined p ≡ plan_unless (Some (NotBuiltCommand (place + 1))) p
-refusal-not_built lists rounds place is p same_lists same_rounds = joined-not_built p place (is ∙ ap first_unbuilt (sym same_rounds) ∙ sym (unbuilt-of p))
-
-pub refusal-same_name : (lists : List NetList) (rounds : List (List Command)) (place : ℕ) → None ≡ first_unbuilt rounds → Some place ≡ first_repeat_after [] 0 lists
+pub refusal-same_name : (lists : List NetList) (rounds : List (List Command)) (place : ℕ) → Some place ≡ first_repeat_after [] 0 lists
     → (p : Plan) → p.lists ≡ lists → p.pods.rounds ≡ rounds → joined p ≡ plan_unless (Some (SameName place)) p
-refusal-same_name lists rounds place built is p same_lists same_rounds =
-    joined-same_name p place (built ∙ ap first_unbuilt (sym same_rounds) ∙ sym (unbuilt-of p)) (is ∙ ap (first_repeat_after [] 0) (sym same_lists))
+refusal-same_name lists rounds place is p same_lists same_rounds =
+    joined-same_name p place (is ∙ ap (first_repeat_after [] 0) (sym same_lists))
 
-pub refusal-no_network : (lists : List NetList) (rounds : List (List Command)) (place : ℕ) → None ≡ first_unbuilt rounds → None ≡ first_repeat_after [] 0 lists
+pub refusal-no_network : (lists : List NetList) (rounds : List (List Command)) (place : ℕ) → None ≡ first_repeat_after [] 0 lists
     → Some place ≡ first_unlisted lists rounds → (p : Plan) → p.lists ≡ lists → p.pods.rounds ≡ rounds → joined p ≡ plan_unless (Some (NoNetwork (place + 1))) p
-refusal-no_network lists rounds place built names is p same_lists same_rounds =
-    joined-no_network p place (built ∙ ap first_unbuilt (sym same_rounds) ∙ sym (unbuilt-of p)) (names ∙ ap (first_repeat_after [] 0) (sym same_lists))
+refusal-no_network lists rounds place names is p same_lists same_rounds =
+    joined-no_network p place (names ∙ ap (first_repeat_after [] 0) (sym same_lists))
     (is ∙ ap (λ ls. first_unlisted ls rounds) (sym same_lists) ∙ ap (first_unlisted p.lists) (sym same_rounds) ∙ sym (unlisted-of p))
 
-pub refusal-none : (lists : List NetList) (rounds : List (List Command)) → None ≡ first_unbuilt rounds → None ≡ first_repeat_after [] 0 lists
+pub refusal-none : (lists : List NetList) (rounds : List (List Command)) → None ≡ first_repeat_after [] 0 lists
     → None ≡ first_unlisted lists rounds → (p : Plan) → p.lists ≡ lists → p.pods.rounds ≡ rounds → joined p ≡ plan_unless None p
-refusal-none lists rounds built names networks p same_lists same_rounds =
-    joined-ok p (built ∙ ap first_unbuilt (sym same_rounds) ∙ sym (unbuilt-of p)) (names ∙ ap (first_repeat_after [] 0) (sym same_lists))
+refusal-none lists rounds names networks p same_lists same_rounds =
+    joined-ok p (names ∙ ap (first_repeat_after [] 0) (sym same_lists))
     (networks ∙ ap (λ ls. first_unlisted ls rounds) (sym same_lists) ∙ ap (first_unlisted p.lists) (sym same_rounds) ∙ sym (unlisted-of p))

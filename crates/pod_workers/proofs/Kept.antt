@@ -1,16 +1,14 @@
 -- Each change of a step keeps what a book keeps.
 use Rattle.std.proofs.Common.{◌≡◌, ℕ, zero, suc, ◌+◌, ◌-◌, ◌<◌, ◌≤◌, ◌^◌, Bool, true, false, List, [], ◌∷◌, ◌++◌, length, map, Option, Some, None, slice_get, slice_set, refl, sym, ◌∙◌, ap, subst, arith, inl, inr}
-use Rattle.std.specs.Prelude.{if◌then◌else◌, ◌||◌, find, nat_le, replicate, IsSome}
-use Rattle.std.specs.Str.{bytes_eq}
+use Rattle.std.specs.Prelude.{if◌then◌else◌, ◌||◌, nat_le, replicate, IsSome}
 use Rattle.std.proofs.lemmas.List.{length-set, length-map, length-replicate}
 use Rattle.std.proofs.lemmas.Option.{same_Some, none-some, slice_get_within}
 use Rattle.std.proofs.lemmas.Bool.{false≢true}
 use Rattle.std.proofs.lemmas.Bool.Decides.{eqb_tells, leb_tells}
 use Rattle.cni_verbs.specs.Progress.{progress, advanced, turn_by}
-use Rattle.cni_verbs.specs.Script.{State, Over, Turn, Calls, Finishes, turn, state_from, start_state, advance}
+use Rattle.cni_verbs.specs.Script.{State, Turn, Calls, Finishes, turn, state_from, start_state, advance, outside_advance, outside_from, outside_start}
 use Rattle.cni_verbs.specs.declared.answer.Answer.{Answer}
 use Rattle.cni_verbs.specs.declared.answer.Answer.TheVariants.{OutOfMemory, Stopped}
-use Rattle.cni_verbs.specs.declared.answer.Ending.TheVariants.{Yes}
 use Rattle.kernel_types.specs.declared.call.Call.{Call}
 use Rattle.kernel_types.specs.declared.call.Reply.{Reply}
 use Rattle.kernel_types.specs.declared.object.Host.{Host}
@@ -18,7 +16,7 @@ use Rattle.net_conf.specs.declared.list.NetList.{NetList}
 use Rattle.pod_file.specs.declared.command.Command.{Command}
 use Rattle.pod_workers.specs.Index.{IsIndex, command_in, is_cut_by}
 use Rattle.pod_workers.specs.Legal.{Legal, IsBegun, begins, steps, refused_memory}
-use Rattle.pod_workers.specs.Plans.{IsWellFormed, Placed, commands_of, list_for, placed_from}
+use Rattle.pod_workers.specs.Plans.{IsWellFormed, Placed, commands_of, list_for, list_in, placed_from}
 use Rattle.pod_workers.specs.Slots.{Fits, IsDone, IsKept, IsWithin, MayBeMade, MayCarryOn, entry_by, next_in, opened, opened_by, slot_after}
 use Rattle.pod_workers.specs.World.{World, AllNone, IsReady, IsReadyNumber, answered, begun, done, end_of, entry_of, host_of, host_on, is_cut, is_faulty, is_stop, next_by, next_of, own_replies, reply_to, stepped, with_entry}
 use Rattle.pod_workers.specs.declared.index.Place.{Place}
@@ -44,12 +42,20 @@ state_from-append list c made s (x ∷ xs) r =
     state_from-append list c (made + 1) (advance list c (made + 1) s x) xs r
     ∙ ap (λ k. advance list c k (state_from list c (made + 1) (advance list c (made + 1) s x) xs) r) (omega arith)
 
+outside_from-append : (made : ℕ) (s : State) (rs : List Reply) (r : Reply) → outside_from made s (rs ++ r ∷ []) ≡ outside_advance (made + length rs + 1) (outside_from made s rs) r
+outside_from-append made s [] r = ap (λ k. outside_advance k s r) (omega arith)
+outside_from-append made s (x ∷ xs) r =
+    outside_from-append (made + 1) (outside_advance (made + 1) s x) xs r ∙ ap (λ k. outside_advance k (outside_from (made + 1) (outside_advance (made + 1) s x) xs) r) (omega arith)
+
 -- one more reply
 progress-append : (list : Option NetList) (c : Command) (rs : List Reply) (r : Reply) → progress list c (rs ++ r ∷ []) ≡ advanced (progress list c rs) r
-progress-append None c rs r = ap (λ m. record { list = None; command = c; made = m; state = Over Yes [] }) (length-append_one rs r)
+progress-append None c rs r =
+    let state_is = outside_from-append 0 (outside_start c) rs r ∙ ap (λ k. outside_advance k (outside_from 0 (outside_start c) rs) r) (omega arith) in
+    ap (λ m. record { list = None; command = c; made = m; state = outside_from 0 (outside_start c) (rs ++ r ∷ []) }) (length-append_one rs r)
+    ∙ ap (λ s. record { list = None; command = c; made = length rs + 1; state = s }) state_is
 progress-append (Some list) c rs r =
-    let state_is = state_from-append list c 0 (start_state c) rs r ∙ ap (λ k. advance list c k (state_from list c 0 (start_state c) rs) r) (omega arith) in
-    ap (λ m. record { list = Some list; command = c; made = m; state = state_from list c 0 (start_state c) (rs ++ r ∷ []) }) (length-append_one rs r)
+    let state_is = state_from-append list c 0 (start_state list c) rs r ∙ ap (λ k. advance list c k (state_from list c 0 (start_state list c) rs) r) (omega arith) in
+    ap (λ m. record { list = Some list; command = c; made = m; state = state_from list c 0 (start_state list c) (rs ++ r ∷ []) }) (length-append_one rs r)
     ∙ ap (λ s. record { list = Some list; command = c; made = length rs + 1; state = s }) state_is
 
 turn-of : (list : Option NetList) (c : Command) (rs : List Reply) → turn c (progress list c rs).state ≡ turn_by list c rs
@@ -73,7 +79,7 @@ pub within-fits : (list : Option NetList) (c : Command) (rs : List Reply) (s : O
 within-fits list c rs None fits = subst (λ (q : List Reply). IsWithin c.stop (length q)) (sym fits) (none-made c.stop)
 within-fits list c rs (Some s) fits = subst (IsWithin c.stop) fits.0 fits.2
 
-found-list : (p : Plan) (c : Command) → find (λ l. bytes_eq l.name c.network) p.lists ≡ list_for p c
+found-list : (p : Plan) (c : Command) → list_in p.lists c ≡ list_for p c
 unfolding list_for
 found-list p c = refl
 

@@ -1,5 +1,5 @@
 -- In which order commands go: round after round, and in a round one after another in each container.
-use Rattle.std.proofs.Common.{◌≡◌, ◌≢◌, ℕ, ◌+◌, ◌<◌, List, [], length, Option, Some, None, slice_get, refl, sym, ◌∙◌, ap, subst, inl, inr, ◌⊎◌, arith}
+use Rattle.std.proofs.Common.{◌≡◌, ◌≢◌, ℕ, ◌+◌, ◌<◌, true, List, [], length, Option, Some, None, slice_get, refl, sym, ◌∙◌, ap, subst, inl, inr, ◌⊎◌, arith}
 use Rattle.std.specs.Str.{bytes_eq}
 use Rattle.std.proofs.lemmas.List.{length-set}
 use Rattle.std.proofs.lemmas.Option.{same_Some, none-some, slice_get_within, slice_get-get_or}
@@ -8,14 +8,17 @@ use Rattle.std.proofs.lemmas.Bool.Decides.{eqb_tells}
 use Rattle.std.proofs.lemmas.Slice.Eq.{bytes_eq-Decides}
 use Rattle.cni_verbs.specs.declared.answer.Answer.{Answer}
 use Rattle.cni_verbs.specs.declared.answer.Answer.TheVariants.{OutOfMemory}
+use Rattle.pod_file.specs.Rounds.{is_exclusive}
 use Rattle.pod_workers.specs.Facts.{IsUntouched}
 use Rattle.pod_workers.specs.Legal.{Legal, IsBegun, begins, steps, refused_memory, turns}
-use Rattle.pod_workers.specs.Plans.{Placed, commands_of}
+use Rattle.pod_workers.specs.Plans.{AreAlone, Placed, commands_of}
 use Rattle.pod_workers.specs.World.{World, IsAnswered, IsReady, IsRoundOver, replies_of, own_replies, answered, with_entry, entry_of, host_of, done, next_of, next_round}
 use Rattle.pod_workers.specs.declared.plan.Entry.{Entry}
 use Rattle.pod_workers.specs.declared.plan.Next.{Next}
 use Rattle.pod_workers.specs.declared.plan.Next.TheVariants as next
+use Rattle.pod_workers.specs.declared.plan.Plan.{Plan}
 use Rattle.pod_workers.proofs.Histories.{slice_get-set_other, replies_of-other}
+use Rattle.pod_workers.proofs.Sound.{fine}
 
 pub record IsInOrder (w : World) : Type 0 where
   pub long : length w.answers ≡ length (commands_of w.plan)
@@ -172,3 +175,20 @@ apart w legal m n d c ready other at is_open = elim (same_or_other d.command.con
   | inl same ↦ inl (apart_in_container w m n d c (in_order w legal) ready other at is_open same)
   | inr differs ↦ inr differs
 ]
+
+-- two of one round, one of them exclusive, are one
+one_alone : (p : Plan) (m n : ℕ) (d c : Placed) → AreAlone p → slice_get (commands_of p) m ≡ Some d → slice_get (commands_of p) n ≡ Some c → d.round ≡ c.round
+    → (is_exclusive c.command ≡ true) ⊎ (is_exclusive d.command ≡ true) → m ≡ n
+one_alone p m n d c alone at_m at_n round (inl exclusive) = alone m n d c at_m at_n round exclusive
+one_alone p m n d c alone at_m at_n round (inr exclusive) = sym (alone n m c d at_n at_m (sym round) exclusive)
+
+-- beside a ready command, another one without an answer has made no call where one of the two is exclusive
+pub alone_apart : (w : World) → Legal w → (m n : ℕ) (d c : Placed) → IsReady w n c → m ≢ n → slice_get (commands_of w.plan) m ≡ Some d → slice_get w.answers m ≡ Some None
+    → (is_exclusive c.command ≡ true) ⊎ (is_exclusive d.command ≡ true) → own_replies w m ≡ []
+alone_apart w legal m n d c ready other at is_open exclusive =
+    let order = in_order w legal in
+    elim (compared d.round w.round) [
+      | inl less ↦ absurd (not_both w m (order.past m d at less) is_open)
+      | inr (inl more) ↦ (order.later m d at more).no_reply
+      | inr (inr same) ↦ absurd (other (one_alone w.plan m n d c (fine w legal).plan.alone at ready.there (same ∙ sym ready.current) exclusive))
+    ]

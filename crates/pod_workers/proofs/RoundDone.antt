@@ -1,5 +1,5 @@
 -- A round's commands are stepped to their answers one after another, and the next round is current.
-use Rattle.std.proofs.Common.{◌≡◌, ℕ, zero, suc, ◌+◌, ◌-◌, ◌<◌, ◌≤◌, List, [], ◌∷◌, ◌++◌, length, map, take, Option, Some, None, Result, Ok, Err, OnOk, OnErr, slice_get, slice_set, get_or, refl, sym, ◌∙◌, ap, subst, arith, inl, inr}
+use Rattle.std.proofs.Common.{◌≡◌, ℕ, zero, suc, ◌+◌, ◌-◌, ◌<◌, ◌≤◌, List, [], ◌∷◌, ◌++◌, length, map, take, Option, Some, None, Result, Ok, Err, OnOk, OnErr, slice_get, get_or, refl, sym, ◌∙◌, ap, subst, arith, inl, inr}
 use Rattle.std.proofs.lemmas.List.{append-nil, append_assoc, length-append, length-map}
 use Rattle.std.proofs.lemmas.Bool.{cases_lt}
 use Rattle.std.proofs.lemmas.Bool.Decides.{eqb_tells}
@@ -22,7 +22,7 @@ use Rattle.pod_workers.specs.declared.plan.Plan.{Plan}
 use Rattle.pod_workers.specs.declared.plan.StepEnd.{StepEnd}
 use Rattle.pod_workers.specs.declared.slots.Slot.{Slot}
 use Rattle.pod_workers.proofs.FileOrder.{file_order_answered, file_order_next_round, file_order_stepped}
-use Rattle.pod_workers.proofs.Histories.{slice_get-set_same, slice_get-set_other, length-append_one}
+use Rattle.pod_workers.proofs.Histories.{slice_get-set_other}
 use Rattle.pod_workers.proofs.Order.{in_order, not_both, open_or_answered}
 use Rattle.pod_workers.proofs.Rounds.{placed-fits, placed_from-more, placed_from-front, round-of, rounds-before}
 use Rattle.pod_workers.proofs.Elements.{slice_get-left, slice_get-right}
@@ -66,40 +66,6 @@ pub step_extends : (r : Result StepEnd NoMemory) (v w : World) (number : ℕ) �
 step_extends (Ok x) v w number ready is =
     subst (Extends v) (sym (is.0 ready.0 ready.1 ready.2 ready.3.there)) (done_extends v ready.0 (next_of v ready.1.command (own_replies v ready.0)) ready.3.unanswered)
 step_extends (Err x) v w number ready is = subst (Extends v) (sym (is.1 ready.0 ready.2)) (answered_extends v ready.0 OutOfMemory ready.3.unanswered)
-
--- ---- a step adds an entry or gives an answer, so there are no more steps than room for entries
-
-abbrev pub open_at : Option (Option Answer) → ℕ
-open_at None = 0
-open_at (Some None) = 1
-open_at (Some (Some a)) = 0
-
--- how many entries still find room, and one where the command has no answer
-abbrev pub room_left : ℕ → World → ℕ → ℕ
-room_left most w number = (most - length w.history) + open_at (slice_get w.answers (number - 1))
-
-answer_takes : (most : ℕ) (w : World) (n number : ℕ) (a : Answer) → number ≡ n + 1 → slice_get w.answers n ≡ Some None → room_left most (answered w n a) number < room_left most w number
-answer_takes most w n number a is unanswered =
-    let place : number - 1 ≡ n = omega arith in
-    let before : open_at (slice_get w.answers (number - 1)) ≡ 1 = ap (λ k. open_at (slice_get w.answers k)) place ∙ ap open_at unanswered in
-    let now : open_at (slice_get (slice_set w.answers n (Some a)) (number - 1)) ≡ 0 =
-    ap (λ k. open_at (slice_get (slice_set w.answers n (Some a)) k)) place ∙ ap open_at (slice_get-set_same w.answers n (Some a) (slice_get_within w.answers n None unanswered)) in
-    omega (arith, before, now)
-
-less-room : (most made more left : ℕ) → made < most → more ≡ made + 1 → (most - more) + left < (most - made) + left
-less-room most made more left room is = omega arith
-
-done_takes : (most : ℕ) (w : World) (n number : ℕ) (x : Next) → number ≡ n + 1 → slice_get w.answers n ≡ Some None → length w.history < most → room_left most (done w n x) number < room_left most w number
-done_takes most w n number (next.Answer a) is unanswered room = answer_takes most w n number a is unanswered
-done_takes most w n number (next.Call call faulty) is unanswered room =
-    less-room most (length w.history) _ (open_at (slice_get w.answers (number - 1))) room (length-append_one w.history _)
-
-pub step_takes : (most : ℕ) (r : Result StepEnd NoMemory) (v w : World) (number : ℕ) → IsReadyNumber v number → IsStepped r v w number → length v.history < most → room_left most w number < room_left most v number
-step_takes most (Ok x) v w number ready is room =
-    subst (λ u. room_left most u number < room_left most v number) (sym (is.0 ready.0 ready.1 ready.2 ready.3.there))
-    (done_takes most v ready.0 number (next_of v ready.1.command (own_replies v ready.0)) ready.2 ready.3.unanswered room)
-step_takes most (Err x) v w number ready is room =
-    subst (λ u. room_left most u number < room_left most v number) (sym (is.1 ready.0 ready.2)) (answer_takes most v ready.0 number OutOfMemory ready.2 ready.3.unanswered)
 
 -- ---- the numbers of a round
 

@@ -39,25 +39,24 @@ use Rattle.kernel_types.specs.declared.call.Reply.TheVariants.{Leased}
 use Rattle.cni_verbs.specs.CommandWords.{att_of}
 use Rattle.cni_verbs.specs.declared.answer.Answer.{Answer}
 use Rattle.cni_verbs.specs.declared.answer.Answer.TheVariants.{Stopped}
-use Rattle.cni_verbs.specs.Script.{State, AtBegin, BeforeLeases, Leasing, AfterLeases, ReadingCache, Deleting, Over, Turn, Calls, Finishes, turn, state_after}
+use Rattle.cni_verbs.specs.Script.{State, AtBegin, BeforeLeases, Leasing, AfterLeases, ReadingCache, Deleting, FindingEntry, Asking, Changing, Collecting, Over, Turn, Calls, Finishes, turn, turn_of_work, state_after, outside_after}
+use Rattle.cni_verbs.specs.Sweep.{Job, Step, Sweep, Look, Delete, step_call}
 use Rattle.cni_verbs.specs.Progress.{turn_by}
 use Rattle.cni_verbs.specs.Wanted.{sets_of, deletion}
 use Rattle.pod_workers.specs.Legal.{Legal, IsBegun, begins, steps, refused_memory, turns}
-use Rattle.pod_workers.specs.Plans.{Placed, IsWellFormed, list_for, has_pools_apart}
+use Rattle.pod_workers.specs.Plans.{Placed, IsWellFormed, list_for, list_in, list_named, is_of_network, has_pools_apart}
 use Rattle.pod_workers.specs.World.{World, IsReady, after, host_on, host_of, own_replies, next_by, next_of, is_cut, is_faulty, entry_of, done}
 use Rattle.pod_workers.specs.declared.plan.Entry.{Entry}
 use Rattle.pod_workers.specs.declared.plan.Next.{Next}
 use Rattle.pod_workers.specs.declared.plan.Next.TheVariants as next
 use Rattle.pod_workers.specs.declared.plan.Plan.{Plan}
-use Rattle.pod_workers.proofs.Planned.{IsPlanned, IsRest, LeftArePlanned, left-are-planned}
+use Rattle.pod_workers.proofs.Asked.{IsQuestionOf, slice_get-middle}
+use Rattle.pod_workers.proofs.Planned.{IsOutside, IsRest, LeftArePlanned, LeftIsOutside, left-are-planned, left-is-outside}
+use Rattle.pod_workers.proofs.PlannedCalls.{IsPlanned}
 
 -- ---- lists
 
-slice_get-middle : {X : Type 0} (xs ys : List X) (y : X) → slice_get (xs ++ y ∷ ys) (length xs) ≡ Some y
-slice_get-middle [] ys y = refl
-slice_get-middle (x ∷ xs) ys y = slice_get-middle xs ys y
-
-list_all-at : {X : Type 0} (p : X → Bool) (xs : List X) (i : ℕ) (x : X) → list_all p xs ≡ true → slice_get xs i ≡ Some x → p x ≡ true
+pub list_all-at : {X : Type 0} (p : X → Bool) (xs : List X) (i : ℕ) (x : X) → list_all p xs ≡ true → slice_get xs i ≡ Some x → p x ≡ true
 list_all-at p [] i x h at = absurd (none-some x at)
 list_all-at p (y ∷ ys) zero x h at = let e : y ≡ x = same_Some y x at in subst (λ z. p z ≡ true) e (grind (arith, h))
 list_all-at p (y ∷ ys) (suc i) x h at = list_all-at p ys i x (grind (arith, h)) at
@@ -239,8 +238,26 @@ head-well p att host x call sound lasts h is = subst (GoesWell p host) is (plann
 rest-at : (list : NetList) (next : RangeSet) (left : List RangeSet) (given : List Addr) → IsRest list (next ∷ left) given → slice_get (sets_of list) (length given) ≡ Some next
 rest-at list next left given rest = ap (λ s. slice_get s (length given)) rest.1 ∙ ap (slice_get (rest.0 ++ next ∷ left)) (sym rest.2) ∙ slice_get-middle rest.0 left next
 
+step-well : (p : Plan) (att : Att) (host : Host) (step : Step) → IsSound host → EachLast p host.lasts → GoesWell p host (step_call att step)
+step-well p att host Look sound lasts = stays-well p host (CacheGet att) sound lasts refl tt
+step-well p att host (Delete kind) sound lasts = deletion-well p att host kind sound lasts
+
+work-well : (p : Plan) (host : Host) (network : List ℕ) (jobs : List Job) (sweeps : List Sweep) (faults : List ℕ) (call : Call) → IsSound host → EachLast p host.lasts
+    → turn_of_work network jobs sweeps faults ≡ Calls call → GoesWell p host call
+work-well p host network [] [] faults call sound lasts is = absurd cc
+work-well p host network [] (s ∷ sweeps) faults call sound lasts is =
+    subst (GoesWell p host) (let e : OwnersOf network s.kind ≡ call = cc in e) (stays-well p host (OwnersOf network s.kind) sound lasts refl tt)
+work-well p host network (j ∷ jobs) sweeps faults call sound lasts is = subst (GoesWell p host) (let e : step_call j.att j.step ≡ call = cc in e) (step-well p j.att host j.step sound lasts)
+
+question-well : (p : Plan) (host : Host) (list : NetList) (network : List ℕ) (call : Call) → IsWellFormed p → IsSound host → EachLast p host.lasts → list_named p.lists network ≡ Some list → IsQuestionOf list call → GoesWell p host call
+question-well p host list network (HasObj probe) well sound lasts found asks = stays-well p host (HasObj probe) sound lasts refl tt
+question-well p host list network (PoolFree pool set) well sound lasts found asks =
+    let apart : has_pools_apart list ≡ true = passes-list_all has_pools_apart (λ l. bytes_eq l.name network) p.lists list well.pools found in
+    stays-well p host (PoolFree pool set) sound lasts refl (list_all-at (λ s. are_apart s.ranges) (sets_of list) asks.0 set apart asks.1)
+question-well p host list network _ well sound lasts found asks = absurd asks
+
 turn-well : (p : Plan) (host : Host) (list : NetList) (c : Command) (s : State) (call : Call) → IsWellFormed p → IsSound host → EachLast p host.lasts
-    → find (λ l. bytes_eq l.name c.network) p.lists ≡ Some list → LeftArePlanned list c s → turn c s ≡ Calls call → GoesWell p host call
+    → list_named p.lists c.network ≡ Some list → LeftArePlanned list c s → turn c s ≡ Calls call → GoesWell p host call
 unfolding turn
 turn-well p host list c AtBegin call well sound lasts found left is = subst (GoesWell p host) (let e : Begin (att_of c) c.netns ≡ call = cc in e) (stays-well p host (Begin (att_of c) c.netns) sound lasts refl tt)
 turn-well p host list c (BeforeLeases x xs) call well sound lasts found left is = head-well p (att_of c) host x call sound lasts left.0.0 cc
@@ -250,12 +267,36 @@ turn-well p host list c (Leasing set sets given) call well sound lasts found lef
 turn-well p host list c (AfterLeases x xs given) call well sound lasts found left is = head-well p (att_of c) host x call sound lasts left.0 cc
 turn-well p host list c (ReadingCache ending) call well sound lasts found left is = subst (GoesWell p host) (let e : CacheGet (att_of c) ≡ call = cc in e) (stays-well p host (CacheGet (att_of c)) sound lasts refl tt)
 turn-well p host list c (Deleting kind kinds_left ending) call well sound lasts found left is = subst (GoesWell p host) (let e : deletion (att_of c) kind ≡ call = cc in e) (deletion-well p (att_of c) host kind sound lasts)
+turn-well p host list c FindingEntry call well sound lasts found left is = subst (GoesWell p host) (let e : CacheGet (att_of c) ≡ call = cc in e) (stays-well p host (CacheGet (att_of c)) sound lasts refl tt)
+turn-well p host list c (Asking question questions) call well sound lasts found left is =
+    subst (GoesWell p host) (let e : question.call ≡ call = cc in e) (question-well p host list c.network question.call well sound lasts found left.0)
+turn-well p host list c (Changing change) call well sound lasts found left is = absurd left
+turn-well p host list c (Collecting work faults) call well sound lasts found left is = work-well p host c.network work.jobs work.sweeps faults call sound lasts is
 turn-well p host list c (Over ending given) call well sound lasts found left is = cc
 
+-- ---- a change from outside
+
+change-well : (p : Plan) (host : Host) (call : Call) → IsSound host → EachLast p host.lasts → IsOutside call → GoesWell p host call
+change-well p host (NsChange name add) sound lasts place = stays-well p host (NsChange name add) sound lasts refl place
+change-well p host (Outside change) sound lasts place = stays-well p host (Outside change) sound lasts refl place
+change-well p host _ sound lasts place = absurd place
+
+outside-well : (p : Plan) (host : Host) (c : Command) (s : State) (call : Call) → IsSound host → EachLast p host.lasts → LeftIsOutside s → turn c s ≡ Calls call → GoesWell p host call
+unfolding turn
+outside-well p host c (Changing change) call sound lasts left is = subst (GoesWell p host) (let e : change ≡ call = cc in e) (change-well p host change sound lasts left)
+outside-well p host c (Over ending given) call sound lasts left is = cc
+outside-well p host c _ call sound lasts left is = absurd left
+
+-- the list of a command is the one of its network
+listed : (b : Bool) (o : Option NetList) (list : NetList) → (if b then o else None) ≡ Some list → o ≡ Some list
+listed true o list is = is
+listed false o list is = absurd (none-some list is)
+
 by-list : (p : Plan) (host : Host) (c : Command) (rs : List Reply) (o : Option NetList) (call : Call) → IsWellFormed p → IsSound host → EachLast p host.lasts
-    → find (λ l. bytes_eq l.name c.network) p.lists ≡ o → turn_by o c rs ≡ Calls call → GoesWell p host call
-by-list p host c rs None call well sound lasts found is = cc
-by-list p host c rs (Some list) call well sound lasts found is = turn-well p host list c (state_after list c rs) call well sound lasts found (left-are-planned list c rs) is
+    → list_in p.lists c ≡ o → turn_by o c rs ≡ Calls call → GoesWell p host call
+by-list p host c rs None call well sound lasts found is = outside-well p host c (outside_after c rs) call sound lasts (left-is-outside c rs) is
+by-list p host c rs (Some list) call well sound lasts found is =
+    turn-well p host list c (state_after list c rs) call well sound lasts (listed (is_of_network c.verb) (list_named p.lists c.network) list found) (left-are-planned list c rs) is
 
 call-by : (a : Answer) (c : Command) (made : ℕ) (k call : Call) (faulty b : Bool) → (if b then next.Answer a else next.Call k (is_faulty c made)) ≡ next.Call call faulty → (Calls k ≡ Calls call) × (is_faulty c made ≡ faulty)
 call-by a c made k call faulty true is = absurd cc
@@ -273,7 +314,7 @@ pub record IsFine (w : World) : Type 0 where
   pub sound : IsSound (host_of w)
   pub lasts : EachLast w.plan (host_of w).lasts
 
-list_for-found : (p : Plan) (c : Command) → find (λ l. bytes_eq l.name c.network) p.lists ≡ list_for p c
+list_for-found : (p : Plan) (c : Command) → list_in p.lists c ≡ list_for p c
 unfolding list_for
 list_for-found p c = refl
 

@@ -3,20 +3,16 @@ use Rattle.std.specs.Prelude.{ℕ, ◌+◌, not, ◌&&◌, List, [], ◌∷◌, 
 use Rattle.std.specs.List.{list_any}
 use Rattle.std.specs.Str.{bytes_eq}
 use Rattle.net_conf.specs.declared.list.NetList.{NetList}
-use Rattle.pod_workers.specs.Plans.{commands_of, list_for, is_of_network, is_built}
+use Rattle.pod_workers.specs.Plans.{commands_of, list_for, is_of_network}
 use Rattle.pod_workers.specs.declared.plan.Plan.{Plan}
 use Rattle.pod_workers.specs.declared.plan.PlanError.{PlanError}
-use Rattle.pod_workers.specs.declared.plan.PlanError.TheVariants.{NotBuiltCommand, SameName, NoNetwork}
+use Rattle.pod_workers.specs.declared.plan.PlanError.TheVariants.{SameName, NoNetwork}
 
 -- the place, from 0, of the first list that has the name of an earlier one
 abbrev pub first_repeat_after : List NetList → ℕ → List NetList → Option ℕ
 first_repeat_after earlier place [] = None
 first_repeat_after earlier place (l ∷ ls) =
     if list_any (λ e. bytes_eq e.name l.name) earlier then Some place else first_repeat_after (earlier ++ l ∷ []) (place + 1) ls
-
--- the place of the first command whose verb isn't there yet
-abbrev pub first_not_built : Plan → Option ℕ
-first_not_built p = position (λ c. not (is_built c.command.verb)) (commands_of p)
 
 -- the place of the first command of a network that no list has
 abbrev pub first_without_list : Plan → Option ℕ
@@ -26,12 +22,11 @@ abbrev pub unless : {A : Type 0} → (ℕ → PlanError) → Option ℕ → Resu
 unless refusal None otherwise = otherwise
 unless refusal (Some place) otherwise = Err (refusal place)
 
--- the plan, or the first refusal: a verb that isn't there, two lists of one name, a command of no list's network
+-- the plan, or the first refusal: two lists of one name, a command of no list's network
 unfoldable pub joined : Plan → Result Plan PlanError
 joined p =
-    unless (λ place. NotBuiltCommand (place + 1)) (first_not_built p)
-    (unless (λ place. SameName place) (first_repeat_after [] 0 p.lists)
-    (unless (λ place. NoNetwork (place + 1)) (first_without_list p) (Ok p)))
+    unless (λ place. SameName place) (first_repeat_after [] 0 p.lists)
+    (unless (λ place. NoNetwork (place + 1)) (first_without_list p) (Ok p))
 
 -- the plan, unless it is refused
 abbrev pub plan_unless : Option PlanError → Plan → Result Plan PlanError

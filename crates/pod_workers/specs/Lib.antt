@@ -1,3 +1,4 @@
+pub mod CallsLeft
 pub mod Extends
 pub mod Facts
 pub mod Index
@@ -7,4 +8,5 @@ pub mod Legal
 pub mod Order
 pub mod Plans
 pub mod Slots
+pub mod Tasks
 pub mod World

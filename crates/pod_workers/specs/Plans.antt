@@ -1,5 +1,5 @@
 -- What a plan says: its commands with their rounds, their lists, and when it is well formed.
-use Rattle.std.specs.Prelude.{◌≡◌, ℕ, ◌+◌, Bool, true, false, not, ◌||◌, List, [], ◌∷◌, ◌++◌, map, find, length, is_some, ◌≤◌, Option, Some, slice_get}
+use Rattle.std.specs.Prelude.{◌≡◌, ℕ, ◌+◌, Bool, true, false, not, ◌||◌, List, [], ◌∷◌, ◌++◌, map, find, length, is_some, ◌≤◌, Option, Some, None, slice_get, if◌then◌else◌}
 use Rattle.std.specs.List.{list_all}
 use Rattle.std.specs.Str.{bytes_eq}
 use Rattle.ip_pool.specs.Pool.{are_apart}
@@ -9,6 +9,7 @@ use Rattle.kernel_types.specs.Equal.{tag_eq}
 use Rattle.kernel_types.specs.declared.object.Host.{Host}
 use Rattle.kernel_types.specs.declared.object.Tag.TheVariants.{Outside}
 use Rattle.net_conf.specs.declared.list.NetList.{NetList}
+use Rattle.pod_file.specs.Rounds.{is_exclusive}
 use Rattle.pod_file.specs.declared.command.Command.{Command}
 use Rattle.pod_file.specs.declared.command.Verb.{Verb}
 use Rattle.pod_file.specs.declared.command.Verb.TheVariants as verbs
@@ -33,10 +34,6 @@ placed_from round (commands ∷ rounds) = map (in_round round) commands ++ place
 unfoldable pub commands_of : Plan → List Placed
 commands_of p = placed_from 0 p.pods.rounds
 
--- the list of the command's network
-unfoldable pub list_for : Plan → Command → Option NetList
-list_for p c = find (λ l. bytes_eq l.name c.network) p.lists
-
 -- the verbs of the CNI specification, which speak of a network
 abbrev pub is_of_network : Verb → Bool
 is_of_network verbs.Add = true
@@ -50,18 +47,16 @@ is_of_network verbs.NsDel = false
 is_of_network verbs.Drop = false
 is_of_network verbs.Flush = false
 
--- the verbs whose scripts are there
-abbrev pub is_built : Verb → Bool
-is_built verbs.Add = true
-is_built verbs.Check = false
-is_built verbs.Del = true
-is_built verbs.Gc = false
-is_built verbs.Status = false
-is_built verbs.Version = false
-is_built verbs.NsAdd = false
-is_built verbs.NsDel = false
-is_built verbs.Drop = false
-is_built verbs.Flush = false
+-- the list of this name
+abbrev pub list_named : List NetList → List ℕ → Option NetList
+list_named lists name = find (λ l. bytes_eq l.name name) lists
+
+-- the list of the command's network, where its verb speaks of one
+abbrev pub list_in : List NetList → Command → Option NetList
+list_in lists c = if is_of_network c.verb then list_named lists c.network else None
+
+unfoldable pub list_for : Plan → Command → Option NetList
+list_for p c = list_in p.lists c
 
 -- ---- well-formed plans
 
@@ -85,12 +80,16 @@ has_pools_apart list = list_all (λ set. are_apart set.ranges) (sets_of list)
 abbrev pub AreNumbered : Plan → Type 0
 AreNumbered p = (n : ℕ) (c : Placed) → slice_get (commands_of p) n ≡ Some c → c.command.number ≡ n + 1
 
+-- an exclusive command has its round for itself
+abbrev pub AreAlone : Plan → Type 0
+AreAlone p = (m n : ℕ) (d c : Placed) → slice_get (commands_of p) m ≡ Some d → slice_get (commands_of p) n ≡ Some c → d.round ≡ c.round → is_exclusive c.command ≡ true → m ≡ n
+
 pub record IsWellFormed (p : Plan) : Type 0 where
   pub opening : IsOpening p.pods.opening
   pub pools : list_all has_pools_apart p.lists ≡ true
   pub names : distinct (λ a b. bytes_eq a.name b.name) p.lists ≡ true
-  pub built : list_all (λ c. is_built c.command.verb) (commands_of p) ≡ true
   pub networks : list_all (λ c. not (is_of_network c.command.verb) || is_some (list_for p c.command)) (commands_of p) ≡ true
   pub numbers : AreNumbered p
+  pub alone : AreAlone p
   pub bounds : length (commands_of p) ≤ 65536
   pub rounds : length p.pods.rounds ≤ 65536

@@ -1,6 +1,5 @@
 -- What the runs of a book stand for, and what a book keeps.
-use Rattle.std.specs.Prelude.{◌≡◌, ℕ, ◌+◌, ◌<◌, ◌≤◌, ◌^◌, Bool, true, false, List, [], ◌∷◌, ◌++◌, length, take, find, Option, Some, None, slice_get, if◌then◌else◌}
-use Rattle.std.specs.Str.{bytes_eq}
+use Rattle.std.specs.Prelude.{◌≡◌, ℕ, ◌+◌, ◌<◌, ◌≤◌, ◌^◌, Bool, true, false, List, [], ◌∷◌, ◌++◌, length, take, Option, Some, None, slice_get, if◌then◌else◌}
 use Rattle.cni_verbs.specs.Progress.{progress, advanced}
 use Rattle.cni_verbs.specs.Script.{turn}
 use Rattle.kernel_types.specs.Allowed.{IsAllowed}
@@ -12,7 +11,7 @@ use Rattle.net_conf.specs.declared.list.NetList.{NetList}
 use Rattle.pod_file.specs.declared.command.Command.{Command}
 use Rattle.pod_workers.specs.Index.{IsIndex}
 use Rattle.pod_workers.specs.Legal.{Legal}
-use Rattle.pod_workers.specs.Plans.{Placed, commands_of, list_for, placed_from}
+use Rattle.pod_workers.specs.Plans.{Placed, commands_of, list_for, list_in, placed_from}
 use Rattle.pod_workers.specs.World.{World, host_of, host_on, next_by, own_replies, reply_to}
 use Rattle.pod_workers.specs.declared.index.Place.{Place}
 use Rattle.pod_workers.specs.declared.plan.Entry.{Entry}
@@ -30,7 +29,7 @@ opened list c None = record { run = progress list c []; made = 0 }
 opened list c (Some s) = s
 
 unfoldable pub opened_by : List NetList → Command → Option Slot → Slot
-opened_by lists c s = opened (find (λ l. bytes_eq l.name c.network) lists) c s
+opened_by lists c s = opened (list_in lists c) c s
 
 -- what the command whose run this is does next
 unfoldable pub next_in : Command → Bool → Slot → Next

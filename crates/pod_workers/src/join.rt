@@ -1,13 +1,13 @@
 //! Lists and a pod file as one plan.
 
-ghost use Rattle.std.specs.Prelude.{◌≡◌, ◌≤◌, ◌&&◌, [], find, is_some, length, not, position};
+ghost use Rattle.std.specs.Prelude.{◌≡◌, ◌≤◌, ◌&&◌, [], is_some, length, not, position};
 ghost use Rattle.std.specs.List.{list_any};
 ghost use Rattle.std.specs.Option.{option_copied};
 ghost use Rattle.std.specs.Str.{bytes_eq};
 ghost use Rattle.pod_workers.specs.Join.{first_repeat_after, joined, plan_unless};
 ghost use Rattle.pod_workers.specs.Laws.{JoinedPlansAreWellFormed};
 ghost use Rattle.pod_workers.specs.declared.plan.Plan.{Plan};
-ghost use Rattle.pod_workers.specs.Plans.{commands_of, is_built, is_of_network, placed_from};
+ghost use Rattle.pod_workers.specs.Plans.{commands_of, is_of_network, list_in, list_named, placed_from};
 
 use crate::plan::{Plan, PlanError};
 use cni_addr::{Items, Text};
@@ -15,8 +15,8 @@ use net_conf::NetList;
 use pod_file::{Command, Pods, Verb};
 
 impl Plan {
-    /// The plan of these lists and this pod file. Refused are, in this order, the first command whose verb isn't there yet,
-    /// the first list that has the name of an earlier one, and the first command of a network that no list has.
+    /// The plan of these lists and this pod file. Refused are, in this order, the first list that has the name of an earlier
+    /// one, and the first command of a network that no list has.
     pub fn join(lists: Items<NetList>, pods: Pods, stop_at: Option<u32>) -> Result<Plan, PlanError>
         requires few_lists { length lists ≤ 64 }
         requires few_commands { length (commands_of (record { lists = lists; pods = pods; stop_at = stop_at })) ≤ 65536 }
@@ -33,23 +33,26 @@ impl Plan {
     }
 }
 
-/// A plan that was joined is well formed, where its opening, its pools and its numbers are.
-
+/// A plan that was joined is well formed, where its opening, its pools and its numbers are, and its exclusive commands stand alone.
 pub fn joined_plans_are_well_formed()
     ensures { JoinedPlansAreWellFormed }
 {}
 
-/// The list of this network.
-pub(crate) fn list_named<'a>(lists: &'a [NetList], network: &Text) -> Option<&'a NetList>
-    ensures { option_copied result ≡ find (λ l. bytes_eq l.name network.now) lists.now }
+fn list_named<'a>(lists: &'a [NetList], network: &Text) -> Option<&'a NetList>
+    ensures { option_copied result ≡ list_named lists.now network.now }
 {
     lists.iter().find(|list| list.name == *network)
 }
 
-fn is_built(verb: Verb) -> bool
-    ensures { result ≡ is_built verb }
+/// The list of a command's network, where its verb speaks of one.
+pub(crate) fn list_of<'a>(lists: &'a [NetList], command: &Command) -> Option<&'a NetList>
+    ensures { option_copied result ≡ list_in lists.now command.now }
 {
-    matches!(verb, Verb::Add | Verb::Del)
+    if is_of_network(command.verb) {
+        list_named(lists, &command.network)
+    } else {
+        None
+    }
 }
 
 fn is_of_network(verb: Verb) -> bool
@@ -59,9 +62,9 @@ fn is_of_network(verb: Verb) -> bool
 }
 
 fn lacks_list(lists: &[NetList], command: &Command) -> bool
-    ensures { result ≡ (is_of_network command.now.verb && not (is_some (find (λ l. bytes_eq l.name command.now.network) lists.now))) }
+    ensures { result ≡ (is_of_network command.now.verb && not (is_some (list_in lists.now command.now))) }
 {
-    is_of_network(command.verb) && list_named(lists, &command.network).is_none()
+    is_of_network(command.verb) && list_of(lists, command).is_none()
 }
 
 /// Why these make no plan, if they don't.
@@ -70,9 +73,6 @@ fn refusal(lists: &[NetList], rounds: &[Items<Command>]) -> Option<PlanError>
     requires few_commands { length (placed_from 0 rounds.now) ≤ 65536 }
     ensures { (p : Plan) → p.lists ≡ lists.now → p.pods.rounds ≡ rounds.now → joined p ≡ plan_unless result p }
 {
-    if let Some(place) = first_not_built(rounds) {
-        return Some(PlanError::NotBuiltCommand { command: place + 1 });
-    }
     if let Some(list) = first_repeat(lists) {
         return Some(PlanError::SameName { list });
     }
@@ -82,40 +82,18 @@ fn refusal(lists: &[NetList], rounds: &[Items<Command>]) -> Option<PlanError>
     None
 }
 
-fn not_built_in(commands: &[Command]) -> Option<usize>
-    ensures { result ≡ position (λ c. not (is_built c.verb)) commands.now }
-{
-    commands.iter().position(|command| !is_built(command.verb))
-}
-
 fn without_list_in(lists: &[NetList], commands: &[Command]) -> Option<usize>
-    ensures { result ≡ position (λ c. is_of_network c.verb && not (is_some (find (λ l. bytes_eq l.name c.network) lists.now))) commands.now }
+    ensures { result ≡ position (λ c. is_of_network c.verb && not (is_some (list_in lists.now c))) commands.now }
 {
     commands
         .iter()
         .position(|command| lacks_list(lists, command))
 }
 
-/// The place of the first command whose verb isn't there yet.
-fn first_not_built(rounds: &[Items<Command>]) -> Option<u32>
-    requires { length (placed_from 0 rounds.now) ≤ 65536 }
-    ensures { result ≡ position (λ c. not (is_built c.command.verb)) (placed_from 0 rounds.now) }
-{
-    let mut before: u32 = 0;
-    for commands in rounds {
-        let commands = commands.as_slice();
-        if let Some(place) = not_built_in(commands) {
-            return Some(before + place as u32);
-        }
-        before += commands.len() as u32;
-    }
-    None
-}
-
 /// The place of the first command of a network that no list has.
 fn first_without_list(lists: &[NetList], rounds: &[Items<Command>]) -> Option<u32>
     requires { length (placed_from 0 rounds.now) ≤ 65536 }
-    ensures { result ≡ position (λ c. is_of_network c.command.verb && not (is_some (find (λ l. bytes_eq l.name c.command.network) lists.now))) (placed_from 0 rounds.now) }
+    ensures { result ≡ position (λ c. is_of_network c.command.verb && not (is_some (list_in lists.now c.command))) (placed_from 0 rounds.now) }
 {
     let mut before: u32 = 0;
     for commands in rounds {

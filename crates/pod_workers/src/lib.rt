@@ -6,7 +6,7 @@
 //! memory changes neither host nor history, and that a round comes to its end. The laws speak of all legal worlds.
 //!
 //! ```text
-//! let plan = Plan::join(lists, pods, None)?;           // or the first refusal: a verb, a repeated name, a network
+//! let plan = Plan::join(lists, pods, None)?;           // or the first refusal: a repeated name, a network
 //! let mut book = Book::begin(alloc, plan, kernel)?;    // nothing done, round 0
 //! while !book.ended() {
 //!     book.round_alone();                              // each command of the round to its answer, in file order
@@ -22,6 +22,7 @@ mod join;
 pub mod laws;
 pub mod plan;
 mod slots;
+mod task;
 
 pub use book::Book;
 pub use join::joined_plans_are_well_formed;

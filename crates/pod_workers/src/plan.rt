@@ -17,8 +17,6 @@ pub struct Plan {
 /// Why lists and pods make no plan.
 #[derive(Clone, Copy, Debug, PartialEq, Eq)]
 pub enum PlanError {
-    /// The command of this number has a verb that isn't there yet.
-    NotBuiltCommand { command: u32 },
     /// The list at this place, from 0, has the name of an earlier one.
     SameName { list: u32 },
     /// The command of this number is of a network that no list has.

@@ -1,17 +1,19 @@
 //! The runs of a book's commands, and one step of one run.
 
-ghost use Rattle.std.specs.Prelude.{◌≡◌, ◌+◌, ◌<◌, ◌==◌, ◌^◌, [], ◌∷◌, ◌++◌, ◌||◌, None, Some, IfOk, IsTrue, OnErr, length, replicate, true, false, slice_get, slice_set};
+ghost use Rattle.std.specs.Prelude.{◌≡◌, ◌+◌, ◌<◌, ◌≤◌, ◌==◌, ◌^◌, ◌⊎◌, [], ◌∷◌, ◌++◌, ◌||◌, None, Some, IfOk, IsTrue, OnErr, OnOk, length, replicate, true, false, slice_get, slice_set};
 ghost use Rattle.std.specs.List.{list_any};
 ghost use Rattle.cni_verbs.specs.Script.{IsOpen};
 ghost use Rattle.kernel_types.specs.Allowed.{IsAllowed};
-ghost use Rattle.kernel_types.specs.Replies.{holds_text_or_list};
+ghost use Rattle.kernel_types.specs.Replies.{holds_text_or_list, is_fault};
 ghost use Rattle.pod_workers.specs.Slots.{IsCountable, IsDone, IsWithin, MayCarryOn, host_after, next_in, opened_by, slot_after};
+ghost use Rattle.pod_workers.specs.Tasks.{IsListed};
 ghost use Rattle.pod_workers.specs.World.{host_on, is_stop, reply_to};
 
-use crate::join::list_named;
+use crate::join::list_of;
 use crate::plan::{Entry, Next};
+use crate::task::Task;
 use cni_addr::{Duplicate, NoMemory};
-use cni_verbs::{Answer, Run};
+use cni_verbs::Answer;
 use kernel_model::Kernel;
 use kernel_types::{Call, Reply};
 use net_conf::NetList;
@@ -21,7 +23,7 @@ use std::alloc::Global;
 /// A run in progress, and how many calls it has made.
 #[derive(Drop)]
 pub struct Slot {
-    pub run: Run,
+    pub run: Task,
     pub made: u64,
 }
 
@@ -68,7 +70,8 @@ pub fn carry_on<K: Kernel>(
     cut: bool,
     slot: Option<Slot>,
 ) -> Result<Outcome, NoMemory>
-    requires { MayCarryOn (K.host kernel.old) history.old.items command.now cut (opened_by lists.now command.now slot) }
+    requires may { MayCarryOn (K.host kernel.old) history.old.items command.now cut (opened_by lists.now command.now slot) }
+    requires listed { IsListed lists.now command.now }
     ensures ok { IfOk result (λ outcome. IsDone (K.host kernel.old) (K.host kernel.new) history.old.items history.new.items command.now (opened_by lists.now command.now slot) (next_in command.now cut (opened_by lists.now command.now slot)) outcome) }
     ensures err { OnErr result ((K.host kernel.new ≡ K.host kernel.old) × (history.new.items ≡ history.old.items)) }
 {
@@ -84,12 +87,13 @@ fn open(
     command: &Command,
     slot: Option<Slot>,
 ) -> Result<Slot, NoMemory>
+    requires { IsListed lists.now command.now }
     ensures { IfOk result (λ slot'. slot' ≡ opened_by lists.now command.now slot) }
 {
     match slot {
         Some(slot) => Ok(slot),
         None => Ok(Slot {
-            run: Run::start(alloc, list_named(lists, &command.network), command)?,
+            run: Task::start(alloc, list_of(lists, command), command)?,
             made: 0,
         }),
     }
@@ -116,13 +120,15 @@ fn act<K: Kernel>(
             drop(slot);
             Ok(Outcome::Over(answer))
         }
-        Ok(Next::Call(call, faulty)) => match make(kernel, history, command.number, call, faulty) {
-            Err(NoMemory) => {
-                drop(slot);
-                Err(NoMemory)
+        Ok(Next::Call(call, faulty)) => {
+            match make(kernel, history, &mut slot, command.number, call, faulty) {
+                Err(NoMemory) => {
+                    drop(slot);
+                    Err(NoMemory)
+                }
+                Ok(()) => Ok(Outcome::Went(slot)),
             }
-            Ok(reply) => Ok(Outcome::Went(went(slot, reply))),
-        },
+        }
     }
 }
 
@@ -174,19 +180,22 @@ fn is_after(number: u32, made: u64) -> bool
     number > 0 && made == (number - 1) as u64
 }
 
-/// Makes a call, or meets the listed fault, and enters it.
+/// Makes a call, or meets the listed fault, hands the reply to the run, and enters both.
 fn make<K: Kernel>(
     kernel: &mut K,
     history: &mut Vec<Entry>,
+    slot: &mut Slot,
     command: u32,
     call: Call,
     faulty: bool,
-) -> Result<Reply, NoMemory>
-    requires { faulty ≡ false → IsAllowed (K.host kernel.old) call }
-    ensures reply { IfOk result (λ reply. reply ≡ reply_to (K.host kernel.old) call faulty) }
-    ensures host { IfOk result (λ reply. K.host kernel.new ≡ host_on (K.host kernel.old) (record { command = command; call = call; reply = reply_to (K.host kernel.old) call faulty })) }
-    ensures history { IfOk result (λ reply. history.new.items ≡ history.old.items ++ record { command = command; call = call; reply = reply_to (K.host kernel.old) call faulty } ∷ []) }
-    ensures room { IfOk result (λ reply. length history.old.items + 1 < 2 ^ 64) }
+) -> Result<(), NoMemory>
+    requires allowed { faulty ≡ false → IsAllowed (K.host kernel.old) call }
+    requires unfinished { IsOpen slot.old.run.state }
+    requires counted { slot.old.made ≡ slot.old.run.made }
+    requires few { slot.old.made ≤ length history.old.items }
+    ensures slot { OnOk result (slot.new ≡ slot_after slot.old (reply_to (K.host kernel.old) call faulty)) }
+    ensures host { OnOk result (K.host kernel.new ≡ host_on (K.host kernel.old) (record { command = command; call = call; reply = reply_to (K.host kernel.old) call faulty })) }
+    ensures history { OnOk result (history.new.items ≡ history.old.items ++ record { command = command; call = call; reply = reply_to (K.host kernel.old) call faulty } ∷ []) }
     ensures err { OnErr result ((K.host kernel.new ≡ K.host kernel.old) × (history.new.items ≡ history.old.items)) }
 {
     let alloc = *history.allocator();
@@ -194,14 +203,14 @@ fn make<K: Kernel>(
         drop(call);
         return Err(NoMemory);
     }
+    let _room = history.capacity();
     match replied(alloc, kernel, &call, faulty) {
         Err(NoMemory) => {
             drop(call);
             Err(NoMemory)
         }
-        Ok(reply) => match twin(&reply) {
+        Ok(reply) => match hand(slot, reply) {
             Err(NoMemory) => {
-                drop(reply);
                 drop(call);
                 Err(NoMemory)
             }
@@ -211,8 +220,34 @@ fn make<K: Kernel>(
                     call,
                     reply: kept,
                 });
-                let _length = history.len();
-                Ok(reply)
+                Ok(())
+            }
+        },
+    }
+}
+
+/// Hands a reply to the run of a slot, and gives a copy of it.
+fn hand(slot: &mut Slot, reply: Reply) -> Result<Reply, NoMemory>
+    requires unfinished { IsOpen slot.old.run.state }
+    requires counted { slot.old.made ≡ slot.old.run.made }
+    requires numbered { slot.old.made + 1 < 2 ^ 64 }
+    ensures kept { IfOk result (λ kept. kept ≡ reply) }
+    ensures slot { OnOk result (slot.new ≡ slot_after slot.old reply) }
+    ensures err { OnErr result ((holds_text_or_list reply ≡ true) ⊎ (is_fault reply ≡ true)) }
+{
+    match twin(&reply) {
+        Err(NoMemory) => {
+            drop(reply);
+            Err(NoMemory)
+        }
+        Ok(kept) => match slot.run.take(reply) {
+            Err(NoMemory) => {
+                drop(kept);
+                Err(NoMemory)
+            }
+            Ok(()) => {
+                slot.made += 1;
+                Ok(kept)
             }
         },
     }
@@ -253,19 +288,5 @@ fn twin(reply: &Reply) -> Result<Reply, NoMemory>
         Reply::Owners(owners) => Ok(Reply::Owners(owners.copy()?)),
         Reply::Entry(cached) => Ok(Reply::Entry(cached.copy()?)),
         Reply::Fault => Ok(Reply::Fault),
-    }
-}
-
-fn went(slot: Slot, reply: Reply) -> Slot
-    requires unfinished { IsOpen slot.run.state }
-    requires numbered { slot.run.made + 1 < 2 ^ 64 }
-    requires counted { slot.made + 1 < 2 ^ 64 }
-    ensures { result ≡ slot_after slot reply }
-{
-    let Slot { mut run, made } = slot;
-    run.take(reply);
-    Slot {
-        run,
-        made: made + 1,
     }
 }

@@ -23,6 +23,7 @@ use Rattle.pod_workers.specs.Laws.{JoinedPlansAreWellFormed}
 use Rattle.pod_workers.specs.Plans.{AreNumbered, IsOpening, IsWellFormed, Placed, commands_of, has_pools_apart, in_round, placed_from}
 use Rattle.pod_workers.specs.declared.plan.Plan.{Plan}
 use Rattle.tool_run.specs.Causes.{IsReadList, IsReadPods}
+use Rattle.tool_run.proofs.Alone.{are_alone}
 
 -- ---- the pools
 
@@ -100,4 +101,4 @@ read_pods_are_few law p read = few_commands p (law read.0 p.pods read.1)
 pub read_plan_is_well_formed : ListLaw → PodsLaw → JoinedPlansAreWellFormed → (p q : Plan) → All IsReadList p.lists → IsReadPods p.pods → joined p ≡ Ok q → IsWellFormed q
 read_plan_is_well_formed list_law pods_law joins p q lists pods is =
     let formed = pods_law pods.0 p.pods pods.1 in
-    joins p q is (opening_of p.pods formed) (lists_apart list_law p.lists lists) (are_numbered p formed) (few_commands p formed) formed.few_rounds
+    joins p q is (opening_of p.pods formed) (lists_apart list_law p.lists lists) (are_numbered p formed) (are_alone p formed) (few_commands p formed) formed.few_rounds

@@ -1,3 +1,4 @@
+pub mod Alone
 pub mod Ended
 pub mod Joined
 pub mod Lists

@@ -38,12 +38,10 @@ pods_error (pods.Alone round) = invalid_pods (codes "rounds[" ++ (decimal round 
 pods_error pods.NoMemory = memory_error
 
 abbrev pub plan_error : PlanError → CniError
-plan_error (plans.NotBuiltCommand number) = invalid_pods (codes "not built " ++ decimal number)
 plan_error (plans.SameName place) = invalid_list (codes "name")
 plan_error (plans.NoNetwork number) = invalid_pods (codes "no network for command " ++ decimal number)
 
 -- the file that makes the plan fail
 abbrev pub file_at_fault : Words → PlanError → List ℕ
-file_at_fault words (plans.NotBuiltCommand number) = words.pods
 file_at_fault words (plans.SameName place) = slice_index_or words.lists place []
 file_at_fault words (plans.NoNetwork number) = words.pods

@@ -57,10 +57,6 @@ pub(crate) fn plan_error(alloc: Global, error: PlanError) -> Result<CniError, No
     ensures { IfOk result (λ e. e ≡ plan_error error) }
 {
     match error {
-        PlanError::NotBuiltCommand { command } => {
-            let why = format!(in alloc; "not built {command}")?;
-            invalid_pods(alloc, why.as_str())
-        }
         PlanError::SameName { .. } => invalid_list(alloc, "name"),
         PlanError::NoNetwork { command } => {
             let why = format!(in alloc; "no network for command {command}")?;
@@ -78,7 +74,7 @@ pub(crate) fn file_at_fault(words: &Words, error: PlanError) -> &str
             Some(name) => name.as_str(),
             None => "",
         },
-        PlanError::NotBuiltCommand { .. } | PlanError::NoNetwork { .. } => words.pods.as_str(),
+        PlanError::NoNetwork { .. } => words.pods.as_str(),
     }
 }
 

@@ -1,7 +1,7 @@
-use Rattle.std.proofs.Common.{◌≡◌, ℕ, ◌+◌, ◌^◌}
+use Rattle.std.proofs.Common.{◌≡◌, ℕ, ◌+◌}
 use Rattle.pod_workers.specs.Extends.{Extends}
 use Rattle.pod_workers.specs.Order.{EarlierAreAnswered, IsInFileOrder}
-use Rattle.pod_workers.proofs.RoundDone.{room_left}
+use Rattle.pod_workers.proofs.StepsLeft.{steps_left}
 use Rattle.pod_workers.proofs.book.Book.finish.Given as goal
 
 abbrev pub invariant-loop-self : goal.invariant-loop-self
@@ -11,4 +11,4 @@ invariant-loop-self g l = record {
 }
 
 abbrev pub decreases-loop-self : goal.decreases-loop-self
-decreases-loop-self g l = room_left (2 ^ 64) l.self l.command
+decreases-loop-self g l = steps_left l.self l.command

@@ -2,6 +2,7 @@ use Rattle.std.proofs.Common.{◌-◌, ◌<◌, ◌^◌, length, slice_get, refl
 use Rattle.std.proofs.lemmas.List.{length-set, set-set}
 use Rattle.pod_workers.specs.Index.{command_in, is_cut_by}
 use Rattle.pod_workers.proofs.Kept.{found, found-may, found-over, found-refused, found-went, left-end, left-stepped, number-command, number-within, refused-answered}
+use Rattle.pod_workers.proofs.Listed.{found-listed}
 use Rattle.pod_workers.proofs.book.Book.step.Goals as goal
 
 pub place_at-place-requires : goal.place_at-place-requires
@@ -23,8 +24,8 @@ put_at-requires-in-Went g c = rw (c.take_at-slot.ensures.left, length-set) (numb
 pub put_at-requires-in-Over : goal.put_at-requires-in-Over
 put_at-requires-in-Over g c = (number-within (g.K.Kernel.host c.self.inside.kernel) c.self.inside.slots.items c.self.inside.places.items c.self.inside.before _ c.args.self.now c.args.command c.self.invariant c.self.view_is c.requires).3
 
-pub carry_on-requires : goal.carry_on-requires
-carry_on-requires g c =
+pub carry_on-requires-clause-may : goal.carry_on-requires-clause-may
+carry_on-requires-clause-may g c =
     let f = found (g.K.Kernel.host c.self.inside.kernel) c.self.inside.slots.items c.self.inside.places.items c.self.inside.before _ c.args.self.now c.args.command (c.args.command - 1) c.place_at-place.result c.take_at-slot.result c.command_at-task.result.now c.self.invariant c.self.view_is c.requires refl
     (ap (λ ps. slice_get ps (c.args.command - 1)) (sym c.as_slice.ensures.value) ∙ c.place_at-place.ensures)
     (ap (λ rs. command_in rs c.place_at-place.result) (sym c.as_slice-4.ensures) ∙ c.command_at-task.ensures) c.take_at-slot.ensures.taken in
@@ -33,6 +34,13 @@ carry_on-requires g c =
     rw c.as_slice-5.ensures
     (found-may (g.K.Kernel.host c.self.inside.kernel) c.self.inside.slots.items c.self.inside.places.items c.self.inside.before _ c.args.command (c.args.command - 1) c.take_at-slot.result c.command_at-task.result.now c.is_cut-cut.result f cut
     (λ reached. subst (λ h. length h < 2 ^ 32) c.as_slice-2.ensures.value (c.is_cut-cut.ensures.small reached)))
+
+pub carry_on-requires-clause-listed : goal.carry_on-requires-clause-listed
+carry_on-requires-clause-listed g c =
+    let f = found (g.K.Kernel.host c.self.inside.kernel) c.self.inside.slots.items c.self.inside.places.items c.self.inside.before _ c.args.self.now c.args.command (c.args.command - 1) c.place_at-place.result c.take_at-slot.result c.command_at-task.result.now c.self.invariant c.self.view_is c.requires refl
+    (ap (λ ps. slice_get ps (c.args.command - 1)) (sym c.as_slice.ensures.value) ∙ c.place_at-place.ensures)
+    (ap (λ rs. command_in rs c.place_at-place.result) (sym c.as_slice-4.ensures) ∙ c.command_at-task.ensures) c.take_at-slot.ensures.taken in
+    rw c.as_slice-5.ensures (found-listed _ _ _ _ _ _ _ _ _ f)
 
 pub invariant_of-self : goal.invariant_of-self
 invariant_of-self g c =

@@ -1,0 +1,162 @@
+-- Each call of a collection lowers the calls that are left to it.
+use Rattle.std.proofs.Common.{◌≡◌, ℕ, ◌+◌, ◌*◌, ◌<◌, ◌≤◌, Bool, true, false, List, [], ◌∷◌, map, length, Option, Some, None, refl, sym, subst, arith, suc-mul, mul-le-mul_right}
+use Rattle.std.specs.Prelude.{filter, find, not}
+use Rattle.std.specs.List.{cons_option, filter_map, list_any}
+use Rattle.std.proofs.lemmas.List.{length-map}
+use Rattle.std.proofs.lemmas.Option.{same_Some, none-some}
+use Rattle.kernel_types.specs.Apply.{apply}
+use Rattle.kernel_types.specs.Apply.Calls.{goes_with, owner_in, tags_of, without_link}
+use Rattle.kernel_types.specs.Equal.{att_eq}
+use Rattle.kernel_types.specs.Lists.{firsts, without_first}
+use Rattle.kernel_types.specs.Words.{is_own}
+use Rattle.kernel_types.proofs.Removal.{goes_with-itself}
+use Rattle.kernel_types.specs.declared.object.Att.{Att}
+use Rattle.kernel_types.specs.declared.object.CachedObj.{CachedObj}
+use Rattle.kernel_types.specs.declared.object.Host.{Host}
+use Rattle.kernel_types.specs.declared.object.Lease.{Lease}
+use Rattle.kernel_types.specs.declared.object.Link.{Link}
+use Rattle.kernel_types.specs.declared.object.Rule.{Rule}
+use Rattle.kernel_types.specs.declared.object.Setting.{Setting}
+use Rattle.kernel_types.specs.declared.object.Tag.{Tag}
+use Rattle.kernel_types.specs.declared.call.Call.{Call}
+use Rattle.kernel_types.specs.declared.call.Call.TheVariants.{OwnersOf}
+use Rattle.kernel_types.specs.declared.call.Kind.{Kind}
+use Rattle.kernel_types.specs.declared.call.Kind.TheVariants as kinds
+use Rattle.kernel_types.specs.declared.call.Reply.{Reply}
+use Rattle.kernel_types.specs.declared.call.Reply.TheVariants.{Fault, Gone}
+use Rattle.cni_verbs.specs.Script.{call_of_work}
+use Rattle.cni_verbs.specs.Sweep.{Gc, Job, Look, Delete, Step, Sweep, after_step, is_valid, job_of, step_call, worked}
+use Rattle.cni_verbs.specs.Wanted.{deletion}
+use Rattle.pod_workers.specs.CallsLeft.{collection_left, jobs_left, objects_in, sweeps_left}
+use Rattle.pod_workers.proofs.Deletable.{one_if}
+
+-- ---- no more owners than objects
+
+fewer-filter : {X : Type 0} (p : X → Bool) (xs : List X) → length (filter p xs) ≤ length xs
+fewer-filter p [] = omega arith
+fewer-filter p (x ∷ xs) = grind (arith, fewer-filter p xs)
+
+fewer-firsts : (xs : List Att) → length (firsts att_eq xs) ≤ length xs
+fewer-firsts [] = omega arith
+fewer-firsts (x ∷ xs) =
+    let rest = fewer-firsts xs in
+    let some = fewer-filter (λ y. not (att_eq x y)) (firsts att_eq xs) in
+    omega arith
+
+fewer-cons : (o : Option Att) (xs : List Att) → length (cons_option o xs) ≤ 1 + length xs
+fewer-cons None xs = omega arith
+fewer-cons (Some x) xs = omega arith
+
+fewer-owners : (network : List ℕ) (ts : List Tag) → length (filter_map (owner_in network) ts) ≤ length ts
+fewer-owners network [] = omega arith
+fewer-owners network (t ∷ ts) =
+    let rest = fewer-owners network ts in
+    let one = fewer-cons (owner_in network t) (filter_map (owner_in network) ts) in
+    omega arith
+
+tags-fit : (host : Host) (kind : Kind) → length (tags_of host kind) ≤ objects_in host
+tags-fit host kinds.Links = let m = length-map host.links (λ (l : Link). l.tag) in omega arith
+tags-fit host kinds.Rules = let m = length-map host.rules (λ (r : Rule). r.tag) in omega arith
+tags-fit host kinds.Settings = let m = length-map host.settings (λ (s : Setting). s.tag) in omega arith
+tags-fit host kinds.Leases = let m = length-map host.leases (λ (l : Lease). l.tag) in omega arith
+tags-fit host kinds.Cached = let m = length-map host.cached (λ (c : CachedObj). c.tag) in omega arith
+
+-- ---- a deletion takes an object, or says that there is none
+
+length-without_first : {X : Type 0} (p : X → Bool) (xs : List X) → length (without_first p xs) + one_if (list_any p xs) ≤ length xs
+length-without_first p [] = omega arith
+length-without_first p (x ∷ xs) = grind (arith, length-without_first p xs)
+
+length-gone : {X : Type 0} (own gone : X → Bool) (xs : List X) (y : X) → find own xs ≡ Some y → gone y ≡ true → length (filter (λ x. not (gone x)) xs) + 1 ≤ length xs
+length-gone own gone [] y is goes = cc
+length-gone own gone (x ∷ xs) y is goes = let rest = fewer-filter (λ z. not (gone z)) xs in grind (arith, is, goes, rest, length-gone own gone xs y)
+
+record Shrinks (host : Host) (step : Host × Reply) : Type 0 where
+  gone : Bool
+  reply : step.1 ≡ Gone gone
+  fewer : objects_in step.0 + one_if gone ≤ objects_in host
+
+links-shrink : (att : Att) (host : Host) (o : Option Link) → find (λ l. is_own att l.tag) host.links ≡ o → Shrinks host (without_link host o)
+links-shrink att host None is = record { gone = false; reply = refl; fewer = omega arith }
+links-shrink att host (Some l) is = record {
+  gone = true;
+  reply = refl;
+  fewer = let c = length-gone (λ m. is_own att m.tag) (goes_with l.ns l.name) host.links l is (goes_with-itself l) in omega arith;
+}
+
+deletion-shrinks : (att : Att) (kind : Kind) (host : Host) → Shrinks host (apply host (deletion att kind))
+deletion-shrinks att kinds.Links host = links-shrink att host (find (λ l. is_own att l.tag) host.links) refl
+deletion-shrinks att kinds.Rules host = record { gone = list_any (λ r. is_own att r.tag) host.rules; reply = refl; fewer = let c = length-without_first (λ r. is_own att r.tag) host.rules in omega arith }
+deletion-shrinks att kinds.Settings host = record { gone = list_any (λ s. is_own att s.tag) host.settings; reply = refl; fewer = let c = length-without_first (λ s. is_own att s.tag) host.settings in omega arith }
+deletion-shrinks att kinds.Leases host = record { gone = list_any (λ l. is_own att l.tag) host.leases; reply = refl; fewer = let c = length-without_first (λ l. is_own att l.tag) host.leases in omega arith }
+deletion-shrinks att kinds.Cached host = record { gone = list_any (λ c. is_own att c.tag) host.cached; reply = refl; fewer = let n = length-without_first (λ c. is_own att c.tag) host.cached in omega arith }
+
+-- ---- the work
+
+jobs-map : (s : Sweep) (xs : List Att) → jobs_left (map (job_of s) xs) ≡ length xs * (1 + length s.more)
+jobs-map s [] = omega arith
+jobs-map s (x ∷ xs) = let rest = jobs-map s xs in let one = suc-mul (length xs) (1 + length s.more) in omega arith
+
+jobs-after : (att : Att) (more : List Step) (js : List Job) → jobs_left (after_step att more js) ≡ length more + jobs_left js
+jobs-after att [] js = omega arith
+jobs-after att (s ∷ more) js = omega arith
+
+-- fewer objects, less to do
+fewer-sweeps : (few many : ℕ) (ss : List Sweep) → few ≤ many → sweeps_left few ss ≤ sweeps_left many ss
+fewer-sweeps few many [] less = omega arith
+fewer-sweeps few many (s ∷ ss) less =
+    let rest = fewer-sweeps few many ss less in
+    let one : few * (1 + length s.more) ≤ many * (1 + length s.more) = mul-le-mul_right (1 + length s.more) less in
+    omega arith
+
+-- ---- each call
+
+abbrev FallsBy : Gc → List Job → List Sweep → Host → Reply → Host → Type 0
+FallsBy gc js ss host r k = collection_left (worked gc js ss r) k < collection_left (record { jobs = js; sweeps = ss }) host
+
+owners-fall : (gc : Gc) (s : Sweep) (ss : List Sweep) (host : Host) → FallsBy gc [] (s ∷ ss) host (apply host (OwnersOf gc.network s.kind)).1 (apply host (OwnersOf gc.network s.kind)).0
+owners-fall gc s ss host =
+    let all = filter_map (owner_in gc.network) (tags_of host s.kind) in
+    let owners = firsts att_eq all in
+    let stale = filter (λ a. not (is_valid gc.valid a)) owners in
+    let a = fewer-filter (λ x. not (is_valid gc.valid x)) owners in
+    let b = fewer-firsts all in
+    let c = fewer-owners gc.network (tags_of host s.kind) in
+    let d = tags-fit host s.kind in
+    let few : length stale ≤ objects_in host = omega arith in
+    let jobs = jobs-map s stale in
+    let most : length stale * (1 + length s.more) ≤ objects_in host * (1 + length s.more) = mul-le-mul_right (1 + length s.more) few in
+    omega arith
+
+gone-falls : (gc : Gc) (att : Att) (kind : Kind) (more : List Step) (js : List Job) (ss : List Sweep) (host k : Host) (gone : Bool) → objects_in k + one_if gone ≤ objects_in host
+    → FallsBy gc (record { att = att; step = Delete kind; more = more } ∷ js) ss host (Gone gone) k
+gone-falls gc att kind more js ss host k true fewer = let rest = fewer-sweeps (objects_in k) (objects_in host) ss (omega arith) in omega arith
+gone-falls gc att kind more js ss host k false fewer =
+    let rest = fewer-sweeps (objects_in k) (objects_in host) ss (omega arith) in
+    let left = jobs-after att more js in
+    omega arith
+
+step-falls : (gc : Gc) (att : Att) (step : Step) (more : List Step) (js : List Job) (ss : List Sweep) (host : Host)
+    → FallsBy gc (record { att = att; step = step; more = more } ∷ js) ss host (apply host (step_call att step)).1 (apply host (step_call att step)).0
+step-falls gc att Look more js ss host = let left = jobs-after att more js in omega arith
+step-falls gc att (Delete kind) more js ss host =
+    let d = deletion-shrinks att kind host in
+    subst (λ r. FallsBy gc (record { att = att; step = Delete kind; more = more } ∷ js) ss host r (apply host (deletion att kind)).0) (sym d.reply)
+    (gone-falls gc att kind more js ss host (apply host (deletion att kind)).0 d.gone d.fewer)
+
+abbrev CallFalls : Gc → List Job → List Sweep → Host → Call → Type 0
+CallFalls gc js ss host call = FallsBy gc js ss host (apply host call).1 (apply host call).0
+
+-- the kernel's reply lowers what is left to a collection
+pub work-falls : (gc : Gc) (js : List Job) (ss : List Sweep) (host : Host) (call : Call) → call_of_work gc.network js ss ≡ Some call
+    → collection_left (worked gc js ss (apply host call).1) (apply host call).0 < collection_left (record { jobs = js; sweeps = ss }) host
+work-falls gc [] [] host call is = absurd (none-some call is)
+work-falls gc [] (s ∷ ss) host call is = subst (CallFalls gc [] (s ∷ ss) host) (same_Some (OwnersOf gc.network s.kind) call is) (owners-fall gc s ss host)
+work-falls gc (j ∷ js) ss host call is = subst (CallFalls gc (j ∷ js) ss host) (same_Some (step_call j.att j.step) call is) (step-falls gc j.att j.step j.more js ss host)
+
+-- and so does a fault
+pub fault-falls : (gc : Gc) (js : List Job) (ss : List Sweep) (host : Host) (call : Call) → call_of_work gc.network js ss ≡ Some call
+    → collection_left (worked gc js ss Fault) host < collection_left (record { jobs = js; sweeps = ss }) host
+fault-falls gc [] [] host call is = absurd (none-some call is)
+fault-falls gc [] (s ∷ ss) host call is = omega arith
+fault-falls gc (j ∷ js) ss host call is = omega arith

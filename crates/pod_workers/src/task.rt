@@ -1,0 +1,120 @@
+//! What carries a command on: the run of a verb, or of a garbage collection.
+
+ghost use Rattle.std.specs.Prelude.{◌≡◌, ◌+◌, ◌<◌, ◌^◌, [], false, true, IfOk, IsOk, OnErr, OnOk, is_some, option_map};
+ghost use Rattle.std.specs.Option.{option_copied};
+ghost use Rattle.cni_verbs.specs.Progress.{advanced, answer_by, is_gc, progress};
+ghost use Rattle.cni_verbs.specs.Script.{IsOpen, finish_of, next_call};
+ghost use Rattle.kernel_types.specs.Replies.{is_fault};
+
+use cni_addr::NoMemory;
+use cni_verbs::{Answer, Run};
+use gc_sweep::GcRun;
+use kernel_types::{Call, Reply};
+use net_conf::NetList;
+use pod_file::{Command, Verb};
+use std::alloc::Global;
+use std::marker::Model;
+
+/// A collection goes over the owners of a whole network, every other verb over one attachment.
+#[derive(Drop)]
+enum Carried {
+    Verb(Run),
+    Collection(GcRun),
+}
+
+/// The run of a command, of whichever verb.
+#[derive(Drop)]
+pub struct Task {
+    run: Carried,
+}
+
+impl Model for Task {
+    ghost use Rattle.cni_verbs.specs.Progress.{Progress};
+    ghost use Rattle.pod_workers.specs.Tasks.{progress_in};
+
+    ghost Value = { Progress };
+
+    ghost view = { λ t. progress_in t.run };
+}
+
+impl Task {
+    /// The run of a command before its first call. A collection has a list.
+    pub fn start(alloc: Global, list: Option<&NetList>, command: &Command) -> Result<Task, NoMemory>
+        requires { is_gc command.now.verb ≡ true → is_some list ≡ true }
+        ensures { IfOk result (λ task. task ≡ progress (option_copied list.entry) command.now []) }
+    {
+        if is_gc(command.verb) {
+            match list {
+                Some(list) => Task::of_collection(alloc, list, command),
+                None => unreachable!(),
+            }
+        } else {
+            Ok(Task {
+                run: Carried::Verb(Run::start(alloc, list, command)?),
+            })
+        }
+    }
+
+    fn of_collection(alloc: Global, list: &NetList, command: &Command) -> Result<Task, NoMemory>
+        requires { is_gc command.now.verb ≡ true }
+        ensures { IfOk result (λ task. task ≡ progress (Some list.now) command.now []) }
+    {
+        Ok(Task {
+            run: Carried::Collection(GcRun::start(alloc, list, command)?),
+        })
+    }
+
+    /// Makes what a later call is read from, so that it isn't made anew at each. It changes nothing that is seen.
+    pub fn prepare(&mut self) -> Result<(), NoMemory>
+        ensures { self.new ≡ self.old }
+    {
+        match &mut self.run {
+            Carried::Verb(run) => run.prepare(),
+            Carried::Collection(_) => Ok(()),
+        }
+    }
+
+    /// The call to make next, or none where the run is over.
+    pub fn next(&self) -> Result<Option<Call>, NoMemory>
+        ensures { IfOk result (λ call. call ≡ next_call self.now.command self.now.state) }
+    {
+        match &self.run {
+            Carried::Verb(run) => run.next(),
+            Carried::Collection(run) => run.next(),
+        }
+    }
+
+    /// Takes the reply to the call that [`Task::next`] gave. Memory can be wanting only where the reply is a fault, and
+    /// then the run is as it was.
+    pub fn take(&mut self, reply: Reply) -> Result<(), NoMemory>
+        requires open { IsOpen self.old.state }
+        requires numbered { self.old.made + 1 < 2 ^ 64 }
+        ensures ok { OnOk result (self.new ≡ advanced self.old reply) }
+        ensures err { OnErr result (self.new ≡ self.old) }
+        ensures frees { is_fault reply ≡ false → IsOk result }
+    {
+        match &mut self.run {
+            Carried::Verb(run) => {
+                run.take(reply);
+                Ok(())
+            }
+            Carried::Collection(run) => run.take(reply),
+        }
+    }
+
+    /// What the command is answered, where the run is over.
+    pub fn answer(&self) -> Result<Option<Answer>, NoMemory>
+        ensures { IfOk result (λ answer. answer ≡ option_map (answer_by self.now.list self.now.command) (finish_of self.now.state)) }
+    {
+        match &self.run {
+            Carried::Verb(run) => run.answer(),
+            Carried::Collection(run) => run.answer(),
+        }
+    }
+}
+
+fn is_gc(verb: Verb) -> bool
+    ensures { result ≡ is_gc verb }
+{
+    matches!(verb, Verb::Gc)
+}
