@@ -24,18 +24,20 @@ use Rattle.plan_words.specs.Share.{Share, share_of, no_objects, share_after_call
 use Rattle.plan_words.proofs.CallLists.{share_after_calls-append}
 use Rattle.plan_words.proofs.OwnCalls.{share-own, share-begin, share-lease}
 use Rattle.cni_verbs.specs.CommandWords.{att_of, mappings_of, add_refusal, del_refusal}
-use Rattle.cni_verbs.specs.Script.{State, AtBegin, BeforeLeases, Leasing, AfterLeases, ReadingCache, Deleting, Over, Calls, before_of, back_of, after_leases, leasing, before_leases, deleting, faulted, at_begin, at_call_before, at_lease, at_call_after, at_cache, at_deletion, advance, unless_refused, start_of, turn, leased_by, leases_in}
+use Rattle.cni_verbs.specs.Script.{State, AtBegin, BeforeLeases, Leasing, AfterLeases, ReadingCache, Deleting, FindingEntry, Asking, Changing, Collecting, Over, Calls, before_of, back_of, after_leases, leasing, before_leases, deleting, faulted, at_begin, at_call_before, at_lease, at_call_after, at_cache, at_deletion, advance, unless_refused, start_of, turn, leased_by, leases_in}
 use Rattle.cni_verbs.specs.Wanted.{sets_of, calls_before, kinds_of, wanted}
 use Rattle.cni_verbs.specs.declared.answer.Cause.{Cause}
 use Rattle.cni_verbs.specs.declared.answer.Ending.{Ending}
-use Rattle.cni_verbs.specs.declared.answer.Ending.TheVariants.{Added, Yes, Refused}
+use Rattle.cni_verbs.specs.declared.answer.Ending.TheVariants.{Added, Yes, Skipped, Versions, Refused}
 use Rattle.pod_workers.specs.World.{entry_of, host_of, host_on, reply_to}
 use Rattle.pod_workers.specs.declared.plan.Entry.{Entry}
 use Rattle.pod_workers.proofs.Planned.{LeftArePlanned}
 use Rattle.pod_laws.specs.Moments.{own_entries}
 use Rattle.pod_laws.proofs.Entries.{replies_in}
-use Rattle.pod_laws.proofs.Steps.{StartsWith, IsRunFact, host-made, own-state}
-use Rattle.pod_laws.proofs.WantedShare.{share_with_leases, makes-wanted}
+use Rattle.pod_laws.proofs.States.{IsAside, IsNoResult, aside-advance, aside-start}
+use Rattle.pod_laws.proofs.Runs.{IsRunFact, StartsWith, own-state}
+use Rattle.pod_laws.proofs.Steps.{host-made}
+use Rattle.cni_verbs.proofs.WantedShare.{share_with_leases, makes-wanted}
 
 -- the addresses that these entries leased, in order
 abbrev pub leased_in : List Entry → List Addr
@@ -50,12 +52,16 @@ wanted_by list c given = wanted list (att_of c) c.netns (mappings_of list c) giv
 abbrev IsNotAdded : Ending → Type 0
 IsNotAdded Added = ⊥
 IsNotAdded Yes = Unit {0}
+IsNotAdded (Skipped skip) = Unit {0}
+IsNotAdded Versions = Unit {0}
 IsNotAdded (Refused cause) = Unit {0}
 
 -- one address a set was leased, and the objects are those that they ask for
 abbrev pub IsAddedWith : NetList → Command → List Entry → Ending → List Addr → Share → Type 0
 IsAddedWith list c es Added given s = (leased_in es ≡ given) × (length given ≡ length (sets_of list)) × (s ≡ wanted_by list c given)
 IsAddedWith list c es Yes given s = Unit {0}
+IsAddedWith list c es (Skipped skip) given s = Unit {0}
+IsAddedWith list c es Versions given s = Unit {0}
 IsAddedWith list c es (Refused cause) given s = Unit {0}
 
 -- what a run in this state, after these entries, has of its attachment's objects
@@ -67,6 +73,10 @@ Achieved list c es (AfterLeases next left given) s =
     (made : List Call) × (back_of list c given ≡ made ++ next ∷ left) × (length given ≡ length (sets_of list)) × (s ≡ share_after_calls (with_leases list c given) made) × (leased_in es ≡ given)
 Achieved list c es (ReadingCache ending) s = IsNotAdded ending
 Achieved list c es (Deleting next left ending) s = IsNotAdded ending
+Achieved list c es FindingEntry s = Unit {0}
+Achieved list c es (Asking next left) s = Unit {0}
+Achieved list c es (Changing change) s = Unit {0}
+Achieved list c es (Collecting work faults) s = Unit {0}
 Achieved list c es (Over ending given) s = IsAddedWith list c es ending given s
 
 -- ---- the addresses so far
@@ -116,11 +126,15 @@ to-before_leases list c es made (x ∷ xs) s all is was = (made, all, is, was)
 not_added-over : (list : NetList) (c : Command) (es : List Entry) (e : Ending) (s : Share) → IsNotAdded e → IsAddedWith list c es e [] s
 not_added-over list c es Added s h = absurd h
 not_added-over list c es Yes s h = tt
+not_added-over list c es (Skipped skip) s h = tt
+not_added-over list c es Versions s h = tt
 not_added-over list c es (Refused cause) s h = tt
 
 not_added-faulted : (list : NetList) (c : Command) (es : List Entry) (number : ℕ) (e : Ending) (s : Share) → IsAddedWith list c es (faulted number e) [] s
 not_added-faulted list c es number Added s = tt
 not_added-faulted list c es number Yes s = tt
+not_added-faulted list c es number (Skipped skip) s = tt
+not_added-faulted list c es number Versions s = tt
 not_added-faulted list c es number (Refused cause) s = tt
 
 to-deleting : (list : NetList) (c : Command) (es : List Entry) (ks : List Kind) (e : Ending) (s : Share) → IsNotAdded e → Achieved list c es (deleting ks e) s
@@ -173,6 +187,28 @@ moves-deletion list c es number k ks ending (Gone b) t was = moves-gone list c e
 moves-deletion list c es number k ks ending Fault t was = not_added-faulted list c es number ending t
 moves-deletion list c es number k ks ending _ t was = was
 
+-- ---- runs that make no attachment
+
+pub achieved-end : (list : NetList) (c : Command) (es : List Entry) (ending : Ending) (given : List Addr) (s : Share) → IsNoResult ending → IsAddedWith list c es ending given s
+achieved-end list c es Added given s h = absurd h
+achieved-end list c es Yes given s h = tt
+achieved-end list c es (Skipped skip) given s h = tt
+achieved-end list c es Versions given s h = tt
+achieved-end list c es (Refused cause) given s h = tt
+
+achieved-aside : (list : NetList) (c : Command) (es : List Entry) (st : State) (s : Share) → IsAside st → Achieved list c es st s
+achieved-aside list c es AtBegin s h = absurd h
+achieved-aside list c es (BeforeLeases x xs) s h = absurd h
+achieved-aside list c es (Leasing set sets given) s h = absurd h
+achieved-aside list c es (AfterLeases x xs given) s h = absurd h
+achieved-aside list c es (ReadingCache ending) s h = absurd h
+achieved-aside list c es (Deleting kind ks ending) s h = absurd h
+achieved-aside list c es (Over ending given) s h = achieved-end list c es ending given s h
+achieved-aside list c es _ s h = tt
+
+achieved-next : (list : NetList) (c : Command) (es : List Entry) (number : ℕ) (st : State) (r : Reply) (s : Share) → IsAside st → Achieved list c es (advance list c number st r) s
+achieved-next list c es number st r s h = achieved-aside list c es (advance list c number st r) s (aside-advance list c number st r h)
+
 -- ---- what the call did
 
 -- the host after a call that was done, or that leased
@@ -214,25 +250,21 @@ achieved-own list c es (AfterLeases x xs given) k n faulty call left is was =
 achieved-own list c es (ReadingCache ending) k n faulty call left is was = moves-cache list c (es ++ entry_of k n call faulty ∷ []) (length es + 1) ending _ _ was
 achieved-own list c es (Deleting kind ks ending) k n faulty call left is was = moves-deletion list c (es ++ entry_of k n call faulty ∷ []) (length es + 1) kind ks ending _ _ was
 achieved-own list c es (Over ending given) k n faulty call left is was = cc
+achieved-own list c es st k n faulty call left is was =
+    let e = entry_of k n call faulty in
+    achieved-next list c (es ++ e ∷ []) (length es + 1) st e.reply (share_of (att_of c) (host_on k e)) tt
 
 achieved-unless : (list : NetList) (c : Command) (o : Option Cause) (st : State) (s : Share) → Achieved list c [] st s → Achieved list c [] (unless_refused o st) s
 achieved-unless list c None st s h = h
 achieved-unless list c (Some cause) st s h = tt
 
-achieved-start_of : (list : NetList) (c : Command) (v : Verb) (s : Share) → Achieved list c [] (start_of v c) s
+achieved-start_of : (list : NetList) (c : Command) (v : Verb) (s : Share) → Achieved list c [] (start_of list v c) s
 achieved-start_of list c verbs.Add s = achieved-unless list c (add_refusal c) AtBegin s refl
 achieved-start_of list c verbs.Del s = achieved-unless list c (del_refusal c) (ReadingCache Yes) s tt
-achieved-start_of list c verbs.Check s = tt
-achieved-start_of list c verbs.Gc s = tt
-achieved-start_of list c verbs.Status s = tt
-achieved-start_of list c verbs.Version s = tt
-achieved-start_of list c verbs.NsAdd s = tt
-achieved-start_of list c verbs.NsDel s = tt
-achieved-start_of list c verbs.Drop s = tt
-achieved-start_of list c verbs.Flush s = tt
+achieved-start_of list c v s = achieved-aside list c [] (start_of list v c) s (aside-start list c v tt)
 
 pub achieved-start : StartsWith Achieved
-achieved-start list c s built = achieved-start_of list c c.verb s
+achieved-start list c s = achieved-start_of list c c.verb s
 
 pub achieved-step : IsRunFact Achieved
 achieved-step w n c list call faulty on was =

@@ -1,26 +1,20 @@
 -- At every moment each attachment has only what its last ADD that began asks for.
-use Rattle.std.proofs.Common.{◌≡◌, ◌≢◌, ℕ, ◌+◌, Bool, true, false, List, [], ◌∷◌, ◌++◌, map, length, Option, Some, None, refl, sym, ◌∙◌, ap, subst, inl, inr, append_assoc, arith}
+use Rattle.std.proofs.Common.{◌≡◌, ◌≢◌, ℕ, ◌+◌, Bool, true, false, List, [], ◌∷◌, ◌++◌, map, length, refl, sym, ◌∙◌, ap, subst, inl, inr, append_assoc, arith}
 use Rattle.std.proofs.lemmas.List.{append-nil, map-append}
 use Rattle.std.proofs.lemmas.Bool.{cases_Bool}
 use Rattle.std.proofs.lemmas.Bool.Decides.{eqb_tells}
-use Rattle.std.specs.Prelude.{find}
+use Rattle.std.specs.List.{list_all}
 use Rattle.cni_addr.specs.declared.address.Addr.{Addr}
 use Rattle.cni_addr.specs.declared.range.RangeSet.{RangeSet}
 use Rattle.net_conf.specs.declared.list.NetList.{NetList}
-use Rattle.kernel_types.specs.Apply.{apply}
-use Rattle.kernel_types.specs.Apply.Calls.{without_link}
 use Rattle.kernel_types.specs.Equal.{att_eq}
-use Rattle.kernel_types.specs.Isolation.{RemovesOwn}
 use Rattle.kernel_types.specs.Sound.{IsSound}
 use Rattle.kernel_types.specs.Words.{is_own}
 use Rattle.kernel_types.proofs.Cases.{att_eq-refl}
-use Rattle.kernel_types.proofs.DropsOwn.{RemovesOwn-apply, RemovesOwn-nothing}
 use Rattle.kernel_types.proofs.Isolation.{att_eq-same}
 use Rattle.kernel_types.specs.declared.object.Att.{Att}
 use Rattle.kernel_types.specs.declared.object.Host.{Host}
-use Rattle.kernel_types.specs.declared.object.Link.{Link}
 use Rattle.kernel_types.specs.declared.call.Kind.{Kind}
-use Rattle.kernel_types.specs.declared.call.Kind.TheVariants as kinds
 use Rattle.kernel_types.specs.declared.call.Call.{Call}
 use Rattle.kernel_types.specs.declared.call.Call.TheVariants.{Begin, LeaseNext, CacheGet}
 use Rattle.kernel_types.specs.declared.call.Reply.{Reply}
@@ -29,29 +23,36 @@ use Rattle.plan_words.specs.PlanCalls.{is_plan_call_of, is_call_of}
 use Rattle.plan_words.specs.Shapes.{lease_of}
 use Rattle.plan_words.specs.Share.{Share, share_of, no_objects, share_after_call, share_after_calls}
 use Rattle.plan_words.proofs.CallLists.{share_after_calls-append}
+use Rattle.plan_words.proofs.OtherCalls.{share-other}
 use Rattle.plan_words.proofs.Refusals.{refused-same, refused-lease}
+use Rattle.pod_file.specs.declared.command.Command.{Command}
 use Rattle.cni_verbs.specs.CommandWords.{att_of}
-use Rattle.cni_verbs.specs.Script.{State, AtBegin, BeforeLeases, Leasing, AfterLeases, ReadingCache, Deleting, Over, Calls, before_of, turn, leases_in}
+use Rattle.cni_verbs.specs.Script.{State, AtBegin, BeforeLeases, Leasing, AfterLeases, ReadingCache, Deleting, FindingEntry, Asking, Changing, Collecting, Over, Calls, before_of, turn, leases_in}
 use Rattle.cni_verbs.specs.Wanted.{deletion}
 use Rattle.pod_workers.specs.Plans.{Placed}
-use Rattle.pod_workers.specs.World.{World, after, done, entry_of, host_of, host_on, own_replies, replies_of, reply_to}
+use Rattle.pod_workers.specs.World.{World, after, done, entry_of, host_of, host_on, replies_of, reply_to}
 use Rattle.pod_workers.specs.declared.plan.Entry.{Entry}
 use Rattle.pod_workers.specs.declared.plan.Plan.{Plan}
 use Rattle.pod_workers.proofs.Histories.{after-append, replies_of-own, replies_of-other}
 use Rattle.pod_workers.proofs.Order.{ready_is}
-use Rattle.pod_workers.proofs.Planned.{LeftArePlanned, left-are-planned}
+use Rattle.pod_workers.proofs.Planned.{LeftArePlanned}
 use Rattle.pod_workers.proofs.Sound.{sound_host}
 use Rattle.pod_laws.specs.AskedFor.{begins, is_begin_of, is_done, AreAskedFor, HasNothingUnasked, NothingIsUnasked}
 use Rattle.pod_laws.specs.Moments.{own_entries}
 use Rattle.pod_laws.proofs.Achieved.{Achieved, achieved-start, achieved-step, begun-none, leased-done, leased-push, leased-same, leased_in, leases-one, leases-push, own-made, with_leases}
-use Rattle.pod_laws.proofs.Begins.{all-last, begin-apart, deletion-no_begin, last_begun-same, not-begins, plan-no_begin}
-use Rattle.pod_laws.proofs.Causes.{IsPlanReply, begin-may, plan-may}
+use Rattle.pod_laws.proofs.Begins.{all-last, begin-apart, deletion-no_begin, last_begun-same, not-begins, outside-no_begin, plan-no_begin, question-no_begin}
+use Rattle.pod_laws.proofs.Causes.{begin-may, plan-may}
 use Rattle.pod_laws.proofs.Entries.{is_of-own, own_entries-own, replies-own_entries}
 use Rattle.pod_laws.proofs.Fronts.{asked-after_leases, asked-before_leases, asked-leasing, asked-removes}
 use Rattle.pod_laws.proofs.OfKinds.{still_none}
-use Rattle.pod_laws.proofs.Steps.{GoesOn, by-entries, on-entry, other-entered, own-state, own-turn, every-run-now}
+use Rattle.pod_laws.proofs.Quiet.{plan-no_lease, lease-no_lease, deletion-no_lease, question-no_lease, outside-no_lease}
+use Rattle.pod_laws.proofs.Removes.{OnlyRemoves, removes-deletion, removes-nothing}
+use Rattle.pod_laws.proofs.States.{LeftFit, asks, head_fits, is_question, question-leaves}
+use Rattle.pod_laws.proofs.Runs.{every-run-now, own-state}
+use Rattle.pod_laws.proofs.Steps.{Changes, GoesOn, by-entries, on-entry}
+use Rattle.pod_laws.proofs.Turns.{AsksOrCollects, change-of, removes-changed, turn-of, work-turn}
 use Rattle.pod_laws.proofs.Undoing.{Undoing, IsUnrefused, undone-start, undone-step}
-use Rattle.pod_laws.proofs.Within.{deletes-deletion, done-or-not, leased-or-not, opening-share}
+use Rattle.pod_laws.proofs.Within.{done-or-not, leased-or-not, opening-share}
 
 -- ---- a call that leaves or removes what the attachment has
 
@@ -61,18 +62,18 @@ leases-quiet m h e none = elim (eqb_tells e.command (m + 1)) [
   | inr f ↦ ap leases_in (replies_of-other m h e f.1)
 ]
 
-share-removes_none : (att : Att) (old new : Host) → RemovesOwn att old new → share_of att old ≡ no_objects → share_of att new ≡ no_objects
+share-removes_none : (att : Att) (old new : Host) → OnlyRemoves old new → share_of att old ≡ no_objects → share_of att new ≡ no_objects
 share-removes_none att old new d none =
-    let links = still_none (λ l. is_own att l.tag) old.links new.links d.links (ap (λ (s : Share). s.links) none) in
-    let addresses = still_none (λ l. is_own att l.tag) old.addresses new.addresses d.addresses (ap (λ (s : Share). s.addresses) none) in
-    let routes = still_none (λ l. is_own att l.tag) old.routes new.routes d.routes (ap (λ (s : Share). s.routes) none) in
-    let rules = still_none (λ l. is_own att l.tag) old.rules new.rules d.rules (ap (λ (s : Share). s.rules) none) in
-    let settings = still_none (λ l. is_own att l.tag) old.settings new.settings d.settings (ap (λ (s : Share). s.settings) none) in
-    let leases = still_none (λ l. is_own att l.tag) old.leases new.leases d.leases (ap (λ (s : Share). s.leases) none) in
-    let cached = still_none (λ l. is_own att l.tag) old.cached new.cached d.cached (ap (λ (s : Share). s.cached) none) in
+    let links = still_none (λ l. is_own att l.tag) (λ l. true) old.links new.links d.links (ap (λ (s : Share). s.links) none) in
+    let addresses = still_none (λ l. is_own att l.tag) (λ l. true) old.addresses new.addresses d.addresses (ap (λ (s : Share). s.addresses) none) in
+    let routes = still_none (λ l. is_own att l.tag) (λ l. true) old.routes new.routes d.routes (ap (λ (s : Share). s.routes) none) in
+    let rules = still_none (λ l. is_own att l.tag) (λ l. true) old.rules new.rules d.rules (ap (λ (s : Share). s.rules) none) in
+    let settings = still_none (λ l. is_own att l.tag) (λ l. true) old.settings new.settings d.settings (ap (λ (s : Share). s.settings) none) in
+    let leases = still_none (λ l. is_own att l.tag) (λ l. true) old.leases new.leases d.leases (ap (λ (s : Share). s.leases) none) in
+    let cached = still_none (λ l. is_own att l.tag) (λ l. true) old.cached new.cached d.cached (ap (λ (s : Share). s.cached) none) in
     rw (links, addresses, routes, rules, settings, leases, cached) refl
 
-asked-quiet : (p : Plan) (h : List Entry) (e : Entry) (att : Att) → begins att e ≡ false → leases_in (e.reply ∷ []) ≡ [] → RemovesOwn att (after p.pods.opening h) (after p.pods.opening (h ++ e ∷ [])) → HasNothingUnasked p h att
+asked-quiet : (p : Plan) (h : List Entry) (e : Entry) (att : Att) → begins att e ≡ false → leases_in (e.reply ∷ []) ≡ [] → OnlyRemoves (after p.pods.opening h) (after p.pods.opening (h ++ e ∷ [])) → HasNothingUnasked p h att
     → HasNothingUnasked p (h ++ e ∷ []) att
 asked-quiet p h e att not no_lease d (inl none) = inl (share-removes_none att (after p.pods.opening h) (after p.pods.opening (h ++ e ∷ [])) d none)
 asked-quiet p h e att not no_lease d (inr a) = inr (record {
@@ -92,55 +93,10 @@ abbrev NextAsked : World → ℕ → Att → Bool → Call → Type 0
 NextAsked w n att faulty call = HasNothingUnasked w.plan (w.history ++ entry_of (host_of w) n call faulty ∷ []) att
 
 quiet-now : (w : World) (n : ℕ) (att : Att) (faulty : Bool) (call : Call) → begins att (entry_of (host_of w) n call faulty) ≡ false → leases_in (reply_to (host_of w) call faulty ∷ []) ≡ []
-    → RemovesOwn att (host_of w) (host_on (host_of w) (entry_of (host_of w) n call faulty)) → HasNothingUnasked w.plan w.history att → NextAsked w n att faulty call
+    → OnlyRemoves (host_of w) (host_on (host_of w) (entry_of (host_of w) n call faulty)) → HasNothingUnasked w.plan w.history att → NextAsked w n att faulty call
 quiet-now w n att faulty call not no_lease d was =
     let e = entry_of (host_of w) n call faulty in
-    asked-quiet w.plan w.history e att not no_lease (subst (RemovesOwn att (host_of w)) (sym (after-append w.plan.pods.opening w.history e)) d) was
-
-plan-no_lease : (r : Reply) → IsPlanReply r → leases_in (r ∷ []) ≡ []
-plan-no_lease Done may = refl
-plan-no_lease NoNs may = refl
-plan-no_lease NoLink may = refl
-plan-no_lease (Taken tag) may = refl
-plan-no_lease Fault may = refl
-plan-no_lease Empty may = refl
-plan-no_lease (Leased addr) may = absurd may
-plan-no_lease (Gone gone) may = refl
-plan-no_lease (Has has) may = refl
-plan-no_lease (Owners owners) may = refl
-plan-no_lease (Kept cached) may = refl
-
-lease-no_lease : (r : Reply) → ((a : Addr) → r ≡ Leased a → ⊥) → leases_in (r ∷ []) ≡ []
-lease-no_lease (Leased addr) not = absurd (not addr refl)
-lease-no_lease Done not = refl
-lease-no_lease NoNs not = refl
-lease-no_lease NoLink not = refl
-lease-no_lease (Taken tag) not = refl
-lease-no_lease Fault not = refl
-lease-no_lease Empty not = refl
-lease-no_lease (Gone gone) not = refl
-lease-no_lease (Has has) not = refl
-lease-no_lease (Owners owners) not = refl
-lease-no_lease (Kept cached) not = refl
-
-cache-no_lease : (k : Host) (att : Att) (faulty : Bool) → leases_in (reply_to k (CacheGet att) faulty ∷ []) ≡ []
-cache-no_lease k att true = refl
-cache-no_lease k att false = refl
-
-link-no_lease : (k : Host) (o : Option Link) → leases_in ((without_link k o).1 ∷ []) ≡ []
-link-no_lease k None = refl
-link-no_lease k (Some link) = refl
-
-gone-no_lease : (k : Host) (att : Att) (kind : Kind) → leases_in ((apply k (deletion att kind)).1 ∷ []) ≡ []
-gone-no_lease k att kinds.Links = link-no_lease k (find (λ l. is_own att l.tag) k.links)
-gone-no_lease k att kinds.Rules = refl
-gone-no_lease k att kinds.Settings = refl
-gone-no_lease k att kinds.Leases = refl
-gone-no_lease k att kinds.Cached = refl
-
-deletion-no_lease : (k : Host) (att : Att) (kind : Kind) (faulty : Bool) → leases_in (reply_to k (deletion att kind) faulty ∷ []) ≡ []
-deletion-no_lease k att kind true = refl
-deletion-no_lease k att kind false = gone-no_lease k att kind
+    asked-quiet w.plan w.history e att not no_lease (subst (OnlyRemoves (host_of w)) (sym (after-append w.plan.pods.opening w.history e)) d) was
 
 not-done : (r : Reply) → (r ≡ Done → ⊥) → is_done r ≡ false
 not-done Done not = absurd (not refl)
@@ -167,21 +123,26 @@ begin-now w n att netns faulty was =
       | inl done ↦ inl (ap (share_of att) (after-append w.plan.pods.opening w.history e) ∙ begun-none att netns k n faulty done)
       | inr not ↦
           quiet-now w n att faulty call (not-begins_done att e (not-done (reply_to k call faulty) not)) (plan-no_lease (reply_to k call faulty) (begin-may att netns k faulty))
-          (on-entry (λ j. RemovesOwn att k j) k n call faulty (RemovesOwn-nothing att k) (λ f. RemovesOwn-nothing att k)) was
+          (on-entry (λ j. OnlyRemoves k j) k n call faulty (removes-nothing k) (λ f. removes-nothing k)) was
     ]
 
-cache-now : (w : World) (n : ℕ) (att : Att) (faulty : Bool) → HasNothingUnasked w.plan w.history att → NextAsked w n att faulty (CacheGet att)
-cache-now w n att faulty was =
+question-now : (w : World) (n : ℕ) (att : Att) (call : Call) (faulty : Bool) → is_question call ≡ true → HasNothingUnasked w.plan w.history att → NextAsked w n att faulty call
+question-now w n att call faulty asked was =
     let k = host_of w in
-    quiet-now w n att faulty (CacheGet att) (not-begins att (entry_of k n (CacheGet att) faulty) refl) (cache-no_lease k att faulty)
-    (on-entry (λ j. RemovesOwn att k j) k n (CacheGet att) faulty (RemovesOwn-nothing att k) (λ f. RemovesOwn-nothing att k)) was
+    quiet-now w n att faulty call (not-begins att (entry_of k n call faulty) (question-no_begin att call asked)) (question-no_lease k call faulty asked)
+    (on-entry (λ j. OnlyRemoves k j) k n call faulty (removes-nothing k) (λ f. subst (OnlyRemoves k) (sym (question-leaves k call asked)) (removes-nothing k))) was
 
-deletion-now : (w : World) (n : ℕ) (att : Att) (faulty : Bool) (kind : Kind) → IsSound (host_of w) → HasNothingUnasked w.plan w.history att → NextAsked w n att faulty (deletion att kind)
-deletion-now w n att faulty kind sound was =
+-- a deletion, of this attachment or another
+deletion-now : (w : World) (n : ℕ) (att owner : Att) (faulty : Bool) (kind : Kind) → IsSound (host_of w) → HasNothingUnasked w.plan w.history att → NextAsked w n att faulty (deletion owner kind)
+deletion-now w n att owner faulty kind sound was =
     let k = host_of w in
-    let call = deletion att kind in
-    quiet-now w n att faulty call (not-begins att (entry_of k n call faulty) (deletion-no_begin att att kind)) (deletion-no_lease k att kind faulty)
-    (on-entry (λ j. RemovesOwn att k j) k n call faulty (RemovesOwn-nothing att k) (λ f. RemovesOwn-apply k call att sound (deletes-deletion att kind))) was
+    let call = deletion owner kind in
+    quiet-now w n att faulty call (not-begins att (entry_of k n call faulty) (deletion-no_begin owner att kind)) (deletion-no_lease k owner kind faulty)
+    (on-entry (λ j. OnlyRemoves k j) k n call faulty (removes-nothing k) (λ f. removes-deletion owner k kind sound)) was
+
+aside-now : (w : World) (n : ℕ) (c : Command) (att : Att) (call : Call) (faulty : Bool) → IsSound (host_of w) → AsksOrCollects c call → HasNothingUnasked w.plan w.history att → NextAsked w n att faulty call
+aside-now w n c att call faulty sound (inl asked) was = question-now w n att call faulty asked was
+aside-now w n c att call faulty sound (inr collected) was = subst (NextAsked w n att faulty) collected.deletes (deletion-now w n att collected.att faulty collected.kind sound was)
 
 -- ---- a call of an ADD that goes on
 
@@ -282,53 +243,63 @@ lease-now w n c list set sets given faulty on un ach =
 abbrev OwnAsked : World → ℕ → Placed → NetList → Bool → Call → Type 0
 OwnAsked w n c list faulty call = GoesOn w n c list call faulty → NextAsked w n (att_of c.command) faulty call
 
-own-asked : (w : World) (n : ℕ) (c : Placed) (list : NetList) (call : Call) (faulty : Bool) (st : State) → IsSound (host_of w) → LeftArePlanned list c.command st → turn c.command st ≡ Calls call
+own-asked : (w : World) (n : ℕ) (c : Placed) (list : NetList) (call : Call) (faulty : Bool) (st : State) → IsSound (host_of w) → LeftArePlanned list c.command st → LeftFit list c.command st → turn c.command st ≡ Calls call
     → Undoing list c.command (own_entries n w.history) st (share_of (att_of c.command) (host_of w)) → Achieved list c.command (own_entries n w.history) st (share_of (att_of c.command) (host_of w)) → HasNothingUnasked w.plan w.history (att_of c.command)
     → OwnAsked w n c list faulty call
 unfolding turn
-own-asked w n c list call faulty AtBegin sound left is un ach was =
+own-asked w n c list call faulty AtBegin sound left fit is un ach was =
     subst (OwnAsked w n c list faulty) (let e : Begin (att_of c.command) c.command.netns ≡ call = cc in e) (λ on. begin-now w n (att_of c.command) c.command.netns faulty was)
-own-asked w n c list call faulty (BeforeLeases x xs) sound left is un ach was =
+own-asked w n c list call faulty (BeforeLeases x xs) sound left fit is un ach was =
     subst (OwnAsked w n c list faulty) (let e : x ≡ call = cc in e) (λ on. before-now w n c list x xs faulty on left.0.0.0 un ach)
-own-asked w n c list call faulty (Leasing set sets given) sound left is un ach was =
+own-asked w n c list call faulty (Leasing set sets given) sound left fit is un ach was =
     subst (OwnAsked w n c list faulty) (let e : LeaseNext (att_of c.command) (length given) set ≡ call = cc in e) (λ on. lease-now w n c list set sets given faulty on un ach)
-own-asked w n c list call faulty (AfterLeases x xs given) sound left is un ach was =
+own-asked w n c list call faulty (AfterLeases x xs given) sound left fit is un ach was =
     subst (OwnAsked w n c list faulty) (let e : x ≡ call = cc in e) (λ on. after-now w n c list x xs given faulty on left.0.0 un ach)
-own-asked w n c list call faulty (ReadingCache ending) sound left is un ach was =
-    subst (OwnAsked w n c list faulty) (let e : CacheGet (att_of c.command) ≡ call = cc in e) (λ on. cache-now w n (att_of c.command) faulty was)
-own-asked w n c list call faulty (Deleting kind ks ending) sound left is un ach was =
-    subst (OwnAsked w n c list faulty) (let e : deletion (att_of c.command) kind ≡ call = cc in e) (λ on. deletion-now w n (att_of c.command) faulty kind sound was)
-own-asked w n c list call faulty (Over ending given) sound left is un ach was = cc
+own-asked w n c list call faulty (ReadingCache ending) sound left fit is un ach was =
+    subst (OwnAsked w n c list faulty) (let e : CacheGet (att_of c.command) ≡ call = cc in e) (λ on. question-now w n (att_of c.command) (CacheGet (att_of c.command)) faulty refl was)
+own-asked w n c list call faulty (Deleting kind ks ending) sound left fit is un ach was =
+    subst (OwnAsked w n c list faulty) (let e : deletion (att_of c.command) kind ≡ call = cc in e) (λ on. deletion-now w n (att_of c.command) (att_of c.command) faulty kind sound was)
+own-asked w n c list call faulty FindingEntry sound left fit is un ach was =
+    subst (OwnAsked w n c list faulty) (let e : CacheGet (att_of c.command) ≡ call = cc in e) (λ on. question-now w n (att_of c.command) (CacheGet (att_of c.command)) faulty refl was)
+own-asked w n c list call faulty (Asking q qs) sound left fit is un ach was =
+    subst (OwnAsked w n c list faulty) (let e : q.call ≡ call = cc in e) (λ on. question-now w n (att_of c.command) q.call faulty (head_fits (asks q) (list_all asks qs) fit) was)
+own-asked w n c list call faulty (Changing change) sound left fit is un ach was = absurd fit
+own-asked w n c list call faulty (Collecting work faults) sound left fit is un ach was = λ on. aside-now w n c.command (att_of c.command) call faulty sound (work-turn c.command work.jobs work.sweeps faults call fit is) was
+own-asked w n c list call faulty (Over ending given) sound left fit is un ach was = cc
 
 differs : (a : Bool) → a ≡ true → a ≡ false → ⊥
 differs a h g = cc
 
--- an entry of another attachment
-other-asked : (w : World) (n : ℕ) (c : Placed) (list : NetList) (call : Call) (faulty : Bool) (att : Att) → GoesOn w n c list call faulty → att_eq (att_of c.command) att ≡ false → HasNothingUnasked w.plan w.history att → NextAsked w n att faulty call
-other-asked w n c list call faulty att on differ (inl none) =
-    inl (ap (share_of att) (after-append w.plan.pods.opening w.history (entry_of (host_of w) n call faulty)) ∙ other-entered w n c list call faulty att on differ ∙ none)
-other-asked w n c list call faulty att on differ (inr a) =
+-- a call of another attachment
+other-asked : (w : World) (n : ℕ) (c : Placed) (list : NetList) (call : Call) (faulty : Bool) (att : Att) → GoesOn w n c list call faulty → att_eq (att_of c.command) att ≡ false → is_call_of (att_of c.command) call ≡ true → HasNothingUnasked w.plan w.history att
+    → NextAsked w n att faulty call
+other-asked w n c list call faulty att on differ own was =
     let h = w.history in
     let e = entry_of (host_of w) n call faulty in
-    let same_share : share_of att (after w.plan.pods.opening (h ++ e ∷ [])) ≡ share_of att (after w.plan.pods.opening h) = ap (share_of att) (after-append w.plan.pods.opening h e) ∙ other-entered w n c list call faulty att on differ in
-    let own : is_call_of (att_of c.command) call ≡ true = own-turn list c.command _ call (left-are-planned list c.command (own_replies w n)) on.turn_is in
-    let far : e.command ≢ a.place + 1 = λ same.
-    let place : a.place ≡ n = let s : n + 1 ≡ a.place + 1 = same in omega (arith, s) in
-    let by : a.by ≡ c = ready_is w n a.place c a.by on.ready place a.there in
-    let att_is : att_of c.command ≡ att = ap (λ (x : Placed). att_of x.command) (sym by) ∙ a.attachment in
-    differs (att_eq (att_of c.command) att) (ap (att_eq (att_of c.command)) (sym att_is) ∙ att_eq-refl (att_of c.command)) differ in
-    inr (record {
-      place = a.place;
-      by = a.by;
-      list = a.list;
-      there = a.there;
-      listed = a.listed;
-      verb = a.verb;
-      attachment = a.attachment;
-      last = last_begun-same att h e (not-begins att e (begin-apart (att_of c.command) att call differ own)) ∙ a.last;
-      objects = subst (λ g. AreAskedFor a.list a.by.command g (share_of att (after w.plan.pods.opening (h ++ e ∷ [])))) (sym (ap leases_in (replies_of-other a.place h e far)))
-          (subst (AreAskedFor a.list a.by.command (leases_in (replies_of a.place h))) (sym same_share) a.objects);
-    })
+    let kept : share_of att (host_on (host_of w) e) ≡ share_of att (host_of w) = on-entry (λ k. share_of att k ≡ share_of att (host_of w)) (host_of w) n call faulty refl
+    (λ f. share-other (att_of c.command) att (host_of w) call differ (sound_host w on.legal) (on.allowed f) own) in
+    let same_share : share_of att (after w.plan.pods.opening (h ++ e ∷ [])) ≡ share_of att (after w.plan.pods.opening h) = ap (share_of att) (after-append w.plan.pods.opening h e) ∙ kept in
+    elim was [
+      | inl none ↦ inl (same_share ∙ none)
+      | inr a ↦
+          let far : e.command ≢ a.place + 1 = λ same.
+          let place : a.place ≡ n = let s : n + 1 ≡ a.place + 1 = same in omega (arith, s) in
+          let by : a.by ≡ c = ready_is w n a.place c a.by on.ready place a.there in
+          let att_is : att_of c.command ≡ att = ap (λ (x : Placed). att_of x.command) (sym by) ∙ a.attachment in
+          differs (att_eq (att_of c.command) att) (ap (att_eq (att_of c.command)) (sym att_is) ∙ att_eq-refl (att_of c.command)) differ in
+          inr (record {
+            place = a.place;
+            by = a.by;
+            list = a.list;
+            there = a.there;
+            listed = a.listed;
+            verb = a.verb;
+            attachment = a.attachment;
+            last = last_begun-same att h e (not-begins att e (begin-apart (att_of c.command) att call differ own)) ∙ a.last;
+            objects = subst (λ g. AreAskedFor a.list a.by.command g (share_of att (after w.plan.pods.opening (h ++ e ∷ [])))) (sym (ap leases_in (replies_of-other a.place h e far)))
+                (subst (AreAskedFor a.list a.by.command (leases_in (replies_of a.place h))) (sym same_share) a.objects);
+          })
+    ]
 
 abbrev AllAsked : Plan → List Entry → Type 0
 AllAsked p h = (att : Att) → HasNothingUnasked p h att
@@ -340,10 +311,18 @@ asked-kept w n c list call faulty on was = λ att.
           let atts : att_of c.command ≡ att = att_eq-same (att_of c.command) att same in
           let own = own-state w n c list call faulty on in
           subst (λ a. NextAsked w n a faulty call) atts
-          (own-asked w n c list call faulty _ (sound_host w on.legal) own.planned own.turn_is (every-run-now Undoing undone-start undone-step w n c list call faulty on)
+          (own-asked w n c list call faulty _ (sound_host w on.legal) own.planned own.fits own.turn_is (every-run-now Undoing undone-start undone-step w n c list call faulty on)
           (every-run-now Achieved achieved-start achieved-step w n c list call faulty on) (was (att_of c.command)) on)
-      | inr differ ↦ other-asked w n c list call faulty att on differ (was att)
+      | inr differ ↦ elim (turn-of w n c list call faulty on) [
+        | inl own ↦ other-asked w n c list call faulty att on differ own (was att)
+        | inr aside ↦ aside-now w n c.command att call faulty (sound_host w on.legal) aside (was att)
+      ]
     ]
 
+asked-changed : (w : World) (n : ℕ) (c : Placed) (call : Call) (faulty : Bool) → Changes w n c call faulty → AllAsked w.plan w.history → AllAsked w.plan (w.history ++ entry_of (host_of w) n call faulty ∷ [])
+asked-changed w n c call faulty on was = λ att.
+    let from = (change-of w n c call faulty on).call_is in
+    quiet-now w n att faulty call (not-begins att (entry_of (host_of w) n call faulty) (outside-no_begin att call from)) (outside-no_lease (host_of w) call faulty from) (removes-changed w n c call faulty on) (was att)
+
 pub nothing_is_unasked : NothingIsUnasked
-nothing_is_unasked w legal att = by-entries AllAsked (λ p well a. inl (opening-share a p.pods.opening well.opening)) asked-kept w legal att
+nothing_is_unasked w legal att = by-entries AllAsked (λ p well a. inl (opening-share a p.pods.opening well.opening)) asked-kept asked-changed w legal att

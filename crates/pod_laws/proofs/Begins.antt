@@ -1,14 +1,15 @@
 -- Begins in a history: while an ADD goes on, the last one of its attachment is its own.
-use Rattle.std.proofs.Common.{◌≡◌, ◌≢◌, ℕ, ◌+◌, Bool, true, false, List, [], ◌∷◌, ◌++◌, length, Option, Some, None, slice_get, slice_set, refl, sym, ◌∙◌, ap, subst, inl, inr, ◌⊎◌, arith}
+use Rattle.std.proofs.Common.{◌≡◌, ◌≢◌, ℕ, ◌+◌, Bool, true, false, List, [], ◌∷◌, ◌++◌, length, Option, Some, None, slice_get, refl, sym, ◌∙◌, ap, subst, inl, inr, ◌⊎◌, arith}
 use Rattle.std.proofs.lemmas.Bool.Decides.{eqb_tells}
-use Rattle.std.proofs.lemmas.Option.{same_Some, none-some, slice_get_within}
 use Rattle.std.specs.Prelude.{if◌then◌else◌}
 use Rattle.std.specs.List.{list_all}
 use Rattle.std.specs.Option.{option_or}
 use Rattle.net_conf.specs.declared.list.NetList.{NetList}
 use Rattle.pod_file.specs.declared.command.Command.{Command}
+use Rattle.pod_file.specs.declared.command.Verb.{Verb}
 use Rattle.pod_file.specs.declared.command.Verb.TheVariants as verbs
 use Rattle.kernel_types.specs.Equal.{att_eq}
+use Rattle.kernel_types.specs.Isolation.{is_from_outside}
 use Rattle.kernel_types.proofs.Cases.{att_eq-refl}
 use Rattle.kernel_types.specs.declared.object.Att.{Att}
 use Rattle.kernel_types.specs.declared.call.Kind.{Kind}
@@ -23,25 +24,23 @@ use Rattle.plan_words.proofs.OtherCalls.{call-apart}
 use Rattle.cni_verbs.specs.CommandWords.{att_of}
 use Rattle.cni_verbs.specs.Script.{State, AtBegin, BeforeLeases, Leasing, AfterLeases, ReadingCache, Deleting, Over, Calls, turn}
 use Rattle.cni_verbs.specs.Wanted.{deletion}
-use Rattle.cni_verbs.specs.declared.answer.Answer.{Answer}
-use Rattle.cni_verbs.specs.declared.answer.Answer.TheVariants.{OutOfMemory}
 use Rattle.cni_verbs.specs.declared.answer.Ending.{Ending}
-use Rattle.cni_verbs.specs.declared.answer.Ending.TheVariants.{Added, Yes, Refused}
-use Rattle.pod_workers.specs.Legal.{Legal, begins as begun_at, steps, refused_memory, turns}
-use Rattle.pod_workers.specs.Plans.{Placed, commands_of}
-use Rattle.pod_workers.specs.World.{World, IsReady, answered, done, entry_of, host_of, next_of, own_replies, reply_to, with_entry}
+use Rattle.cni_verbs.specs.declared.answer.Ending.TheVariants.{Added, Yes, Skipped, Versions, Refused}
+use Rattle.pod_workers.specs.Legal.{Legal}
+use Rattle.pod_workers.specs.Plans.{Placed, commands_of, is_of_network}
+use Rattle.pod_workers.specs.World.{World, entry_of, host_of, reply_to}
 use Rattle.pod_workers.specs.declared.plan.Entry.{Entry}
-use Rattle.pod_workers.specs.declared.plan.Next.{Next}
-use Rattle.pod_workers.specs.declared.plan.Next.TheVariants as next
-use Rattle.pod_workers.proofs.Histories.{slice_get-set_same, slice_get-set_other}
 use Rattle.pod_workers.proofs.Order.{apart, ready_is}
-use Rattle.pod_workers.proofs.Planned.{LeftArePlanned, left-are-planned}
+use Rattle.pod_workers.proofs.Planned.{LeftArePlanned}
 use Rattle.pod_laws.specs.AskedFor.{begins, is_begin_of, is_done, last_begun}
 use Rattle.pod_laws.specs.Moments.{own_entries}
 use Rattle.pod_laws.specs.Refused.{is_granted, lets_go_on}
 use Rattle.pod_laws.proofs.Causes.{IsPlanReply, begin-may}
 use Rattle.pod_laws.proofs.Entries.{is_of-own, is_of-other, own_entries-own, own_entries-other, no-entries, replies-own_entries}
-use Rattle.pod_laws.proofs.Steps.{GoesOn, other_att, own-state, own-turn, every-run-now, goes-on}
+use Rattle.pod_laws.proofs.States.{IsOtherVerb, is_question}
+use Rattle.pod_laws.proofs.Runs.{every-run-now, own-state}
+use Rattle.pod_laws.proofs.Steps.{AllOpen, Changes, GoesOn, IsOpenKept, OpenFact, by-open}
+use Rattle.pod_laws.proofs.Turns.{AsksOrCollects, IsTurnOf, change-of, other_att, turn-of}
 use Rattle.pod_laws.proofs.Undoing.{Undoing, Leads, undone-start, undone-step}
 
 -- ---- Begins in a history
@@ -82,6 +81,23 @@ deletion-no_begin att other kinds.Settings = refl
 deletion-no_begin att other kinds.Leases = refl
 deletion-no_begin att other kinds.Cached = refl
 
+pub question-no_begin : (other : Att) (call : Call) → is_question call ≡ true → is_begin_of other call ≡ false
+question-no_begin other (Begin a netns) is = cc
+question-no_begin other _ is = refl
+
+pub outside-no_begin : (other : Att) (call : Call) → is_from_outside call ≡ true → is_begin_of other call ≡ false
+outside-no_begin other (Begin a netns) is = cc
+outside-no_begin other _ is = refl
+
+pub aside-no_begin : (other : Att) (c : Command) (call : Call) → AsksOrCollects c call → is_begin_of other call ≡ false
+aside-no_begin other c call (inl asked) = question-no_begin other call asked
+aside-no_begin other c call (inr collected) = ap (is_begin_of other) (sym collected.deletes) ∙ deletion-no_begin collected.att other collected.kind
+
+-- a run begins no other attachment than its own
+pub turn-no_begin : (other : Att) (c : Command) (call : Call) → att_eq (att_of c) other ≡ false → IsTurnOf c call → is_begin_of other call ≡ false
+turn-no_begin other c call differ (inl own) = begin-apart (att_of c) other call differ own
+turn-no_begin other c call differ (inr aside) = aside-no_begin other c call aside
+
 pub not-begins : (att : Att) (e : Entry) → is_begin_of att e.call ≡ false → begins att e ≡ false
 not-begins att e h = grind (arith, h)
 
@@ -97,6 +113,8 @@ no-split (x ∷ xs) ys y h = cc
 no-lead : (c : Command) (es : List Entry) (ending : Ending) → c.verb ≡ verbs.Add → es ≡ [] → Leads c es ending → ⊥
 no-lead c es Added verb none h = h
 no-lead c es Yes verb none h = del-add c verb h.verb
+no-lead c es (Skipped skip) verb none h = h
+no-lead c es Versions verb none h = h
 no-lead c es (Refused cause) verb none h = let f = h.first in no-split f.granted f.later f.by (sym none ∙ f.are)
 
 first-call : (list : NetList) (c : Command) (es : List Entry) (st : State) (s : Share) (call : Call) → c.verb ≡ verbs.Add → es ≡ [] → turn c st ≡ Calls call → Undoing list c es st s → call ≡ Begin (att_of c) c.netns
@@ -108,19 +126,21 @@ first-call list c es (AfterLeases x xs given) s call verb none is was = absurd (
 first-call list c es (ReadingCache ending) s call verb none is was = absurd (no-lead c es ending verb none was)
 first-call list c es (Deleting kind ks ending) s call verb none is was = absurd (no-lead c es ending verb none was.0)
 first-call list c es (Over ending given) s call verb none is was = cc
+first-call list c es _ s call verb none is was = absurd (subst IsOtherVerb verb was)
 
 abbrev BeginsNone : Att → Call → Type 0
 BeginsNone att call = is_begin_of att call ≡ false
 
-later-call : (list : NetList) (c : Command) (es : List Entry) (st : State) (s : Share) (att : Att) (call : Call) → es ≢ [] → LeftArePlanned list c st → turn c st ≡ Calls call → Undoing list c es st s → BeginsNone att call
+later-call : (list : NetList) (c : Command) (es : List Entry) (st : State) (s : Share) (att : Att) (call : Call) → c.verb ≡ verbs.Add → es ≢ [] → LeftArePlanned list c st → turn c st ≡ Calls call → Undoing list c es st s → BeginsNone att call
 unfolding turn
-later-call list c es AtBegin s att call some left is was = absurd (some was.none)
-later-call list c es (BeforeLeases x xs) s att call some left is was = subst (BeginsNone att) (let e : x ≡ call = cc in e) (plan-no_begin (att_of c) att x left.0.0.0)
-later-call list c es (Leasing set sets given) s att call some left is was = subst (BeginsNone att) (let e : LeaseNext (att_of c) (length given) set ≡ call = cc in e) refl
-later-call list c es (AfterLeases x xs given) s att call some left is was = subst (BeginsNone att) (let e : x ≡ call = cc in e) (plan-no_begin (att_of c) att x left.0.0)
-later-call list c es (ReadingCache ending) s att call some left is was = subst (BeginsNone att) (let e : CacheGet (att_of c) ≡ call = cc in e) refl
-later-call list c es (Deleting kind ks ending) s att call some left is was = subst (BeginsNone att) (let e : deletion (att_of c) kind ≡ call = cc in e) (deletion-no_begin (att_of c) att kind)
-later-call list c es (Over ending given) s att call some left is was = cc
+later-call list c es AtBegin s att call verb some left is was = absurd (some was.none)
+later-call list c es (BeforeLeases x xs) s att call verb some left is was = subst (BeginsNone att) (let e : x ≡ call = cc in e) (plan-no_begin (att_of c) att x left.0.0.0)
+later-call list c es (Leasing set sets given) s att call verb some left is was = subst (BeginsNone att) (let e : LeaseNext (att_of c) (length given) set ≡ call = cc in e) refl
+later-call list c es (AfterLeases x xs given) s att call verb some left is was = subst (BeginsNone att) (let e : x ≡ call = cc in e) (plan-no_begin (att_of c) att x left.0.0)
+later-call list c es (ReadingCache ending) s att call verb some left is was = subst (BeginsNone att) (let e : CacheGet (att_of c) ≡ call = cc in e) refl
+later-call list c es (Deleting kind ks ending) s att call verb some left is was = subst (BeginsNone att) (let e : deletion (att_of c) kind ≡ call = cc in e) (deletion-no_begin (att_of c) att kind)
+later-call list c es (Over ending given) s att call verb some left is was = cc
+later-call list c es _ s att call verb some left is was = absurd (subst IsOtherVerb verb was)
 
 -- ---- while an ADD goes on, the last Begin is its own
 
@@ -148,14 +168,11 @@ push-passes p (x ∷ xs) y h =
     let both = push-passes p xs y rest in
     (let g = both.0 in grind (arith, h, g), both.1)
 
-abbrev IsLast : World → ℕ → Placed → Type 0
-IsLast w m d = d.command.verb ≡ verbs.Add → own_entries m w.history ≢ [] → list_all lets_go_on (own_entries m w.history) ≡ true → last_begun (att_of d.command) w.history ≡ Some (m + 1)
-
-abbrev AllLast : World → Type 0
-AllLast w = (m : ℕ) (d : Placed) → slice_get (commands_of w.plan) m ≡ Some d → slice_get w.answers m ≡ Some None → IsLast w m d
+abbrev IsLast : OpenFact
+IsLast p h m d = d.command.verb ≡ verbs.Add → own_entries m h ≢ [] → list_all lets_go_on (own_entries m h) ≡ true → last_begun (att_of d.command) h ≡ Some (m + 1)
 
 -- the entry of a ready ADD that is granted
-last-own : (w : World) (n : ℕ) (c : Placed) (list : NetList) (call : Call) (faulty : Bool) → GoesOn w n c list call faulty → AllLast w → IsLast (with_entry w (entry_of (host_of w) n call faulty)) n c
+last-own : (w : World) (n : ℕ) (c : Placed) (list : NetList) (call : Call) (faulty : Bool) → GoesOn w n c list call faulty → AllOpen IsLast w → IsLast w.plan (w.history ++ entry_of (host_of w) n call faulty ∷ []) n c
 last-own w n c list call faulty on last = λ verb some go_on.
     let e = entry_of (host_of w) n call faulty in
     let es = own_entries n w.history in
@@ -171,47 +188,53 @@ last-own w n c list call faulty on last = λ verb some go_on.
           let mine : is_begin_of att call ≡ true = ap (is_begin_of att) first ∙ att_eq-refl att in
           last_begun-new att w.history e (grind (arith, done, mine))
       | inr more ↦
-          last_begun-same att w.history e (not-begins att e (later-call list c.command es _ _ att call more own.planned own.turn_is was)) ∙ last n c on.ready.there on.ready.unanswered verb more both.0
+          last_begun-same att w.history e (not-begins att e (later-call list c.command es _ _ att call verb more own.planned own.turn_is was)) ∙ last n c on.ready.there on.ready.unanswered verb more both.0
     ]
 
-last-entered : (w : World) (n : ℕ) (c : Placed) (list : NetList) (call : Call) (faulty : Bool) → GoesOn w n c list call faulty → AllLast w → AllLast (with_entry w (entry_of (host_of w) n call faulty))
-last-entered w n c list call faulty on last = λ m d at is_open.
+-- an entry of another command
+last-other : (w : World) (n m : ℕ) (c d : Placed) (list : NetList) (call : Call) (faulty : Bool) → GoesOn w n c list call faulty → m ≢ n → slice_get (commands_of w.plan) m ≡ Some d → slice_get w.answers m ≡ Some None → IsLast w.plan w.history m d
+    → IsLast w.plan (w.history ++ entry_of (host_of w) n call faulty ∷ []) m d
+last-other w n m c d list call faulty on differs at is_open last = λ verb some go_on.
     let e = entry_of (host_of w) n call faulty in
-    elim (eqb_tells m n) [
-      | inl t ↦
-          let same = ready_is w n m c d on.ready t.1 at in
-          let P : ℕ → Placed → Type 0 = λ j x. IsLast (with_entry w e) j x in
-          subst (λ j. P j d) (sym t.1) (subst (P n) (sym same) (last-own w n c list call faulty on last))
-      | inr f ↦ λ verb some go_on.
-          let far : e.command ≢ m + 1 = λ same. f.1 (let s : n + 1 ≡ m + 1 = same in omega (arith, s)) in
-          let mine : own_entries m (w.history ++ e ∷ []) ≡ own_entries m w.history = own_entries-other m w.history e (is_of-other m e far) in
-          let there : own_entries m w.history ≢ [] = λ none. some (mine ∙ none) in
-          elim (apart w on.legal m n d c on.ready f.1 at is_open) [
-            | inl none ↦ absurd (there (no-entries (own_entries m w.history) (sym (replies-own_entries m w.history) ∙ none)))
-            | inr other ↦
-                let differ : att_eq (att_of c.command) (att_of d.command) ≡ false = other_att (att_of c.command) (att_of d.command) (λ q. other (sym q)) in
-                let own : is_call_of (att_of c.command) call ≡ true = own-turn list c.command _ call (left-are-planned list c.command (own_replies w n)) on.turn_is in
-                last_begun-same (att_of d.command) w.history e (not-begins (att_of d.command) e (begin-apart (att_of c.command) (att_of d.command) call differ own))
-                ∙ last m d at is_open verb there (ap (list_all lets_go_on) (sym mine) ∙ go_on)
-          ]
+    let far : e.command ≢ m + 1 = λ same. differs (let s : n + 1 ≡ m + 1 = same in omega (arith, s)) in
+    let mine : own_entries m (w.history ++ e ∷ []) ≡ own_entries m w.history = own_entries-other m w.history e (is_of-other m e far) in
+    let there : own_entries m w.history ≢ [] = λ none. some (mine ∙ none) in
+    elim (apart w on.legal m n d c on.ready differs at is_open) [
+      | inl none ↦ absurd (there (no-entries (own_entries m w.history) (sym (replies-own_entries m w.history) ∙ none)))
+      | inr other ↦
+          let differ : att_eq (att_of c.command) (att_of d.command) ≡ false = other_att (att_of c.command) (att_of d.command) (λ q. other (sym q)) in
+          last_begun-same (att_of d.command) w.history e (not-begins (att_of d.command) e (turn-no_begin (att_of d.command) c.command call differ (turn-of w n c list call faulty on)))
+          ∙ last verb there (ap (list_all lets_go_on) (sym mine) ∙ go_on)
     ]
 
-last-answered : (w : World) (n : ℕ) (c : Placed) (a : Answer) → IsReady w n c → AllLast w → AllLast (answered w n a)
-last-answered w n c a ready last = λ m d at is_open. elim (eqb_tells m n) [
-  | inl t ↦
-      absurd (none-some a (same_Some None (Some a)
-      (sym is_open ∙ ap (slice_get (slice_set w.answers n (Some a))) t.1 ∙ slice_get-set_same w.answers n (Some a) (slice_get_within w.answers n None ready.unanswered))))
-  | inr f ↦ last m d at (sym (slice_get-set_other w.answers n m (Some a) f.1) ∙ is_open)
-]
+-- an entry of the world outside
+not-add : (v : Verb) → v ≡ verbs.Add → is_of_network v ≡ false → ⊥
+not-add v is outside = let e : true ≡ false = sym (ap is_of_network is) ∙ outside in cc
 
-last-done : (w : World) (n : ℕ) (c : Placed) (x : Next) → Legal w → IsReady w n c → next_of w c.command (own_replies w n) ≡ x → AllLast w → AllLast (done w n x)
-last-done w n c (next.Answer a) legal ready is last = last-answered w n c a ready last
-last-done w n c (next.Call call faulty) legal ready is last =
-    let on = goes-on w n c call faulty legal ready is in
-    last-entered w n c on.0 call faulty on.1 last
+last-changed : (w : World) (n m : ℕ) (c d : Placed) (call : Call) (faulty : Bool) → Changes w n c call faulty → slice_get (commands_of w.plan) m ≡ Some d → IsLast w.plan w.history m d → IsLast w.plan (w.history ++ entry_of (host_of w) n call faulty ∷ []) m d
+last-changed w n m c d call faulty on at last = λ verb some go_on.
+    let e = entry_of (host_of w) n call faulty in
+    let change = change-of w n c call faulty on in
+    let far : e.command ≢ m + 1 = λ same.
+    let here : m ≡ n = let s : n + 1 ≡ m + 1 = same in omega (arith, s) in
+    not-add c.command.verb (ap (λ (x : Placed). x.command.verb) (sym (ready_is w n m c d on.ready here at)) ∙ verb) change.verb_is in
+    let mine : own_entries m (w.history ++ e ∷ []) ≡ own_entries m w.history = own_entries-other m w.history e (is_of-other m e far) in
+    last_begun-same (att_of d.command) w.history e (not-begins (att_of d.command) e (outside-no_begin (att_of d.command) call change.call_is))
+    ∙ last verb (λ none. some (mine ∙ none)) (ap (list_all lets_go_on) (sym mine) ∙ go_on)
 
-pub all-last : (w : World) → Legal w → AllLast w
-all-last _ (begun_at w begun) = λ m d at is_open verb some go_on. absurd (some (ap (own_entries m) begun.empty))
-all-last _ (steps v w n c legal ready is) = subst AllLast (sym is) (last-done v n c (next_of v c.command (own_replies v n)) legal ready refl (all-last v legal))
-all-last _ (refused_memory v w n c legal ready is) = subst AllLast (sym is) (last-answered v n c OutOfMemory ready (all-last v legal))
-all-last _ (turns v w legal less over is) = subst AllLast (sym is) (all-last v legal)
+last-kept : IsOpenKept IsLast
+last-kept w n c call faulty goes last = λ m d at is_open.
+    elim goes [
+      | inl on ↦ elim (eqb_tells m n) [
+        | inl t ↦
+            let e = entry_of (host_of w) n call faulty in
+            let same = ready_is w n m c d on.1.ready t.1 at in
+            let P : ℕ → Placed → Type 0 = λ j x. IsLast w.plan (w.history ++ e ∷ []) j x in
+            subst (λ j. P j d) (sym t.1) (subst (P n) (sym same) (last-own w n c on.0 call faulty on.1 last))
+        | inr f ↦ last-other w n m c d on.0 call faulty on.1 f.1 at is_open (last m d at is_open)
+      ]
+      | inr on ↦ last-changed w n m c d call faulty on at (last m d at is_open)
+    ]
+
+pub all-last : (w : World) → Legal w → AllOpen IsLast w
+all-last w legal = by-open IsLast (λ p m d verb some go_on. absurd (some refl)) last-kept w legal

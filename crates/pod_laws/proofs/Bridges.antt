@@ -1,8 +1,8 @@
 -- The bridge of a list is there from the moment when its plugin ensured it.
-use Rattle.std.proofs.Common.{◌≡◌, ℕ, ◌+◌, Bool, true, false, not, List, [], ◌∷◌, ◌++◌, length, Option, Some, None, slice_get, refl, sym, ◌∙◌, ap, subst, inl, inr, ◌⊎◌, arith}
+use Rattle.std.proofs.Common.{◌≡◌, ◌≢◌, ℕ, ◌+◌, Bool, true, false, not, List, [], ◌∷◌, ◌++◌, length, Option, Some, None, slice_get, refl, sym, ◌∙◌, ap, subst, inl, inr, ◌⊎◌, arith}
 use Rattle.std.proofs.lemmas.Bool.{cases_Bool}
 use Rattle.std.proofs.lemmas.Bool.Decides.{eqb_tells}
-use Rattle.std.proofs.lemmas.Option.{same_Some}
+use Rattle.std.proofs.lemmas.Option.{same_Some, none-some}
 use Rattle.std.proofs.lemmas.Slice.Eq.{bytes_eq-Decides}
 use Rattle.std.specs.Prelude.{filter, find, ◌&&◌, if◌then◌else◌}
 use Rattle.std.specs.List.{list_any, list_all}
@@ -34,28 +34,31 @@ use Rattle.kernel_types.specs.declared.object.LinkKind.TheVariants as linkkinds
 use Rattle.kernel_types.specs.declared.object.Tag.{Tag}
 use Rattle.kernel_types.specs.declared.object.Tag.TheVariants as tags
 use Rattle.kernel_types.specs.declared.call.Kind.{Kind}
+use Rattle.kernel_types.specs.declared.call.Kind.TheVariants as kinds
 use Rattle.kernel_types.specs.declared.call.Call.{Call}
 use Rattle.kernel_types.specs.declared.call.Call.TheVariants.{BridgeEnsure, GatewayEnsure, ForwardEnsure, NsChange, Outside}
 use Rattle.kernel_types.specs.declared.call.Reply.{Reply}
 use Rattle.kernel_types.specs.declared.call.Reply.TheVariants.{Done, Taken, Leased, Gone, Fault}
 use Rattle.plan_words.specs.PlanCalls.{is_call_of}
 use Rattle.cni_verbs.specs.CommandWords.{att_of, add_refusal, del_refusal}
-use Rattle.cni_verbs.specs.Script.{State, AtBegin, BeforeLeases, Leasing, AfterLeases, ReadingCache, Deleting, Over, Calls, before_of, back_of, after_leases, leasing, before_leases, deleting, at_begin, at_call_before, at_lease, at_call_after, at_cache, at_deletion, advance, unless_refused, start_of, turn}
-use Rattle.cni_verbs.specs.Wanted.{sets_of, calls_before, kinds_of}
+use Rattle.cni_verbs.specs.Script.{State, AtBegin, BeforeLeases, Leasing, AfterLeases, ReadingCache, Deleting, FindingEntry, Asking, Changing, Collecting, Over, Calls, before_of, back_of, after_leases, leasing, before_leases, deleting, at_begin, at_call_before, at_lease, at_call_after, at_cache, at_deletion, advance, unless_refused, start_of, turn}
+use Rattle.cni_verbs.specs.Wanted.{sets_of, calls_before, kinds_of, deletion}
 use Rattle.cni_verbs.specs.declared.answer.Cause.{Cause}
 use Rattle.cni_verbs.specs.declared.answer.Ending.{Ending}
 use Rattle.pod_workers.specs.Legal.{Legal}
 use Rattle.pod_workers.specs.Plans.{Placed, commands_of, list_for}
-use Rattle.pod_workers.specs.World.{World, after, entry_of, host_of, host_on, own_replies, reply_to}
+use Rattle.pod_workers.specs.World.{World, after, entry_of, host_of, host_on, replies_of, reply_to}
 use Rattle.pod_workers.specs.declared.plan.Entry.{Entry}
 use Rattle.pod_workers.specs.declared.plan.Plan.{Plan}
-use Rattle.pod_workers.proofs.Histories.{after-append}
+use Rattle.pod_workers.proofs.Histories.{after-append, replies_of-other}
 use Rattle.pod_workers.proofs.Order.{ready_is}
-use Rattle.pod_workers.proofs.Planned.{left-are-planned}
 use Rattle.pod_workers.proofs.Sound.{sound_host}
 use Rattle.pod_laws.specs.Moments.{is_of, own_entries}
-use Rattle.pod_laws.proofs.Entries.{is_of-own, is_of-other, own_entries-own, own_entries-other}
-use Rattle.pod_laws.proofs.Steps.{GoesOn, by-entries, host-made, on-entry, own-state, own-turn, state_by, state_by-append}
+use Rattle.pod_laws.proofs.Entries.{is_of-own, is_of-other, no-entries, own_entries-own, own_entries-other, replies-own_entries}
+use Rattle.pod_laws.proofs.States.{IsAside, aside-advance, aside-start, is_question}
+use Rattle.pod_laws.proofs.Runs.{own-state, state_by, state_by-append}
+use Rattle.pod_laws.proofs.Steps.{AllOpen, Changes, GoesOn, IsOpenKept, OpenFact, by-open, host-made, on-entry}
+use Rattle.pod_laws.proofs.Turns.{IsTurnOf, alone-outside, turn-of}
 
 -- ---- a bridge of the host stays
 
@@ -129,11 +132,29 @@ bridge-in-stays : (o : Option (List ℕ)) (host : Host) (call : Call) → IsSoun
 bridge-in-stays None host call sound allowed inside there = refl
 bridge-in-stays (Some name) host call sound allowed inside there = bridge-stays host call name sound allowed inside there
 
+-- so is a call that only asks
+question-inside : (call : Call) → is_question call ≡ true → is_from_outside call ≡ false
+question-inside (NsChange name add) is = cc
+question-inside (Outside change) is = cc
+question-inside _ is = refl
+
+deletion-inside : (att : Att) (kind : Kind) → is_from_outside (deletion att kind) ≡ false
+deletion-inside att kinds.Links = refl
+deletion-inside att kinds.Rules = refl
+deletion-inside att kinds.Settings = refl
+deletion-inside att kinds.Leases = refl
+deletion-inside att kinds.Cached = refl
+
+-- and each call of a command with a list
+pub turn-inside : (c : Command) (call : Call) → IsTurnOf c call → is_from_outside call ≡ false
+turn-inside c call (inl own) = call-inside (att_of c) call own
+turn-inside c call (inr (inl asked)) = question-inside call asked
+turn-inside c call (inr (inr collected)) = ap is_from_outside (sym collected.deletes) ∙ deletion-inside collected.att collected.kind
+
 bridge-entered : (first : First) (w : World) (n : ℕ) (c : Placed) (list : NetList) (call : Call) (faulty : Bool) → GoesOn w n c list call faulty → BridgeIn first (host_of w) → BridgeIn first (host_on (host_of w) (entry_of (host_of w) n call faulty))
 bridge-entered first w n c list call faulty on there =
-    let own = own-turn list c.command _ call (left-are-planned list c.command (own_replies w n)) on.turn_is in
     on-entry (BridgeIn first) (host_of w) n call faulty there
-    (λ f. bridge-in-stays (bridge_of first) (host_of w) call (sound_host w on.legal) (on.allowed f) (call-inside (att_of c.command) call own) there)
+    (λ f. bridge-in-stays (bridge_of first) (host_of w) call (sound_host w on.legal) (on.allowed f) (turn-inside c.command call (turn-of w n c list call faulty on)) there)
 
 -- ---- until it is ensured
 
@@ -152,6 +173,10 @@ HasBridge list (Leasing next left given) host = BridgeIn list.first host
 HasBridge list (AfterLeases next left given) host = BridgeIn list.first host
 HasBridge list (ReadingCache ending) host = Unit {0}
 HasBridge list (Deleting next left ending) host = Unit {0}
+HasBridge list FindingEntry host = Unit {0}
+HasBridge list (Asking next left) host = Unit {0}
+HasBridge list (Changing change) host = Unit {0}
+HasBridge list (Collecting work faults) host = Unit {0}
 HasBridge list (Over ending given) host = Unit {0}
 
 -- ---- where it is ensured
@@ -245,6 +270,15 @@ comes-done first k n x xs faulty stays (inl left) done = elim (cases_Bool (ensur
   | inr other ↦ inl (grind (arith, left, other))
 ]
 
+bridge-aside : (list : NetList) (st : State) (host : Host) → IsAside st → HasBridge list st host
+bridge-aside list AtBegin host h = absurd h
+bridge-aside list (BeforeLeases x xs) host h = absurd h
+bridge-aside list (Leasing set sets given) host h = absurd h
+bridge-aside list (AfterLeases x xs given) host h = absurd h
+bridge-aside list (ReadingCache ending) host h = absurd h
+bridge-aside list (Deleting kind ks ending) host h = absurd h
+bridge-aside list _ host h = tt
+
 bridge-advance : (list : NetList) (c : Command) (number : ℕ) (st : State) (k : Host) (n : ℕ) (call : Call) (faulty : Bool) → turn c st ≡ Calls call → (BridgeIn list.first k → BridgeIn list.first (host_on k (entry_of k n call faulty))) → HasBridge list st k
     → HasBridge list (advance list c number st (reply_to k call faulty)) (host_on k (entry_of k n call faulty))
 unfolding turn advance
@@ -257,6 +291,9 @@ bridge-advance list c number (AfterLeases x xs given) k n call faulty is stays w
 bridge-advance list c number (ReadingCache ending) k n call faulty is stays was = bridge-cache list number ending _ (host_on k (entry_of k n call faulty))
 bridge-advance list c number (Deleting kind ks ending) k n call faulty is stays was = bridge-deletion list number kind ks ending _ (host_on k (entry_of k n call faulty))
 bridge-advance list c number (Over ending given) k n call faulty is stays was = cc
+bridge-advance list c number st k n call faulty is stays was =
+    let r = reply_to k call faulty in
+    bridge-aside list (advance list c number st r) (host_on k (entry_of k n call faulty)) (aside-advance list c number st r tt)
 
 -- ---- every history
 
@@ -265,55 +302,74 @@ bridge-stands list AtBegin old new stays was = tt
 bridge-stands list (BeforeLeases x xs) old new stays was = elim was [ inl left ↦ inl left | inr there ↦ inr (stays there) ]
 bridge-stands list (Leasing set sets given) old new stays was = stays was
 bridge-stands list (AfterLeases x xs given) old new stays was = stays was
-bridge-stands list (ReadingCache ending) old new stays was = tt
-bridge-stands list (Deleting kind ks ending) old new stays was = tt
-bridge-stands list (Over ending given) old new stays was = tt
+bridge-stands list _ old new stays was = tt
 
-abbrev AllBridges : Plan → List Entry → Type 0
-AllBridges p h = (n : ℕ) (c : Placed) (list : NetList) → slice_get (commands_of p) n ≡ Some c → list_for p c.command ≡ Some list → HasBridge list (state_by list c.command (own_entries n h)) (after p.pods.opening h)
+-- the bridge of each run that isn't answered
+abbrev RunBridge : OpenFact
+RunBridge p h m d = (list : NetList) → list_for p d.command ≡ Some list → HasBridge list (state_by list d.command (own_entries m h)) (after p.pods.opening h)
 
 bridge-unless : (list : NetList) (o : Option Cause) (st : State) (host : Host) → HasBridge list st host → HasBridge list (unless_refused o st) host
 bridge-unless list None st host h = h
 bridge-unless list (Some cause) st host h = tt
 
-bridge-start : (list : NetList) (c : Command) (v : Verb) (host : Host) → HasBridge list (start_of v c) host
-bridge-start list c verbs.Add host = bridge-unless list (add_refusal c) AtBegin host tt
-bridge-start list c verbs.Del host = bridge-unless list (del_refusal c) (ReadingCache _) host tt
-bridge-start list c verbs.Check host = tt
-bridge-start list c verbs.Gc host = tt
-bridge-start list c verbs.Status host = tt
-bridge-start list c verbs.Version host = tt
-bridge-start list c verbs.NsAdd host = tt
-bridge-start list c verbs.NsDel host = tt
-bridge-start list c verbs.Drop host = tt
-bridge-start list c verbs.Flush host = tt
+bridge-start_of : (list : NetList) (c : Command) (v : Verb) (host : Host) → HasBridge list (start_of list v c) host
+bridge-start_of list c verbs.Add host = bridge-unless list (add_refusal c) AtBegin host tt
+bridge-start_of list c verbs.Del host = bridge-unless list (del_refusal c) (ReadingCache _) host tt
+bridge-start_of list c v host = bridge-aside list (start_of list v c) host (aside-start list c v tt)
 
-bridges-kept : (w : World) (n : ℕ) (c : Placed) (list : NetList) (call : Call) (faulty : Bool) → GoesOn w n c list call faulty → AllBridges w.plan w.history → AllBridges w.plan (w.history ++ entry_of (host_of w) n call faulty ∷ [])
-bridges-kept w n c list call faulty on was = λ m d other at listed.
+-- a run that has made no call
+bridge-begun : (p : Plan) (h : List Entry) (m : ℕ) (d : Placed) → replies_of m h ≡ [] → RunBridge p h m d
+bridge-begun p h m d none = λ list listed.
+    let no_entry : own_entries m h ≡ [] = no-entries (own_entries m h) (sym (replies-own_entries m h) ∙ none) in
+    subst (λ es. HasBridge list (state_by list d.command es) (after p.pods.opening h)) (sym no_entry) (bridge-start_of list d.command d.command.verb (after p.pods.opening h))
+
+bridge-own : (w : World) (n m : ℕ) (c d : Placed) (list : NetList) (call : Call) (faulty : Bool) → GoesOn w n c list call faulty → m ≡ n → slice_get (commands_of w.plan) m ≡ Some d → AllOpen RunBridge w → RunBridge w.plan (w.history ++ entry_of (host_of w) n call faulty ∷ []) m d
+bridge-own w n m c d list call faulty on here at was = λ other listed.
     let h = w.history in
     let k = host_of w in
     let e = entry_of k n call faulty in
-    let grown = after-append w.plan.pods.opening h e in
-    let stays = λ (first : First). bridge-entered first w n c list call faulty on in
+    let same : d ≡ c = ready_is w n m c d on.ready here at in
+    let same_list : other ≡ list = same_Some other list (sym listed ∙ ap (λ (x : Placed). list_for w.plan x.command) same ∙ on.listed) in
+    let es = own_entries n h in
+    let now =
+    bridge-advance list c.command (length es + 1) (state_by list c.command es) k n call faulty (own-state w n c list call faulty on).turn_is (bridge-entered list.first w n c list call faulty on)
+    (was n c on.ready.there on.ready.unanswered list on.listed) in
+    let Q : ℕ → Placed → NetList → Type 0 = λ j x l. HasBridge l (state_by l x.command (own_entries j (h ++ e ∷ []))) (after w.plan.pods.opening (h ++ e ∷ [])) in
+    let mine : Q n c list =
+    subst (λ j. HasBridge list (state_by list c.command (own_entries n (h ++ e ∷ []))) j) (sym (after-append w.plan.pods.opening h e))
+    (subst (λ l. HasBridge list (state_by list c.command l) (host_on k e)) (sym (own_entries-own n h e (is_of-own n e refl)))
+    (subst (λ st. HasBridge list st (host_on k e)) (sym (state_by-append list c.command es e)) now)) in
+    subst (λ j. Q j d other) (sym here) (subst (λ x. Q n x other) (sym same) (subst (Q n c) (sym same_list) mine))
+
+bridge-other : (w : World) (n m : ℕ) (c d : Placed) (list : NetList) (call : Call) (faulty : Bool) → GoesOn w n c list call faulty → m ≢ n → RunBridge w.plan w.history m d → RunBridge w.plan (w.history ++ entry_of (host_of w) n call faulty ∷ []) m d
+bridge-other w n m c d list call faulty on differs was = λ other listed.
+    let h = w.history in
+    let k = host_of w in
+    let e = entry_of k n call faulty in
+    let far : is_of m e ≡ false = is_of-other m e (λ same. differs (let s : n + 1 ≡ m + 1 = same in omega (arith, s))) in
+    subst (λ l. HasBridge other (state_by other d.command l) (after w.plan.pods.opening (h ++ e ∷ []))) (sym (own_entries-other m h e far))
+    (subst (HasBridge other (state_by other d.command (own_entries m h))) (sym (after-append w.plan.pods.opening h e))
+    (bridge-stands other (state_by other d.command (own_entries m h)) k (host_on k e) (bridge-entered other.first w n c list call faulty on) (was other listed)))
+
+-- the world outside makes no entry of a command with a list
+bridge-unlisted : (w : World) (n m : ℕ) (c d : Placed) (call : Call) (faulty : Bool) → Changes w n c call faulty → m ≡ n → slice_get (commands_of w.plan) m ≡ Some d → (h : List Entry) → RunBridge w.plan h m d
+bridge-unlisted w n m c d call faulty on here at h = λ list listed. absurd (none-some list (sym on.unlisted ∙ ap (λ (x : Placed). list_for w.plan x.command) (sym (ready_is w n m c d on.ready here at)) ∙ listed))
+
+bridge-kept : IsOpenKept RunBridge
+bridge-kept w n c call faulty goes was = λ m d at is_open.
+    let e = entry_of (host_of w) n call faulty in
     elim (eqb_tells m n) [
-      | inl t ↦
-          let same : d ≡ c = ready_is w n m c d on.ready t.1 at in
-          let same_list : other ≡ list = same_Some other list (sym listed ∙ ap (λ (x : Placed). list_for w.plan x.command) same ∙ on.listed) in
-          let es = own_entries n h in
-          let own = own-state w n c list call faulty on in
-          let now = bridge-advance list c.command (length es + 1) (state_by list c.command es) k n call faulty own.turn_is (stays list.first) (was n c list on.ready.there on.listed) in
-          let Q : ℕ → Placed → NetList → Type 0 = λ j x l. HasBridge l (state_by l x.command (own_entries j (h ++ e ∷ []))) (after w.plan.pods.opening (h ++ e ∷ [])) in
-          let mine : Q n c list =
-          subst (λ j. HasBridge list (state_by list c.command (own_entries n (h ++ e ∷ []))) j) (sym grown)
-          (subst (λ l. HasBridge list (state_by list c.command l) (host_on k e)) (sym (own_entries-own n h e (is_of-own n e refl)))
-          (subst (λ st. HasBridge list st (host_on k e)) (sym (state_by-append list c.command es e)) now)) in
-          subst (λ j. Q j d other) (sym t.1) (subst (λ x. Q n x other) (sym same) (subst (Q n c) (sym same_list) mine))
-      | inr f ↦
-          let far : is_of m e ≡ false = is_of-other m e (λ same. f.1 (let s : n + 1 ≡ m + 1 = same in omega (arith, s))) in
-          subst (λ l. HasBridge other (state_by other d.command l) (after w.plan.pods.opening (h ++ e ∷ []))) (sym (own_entries-other m h e far))
-          (subst (HasBridge other (state_by other d.command (own_entries m h))) (sym grown)
-          (bridge-stands other (state_by other d.command (own_entries m h)) k (host_on k e) (stays other.first) (was m d other at listed)))
+      | inl t ↦ elim goes [
+        | inl on ↦ bridge-own w n m c d on.0 call faulty on.1 t.1 at was
+        | inr on ↦ bridge-unlisted w n m c d call faulty on t.1 at (w.history ++ e ∷ [])
+      ]
+      | inr f ↦ elim goes [
+        | inl on ↦ bridge-other w n m c d on.0 call faulty on.1 f.1 (was m d at is_open)
+        | inr on ↦
+            let far : e.command ≢ m + 1 = λ same. f.1 (let s : n + 1 ≡ m + 1 = same in omega (arith, s)) in
+            bridge-begun w.plan (w.history ++ e ∷ []) m d (replies_of-other m w.history e far ∙ alone-outside w n m c d call faulty on f.1 at is_open)
+      ]
     ]
 
-pub all-bridges : (w : World) → Legal w → AllBridges w.plan w.history
-all-bridges w legal = by-entries AllBridges (λ p well n c list at listed. bridge-start list c.command c.command.verb p.pods.opening) bridges-kept w legal
+pub all-bridges : (w : World) → Legal w → AllOpen RunBridge w
+all-bridges w legal = by-open RunBridge (λ p m d. bridge-begun p [] m d refl) bridge-kept w legal

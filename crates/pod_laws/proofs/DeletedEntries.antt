@@ -5,6 +5,7 @@ use Rattle.std.specs.Prelude.{find}
 use Rattle.std.specs.List.{list_any}
 use Rattle.net_conf.specs.declared.list.NetList.{NetList}
 use Rattle.pod_file.specs.declared.command.Command.{Command}
+use Rattle.pod_file.specs.declared.command.Verb.{Verb}
 use Rattle.pod_file.specs.declared.command.Verb.TheVariants as verbs
 use Rattle.kernel_types.specs.Apply.{apply}
 use Rattle.kernel_types.specs.Apply.Calls.{without_link}
@@ -24,18 +25,22 @@ use Rattle.plan_words.proofs.Deletions.{empty_none}
 use Rattle.cni_verbs.specs.CommandWords.{att_of}
 use Rattle.cni_verbs.specs.Script.{State, AtBegin, BeforeLeases, Leasing, AfterLeases, ReadingCache, Deleting, Over, Calls, turn}
 use Rattle.cni_verbs.specs.Wanted.{deletion}
-use Rattle.pod_workers.specs.Plans.{Placed, commands_of}
+use Rattle.pod_workers.specs.Plans.{Placed, commands_of, is_of_network}
 use Rattle.pod_workers.specs.World.{World, after, entry_of, host_of, host_on}
 use Rattle.pod_workers.specs.declared.plan.Entry.{Entry}
 use Rattle.pod_workers.specs.declared.plan.Plan.{Plan}
 use Rattle.pod_workers.proofs.Histories.{after-append}
+use Rattle.pod_workers.proofs.Order.{ready_is}
 use Rattle.pod_workers.proofs.Sound.{sound_host}
 use Rattle.pod_workers.proofs.Splits.{split_nil, split_snoc}
 use Rattle.pod_laws.specs.Deleted.{DeletesOwnAlone, EachDeletionIsOwn}
 use Rattle.pod_laws.specs.Moments.{own_entries}
-use Rattle.pod_laws.proofs.Steps.{GoesOn, by-entries, on-entry, own-state, every-run-now}
+use Rattle.pod_laws.proofs.Removes.{deletes-deletion}
+use Rattle.pod_laws.proofs.Runs.{every-run-now, own-state}
+use Rattle.pod_laws.proofs.States.{IsOtherVerb}
+use Rattle.pod_laws.proofs.Steps.{Changes, GoesOn, by-entries, on-entry}
+use Rattle.pod_laws.proofs.Turns.{change-of}
 use Rattle.pod_laws.proofs.Undoing.{Undoing, undone-start, undone-step}
-use Rattle.pod_laws.proofs.Within.{deletes-deletion}
 
 -- ---- one entry
 
@@ -77,6 +82,7 @@ turn-deletes list c es (AfterLeases x xs given) s k call verb sound is was = abs
 turn-deletes list c es (ReadingCache ending) s k call verb sound is was = subst (DeletesBy c k) (let e : CacheGet (att_of c) ≡ call = cc in e) (deletes-nothing (att_of c) k)
 turn-deletes list c es (Deleting kind ks ending) s k call verb sound is was = subst (DeletesBy c k) (let e : deletion (att_of c) kind ≡ call = cc in e) (deletes-kind (att_of c) k kind sound)
 turn-deletes list c es (Over ending given) s k call verb sound is was = cc
+turn-deletes list c es _ s k call verb sound is was = absurd (subst IsOtherVerb verb was)
 
 -- ---- every history
 
@@ -108,6 +114,20 @@ delete-kept w n c list call faulty on was = λ m d before later e at verb number
       | inr t ↦ was m d before t.0 e at verb number t.2
     ]
 
+not-del : (v : Verb) → v ≡ verbs.Del → is_of_network v ≡ false → ⊥
+not-del v is outside = let e : true ≡ false = sym (ap is_of_network is) ∙ outside in cc
+
+-- the world outside makes no entry of a DEL
+delete-changed : (w : World) (n : ℕ) (c : Placed) (call : Call) (faulty : Bool) → Changes w n c call faulty → AllDelete w.plan w.history → AllDelete w.plan (w.history ++ entry_of (host_of w) n call faulty ∷ [])
+delete-changed w n c call faulty on was = λ m d before later e at verb number is.
+    let x = entry_of (host_of w) n call faulty in
+    elim (split_snoc w.history before later x e is) [
+      | inl t ↦
+          let place : m ≡ n = let a : e.command ≡ m + 1 = number in let b : n + 1 ≡ e.command = ap (λ (y : Entry). y.command) t.2 in omega (arith, a, b) in
+          absurd (not-del c.command.verb (ap (λ (y : Placed). y.command.verb) (sym (ready_is w n m c d on.ready place at)) ∙ verb) (change-of w n c call faulty on).verb_is)
+      | inr t ↦ was m d before t.0 e at verb number t.2
+    ]
+
 pub each_deletion_is_own : EachDeletionIsOwn
 each_deletion_is_own w legal n c before later e at verb number is =
-    by-entries AllDelete (λ p well m d b l x at_m v num split. absurd (split_nil b l x split)) delete-kept w legal n c before later e at verb number is
+    by-entries AllDelete (λ p well m d b l x at_m v num split. absurd (split_nil b l x split)) delete-kept delete-changed w legal n c before later e at verb number is

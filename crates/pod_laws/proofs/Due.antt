@@ -1,10 +1,11 @@
 -- An answer is what the command's script came to, or it was stopped or refused memory.
-use Rattle.std.proofs.Common.{◌≡◌, ℕ, List, length, Some, slice_get, sym, ◌∙◌, ap, subst, inl, inr, ◌⊎◌}
+use Rattle.std.proofs.Common.{◌≡◌, ℕ, List, [], ◌∷◌, length, Some, refl, slice_get, sym, ◌∙◌, ap, subst, inl, inr, ◌⊎◌}
 use Rattle.net_conf.specs.declared.list.NetList.{NetList}
 use Rattle.pod_file.specs.declared.command.Command.{Command}
 use Rattle.cni_verbs.specs.Answers.{answer_of}
 use Rattle.cni_verbs.specs.Progress.{turn_by, answer_by}
-use Rattle.cni_verbs.specs.Script.{State, AtBegin, BeforeLeases, Leasing, AfterLeases, ReadingCache, Deleting, Over, Finishes, Finish, turn, state_after}
+use Rattle.cni_verbs.specs.Script.{State, AtBegin, BeforeLeases, Leasing, AfterLeases, ReadingCache, Deleting, FindingEntry, Asking, Changing, Collecting, Over, Finishes, Finish, turn, turn_of_work, finish_of_work, state_after, swept}
+use Rattle.cni_verbs.specs.Sweep.{Job, Sweep, Work}
 use Rattle.cni_verbs.specs.declared.answer.Answer.{Answer}
 use Rattle.cni_verbs.specs.declared.answer.Answer.TheVariants.{OutOfMemory, Stopped}
 use Rattle.cni_verbs.specs.declared.answer.Ending.{Ending}
@@ -16,13 +17,21 @@ use Rattle.pod_workers.specs.World.{World, own_replies}
 use Rattle.pod_workers.proofs.AnswersDue.{answer_is_due}
 use Rattle.pod_laws.specs.Moments.{own_entries}
 use Rattle.pod_laws.proofs.Entries.{replies-own_entries}
-use Rattle.pod_laws.proofs.Steps.{state_by}
+use Rattle.pod_laws.proofs.Runs.{state_by}
+
+-- the run of a garbage collection has nothing left to do
+pub record IsSwept (st : State) (ending : Ending) : Type 0 where
+  pub work : Work
+  pub faults : List ℕ
+  pub collecting : st ≡ Collecting work faults
+  pub ends : ending ≡ swept faults
+  pub finished : finish_of_work work.jobs work.sweeps faults ≡ Some (record { ending = swept faults; given = [] })
 
 -- the run is over, with this ending and these addresses, and the answer is what they make
 pub record IsOver (list : NetList) (c : Command) (st : State) (a : Answer) : Type 0 where
   pub ending : Ending
   pub given : List Addr
-  pub state_is : st ≡ Over ending given
+  pub state_is : (st ≡ Over ending given) ⊎ IsSwept st ending
   pub answer_is : a ≡ answer_of list c (record { ending = ending; given = given })
 
 -- the book gave it without the script
@@ -31,15 +40,28 @@ IsCutOff a = (a ≡ OutOfMemory) ⊎ ((made : ℕ) × (a ≡ Stopped made))
 
 -- ---- by the run's state
 
-turn-over : (c : Command) (st : State) (finish : Finish) → turn c st ≡ Finishes finish → st ≡ Over finish.ending finish.given
+abbrev EndsBy : State → Finish → Type 0
+EndsBy st finish = (st ≡ Over finish.ending finish.given) ⊎ IsSwept st finish.ending
+
+work-over : (c : Command) (jobs : List Job) (sweeps : List Sweep) (faults : List ℕ) (finish : Finish) → turn_of_work c.network jobs sweeps faults ≡ Finishes finish
+    → (finish.ending ≡ swept faults) × (finish_of_work jobs sweeps faults ≡ Some (record { ending = swept faults; given = [] }))
+work-over c [] [] faults finish is = (let e : swept faults ≡ finish.ending = cc in sym e, refl)
+work-over c [] (s ∷ sweeps) faults finish is = cc
+work-over c (j ∷ jobs) sweeps faults finish is = cc
+
+turn-over : (c : Command) (st : State) (finish : Finish) → turn c st ≡ Finishes finish → EndsBy st finish
 unfolding turn
-turn-over c (Over ending given) finish is = let e : ending ≡ finish.ending = cc in let g : given ≡ finish.given = cc in cc
+turn-over c (Over ending given) finish is = let e : ending ≡ finish.ending = cc in let g : given ≡ finish.given = cc in inl cc
+turn-over c (Collecting work faults) finish is = let over = work-over c work.jobs work.sweeps faults finish is in inr (record { work = work; faults = faults; collecting = refl; ends = over.0; finished = over.1 })
 turn-over c AtBegin finish is = cc
 turn-over c (BeforeLeases next left) finish is = cc
 turn-over c (Leasing next left given) finish is = cc
 turn-over c (AfterLeases next left given) finish is = cc
 turn-over c (ReadingCache ending) finish is = cc
 turn-over c (Deleting next left ending) finish is = cc
+turn-over c FindingEntry finish is = cc
+turn-over c (Asking next left) finish is = cc
+turn-over c (Changing change) finish is = cc
 
 -- where a command has an answer, its run is over and made it, or it was cut off
 by-scripts : (w : World) (n : ℕ) (c : Placed) (list : NetList) (a : Answer) → list_for w.plan c.command ≡ Some list → IsScripts w n c a → IsOver list c.command (state_after list c.command (own_replies w n)) a

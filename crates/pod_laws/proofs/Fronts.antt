@@ -9,7 +9,6 @@ use Rattle.net_conf.specs.declared.first.First.TheVariants.{Bridge, Ptp, Macvlan
 use Rattle.net_conf.specs.declared.list.NetList.{NetList}
 use Rattle.pod_file.specs.declared.command.Command.{Command}
 use Rattle.kernel_types.specs.Apply.Calls.{set_link}
-use Rattle.kernel_types.specs.Isolation.{RemovesOwn}
 use Rattle.kernel_types.specs.Touch.{DropsOnly}
 use Rattle.kernel_types.specs.Words.{is_own}
 use Rattle.kernel_types.specs.declared.object.Att.{Att}
@@ -24,7 +23,8 @@ use Rattle.cni_verbs.specs.Script.{before_of, back_of}
 use Rattle.cni_verbs.specs.Wanted.{calls_before, share_before, untuned}
 use Rattle.pod_laws.specs.AskedFor.{IsAmong, AreAmong, links_after_part, AreLinksOf, AreAskedFor}
 use Rattle.pod_laws.proofs.Achieved.{with_leases, wanted_by, no_leases}
-use Rattle.pod_laws.proofs.WantedShare.{made-before, makes-wanted}
+use Rattle.pod_laws.proofs.Removes.{OnlyRemoves}
+use Rattle.cni_verbs.proofs.WantedShare.{made-before, makes-wanted}
 
 -- ---- lists
 
@@ -219,15 +219,15 @@ asked-before_leases list c made left part =
     (front-part no_objects (with_leases list c []) (before_of list c) made left part (no_leases list.first (att_of c) c.netns))
     (front-part (with_leases list c []) (wanted_by list c []) (back_of list c []) [] (back_of list c []) refl (makes-wanted list (att_of c) c.netns (mappings_of list c) [])))
 
--- ---- what a deletion leaves
+-- ---- what a removal leaves
 
-pub asked-removes : (list : NetList) (c : Command) (given : List Addr) (att : Att) (old new : Host) → RemovesOwn att old new → AreAskedFor list c given (share_of att old) → AreAskedFor list c given (share_of att new)
+pub asked-removes : (list : NetList) (c : Command) (given : List Addr) (att : Att) (old new : Host) → OnlyRemoves old new → AreAskedFor list c given (share_of att old) → AreAskedFor list c given (share_of att new)
 asked-removes list c given att old new d a = record {
-  links = record { made = a.links.made; left = a.links.left; part = a.links.part; among = among-drops (λ l. is_own att l.tag) (λ l. is_own att l.tag) (links_after_part list c a.links.made) old.links new.links d.links a.links.among };
-  addresses = among-drops (λ l. is_own att l.tag) (λ l. is_own att l.tag) _ old.addresses new.addresses d.addresses a.addresses;
-  routes = among-drops (λ l. is_own att l.tag) (λ l. is_own att l.tag) _ old.routes new.routes d.routes a.routes;
-  rules = among-drops (λ l. is_own att l.tag) (λ l. is_own att l.tag) _ old.rules new.rules d.rules a.rules;
-  settings = among-drops (λ l. is_own att l.tag) (λ l. is_own att l.tag) _ old.settings new.settings d.settings a.settings;
-  leases = among-drops (λ l. is_own att l.tag) (λ l. is_own att l.tag) _ old.leases new.leases d.leases a.leases;
-  cached = among-drops (λ l. is_own att l.tag) (λ l. is_own att l.tag) _ old.cached new.cached d.cached a.cached;
+  links = record { made = a.links.made; left = a.links.left; part = a.links.part; among = among-drops (λ l. is_own att l.tag) (λ l. true) (links_after_part list c a.links.made) old.links new.links d.links a.links.among };
+  addresses = among-drops (λ l. is_own att l.tag) (λ l. true) _ old.addresses new.addresses d.addresses a.addresses;
+  routes = among-drops (λ l. is_own att l.tag) (λ l. true) _ old.routes new.routes d.routes a.routes;
+  rules = among-drops (λ l. is_own att l.tag) (λ l. true) _ old.rules new.rules d.rules a.rules;
+  settings = among-drops (λ l. is_own att l.tag) (λ l. true) _ old.settings new.settings d.settings a.settings;
+  leases = among-drops (λ l. is_own att l.tag) (λ l. true) _ old.leases new.leases d.leases a.leases;
+  cached = among-drops (λ l. is_own att l.tag) (λ l. true) _ old.cached new.cached d.cached a.cached;
 }

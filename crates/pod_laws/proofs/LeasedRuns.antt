@@ -30,13 +30,12 @@ use Rattle.kernel_types.specs.declared.call.Reply.TheVariants.{Done, Leased, Gon
 use Rattle.plan_words.specs.Shapes.{lease_of}
 use Rattle.plan_words.specs.Share.{Share, share_of}
 use Rattle.cni_verbs.specs.CommandWords.{att_of, add_refusal, del_refusal}
-use Rattle.cni_verbs.specs.Script.{State, AtBegin, BeforeLeases, Leasing, AfterLeases, ReadingCache, Deleting, Over, Calls, before_of, back_of, after_leases, leasing, before_leases, deleting, faulted, at_begin, at_call_before, at_lease, at_call_after, at_cache, at_deletion, advance, unless_refused, start_of, turn}
+use Rattle.cni_verbs.specs.Script.{State, AtBegin, BeforeLeases, Leasing, AfterLeases, ReadingCache, Deleting, FindingEntry, Asking, Changing, Collecting, Over, Calls, before_of, back_of, after_leases, leasing, before_leases, deleting, faulted, at_begin, at_call_before, at_lease, at_call_after, at_cache, at_deletion, advance, unless_refused, start_of, turn}
 use Rattle.cni_verbs.specs.Wanted.{sets_of, kinds_of}
 use Rattle.cni_verbs.specs.declared.answer.Cause.{Cause}
 use Rattle.cni_verbs.specs.declared.answer.Ending.{Ending}
-use Rattle.cni_verbs.specs.declared.answer.Ending.TheVariants.{Added, Yes, Refused}
+use Rattle.cni_verbs.specs.declared.answer.Ending.TheVariants.{Added, Yes, Skipped, Versions, Refused}
 use Rattle.pod_workers.specs.Legal.{Legal}
-use Rattle.pod_workers.specs.Plans.{Placed}
 use Rattle.pod_workers.specs.World.{World, after, entry_of, host_of, host_on, reply_to}
 use Rattle.pod_workers.specs.declared.plan.Entry.{Entry}
 use Rattle.pod_workers.specs.declared.plan.Plan.{Plan}
@@ -44,7 +43,9 @@ use Rattle.pod_workers.proofs.Histories.{after-append}
 use Rattle.pod_laws.specs.Added.{AreCandidates}
 use Rattle.pod_laws.specs.Moments.{host_at_end, is_of, own_entries, until_last}
 use Rattle.pod_laws.proofs.Entries.{until_last-own, until_last-other}
-use Rattle.pod_laws.proofs.Steps.{GoesOn, StartsWith, IsRunFact, by-entries, own-state, sound-entered}
+use Rattle.pod_laws.proofs.States.{IsAside, IsNoResult, aside-advance, aside-start}
+use Rattle.pod_laws.proofs.Runs.{IsRunFact, StartsWith, own-state}
+use Rattle.pod_laws.proofs.Steps.{by-entries, sound-changed, sound-entered}
 
 -- ---- candidates
 
@@ -58,11 +59,15 @@ candidates-push (s ∷ ss) (a ∷ more) set addr h g = (h.0, candidates-push ss 
 abbrev pub IsOverLeased : NetList → Ending → List Addr → Type 0
 IsOverLeased list Added given = AreCandidates (sets_of list) given
 IsOverLeased list Yes given = Unit {0}
+IsOverLeased list (Skipped skip) given = Unit {0}
+IsOverLeased list Versions given = Unit {0}
 IsOverLeased list (Refused cause) given = Unit {0}
 
 abbrev IsNotAdded : Ending → Type 0
 IsNotAdded Added = ⊥
 IsNotAdded Yes = Unit {0}
+IsNotAdded (Skipped skip) = Unit {0}
+IsNotAdded Versions = Unit {0}
 IsNotAdded (Refused cause) = Unit {0}
 
 abbrev pub LeasedRun : NetList → Command → List Entry → State → Share → Type 0
@@ -72,6 +77,10 @@ LeasedRun list c es (Leasing next left given) s = (past : List RangeSet) × (set
 LeasedRun list c es (AfterLeases next left given) s = AreCandidates (sets_of list) given
 LeasedRun list c es (ReadingCache ending) s = IsNotAdded ending
 LeasedRun list c es (Deleting next left ending) s = IsNotAdded ending
+LeasedRun list c es FindingEntry s = Unit {0}
+LeasedRun list c es (Asking next left) s = Unit {0}
+LeasedRun list c es (Changing change) s = Unit {0}
+LeasedRun list c es (Collecting work faults) s = Unit {0}
 LeasedRun list c es (Over ending given) s = IsOverLeased list ending given
 
 -- ---- where work is left
@@ -91,11 +100,15 @@ to-before_leases list c es (x ∷ xs) s = tt
 over-not_added : (list : NetList) (ending : Ending) → IsNotAdded ending → IsOverLeased list ending []
 over-not_added list Added h = absurd h
 over-not_added list Yes h = tt
+over-not_added list (Skipped skip) h = tt
+over-not_added list Versions h = tt
 over-not_added list (Refused cause) h = tt
 
 over-faulted : (list : NetList) (number : ℕ) (ending : Ending) → IsOverLeased list (faulted number ending) []
 over-faulted list number Added = tt
 over-faulted list number Yes = tt
+over-faulted list number (Skipped skip) = tt
+over-faulted list number Versions = tt
 over-faulted list number (Refused cause) = tt
 
 to-deleting : (list : NetList) (c : Command) (es : List Entry) (ks : List Kind) (ending : Ending) (s : Share) → IsNotAdded ending → LeasedRun list c es (deleting ks ending) s
@@ -135,6 +148,30 @@ run-deletion list c es number k ks ending (Gone b) s h = run-gone list c es numb
 run-deletion list c es number k ks ending Fault s h = over-faulted list number ending
 run-deletion list c es number k ks ending _ s h = h
 
+-- ---- runs that make no attachment
+
+pub leased-end : (list : NetList) (ending : Ending) (given : List Addr) → IsNoResult ending → IsOverLeased list ending given
+leased-end list Added given h = absurd h
+leased-end list Yes given h = tt
+leased-end list (Skipped skip) given h = tt
+leased-end list Versions given h = tt
+leased-end list (Refused cause) given h = tt
+
+leased-aside : (list : NetList) (c : Command) (es : List Entry) (st : State) (s : Share) → IsAside st → LeasedRun list c es st s
+leased-aside list c es AtBegin s h = absurd h
+leased-aside list c es (BeforeLeases x xs) s h = absurd h
+leased-aside list c es (Leasing set sets given) s h = absurd h
+leased-aside list c es (AfterLeases x xs given) s h = absurd h
+leased-aside list c es (ReadingCache ending) s h = absurd h
+leased-aside list c es (Deleting kind ks ending) s h = absurd h
+leased-aside list c es (Over ending given) s h = leased-end list ending given h
+leased-aside list c es _ s h = tt
+
+leased-next : (list : NetList) (c : Command) (es : List Entry) (number : ℕ) (st : State) (r : Reply) (s : Share) → IsAside st → LeasedRun list c es (advance list c number st r) s
+leased-next list c es number st r s h = leased-aside list c es (advance list c number st r) s (aside-advance list c number st r h)
+
+-- ---- every run
+
 lease-fits : (k : Host) (att : Att) (place : ℕ) (set : RangeSet) (faulty : Bool) (a : Addr) → reply_to k (LeaseNext att place set) faulty ≡ Leased a → is_candidate set a ≡ true
 lease-fits k att place set true a h = cc
 lease-fits k att place set false a h = leased-candidate k att place set a h
@@ -155,25 +192,21 @@ run-own list c es (AfterLeases x xs given) k n faulty call is was = run-after li
 run-own list c es (ReadingCache ending) k n faulty call is was = run-cache list c (es ++ entry_of k n call faulty ∷ []) (length es + 1) ending _ _ was
 run-own list c es (Deleting kind ks ending) k n faulty call is was = run-deletion list c (es ++ entry_of k n call faulty ∷ []) (length es + 1) kind ks ending _ _ was
 run-own list c es (Over ending given) k n faulty call is was = cc
+run-own list c es st k n faulty call is was =
+    let e = entry_of k n call faulty in
+    leased-next list c (es ++ e ∷ []) (length es + 1) st e.reply (share_of (att_of c) (host_on k e)) tt
 
 run-unless : (list : NetList) (c : Command) (o : Option Cause) (st : State) (s : Share) → LeasedRun list c [] st s → LeasedRun list c [] (unless_refused o st) s
 run-unless list c None st s h = h
 run-unless list c (Some cause) st s h = tt
 
-run-start : (list : NetList) (c : Command) (v : Verb) (s : Share) → LeasedRun list c [] (start_of v c) s
+run-start : (list : NetList) (c : Command) (v : Verb) (s : Share) → LeasedRun list c [] (start_of list v c) s
 run-start list c verbs.Add s = run-unless list c (add_refusal c) AtBegin s tt
 run-start list c verbs.Del s = run-unless list c (del_refusal c) (ReadingCache Yes) s tt
-run-start list c verbs.Check s = tt
-run-start list c verbs.Gc s = tt
-run-start list c verbs.Status s = tt
-run-start list c verbs.Version s = tt
-run-start list c verbs.NsAdd s = tt
-run-start list c verbs.NsDel s = tt
-run-start list c verbs.Drop s = tt
-run-start list c verbs.Flush s = tt
+run-start list c v s = leased-aside list c [] (start_of list v c) s (aside-start list c v tt)
 
 pub leased-start : StartsWith LeasedRun
-leased-start list c s built = run-start list c c.verb s
+leased-start list c s = run-start list c c.verb s
 
 pub leased-step : IsRunFact LeasedRun
 leased-step w n c list call faulty on was =
@@ -203,14 +236,15 @@ leases-distinct att host addrs sound is =
 abbrev AllSound : Plan → List Entry → Type 0
 AllSound p h = (m : ℕ) → IsSound (after p.pods.opening (until_last m h))
 
-sound-kept : (w : World) (n : ℕ) (c : Placed) (list : NetList) (call : Call) (faulty : Bool) → GoesOn w n c list call faulty → AllSound w.plan w.history → AllSound w.plan (w.history ++ entry_of (host_of w) n call faulty ∷ [])
-sound-kept w n c list call faulty on was = λ m.
-    let e = entry_of (host_of w) n call faulty in
+sound-next : (w : World) (e : Entry) → IsSound (host_on (host_of w) e) → AllSound w.plan w.history → AllSound w.plan (w.history ++ e ∷ [])
+sound-next w e sound was = λ m.
     let opening = w.plan.pods.opening in
     elim (cases_Bool (is_of m e)) [
-      | inl own ↦ subst IsSound (sym (ap (after opening) (until_last-own m w.history e own) ∙ after-append opening w.history e)) (sound-entered w n c list call faulty on)
+      | inl own ↦ subst IsSound (sym (ap (after opening) (until_last-own m w.history e own) ∙ after-append opening w.history e)) sound
       | inr other ↦ subst (λ l. IsSound (after opening l)) (sym (until_last-other m w.history e other)) (was m)
     ]
 
 pub sound-at_end : (w : World) → Legal w → (n : ℕ) → IsSound (host_at_end w n)
-sound-at_end w legal = by-entries AllSound (λ p well m. well.opening.sound) sound-kept w legal
+sound-at_end w legal =
+    by-entries AllSound (λ p well m. well.opening.sound) (λ v n c list call faulty on was. sound-next v (entry_of (host_of v) n call faulty) (sound-entered v n c list call faulty on) was)
+    (λ v n c call faulty on was. sound-next v (entry_of (host_of v) n call faulty) (sound-changed v n c call faulty on) was) w legal

@@ -20,13 +20,13 @@ use Rattle.kernel_types.specs.declared.call.Reply.TheVariants.{Fault}
 use Rattle.plan_words.specs.Share.{Share, share_of}
 use Rattle.cni_verbs.specs.Answers.{answer_of, error_of}
 use Rattle.cni_verbs.specs.CommandWords.{add_refusal, att_of, del_refusal, mappings_of}
-use Rattle.cni_verbs.specs.Script.{leases_in}
+use Rattle.cni_verbs.specs.Script.{State, Over, leases_in}
 use Rattle.cni_verbs.specs.Wanted.{result_of_add, sets_of, wanted}
 use Rattle.cni_verbs.specs.declared.answer.Answer.{Answer}
 use Rattle.cni_verbs.specs.declared.answer.Answer.TheVariants as answers
 use Rattle.cni_verbs.specs.declared.answer.Cause.{Cause}
 use Rattle.cni_verbs.specs.declared.answer.Ending.{Ending}
-use Rattle.cni_verbs.specs.declared.answer.Ending.TheVariants.{Added, Yes, Refused}
+use Rattle.cni_verbs.specs.declared.answer.Ending.TheVariants.{Added, Yes, Skipped, Versions, Refused}
 use Rattle.pod_workers.specs.Legal.{Legal}
 use Rattle.pod_workers.specs.Plans.{Placed, commands_of, list_for}
 use Rattle.pod_workers.specs.World.{World, own_replies}
@@ -35,12 +35,13 @@ use Rattle.pod_laws.specs.Added.{AreCandidates, WasAdded, HasMade}
 use Rattle.pod_laws.specs.Deleted.{WasDeleted, HasDeleted, IsUndeletedByWords, IsUndeletedByFault, WasNotDeleted, AnswersOfDel, IsAnswerOfDel, CalmIsDeleted, IsYesOrCutOff}
 use Rattle.pod_laws.specs.Moments.{has_fault, host_at_end, own_entries}
 use Rattle.pod_laws.specs.Refused.{is_granted, lets_go_on, IsCause, no_namespace, name_taken, pool_empty, no_master, fault, IsResultOrCutOff, UnrefusedIsAdded, WasRefused, IsRefusedFor, AnswersOfAdd, IsAnswerOfAdd, BeginLeavesTheHost}
-use Rattle.pod_laws.proofs.Achieved.{Achieved, IsAddedWith, achieved-start, achieved-step}
-use Rattle.pod_laws.proofs.Due.{IsCutOff, answer-due}
+use Rattle.pod_laws.proofs.Achieved.{Achieved, IsAddedWith, achieved-end, achieved-start, achieved-step}
+use Rattle.pod_laws.proofs.Due.{IsCutOff, IsSwept, answer-due}
 use Rattle.pod_laws.proofs.Entries.{replies-own_entries}
-use Rattle.pod_laws.proofs.LeasedRuns.{IsOverLeased, LeasedRun, leased-start, leased-step, leases-distinct, sound-at_end}
-use Rattle.pod_laws.proofs.Steps.{every-run, listed-command}
-use Rattle.pod_laws.proofs.Undoing.{Undoing, Ends, undone-start, undone-step}
+use Rattle.pod_laws.proofs.LeasedRuns.{IsOverLeased, LeasedRun, leased-end, leased-start, leased-step, leases-distinct, sound-at_end}
+use Rattle.pod_laws.proofs.States.{IsNoResult, IsOtherVerb, swept-no_result}
+use Rattle.pod_laws.proofs.Runs.{every-run, listed-command}
+use Rattle.pod_laws.proofs.Undoing.{Undoing, Ends, undone-end, undone-start, undone-step}
 
 -- ---- answers by endings
 
@@ -59,16 +60,24 @@ by-book a (inl memory) = subst IsByBook (sym memory) tt
 by-book a (inr stopped) = subst IsByBook (sym stopped.1) tt
 
 -- what the ending of a run says of its answer
-abbrev Says : NetList → Command → List Addr → Ending → Answer → Type 0
+abbrev pub Says : NetList → Command → List Addr → Ending → Answer → Type 0
 Says list c given Added a = a ≡ answers.Added (result_of_add list (att_of c) c.netns given)
 Says list c given Yes a = a ≡ answers.Yes
+Says list c given (Skipped skip) a = a ≡ answers.Skipped skip
+Says list c given Versions a = a ≡ answers.Versions list.version
 Says list c given (Refused cause) a = a ≡ answers.Refused (error_of list.version c cause)
 
-says : (list : NetList) (c : Command) (given : List Addr) (ending : Ending) (a : Answer) → a ≡ answer_of list c (record { ending = ending; given = given }) → Says list c given ending a
+pub says : (list : NetList) (c : Command) (given : List Addr) (ending : Ending) (a : Answer) → a ≡ answer_of list c (record { ending = ending; given = given }) → Says list c given ending a
 unfolding answer_of
 says list c given Added a is = is
 says list c given Yes a is = is
+says list c given (Skipped skip) a is = is
+says list c given Versions a is = is
 says list c given (Refused cause) a is = is
+
+-- a garbage collection ends without a result
+swept-ending : (st : State) (ending : Ending) → IsSwept st ending → IsNoResult ending
+swept-ending st ending is = subst IsNoResult (sym is.ends) (swept-no_result is.faults)
 
 -- a run that is over, with all that is known of it
 pub record IsEnded (w : World) (n : ℕ) (c : Command) (list : NetList) (a : Answer) : Type 0 where
@@ -78,6 +87,18 @@ pub record IsEnded (w : World) (n : ℕ) (c : Command) (list : NetList) (a : Ans
   pub achieved : IsAddedWith list c (own_entries n w.history) ending given (share_of (att_of c) (host_at_end w n))
   pub leased : IsOverLeased list ending given
   pub ends : Ends c (own_entries n w.history) ending (share_of (att_of c) (host_at_end w n))
+
+achieved-over : (list : NetList) (c : Command) (es : List Entry) (st : State) (ending : Ending) (given : List Addr) (s : Share) → (st ≡ Over ending given) ⊎ IsSwept st ending → Achieved list c es st s → IsAddedWith list c es ending given s
+achieved-over list c es st ending given s (inl is) h = subst (λ u. Achieved list c es u s) is h
+achieved-over list c es st ending given s (inr swept) h = achieved-end list c es ending given s (swept-ending st ending swept)
+
+leased-over : (list : NetList) (c : Command) (es : List Entry) (st : State) (ending : Ending) (given : List Addr) (s : Share) → (st ≡ Over ending given) ⊎ IsSwept st ending → LeasedRun list c es st s → IsOverLeased list ending given
+leased-over list c es st ending given s (inl is) h = subst (λ u. LeasedRun list c es u s) is h
+leased-over list c es st ending given s (inr swept) h = leased-end list ending given (swept-ending st ending swept)
+
+undone-over : (list : NetList) (c : Command) (es : List Entry) (st : State) (ending : Ending) (given : List Addr) (s : Share) → (st ≡ Over ending given) ⊎ IsSwept st ending → Undoing list c es st s → Ends c es ending s
+undone-over list c es st ending given s (inl is) h = subst (λ u. Undoing list c es u s) is h
+undone-over list c es st ending given s (inr swept) h = undone-end c es ending s (subst (λ u. Undoing list c es u s) swept.collecting h) (swept-ending st ending swept)
 
 ended : (w : World) → Legal w → (n : ℕ) (c : Placed) (list : NetList) (a : Answer) → slice_get (commands_of w.plan) n ≡ Some c → list_for w.plan c.command ≡ Some list → slice_get w.answers n ≡ Some (Some a)
     → IsEnded w n c.command list a ⊎ IsByBook a
@@ -89,9 +110,9 @@ ended w legal n c list a at listed is =
         ending = over.ending;
         given = over.given;
         says = says list c.command over.given over.ending a over.answer_is;
-        achieved = subst (λ st. Achieved list c.command es st s) over.state_is (every-run Achieved achieved-start achieved-step w legal n c list at listed);
-        leased = subst (λ st. LeasedRun list c.command es st s) over.state_is (every-run LeasedRun leased-start leased-step w legal n c list at listed);
-        ends = subst (λ st. Undoing list c.command es st s) over.state_is (every-run Undoing undone-start undone-step w legal n c list at listed);
+        achieved = achieved-over list c.command es _ over.ending over.given s over.state_is (every-run Achieved achieved-start achieved-step w legal n c list at listed);
+        leased = leased-over list c.command es _ over.ending over.given s over.state_is (every-run LeasedRun leased-start leased-step w legal n c list at listed);
+        ends = undone-over list c.command es _ over.ending over.given s over.state_is (every-run Undoing undone-start undone-step w legal n c list at listed);
       })
       | inr cut ↦ inr (by-book a cut)
     ]
@@ -113,6 +134,8 @@ added-by w n c list r Added given says was candidates sound ends =
       objects = was.2 ∙ ap (wanted list (att_of c) c.netns (mappings_of list c)) (sym leased);
     }
 added-by w n c list r Yes given says was candidates sound ends = cc
+added-by w n c list r (Skipped skip) given says was candidates sound ends = cc
+added-by w n c list r Versions given says was candidates sound ends = cc
 added-by w n c list r (Refused cause) given says was candidates sound ends = cc
 
 pub was_added : WasAdded
@@ -131,10 +154,13 @@ IsRefusedWith list c es s error = (cause : Cause) × (error ≡ error_of list.ve
 refused-by : (c : Command) (list : NetList) (es : List Entry) (s : Share) (error : CniError) (ending : Ending) (given : List Addr) → c.verb ≡ verbs.Add → Says list c given ending (answers.Refused error) → Ends c es ending s → IsRefusedWith list c es s error
 refused-by c list es s error Added given verb says ends = cc
 refused-by c list es s error Yes given verb says ends = cc
+refused-by c list es s error (Skipped skip) given verb says ends = cc
+refused-by c list es s error Versions given verb says ends = cc
 refused-by c list es s error (Refused cause) given verb says ends =
     elim ends [
       | inl why ↦ (cause, let e = says in cc, why.why)
-      | inr del ↦ absurd (not-both c verb del.verb)
+      | inr (inl del) ↦ absurd (not-both c verb del.verb)
+      | inr (inr other) ↦ absurd (subst IsOtherVerb verb other)
     ]
 
 pub was_refused : WasRefused
@@ -146,7 +172,9 @@ was_refused w legal n c list error at listed verb is =
 
 answer-add : (c : Command) (list : NetList) (es : List Entry) (s : Share) (a : Answer) (ending : Ending) (given : List Addr) → c.verb ≡ verbs.Add → Says list c given ending a → Ends c es ending s → IsAnswerOfAdd a
 answer-add c list es s a Added given verb says ends = subst IsAnswerOfAdd (sym says) tt
-answer-add c list es s a Yes given verb says ends = absurd (not-both c verb ends.verb)
+answer-add c list es s a Yes given verb says ends = elim ends [ inl del ↦ absurd (not-both c verb del.verb) | inr other ↦ absurd (subst IsOtherVerb verb other) ]
+answer-add c list es s a (Skipped skip) given verb says ends = absurd (subst IsOtherVerb verb ends)
+answer-add c list es s a Versions given verb says ends = absurd (subst IsOtherVerb verb ends)
 answer-add c list es s a (Refused cause) given verb says ends = subst IsAnswerOfAdd (sym says) tt
 
 book-add : (a : Answer) → IsByBook a → IsAnswerOfAdd a
@@ -175,16 +203,18 @@ begin_leaves_the_host host att netns n reply = same-either (is_fault reply) host
 
 -- ---- DEL
 
-deleted-by : (c : Command) (list : NetList) (es : List Entry) (s : Share) (ending : Ending) (given : List Addr) → Says list c given ending answers.Yes → Ends c es ending s → HasDeleted c es s
-deleted-by c list es s Added given says ends = cc
-deleted-by c list es s Yes given says ends = ends.gone
-deleted-by c list es s (Refused cause) given says ends = cc
+deleted-by : (c : Command) (list : NetList) (es : List Entry) (s : Share) (ending : Ending) (given : List Addr) → c.verb ≡ verbs.Del → Says list c given ending answers.Yes → Ends c es ending s → HasDeleted c es s
+deleted-by c list es s Added given verb says ends = cc
+deleted-by c list es s Yes given verb says ends = elim ends [ inl del ↦ del.gone | inr other ↦ absurd (subst IsOtherVerb verb other) ]
+deleted-by c list es s (Skipped skip) given verb says ends = cc
+deleted-by c list es s Versions given verb says ends = cc
+deleted-by c list es s (Refused cause) given verb says ends = cc
 
 pub was_deleted : WasDeleted
 was_deleted w legal n c at verb is =
     let has_list = listed-command w legal n c at (inr verb) in
     elim (ended w legal n c has_list.0 answers.Yes at has_list.1 is) [
-      | inl e ↦ deleted-by c.command has_list.0 (own_entries n w.history) (share_of (att_of c.command) (host_at_end w n)) e.ending e.given e.says e.ends
+      | inl e ↦ deleted-by c.command has_list.0 (own_entries n w.history) (share_of (att_of c.command) (host_at_end w n)) e.ending e.given verb e.says e.ends
       | inr book ↦ absurd book
     ]
 
@@ -194,10 +224,13 @@ IsUndeletedWith list c es error = (cause : Cause) × (error ≡ error_of list.ve
 undeleted-by : (c : Command) (list : NetList) (es : List Entry) (s : Share) (error : CniError) (ending : Ending) (given : List Addr) → c.verb ≡ verbs.Del → Says list c given ending (answers.Refused error) → Ends c es ending s → IsUndeletedWith list c es error
 undeleted-by c list es s error Added given verb says ends = cc
 undeleted-by c list es s error Yes given verb says ends = cc
+undeleted-by c list es s error (Skipped skip) given verb says ends = cc
+undeleted-by c list es s error Versions given verb says ends = cc
 undeleted-by c list es s error (Refused cause) given verb says ends =
     elim ends [
       | inl add ↦ absurd (not-both c add.verb verb)
-      | inr why ↦ (cause, let e = says in cc, why.why)
+      | inr (inl why) ↦ (cause, let e = says in cc, why.why)
+      | inr (inr other) ↦ absurd (subst IsOtherVerb verb other)
     ]
 
 pub was_not_deleted : WasNotDeleted
@@ -210,6 +243,8 @@ was_not_deleted w legal n c list error at listed verb is =
 answer-del : (c : Command) (list : NetList) (es : List Entry) (s : Share) (a : Answer) (ending : Ending) (given : List Addr) → c.verb ≡ verbs.Del → Says list c given ending a → Ends c es ending s → IsAnswerOfDel a
 answer-del c list es s a Added given verb says ends = absurd (not-both c ends.verb verb)
 answer-del c list es s a Yes given verb says ends = subst IsAnswerOfDel (sym says) tt
+answer-del c list es s a (Skipped skip) given verb says ends = absurd (subst IsOtherVerb verb ends)
+answer-del c list es s a Versions given verb says ends = absurd (subst IsOtherVerb verb ends)
 answer-del c list es s a (Refused cause) given verb says ends = subst IsAnswerOfDel (sym says) tt
 
 book-del : (a : Answer) → IsByBook a → IsAnswerOfDel a

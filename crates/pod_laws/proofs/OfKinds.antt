@@ -17,7 +17,6 @@ use Rattle.net_conf.specs.declared.chained.Chained.{Chained}
 use Rattle.net_conf.specs.declared.chained.Chained.TheVariants.{Portmap, Firewall, Tuning}
 use Rattle.net_conf.specs.declared.list.NetList.{NetList}
 use Rattle.kernel_types.specs.Codes.{kind_eq}
-use Rattle.kernel_types.specs.Isolation.{RemovesOwn}
 use Rattle.kernel_types.specs.Touch.{DropsOnly}
 use Rattle.kernel_types.specs.Words.{is_own}
 use Rattle.kernel_types.specs.declared.object.Att.{Att}
@@ -41,6 +40,7 @@ use Rattle.bridge_ptp.specs.declared.ptp.AddressOrRoute.TheVariants.{Address, Ro
 use Rattle.bridge_ptp.specs.Ptp.{call_for, ptp_objects}
 use Rattle.firewall_tuning.specs.Tuning.{tuning_settings, sets_any, link_set_calls}
 use Rattle.cni_verbs.specs.Wanted.{sets_of, calls_before, calls_after, chained_calls, all_chained_calls, chained_result, first_kinds, chained_kinds, chained_kinds_reversed, kinds_of, back_calls, given_by_list, first_plugin_result, cached_of}
+use Rattle.pod_laws.proofs.Removes.{OnlyRemoves}
 
 -- ---- kinds in a list
 
@@ -272,14 +272,14 @@ none_of p gone (x ∷ old) (y ∷ new) d h =
       | inr drop ↦ none_of p gone old (y ∷ new) drop.1 (none_tail (p x) (list_any p old) h)
     ]
 
-pub still_none : {X : Type 0} (p : X → Bool) (old new : List X) → DropsOnly p old new → filter p old ≡ [] → filter p new ≡ []
-still_none p old new d h = filter-none p new (none_of p p old new d (empty_none p old h))
+pub still_none : {X : Type 0} (p gone : X → Bool) (old new : List X) → DropsOnly gone old new → filter p old ≡ [] → filter p new ≡ []
+still_none p gone old new d h = filter-none p new (none_of p gone old new d (empty_none p old h))
 
-pub IsWithin-removes : (att : Att) (ks : List Kind) (old new : Host) → RemovesOwn att old new → IsWithin ks (share_of att old) → IsWithin ks (share_of att new)
+pub IsWithin-removes : (att : Att) (ks : List Kind) (old new : Host) → OnlyRemoves old new → IsWithin ks (share_of att old) → IsWithin ks (share_of att new)
 IsWithin-removes att ks old new d w = record {
-  links = λ h. still_none (λ l. is_own att l.tag) old.links new.links d.links (w.links h);
-  rules = λ h. still_none (λ r. is_own att r.tag) old.rules new.rules d.rules (w.rules h);
-  settings = λ h. still_none (λ s. is_own att s.tag) old.settings new.settings d.settings (w.settings h);
-  leases = λ h. still_none (λ l. is_own att l.tag) old.leases new.leases d.leases (w.leases h);
-  cached = λ h. still_none (λ c. is_own att c.tag) old.cached new.cached d.cached (w.cached h);
+  links = λ h. still_none (λ l. is_own att l.tag) (λ l. true) old.links new.links d.links (w.links h);
+  rules = λ h. still_none (λ r. is_own att r.tag) (λ r. true) old.rules new.rules d.rules (w.rules h);
+  settings = λ h. still_none (λ s. is_own att s.tag) (λ s. true) old.settings new.settings d.settings (w.settings h);
+  leases = λ h. still_none (λ l. is_own att l.tag) (λ l. true) old.leases new.leases d.leases (w.leases h);
+  cached = λ h. still_none (λ c. is_own att c.tag) (λ c. true) old.cached new.cached d.cached (w.cached h);
 }

@@ -1,5 +1,5 @@
 -- Each entry leaves what was made outside, and removes nothing that is shared.
-use Rattle.std.proofs.Common.{◌≡◌, ℕ, Bool, true, false, not, List, [], ◌∷◌, ◌++◌, refl, sym, ◌∙◌, ap, subst, inl, inr}
+use Rattle.std.proofs.Common.{◌≡◌, ℕ, ◌+◌, Bool, true, false, not, List, [], ◌∷◌, ◌++◌, refl, sym, ◌∙◌, ap, subst, inl, inr, arith}
 use Rattle.std.proofs.lemmas.List.{append-nil}
 use Rattle.std.specs.Prelude.{filter}
 use Rattle.net_conf.specs.declared.list.NetList.{NetList}
@@ -7,28 +7,28 @@ use Rattle.kernel_types.specs.Allowed.{IsAllowed}
 use Rattle.kernel_types.specs.Apply.{apply}
 use Rattle.kernel_types.specs.Isolation.{KeepsWhere, KeepsUnowned, ensures_shared, is_from_outside}
 use Rattle.kernel_types.specs.Sound.{IsSound}
-use Rattle.kernel_types.specs.Touch.{AddsBridge, AddsAddress, AddsSetting, is_base}
+use Rattle.kernel_types.specs.Touch.{AddsBridge, AddsAddress, AddsSetting, AddsNamespace, RemovesUnshared, is_base}
 use Rattle.kernel_types.specs.Words.{is_owned}
 use Rattle.kernel_types.proofs.EveryCall.{Touches-apply}
-use Rattle.kernel_types.proofs.Isolation.{KeepsUnowned-Touches, KeepsWhere-nothing, KeepsWhere-AddsBridge, KeepsWhere-AddsAddress, KeepsWhere-AddsSetting}
+use Rattle.kernel_types.proofs.Isolation.{KeepsUnowned-Touches, KeepsWhere-nothing, KeepsWhere-AddsBridge, KeepsWhere-AddsAddress, KeepsWhere-AddsSetting, KeepsWhere-RemovesUnshared}
 use Rattle.kernel_types.specs.declared.object.Host.{Host}
 use Rattle.kernel_types.specs.declared.object.Tag.{Tag}
 use Rattle.kernel_types.specs.declared.object.Tag.TheVariants as tags
 use Rattle.kernel_types.specs.declared.call.Call.{Call}
-use Rattle.kernel_types.specs.declared.call.Call.TheVariants.{BridgeEnsure, GatewayEnsure, ForwardEnsure}
-use Rattle.plan_words.proofs.KeyLists.{filter-push_kept, filter-within}
-use Rattle.cni_verbs.specs.CommandWords.{att_of}
-use Rattle.pod_workers.specs.Plans.{Placed}
-use Rattle.pod_workers.specs.World.{World, after, entry_of, host_of, host_on, own_replies}
+use Rattle.kernel_types.specs.declared.call.Call.TheVariants.{BridgeEnsure, GatewayEnsure, ForwardEnsure, NsChange, Outside}
+use Rattle.plan_words.proofs.KeyLists.{filter-push_dropped, filter-push_kept, filter-within}
+use Rattle.pod_workers.specs.Plans.{Placed, is_of_network}
+use Rattle.pod_workers.specs.World.{World, after, entry_of, host_of, host_on}
 use Rattle.pod_workers.specs.declared.plan.Entry.{Entry}
 use Rattle.pod_workers.specs.declared.plan.Plan.{Plan}
 use Rattle.pod_workers.proofs.Histories.{after-append}
-use Rattle.pod_workers.proofs.Planned.{left-are-planned}
+use Rattle.pod_workers.proofs.Order.{ready_is}
 use Rattle.pod_workers.proofs.Sound.{sound_host}
 use Rattle.pod_workers.proofs.Splits.{split_nil, split_snoc}
 use Rattle.pod_laws.specs.Apart.{is_outside, GrowsAtEnd, KeepsShared, KeepsTheRest, EachEntryKeepsTheRest}
-use Rattle.pod_laws.proofs.Bridges.{call-inside}
-use Rattle.pod_laws.proofs.Steps.{GoesOn, by-entries, on-entry, own-turn}
+use Rattle.pod_laws.proofs.Bridges.{turn-inside}
+use Rattle.pod_laws.proofs.Steps.{Changes, GoesOn, by-entries, on-entry}
+use Rattle.pod_laws.proofs.Turns.{change-of, turn-of}
 
 -- ---- what is unowned is the same
 
@@ -72,10 +72,15 @@ base-unowned tags.Outside h = refl
 base-unowned tags.Base h = refl
 base-unowned (tags.Own att) h = cc
 
-rest-unowned : (old new : Host) → KeepsUnowned old new → KeepsTheRest old new
+-- what was made outside is the same, and nothing shared goes
+record KeepsBoth (old new : Host) : Type 0 where
+  outside : KeepsWhere is_outside old new
+  shared : KeepsShared old new
+
+rest-unowned : (old new : Host) → KeepsUnowned old new → KeepsBoth old new
 rest-unowned old new k = record { outside = keeps-within is_outside old new outside-unowned k; shared = shared-same old new (keeps-within is_base old new base-unowned k) }
 
-rest-nothing : (host : Host) → KeepsTheRest host host
+rest-nothing : (host : Host) → KeepsBoth host host
 rest-nothing host = record { outside = KeepsWhere-nothing is_outside host; shared = shared-same host host (KeepsWhere-nothing is_base host) }
 
 -- ---- one shared object more
@@ -139,10 +144,10 @@ shared-setting old new adds = elim adds [
 
 -- ---- each call
 
-rest-unshared : (host : Host) (call : Call) → IsSound host → IsAllowed host call → is_from_outside call ≡ false → ensures_shared call ≡ false → KeepsTheRest host (apply host call).0
+rest-unshared : (host : Host) (call : Call) → IsSound host → IsAllowed host call → is_from_outside call ≡ false → ensures_shared call ≡ false → KeepsBoth host (apply host call).0
 rest-unshared host call sound allowed inside own = rest-unowned host (apply host call).0 (KeepsUnowned-Touches call host (apply host call).0 inside own (Touches-apply host call sound allowed))
 
-rest-call : (host : Host) (call : Call) → IsSound host → IsAllowed host call → is_from_outside call ≡ false → KeepsTheRest host (apply host call).0
+rest-call : (host : Host) (call : Call) → IsSound host → IsAllowed host call → is_from_outside call ≡ false → KeepsBoth host (apply host call).0
 rest-call host (BridgeEnsure name mtu promisc) sound allowed inside =
     let adds = Touches-apply host (BridgeEnsure name mtu promisc) sound allowed in
     record { outside = KeepsWhere-AddsBridge is_outside host (apply host (BridgeEnsure name mtu promisc)).0 refl adds; shared = shared-bridge host (apply host (BridgeEnsure name mtu promisc)).0 adds }
@@ -154,24 +159,81 @@ rest-call host (ForwardEnsure family) sound allowed inside =
     record { outside = KeepsWhere-AddsSetting is_outside host (apply host (ForwardEnsure family)).0 refl adds; shared = shared-setting host (apply host (ForwardEnsure family)).0 adds }
 rest-call host call sound allowed inside = rest-unshared host call sound allowed inside refl
 
+-- ---- the world outside
+
+unshared-base : (t : Tag) → not (is_base t) ≡ true → is_base t ≡ false
+unshared-base tags.Outside h = refl
+unshared-base tags.Base h = cc
+unshared-base (tags.Own att) h = refl
+
+shared-unshared : (old new : Host) → RemovesUnshared old new → KeepsShared old new
+shared-unshared old new d = shared-same old new (KeepsWhere-RemovesUnshared is_base old new unshared-base d)
+
+shared-namespace : (old new : Host) → AddsNamespace old new → KeepsShared old new
+shared-namespace old new adds = elim adds [
+  | inl e ↦ subst (KeepsShared old) (sym e) (shared-nothing old)
+  | inr more ↦
+      let s = shared-nothing old in
+      subst (KeepsShared old) (sym more.2)
+      (record {
+        namespaces = same-list _ _ (filter-push_dropped (λ n. is_base n.tag) old.namespaces more.0 (ap is_base more.1));
+        links = s.links;
+        addresses = s.addresses;
+        routes = s.routes;
+        rules = s.rules;
+        settings = s.settings;
+        leases = s.leases;
+        cached = s.cached;
+      })
+]
+
+shared-outside : (host : Host) (call : Call) → IsSound host → IsAllowed host call → is_from_outside call ≡ true → KeepsShared host (apply host call).0
+shared-outside host (NsChange name true) sound allowed is = shared-namespace host (apply host (NsChange name true)).0 (Touches-apply host (NsChange name true) sound allowed)
+shared-outside host (NsChange name false) sound allowed is = shared-unshared host (apply host (NsChange name false)).0 (Touches-apply host (NsChange name false) sound allowed)
+shared-outside host (Outside change) sound allowed is = shared-unshared host (apply host (Outside change)).0 (Touches-apply host (Outside change) sound allowed)
+shared-outside host _ sound allowed is = cc
+
 -- ---- each entry
 
+abbrev KeepsAfter : Plan → List Entry → Entry → Type 0
+KeepsAfter p h e = KeepsTheRest p e (after p.pods.opening h) (after p.pods.opening (h ++ e ∷ []))
+
 abbrev AllKeep : Plan → List Entry → Type 0
-AllKeep p h = (before later : List Entry) (e : Entry) → h ≡ before ++ e ∷ later → KeepsTheRest (after p.pods.opening before) (after p.pods.opening (before ++ e ∷ []))
+AllKeep p h = (before later : List Entry) (e : Entry) → h ≡ before ++ e ∷ later → KeepsAfter p before e
+
+-- one entry more
+keep-next : (w : World) (x : Entry) → KeepsTheRest w.plan x (host_of w) (host_on (host_of w) x) → AllKeep w.plan w.history → AllKeep w.plan (w.history ++ x ∷ [])
+keep-next w x now was = λ before later e is. elim (split_snoc w.history before later x e is) [
+  | inl t ↦
+      let at_host : KeepsAfter w.plan w.history x = subst (KeepsTheRest w.plan x (host_of w)) (sym (after-append w.plan.pods.opening w.history x)) now in
+      subst (λ h. KeepsAfter w.plan h e) t.1 (subst (KeepsAfter w.plan w.history) t.2 at_host)
+  | inr t ↦ was before t.0 e t.2
+]
 
 keep-kept : (w : World) (n : ℕ) (c : Placed) (list : NetList) (call : Call) (faulty : Bool) → GoesOn w n c list call faulty → AllKeep w.plan w.history → AllKeep w.plan (w.history ++ entry_of (host_of w) n call faulty ∷ [])
-keep-kept w n c list call faulty on was = λ before later e is.
+keep-kept w n c list call faulty on was =
     let x = entry_of (host_of w) n call faulty in
-    let opening = w.plan.pods.opening in
-    elim (split_snoc w.history before later x e is) [
-      | inl t ↦
-          let own = own-turn list c.command _ call (left-are-planned list c.command (own_replies w n)) on.turn_is in
-          let now : KeepsTheRest (host_of w) (host_on (host_of w) x) = on-entry (λ k. KeepsTheRest (host_of w) k) (host_of w) n call faulty (rest-nothing (host_of w))
-          (λ f. rest-call (host_of w) call (sound_host w on.legal) (on.allowed f) (call-inside (att_of c.command) call own)) in
-          let P : List Entry → Entry → Type 0 = λ h y. KeepsTheRest (after opening h) (after opening (h ++ y ∷ [])) in
-          subst (λ h. P h e) t.1 (subst (P w.history) t.2 (subst (KeepsTheRest (host_of w)) (sym (after-append opening w.history x)) now))
-      | inr t ↦ was before t.0 e t.2
-    ]
+    let both : KeepsBoth (host_of w) (host_on (host_of w) x) = on-entry (λ k. KeepsBoth (host_of w) k) (host_of w) n call faulty (rest-nothing (host_of w))
+    (λ f. rest-call (host_of w) call (sound_host w on.legal) (on.allowed f) (turn-inside c.command call (turn-of w n c list call faulty on))) in
+    keep-next w x (record { outside = λ m d at number verb. both.outside; shared = both.shared }) was
+
+not-both : (b : Bool) → b ≡ true → b ≡ false → ⊥
+not-both b h g = cc
+
+keep-changed : (w : World) (n : ℕ) (c : Placed) (call : Call) (faulty : Bool) → Changes w n c call faulty → AllKeep w.plan w.history → AllKeep w.plan (w.history ++ entry_of (host_of w) n call faulty ∷ [])
+keep-changed w n c call faulty on was =
+    let x = entry_of (host_of w) n call faulty in
+    let change = change-of w n c call faulty on in
+    let shared : KeepsShared (host_of w) (host_on (host_of w) x) = on-entry (λ k. KeepsShared (host_of w) k) (host_of w) n call faulty (shared-nothing (host_of w))
+    (λ f. shared-outside (host_of w) call (sound_host w on.legal) (on.allowed f) change.call_is) in
+    keep-next w x
+    (record {
+      outside = λ m d at number verb.
+          let place : m ≡ n = let a : n + 1 ≡ m + 1 = number in omega (arith, a) in
+          let same : d ≡ c = ready_is w n m c d on.ready place at in
+          absurd (not-both (is_of_network c.command.verb) (ap (λ (z : Placed). is_of_network z.command.verb) (sym same) ∙ verb) change.verb_is);
+      shared = shared;
+    }) was
 
 pub each_entry_keeps_the_rest : EachEntryKeepsTheRest
-each_entry_keeps_the_rest w legal before later e is = by-entries AllKeep (λ p well b l x split. absurd (split_nil b l x split)) keep-kept w legal before later e is
+each_entry_keeps_the_rest w legal before later e is = by-entries AllKeep (λ p well b l x split. absurd (split_nil b l x split)) keep-kept keep-changed w legal before later e is

@@ -24,7 +24,7 @@ use Rattle.kernel_types.specs.Words.{has_host_bridge}
 use Rattle.kernel_types.specs.declared.object.Att.{Att}
 use Rattle.kernel_types.specs.declared.object.Host.{Host}
 use Rattle.kernel_types.specs.declared.call.Call.{Call}
-use Rattle.kernel_types.specs.declared.call.Call.TheVariants.{Begin, BridgeEnsure, VethAdd, MacvlanAdd, GatewayEnsure, ForwardEnsure, LinkSet, AddrAdd, RouteAdd, RuleAppend, SettingSet, LeaseNext, CachePut, CacheGet}
+use Rattle.kernel_types.specs.declared.call.Call.TheVariants.{Begin, BridgeEnsure, VethAdd, MacvlanAdd, GatewayEnsure, ForwardEnsure, LinkSet, AddrAdd, RouteAdd, RuleAppend, SettingSet, LeaseNext, CachePut, CacheGet, HasObj, OwnersOf, PoolFree}
 use Rattle.kernel_types.specs.declared.call.Given.{Given}
 use Rattle.kernel_types.specs.declared.call.Kind.{Kind}
 use Rattle.kernel_types.specs.declared.call.Kind.TheVariants as kinds
@@ -44,7 +44,7 @@ use Rattle.portmap.specs.Portmap.{portmap_rules}
 use Rattle.firewall_tuning.specs.Firewall.{firewall_rules}
 use Rattle.firewall_tuning.specs.Tuning.{tuning_settings, sets_any, link_set_calls}
 use Rattle.cni_verbs.specs.CommandWords.{att_of, mappings_of}
-use Rattle.cni_verbs.specs.Script.{State, AtBegin, BeforeLeases, Leasing, AfterLeases, ReadingCache, Deleting, Over, Calls, turn}
+use Rattle.cni_verbs.specs.Script.{State, AtBegin, BeforeLeases, Leasing, AfterLeases, ReadingCache, Deleting, FindingEntry, Asking, Changing, Collecting, Over, Calls, turn}
 use Rattle.cni_verbs.specs.Wanted.{calls_before, calls_after, chained_calls, all_chained_calls, chained_result, back_calls, given_by_list, first_plugin_result, cached_of, deletion, untuned}
 use Rattle.pod_workers.specs.Plans.{Placed}
 use Rattle.pod_workers.specs.World.{World, host_of}
@@ -54,7 +54,10 @@ use Rattle.pod_laws.proofs.Achieved.{Achieved, achieved-start, achieved-step, wi
 use Rattle.pod_laws.proofs.Bridges.{BridgeIn, BridgeComes, HasBridge, bridge_of, ensures_bridge, all-bridges}
 use Rattle.pod_laws.proofs.Footing.{IsMacvlan, bridge_for, lies_on, lies-calls, lies-host, lie-back, lie-before, no_link-macvlan}
 use Rattle.pod_laws.proofs.Fronts.{untuned-links}
-use Rattle.pod_laws.proofs.Steps.{GoesOn, every-run-now, own-state, state_by}
+use Rattle.pod_laws.proofs.States.{LeftFit, asks, head_fits, is_question}
+use Rattle.pod_laws.proofs.Runs.{every-run-now, own-state, state_by}
+use Rattle.pod_laws.proofs.Steps.{GoesOn}
+use Rattle.pod_laws.proofs.Turns.{AsksOrCollects, work-turn}
 
 -- ---- the bridge that a call names is the list's
 
@@ -208,27 +211,43 @@ footed-after list c es x xs given host ach there =
 abbrev FootedIfPlan : Att → Host → Call → Type 0
 FootedIfPlan att host call = is_plan_call_of att call ≡ true → IsFooted host call
 
-footed-deletion : (att : Att) (host : Host) (kind : Kind) → FootedIfPlan att host (deletion att kind)
-footed-deletion att host kinds.Links = λ own. cc
-footed-deletion att host kinds.Rules = λ own. cc
-footed-deletion att host kinds.Settings = λ own. cc
-footed-deletion att host kinds.Leases = λ own. cc
-footed-deletion att host kinds.Cached = λ own. cc
+footed-deletion : (att owner : Att) (host : Host) (kind : Kind) → FootedIfPlan att host (deletion owner kind)
+footed-deletion att owner host kinds.Links = λ own. cc
+footed-deletion att owner host kinds.Rules = λ own. cc
+footed-deletion att owner host kinds.Settings = λ own. cc
+footed-deletion att owner host kinds.Leases = λ own. cc
+footed-deletion att owner host kinds.Cached = λ own. cc
 
-footed-turn : (list : NetList) (c : Command) (es : List Entry) (st : State) (host : Host) (call : Call) → turn c st ≡ Calls call → Achieved list c es st (share_of (att_of c) host) → HasBridge list st host → FootedIfPlan (att_of c) host call
+footed-question : (att : Att) (host : Host) (call : Call) → is_question call ≡ true → FootedIfPlan att host call
+footed-question att host (HasObj probe) asked = λ own. cc
+footed-question att host (CacheGet a) asked = λ own. cc
+footed-question att host (OwnersOf network kind) asked = λ own. cc
+footed-question att host (PoolFree network set) asked = λ own. cc
+footed-question att host _ asked = cc
+
+-- what only asks or deletes is no call of a plan
+footed-aside : (att : Att) (host : Host) (c : Command) (call : Call) → AsksOrCollects c call → FootedIfPlan att host call
+footed-aside att host c call (inl asked) = footed-question att host call asked
+footed-aside att host c call (inr collected) = subst (FootedIfPlan att host) collected.deletes (footed-deletion att collected.att host collected.kind)
+
+footed-turn : (list : NetList) (c : Command) (es : List Entry) (st : State) (host : Host) (call : Call) → LeftFit list c st → turn c st ≡ Calls call → Achieved list c es st (share_of (att_of c) host) → HasBridge list st host → FootedIfPlan (att_of c) host call
 unfolding turn
-footed-turn list c es AtBegin host call is ach bridge = subst (FootedIfPlan (att_of c) host) (let e : Begin (att_of c) c.netns ≡ call = cc in e) (λ own. cc)
-footed-turn list c es (BeforeLeases x xs) host call is ach bridge = subst (FootedIfPlan (att_of c) host) (let e : x ≡ call = cc in e) (λ own. footed-before list c es x xs host ach bridge)
-footed-turn list c es (Leasing set sets given) host call is ach bridge = subst (FootedIfPlan (att_of c) host) (let e : LeaseNext (att_of c) (length given) set ≡ call = cc in e) (λ own. cc)
-footed-turn list c es (AfterLeases x xs given) host call is ach bridge = subst (FootedIfPlan (att_of c) host) (let e : x ≡ call = cc in e) (λ own. footed-after list c es x xs given host ach bridge)
-footed-turn list c es (ReadingCache ending) host call is ach bridge = subst (FootedIfPlan (att_of c) host) (let e : CacheGet (att_of c) ≡ call = cc in e) (λ own. cc)
-footed-turn list c es (Deleting kind ks ending) host call is ach bridge = subst (FootedIfPlan (att_of c) host) (let e : deletion (att_of c) kind ≡ call = cc in e) (footed-deletion (att_of c) host kind)
-footed-turn list c es (Over ending given) host call is ach bridge = cc
+footed-turn list c es AtBegin host call fit is ach bridge = subst (FootedIfPlan (att_of c) host) (let e : Begin (att_of c) c.netns ≡ call = cc in e) (λ own. cc)
+footed-turn list c es (BeforeLeases x xs) host call fit is ach bridge = subst (FootedIfPlan (att_of c) host) (let e : x ≡ call = cc in e) (λ own. footed-before list c es x xs host ach bridge)
+footed-turn list c es (Leasing set sets given) host call fit is ach bridge = subst (FootedIfPlan (att_of c) host) (let e : LeaseNext (att_of c) (length given) set ≡ call = cc in e) (λ own. cc)
+footed-turn list c es (AfterLeases x xs given) host call fit is ach bridge = subst (FootedIfPlan (att_of c) host) (let e : x ≡ call = cc in e) (λ own. footed-after list c es x xs given host ach bridge)
+footed-turn list c es (ReadingCache ending) host call fit is ach bridge = subst (FootedIfPlan (att_of c) host) (let e : CacheGet (att_of c) ≡ call = cc in e) (λ own. cc)
+footed-turn list c es (Deleting kind ks ending) host call fit is ach bridge = subst (FootedIfPlan (att_of c) host) (let e : deletion (att_of c) kind ≡ call = cc in e) (footed-deletion (att_of c) (att_of c) host kind)
+footed-turn list c es FindingEntry host call fit is ach bridge = subst (FootedIfPlan (att_of c) host) (let e : CacheGet (att_of c) ≡ call = cc in e) (λ own. cc)
+footed-turn list c es (Asking q qs) host call fit is ach bridge = footed-aside (att_of c) host c call (inl (subst (λ j. is_question j ≡ true) (let e : q.call ≡ call = cc in e) (head_fits (asks q) (list_all asks qs) fit)))
+footed-turn list c es (Changing change) host call fit is ach bridge = absurd fit
+footed-turn list c es (Collecting work faults) host call fit is ach bridge = footed-aside (att_of c) host c call (work-turn c work.jobs work.sweeps faults call fit is)
+footed-turn list c es (Over ending given) host call fit is ach bridge = cc
 
 -- so a run's call gets NoLink only where it is `macvlan`'s
 pub no_link-now : (w : World) (n : ℕ) (c : Placed) (list : NetList) (call : Call) (faulty : Bool) → GoesOn w n c list call faulty → is_plan_call_of (att_of c.command) call ≡ true → (apply (host_of w) call).1 ≡ NoLink → IsMacvlan call
 no_link-now w n c list call faulty on own got =
     let st = state_by list c.command (own_entries n w.history) in
-    let footed = footed-turn list c.command (own_entries n w.history) st (host_of w) call (own-state w n c list call faulty on).turn_is
-    (every-run-now Achieved achieved-start achieved-step w n c list call faulty on) (all-bridges w on.legal n c list on.ready.there on.listed) own in
+    let footed = footed-turn list c.command (own_entries n w.history) st (host_of w) call (own-state w n c list call faulty on).fits (own-state w n c list call faulty on).turn_is
+    (every-run-now Achieved achieved-start achieved-step w n c list call faulty on) (all-bridges w on.legal n c on.ready.there on.ready.unanswered list on.listed) own in
     no_link-macvlan (att_of c.command) (host_of w) call own footed.lies footed.bridge got

@@ -37,7 +37,7 @@ use Rattle.cni_verbs.specs.Wanted.{calls_after, chained_calls, all_chained_calls
 use Rattle.pod_laws.specs.AskedFor.{IsAmong, AreAmong, links_after_part, is_tuning, tunes_once, EachLinkIsWanted}
 use Rattle.pod_laws.proofs.Achieved.{with_leases}
 use Rattle.pod_laws.proofs.Fronts.{links-calls, untuned-links}
-use Rattle.pod_laws.proofs.WantedShare.{makes-wanted}
+use Rattle.cni_verbs.proofs.WantedShare.{makes-wanted}
 
 -- ---- calls that change links
 

@@ -13,7 +13,6 @@ use Rattle.kernel_types.specs.Apply.Calls.{without_link}
 use Rattle.kernel_types.specs.Replies.{is_fault}
 use Rattle.kernel_types.specs.Sound.{IsSound}
 use Rattle.kernel_types.specs.Words.{is_own}
-use Rattle.kernel_types.proofs.DropsOwn.{RemovesOwn-apply}
 use Rattle.kernel_types.proofs.ListLemmas.{list_all-push, list_any-append_right}
 use Rattle.kernel_types.specs.declared.object.Att.{Att}
 use Rattle.kernel_types.specs.declared.object.Host.{Host}
@@ -28,12 +27,11 @@ use Rattle.plan_words.specs.PlanCalls.{is_plan_call_of}
 use Rattle.plan_words.specs.Share.{Share, share_of, no_objects}
 use Rattle.plan_words.proofs.Deletions.{gone-none, gone-links, no-links}
 use Rattle.cni_verbs.specs.CommandWords.{att_of, add_refusal, del_refusal}
-use Rattle.cni_verbs.specs.Script.{State, AtBegin, BeforeLeases, Leasing, AfterLeases, ReadingCache, Deleting, Over, Calls, before_of, back_of, after_leases, leasing, before_leases, deleting, faulted, cause_of, at_begin, at_call_before, at_lease, at_call_after, at_cache, at_deletion, advance, unless_refused, start_of, turn}
+use Rattle.cni_verbs.specs.Script.{State, AtBegin, BeforeLeases, Leasing, AfterLeases, ReadingCache, Deleting, FindingEntry, Asking, Changing, Collecting, Over, Calls, before_of, back_of, after_leases, leasing, before_leases, deleting, faulted, cause_of, at_begin, at_call_before, at_lease, at_call_after, at_cache, at_deletion, advance, unless_refused, start_of, turn}
 use Rattle.cni_verbs.specs.Wanted.{sets_of, kinds_of, deletion}
 use Rattle.cni_verbs.specs.declared.answer.Cause.{Cause}
 use Rattle.cni_verbs.specs.declared.answer.Ending.{Ending}
-use Rattle.cni_verbs.specs.declared.answer.Ending.TheVariants.{Added, Yes, Refused}
-use Rattle.pod_workers.specs.Plans.{is_built}
+use Rattle.cni_verbs.specs.declared.answer.Ending.TheVariants.{Added, Yes, Skipped, Versions, Refused}
 use Rattle.pod_workers.specs.World.{entry_of, host_of, host_on, reply_to}
 use Rattle.pod_workers.specs.declared.plan.Entry.{Entry}
 use Rattle.pod_workers.proofs.Planned.{LeftArePlanned}
@@ -44,9 +42,12 @@ use Rattle.pod_laws.specs.Refused.{is_granted, lets_go_on, FirstRefusal, IsRefus
 use Rattle.pod_laws.proofs.Causes.{Refuses, begin-refused, plan-refused, lease-refused}
 use Rattle.pod_laws.proofs.Footing.{IsMacvlan}
 use Rattle.pod_laws.proofs.OfKinds.{IsWithin, IsWithin-removes}
+use Rattle.pod_laws.proofs.Removes.{removes-deletion}
 use Rattle.pod_laws.proofs.Stands.{no_link-now}
-use Rattle.pod_laws.proofs.Steps.{StartsWith, IsRunFact, host-made, on-entry, own-state, sound-entered}
-use Rattle.pod_laws.proofs.Within.{deletes-deletion, within-entered}
+use Rattle.pod_laws.proofs.States.{IsAside, IsNoResult, IsOtherVerb, aside-advance, aside-start}
+use Rattle.pod_laws.proofs.Runs.{IsRunFact, StartsWith, own-state}
+use Rattle.pod_laws.proofs.Steps.{host-made, on-entry, sound-entered}
+use Rattle.pod_laws.proofs.Within.{within-entered}
 
 -- ---- what led to a state
 
@@ -80,6 +81,8 @@ pub record IsCalm (c : Command) (es : List Entry) : Type 0 where
 abbrev pub Leads : Command → List Entry → Ending → Type 0
 Leads c es Added = ⊥
 Leads c es Yes = IsCalm c es
+Leads c es (Skipped skip) = ⊥
+Leads c es Versions = ⊥
 Leads c es (Refused cause) = IsRefusing c es cause
 
 -- how the run came to its end
@@ -95,10 +98,15 @@ pub record IsDelDone (c : Command) (es : List Entry) (s : Share) : Type 0 where
   pub verb : c.verb ≡ verbs.Del
   pub gone : HasDeleted c es s
 
+abbrev pub IsOther : Command → Type 0
+IsOther c = IsOtherVerb c.verb
+
 abbrev pub Ends : Command → List Entry → Ending → Share → Type 0
 Ends c es Added s = IsUnrefused c es
-Ends c es Yes s = IsDelDone c es s
-Ends c es (Refused cause) s = IsAddRefused c es s cause ⊎ IsDelRefused c es cause
+Ends c es Yes s = IsDelDone c es s ⊎ IsOther c
+Ends c es (Skipped skip) s = IsOther c
+Ends c es Versions s = IsOther c
+Ends c es (Refused cause) s = IsAddRefused c es s cause ⊎ (IsDelRefused c es cause ⊎ IsOther c)
 
 abbrev pub Undoing : NetList → Command → List Entry → State → Share → Type 0
 Undoing list c es AtBegin s = IsAtBegin c es
@@ -107,6 +115,10 @@ Undoing list c es (Leasing next left given) s = IsUnrefused c es
 Undoing list c es (AfterLeases next left given) s = IsUnrefused c es
 Undoing list c es (ReadingCache ending) s = Leads c es ending
 Undoing list c es (Deleting next left ending) s = Leads c es ending × IsWithin (next ∷ left) s
+Undoing list c es FindingEntry s = IsOther c
+Undoing list c es (Asking next left) s = IsOther c
+Undoing list c es (Changing change) s = IsOther c
+Undoing list c es (Collecting work faults) s = IsOther c
 Undoing list c es (Over ending given) s = Ends c es ending s
 
 -- ---- an ADD that goes on
@@ -167,6 +179,8 @@ no_fault-more (x ∷ xs) e h g = grind (arith, no_fault-more xs e, h, g)
 
 leads-more : (c : Command) (es : List Entry) (e : Entry) (ending : Ending) → Leads c es ending → is_fault e.reply ≡ false → Leads c (es ++ e ∷ []) ending
 leads-more c es e Added h g = h
+leads-more c es e (Skipped skip) h g = h
+leads-more c es e Versions h g = h
 leads-more c es e Yes h g = record { verb = h.verb; words = h.words; calm = no_fault-more es e h.calm g }
 leads-more c es e (Refused cause) h g = refusing-more c es e cause h
 
@@ -176,14 +190,18 @@ fault-there es e h = list_any-append_right (λ x. is_fault x.reply) es (e ∷ []
 ends-faulted : (c : Command) (es : List Entry) (e : Entry) (ending : Ending) (s : Share) → Leads c es ending → e.reply ≡ Fault → Ends c (es ++ e ∷ []) (faulted (length es + 1) ending) s
 unfolding refusing-more
 ends-faulted c es e Added s h is = absurd h
-ends-faulted c es e Yes s h is = inr (record { verb = h.verb; why = inr (record { words = h.words; calm = es; by = e; are = refl; no_fault = h.calm; fault = is; number = refl }) })
+ends-faulted c es e (Skipped skip) s h is = absurd h
+ends-faulted c es e Versions s h is = absurd h
+ends-faulted c es e Yes s h is = inr (inl (record { verb = h.verb; why = inr (record { words = h.words; calm = es; by = e; are = refl; no_fault = h.calm; fault = is; number = refl }) }))
 ends-faulted c es e (Refused cause) s h is =
     let more = refusing-more c es e cause h in
     inl (record { verb = h.verb; why = inr (inr (record { words = h.words; first = more.first; begun = more.begun; undone = inr (fault-there h.first.later e (ap is_fault is)) })) })
 
 ends-gone : (c : Command) (es : List Entry) (ending : Ending) (s : Share) → Leads c es ending → s ≡ no_objects → Ends c es ending s
 ends-gone c es Added s h none = absurd h
-ends-gone c es Yes s h none = record { verb = h.verb; gone = record { words = h.words; calm = h.calm; gone = none } }
+ends-gone c es (Skipped skip) s h none = absurd h
+ends-gone c es Versions s h none = absurd h
+ends-gone c es Yes s h none = inl (record { verb = h.verb; gone = record { words = h.words; calm = h.calm; gone = none } })
 ends-gone c es (Refused cause) s h none = inl (record { verb = h.verb; why = inr (inr (record { words = h.words; first = h.first; begun = h.begun; undone = inl none })) })
 
 to-deleting : (list : NetList) (c : Command) (es : List Entry) (ks : List Kind) (ending : Ending) (s : Share) → Leads c es ending → IsWithin ks s → (IsWithin [] s → s ≡ no_objects) → Undoing list c es (deleting ks ending) s
@@ -236,7 +254,7 @@ undo-deletion list c es e k ks ending _ t is h w less none = (leads-more c es e 
 within-deleted : (att : Att) (k : Host) (n : ℕ) (faulty : Bool) (ks : List Kind) (kind : Kind) → IsSound k → IsWithin ks (share_of att k) → IsWithin ks (share_of att (host_on k (entry_of k n (deletion att kind) faulty)))
 within-deleted att k n faulty ks kind sound w =
     on-entry (λ h. IsWithin ks (share_of att h)) k n (deletion att kind) faulty w
-    (λ f. IsWithin-removes att ks k (apply k (deletion att kind)).0 (RemovesOwn-apply k (deletion att kind) att sound (deletes-deletion att kind)) w)
+    (λ f. IsWithin-removes att ks k (apply k (deletion att kind)).0 (removes-deletion att k kind sound) w)
 
 gone-link : (att : Att) (k : Host) (o : Option Link) (ks : List Kind) → find (λ l. is_own att l.tag) k.links ≡ o → (without_link k o).1 ≡ Gone false → IsWithin (kinds.Links ∷ ks) (share_of att k) → IsWithin ks (share_of att (without_link k o).0)
 gone-link att k o ks is h w =
@@ -260,6 +278,28 @@ none-left : (att : Att) (k : Host) → IsSound k → IsWithin [] (share_of att k
 none-left att k sound w =
     let lies = no-links att k sound (w.links refl) in
     rw (w.links refl, lies.0, lies.1, w.rules refl, w.settings refl, w.leases refl, w.cached refl) refl
+
+-- ---- runs that make no attachment
+
+pub undone-end : (c : Command) (es : List Entry) (ending : Ending) (s : Share) → IsOther c → IsNoResult ending → Ends c es ending s
+undone-end c es Added s other h = absurd h
+undone-end c es Yes s other h = inr other
+undone-end c es (Skipped skip) s other h = other
+undone-end c es Versions s other h = other
+undone-end c es (Refused cause) s other h = inr (inr other)
+
+undone-aside : (list : NetList) (c : Command) (es : List Entry) (st : State) (s : Share) → IsOther c → IsAside st → Undoing list c es st s
+undone-aside list c es AtBegin s other h = absurd h
+undone-aside list c es (BeforeLeases x xs) s other h = absurd h
+undone-aside list c es (Leasing set sets given) s other h = absurd h
+undone-aside list c es (AfterLeases x xs given) s other h = absurd h
+undone-aside list c es (ReadingCache ending) s other h = absurd h
+undone-aside list c es (Deleting kind ks ending) s other h = absurd h
+undone-aside list c es (Over ending given) s other h = undone-end c es ending s other h
+undone-aside list c es _ s other h = other
+
+undone-next : (list : NetList) (c : Command) (es : List Entry) (number : ℕ) (st : State) (r : Reply) (s : Share) → IsOther c → IsAside st → Undoing list c es (advance list c number st r) s
+undone-next list c es number st r s other h = undone-aside list c es (advance list c number st r) s other (aside-advance list c number st r h)
 
 -- ---- every run
 
@@ -306,6 +346,9 @@ undone-own list c es (Deleting kind ks ending) k n faulty call left is sound on 
     (λ here. undo-deletion list c es (entry_of k n (deletion (att_of c) kind) faulty) kind ks ending _ _ refl was.0 (within-deleted (att_of c) k n faulty (kind ∷ ks) kind sound was.1)
     (λ h. gone-deleted (att_of c) k n faulty kind ks h was.1) (none-left (att_of c) (host_on k (entry_of k n (deletion (att_of c) kind) faulty)) here.sound)) on
 undone-own list c es (Over ending given) k n faulty call left is sound on was = cc
+undone-own list c es st k n faulty call left is sound on was =
+    let e = entry_of k n call faulty in
+    undone-next list c (es ++ e ∷ []) (length es + 1) st e.reply (share_of (att_of c) (host_on k e)) was tt
 
 pub undone-step : IsRunFact Undoing
 undone-step w n c list call faulty on was =
@@ -321,19 +364,12 @@ start-add list c (Some cause) s verb words = inl (record { verb = verb; why = in
 
 start-del : (list : NetList) (c : Command) (o : Option Cause) (s : Share) → c.verb ≡ verbs.Del → del_refusal c ≡ o → Undoing list c [] (unless_refused o (ReadingCache Yes)) s
 start-del list c None s verb words = record { verb = verb; words = words; calm = refl }
-start-del list c (Some cause) s verb words = inr (record { verb = verb; why = inl (record { words = words; no_entry = refl }) })
+start-del list c (Some cause) s verb words = inr (inl (record { verb = verb; why = inl (record { words = words; no_entry = refl }) }))
 
-start-by : (list : NetList) (c : Command) (v : Verb) (s : Share) → c.verb ≡ v → is_built v ≡ true → Undoing list c [] (start_of v c) s
-start-by list c verbs.Add s is built = start-add list c (add_refusal c) s is refl
-start-by list c verbs.Del s is built = start-del list c (del_refusal c) s is refl
-start-by list c verbs.Check s is built = cc
-start-by list c verbs.Gc s is built = cc
-start-by list c verbs.Status s is built = cc
-start-by list c verbs.Version s is built = cc
-start-by list c verbs.NsAdd s is built = cc
-start-by list c verbs.NsDel s is built = cc
-start-by list c verbs.Drop s is built = cc
-start-by list c verbs.Flush s is built = cc
+start-by : (list : NetList) (c : Command) (v : Verb) (s : Share) → c.verb ≡ v → Undoing list c [] (start_of list v c) s
+start-by list c verbs.Add s is = start-add list c (add_refusal c) s is refl
+start-by list c verbs.Del s is = start-del list c (del_refusal c) s is refl
+start-by list c v s is = undone-aside list c [] (start_of list v c) s (subst IsOtherVerb (sym is) tt) (aside-start list c v tt)
 
 pub undone-start : StartsWith Undoing
-undone-start list c s built = start-by list c c.verb s refl built
+undone-start list c s = start-by list c c.verb s refl

@@ -1,22 +1,18 @@
 -- An attachment never has objects of a kind that its list's plugins don't name.
-use Rattle.std.proofs.Common.{◌≡◌, ℕ, ◌+◌, Bool, true, false, List, [], ◌∷◌, ◌++◌, length, Option, Some, None, refl, sym, ◌∙◌, ap, subst, inl, inr, ◌⊎◌}
+use Rattle.std.proofs.Common.{◌≡◌, ℕ, Bool, true, false, List, [], ◌∷◌, ◌++◌, length, Option, Some, None, refl, sym, ◌∙◌, ap, subst, inl, inr, ◌⊎◌}
 use Rattle.std.proofs.lemmas.Bool.{cases_Bool}
-use Rattle.std.proofs.lemmas.Option.{same_Some}
-use Rattle.std.specs.Prelude.{filter, find, ◌&&◌}
+use Rattle.std.proofs.lemmas.Option.{same_Some, none-some}
+use Rattle.std.specs.Prelude.{filter, find, if◌then◌else◌}
 use Rattle.std.specs.List.{list_all}
 use Rattle.std.specs.Str.{bytes_eq}
 use Rattle.cni_addr.specs.declared.address.Addr.{Addr}
 use Rattle.cni_addr.specs.declared.range.RangeSet.{RangeSet}
 use Rattle.net_conf.specs.declared.list.NetList.{NetList}
 use Rattle.pod_file.specs.declared.command.Command.{Command}
-use Rattle.pod_file.specs.declared.command.Verb.{Verb}
-use Rattle.pod_file.specs.declared.command.Verb.TheVariants as verbs
 use Rattle.kernel_types.specs.Apply.{apply}
 use Rattle.kernel_types.specs.Equal.{att_eq, tag_eq}
-use Rattle.kernel_types.specs.Isolation.{deletes_for}
 use Rattle.kernel_types.specs.Sound.{IsSound}
 use Rattle.kernel_types.specs.Words.{is_own}
-use Rattle.kernel_types.proofs.DropsOwn.{RemovesOwn-apply}
 use Rattle.kernel_types.proofs.Isolation.{att_eq-same}
 use Rattle.kernel_types.specs.declared.object.Att.{Att}
 use Rattle.kernel_types.specs.declared.object.Host.{Host}
@@ -31,119 +27,25 @@ use Rattle.kernel_types.specs.declared.call.Reply.TheVariants.{Done, NoNs, NoLin
 use Rattle.plan_words.specs.PlanCalls.{is_plan_call_of}
 use Rattle.plan_words.specs.Share.{share_of, no_objects}
 use Rattle.plan_words.proofs.Deletions.{filter_never}
+use Rattle.plan_words.proofs.OtherCalls.{share-other}
 use Rattle.plan_words.proofs.OwnCalls.{share-own, share-lease}
 use Rattle.plan_words.proofs.Refusals.{refused-same, refused-lease}
-use Rattle.cni_verbs.specs.CommandWords.{att_of, add_refusal, del_refusal}
-use Rattle.cni_verbs.specs.Script.{State, AtBegin, BeforeLeases, Leasing, AfterLeases, ReadingCache, Deleting, Over, Calls, before_of, back_of, after_leases, leasing, before_leases, deleting, at_begin, at_call_before, at_lease, at_call_after, at_cache, at_deletion, advance, unless_refused, start_of, start_state, state_from, state_after, turn}
-use Rattle.cni_verbs.specs.Wanted.{sets_of, kinds_of, deletion}
-use Rattle.cni_verbs.specs.declared.answer.Cause.{Cause}
-use Rattle.cni_verbs.specs.declared.answer.Ending.{Ending}
+use Rattle.cni_verbs.specs.CommandWords.{att_of}
+use Rattle.cni_verbs.specs.Script.{State, AtBegin, BeforeLeases, Leasing, AfterLeases, ReadingCache, Deleting, FindingEntry, Asking, Changing, Collecting, Over, Calls, turn, state_after}
+use Rattle.cni_verbs.specs.Wanted.{kinds_of, deletion}
 use Rattle.pod_workers.specs.Legal.{Legal}
-use Rattle.pod_workers.specs.Plans.{Placed, IsOpening, IsWellFormed, list_for}
+use Rattle.pod_workers.specs.Plans.{Placed, IsOpening, IsWellFormed, is_of_network, list_for}
 use Rattle.pod_workers.specs.World.{World, after, entry_of, host_of, host_on, own_replies}
 use Rattle.pod_workers.specs.declared.plan.Entry.{Entry}
 use Rattle.pod_workers.specs.declared.plan.Plan.{Plan}
 use Rattle.pod_workers.proofs.Histories.{after-append}
 use Rattle.pod_workers.proofs.Planned.{LeftArePlanned, left-are-planned}
 use Rattle.pod_workers.proofs.Sound.{sound_host}
-use Rattle.pod_laws.proofs.OfKinds.{has, call_fits, IsWithin, IsWithin-nothing, IsWithin-call, IsWithin-removes, fit-list_before, fit-list_back, leases-kinds_of, there-or-not}
-use Rattle.pod_laws.proofs.Steps.{GoesOn, by-entries, on-entry, other-entered}
-
--- ---- the calls that are left to a run are of its list's kinds
-
-abbrev LeftFit : NetList → State → Type 0
-LeftFit list AtBegin = Unit {0}
-LeftFit list (BeforeLeases next left) = list_all (call_fits (kinds_of list)) (next ∷ left) ≡ true
-LeftFit list (Leasing next left given) = Unit {0}
-LeftFit list (AfterLeases next left given) = list_all (call_fits (kinds_of list)) (next ∷ left) ≡ true
-LeftFit list (ReadingCache ending) = Unit {0}
-LeftFit list (Deleting next left ending) = Unit {0}
-LeftFit list (Over ending given) = Unit {0}
-
-pub head_fits : (a b : Bool) → (a && b) ≡ true → a ≡ true
-head_fits true b h = refl
-head_fits false b h = cc
-
-tail_fits : (a b : Bool) → (a && b) ≡ true → b ≡ true
-tail_fits true b h = h
-tail_fits false b h = cc
-
-fit-after_leases : (list : NetList) (left : List Call) (given : List Addr) → list_all (call_fits (kinds_of list)) left ≡ true → LeftFit list (after_leases left given)
-fit-after_leases list [] given h = tt
-fit-after_leases list (x ∷ xs) given h = h
-
-fit-leasing : (list : NetList) (c : Command) (left : List RangeSet) (given : List Addr) → LeftFit list (leasing list c left given)
-fit-leasing list c [] given = fit-after_leases list (back_of list c given) given (fit-list_back list (att_of c) c.netns _ given)
-fit-leasing list c (s ∷ ss) given = tt
-
-fit-before_leases : (list : NetList) (c : Command) (left : List Call) → list_all (call_fits (kinds_of list)) left ≡ true → LeftFit list (before_leases list c left)
-fit-before_leases list c [] h = fit-leasing list c (sets_of list) []
-fit-before_leases list c (x ∷ xs) h = h
-
-fit-deleting : (list : NetList) (ks : List Kind) (ending : Ending) → LeftFit list (deleting ks ending)
-fit-deleting list [] ending = tt
-fit-deleting list (k ∷ ks) ending = tt
-
-fit-at_begin : (list : NetList) (c : Command) (number : ℕ) (r : Reply) → LeftFit list (at_begin list c number r)
-fit-at_begin list c number Done = fit-before_leases list c (before_of list c) (fit-list_before list (att_of c) c.netns)
-fit-at_begin list c number _ = tt
-
-fit-at_call_before : (list : NetList) (c : Command) (number : ℕ) (left : List Call) (r : Reply) → list_all (call_fits (kinds_of list)) left ≡ true → LeftFit list (at_call_before list c number left r)
-fit-at_call_before list c number left Done h = fit-before_leases list c left h
-fit-at_call_before list c number left _ h = tt
-
-fit-at_lease : (list : NetList) (c : Command) (number : ℕ) (left : List RangeSet) (given : List Addr) (r : Reply) → LeftFit list (at_lease list c number left given r)
-fit-at_lease list c number left given (Leased addr) = fit-leasing list c left (given ++ addr ∷ [])
-fit-at_lease list c number left given _ = tt
-
-fit-at_call_after : (list : NetList) (number : ℕ) (left : List Call) (given : List Addr) (r : Reply) → list_all (call_fits (kinds_of list)) left ≡ true → LeftFit list (at_call_after number left given r)
-fit-at_call_after list number left given Done h = fit-after_leases list left given h
-fit-at_call_after list number left given _ h = tt
-
-fit-at_cache : (list : NetList) (number : ℕ) (ending : Ending) (r : Reply) → LeftFit list (at_cache list number ending r)
-fit-at_cache list number ending Fault = tt
-fit-at_cache list number ending _ = fit-deleting list (kinds_of list) ending
-
-fit-gone : (list : NetList) (number : ℕ) (kind : Kind) (left : List Kind) (ending : Ending) (b : Bool) → LeftFit list (at_deletion number kind left ending (Gone b))
-fit-gone list number kind left ending true = tt
-fit-gone list number kind left ending false = fit-deleting list left ending
-
-fit-at_deletion : (list : NetList) (number : ℕ) (kind : Kind) (left : List Kind) (ending : Ending) (r : Reply) → LeftFit list (at_deletion number kind left ending r)
-fit-at_deletion list number kind left ending (Gone b) = fit-gone list number kind left ending b
-fit-at_deletion list number kind left ending _ = tt
-
-fit-advance : (list : NetList) (c : Command) (number : ℕ) (s : State) (r : Reply) → LeftFit list s → LeftFit list (advance list c number s r)
-unfolding advance
-fit-advance list c number AtBegin r h = fit-at_begin list c number r
-fit-advance list c number (BeforeLeases next left) r h = fit-at_call_before list c number left r (tail_fits (call_fits (kinds_of list) next) (list_all (call_fits (kinds_of list)) left) h)
-fit-advance list c number (Leasing next left given) r h = fit-at_lease list c number left given r
-fit-advance list c number (AfterLeases next left given) r h = fit-at_call_after list number left given r (tail_fits (call_fits (kinds_of list) next) (list_all (call_fits (kinds_of list)) left) h)
-fit-advance list c number (ReadingCache ending) r h = fit-at_cache list number ending r
-fit-advance list c number (Deleting next left ending) r h = fit-at_deletion list number next left ending r
-fit-advance list c number (Over ending given) r h = tt
-
-fit-from : (list : NetList) (c : Command) (made : ℕ) (s : State) (rs : List Reply) → LeftFit list s → LeftFit list (state_from list c made s rs)
-fit-from list c made s [] h = h
-fit-from list c made s (r ∷ rs) h = fit-from list c (made + 1) (advance list c (made + 1) s r) rs (fit-advance list c (made + 1) s r h)
-
-fit-unless : (list : NetList) (o : Option Cause) (s : State) → LeftFit list s → LeftFit list (unless_refused o s)
-fit-unless list None s h = h
-fit-unless list (Some cause) s h = tt
-
-fit-start_of : (list : NetList) (c : Command) (v : Verb) → LeftFit list (start_of v c)
-fit-start_of list c verbs.Add = fit-unless list (add_refusal c) AtBegin tt
-fit-start_of list c verbs.Del = fit-unless list (del_refusal c) (ReadingCache _) tt
-fit-start_of list c verbs.Check = tt
-fit-start_of list c verbs.Gc = tt
-fit-start_of list c verbs.Status = tt
-fit-start_of list c verbs.Version = tt
-fit-start_of list c verbs.NsAdd = tt
-fit-start_of list c verbs.NsDel = tt
-fit-start_of list c verbs.Drop = tt
-fit-start_of list c verbs.Flush = tt
-
-left-fit : (list : NetList) (c : Command) (rs : List Reply) → LeftFit list (state_after list c rs)
-left-fit list c rs = fit-from list c 0 (start_state c) rs (fit-start_of list c c.verb)
+use Rattle.pod_laws.proofs.OfKinds.{has, call_fits, IsWithin, IsWithin-nothing, IsWithin-call, IsWithin-removes, leases-kinds_of, there-or-not}
+use Rattle.pod_laws.proofs.Removes.{removes-deletion}
+use Rattle.pod_laws.proofs.States.{LeftFit, asks, head_fits, is_question, left-fit, question-leaves}
+use Rattle.pod_laws.proofs.Steps.{Changes, GoesOn, by-entries, on-entry}
+use Rattle.pod_laws.proofs.Turns.{AsksOrCollects, removes-changed, turn-of, work-turn}
 
 -- ---- what a run's own call makes stays within its list's kinds
 
@@ -173,13 +75,6 @@ leased-or-not (Owners owners) = inr (λ a e. cc)
 leased-or-not (Kept cached) = inr (λ a e. cc)
 leased-or-not Fault = inr (λ a e. cc)
 
-pub deletes-deletion : (att : Att) (kind : Kind) → deletes_for (deletion att kind) ≡ Some att
-deletes-deletion att kinds.Links = refl
-deletes-deletion att kinds.Rules = refl
-deletes-deletion att kinds.Settings = refl
-deletes-deletion att kinds.Leases = refl
-deletes-deletion att kinds.Cached = refl
-
 abbrev AfterCall : Att → Host → List Kind → Call → Type 0
 AfterCall att k ks call = IsWithin ks (share_of att (apply k call).0)
 
@@ -199,7 +94,13 @@ within-lease att k ks number set there w =
       | inr not ↦ subst (λ h. IsWithin ks (share_of att h)) (sym (refused-lease k att number set not)) w
     ]
 
-within-turn : (list : NetList) (c : Command) (st : State) (k : Host) (call : Call) → LeftArePlanned list c st → LeftFit list st → IsSound k → turn c st ≡ Calls call → IsWithin (kinds_of list) (share_of (att_of c) k)
+-- what only asks, or deletes for a collection
+within-aside : (att : Att) (c : Command) (k : Host) (ks : List Kind) (call : Call) → IsSound k → AsksOrCollects c call → IsWithin ks (share_of att k) → AfterCall att k ks call
+within-aside att c k ks call sound (inl asked) w = subst (λ h. IsWithin ks (share_of att h)) (sym (question-leaves k call asked)) w
+within-aside att c k ks call sound (inr collected) w =
+    subst (AfterCall att k ks) collected.deletes (IsWithin-removes att ks k (apply k (deletion collected.att collected.kind)).0 (removes-deletion collected.att k collected.kind sound) w)
+
+within-turn : (list : NetList) (c : Command) (st : State) (k : Host) (call : Call) → LeftArePlanned list c st → LeftFit list c st → IsSound k → turn c st ≡ Calls call → IsWithin (kinds_of list) (share_of (att_of c) k)
     → AfterCall (att_of c) k (kinds_of list) call
 unfolding turn
 within-turn list c AtBegin k call left fit sound is w = subst (AfterCall (att_of c) k (kinds_of list)) (let e : Begin (att_of c) c.netns ≡ call = cc in e) w
@@ -215,18 +116,31 @@ within-turn list c (AfterLeases x xs given) k call left fit sound is w =
 within-turn list c (ReadingCache ending) k call left fit sound is w = subst (AfterCall (att_of c) k (kinds_of list)) (let e : CacheGet (att_of c) ≡ call = cc in e) w
 within-turn list c (Deleting kind ks ending) k call left fit sound is w =
     subst (AfterCall (att_of c) k (kinds_of list)) (let e : deletion (att_of c) kind ≡ call = cc in e)
-    (IsWithin-removes (att_of c) (kinds_of list) k (apply k (deletion (att_of c) kind)).0 (RemovesOwn-apply k (deletion (att_of c) kind) (att_of c) sound (deletes-deletion (att_of c) kind)) w)
+    (IsWithin-removes (att_of c) (kinds_of list) k (apply k (deletion (att_of c) kind)).0 (removes-deletion (att_of c) k kind sound) w)
+within-turn list c FindingEntry k call left fit sound is w = subst (AfterCall (att_of c) k (kinds_of list)) (let e : CacheGet (att_of c) ≡ call = cc in e) w
+within-turn list c (Asking q qs) k call left fit sound is w =
+    within-aside (att_of c) c k (kinds_of list) call sound (inl (subst (λ j. is_question j ≡ true) (let e : q.call ≡ call = cc in e) (head_fits (asks q) (list_all asks qs) fit))) w
+within-turn list c (Changing change) k call left fit sound is w = absurd fit
+within-turn list c (Collecting work faults) k call left fit sound is w = within-aside (att_of c) c k (kinds_of list) call sound (work-turn c work.jobs work.sweeps faults call fit is) w
 within-turn list c (Over ending given) k call left fit sound is w = cc
 
 -- ---- every history
 
+-- the list of a network
+abbrev list_of : Plan → List ℕ → Option NetList
+list_of p network = find (λ l. bytes_eq l.name network) p.lists
+
 -- each attachment of a list's network has objects of the list's kinds alone
 abbrev AllWithin : Plan → List Entry → Type 0
-AllWithin p h = (d : Command) (list : NetList) → list_for p d ≡ Some list → IsWithin (kinds_of list) (share_of (att_of d) (after p.pods.opening h))
+AllWithin p h = (att : Att) (list : NetList) → list_of p att.network ≡ Some list → IsWithin (kinds_of list) (share_of att (after p.pods.opening h))
 
-list_for-network : (p : Plan) (c d : Command) → c.network ≡ d.network → list_for p c ≡ list_for p d
+if-listed : (b : Bool) (o : Option NetList) (list : NetList) → (if b then o else None) ≡ Some list → o ≡ Some list
+if-listed true o list is = is
+if-listed false o list is = absurd (none-some list is)
+
+list_of-listed : (p : Plan) (c : Command) (list : NetList) → list_for p c ≡ Some list → list_of p c.network ≡ Some list
 unfolding list_for
-list_for-network p c d e = ap (λ n. find (λ l. bytes_eq l.name n) p.lists) e
+list_of-listed p c list is = if-listed (is_of_network c.verb) (list_of p c.network) list is
 
 outside-unowned : (att : Att) (t : Tag) → tag_eq t tags.Outside ≡ true → is_own att t ≡ false
 outside-unowned att tags.Outside h = refl
@@ -245,7 +159,7 @@ opening-share att host opening =
     rw (links, addresses, routes, rules, settings, leases, cached) refl
 
 within-start : (p : Plan) → IsWellFormed p → AllWithin p []
-within-start p well = λ d list listed. subst (IsWithin (kinds_of list)) (sym (opening-share (att_of d) p.pods.opening well.opening)) (IsWithin-nothing (kinds_of list))
+within-start p well = λ att list listed. subst (IsWithin (kinds_of list)) (sym (opening-share att p.pods.opening well.opening)) (IsWithin-nothing (kinds_of list))
 
 within-mine : (w : World) (n : ℕ) (c : Placed) (list : NetList) (call : Call) (faulty : Bool) → GoesOn w n c list call faulty → IsWithin (kinds_of list) (share_of (att_of c.command) (host_of w))
     → IsWithin (kinds_of list) (share_of (att_of c.command) (host_on (host_of w) (entry_of (host_of w) n call faulty)))
@@ -254,24 +168,41 @@ within-mine w n c list call faulty on was =
     on-entry (λ k. IsWithin (kinds_of list) (share_of (att_of c.command) k)) (host_of w) n call faulty was
     (λ f. within-turn list c.command (state_after list c.command rs) (host_of w) call (left-are-planned list c.command rs) (left-fit list c.command rs) (sound_host w on.legal) on.turn_is was)
 
-within-kept : (w : World) (n : ℕ) (c : Placed) (list : NetList) (call : Call) (faulty : Bool) → GoesOn w n c list call faulty → AllWithin w.plan w.history → AllWithin w.plan (w.history ++ entry_of (host_of w) n call faulty ∷ [])
-within-kept w n c list call faulty on was = λ d other listed.
-    let e = entry_of (host_of w) n call faulty in
-    let grown = after-append w.plan.pods.opening w.history e in
-    subst (λ k. IsWithin (kinds_of other) (share_of (att_of d) k)) (sym grown)
-    (elim (cases_Bool (att_eq (att_of c.command) (att_of d))) [
-      | inl same ↦
-          let atts : att_of c.command ≡ att_of d = att_eq-same (att_of c.command) (att_of d) same in
-          let lists : list ≡ other = same_Some list other (sym on.listed ∙ list_for-network w.plan c.command d (ap (λ (a : Att). a.network) atts) ∙ listed) in
-          let mine = within-mine w n c list call faulty on (was c.command list on.listed) in
-          subst (λ a. IsWithin (kinds_of other) (share_of a (host_on (host_of w) e))) atts (subst (λ l. IsWithin (kinds_of l) (share_of (att_of c.command) (host_on (host_of w) e))) lists mine)
-      | inr apart ↦ subst (IsWithin (kinds_of other)) (sym (other-entered w n c list call faulty (att_of d) on apart)) (was d other listed)
+-- another attachment's share is the same, or a collection takes from it
+within-other : (w : World) (n : ℕ) (c : Placed) (list : NetList) (call : Call) (faulty : Bool) (att : Att) (ks : List Kind) → GoesOn w n c list call faulty → att_eq (att_of c.command) att ≡ false → IsWithin ks (share_of att (host_of w))
+    → IsWithin ks (share_of att (host_on (host_of w) (entry_of (host_of w) n call faulty)))
+within-other w n c list call faulty att ks on apart was =
+    let sound = sound_host w on.legal in
+    on-entry (λ k. IsWithin ks (share_of att k)) (host_of w) n call faulty was
+    (λ f. elim (turn-of w n c list call faulty on) [
+      | inl own ↦ subst (IsWithin ks) (sym (share-other (att_of c.command) att (host_of w) call apart sound (on.allowed f) own)) was
+      | inr aside ↦ within-aside att c.command (host_of w) ks call sound aside was
     ])
 
+within-kept : (w : World) (n : ℕ) (c : Placed) (list : NetList) (call : Call) (faulty : Bool) → GoesOn w n c list call faulty → AllWithin w.plan w.history → AllWithin w.plan (w.history ++ entry_of (host_of w) n call faulty ∷ [])
+within-kept w n c list call faulty on was = λ att other listed.
+    let e = entry_of (host_of w) n call faulty in
+    let found : list_of w.plan (att_of c.command).network ≡ Some list = list_of-listed w.plan c.command list on.listed in
+    subst (λ k. IsWithin (kinds_of other) (share_of att k)) (sym (after-append w.plan.pods.opening w.history e))
+    (elim (cases_Bool (att_eq (att_of c.command) att)) [
+      | inl same ↦
+          let atts : att_of c.command ≡ att = att_eq-same (att_of c.command) att same in
+          let lists : list ≡ other = same_Some list other (sym found ∙ ap (λ (a : Att). list_of w.plan a.network) atts ∙ listed) in
+          let mine = within-mine w n c list call faulty on (was (att_of c.command) list found) in
+          subst (λ a. IsWithin (kinds_of other) (share_of a (host_on (host_of w) e))) atts (subst (λ l. IsWithin (kinds_of l) (share_of (att_of c.command) (host_on (host_of w) e))) lists mine)
+      | inr apart ↦ within-other w n c list call faulty att (kinds_of other) on apart (was att other listed)
+    ])
+
+within-changed : (w : World) (n : ℕ) (c : Placed) (call : Call) (faulty : Bool) → Changes w n c call faulty → AllWithin w.plan w.history → AllWithin w.plan (w.history ++ entry_of (host_of w) n call faulty ∷ [])
+within-changed w n c call faulty on was = λ att other listed.
+    let e = entry_of (host_of w) n call faulty in
+    subst (λ k. IsWithin (kinds_of other) (share_of att k)) (sym (after-append w.plan.pods.opening w.history e))
+    (IsWithin-removes att (kinds_of other) (host_of w) (host_on (host_of w) e) (removes-changed w n c call faulty on) (was att other listed))
+
 pub all-within : (w : World) → Legal w → AllWithin w.plan w.history
-all-within w legal = by-entries AllWithin within-start within-kept w legal
+all-within w legal = by-entries AllWithin within-start within-kept within-changed w legal
 
 -- so it is after one entry more
 pub within-entered : (w : World) (n : ℕ) (c : Placed) (list : NetList) (call : Call) (faulty : Bool) → GoesOn w n c list call faulty
     → IsWithin (kinds_of list) (share_of (att_of c.command) (host_on (host_of w) (entry_of (host_of w) n call faulty)))
-within-entered w n c list call faulty on = within-mine w n c list call faulty on (all-within w on.legal c.command list on.listed)
+within-entered w n c list call faulty on = within-mine w n c list call faulty on (all-within w on.legal (att_of c.command) list (list_of-listed w.plan c.command list on.listed))

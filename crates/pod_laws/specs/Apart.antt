@@ -1,6 +1,8 @@
 -- An entry of one attachment leaves all others alone, and what none owns.
-use Rattle.std.specs.Prelude.{◌≡◌, ℕ, ◌+◌, Bool, true, false, List, [], ◌∷◌, ◌++◌, filter, Some, slice_get}
+use Rattle.std.specs.Prelude.{◌≡◌, ℕ, ◌+◌, Bool, true, false, not, ◌&&◌, List, [], ◌∷◌, ◌++◌, filter, Some, slice_get}
+use Rattle.std.specs.Str.{bytes_eq}
 use Rattle.cni_verbs.specs.CommandWords.{att_of}
+use Rattle.cni_verbs.specs.Sweep.{is_valid}
 use Rattle.kernel_types.specs.Equal.{att_eq}
 use Rattle.kernel_types.specs.Isolation.{KeepsWhere}
 use Rattle.kernel_types.specs.Touch.{is_base}
@@ -9,16 +11,49 @@ use Rattle.kernel_types.specs.declared.object.Host.{Host}
 use Rattle.kernel_types.specs.declared.object.Tag.{Tag}
 use Rattle.kernel_types.specs.declared.object.Tag.TheVariants.{Outside, Base, Own}
 use Rattle.plan_words.specs.Share.{share_of}
+use Rattle.pod_file.specs.declared.command.Command.{Command}
+use Rattle.pod_file.specs.declared.command.Verb.{Verb}
+use Rattle.pod_file.specs.declared.command.Verb.TheVariants as verbs
 use Rattle.pod_workers.specs.Legal.{Legal}
-use Rattle.pod_workers.specs.Plans.{Placed, commands_of}
+use Rattle.pod_workers.specs.Plans.{Placed, commands_of, is_of_network}
 use Rattle.pod_workers.specs.World.{World, after}
 use Rattle.pod_workers.specs.declared.plan.Entry.{Entry}
+use Rattle.pod_workers.specs.declared.plan.Plan.{Plan}
 
--- each entry of an ADD or a DEL leaves the objects of every other attachment, from the start of its run
+-- a garbage collection and the world outside may take from any attachment; each other verb changes its own at most
+abbrev pub leaves_others : Verb → Bool
+leaves_others verbs.Add = true
+leaves_others verbs.Check = true
+leaves_others verbs.Del = true
+leaves_others verbs.Gc = false
+leaves_others verbs.Status = true
+leaves_others verbs.Version = true
+leaves_others verbs.NsAdd = false
+leaves_others verbs.NsDel = false
+leaves_others verbs.Drop = false
+leaves_others verbs.Flush = false
+
+-- each entry of an ADD, a DEL, a CHECK or a STATUS leaves the objects of every other attachment, from the start of its run
 abbrev pub EachEntryLeavesOthers : Type 0
 EachEntryLeavesOthers = (w : World) → Legal w → (n : ℕ) (c : Placed) (before later : List Entry) (e : Entry) (other : Att)
-    → slice_get (commands_of w.plan) n ≡ Some c → e.command ≡ n + 1 → att_eq (att_of c.command) other ≡ false → w.history ≡ before ++ e ∷ later
+    → slice_get (commands_of w.plan) n ≡ Some c → e.command ≡ n + 1 → leaves_others c.command.verb ≡ true → att_eq (att_of c.command) other ≡ false → w.history ≡ before ++ e ∷ later
     → share_of other (after w.plan.pods.opening (before ++ e ∷ [])) ≡ share_of other (after w.plan.pods.opening before)
+
+-- an attachment of the command's network that its valid list leaves out
+abbrev pub is_stale : Command → Att → Bool
+is_stale c att = bytes_eq att.network c.network && not (is_valid c.valid att)
+
+-- what a garbage collection keeps: all but the objects of stale attachments
+abbrev pub is_kept_by : Command → Tag → Bool
+is_kept_by c Outside = true
+is_kept_by c Base = true
+is_kept_by c (Own att) = not (is_stale c att)
+
+-- each entry of a garbage collection leaves all that it keeps, list by list (CNI specification, section 3, "Garbage-collecting unused resources")
+abbrev pub EachCollectionTakesTheStaleAlone : Type 0
+EachCollectionTakesTheStaleAlone = (w : World) → Legal w → (n : ℕ) (c : Placed) (before later : List Entry) (e : Entry)
+    → slice_get (commands_of w.plan) n ≡ Some c → e.command ≡ n + 1 → c.command.verb ≡ verbs.Gc → w.history ≡ before ++ e ∷ later
+    → KeepsWhere (is_kept_by c.command) (after w.plan.pods.opening before) (after w.plan.pods.opening (before ++ e ∷ []))
 
 -- ---- what no attachment owns
 
@@ -42,12 +77,16 @@ pub record KeepsShared (old new : Host) : Type 0 where
   pub leases : GrowsAtEnd (filter (λ l. is_base l.tag) old.leases) (filter (λ l. is_base l.tag) new.leases)
   pub cached : GrowsAtEnd (filter (λ c. is_base c.tag) old.cached) (filter (λ c. is_base c.tag) new.cached)
 
--- what was made outside is the same, list by list, and nothing shared goes
-pub record KeepsTheRest (old new : Host) : Type 0 where
-  pub outside : KeepsWhere is_outside old new
+-- where the entry is of a verb of the CNI specification, what was made outside is the same, list by list
+abbrev pub KeepsOutside : Plan → Entry → Host → Host → Type 0
+KeepsOutside p e old new = (n : ℕ) (c : Placed) → slice_get (commands_of p) n ≡ Some c → e.command ≡ n + 1 → is_of_network c.command.verb ≡ true → KeepsWhere is_outside old new
+
+-- nothing shared goes, and what was made outside goes by the world outside alone
+pub record KeepsTheRest (p : Plan) (e : Entry) (old new : Host) : Type 0 where
+  pub outside : KeepsOutside p e old new
   pub shared : KeepsShared old new
 
 -- each entry of a history
 abbrev pub EachEntryKeepsTheRest : Type 0
 EachEntryKeepsTheRest = (w : World) → Legal w → (before later : List Entry) (e : Entry) → w.history ≡ before ++ e ∷ later
-    → KeepsTheRest (after w.plan.pods.opening before) (after w.plan.pods.opening (before ++ e ∷ []))
+    → KeepsTheRest w.plan e (after w.plan.pods.opening before) (after w.plan.pods.opening (before ++ e ∷ []))

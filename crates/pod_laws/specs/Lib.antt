@@ -1,7 +1,13 @@
 pub mod Added
 pub mod Apart
 pub mod AskedFor
+pub mod Available
+pub mod Bounded
+pub mod Changed
+pub mod Checked
+pub mod Collected
 pub mod Deleted
+pub mod Granted
 pub mod Lasts
 pub mod Moments
 pub mod Refused

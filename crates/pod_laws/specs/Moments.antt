@@ -26,3 +26,12 @@ host_at_end w n = after w.plan.pods.opening (until_last n w.history)
 -- some entry is a fault
 abbrev pub has_fault : List Entry → Bool
 has_fault es = list_any (λ e. is_fault e.reply) es
+
+-- the history before the first of them
+abbrev pub until_first : ℕ → List Entry → List Entry
+until_first n [] = []
+until_first n (e ∷ es) = if is_of n e then [] else e ∷ until_first n es
+
+-- the host right before the first entry of the command at place n
+abbrev pub host_at_start : World → ℕ → Host
+host_at_start w n = after w.plan.pods.opening (until_first n w.history)

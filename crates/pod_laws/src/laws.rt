@@ -3,9 +3,15 @@
 //! A command's moment is its last entry; what is said of a host there holds of it whatever other commands did since.
 
 ghost use Rattle.pod_laws.specs.Added.{WasAdded};
-ghost use Rattle.pod_laws.specs.Apart.{EachEntryKeepsTheRest, EachEntryLeavesOthers};
+ghost use Rattle.pod_laws.specs.Apart.{EachCollectionTakesTheStaleAlone, EachEntryKeepsTheRest, EachEntryLeavesOthers};
 ghost use Rattle.pod_laws.specs.AskedFor.{EachLinkIsWanted, NothingIsUnasked};
+ghost use Rattle.pod_laws.specs.Available.{WasAvailable};
+ghost use Rattle.pod_laws.specs.Bounded.{EachAddHasMost, EachChangeIsOneCall, EachRunIsBounded};
+ghost use Rattle.pod_laws.specs.Changed.{ChangesAreAnswered, VersionsAreTheLists};
+ghost use Rattle.pod_laws.specs.Checked.{WasChecked};
+ghost use Rattle.pod_laws.specs.Collected.{CollectionsAreAnswered, CollectionsAreBounded, CollectionsAreShort, CollectionsInARowKeep};
 ghost use Rattle.pod_laws.specs.Deleted.{AnswersOfDel, CalmIsDeleted, EachDeletionIsOwn, WasDeleted, WasNotDeleted};
+ghost use Rattle.pod_laws.specs.Granted.{EachQuestionLeavesTheHost};
 ghost use Rattle.pod_laws.specs.Lasts.{EachLastIsCandidate};
 ghost use Rattle.pod_laws.specs.Refused.{AnswersOfAdd, BeginLeavesTheHost, UnrefusedIsAdded, WasRefused};
 
@@ -68,6 +74,33 @@ pub fn a_deletion_removes_own_objects()
     ensures { EachDeletionIsOwn }
 {}
 
+// ---- GC
+
+/// A GC is refused with no call made where its list is older than the verb (code 1), and skipped so where its list disables
+/// it. Else, unless memory was refused or it was stopped, it is answered without an error where it met no fault: then the host
+/// right after its last entry is the one right before its first without the objects of stale attachments. Where it met faults,
+/// its error (code 103) names them all, and each such object that is left had a faulty call.
+pub fn every_collection_is_answered()
+    ensures { CollectionsAreAnswered }
+{}
+
+/// A GC that made a call, wherever it was stopped, lost nothing that it is to keep, and added nothing.
+pub fn every_collection_is_bounded()
+    ensures { CollectionsAreBounded }
+{}
+
+/// A GC makes at most six calls; for each stale attachment that owned an object at its start seven more than its list has kinds,
+/// counted plugin by plugin; and one for each object that is not kept.
+pub fn a_collection_makes_few_calls()
+    ensures { CollectionsAreShort }
+{}
+
+/// A GC that is answered without an error leaves what a GC of the round before it, with the same network and valid list, was to
+/// keep of the host before it, whatever that one came to once it had made a call.
+pub fn a_second_collection_finishes_the_first()
+    ensures { CollectionsInARowKeep }
+{}
+
 // ---- every moment
 
 /// At every moment an attachment has nothing, or all that it has is asked for by one ADD: the last one of the attachment
@@ -82,13 +115,19 @@ pub fn each_link_is_wanted()
     ensures { EachLinkIsWanted }
 {}
 
-/// Each entry of an ADD or a DEL leaves the objects of every other attachment as they are, list by list.
+/// Each entry of an ADD, a DEL, a CHECK or a STATUS leaves the objects of every other attachment as they are, list by list.
 pub fn each_entry_leaves_others()
     ensures { EachEntryLeavesOthers }
 {}
 
-/// Each entry of an ADD or a DEL leaves what was made outside as it is, list by list, and removes nothing that attachments
-/// share.
+/// Each entry of a GC leaves as it is, list by list, all but the objects of the attachments of its network that its valid list
+/// doesn't name.
+pub fn each_collection_takes_the_stale_alone()
+    ensures { EachCollectionTakesTheStaleAlone }
+{}
+
+/// No entry removes what attachments share, and each entry of a verb of the CNI specification leaves what was made outside as
+/// it is, list by list. What was made outside goes only by the world outside: a namespace that goes, or a link of one.
 pub fn each_entry_keeps_the_rest()
     ensures { EachEntryKeepsTheRest }
 {}
@@ -96,4 +135,66 @@ pub fn each_entry_keeps_the_rest()
 /// Each address that a pool leased last is a candidate of its set.
 pub fn each_last_is_a_candidate()
     ensures { EachLastIsCandidate }
+{}
+
+// ---- how many calls
+
+/// A run makes a bounded number of calls, whatever others do meanwhile. With p a bound on the calls of an ADD that isn't
+/// refused, whatever addresses it is leased, and c the kinds of its list's plugins, an ADD makes at most 2p + c + 2; a DEL
+/// c + 2 and one an object of its attachment at its first call, a pair of links as one, with what lies on them; a CHECK 2
+/// and one an object of its cached share; a STATUS 1 and one a range set; a VERSION none.
+#[tactic(auto, using(crate::proofs::VerbBounds::run_is_bounded))]
+pub fn each_run_is_bounded()
+    ensures { EachRunIsBounded }
+{}
+
+/// Such a p is `most_calls`: what the list and the command's port mappings have room for.
+#[tactic(auto, using(crate::proofs::VerbBounds::each_add_has_most))]
+pub fn each_add_has_most_calls()
+    ensures { EachAddHasMost }
+{}
+
+/// A change from outside makes at most one call.
+#[tactic(auto, using(crate::proofs::VerbBounds::change_is_one_call))]
+pub fn each_change_is_one_call()
+    ensures { EachChangeIsOneCall }
+{}
+
+// ---- VERSION and the world outside
+
+/// A VERSION makes no call and is answered the version of its list, unless memory was refused or it was stopped.
+pub fn each_version_is_the_lists()
+    ensures { VersionsAreTheLists }
+{}
+
+/// NSADD, NSDEL, DROP and FLUSH are refused by their words (code 4), with no call made, or make the one change that they ask
+/// for, whose reply decides: the namespace isn't there (code 100), a namespace of the name is (code 101), the call was a
+/// fault (code 103), or what was to be taken away isn't there (code 105); any other reply is answered Yes. A FLUSH that names
+/// no table makes no call and is answered Yes. So it is unless memory was refused or the command was stopped.
+pub fn each_change_is_answered_by_its_reply()
+    ensures { ChangesAreAnswered }
+{}
+
+// ---- CHECK and STATUS
+
+/// Each entry of a CHECK or a STATUS leaves the host as it is.
+pub fn each_question_leaves_the_host()
+    ensures { EachQuestionLeavesTheHost }
+{}
+
+/// A STATUS is answered without an error where each range set of its list has a free address in the host at its entries and
+/// the master of `macvlan` is there. Else it is refused for the first that isn't available (code 50): the range sets in order,
+/// and then the master. A list older than 1.1.0 refuses it (code 1), and a fault does (code 103). So it is unless memory was
+/// refused or it was stopped.
+pub fn a_status_tells_what_is_available()
+    ensures { WasAvailable }
+{}
+
+/// A CHECK is answered without an error where its attachment has a cached entry, and the host at its last entry holds all that
+/// the cached result says that there is. With no cached entry the attachment is unknown (code 3); else the first object that
+/// isn't there is named (code 110): the bridge, links, addresses, routes, rules, settings and leases. Bad words refuse it
+/// (code 4), a list may skip it, and a fault ends it (code 103). So it is unless memory was refused or it was stopped,
+/// whatever other commands did between its entries.
+pub fn a_check_tells_what_the_host_holds()
+    ensures { WasChecked }
 {}

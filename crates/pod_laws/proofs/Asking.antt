@@ -1,0 +1,122 @@
+-- Questions that are asked one after another, until one is denied.
+use Rattle.std.proofs.Common.{◌≡◌, ℕ, Bool, true, false, List, [], ◌∷◌, ◌++◌, map, refl, sym, ◌∙◌, ap, subst, append_assoc, arith}
+use Rattle.std.proofs.lemmas.List.{append-nil}
+use Rattle.std.specs.Prelude.{◌&&◌}
+use Rattle.std.specs.List.{list_all}
+use Rattle.kernel_types.specs.Apply.{apply}
+use Rattle.kernel_types.specs.Replies.{is_fault}
+use Rattle.kernel_types.specs.declared.object.Host.{Host}
+use Rattle.kernel_types.specs.declared.call.Call.{Call}
+use Rattle.kernel_types.specs.declared.call.Call.TheVariants.{HasObj, PoolFree}
+use Rattle.kernel_types.specs.declared.call.Reply.TheVariants.{Has}
+use Rattle.plan_words.proofs.KeyLists.{list_all-append}
+use Rattle.kernel_types.proofs.ListLemmas.{list_any-append_none, list_any-append_right}
+use Rattle.cni_verbs.specs.Script.{State, Asking, Over, asking, at_question}
+use Rattle.cni_verbs.specs.declared.answer.Ending.{Ending}
+use Rattle.cni_verbs.specs.declared.answer.Ending.TheVariants.{Added, Yes, Skipped, Versions, Refused}
+use Rattle.cni_verbs.specs.declared.answer.Question.{Question}
+use Rattle.pod_workers.specs.declared.plan.Entry.{Entry}
+use Rattle.pod_laws.specs.Granted.{IsFirstDenied, grants, is_yes}
+use Rattle.pod_laws.specs.Moments.{has_fault}
+
+-- ---- what holds of each question
+
+abbrev pub Each : (Question → Type 0) → List Question → Type 0
+Each P [] = Unit {0}
+Each P (q ∷ qs) = P q × Each P qs
+
+pub each-append : (P : Question → Type 0) (xs ys : List Question) → Each P xs → Each P ys → Each P (xs ++ ys)
+each-append P [] ys h g = g
+each-append P (x ∷ xs) ys h g = (h.0, each-append P xs ys h.1 g)
+
+pub each-front : (P : Question → Type 0) (xs ys : List Question) → Each P (xs ++ ys) → Each P xs
+each-front P [] ys h = tt
+each-front P (x ∷ xs) ys h = (h.0, each-front P xs ys h.1)
+
+pub each-at : (P : Question → Type 0) (xs : List Question) (y : Question) (ys : List Question) → Each P (xs ++ y ∷ ys) → P y
+each-at P [] y ys h = h.0
+each-at P (x ∷ xs) y ys h = each-at P xs y ys h.1
+
+pub each-map : {X : Type 0} (P : Question → Type 0) (f : X → Question) (own : X → Bool) → ((x : X) → own x ≡ true → P (f x)) → (xs : List X) → list_all own xs ≡ true → Each P (map f xs)
+each-map P f own w [] h = tt
+each-map P f own w (x ∷ xs) h = (w x (grind (arith, h)), each-map P f own w xs (grind (arith, h)))
+
+-- the kernel answers with a truth value
+abbrev pub tells : Call → Bool
+tells (HasObj probe) = true
+tells (PoolFree network set) = true
+tells _ = false
+
+pub told-reply : (host : Host) (call : Call) → tells call ≡ true → (apply host call).1 ≡ Has (is_yes (apply host call).1)
+told-reply host (HasObj probe) is = refl
+told-reply host (PoolFree network set) is = refl
+told-reply host _ is = cc
+
+-- ---- while they are asked
+
+-- these come first of all, and are granted
+pub record HasAsked (host : Host) (all : List Question) (left : List Question) : Type 0 where
+  pub past : List Question
+  pub are : all ≡ past ++ left
+  pub granted : list_all (grants host) past ≡ true
+
+abbrev pub EndsAsked : Host → List Question → Ending → Type 0
+EndsAsked host all Yes = list_all (grants host) all ≡ true
+EndsAsked host all (Refused cause) = (question : Question) × IsFirstDenied host all question × (question.lack ≡ cause)
+EndsAsked host all Added = ⊥
+EndsAsked host all (Skipped skip) = ⊥
+EndsAsked host all Versions = ⊥
+
+abbrev pub IsAsking : Host → List Question → State → Type 0
+IsAsking host all (Asking next left) = HasAsked host all (next ∷ left)
+IsAsking host all (Over ending given) = (given ≡ []) × EndsAsked host all ending
+IsAsking host all _ = ⊥
+
+pub asked-all : (host : Host) (all left : List Question) → HasAsked host all left → IsAsking host all (asking left)
+asked-all host all [] a = (refl, ap (list_all (grants host)) (a.are ∙ append-nil a.past) ∙ a.granted)
+asked-all host all (q ∷ qs) a = a
+
+pub asked-none : (host : Host) (all : List Question) → HasAsked host all all
+asked-none host all = record { past = []; are = refl; granted = refl }
+
+one-granted : (host : Host) (past : List Question) (q : Question) → list_all (grants host) past ≡ true → grants host q ≡ true → list_all (grants host) (past ++ q ∷ []) ≡ true
+one-granted host past q h g = list_all-append (grants host) past (q ∷ []) h (grind (arith, g))
+
+asked-has : (host : Host) (all : List Question) (number : ℕ) (q : Question) (qs : List Question) (b : Bool) → grants host q ≡ b → HasAsked host all (q ∷ qs) → IsAsking host all (at_question number q qs (Has b))
+asked-has host all number q qs true is a = asked-all host all qs (record { past = a.past ++ q ∷ []; are = a.are ∙ sym (append_assoc a.past (q ∷ []) qs); granted = one-granted host a.past q a.granted is })
+asked-has host all number q qs false is a = (refl, (q, record { past = a.past; left = qs; are = a.are; granted = a.granted; denied = is }, refl))
+
+pub asked-reply : (host : Host) (all : List Question) (number : ℕ) (q : Question) (qs : List Question) → tells q.call ≡ true → HasAsked host all (q ∷ qs) → IsAsking host all (at_question number q qs (apply host q.call).1)
+asked-reply host all number q qs is a =
+    subst (λ r. IsAsking host all (at_question number q qs r)) (sym (told-reply host q.call is)) (asked-has host all number q qs (grants host q) refl a)
+
+-- ---- all granted, or a first one denied
+
+middle-fails : {X : Type 0} (p : X → Bool) (xs : List X) (y : X) (ys : List X) → p y ≡ false → list_all p (xs ++ y ∷ ys) ≡ false
+middle-fails p [] y ys h = grind (arith, h)
+middle-fails p (x ∷ xs) y ys h = grind (arith, middle-fails p xs y ys h)
+
+pub denied-some : (host : Host) (all : List Question) (q : Question) → IsFirstDenied host all q → list_all (grants host) all ≡ false
+denied-some host all q d = ap (list_all (grants host)) d.are ∙ middle-fails (grants host) d.past q d.left d.denied
+
+-- ---- lists of tests
+
+and-assoc : (a b d : Bool) → (a && (b && d)) ≡ ((a && b) && d)
+and-assoc true b d = refl
+and-assoc false b d = refl
+
+pub and-true : (b : Bool) → (b && true) ≡ b
+and-true true = refl
+and-true false = refl
+
+pub all-both : {X : Type 0} (p : X → Bool) (xs ys : List X) → list_all p (xs ++ ys) ≡ (list_all p xs && list_all p ys)
+all-both p [] ys = refl
+all-both p (x ∷ xs) ys = ap (λ b. p x && b) (all-both p xs ys) ∙ and-assoc (p x) (list_all p xs) (list_all p ys)
+
+-- ---- entries without a fault
+
+pub calm-more : (es : List Entry) (e : Entry) → has_fault es ≡ false → is_fault e.reply ≡ false → has_fault (es ++ e ∷ []) ≡ false
+calm-more es e calm h = list_any-append_none (λ x. is_fault x.reply) es (e ∷ []) calm (grind (arith, h))
+
+pub fault-last : (es : List Entry) (e : Entry) → is_fault e.reply ≡ true → has_fault (es ++ e ∷ []) ≡ true
+fault-last es e h = list_any-append_right (λ x. is_fault x.reply) es (e ∷ []) (grind (arith, h))

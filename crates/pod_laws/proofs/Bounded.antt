@@ -1,0 +1,229 @@
+-- A run makes no more calls than were left to it before its first entry.
+use Rattle.std.proofs.Common.{◌≡◌, ◌≢◌, ℕ, ◌+◌, ◌≤◌, Bool, true, false, List, [], ◌∷◌, ◌++◌, length, Some, None, slice_get, refl, sym, ◌∙◌, ap, subst, inl, inr, ◌⊎◌, arith}
+use Rattle.std.proofs.lemmas.List.{length-append, length-map}
+use Rattle.std.proofs.lemmas.Option.{same_Some, none-some}
+use Rattle.std.proofs.lemmas.Bool.Decides.{eqb_tells}
+use Rattle.net_conf.specs.declared.list.NetList.{NetList}
+use Rattle.pod_file.specs.declared.command.Command.{Command}
+use Rattle.kernel_types.specs.declared.object.Host.{Host}
+use Rattle.kernel_types.specs.declared.call.Call.{Call}
+use Rattle.kernel_types.specs.declared.call.Reply.{Reply}
+use Rattle.plan_words.specs.Share.{Share, share_of}
+use Rattle.cni_verbs.specs.CommandWords.{att_of}
+use Rattle.cni_verbs.specs.Script.{State, Changing, Over, Calls, turn, advance, start_state, outside_advance, outside_after, outside_from, outside_start}
+use Rattle.pod_workers.specs.CallsLeft.{AddsInAtMost, calls_left}
+use Rattle.pod_workers.specs.Legal.{Legal}
+use Rattle.pod_workers.specs.Plans.{Placed, commands_of, list_for}
+use Rattle.pod_workers.specs.World.{World, after, host_of, own_replies, entry_of}
+use Rattle.pod_workers.specs.declared.plan.Entry.{Entry}
+use Rattle.pod_workers.specs.declared.plan.Plan.{Plan}
+use Rattle.pod_workers.proofs.Histories.{after-append, has_reply}
+use Rattle.pod_workers.proofs.Order.{ready_is}
+use Rattle.pod_workers.proofs.Planned.{LeftIsOutside, left-is-outside}
+use Rattle.pod_workers.proofs.Sound.{sound_host}
+use Rattle.pod_workers.proofs.Splits.{split_nil, split_snoc}
+use Rattle.pod_workers.proofs.StepsLeft.{IsNoCollection, entry-falls, none-from}
+use Rattle.pod_laws.specs.Moments.{is_of, own_entries, until_last}
+use Rattle.pod_laws.proofs.Entries.{is_of-own, is_of-other, own_entries-own, own_entries-other, replies_in, replies-own_entries, no-entries, until_last-own, until_last-other}
+use Rattle.pod_laws.proofs.Runs.{all-still, own-state, state_by, state_by-append}
+use Rattle.pod_laws.proofs.Steps.{GoesOn, IsKept, IsKeptOutside, by-entries}
+
+-- ---- calls made and calls left
+
+-- the calls that a run has made, and the most that it still makes after its last one
+abbrev made_and_left : Plan → List Entry → ℕ → Command → NetList → ℕ → ℕ
+made_and_left p h n c list most =
+    length (own_entries n h) + calls_left most list c (state_by list c (own_entries n h)) (share_of (att_of c) (after p.pods.opening (until_last n h)))
+
+-- the most calls of a run that begins after this history
+abbrev at_start : Plan → List Entry → Command → NetList → ℕ → ℕ
+at_start p before c list most = calls_left most list c (start_state list c) (share_of (att_of c) (after p.pods.opening before))
+
+-- its first call, and the most calls after that
+abbrev at_first : Plan → List Entry → Entry → Command → NetList → ℕ → ℕ
+at_first p before e c list most = 1 + calls_left most list c (advance list c 1 (start_state list c) e.reply) (share_of (att_of c) (after p.pods.opening (before ++ e ∷ [])))
+
+-- since its first entry the calls that are left fell at each
+abbrev RunFrom : Plan → List Entry → ℕ → Placed → NetList → Type 0
+RunFrom p h n c list =
+    (most : ℕ) (before rest : List Entry) (e : Entry) → AddsInAtMost list c.command most → IsNoCollection (start_state list c.command) → h ≡ before ++ e ∷ rest → e.command ≡ n + 1 → own_entries n before ≡ []
+    → (made_and_left p h n c.command list most ≤ at_start p before c.command list most) × (made_and_left p h n c.command list most ≤ at_first p before e c.command list most)
+
+abbrev FromFirst : Plan → List Entry → Type 0
+FromFirst p h = (n : ℕ) (c : Placed) (list : NetList) → slice_get (commands_of p) n ≡ Some c → list_for p c.command ≡ Some list → RunFrom p h n c list
+
+-- ---- an entry of another command
+
+true_false : (b : Bool) → b ≡ true → b ≡ false → ⊥
+true_false b h g = cc
+
+from-other : (p : Plan) (h : List Entry) (n : ℕ) (c : Placed) (list : NetList) (x : Entry) → is_of n x ≡ false → RunFrom p h n c list → RunFrom p (h ++ x ∷ []) n c list
+from-other p h n c list x far was = λ most before rest e in_most none split own first.
+    let same : made_and_left p (h ++ x ∷ []) n c.command list most ≡ made_and_left p h n c.command list most =
+    ap (λ es. length es + calls_left most list c.command (state_by list c.command es) (share_of (att_of c.command) (after p.pods.opening (until_last n (h ++ x ∷ []))))) (own_entries-other n h x far)
+    ∙ ap (λ l. length (own_entries n h) + calls_left most list c.command (state_by list c.command (own_entries n h)) (share_of (att_of c.command) (after p.pods.opening l))) (until_last-other n h x far) in
+    elim (split_snoc h before rest x e split) [
+      | inl t ↦ absurd (true_false (is_of n x) (ap (is_of n) t.2 ∙ is_of-own n e own) far)
+      | inr t ↦ (let earlier = was most before t.0 e in_most none t.2 own first in (omega arith, omega arith))
+    ]
+
+other-number : (n m : ℕ) (host : Host) (call : Call) (faulty : Bool) → n ≢ m → is_of n (entry_of host m call faulty) ≡ false
+other-number n m host call faulty differ = is_of-other n (entry_of host m call faulty) (λ same. differ (let s : m + 1 ≡ n + 1 = same in omega (arith, s)))
+
+-- ---- an own entry
+
+from-own : (w : World) (n : ℕ) (c : Placed) (list : NetList) (call : Call) (faulty : Bool) → GoesOn w n c list call faulty → RunFrom w.plan w.history n c list → RunFrom w.plan (w.history ++ entry_of (host_of w) n call faulty ∷ []) n c list
+from-own w n c list call faulty on was = λ most before rest e in_most none split own first.
+    let h = w.history in
+    let x = entry_of (host_of w) n call faulty in
+    let es = own_entries n h in
+    let att = att_of c.command in
+    let opening = w.plan.pods.opening in
+    let mine : is_of n x ≡ true = is_of-own n x refl in
+    let state = state_by list c.command es in
+    let next = advance list c.command (length es + 1) state x.reply in
+    let st = own-state w n c list call faulty on in
+    let fall = entry-falls most list c.command (length es + 1) n state (host_of w) call faulty in_most
+    (record { sound = sound_host w on.legal; allowed = on.allowed }) st.planned (none-from list c.command 0 (start_state list c.command) (replies_in es) none) st.turn_is in
+    let longer = length-append es (x ∷ []) in
+    let entered : made_and_left w.plan (h ++ x ∷ []) n c.command list most ≡ length (es ++ x ∷ []) + calls_left most list c.command next (share_of att (after opening (h ++ x ∷ []))) =
+    ap (λ l. length l + calls_left most list c.command (state_by list c.command l) (share_of att (after opening (until_last n (h ++ x ∷ []))))) (own_entries-own n h x mine)
+    ∙ ap (λ s. length (es ++ x ∷ []) + calls_left most list c.command s (share_of att (after opening (until_last n (h ++ x ∷ []))))) (state_by-append list c.command es x)
+    ∙ ap (λ l. length (es ++ x ∷ []) + calls_left most list c.command next (share_of att (after opening l))) (until_last-own n h x mine) in
+    let host_is = ap (λ k. calls_left most list c.command next (share_of att k)) (after-append opening h x) in
+    elim (split_snoc h before rest x e split) [
+      | inl t ↦
+          let empty : es ≡ [] = ap (own_entries n) t.1 ∙ first in
+          let start : length es + calls_left most list c.command state (share_of att (host_of w)) ≡ 0 + at_start w.plan before c.command list most =
+          ap (λ l. length l + calls_left most list c.command (state_by list c.command l) (share_of att (host_of w))) empty
+          ∙ ap (λ l. 0 + calls_left most list c.command (start_state list c.command) (share_of att (after opening l))) t.1 in
+          let here : length (es ++ x ∷ []) + calls_left most list c.command next (share_of att (after opening (h ++ x ∷ []))) ≡ at_first w.plan before e c.command list most =
+          ap (λ l. length (l ++ x ∷ []) + calls_left most list c.command (advance list c.command (length l + 1) (state_by list c.command l) x.reply) (share_of att (after opening (h ++ x ∷ [])))) empty
+          ∙ ap (λ l. at_first w.plan l x c.command list most) t.1
+          ∙ ap (λ y. at_first w.plan before y c.command list most) t.2 in
+          (omega arith, omega arith)
+      | inr t ↦ elim (all-still w on.legal n c on.ready.there on.ready.unanswered) [
+        | inl nothing ↦ absurd (has_reply n h before t.0 e t.2 own nothing)
+        | inr still ↦
+            let earlier = was most before t.0 e in_most none t.2 own first in
+            let same = ap (λ s. length es + calls_left most list c.command state s) still in
+            (omega arith, omega arith)
+      ]
+    ]
+
+-- ---- every history
+
+from-entered : IsKept FromFirst
+from-entered w n c list call faulty on was = λ m d other_list at listed.
+    let h = w.history in
+    let x = entry_of (host_of w) n call faulty in
+    elim (eqb_tells m n) [
+      | inl t ↦
+          let same : d ≡ c = ready_is w n m c d on.ready t.1 at in
+          let same_list : other_list ≡ list = same_Some other_list list (sym listed ∙ ap (λ (y : Placed). list_for w.plan y.command) same ∙ on.listed) in
+          let mine : RunFrom w.plan (h ++ x ∷ []) n c list = from-own w n c list call faulty on (was n c list on.ready.there on.listed) in
+          subst (λ j. RunFrom w.plan (h ++ x ∷ []) j d other_list) (sym t.1) (subst (λ y. RunFrom w.plan (h ++ x ∷ []) n y other_list) (sym same) (subst (RunFrom w.plan (h ++ x ∷ []) n c) (sym same_list) mine))
+      | inr f ↦ from-other w.plan h m d other_list x (other-number m n (host_of w) call faulty f.1) (was m d other_list at listed)
+    ]
+
+from-changed : IsKeptOutside FromFirst
+from-changed w n c call faulty on was = λ m d list at listed. elim (eqb_tells m n) [
+  | inl t ↦ absurd (none-some list (sym on.unlisted ∙ ap (λ (y : Placed). list_for w.plan y.command) (sym (ready_is w n m c d on.ready t.1 at)) ∙ listed))
+  | inr f ↦ from-other w.plan w.history m d list (entry_of (host_of w) n call faulty) (other-number m n (host_of w) call faulty f.1) (was m d list at listed)
+]
+
+from-first : (w : World) → Legal w → FromFirst w.plan w.history
+from-first w legal = by-entries FromFirst (λ p well n c list at listed most before rest e in_most none split own first. absurd (split_nil before rest e split)) from-entered from-changed w legal
+
+-- the calls that a run has made, against what was left before its first, and after it
+pub made-within : (w : World) → Legal w → (n : ℕ) (c : Placed) (list : NetList) (most : ℕ) (before rest : List Entry) (e : Entry) → slice_get (commands_of w.plan) n ≡ Some c → list_for w.plan c.command ≡ Some list
+    → AddsInAtMost list c.command most → IsNoCollection (start_state list c.command) → w.history ≡ before ++ e ∷ rest → e.command ≡ n + 1 → own_entries n before ≡ []
+    → (length (own_replies w n) ≤ calls_left most list c.command (start_state list c.command) (share_of (att_of c.command) (after w.plan.pods.opening before)))
+    × (length (own_replies w n) ≤ 1 + calls_left most list c.command (advance list c.command 1 (start_state list c.command) e.reply) (share_of (att_of c.command) (after w.plan.pods.opening (before ++ e ∷ []))))
+made-within w legal n c list most before rest e at listed in_most none split own first =
+    let all = from-first w legal n c list at listed most before rest e in_most none split own first in
+    let same = ap length (replies-own_entries n w.history) in
+    let long = length-map (own_entries n w.history) (λ (y : Entry). y.reply) in
+    (omega arith, omega arith)
+
+-- ---- the first entry
+
+-- a command has no entry, or a first one
+pub first-or-none : (n : ℕ) (h : List Entry) → (own_entries n h ≡ []) ⊎ ((before rest : List Entry) × (e : Entry) × (h ≡ before ++ e ∷ rest) × (e.command ≡ n + 1) × (own_entries n before ≡ []))
+first-or-none n [] = inl refl
+first-or-none n (x ∷ xs) = elim (eqb_tells x.command (n + 1)) [
+  | inl t ↦ inr ([], xs, x, refl, t.1, refl)
+  | inr f ↦ elim (first-or-none n xs) [ inl none ↦ inl (rw f.0 none) | inr is ↦ inr (x ∷ is.0, is.1, is.2, ap (λ l. x ∷ l) is.3, is.4, rw f.0 is.5) ]
+]
+
+-- where what was left before the first call is no more than a number, no more calls were made
+pub made-below : (w : World) → Legal w → (n : ℕ) (c : Placed) (list : NetList) (most bound : ℕ) → slice_get (commands_of w.plan) n ≡ Some c → list_for w.plan c.command ≡ Some list → AddsInAtMost list c.command most
+    → IsNoCollection (start_state list c.command) → ((s : Share) → calls_left most list c.command (start_state list c.command) s ≤ bound) → length (own_replies w n) ≤ bound
+made-below w legal n c list most bound at listed in_most none few = elim (first-or-none n w.history) [
+  | inl nothing ↦
+      let no_reply : length (own_replies w n) ≡ 0 = ap length (replies-own_entries n w.history ∙ ap replies_in nothing) in
+      omega arith
+  | inr is ↦
+      let made = (made-within w legal n c list most is.0 is.1 is.2 at listed in_most none is.3 is.4 is.5).0 in
+      let left = few (share_of (att_of c.command) (after w.plan.pods.opening is.0)) in
+      omega arith
+]
+
+-- ---- a change from outside
+
+abbrev IsOver : State → Type 0
+IsOver (Over ending given) = Unit {0}
+IsOver _ = ⊥
+
+over-advance : (number : ℕ) (s : State) (r : Reply) → LeftIsOutside s → IsOver (outside_advance number s r)
+over-advance number (Changing change) r left = tt
+over-advance number (Over ending given) r left = tt
+over-advance number _ r left = absurd left
+
+over-stays : (number : ℕ) (s : State) (r : Reply) → IsOver s → IsOver (outside_advance number s r)
+over-stays number (Over ending given) r is = tt
+over-stays number _ r is = absurd is
+
+over-from : (made : ℕ) (s : State) (rs : List Reply) → IsOver s → IsOver (outside_from made s rs)
+over-from made s [] is = is
+over-from made s (r ∷ rs) is = over-from (made + 1) (outside_advance (made + 1) s r) rs (over-stays (made + 1) s r is)
+
+over-calls : (c : Command) (s : State) (call : Call) → IsOver s → turn c s ≡ Calls call → ⊥
+unfolding turn
+over-calls c (Over ending given) call is calls = cc
+over-calls c _ call is calls = absurd is
+
+-- its first call is its last
+only-call : (c : Command) (rs : List Reply) (call : Call) → turn c (outside_after c rs) ≡ Calls call → rs ≡ []
+only-call c [] call is = refl
+only-call c (r ∷ rs) call is = absurd (over-calls c (outside_after c (r ∷ rs)) call (over-from 1 (outside_advance 1 (outside_start c) r) rs (over-advance 1 (outside_start c) r (left-is-outside c []))) is)
+
+abbrev OneCall : Plan → List Entry → Type 0
+OneCall p h = (n : ℕ) (c : Placed) → slice_get (commands_of p) n ≡ Some c → list_for p c.command ≡ None → length (own_entries n h) ≤ 1
+
+one-other : (n : ℕ) (h : List Entry) (x : Entry) → is_of n x ≡ false → length (own_entries n h) ≤ 1 → length (own_entries n (h ++ x ∷ [])) ≤ 1
+one-other n h x far few = let same = ap length (own_entries-other n h x far) in omega arith
+
+one-entered : IsKept OneCall
+one-entered w n c list call faulty on was = λ m d at unlisted. elim (eqb_tells m n) [
+  | inl t ↦ absurd (none-some list (sym unlisted ∙ ap (λ (y : Placed). list_for w.plan y.command) (ready_is w n m c d on.ready t.1 at) ∙ on.listed))
+  | inr f ↦ one-other m w.history (entry_of (host_of w) n call faulty) (other-number m n (host_of w) call faulty f.1) (was m d at unlisted)
+]
+
+one-changed : IsKeptOutside OneCall
+one-changed w n c call faulty on was = λ m d at unlisted.
+    let x = entry_of (host_of w) n call faulty in
+    elim (eqb_tells m n) [
+      | inl t ↦
+          let none : own_entries n w.history ≡ [] = no-entries (own_entries n w.history) (sym (replies-own_entries n w.history) ∙ only-call c.command (own_replies w n) call on.turn_is) in
+          let one : length (own_entries n (w.history ++ x ∷ [])) ≡ 1 = ap length (own_entries-own n w.history x (is_of-own n x refl) ∙ ap (λ l. l ++ x ∷ []) none) in
+          subst (λ j. length (own_entries j (w.history ++ x ∷ [])) ≤ 1) (sym t.1) (omega arith)
+      | inr f ↦ one-other m w.history x (other-number m n (host_of w) call faulty f.1) (was m d at unlisted)
+    ]
+
+pub one-call : (w : World) → Legal w → (n : ℕ) (c : Placed) → slice_get (commands_of w.plan) n ≡ Some c → list_for w.plan c.command ≡ None → length (own_replies w n) ≤ 1
+one-call w legal n c at unlisted =
+    let few = by-entries OneCall (λ p well m d there none. omega arith) one-entered one-changed w legal n c at unlisted in
+    let same = ap length (replies-own_entries n w.history) in
+    let long = length-map (own_entries n w.history) (λ (y : Entry). y.reply) in
+    omega arith

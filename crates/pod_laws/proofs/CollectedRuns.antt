@@ -1,0 +1,90 @@
+-- The entries of a command that stands alone are a run in the words of a collection.
+use Rattle.std.proofs.Common.{◌≡◌, ℕ, ◌+◌, Bool, true, false, List, [], ◌∷◌, length, Some, refl, sym, ◌∙◌, ap, subst}
+use Rattle.std.specs.Prelude.{◌||◌, if◌then◌else◌}
+use Rattle.net_conf.specs.declared.list.NetList.{NetList}
+use Rattle.pod_file.specs.declared.command.Command.{Command}
+use Rattle.kernel_types.specs.Apply.{apply}
+use Rattle.kernel_types.specs.Replies.{is_fault}
+use Rattle.kernel_types.specs.declared.object.Host.{Host}
+use Rattle.kernel_types.specs.declared.call.Call.{Call}
+use Rattle.kernel_types.specs.declared.call.Call.TheVariants.{Begin, LeaseNext, CacheGet, OwnersOf}
+use Rattle.cni_verbs.specs.CommandWords.{att_of}
+use Rattle.cni_verbs.specs.Script.{State, AtBegin, BeforeLeases, Leasing, AfterLeases, ReadingCache, Deleting, FindingEntry, Asking, Changing, Collecting, Over, Calls, advance, call_of_work, next_call, turn, turn_of_work}
+use Rattle.cni_verbs.specs.Sweep.{Job, Sweep, step_call}
+use Rattle.cni_verbs.specs.Wanted.{deletion}
+use Rattle.gc_sweep.specs.Sweep.{fault_numbers}
+use Rattle.gc_sweep.specs.Trace as trace
+use Rattle.pod_workers.specs.World.{after, host_on, reply_to}
+use Rattle.pod_workers.specs.declared.plan.Entry.{Entry}
+use Rattle.pod_laws.specs.Collected.{made_in}
+use Rattle.pod_laws.specs.Moments.{has_fault}
+use Rattle.pod_laws.proofs.AloneRuns.{IsRunFrom}
+use Rattle.pod_laws.proofs.Entries.{replies_in}
+
+-- ---- the next call
+
+work-next : (network : List ℕ) (jobs : List Job) (sweeps : List Sweep) (faults : List ℕ) (call : Call) → turn_of_work network jobs sweeps faults ≡ Calls call → call_of_work network jobs sweeps ≡ Some call
+work-next network [] [] faults call is = cc
+work-next network [] (s ∷ sweeps) faults call is = let e : OwnersOf network s.kind ≡ call = cc in ap Some e
+work-next network (j ∷ jobs) sweeps faults call is = let e : step_call j.att j.step ≡ call = cc in ap Some e
+
+next-turn : (c : Command) (st : State) (call : Call) → turn c st ≡ Calls call → next_call c st ≡ Some call
+unfolding turn next_call
+next-turn c AtBegin call is = let e : Begin (att_of c) c.netns ≡ call = cc in ap Some e
+next-turn c (BeforeLeases x xs) call is = let e : x ≡ call = cc in ap Some e
+next-turn c (Leasing set sets given) call is = let e : LeaseNext (att_of c) (length given) set ≡ call = cc in ap Some e
+next-turn c (AfterLeases x xs given) call is = let e : x ≡ call = cc in ap Some e
+next-turn c (ReadingCache ending) call is = let e : CacheGet (att_of c) ≡ call = cc in ap Some e
+next-turn c (Deleting kind ks ending) call is = let e : deletion (att_of c) kind ≡ call = cc in ap Some e
+next-turn c FindingEntry call is = let e : CacheGet (att_of c) ≡ call = cc in ap Some e
+next-turn c (Asking q qs) call is = let e : q.call ≡ call = cc in ap Some e
+next-turn c (Changing change) call is = let e : change ≡ call = cc in ap Some e
+next-turn c (Collecting work faults) call is = work-next c.network work.jobs work.sweeps faults call is
+next-turn c (Over ending given) call is = cc
+
+-- ---- hosts and replies
+
+host-by : (b : Bool) (host : Host) (call : Call) → (if b then host else (apply host call).0) ≡ trace.host_by b host call
+host-by true host call = refl
+host-by false host call = refl
+
+reply-by : (faulty : Bool) (host : Host) (call : Call) → reply_to host call faulty ≡ trace.reply_by faulty host call
+reply-by true host call = refl
+reply-by false host call = refl
+
+pub to-run : (list : NetList) (c : Command) (made : ℕ) (st : State) (host : Host) (es : List Entry) → IsRunFrom list c made st host es → trace.IsRunFrom list c made st host (made_in es)
+to-run list c made st host [] run = tt
+to-run list c made st host (e ∷ es) run = (
+  next-turn c st e.call run.0,
+  (run.1.0, run.1.1 ∙ reply-by run.1.0 host e.call),
+  subst (λ k. trace.IsRunFrom list c (made + 1) (advance list c (made + 1) st e.reply) k (made_in es)) (host-by (is_fault e.reply) host e.call) (to-run list c (made + 1) (advance list c (made + 1) st e.reply) (host_on host e) es run.2),
+)
+
+pub to-host : (host : Host) (es : List Entry) → trace.host_from host (made_in es) ≡ after host es
+to-host host [] = refl
+to-host host (e ∷ es) = ap (λ k. trace.host_from k (made_in es)) (sym (host-by (is_fault e.reply) host e.call)) ∙ to-host (host_on host e) es
+
+pub to-replies : (es : List Entry) → trace.replies (made_in es) ≡ replies_in es
+to-replies [] = refl
+to-replies (e ∷ es) = ap (λ l. e.reply ∷ l) (to-replies es)
+
+-- ---- faults
+
+no-if : (b rest : Bool) (x : ℕ) (xs ys : List ℕ) → (b || rest) ≡ false → (rest ≡ false → ys ≡ []) → (if b then x ∷ xs else ys) ≡ []
+no-if true rest x xs ys h g = cc
+no-if false rest x xs ys h g = g h
+
+pub no-faults : (made : ℕ) (es : List Entry) → has_fault es ≡ false → fault_numbers made (made_in es) ≡ []
+no-faults made [] h = refl
+no-faults made (e ∷ es) h = no-if (is_fault e.reply) (has_fault es) (made + 1) (fault_numbers (made + 1) (made_in es)) (fault_numbers (made + 1) (made_in es)) h (λ g. no-faults (made + 1) es g)
+
+abbrev IsSome : List ℕ → Type 0
+IsSome ns = (x : ℕ) × (xs : List ℕ) × (ns ≡ x ∷ xs)
+
+some-if : (b rest : Bool) (x : ℕ) (xs ys : List ℕ) → (b || rest) ≡ true → (rest ≡ true → IsSome ys) → IsSome (if b then x ∷ xs else ys)
+some-if true rest x xs ys h g = (x, xs, refl)
+some-if false rest x xs ys h g = g h
+
+pub some-faults : (made : ℕ) (es : List Entry) → has_fault es ≡ true → IsSome (fault_numbers made (made_in es))
+some-faults made [] h = cc
+some-faults made (e ∷ es) h = some-if (is_fault e.reply) (has_fault es) (made + 1) (fault_numbers (made + 1) (made_in es)) (fault_numbers (made + 1) (made_in es)) h (λ g. some-faults (made + 1) es g)

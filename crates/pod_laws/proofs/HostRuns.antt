@@ -1,0 +1,98 @@
+-- What holds of every run and of the host at its last entry, because its own entries keep it.
+use Rattle.std.proofs.Common.{◌≡◌, ℕ, ◌+◌, Bool, true, false, List, [], ◌∷◌, ◌++◌, length, Some, slice_get, refl, sym, ◌∙◌, ap, subst, inl, inr, arith}
+use Rattle.std.proofs.lemmas.Option.{same_Some, none-some}
+use Rattle.std.proofs.lemmas.Bool.Decides.{eqb_tells}
+use Rattle.net_conf.specs.declared.list.NetList.{NetList}
+use Rattle.pod_file.specs.declared.command.Command.{Command}
+use Rattle.kernel_types.specs.declared.object.Host.{Host}
+use Rattle.kernel_types.specs.declared.call.Call.{Call}
+use Rattle.cni_verbs.specs.Script.{State, advance, start_state}
+use Rattle.pod_workers.specs.Legal.{Legal}
+use Rattle.pod_workers.specs.Plans.{Placed, commands_of, list_for}
+use Rattle.pod_workers.specs.World.{World, IsReady, after, host_on, host_of, entry_of}
+use Rattle.pod_workers.specs.declared.plan.Entry.{Entry}
+use Rattle.pod_workers.specs.declared.plan.Plan.{Plan}
+use Rattle.pod_workers.proofs.Histories.{after-append}
+use Rattle.pod_workers.proofs.Order.{ready_is}
+use Rattle.pod_laws.specs.Moments.{is_of, own_entries, until_last, host_at_end}
+use Rattle.pod_laws.proofs.Entries.{is_of-own, is_of-other, own_entries-own, own_entries-other, replies-own_entries, no-entries, until_last-own, until_last-other}
+use Rattle.pod_laws.proofs.Runs.{state_by, state_by-append}
+use Rattle.pod_laws.proofs.SteadyHosts.{KeepsAsked, all-steady, keeps-same}
+use Rattle.pod_laws.proofs.Steps.{GoesOn, IsKept, IsKeptOutside, by-entries}
+
+-- what holds of a run's entries, its state and the host at its last entry
+abbrev pub HostFact : Type 1
+HostFact = NetList → Command → List Entry → State → Host → Type 0
+
+-- it holds before the first entry, whatever is there
+abbrev pub StartsOn : HostFact → Type 0
+StartsOn F = (list : NetList) (c : Command) (host : Host) → F list c [] (start_state list c) host
+
+-- each own entry keeps it, in a host that kept since the last one what the command asks
+abbrev pub IsHostFact : HostFact → Type 0
+IsHostFact F = (w : World) (n : ℕ) (c : Placed) (list : NetList) (call : Call) (faulty : Bool) (old : Host) → GoesOn w n c list call faulty → KeepsAsked c.command old (host_of w)
+    → let e = entry_of (host_of w) n call faulty in
+    let es = own_entries n w.history in
+    F list c.command es (state_by list c.command es) old → F list c.command (es ++ e ∷ []) (advance list c.command (length es + 1) (state_by list c.command es) e.reply) (host_on (host_of w) e)
+
+abbrev RunAt : HostFact → Plan → List Entry → ℕ → Placed → NetList → Type 0
+RunAt F p h m d list = F list d.command (own_entries m h) (state_by list d.command (own_entries m h)) (after p.pods.opening (until_last m h))
+
+abbrev EachRun : HostFact → Plan → List Entry → Type 0
+EachRun F p h = (n : ℕ) (c : Placed) (list : NetList) → slice_get (commands_of p) n ≡ Some c → list_for p c.command ≡ Some list → RunAt F p h n c list
+
+-- the fact about a ready run, at a host since which the host kept what the command asks
+record IsNow (F : HostFact) (w : World) (n : ℕ) (c : Placed) (list : NetList) : Type 0 where
+  old : Host
+  keeps : KeepsAsked c.command old (host_of w)
+  holds : F list c.command (own_entries n w.history) (state_by list c.command (own_entries n w.history)) old
+
+run-now : (F : HostFact) → StartsOn F → (w : World) (n : ℕ) (c : Placed) (list : NetList) → Legal w → IsReady w n c → EachRun F w.plan w.history → list_for w.plan c.command ≡ Some list → IsNow F w n c list
+run-now F start w n c list legal ready each listed = elim (all-steady w legal n c ready.there ready.unanswered) [
+  | inl none ↦
+      let no_entry : own_entries n w.history ≡ [] = no-entries (own_entries n w.history) (sym (replies-own_entries n w.history) ∙ none) in
+      let P : List Entry → Type 0 = λ es. F list c.command es (state_by list c.command es) (host_of w) in
+      record { old = host_of w; keeps = keeps-same c.command (host_of w); holds = subst P (sym no_entry) (start list c.command (host_of w)) }
+  | inr keeps ↦ record { old = after w.plan.pods.opening (until_last n w.history); keeps = keeps; holds = each n c list ready.there listed }
+]
+
+-- an entry of another command leaves what holds of a run
+run-other : (F : HostFact) (p : Plan) (m : ℕ) (d : Placed) (list : NetList) (h : List Entry) (e : Entry) → is_of m e ≡ false → RunAt F p h m d list → RunAt F p (h ++ e ∷ []) m d list
+run-other F p m d list h e far was =
+    subst (λ l. F list d.command l (state_by list d.command l) (after p.pods.opening (until_last m (h ++ e ∷ [])))) (sym (own_entries-other m h e far))
+    (subst (λ l. F list d.command (own_entries m h) (state_by list d.command (own_entries m h)) (after p.pods.opening l)) (sym (until_last-other m h e far)) was)
+
+run-entered : (F : HostFact) → StartsOn F → IsHostFact F → IsKept (EachRun F)
+run-entered F start step w n c list call faulty on each = λ m d other_list at listed.
+    let h = w.history in
+    let e = entry_of (host_of w) n call faulty in
+    let opening = w.plan.pods.opening in
+    elim (eqb_tells m n) [
+      | inl t ↦
+          let same : d ≡ c = ready_is w n m c d on.ready t.1 at in
+          let same_list : other_list ≡ list = same_Some other_list list (sym listed ∙ ap (λ (x : Placed). list_for w.plan x.command) same ∙ on.listed) in
+          let own : is_of n e ≡ true = is_of-own n e refl in
+          let es = own_entries n h in
+          let before = run-now F start w n c list on.legal on.ready each on.listed in
+          let now = step w n c list call faulty before.old on before.keeps before.holds in
+          let at_state = subst (λ st. F list c.command (es ++ e ∷ []) st (host_on (host_of w) e)) (sym (state_by-append list c.command es e)) now in
+          let at_entries = subst (λ l. F list c.command l (state_by list c.command l) (host_on (host_of w) e)) (sym (own_entries-own n h e own)) at_state in
+          let at_end : host_on (host_of w) e ≡ after opening (until_last n (h ++ e ∷ [])) = sym (ap (after opening) (until_last-own n h e own) ∙ after-append opening h e) in
+          let Q : ℕ → Placed → NetList → Type 0 = λ j x l. RunAt F w.plan (h ++ e ∷ []) j x l in
+          let mine : Q n c list = subst (F list c.command (own_entries n (h ++ e ∷ [])) (state_by list c.command (own_entries n (h ++ e ∷ [])))) at_end at_entries in
+          subst (λ j. Q j d other_list) (sym t.1) (subst (λ x. Q n x other_list) (sym same) (subst (Q n c) (sym same_list) mine))
+      | inr f ↦ run-other F w.plan m d other_list h e (is_of-other m e (λ same. f.1 (let s : n + 1 ≡ m + 1 = same in omega (arith, s)))) (each m d other_list at listed)
+    ]
+
+run-changed : (F : HostFact) → IsKeptOutside (EachRun F)
+run-changed F w n c call faulty on each = λ m d list at listed.
+    let e = entry_of (host_of w) n call faulty in
+    elim (eqb_tells m n) [
+      | inl t ↦ absurd (none-some list (sym on.unlisted ∙ ap (λ (x : Placed). list_for w.plan x.command) (sym (ready_is w n m c d on.ready t.1 at)) ∙ listed))
+      | inr f ↦ run-other F w.plan m d list w.history e (is_of-other m e (λ same. f.1 (let s : n + 1 ≡ m + 1 = same in omega (arith, s)))) (each m d list at listed)
+    ]
+
+pub every-host_run : (F : HostFact) → StartsOn F → IsHostFact F → (w : World) → Legal w → (n : ℕ) (c : Placed) (list : NetList) → slice_get (commands_of w.plan) n ≡ Some c → list_for w.plan c.command ≡ Some list
+    → F list c.command (own_entries n w.history) (state_by list c.command (own_entries n w.history)) (host_at_end w n)
+every-host_run F start step w legal n c list at listed =
+    by-entries (EachRun F) (λ p well n c list at listed. start list c.command _) (run-entered F start step) (run-changed F) w legal n c list at listed

@@ -1,0 +1,178 @@
+-- A STATUS asks of one host, and its answer is what that host has to give.
+use Rattle.std.proofs.Common.{◌≡◌, ℕ, ◌+◌, Bool, true, false, List, [], ◌∷◌, ◌++◌, length, refl, sym, ◌∙◌, ap, subst, inl, inr}
+use Rattle.std.specs.Prelude.{◌&&◌}
+use Rattle.std.specs.List.{list_all}
+use Rattle.cni_addr.specs.declared.address.Addr.{Addr}
+use Rattle.cni_addr.specs.declared.range.RangeSet.{RangeSet}
+use Rattle.cni_result.specs.declared.version.Version.{Version}
+use Rattle.cni_result.specs.declared.version.Version.TheVariants.{V1_0, V1_1}
+use Rattle.net_conf.specs.declared.first.First.{First}
+use Rattle.net_conf.specs.declared.first.First.TheVariants.{Bridge, Ptp, Macvlan}
+use Rattle.net_conf.specs.declared.list.NetList.{NetList}
+use Rattle.pod_file.specs.Rounds.{is_exclusive_verb}
+use Rattle.pod_file.specs.declared.command.Command.{Command}
+use Rattle.pod_file.specs.declared.command.Verb.{Verb}
+use Rattle.pod_file.specs.declared.command.Verb.TheVariants as verbs
+use Rattle.ip_pool.specs.Pool.{has_free_of}
+use Rattle.kernel_types.specs.Apply.{apply}
+use Rattle.kernel_types.specs.Apply.Calls.{leased_addresses}
+use Rattle.kernel_types.specs.Replies.{is_fault}
+use Rattle.kernel_types.proofs.Replies.{IsReplyOf-apply}
+use Rattle.kernel_types.specs.declared.object.Host.{Host}
+use Rattle.cni_verbs.specs.Answers.{answer_by, answer_of, code_of}
+use Rattle.cni_verbs.specs.Questions.{master_questions, pool_questions, status_questions}
+use Rattle.cni_verbs.specs.Script.{State, Asking, Over, Calls, advance, asking, at_question, start_of, turn, unless_old}
+use Rattle.cni_verbs.specs.Wanted.{sets_of}
+use Rattle.cni_verbs.specs.declared.answer.Answer.{Answer}
+use Rattle.cni_verbs.specs.declared.answer.Cause.TheVariants as causes
+use Rattle.cni_verbs.specs.declared.answer.Ending.{Ending}
+use Rattle.cni_verbs.specs.declared.answer.Ending.TheVariants.{Added, Yes, Skipped, Versions, Refused}
+use Rattle.cni_verbs.specs.declared.answer.Question.{Question}
+use Rattle.pod_workers.specs.World.{entry_of, host_of, reply_to}
+use Rattle.pod_workers.specs.declared.plan.Entry.{Entry}
+use Rattle.pod_workers.proofs.PlannedCalls.{length-one}
+use Rattle.pod_laws.specs.Available.{EndsByFault, EndsByService, EndsStatus, LacksService, WasAvailable, has_master_of, is_available}
+use Rattle.pod_laws.specs.Granted.{grants, only_asks}
+use Rattle.pod_laws.specs.Moments.{has_fault, host_at_end, own_entries}
+use Rattle.pod_laws.proofs.Asking.{Each, EndsAsked, HasAsked, IsAsking, all-both, and-true, asked-all, asked-none, asked-reply, calm-more, denied-some, each-append, each-at, fault-last, tells}
+use Rattle.pod_laws.proofs.CutOff.{over-by}
+use Rattle.pod_laws.proofs.HostRuns.{HostFact, IsHostFact, StartsOn, every-host_run}
+use Rattle.pod_laws.proofs.QuestionRuns.{question-entered}
+use Rattle.pod_laws.proofs.Runs.{own-state}
+
+-- ---- its questions
+
+-- its reply is a truth value, and a denial means code 50
+abbrev IsServiceQuestion : Question → Type 0
+IsServiceQuestion q = (tells q.call ≡ true) × (code_of q.lack ≡ 50)
+
+service-pools : (network : List ℕ) (number : ℕ) (sets : List RangeSet) → Each IsServiceQuestion (pool_questions network number sets)
+service-pools network number [] = tt
+service-pools network number (s ∷ ss) = ((refl, refl), service-pools network (number + 1) ss)
+
+service-master : (first : First) → Each IsServiceQuestion (master_questions first)
+service-master (Bridge conf) = tt
+service-master (Ptp conf) = tt
+service-master (Macvlan conf) = ((refl, refl), tt)
+
+service-questions : (list : NetList) (c : Command) → Each IsServiceQuestion (status_questions list c)
+unfolding status_questions
+service-questions list c = each-append IsServiceQuestion (pool_questions c.network 0 (sets_of list)) (master_questions list.first) (service-pools c.network 0 (sets_of list)) (service-master list.first)
+
+-- all are granted where the network is available
+granted-pools : (host : Host) (network : List ℕ) (number : ℕ) (sets : List RangeSet) → list_all (grants host) (pool_questions network number sets) ≡ list_all (λ set. has_free_of set (leased_addresses host network)) sets
+granted-pools host network number [] = refl
+granted-pools host network number (s ∷ ss) = ap (λ b. has_free_of s (leased_addresses host network) && b) (granted-pools host network (number + 1) ss)
+
+granted-master : (host : Host) (first : First) → list_all (grants host) (master_questions first) ≡ has_master_of host first
+granted-master host (Bridge conf) = refl
+granted-master host (Ptp conf) = refl
+granted-master host (Macvlan conf) = and-true _
+
+granted-status : (list : NetList) (c : Command) (host : Host) → list_all (grants host) (status_questions list c) ≡ is_available list c host
+unfolding status_questions
+granted-status list c host =
+    all-both (grants host) (pool_questions c.network 0 (sets_of list)) (master_questions list.first)
+    ∙ ap (λ b. b && list_all (grants host) (master_questions list.first)) (granted-pools host c.network 0 (sets_of list))
+    ∙ ap (λ b. list_all (λ set. has_free_of set (leased_addresses host c.network)) (sets_of list) && b) (granted-master host list.first)
+
+-- ---- every run
+
+-- its version has the verb, and no entry is a fault
+pub record HasStatus (list : NetList) (c : Command) (es : List Entry) (host : Host) (left : List Question) : Type 0 where
+  pub version : list.version ≡ V1_1
+  pub calm : has_fault es ≡ false
+  pub asked : HasAsked host (status_questions list c) left
+
+abbrev StatusAt : NetList → Command → List Entry → State → Host → Type 0
+StatusAt list c es (Asking next left) host = HasStatus list c es host (next ∷ left)
+StatusAt list c es (Over ending given) host = (given ≡ []) × EndsStatus list c es host list.version ending
+StatusAt list c es _ host = ⊥
+
+status-ends : (list : NetList) (c : Command) (es : List Entry) (host : Host) (ending : Ending) → list.version ≡ V1_1 → has_fault es ≡ false → EndsAsked host (status_questions list c) ending → EndsStatus list c es host list.version ending
+status-ends list c es host Yes version calm ends =
+    let available : is_available list c host ≡ true = sym (granted-status list c host) ∙ ends in
+    subst (λ v. EndsStatus list c es host v Yes) (sym version) (subst (λ b. EndsByFault list c es host b Yes) (sym calm) (subst (λ b. EndsByService list c host b Yes) (sym available) refl))
+status-ends list c es host (Refused cause) version calm ends =
+    let lacks : is_available list c host ≡ false = sym (granted-status list c host) ∙ denied-some host (status_questions list c) ends.0 ends.1 in
+    let d = ends.1 in
+    let of_service : IsServiceQuestion ends.0 = each-at IsServiceQuestion d.past ends.0 d.left (subst (Each IsServiceQuestion) d.are (service-questions list c)) in
+    let lack : LacksService list c host (Refused cause) = record { question = ends.0; first = d; code = of_service.1; ending_is = ap Refused (sym ends.2) } in
+    subst (λ v. EndsStatus list c es host v (Refused cause)) (sym version)
+    (subst (λ b. EndsByFault list c es host b (Refused cause)) (sym calm) (subst (λ b. EndsByService list c host b (Refused cause)) (sym lacks) lack))
+status-ends list c es host Added version calm ends = absurd ends
+status-ends list c es host (Skipped skip) version calm ends = absurd ends
+status-ends list c es host Versions version calm ends = absurd ends
+
+status-asked : (list : NetList) (c : Command) (es : List Entry) (host : Host) (st : State) → list.version ≡ V1_1 → has_fault es ≡ false → IsAsking host (status_questions list c) st → StatusAt list c es st host
+status-asked list c es host (Asking q qs) version calm a = record { version = version; calm = calm; asked = a }
+status-asked list c es host (Over ending given) version calm a = (a.0, status-ends list c es host ending version calm a.1)
+status-asked list c es host _ version calm a = absurd a
+
+status-fault : (list : NetList) (c : Command) (es : List Entry) (host : Host) (number : ℕ) → list.version ≡ V1_1 → has_fault es ≡ true → number ≡ length es → EndsStatus list c es host list.version (Refused (causes.Fault number))
+status-fault list c es host number version fault is =
+    subst (λ v. EndsStatus list c es host v (Refused (causes.Fault number))) (sym version)
+    (subst (λ b. EndsByFault list c es host b (Refused (causes.Fault number))) (sym fault) (ap (λ k. Refused (causes.Fault k)) is))
+
+status-old : (list : NetList) (c : Command) (host : Host) (v : Version) → list.version ≡ v → StatusAt list c [] (unless_old v (asking (status_questions list c))) host
+status-old list c host V1_0 is = (refl, subst (λ v. EndsStatus list c [] host v (Refused (causes.TooOld V1_0))) (sym is) (refl, refl))
+status-old list c host V1_1 is = status-asked list c [] host (asking (status_questions list c)) is refl (asked-all host (status_questions list c) (status_questions list c) (asked-none host (status_questions list c)))
+
+status-start_of : (list : NetList) (c : Command) (host : Host) (v : Verb) → v ≡ verbs.Status → StatusAt list c [] (start_of list v c) host
+status-start_of list c host verbs.Status is = status-old list c host list.version refl
+status-start_of list c host _ is = cc
+
+abbrev AsksStatus : HostFact
+AsksStatus list c es st host = c.verb ≡ verbs.Status → StatusAt list c es st host
+
+status-start : StartsOn AsksStatus
+status-start list c host = λ verb. status-start_of list c host c.verb verb
+
+-- one reply, in the same host
+status-reply : (list : NetList) (c : Command) (es : List Entry) (e : Entry) (q : Question) (qs : List Question) (host : Host) (faulty : Bool) → e.reply ≡ reply_to host q.call faulty → HasStatus list c es host (q ∷ qs)
+    → StatusAt list c (es ++ e ∷ []) (at_question (length es + 1) q qs e.reply) host
+status-reply list c es e q qs host true is a =
+    subst (λ r. StatusAt list c (es ++ e ∷ []) (at_question (length es + 1) q qs r) host) (sym is)
+    (refl, status-fault list c (es ++ e ∷ []) host (length es + 1) a.version (fault-last es e (ap is_fault is)) (sym (length-one es e)))
+status-reply list c es e q qs host false is a =
+    let d = a.asked in
+    let of_service : IsServiceQuestion q = each-at IsServiceQuestion d.past q qs (subst (Each IsServiceQuestion) d.are (service-questions list c)) in
+    let calm : has_fault (es ++ e ∷ []) ≡ false = calm-more es e a.calm (ap is_fault is ∙ (IsReplyOf-apply host q.call).no_fault) in
+    subst (λ r. StatusAt list c (es ++ e ∷ []) (at_question (length es + 1) q qs r) host) (sym is)
+    (status-asked list c (es ++ e ∷ []) host (at_question (length es + 1) q qs (apply host q.call).1) a.version calm (asked-reply host (status_questions list c) (length es + 1) q qs of_service.0 d))
+
+status-own : (list : NetList) (c : Command) (es : List Entry) (e : Entry) (st : State) (host : Host) (faulty : Bool) → e.reply ≡ reply_to host e.call faulty → turn c st ≡ Calls e.call → StatusAt list c es st host
+    → StatusAt list c (es ++ e ∷ []) (advance list c (length es + 1) st e.reply) host
+unfolding turn advance
+status-own list c es e (Asking q qs) host faulty is turn_is a = status-reply list c es e q qs host faulty (is ∙ (let same : e.call ≡ q.call = cc in ap (λ call. reply_to host call faulty) same)) a
+status-own list c es e (Over ending given) host faulty is turn_is a = cc
+status-own list c es e _ host faulty is turn_is a = absurd a
+
+status-step : IsHostFact AsksStatus
+status-step w n c list call faulty old on keeps was = λ verb.
+    let e = entry_of (host_of w) n call faulty in
+    let es = own_entries n w.history in
+    let st = advance list c.command (length es + 1) _ e.reply in
+    let here : StatusAt list c.command es _ (host_of w) = subst (StatusAt list c.command es _) (sym (keeps.alone (ap is_exclusive_verb verb))) (was verb) in
+    subst (StatusAt list c.command (es ++ e ∷ []) st) (sym (question-entered w n c list call faulty on (ap only_asks verb)))
+    (status-own list c.command es e _ (host_of w) faulty refl (own-state w n c list call faulty on).turn_is here)
+
+-- ---- the answer
+
+abbrev IsStatusOf : NetList → Command → List Entry → Host → Answer → Type 0
+IsStatusOf list c es host a = (ending : Ending) × (a ≡ answer_by list c ending []) × EndsStatus list c es host list.version ending
+
+status-over : (list : NetList) (c : Command) (es : List Entry) (host : Host) (a : Answer) (ending : Ending) (given : List Addr) → StatusAt list c es (Over ending given) host → a ≡ answer_of list c (record { ending = ending; given = given }) → IsStatusOf list c es host a
+unfolding answer_of
+status-over list c es host a ending given at is = (ending, is ∙ ap (answer_by list c ending) at.0, at.1)
+
+pub was_available : WasAvailable
+was_available w legal n c list a at listed verb is whole =
+    let es = own_entries n w.history in
+    let host = host_at_end w n in
+    let over = over-by w legal n c list a at listed is whole in
+    let last = every-host_run AsksStatus status-start status-step w legal n c list at listed verb in
+    elim over.state_is [
+      | inl ends ↦ status-over list c.command es host a over.ending over.given (subst (λ st. StatusAt list c.command es st host) ends last) over.answer_is
+      | inr swept ↦ absurd (subst (λ st. StatusAt list c.command es st host) swept.collecting last)
+    ]

@@ -1,0 +1,174 @@
+-- What a command asks of a host stays between its entries: its attachment's share, each bridge, and all where it stands alone.
+use Rattle.std.proofs.Common.{◌≡◌, ◌≢◌, ℕ, ◌+◌, Bool, true, false, not, List, [], ◌∷◌, ◌++◌, Some, None, slice_get, refl, sym, ◌∙◌, ap, subst, inl, inr, ◌⊎◌, arith}
+use Rattle.std.specs.Prelude.{◌&&◌, filter}
+use Rattle.std.specs.List.{list_any, list_all}
+use Rattle.std.proofs.lemmas.Bool.{cases_Bool}
+use Rattle.std.proofs.lemmas.Bool.Decides.{eqb_tells}
+use Rattle.cni_addr.specs.declared.mac.Mac.{Mac}
+use Rattle.net_conf.specs.declared.list.NetList.{NetList}
+use Rattle.pod_file.specs.Rounds.{is_exclusive_verb}
+use Rattle.pod_file.specs.declared.command.Command.{Command}
+use Rattle.kernel_types.specs.Allowed.{IsAllowed}
+use Rattle.kernel_types.specs.Apply.{apply}
+use Rattle.kernel_types.specs.Equal.{mac_eq}
+use Rattle.kernel_types.specs.Isolation.{ensures_shared, is_from_outside}
+use Rattle.kernel_types.specs.Sound.{IsSound, is_owned_kind, link_fits_tag}
+use Rattle.kernel_types.specs.Words.{is_bridge, is_host_bridge, is_owned}
+use Rattle.kernel_types.proofs.EveryCall.{Touches-apply}
+use Rattle.kernel_types.proofs.Isolation.{KeepsUnowned-Touches}
+use Rattle.kernel_types.proofs.ListLemmas.{list_any-append_left, list_any-kept}
+use Rattle.kernel_types.specs.declared.object.Host.{Host}
+use Rattle.kernel_types.specs.declared.object.Link.{Link}
+use Rattle.kernel_types.specs.declared.object.LinkKind.{LinkKind}
+use Rattle.kernel_types.specs.declared.object.LinkKind.TheVariants as linkkinds
+use Rattle.kernel_types.specs.declared.object.Tag.{Tag}
+use Rattle.kernel_types.specs.declared.object.Tag.TheVariants as tags
+use Rattle.kernel_types.specs.declared.call.Call.{Call}
+use Rattle.kernel_types.specs.declared.call.Call.TheVariants.{BridgeEnsure, GatewayEnsure, ForwardEnsure}
+use Rattle.plan_words.specs.Share.{share_of}
+use Rattle.cni_verbs.specs.CommandWords.{att_of}
+use Rattle.pod_workers.specs.Legal.{Legal}
+use Rattle.pod_workers.specs.Plans.{Placed, commands_of}
+use Rattle.pod_workers.specs.World.{World, after, entry_of, host_of, host_on, replies_of}
+use Rattle.pod_workers.proofs.Histories.{after-append, replies_of-other}
+use Rattle.pod_workers.proofs.Order.{alone_apart, apart}
+use Rattle.pod_workers.proofs.Sound.{sound_host}
+use Rattle.pod_laws.specs.Checked.{has_bridge_at}
+use Rattle.pod_laws.specs.Moments.{until_last}
+use Rattle.pod_laws.proofs.Bridges.{turn-inside}
+use Rattle.pod_laws.proofs.CutOff.{clash}
+use Rattle.pod_laws.proofs.Entries.{is_of-own, is_of-other, until_last-own, until_last-other}
+use Rattle.pod_laws.proofs.Steps.{AllOpen, GoesOn, IsOpenKept, OpenFact, by-open, on-entry}
+use Rattle.pod_laws.proofs.Turns.{alone-collecting, alone-outside, other-entered, other_att, turn-of}
+
+-- ---- a bridge of the host stays, with its MAC address
+
+abbrev is_bridge_with : List ℕ → Mac → Link → Bool
+is_bridge_with name mac l = is_host_bridge name l && mac_eq l.mac mac
+
+own_kind : (ns : List ℕ) (k : LinkKind) → is_owned_kind ns k ≡ true → is_bridge k ≡ false
+own_kind ns linkkinds.Device h = cc
+own_kind ns linkkinds.Bridge h = cc
+own_kind ns linkkinds.Veth h = refl
+own_kind ns (linkkinds.Macvlan mode) h = refl
+
+bridge-unowned : (name : List ℕ) (mac : Mac) (l : Link) (t : Tag) → link_fits_tag l t ≡ true → (is_bridge_with name mac l && not (not (is_owned t))) ≡ false
+bridge-unowned name mac l tags.Outside h = grind arith
+bridge-unowned name mac l tags.Base h = grind arith
+bridge-unowned name mac l (tags.Own att) h = let k = own_kind l.ns l.kind h in grind (arith, k)
+
+none-by : {X : Type 0} (q r : X → Bool) → ((x : X) → q x ≡ true → r x ≡ false) → (xs : List X) → list_all q xs ≡ true → list_any r xs ≡ false
+none-by q r w [] h = refl
+none-by q r w (x ∷ xs) h = grind (arith, w x, none-by q r w xs)
+
+any-filtered : {X : Type 0} (p q : X → Bool) (xs : List X) → list_any p (filter q xs) ≡ true → list_any p xs ≡ true
+any-filtered p q [] h = h
+any-filtered p q (x ∷ xs) h = grind (arith, h, any-filtered p q xs)
+
+-- each bridge of the one host is in the other
+abbrev pub KeepsBridges : Host → Host → Type 0
+KeepsBridges old new = (name : List ℕ) (mac : Mac) → has_bridge_at old name mac ≡ true → has_bridge_at new name mac ≡ true
+
+stays-unshared : (host : Host) (call : Call) → IsSound host → IsAllowed host call → is_from_outside call ≡ false → ensures_shared call ≡ false → KeepsBridges host (apply host call).0
+stays-unshared host call sound allowed inside own = λ name mac there.
+    let new = (apply host call).0 in
+    let p : Link → Bool = is_bridge_with name mac in
+    let keeps = KeepsUnowned-Touches call host new inside own (Touches-apply host call sound allowed) in
+    let none : list_any (λ l. p l && not (not (is_owned l.tag))) host.links ≡ false =
+    none-by (λ l. link_fits_tag l l.tag) (λ l. p l && not (not (is_owned l.tag))) (λ l h. bridge-unowned name mac l l.tag h) host.links sound.links.tags in
+    let kept = list_any-kept p (λ l. not (is_owned l.tag)) host.links there none in
+    any-filtered p (λ l. not (is_owned l.tag)) new.links (ap (list_any p) keeps.links ∙ kept)
+
+same-links : (old new : Host) → new.links ≡ old.links → KeepsBridges old new
+same-links old new e = λ name mac there. ap (list_any (is_bridge_with name mac)) e ∙ there
+
+bridges-stay : (host : Host) (call : Call) → IsSound host → IsAllowed host call → is_from_outside call ≡ false → KeepsBridges host (apply host call).0
+bridges-stay host (BridgeEnsure bridge mtu promisc) sound allowed inside =
+    elim (Touches-apply host (BridgeEnsure bridge mtu promisc) sound allowed) [
+      | inl e ↦ same-links host (apply host (BridgeEnsure bridge mtu promisc)).0 (ap (λ (k : Host). k.links) e)
+      | inr more ↦ λ name mac there. ap (λ (k : Host). has_bridge_at k name mac) more.2 ∙ list_any-append_left (is_bridge_with name mac) host.links (more.0 ∷ []) there
+    ]
+bridges-stay host (GatewayEnsure bridge cidr) sound allowed inside =
+    elim (Touches-apply host (GatewayEnsure bridge cidr) sound allowed) [
+      | inl e ↦ same-links host (apply host (GatewayEnsure bridge cidr)).0 (ap (λ (k : Host). k.links) e)
+      | inr more ↦ same-links host (apply host (GatewayEnsure bridge cidr)).0 (ap (λ (k : Host). k.links) more.2)
+    ]
+bridges-stay host (ForwardEnsure family) sound allowed inside =
+    elim (Touches-apply host (ForwardEnsure family) sound allowed) [
+      | inl e ↦ same-links host (apply host (ForwardEnsure family)).0 (ap (λ (k : Host). k.links) e)
+      | inr more ↦ same-links host (apply host (ForwardEnsure family)).0 (ap (λ (k : Host). k.links) more.2)
+    ]
+bridges-stay host call sound allowed inside = stays-unshared host call sound allowed inside refl
+
+bridges-entered : (w : World) (n : ℕ) (c : Placed) (list : NetList) (call : Call) (faulty : Bool) → GoesOn w n c list call faulty → KeepsBridges (host_of w) (host_on (host_of w) (entry_of (host_of w) n call faulty))
+bridges-entered w n c list call faulty on =
+    on-entry (KeepsBridges (host_of w)) (host_of w) n call faulty (λ name mac there. there)
+    (λ f. bridges-stay (host_of w) call (sound_host w on.legal) (on.allowed f) (turn-inside c.command call (turn-of w n c list call faulty on)))
+
+-- ---- what stays between a command's entries
+
+pub record KeepsAsked (c : Command) (old new : Host) : Type 0 where
+  pub share : share_of (att_of c) new ≡ share_of (att_of c) old
+  pub bridges : KeepsBridges old new
+  pub alone : is_exclusive_verb c.verb ≡ true → new ≡ old
+
+pub keeps-same : (c : Command) (host : Host) → KeepsAsked c host host
+keeps-same c host = record { share = refl; bridges = λ name mac there. there; alone = λ exclusive. refl }
+
+-- where a command isn't answered, the host keeps what it asks since its last entry
+abbrev pub IsSteady : OpenFact
+IsSteady p h m d = (replies_of m h ≡ []) ⊎ KeepsAsked d.command (after p.pods.opening (until_last m h)) (after p.pods.opening h)
+
+steady-own : (w : World) (n m : ℕ) (d : Placed) (call : Call) (faulty : Bool) → m ≡ n → IsSteady w.plan (w.history ++ entry_of (host_of w) n call faulty ∷ []) m d
+steady-own w n m d call faulty same =
+    let e = entry_of (host_of w) n call faulty in
+    let h = w.history ++ e ∷ [] in
+    inr (subst (λ l. KeepsAsked d.command (after w.plan.pods.opening l) (after w.plan.pods.opening h)) (sym (until_last-own m w.history e (is_of-own m e (ap (λ j. j + 1) (sym same))))) (keeps-same d.command (after w.plan.pods.opening h)))
+
+-- an entry of another command, where neither stands alone
+keeps-on : (w : World) (n : ℕ) (c : Placed) (list : NetList) (call : Call) (faulty : Bool) (d : Command) (old : Host) → GoesOn w n c list call faulty → is_exclusive_verb d.verb ≡ false
+    → share_of (att_of d) (host_on (host_of w) (entry_of (host_of w) n call faulty)) ≡ share_of (att_of d) (host_of w) → KeepsAsked d old (host_of w) → KeepsAsked d old (host_on (host_of w) (entry_of (host_of w) n call faulty))
+keeps-on w n c list call faulty d old on beside kept was = record {
+  share = kept ∙ was.share;
+  bridges = λ name mac there. bridges-entered w n c list call faulty on name mac (was.bridges name mac there);
+  alone = λ exclusive. absurd (clash (is_exclusive_verb d.verb) exclusive beside);
+}
+
+steady-other : (w : World) (n m : ℕ) (c d : Placed) (list : NetList) (call : Call) (faulty : Bool) → GoesOn w n c list call faulty → m ≢ n → slice_get (commands_of w.plan) m ≡ Some d → slice_get w.answers m ≡ Some None → IsSteady w.plan w.history m d
+    → IsSteady w.plan (w.history ++ entry_of (host_of w) n call faulty ∷ []) m d
+steady-other w n m c d list call faulty on differs at is_open still =
+    let e = entry_of (host_of w) n call faulty in
+    let opening = w.plan.pods.opening in
+    let far : e.command ≢ m + 1 = λ same. differs (let s : n + 1 ≡ m + 1 = same in omega (arith, s)) in
+    let mine = replies_of-other m w.history e far in
+    let P : Host → Host → Type 0 = λ old new. KeepsAsked d.command old new in
+    elim (cases_Bool (is_exclusive_verb d.command.verb)) [
+      | inl exclusive ↦ inl (mine ∙ alone_apart w on.legal m n d c on.ready differs at is_open (inr exclusive))
+      | inr beside ↦ elim (apart w on.legal m n d c on.ready differs at is_open) [
+        | inl none ↦ inl (mine ∙ none)
+        | inr other ↦ elim still [
+          | inl none ↦ inl (mine ∙ none)
+          | inr was ↦ elim (other-entered w n c list call faulty (att_of d.command) on (other_att (att_of c.command) (att_of d.command) (λ q. other (sym q)))) [
+            | inl gc ↦ inl (mine ∙ alone-collecting w n m c d list call faulty on gc differs at is_open)
+            | inr kept ↦
+                let now : P (after opening (until_last m w.history)) (host_on (host_of w) e) = keeps-on w n c list call faulty d.command (after opening (until_last m w.history)) on beside kept was in
+                inr (subst (λ l. P (after opening l) (after opening (w.history ++ e ∷ []))) (sym (until_last-other m w.history e (is_of-other m e far)))
+                (subst (P (after opening (until_last m w.history))) (sym (after-append opening w.history e)) now))
+          ]
+        ]
+      ]
+    ]
+
+steady-kept : IsOpenKept IsSteady
+steady-kept w n c call faulty goes still = λ m d at is_open.
+    let e = entry_of (host_of w) n call faulty in
+    elim (eqb_tells m n) [
+      | inl t ↦ steady-own w n m d call faulty t.1
+      | inr f ↦ elim goes [
+        | inl on ↦ steady-other w n m c d on.0 call faulty on.1 f.1 at is_open (still m d at is_open)
+        | inr on ↦ inl (replies_of-other m w.history e (λ same. f.1 (let s : n + 1 ≡ m + 1 = same in omega (arith, s))) ∙ alone-outside w n m c d call faulty on f.1 at is_open)
+      ]
+    ]
+
+pub all-steady : (w : World) → Legal w → AllOpen IsSteady w
+all-steady w legal = by-open IsSteady (λ p m d. inl refl) steady-kept w legal

@@ -1,0 +1,178 @@
+-- What a run calls: its attachment, a question, or for a garbage collection; and what the world outside calls.
+use Rattle.std.proofs.Common.{◌≡◌, ◌≢◌, ℕ, ◌+◌, Bool, true, false, List, [], ◌∷◌, length, Option, Some, None, slice_get, refl, ap, subst, inl, inr, ◌⊎◌, arith}
+use Rattle.std.specs.List.{list_all}
+use Rattle.std.proofs.lemmas.Bool.{cases_Bool}
+use Rattle.std.proofs.lemmas.Slice.Eq.{bytes_eq-Decides}
+use Rattle.net_conf.specs.declared.list.NetList.{NetList}
+use Rattle.pod_file.specs.declared.command.Command.{Command}
+use Rattle.pod_file.specs.Rounds.{is_exclusive_verb}
+use Rattle.pod_file.specs.declared.command.Verb.{Verb}
+use Rattle.pod_file.specs.declared.command.Verb.TheVariants as verbs
+use Rattle.kernel_types.specs.Equal.{att_eq}
+use Rattle.kernel_types.specs.Isolation.{is_from_outside}
+use Rattle.kernel_types.proofs.Cases.{att_eq-refl}
+use Rattle.kernel_types.specs.declared.object.Att.{Att}
+use Rattle.kernel_types.specs.declared.object.Host.{Host}
+use Rattle.kernel_types.specs.declared.object.Table.{Table}
+use Rattle.kernel_types.specs.declared.call.Call.{Call}
+use Rattle.kernel_types.specs.declared.call.Call.TheVariants.{Begin, LeaseNext, CacheGet, OwnersOf, NsChange, Outside}
+use Rattle.kernel_types.specs.declared.call.Change.TheVariants.{DropLink}
+use Rattle.kernel_types.specs.declared.call.Kind.{Kind}
+use Rattle.kernel_types.specs.declared.call.Kind.TheVariants as kinds
+use Rattle.kernel_types.specs.declared.call.Reply.{Reply}
+use Rattle.plan_words.specs.PlanCalls.{is_call_of}
+use Rattle.plan_words.specs.Share.{share_of}
+use Rattle.plan_words.proofs.OtherCalls.{share-other, call-plan}
+use Rattle.cni_verbs.specs.CommandWords.{att_of, netns_refusal, drop_refusal}
+use Rattle.cni_verbs.specs.Script.{State, AtBegin, BeforeLeases, Leasing, AfterLeases, ReadingCache, Deleting, FindingEntry, Asking, Changing, Collecting, Over, Calls, turn, turn_of_work, unless_refused, flush_by, outside_of, outside_start, outside_advance, outside_from}
+use Rattle.cni_verbs.specs.Sweep.{Job, Step, Look, Delete, Sweep, step_call}
+use Rattle.cni_verbs.specs.Wanted.{deletion}
+use Rattle.cni_verbs.specs.declared.answer.Cause.{Cause}
+use Rattle.pod_workers.specs.Plans.{Placed, commands_of, is_of_network}
+use Rattle.pod_workers.specs.World.{World, host_on, host_of, own_replies, entry_of}
+use Rattle.pod_workers.proofs.Order.{alone_apart}
+use Rattle.pod_workers.proofs.Planned.{LeftArePlanned, left-are-planned}
+use Rattle.pod_workers.proofs.Sound.{sound_host}
+use Rattle.pod_laws.proofs.Removes.{OnlyRemoves, removes-nothing, removes-outside}
+use Rattle.pod_laws.proofs.States.{LeftFit, asks, head_fits, is_question, left-fit, question-leaves}
+use Rattle.pod_laws.proofs.Steps.{Changes, GoesOn, on-entry}
+
+-- ---- what a run calls
+
+own-deletion : (att : Att) (kind : Kind) → is_call_of att (deletion att kind) ≡ true
+own-deletion att kinds.Links = att_eq-refl att
+own-deletion att kinds.Rules = att_eq-refl att
+own-deletion att kinds.Settings = att_eq-refl att
+own-deletion att kinds.Leases = att_eq-refl att
+own-deletion att kinds.Cached = att_eq-refl att
+
+-- a garbage collection deletes of any attachment
+pub record IsCollected (c : Command) (call : Call) : Type 0 where
+  pub verb : c.verb ≡ verbs.Gc
+  pub att : Att
+  pub kind : Kind
+  pub deletes : deletion att kind ≡ call
+
+-- a question, or a deletion of a collection
+abbrev pub AsksOrCollects : Command → Call → Type 0
+AsksOrCollects c call = (is_question call ≡ true) ⊎ IsCollected c call
+
+-- or a call of the attachment
+abbrev pub IsTurnOf : Command → Call → Type 0
+IsTurnOf c call = (is_call_of (att_of c) call ≡ true) ⊎ AsksOrCollects c call
+
+step-turn : (c : Command) (att : Att) (step : Step) → c.verb ≡ verbs.Gc → AsksOrCollects c (step_call att step)
+step-turn c att Look gc = inl refl
+step-turn c att (Delete kind) gc = inr (record { verb = gc; att = att; kind = kind; deletes = refl })
+
+pub work-turn : (c : Command) (jobs : List Job) (sweeps : List Sweep) (faults : List ℕ) (call : Call) → c.verb ≡ verbs.Gc → turn_of_work c.network jobs sweeps faults ≡ Calls call → AsksOrCollects c call
+work-turn c [] [] faults call gc is = cc
+work-turn c [] (s ∷ sweeps) faults call gc is = subst (AsksOrCollects c) (let e : OwnersOf c.network s.kind ≡ call = cc in e) (inl refl)
+work-turn c (j ∷ jobs) sweeps faults call gc is = subst (AsksOrCollects c) (let e : step_call j.att j.step ≡ call = cc in e) (step-turn c j.att j.step gc)
+
+own-turn : (list : NetList) (c : Command) (st : State) (call : Call) → LeftArePlanned list c st → LeftFit list c st → turn c st ≡ Calls call → IsTurnOf c call
+unfolding turn
+own-turn list c AtBegin call left fit is = subst (IsTurnOf c) (let e : Begin (att_of c) c.netns ≡ call = cc in e) (inl (att_eq-refl (att_of c)))
+own-turn list c (BeforeLeases x xs) call left fit is = subst (IsTurnOf c) (let e : x ≡ call = cc in e) (inl (call-plan (att_of c) x left.0.0.0))
+own-turn list c (Leasing set sets given) call left fit is = subst (IsTurnOf c) (let e : LeaseNext (att_of c) (length given) set ≡ call = cc in e) (inl (att_eq-refl (att_of c)))
+own-turn list c (AfterLeases x xs given) call left fit is = subst (IsTurnOf c) (let e : x ≡ call = cc in e) (inl (call-plan (att_of c) x left.0.0))
+own-turn list c (ReadingCache ending) call left fit is = subst (IsTurnOf c) (let e : CacheGet (att_of c) ≡ call = cc in e) (inl (att_eq-refl (att_of c)))
+own-turn list c (Deleting kind ks ending) call left fit is = subst (IsTurnOf c) (let e : deletion (att_of c) kind ≡ call = cc in e) (inl (own-deletion (att_of c) kind))
+own-turn list c FindingEntry call left fit is = subst (IsTurnOf c) (let e : CacheGet (att_of c) ≡ call = cc in e) (inl (att_eq-refl (att_of c)))
+own-turn list c (Asking q qs) call left fit is = subst (IsTurnOf c) (let e : q.call ≡ call = cc in e) (inr (inl (head_fits (asks q) (list_all asks qs) fit)))
+own-turn list c (Changing change) call left fit is = absurd fit
+own-turn list c (Collecting work faults) call left fit is = inr (work-turn c work.jobs work.sweeps faults call fit is)
+own-turn list c (Over ending given) call left fit is = cc
+
+pub turn-of : (w : World) (n : ℕ) (c : Placed) (list : NetList) (call : Call) (faulty : Bool) → GoesOn w n c list call faulty → IsTurnOf c.command call
+turn-of w n c list call faulty on = own-turn list c.command _ call (left-are-planned list c.command (own_replies w n)) (left-fit list c.command (own_replies w n)) on.turn_is
+
+-- ---- what the world outside calls
+
+pub record IsFromOutside (c : Command) (call : Call) : Type 0 where
+  pub call_is : is_from_outside call ≡ true
+  pub verb_is : is_of_network c.verb ≡ false
+
+abbrev FitsOutside : Command → State → Type 0
+FitsOutside c (Changing change) = IsFromOutside c change
+FitsOutside c (Over ending given) = Unit {0}
+FitsOutside c _ = ⊥
+
+outside-unless : (c : Command) (o : Option Cause) (call : Call) → IsFromOutside c call → FitsOutside c (unless_refused o (Changing call))
+outside-unless c None call h = h
+outside-unless c (Some cause) call h = tt
+
+outside-flush : (c : Command) (o : Option Table) → c.verb ≡ verbs.Flush → FitsOutside c (flush_by o)
+outside-flush c None is = tt
+outside-flush c (Some table) is = record { call_is = refl; verb_is = ap is_of_network is }
+
+outside-begun : (c : Command) (v : Verb) → c.verb ≡ v → FitsOutside c (outside_of v c)
+outside-begun c verbs.NsAdd is = outside-unless c (netns_refusal c) (NsChange c.netns true) (record { call_is = refl; verb_is = ap is_of_network is })
+outside-begun c verbs.NsDel is = outside-unless c (netns_refusal c) (NsChange c.netns false) (record { call_is = refl; verb_is = ap is_of_network is })
+outside-begun c verbs.Drop is = outside-unless c (drop_refusal c) (Outside (DropLink (record { ns = c.netns; name = c.ifname }))) (record { call_is = refl; verb_is = ap is_of_network is })
+outside-begun c verbs.Flush is = outside-flush c c.table is
+outside-begun c _ is = tt
+
+outside-advance : (c : Command) (number : ℕ) (s : State) (r : Reply) → FitsOutside c s → FitsOutside c (outside_advance number s r)
+outside-advance c number (Changing change) r h = tt
+outside-advance c number (Over ending given) r h = tt
+outside-advance c number _ r h = absurd h
+
+outside-from : (c : Command) (made : ℕ) (s : State) (rs : List Reply) → FitsOutside c s → FitsOutside c (outside_from made s rs)
+outside-from c made s [] h = h
+outside-from c made s (r ∷ rs) h = outside-from c (made + 1) (outside_advance (made + 1) s r) rs (outside-advance c (made + 1) s r h)
+
+outside-turn : (c : Command) (s : State) (call : Call) → FitsOutside c s → turn c s ≡ Calls call → IsFromOutside c call
+unfolding turn
+outside-turn c (Changing change) call h is = subst (IsFromOutside c) (let e : change ≡ call = cc in e) h
+outside-turn c (Over ending given) call h is = cc
+outside-turn c _ call h is = absurd h
+
+pub change-of : (w : World) (n : ℕ) (c : Placed) (call : Call) (faulty : Bool) → Changes w n c call faulty → IsFromOutside c.command call
+change-of w n c call faulty on = outside-turn c.command _ call (outside-from c.command 0 (outside_start c.command) (own_replies w n) (outside-begun c.command c.command.verb refl)) on.turn_is
+
+-- it only removes
+pub removes-changed : (w : World) (n : ℕ) (c : Placed) (call : Call) (faulty : Bool) → Changes w n c call faulty → OnlyRemoves (host_of w) (host_on (host_of w) (entry_of (host_of w) n call faulty))
+removes-changed w n c call faulty on =
+    on-entry (OnlyRemoves (host_of w)) (host_of w) n call faulty (removes-nothing (host_of w)) (λ f. removes-outside (host_of w) call (sound_host w on.legal) (on.allowed f) (change-of w n c call faulty on).call_is)
+
+exclusive-outside : (v : Verb) → is_of_network v ≡ false → is_exclusive_verb v ≡ true
+exclusive-outside verbs.Add is = cc
+exclusive-outside verbs.Check is = cc
+exclusive-outside verbs.Del is = cc
+exclusive-outside verbs.Gc is = cc
+exclusive-outside verbs.Status is = cc
+exclusive-outside verbs.Version is = cc
+exclusive-outside verbs.NsAdd is = refl
+exclusive-outside verbs.NsDel is = refl
+exclusive-outside verbs.Drop is = refl
+exclusive-outside verbs.Flush is = refl
+
+-- beside the world outside no open command has made a call
+pub alone-outside : (w : World) (n m : ℕ) (c d : Placed) (call : Call) (faulty : Bool) → Changes w n c call faulty → m ≢ n → slice_get (commands_of w.plan) m ≡ Some d → slice_get w.answers m ≡ Some None → own_replies w m ≡ []
+alone-outside w n m c d call faulty on far at is_open =
+    alone_apart w on.legal m n d c on.ready far at is_open (inl (exclusive-outside c.command.verb (change-of w n c call faulty on).verb_is))
+
+-- nor beside a garbage collection
+pub alone-collecting : (w : World) (n m : ℕ) (c d : Placed) (list : NetList) (call : Call) (faulty : Bool) → GoesOn w n c list call faulty → c.command.verb ≡ verbs.Gc → m ≢ n → slice_get (commands_of w.plan) m ≡ Some d → slice_get w.answers m ≡ Some None
+    → own_replies w m ≡ []
+alone-collecting w n m c d list call faulty on gc far at is_open = alone_apart w on.legal m n d c on.ready far at is_open (inl (ap is_exclusive_verb gc))
+
+-- ---- other attachments
+
+pub other_att : (a b : Att) → a.container ≢ b.container → att_eq a b ≡ false
+other_att a b far = elim (cases_Bool (att_eq a b)) [
+  | inl same ↦ absurd (far ((bytes_eq-Decides a.container b.container).0 (grind (arith, same))))
+  | inr other ↦ other
+]
+
+-- an entry of one attachment leaves the share of every other, but for a garbage collection's
+pub other-entered : (w : World) (n : ℕ) (c : Placed) (list : NetList) (call : Call) (faulty : Bool) (other : Att) → GoesOn w n c list call faulty → att_eq (att_of c.command) other ≡ false
+    → (c.command.verb ≡ verbs.Gc) ⊎ (share_of other (host_on (host_of w) (entry_of (host_of w) n call faulty)) ≡ share_of other (host_of w))
+other-entered w n c list call faulty other on differ =
+    let P : Host → Type 0 = λ k. share_of other k ≡ share_of other (host_of w) in
+    elim (turn-of w n c list call faulty on) [
+      | inl own ↦ inr (on-entry P (host_of w) n call faulty refl (λ f. share-other (att_of c.command) other (host_of w) call differ (sound_host w on.legal) (on.allowed f) own))
+      | inr (inl asked) ↦ inr (on-entry P (host_of w) n call faulty refl (λ f. ap (share_of other) (question-leaves (host_of w) call asked)))
+      | inr (inr collected) ↦ inl collected.verb
+    ]

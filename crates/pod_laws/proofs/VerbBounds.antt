@@ -1,0 +1,273 @@
+-- What is left to a run before its first call, by its verb.
+use Rattle.std.proofs.Common.{◌≡◌, ◌≢◌, ℕ, suc, ◌+◌, ◌*◌, ◌≤◌, Bool, true, false, List, [], ◌∷◌, ◌++◌, map, length, Option, Some, None, slice_get, refl, sym, ap, subst, arith}
+use Rattle.std.specs.Prelude.{if◌then◌else◌}
+use Rattle.std.proofs.lemmas.List.{length-append, length-map}
+use Rattle.cni_addr.specs.declared.address.Addr.{Addr}
+use Rattle.cni_addr.specs.declared.mac.Mac.{Mac}
+use Rattle.cni_addr.specs.declared.range.RangeSet.{RangeSet}
+use Rattle.cni_result.specs.declared.cached.Cached.{Cached}
+use Rattle.cni_result.specs.declared.result.Interface.{Interface}
+use Rattle.cni_result.specs.declared.version.Version.{Version}
+use Rattle.cni_result.specs.declared.version.Version.TheVariants.{V1_0, V1_1}
+use Rattle.net_conf.specs.declared.first.First.{First}
+use Rattle.net_conf.specs.declared.first.First.TheVariants.{Bridge, Ptp, Macvlan}
+use Rattle.net_conf.specs.declared.list.NetList.{NetList}
+use Rattle.pod_file.specs.declared.command.Command.{Command}
+use Rattle.pod_file.specs.declared.command.Verb.{Verb}
+use Rattle.pod_file.specs.declared.command.Verb.TheVariants as verbs
+use Rattle.gc_sweep.specs.Bound.{kinds_over_plugins}
+use Rattle.kernel_types.specs.declared.call.Kind.TheVariants as kinds
+use Rattle.kernel_types.specs.declared.call.Reply.{Reply}
+use Rattle.kernel_types.specs.declared.call.Reply.TheVariants.{Entry as Found}
+use Rattle.kernel_types.specs.declared.object.Rule.{Rule}
+use Rattle.plan_words.specs.Share.{Share, share_of}
+use Rattle.cni_verbs.specs.CommandWords.{add_refusal, att_of, del_refusal}
+use Rattle.cni_verbs.specs.Questions.{address_question, bridge_by_mac, bridge_questions, cached_share, check_questions, first_interface, lease_question, link_question, master_questions, pool_questions, route_question, rule_questions, setting_question, share_questions, status_questions}
+use Rattle.cni_verbs.specs.Script.{State, AtBegin, ReadingCache, FindingEntry, Over, advance, asking, at_entry, checking, start_of, start_state, unless_old, unless_refused}
+use Rattle.cni_verbs.specs.Wanted.{chained_kinds_reversed, first_kinds, kinds_of, sets_of}
+use Rattle.cni_verbs.specs.declared.answer.Cause.{Cause}
+use Rattle.cni_verbs.specs.declared.answer.Ending.{Ending}
+use Rattle.cni_verbs.specs.declared.answer.Ending.TheVariants.{Yes, Skipped, Refused}
+use Rattle.cni_verbs.specs.declared.answer.Question.{Question}
+use Rattle.cni_verbs.specs.declared.answer.Skip.TheVariants as skips
+use Rattle.pod_workers.specs.CallsLeft.{calls_left, deletions_of, most_calls}
+use Rattle.pod_workers.specs.Legal.{Legal}
+use Rattle.pod_workers.specs.Plans.{Placed, commands_of, list_for}
+use Rattle.pod_workers.specs.World.{World, after, own_replies}
+use Rattle.pod_workers.specs.declared.plan.Entry.{Entry}
+use Rattle.pod_workers.proofs.MostCalls.{adds_in_most_calls}
+use Rattle.pod_workers.proofs.StepsLeft.{IsNoCollection}
+use Rattle.pod_laws.specs.Bounded.{EachAddHasMost, EachChangeIsOneCall, EachRunIsBounded, IsFirst, asked_of, had_after, is_from_outside}
+use Rattle.pod_laws.proofs.Bounded.{made-below, made-within, one-call}
+
+-- ---- questions
+
+length-rules : (number : ℕ) (rules : List Rule) → length (rule_questions number rules) ≡ length rules
+length-rules number [] = refl
+length-rules number (r ∷ rs) = ap suc (length-rules (number + 1) rs)
+
+length-share : (s : Share) → length (share_questions s) ≡ asked_of s
+length-share s =
+    let settings_leases = map setting_question s.settings ++ map lease_question s.leases in
+    let rules_on = rule_questions 1 s.rules ++ settings_leases in
+    let routes_on = map route_question s.routes ++ rules_on in
+    let a = length-append (map link_question s.links) (map address_question s.addresses ++ routes_on) in
+    let b = length-append (map address_question s.addresses) routes_on in
+    let c = length-append (map route_question s.routes) rules_on in
+    let d = length-append (rule_questions 1 s.rules) settings_leases in
+    let e = length-append (map setting_question s.settings) (map lease_question s.leases) in
+    let f = length-map s.links link_question in
+    let g = length-map s.addresses address_question in
+    let h = length-map s.routes route_question in
+    let i = length-rules 1 s.rules in
+    let j = length-map s.settings setting_question in
+    let k = length-map s.leases lease_question in
+    omega arith
+
+length-mac : (name : List ℕ) (mac : Option Mac) → length (bridge_by_mac name mac) ≤ 1
+length-mac name None = omega arith
+length-mac name (Some mac) = omega arith
+
+length-interfaces : (interfaces : List Interface) → length (first_interface interfaces) ≤ 1
+length-interfaces [] = omega arith
+length-interfaces (i ∷ is) = length-mac i.name i.mac
+
+length-bridge : (first : First) (interfaces : List Interface) → length (bridge_questions first interfaces) ≤ 1
+length-bridge (Bridge conf) interfaces = length-interfaces interfaces
+length-bridge (Ptp conf) interfaces = omega arith
+length-bridge (Macvlan conf) interfaces = omega arith
+
+length-check : (list : NetList) (c : Command) (cached : Cached) → length (check_questions list c cached) ≤ 1 + asked_of (cached_share list c cached)
+unfolding check_questions
+length-check list c cached =
+    let a = length-append (bridge_questions list.first cached.result.interfaces) (share_questions (cached_share list c cached)) in
+    let b = length-bridge list.first cached.result.interfaces in
+    let d = length-share (cached_share list c cached) in
+    omega arith
+
+length-pools : (network : List ℕ) (number : ℕ) (sets : List RangeSet) → length (pool_questions network number sets) ≡ length sets
+length-pools network number [] = refl
+length-pools network number (s ∷ ss) = ap suc (length-pools network (number + 1) ss)
+
+length-master : (first : First) → length (master_questions first) ≤ 1
+length-master (Bridge conf) = omega arith
+length-master (Ptp conf) = omega arith
+length-master (Macvlan conf) = omega arith
+
+length-status : (list : NetList) (c : Command) → length (status_questions list c) ≤ length (sets_of list) + 1
+unfolding status_questions
+length-status list c =
+    let a = length-append (pool_questions c.network 0 (sets_of list)) (master_questions list.first) in
+    let b = length-pools c.network 0 (sets_of list) in
+    let d = length-master list.first in
+    omega arith
+
+-- ---- kinds
+
+-- the cached entry is the one more
+kinds-number : (list : NetList) → length (kinds_of list) ≡ kinds_over_plugins list + 1
+kinds-number list =
+    let a = length-append (chained_kinds_reversed list.chained) (first_kinds list.first ++ kinds.Cached ∷ []) in
+    let b = length-append (first_kinds list.first) (kinds.Cached ∷ []) in
+    omega arith
+
+-- ---- what a start leaves
+
+-- a start that is no collection, with no more calls than so many
+pub record StartsIn (most : ℕ) (list : NetList) (c : Command) (s : State) (bound : Share → ℕ) : Type 0 where
+  pub none : IsNoCollection s
+  pub few : (had : Share) → calls_left most list c s had ≤ bound had
+
+start-unless : (most : ℕ) (list : NetList) (c : Command) (o : Option Cause) (s : State) (bound : Share → ℕ) → StartsIn most list c s bound → StartsIn most list c (unless_refused o s) bound
+start-unless most list c None s bound starts = starts
+start-unless most list c (Some cause) s bound starts = record { none = tt; few = λ had. omega arith }
+
+start-unless_old : (most : ℕ) (list : NetList) (c : Command) (v : Version) (s : State) (bound : Share → ℕ) → StartsIn most list c s bound → StartsIn most list c (unless_old v s) bound
+start-unless_old most list c V1_0 s bound starts = record { none = tt; few = λ had. omega arith }
+start-unless_old most list c V1_1 s bound starts = starts
+
+start-if : (most : ℕ) (list : NetList) (c : Command) (b : Bool) (s t : State) (bound : Share → ℕ) → StartsIn most list c s bound → StartsIn most list c t bound → StartsIn most list c (if b then s else t) bound
+start-if most list c true s t bound h g = h
+start-if most list c false s t bound h g = g
+
+start-asking : (most : ℕ) (list : NetList) (c : Command) (questions : List Question) → StartsIn most list c (asking questions) (λ had. length questions)
+start-asking most list c [] = record { none = tt; few = λ had. omega arith }
+start-asking most list c (q ∷ qs) = record { none = tt; few = λ had. omega arith }
+
+-- what is left to a command of this verb before its first call
+abbrev Starts : ℕ → NetList → Command → Verb → (Share → ℕ) → Type 0
+Starts most list c verb bound = StartsIn most list c (start_of list verb c) bound
+
+start-add : (most : ℕ) (list : NetList) (c : Command) → Starts most list c verbs.Add (λ had. 2 * most + length (kinds_of list) + 1)
+start-add most list c = start-unless most list c (add_refusal c) AtBegin (λ had. 2 * most + length (kinds_of list) + 1) (record { none = tt; few = λ had. omega arith })
+
+start-del : (most : ℕ) (list : NetList) (c : Command) → Starts most list c verbs.Del (λ had. length (kinds_of list) + 1 + deletions_of had)
+start-del most list c = start-unless most list c (del_refusal c) (ReadingCache Yes) (λ had. length (kinds_of list) + 1 + deletions_of had) (record { none = tt; few = λ had. omega arith })
+
+start-status : (most : ℕ) (list : NetList) (c : Command) → Starts most list c verbs.Status (λ had. length (status_questions list c))
+start-status most list c = start-unless_old most list c list.version (asking (status_questions list c)) (λ had. length (status_questions list c)) (start-asking most list c (status_questions list c))
+
+start-nothing : (most : ℕ) (list : NetList) (c : Command) → StartsIn most list c (Over Yes []) (λ had. 0)
+start-nothing most list c = record { none = tt; few = λ had. omega arith }
+
+start-outside : (most : ℕ) (list : NetList) (c : Command) (verb : Verb) → is_from_outside verb ≡ true → Starts most list c verb (λ had. 0)
+start-outside most list c verbs.NsAdd is = start-nothing most list c
+start-outside most list c verbs.NsDel is = start-nothing most list c
+start-outside most list c verbs.Drop is = start-nothing most list c
+start-outside most list c verbs.Flush is = start-nothing most list c
+start-outside most list c _ is = cc
+
+-- ---- a command by its verb
+
+starts-by : (most : ℕ) (list : NetList) (c : Command) (verb : Verb) (bound : Share → ℕ) → c.verb ≡ verb → Starts most list c verb bound → StartsIn most list c (start_state list c) bound
+starts-by most list c verb bound is starts = subst (λ v. Starts most list c v bound) (sym is) starts
+
+-- by what the attachment had before the first call
+by-start : (w : World) → Legal w → (n : ℕ) (c : Placed) (list : NetList) (bound : Share → ℕ) (before : List Entry) (first : Entry) → slice_get (commands_of w.plan) n ≡ Some c → list_for w.plan c.command ≡ Some list
+    → StartsIn (most_calls list c.command) list c.command (start_state list c.command) bound → IsFirst w n before first → length (own_replies w n) ≤ bound (had_after w c.command before)
+by-start w legal n c list bound before first at listed starts is =
+    let made = (made-within w legal n c list (most_calls list c.command) before is.rest first at listed (adds_in_most_calls list c.command) starts.none is.split is.own is.none_before).0 in
+    let few = starts.few (had_after w c.command before) in
+    omega arith
+
+-- ---- a check
+
+-- what a start of a check leaves after its first reply
+pub record AsksIn (list : NetList) (c : Command) (s : State) (r : Reply) (bound : ℕ) : Type 0 where
+  pub none : IsNoCollection s
+  pub few : (had : Share) → calls_left (most_calls list c) list c (advance list c 1 s r) had ≤ bound
+
+over-asks : (list : NetList) (c : Command) (ending : Ending) (given : List Addr) (r : Reply) (bound : ℕ) → AsksIn list c (Over ending given) r bound
+unfolding advance
+over-asks list c ending given r bound = record { none = tt; few = λ had. omega arith }
+
+asks-if : (list : NetList) (c : Command) (b : Bool) (s t : State) (r : Reply) (bound : ℕ) → AsksIn list c s r bound → AsksIn list c t r bound → AsksIn list c (if b then s else t) r bound
+asks-if list c true s t r bound h g = h
+asks-if list c false s t r bound h g = g
+
+asks-unless : (list : NetList) (c : Command) (o : Option Cause) (s : State) (r : Reply) (bound : ℕ) → AsksIn list c s r bound → AsksIn list c (unless_refused o s) r bound
+asks-unless list c None s r bound h = h
+asks-unless list c (Some cause) s r bound h = over-asks list c (Refused cause) [] r bound
+
+check-asks : (list : NetList) (c : Command) (r : Reply) (bound : ℕ) → AsksIn list c FindingEntry r bound → AsksIn list c (start_of list verbs.Check c) r bound
+check-asks list c r bound h =
+    asks-unless list c (del_refusal c) _ r bound (asks-if list c list.disable_check (Over (Skipped skips.Check) []) FindingEntry r bound (over-asks list c (Skipped skips.Check) [] r bound) h)
+
+left-asking : (list : NetList) (c : Command) (questions : List Question) (had : Share) → calls_left (most_calls list c) list c (asking questions) had ≤ length questions
+left-asking list c [] had = omega arith
+left-asking list c (q ∷ qs) had = omega arith
+
+found-asks : (list : NetList) (c : Command) (cached : Cached) → AsksIn list c FindingEntry (Found (Some cached)) (length (check_questions list c cached))
+unfolding advance
+found-asks list c cached = record { none = tt; few = λ had. left-asking list c (check_questions list c cached) had }
+
+no-entry : (list : NetList) (c : Command) (o : Option Cached) (had : Share) → ((cached : Cached) → o ≢ Some cached) → calls_left (most_calls list c) list c (checking list c o) had ≤ 0
+no-entry list c None had not = omega arith
+no-entry list c (Some cached) had not = absurd (not cached refl)
+
+left-unknown : (list : NetList) (c : Command) (r : Reply) (had : Share) → ((cached : Cached) → r ≢ Found (Some cached)) → calls_left (most_calls list c) list c (at_entry list c 1 r) had ≤ 0
+left-unknown list c (Found o) had not = no-entry list c o had (λ cached is. not cached (ap Found is))
+left-unknown list c _ had not = omega arith
+
+unknown-asks : (list : NetList) (c : Command) (r : Reply) → ((cached : Cached) → r ≢ Found (Some cached)) → AsksIn list c FindingEntry r 0
+unfolding advance
+unknown-asks list c r not = record { none = tt; few = λ had. left-unknown list c r had not }
+
+-- by its first reply
+by-first : (w : World) → Legal w → (n : ℕ) (c : Placed) (list : NetList) (bound : ℕ) (before : List Entry) (first : Entry) → slice_get (commands_of w.plan) n ≡ Some c → list_for w.plan c.command ≡ Some list → c.command.verb ≡ verbs.Check
+    → AsksIn list c.command FindingEntry first.reply bound → IsFirst w n before first → length (own_replies w n) ≤ 1 + bound
+by-first w legal n c list bound before first at listed verb asks is =
+    let start : AsksIn list c.command (start_state list c.command) first.reply bound =
+    subst (λ v. AsksIn list c.command (start_of list v c.command) first.reply bound) (sym verb) (check-asks list c.command first.reply bound asks) in
+    let made = (made-within w legal n c list (most_calls list c.command) before is.rest first at listed (adds_in_most_calls list c.command) start.none is.split is.own is.none_before).1 in
+    let few = start.few (share_of (att_of c.command) (after w.plan.pods.opening (before ++ first ∷ []))) in
+    omega arith
+
+no-replies : {X : Type 0} (xs : List X) → length xs ≤ 0 → xs ≡ []
+no-replies [] h = refl
+no-replies (x ∷ xs) h = absurd (omega arith)
+
+pub run_is_bounded : EachRunIsBounded
+run_is_bounded w legal n c list at listed =
+    let most0 = most_calls list c.command in
+    let in_most0 = adds_in_most_calls list c.command in
+    record {
+      add = λ verb most in_most.
+          let starts = starts-by most list c.command verbs.Add (λ had. 2 * most + length (kinds_of list) + 1) verb (start-add most list c.command) in
+          let made = made-below w legal n c list most (2 * most + length (kinds_of list) + 1) at listed in_most starts.none starts.few in
+          let k = kinds-number list in
+          omega arith;
+      del = λ verb before first is.
+          let made = by-start w legal n c list (λ s. length (kinds_of list) + 1 + deletions_of s) before first at listed
+          (starts-by most0 list c.command verbs.Del (λ s. length (kinds_of list) + 1 + deletions_of s) verb (start-del most0 list c.command)) is in
+          let k = kinds-number list in
+          omega arith;
+      check = λ verb before first cached is found.
+          let asks = subst (λ r. AsksIn list c.command FindingEntry r (length (check_questions list c.command cached))) (sym found) (found-asks list c.command cached) in
+          let made = by-first w legal n c list (length (check_questions list c.command cached)) before first at listed verb asks is in
+          let few = length-check list c.command cached in
+          omega arith;
+      unknown = λ verb before first is not. by-first w legal n c list 0 before first at listed verb (unknown-asks list c.command first.reply not) is;
+      status = λ verb.
+          let starts = starts-by most0 list c.command verbs.Status (λ had. length (status_questions list c.command)) verb (start-status most0 list c.command) in
+          let made = made-below w legal n c list most0 (length (status_questions list c.command)) at listed in_most0 starts.none starts.few in
+          let few = length-status list c.command in
+          omega arith;
+      version = λ verb.
+          let starts = starts-by most0 list c.command verbs.Version (λ had. 0) verb (record { none = tt; few = λ had. omega arith }) in
+          no-replies (own_replies w n) (made-below w legal n c list most0 0 at listed in_most0 starts.none starts.few);
+    }
+
+one-by-list : (w : World) → Legal w → (n : ℕ) (c : Placed) (o : Option NetList) → slice_get (commands_of w.plan) n ≡ Some c → is_from_outside c.command.verb ≡ true → list_for w.plan c.command ≡ o → length (own_replies w n) ≤ 1
+one-by-list w legal n c None at is by = one-call w legal n c at by
+one-by-list w legal n c (Some list) at is by =
+    let most = most_calls list c.command in
+    let starts : StartsIn most list c.command (start_state list c.command) (λ had. 0) = start-outside most list c.command c.command.verb is in
+    let made = made-below w legal n c list most 0 at by (adds_in_most_calls list c.command) starts.none starts.few in
+    omega arith
+
+pub change_is_one_call : EachChangeIsOneCall
+change_is_one_call w legal n c at is = one-by-list w legal n c (list_for w.plan c.command) at is refl
+
+pub each_add_has_most : EachAddHasMost
+each_add_has_most list c = adds_in_most_calls list c

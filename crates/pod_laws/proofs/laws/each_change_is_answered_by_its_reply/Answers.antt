@@ -1,0 +1,5 @@
+use Rattle.pod_laws.proofs.ChangedRuns.{changes_are_answered}
+use Rattle.pod_laws.proofs.laws.each_change_is_answered_by_its_reply.Goals as goal
+
+pub returns : goal.returns
+returns c = changes_are_answered

@@ -1,0 +1,5 @@
+use Rattle.pod_laws.proofs.QuestionRuns.{each_question_leaves_the_host}
+use Rattle.pod_laws.proofs.laws.each_question_leaves_the_host.Goals as goal
+
+pub returns : goal.returns
+returns c = each_question_leaves_the_host

@@ -1,0 +1,112 @@
+-- What a CHECK is answered (CNI specification, section 3, "Checking attachment").
+use Rattle.std.specs.Prelude.{◌≡◌, ℕ, ◌&&◌, Bool, true, false, List, [], ◌∷◌, length, find, Option, Some, None, option_map, slice_get}
+use Rattle.std.specs.List.{list_any, list_all}
+use Rattle.cni_addr.specs.declared.mac.Mac.{Mac}
+use Rattle.cni_result.specs.declared.cached.Cached.{Cached}
+use Rattle.cni_result.specs.declared.result.Interface.{Interface}
+use Rattle.cni_verbs.specs.Answers.{answer_by}
+use Rattle.cni_verbs.specs.CommandWords.{att_of, del_refusal}
+use Rattle.cni_verbs.specs.Questions.{cached_share, check_questions}
+use Rattle.cni_verbs.specs.declared.answer.Answer.{Answer}
+use Rattle.cni_verbs.specs.declared.answer.Cause.{Cause}
+use Rattle.cni_verbs.specs.declared.answer.Cause.TheVariants as causes
+use Rattle.cni_verbs.specs.declared.answer.Ending.{Ending}
+use Rattle.cni_verbs.specs.declared.answer.Ending.TheVariants.{Yes, Skipped, Refused}
+use Rattle.cni_verbs.specs.declared.answer.Missed.{Missed}
+use Rattle.cni_verbs.specs.declared.answer.Question.{Question}
+use Rattle.cni_verbs.specs.declared.answer.Skip.TheVariants as skips
+use Rattle.kernel_types.specs.Equal.{mac_eq, link_eq, addr_obj_eq, route_eq, rule_eq, setting_eq, lease_eq}
+use Rattle.kernel_types.specs.Words.{is_own, is_host_bridge}
+use Rattle.kernel_types.specs.declared.object.Att.{Att}
+use Rattle.kernel_types.specs.declared.object.Host.{Host}
+use Rattle.net_conf.specs.declared.first.First.{First}
+use Rattle.net_conf.specs.declared.first.First.TheVariants as firsts
+use Rattle.net_conf.specs.declared.list.NetList.{NetList}
+use Rattle.plan_words.specs.Share.{Share}
+use Rattle.pod_file.specs.declared.command.Command.{Command}
+use Rattle.pod_file.specs.declared.command.Verb.TheVariants as verbs
+use Rattle.pod_workers.specs.Legal.{Legal}
+use Rattle.pod_workers.specs.Plans.{Placed, commands_of, list_for}
+use Rattle.pod_workers.specs.World.{World}
+use Rattle.pod_workers.specs.declared.plan.Entry.{Entry}
+use Rattle.pod_laws.specs.Changed.{is_cut_off}
+use Rattle.pod_laws.specs.Granted.{IsFirstDenied}
+use Rattle.pod_laws.specs.Moments.{has_fault, host_at_end, own_entries}
+
+-- ---- what the host holds
+
+-- each of these objects is among all, by this equality
+abbrev pub are_in : {X : Type 0} → (X → X → Bool) → List X → List X → Bool
+are_in equal objects all = list_all (λ x. list_any (λ y. equal y x) all) objects
+
+-- a bridge of the host with this name and MAC address
+abbrev pub has_bridge_at : Host → List ℕ → Mac → Bool
+has_bridge_at host name mac = list_any (λ l. is_host_bridge name l && mac_eq l.mac mac) host.links
+
+abbrev pub has_bridge_by : Host → List ℕ → Option Mac → Bool
+has_bridge_by host name None = true
+has_bridge_by host name (Some mac) = has_bridge_at host name mac
+
+abbrev pub has_first_bridge : Host → List Interface → Bool
+has_first_bridge host [] = true
+has_first_bridge host (i ∷ is) = has_bridge_by host i.name i.mac
+
+-- a bridge of the host has the name and the MAC address of the result's first interface, where the plugin is `bridge`
+abbrev pub has_bridge_of : Host → First → List Interface → Bool
+has_bridge_of host (firsts.Bridge conf) interfaces = has_first_bridge host interfaces
+has_bridge_of host (firsts.Ptp conf) interfaces = true
+has_bridge_of host (firsts.Macvlan conf) interfaces = true
+
+-- each object is in the host as it is here; the cached entry is not asked for
+abbrev pub has_objects_of : Host → Share → Bool
+has_objects_of host s =
+    are_in link_eq s.links host.links
+    && (are_in addr_obj_eq s.addresses host.addresses && (are_in route_eq s.routes host.routes && (are_in rule_eq s.rules host.rules && (are_in setting_eq s.settings host.settings && are_in lease_eq s.leases host.leases))))
+
+-- the host holds all that the cached result says that there is
+abbrev pub holds_cached : NetList → Command → Cached → Host → Bool
+holds_cached list c cached host = has_bridge_of host list.first cached.result.interfaces && has_objects_of host (cached_share list c cached)
+
+-- the cached entry of the attachment
+abbrev pub cached_in : Host → Att → Option Cached
+cached_in host att = option_map (λ c. c.cached) (find (λ c. is_own att c.tag) host.cached)
+
+-- ---- the ending
+
+-- an object is missing (code 110), and named is the first: of bridge, links, addresses, routes, rules, settings and leases
+pub record LacksObject (list : NetList) (c : Command) (cached : Cached) (host : Host) (ending : Ending) : Type 0 where
+  pub question : Question
+  pub first : IsFirstDenied host (check_questions list c cached) question
+  pub what : Missed
+  pub lack : question.lack ≡ causes.Missing what
+  pub ending_is : ending ≡ Refused (causes.Missing what)
+
+abbrev pub EndsByHolding : NetList → Command → Cached → Host → Bool → Ending → Type 0
+EndsByHolding list c cached host true ending = ending ≡ Yes
+EndsByHolding list c cached host false ending = LacksObject list c cached host ending
+
+-- with no cached entry the attachment is unknown (code 3)
+abbrev pub EndsByEntry : NetList → Command → Host → Option Cached → Ending → Type 0
+EndsByEntry list c host None ending = ending ≡ Refused causes.Unknown
+EndsByEntry list c host (Some cached) ending = EndsByHolding list c cached host (holds_cached list c cached host) ending
+
+-- a fault is its last entry (code 103)
+abbrev pub EndsByFault : NetList → Command → List Entry → Host → Bool → Ending → Type 0
+EndsByFault list c entries host true ending = ending ≡ Refused (causes.Fault (length entries))
+EndsByFault list c entries host false ending = EndsByEntry list c host (cached_in host (att_of c)) ending
+
+-- the list may disable it (`disableCheck`)
+abbrev pub EndsByList : NetList → Command → List Entry → Host → Bool → Ending → Type 0
+EndsByList list c entries host true ending = (entries ≡ []) × (ending ≡ Skipped skips.Check)
+EndsByList list c entries host false ending = EndsByFault list c entries host (has_fault entries) ending
+
+-- how a CHECK ends: by its words, by the list, by a fault, and else by what the host holds
+abbrev pub EndsCheck : NetList → Command → List Entry → Host → Option Cause → Ending → Type 0
+EndsCheck list c entries host (Some cause) ending = (entries ≡ []) × (ending ≡ Refused cause)
+EndsCheck list c entries host None ending = EndsByList list c entries host list.disable_check ending
+
+-- with the host at its last entry, whatever other commands did between its entries
+abbrev pub WasChecked : Type 0
+WasChecked = (w : World) → Legal w → (n : ℕ) (c : Placed) (list : NetList) (a : Answer)
+    → slice_get (commands_of w.plan) n ≡ Some c → list_for w.plan c.command ≡ Some list → c.command.verb ≡ verbs.Check → slice_get w.answers n ≡ Some (Some a) → is_cut_off a ≡ false
+    → (ending : Ending) × (a ≡ answer_by list c.command ending []) × EndsCheck list c.command (own_entries n w.history) (host_at_end w n) (del_refusal c.command) ending

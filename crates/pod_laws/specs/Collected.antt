@@ -1,0 +1,101 @@
+-- What a garbage collection leaves and answers, wherever it stands in a history (CNI specification, section 3, "Garbage-collecting unused resources").
+use Rattle.std.specs.Prelude.{◌≡◌, ◌≢◌, ℕ, ◌+◌, ◌*◌, ◌≤◌, ◌⊎◌, true, false, List, [], length, map, Some, slice_get}
+use Rattle.cni_result.specs.declared.version.Version.TheVariants.{V1_0, V1_1}
+use Rattle.cni_verbs.specs.Answers.{error_of}
+use Rattle.cni_verbs.specs.declared.answer.Answer.{Answer}
+use Rattle.cni_verbs.specs.declared.answer.Answer.TheVariants as answers
+use Rattle.cni_verbs.specs.declared.answer.Cause.TheVariants as causes
+use Rattle.cni_verbs.specs.declared.answer.Skip.TheVariants as skips
+use Rattle.gc_sweep.specs.Bound.{all_tags, kinds_over_plugins, objects_by, stale_owners}
+use Rattle.gc_sweep.specs.Keep.{goes, keep}
+use Rattle.gc_sweep.specs.Sweep.{AreExcused, Bounds, IsCollected, fault_numbers}
+use Rattle.gc_sweep.specs.Trace.{Made}
+use Rattle.kernel_types.specs.declared.object.Host.{Host}
+use Rattle.net_conf.specs.declared.list.NetList.{NetList}
+use Rattle.pod_file.specs.declared.command.Command.{Command}
+use Rattle.pod_file.specs.declared.command.Verb.TheVariants as verbs
+use Rattle.pod_workers.specs.Legal.{Legal}
+use Rattle.pod_workers.specs.Plans.{Placed, commands_of, list_for}
+use Rattle.pod_workers.specs.World.{World}
+use Rattle.pod_workers.specs.declared.plan.Entry.{Entry}
+use Rattle.pod_laws.specs.Moments.{has_fault, host_at_end, host_at_start, own_entries}
+
+abbrev pub made_of : Entry → Made
+made_of e = record { call = e.call; reply = e.reply }
+
+-- the calls of these entries and their replies
+abbrev pub made_in : List Entry → List Made
+made_in es = map made_of es
+
+-- ---- answers
+
+-- its list is older than the verb
+pub record IsTooOld (list : NetList) (c : Command) (entries : List Entry) (a : Answer) : Type 0 where
+  pub old : list.version ≡ V1_0
+  pub no_entry : entries ≡ []
+  pub answer : a ≡ answers.Refused (error_of list.version c (causes.TooOld V1_0))
+
+-- its list disables it
+pub record IsDisabled (list : NetList) (entries : List Entry) (a : Answer) : Type 0 where
+  pub new_enough : list.version ≡ V1_1
+  pub disabled : list.disable_gc ≡ true
+  pub no_entry : entries ≡ []
+  pub answer : a ≡ answers.Skipped skips.Gc
+
+-- it met no fault, and what it leaves is what is to be kept
+pub record IsClean (list : NetList) (c : Command) (entries : List Entry) (old new : Host) (a : Answer) : Type 0 where
+  pub collected : IsCollected list
+  pub called : entries ≢ []
+  pub calm : has_fault entries ≡ false
+  pub leaves : new ≡ keep c.network c.valid old
+  pub answer : a ≡ answers.Yes
+
+-- it met faults, which its error names, and what it leaves over had a faulty call
+pub record IsFaulty (list : NetList) (c : Command) (entries : List Entry) (new : Host) (a : Answer) : Type 0 where
+  pub collected : IsCollected list
+  pub faulty : has_fault entries ≡ true
+  pub excused : AreExcused c.network c.valid (made_in entries) new
+  pub answer : a ≡ answers.Refused (error_of list.version c (causes.Faults (fault_numbers 0 (made_in entries))))
+
+-- the book gave the answer: memory was refused, or it was stopped
+abbrev pub IsByBook : Answer → Type 0
+IsByBook a = (a ≡ answers.OutOfMemory) ⊎ ((calls : ℕ) × (a ≡ answers.Stopped calls))
+
+abbrev pub IsCollectionAnswer : NetList → Command → List Entry → Host → Host → Answer → Type 0
+IsCollectionAnswer list c entries old new a = IsTooOld list c entries a ⊎ (IsDisabled list entries a ⊎ (IsClean list c entries old new a ⊎ (IsFaulty list c entries new a ⊎ IsByBook a)))
+
+-- each answer of a collection is of one of these kinds, from the host right before its first entry to the one right after its last
+abbrev pub CollectionsAreAnswered : Type 0
+CollectionsAreAnswered = (w : World) → Legal w → (n : ℕ) (c : Placed) (list : NetList) (a : Answer)
+    → slice_get (commands_of w.plan) n ≡ Some c → list_for w.plan c.command ≡ Some list → c.command.verb ≡ verbs.Gc → slice_get w.answers n ≡ Some (Some a)
+    → IsCollectionAnswer list c.command (own_entries n w.history) (host_at_start w n) (host_at_end w n) a
+
+-- ---- whatever it is answered
+
+-- each collection that made a call, wherever it was stopped, lost nothing that is to be kept, and added nothing
+abbrev pub CollectionsAreBounded : Type 0
+CollectionsAreBounded = (w : World) → Legal w → (n : ℕ) (c : Placed)
+    → slice_get (commands_of w.plan) n ≡ Some c → c.command.verb ≡ verbs.Gc → own_entries n w.history ≢ [] → Bounds c.command (host_at_start w n) (host_at_end w n)
+
+-- and it made at most six calls; for each stale attachment that owned an object at its start seven more than its list has kinds; and one for each object that is not kept
+abbrev pub CollectionsAreShort : Type 0
+CollectionsAreShort = (w : World) → Legal w → (n : ℕ) (c : Placed) (list : NetList)
+    → slice_get (commands_of w.plan) n ≡ Some c → list_for w.plan c.command ≡ Some list → c.command.verb ≡ verbs.Gc → own_entries n w.history ≢ []
+    → length (own_entries n w.history)
+    ≤ 6 + length (stale_owners c.command.network c.command.valid (all_tags (host_at_start w n))) * (kinds_over_plugins list + 7) + objects_by (goes c.command.network c.command.valid) (host_at_start w n)
+
+-- ---- one after another
+
+-- the second is of the round after the first one's, with the same network and the same valid list
+pub record AreInARow (d c : Placed) : Type 0 where
+  pub first : d.command.verb ≡ verbs.Gc
+  pub second : c.command.verb ≡ verbs.Gc
+  pub round : c.round ≡ d.round + 1
+  pub network : d.command.network ≡ c.command.network
+  pub valid : d.command.valid ≡ c.command.valid
+
+-- where the second is answered without an error, it leaves what the first was to keep, whatever the first came to once it had made a call
+abbrev pub CollectionsInARowKeep : Type 0
+CollectionsInARowKeep = (w : World) → Legal w → (m n : ℕ) (d c : Placed)
+    → slice_get (commands_of w.plan) m ≡ Some d → slice_get (commands_of w.plan) n ≡ Some c → AreInARow d c → own_entries m w.history ≢ [] → slice_get w.answers n ≡ Some (Some answers.Yes)
+    → host_at_end w n ≡ keep d.command.network d.command.valid (host_at_start w m)

@@ -1,0 +1,60 @@
+-- What a kernel grants of questions, and that asking changes nothing (CNI specification, section 3, "Checking attachment" and "Status").
+use Rattle.std.specs.Prelude.{◌≡◌, ℕ, ◌+◌, Bool, true, false, List, [], ◌∷◌, ◌++◌, Some, slice_get}
+use Rattle.std.specs.List.{list_all}
+use Rattle.cni_verbs.specs.declared.answer.Question.{Question}
+use Rattle.kernel_types.specs.Apply.{apply}
+use Rattle.kernel_types.specs.declared.object.Host.{Host}
+use Rattle.kernel_types.specs.declared.call.Reply.{Reply}
+use Rattle.kernel_types.specs.declared.call.Reply.TheVariants.{Done, NoNs, NoLink, Taken, Empty, Leased, Gone, Has, Owners, Entry as Kept, Fault}
+use Rattle.pod_file.specs.declared.command.Verb.{Verb}
+use Rattle.pod_file.specs.declared.command.Verb.TheVariants as verbs
+use Rattle.pod_workers.specs.Legal.{Legal}
+use Rattle.pod_workers.specs.Plans.{Placed, commands_of}
+use Rattle.pod_workers.specs.World.{World, after}
+use Rattle.pod_workers.specs.declared.plan.Entry.{Entry}
+
+abbrev pub is_yes : Reply → Bool
+is_yes (Has has) = has
+is_yes Done = false
+is_yes NoNs = false
+is_yes NoLink = false
+is_yes (Taken tag) = false
+is_yes Empty = false
+is_yes (Leased addr) = false
+is_yes (Gone gone) = false
+is_yes (Owners owners) = false
+is_yes (Kept cached) = false
+is_yes Fault = false
+
+-- the kernel with this host says yes to the question
+abbrev pub grants : Host → Question → Bool
+grants host question = is_yes (apply host question.call).1
+
+-- all before it are granted
+pub record IsFirstDenied (host : Host) (questions : List Question) (question : Question) : Type 0 where
+  pub past : List Question
+  pub left : List Question
+  pub are : questions ≡ past ++ question ∷ left
+  pub granted : list_all (grants host) past ≡ true
+  pub denied : grants host question ≡ false
+
+-- ---- single entries
+
+-- the verbs that ask, and make and take nothing
+abbrev pub only_asks : Verb → Bool
+only_asks verbs.Add = false
+only_asks verbs.Check = true
+only_asks verbs.Del = false
+only_asks verbs.Gc = false
+only_asks verbs.Status = true
+only_asks verbs.Version = true
+only_asks verbs.NsAdd = false
+only_asks verbs.NsDel = false
+only_asks verbs.Drop = false
+only_asks verbs.Flush = false
+
+-- each entry of a CHECK or a STATUS leaves the whole host
+abbrev pub EachQuestionLeavesTheHost : Type 0
+EachQuestionLeavesTheHost = (w : World) → Legal w → (n : ℕ) (c : Placed) (before later : List Entry) (e : Entry)
+    → slice_get (commands_of w.plan) n ≡ Some c → only_asks c.command.verb ≡ true → e.command ≡ n + 1 → w.history ≡ before ++ e ∷ later
+    → after w.plan.pods.opening (before ++ e ∷ []) ≡ after w.plan.pods.opening before
