@@ -4,7 +4,7 @@
     check.py [PROGRAM]
 
 Each file that a document names in backticks is there. Each `crate::item` is an item of that crate. Each definition of
-docs/DEFINITIONS.md stands in the file beside it. With a program, each command of the README's session prints what stands
+docs/DEFINITIONS.md stands in the file beside it. docs/INDEX.md names every public definition and function. With a program, each command of the README's session prints what stands
 below it.
 """
 
@@ -14,6 +14,8 @@ import re
 import shlex
 import subprocess
 import sys
+
+import index
 
 TOP = pathlib.Path(__file__).resolve().parent.parent.parent
 CRATES = {it.name: it for it in (TOP / "crates").iterdir() if (it / "src").is_dir()}
@@ -111,6 +113,8 @@ def main():
         if path.name == "README.md" and path.parent == TOP and len(sys.argv) > 1:
             found += wrong_session(text, sys.argv[1])
         wrong += [f"{path.relative_to(TOP)}: {it}" for it in found]
+    if not index.INDEX.exists() or index.INDEX.read_text(encoding="utf-8") != index.index():
+        wrong.append("docs/INDEX.md isn't what tests/docs/index.py prints")
     for it in wrong:
         print(f"docs: {it}")
     print(f"docs: {len(wrong)} wrong")

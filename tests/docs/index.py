@@ -1,0 +1,80 @@
+#!/usr/bin/env python3
+"""The index of every public definition and function, crate by crate and file by file.
+
+    index.py          prints it
+    index.py --write  writes docs/INDEX.md
+
+check.py fails where docs/INDEX.md isn't what this prints.
+"""
+
+import pathlib
+import re
+import sys
+
+TOP = pathlib.Path(__file__).resolve().parent.parent.parent
+INDEX = TOP / "docs" / "INDEX.md"
+DEFINITION = re.compile(r"^(?:(?:abbrev|unfoldable) pub|pub (?:record|data)) (\S+)", re.MULTILINE)
+ITEM = re.compile(r"^ *pub (?:fn|struct|enum|trait|const) (\w+)", re.MULTILINE)
+HEAD = """# Index
+
+Every public definition (`specs/`) and every public function and type (`src/`), by crate and file. `tests/docs/index.py --write` writes this page,
+and `./test` looks whether it is whole. What each means stands beside it in the file; `docs/DEFINITIONS.md` has those to read first.
+"""
+
+
+def crates():
+    """The crates from the bottom up, as crates.txt has them."""
+    for line in (TOP / "crates.txt").read_text(encoding="utf-8").splitlines():
+        name = line.split(":")[0].strip()
+        if ":" in line and not line.startswith("#"):
+            yield TOP / "crates" / name
+
+
+def first_comment(text, mark):
+    """The first sentence of the comment that a file begins with."""
+    lines = []
+    for line in text.splitlines():
+        if not line.startswith(mark):
+            break
+        lines.append(line[len(mark):].strip())
+        if not lines[-1]:
+            break
+    sentence = " ".join(lines).strip()
+    return re.split(r"(?<=\.) ", sentence)[0]
+
+
+def without_tests(text):
+    return re.split(r"^#\[cfg\(test\)\]", text, maxsplit=1, flags=re.MULTILINE)[0]
+
+
+def names_in(path):
+    text = path.read_text(encoding="utf-8")
+    if path.suffix == ".antt":
+        return first_comment(text, "--"), DEFINITION.findall(text)
+    return first_comment(text, "//!"), ITEM.findall(without_tests(text))
+
+
+def index():
+    lines = [HEAD]
+    for crate in crates():
+        lines.append(f"## {crate.name}\n")
+        for part, suffix in (("specs", ".antt"), ("src", ".rt")):
+            for path in sorted((crate / part).rglob(f"*{suffix}")):
+                said, names = names_in(path)
+                if not names:
+                    continue
+                unique = ", ".join(f"`{it}`" for it in dict.fromkeys(names))
+                lines.append(f"- `{path.relative_to(TOP / 'crates')}`: {said} {unique}")
+        lines.append("")
+    return "\n".join(lines).rstrip("\n") + "\n"
+
+
+def main():
+    if "--write" in sys.argv[1:]:
+        INDEX.write_text(index(), encoding="utf-8")
+    else:
+        sys.stdout.write(index())
+
+
+if __name__ == "__main__":
+    main()
