@@ -1,8 +1,10 @@
 pub mod Ascending
 pub mod Building
+pub mod Endings
 pub mod LineFeed
 pub mod Lines
 pub mod OnLiterals
 pub mod OutcomeLemmas
 pub mod ReadingLemmas
+pub mod Steps
 pub mod WholeNumbers

@@ -1,8 +1,8 @@
 -- The entries of a result that were printed are read again.
-use Rattle.std.proofs.Common.{◌≡◌, ℕ, List, Option, Some, None, option_map, Ok, refl, ap, sym, ◌∙◌}
+use Rattle.std.proofs.Common.{◌≡◌, ℕ, List, Option, Some, None, Ok, refl, ap, sym, ◌∙◌}
 use Rattle.std.specs.Prelude.{codes, IfSome}
-use Rattle.serde_json.specs.Data.{Data, object, Members, no_members, put}
-use Rattle.serde_json.specs.Find.{as_str, get_member}
+use Rattle.serde_json.specs.Data.{Members, no_members, put}
+use Rattle.serde_json.specs.Find.{as_str}
 use Rattle.cni_addr.proofs.AddrTexts.{spelled_is_read, written_is_spelled}
 use Rattle.cni_addr.proofs.CidrTexts.{network_spelled_is_read, network_written_is_spelled}
 use Rattle.cni_addr.proofs.MacTexts.{mac_spelled_is_read, mac_written_is_spelled}

@@ -5,5 +5,4 @@ pub mod ObjectLemmas
 pub mod ReadAgain
 pub mod ResultAgain
 pub mod ResultLemmas
-pub mod Steps
 pub mod WholeNumbers

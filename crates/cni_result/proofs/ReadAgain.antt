@@ -2,7 +2,7 @@
 use Rattle.std.proofs.Common.{◌≡◌, ℕ, ◌^◌, ◌<◌, List, [], ◌∷◌, Option, Some, None, option_map, Ok, refl, rules}
 use Rattle.std.specs.Prelude.{IfSome}
 use Rattle.std.specs.List.{AllByRecursion}
-use Rattle.serde_json.specs.Data.{Data, string, array, Members, no_members, member}
+use Rattle.serde_json.specs.Data.{Data, array, Members, no_members, member}
 use Rattle.serde_json.specs.Data.{object}
 use Rattle.serde_json.specs.Find.{as_str, as_array}
 use Rattle.serde_json.specs.View.{items_of}
@@ -10,7 +10,8 @@ use Rattle.std.specs.Prelude.{map, Result}
 use Rattle.cni_json.specs.Fields.{field_of, u64_of, object_of}
 use Rattle.cni_json.specs.Outcome.{◌>>=◌}
 use Rattle.cni_result.proofs.Lookups.{text_member, list_member, object_member}
-use Rattle.cni_result.specs.Fields.{needed, optional, each, list_of, in_32_bits}
+use Rattle.cni_result.specs.Fields.{needed, optional, list_of, in_32_bits}
+use Rattle.cni_json.specs.Each.{each}
 use Rattle.cni_result.specs.Members.{text_data, number_data}
 use Rattle.cni_result.specs.Reading.{domain_of, dns_of, words_at, domain_at, dns_members_at}
 use Rattle.cni_result.specs.declared.refusal.ResultError.{ResultError}

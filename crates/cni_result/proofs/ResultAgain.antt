@@ -2,7 +2,7 @@
 use Rattle.std.proofs.Common.{◌≡◌, ℕ, ◌≤◌, List, Some, Ok, length, refl, ap, ◌∙◌, arith}
 use Rattle.std.specs.Prelude.{codes}
 use Rattle.std.specs.List.{AllByRecursion}
-use Rattle.serde_json.specs.Data.{Data, string, object, Members, no_members, put, depth}
+use Rattle.serde_json.specs.Data.{Data, object, Members, no_members, put, depth}
 use Rattle.serde_json.specs.Find.{as_str, as_array}
 use Rattle.serde_json.specs.Read.{max_depth}
 use Rattle.cni_json.specs.Json.{json_of}
@@ -14,7 +14,7 @@ use Rattle.cni_result.proofs.ReadAgain.{list_again, list_if_again, domain_again,
 use Rattle.cni_result.specs.Fields.{list_of}
 use Rattle.cni_result.specs.Laws.{IsInterfaceOf, IsIpEntry, IsRouteEntry, IsReadable}
 use Rattle.cni_result.specs.Members.{text_data, list_data, ◌▷◌, put_text_unless_empty, put_list_unless_empty, put_object_unless_empty}
-use Rattle.cni_result.specs.Reading.{version_of, version_at, interface_at, interfaces_at, ip_at, ips_at, route_at, routes_at, word_of, words_at, domain_of, domain_at, dns_members_at, dns_of, dns_at, are_on, indexes_at, result_at, result_of_bytes}
+use Rattle.cni_result.specs.Reading.{version_of, version_at, interface_at, interfaces_at, ip_at, ips_at, route_at, routes_at, word_of, words_at, domain_of, domain_at, dns_members_at, dns_of, dns_at, indexes_at, result_at, result_of_bytes}
 use Rattle.cni_result.specs.Results.{version_data, interface_data, ip_data, route_data, dns_members, result_members, result_data}
 use Rattle.cni_result.specs.declared.result.AddResult.{AddResult}
 use Rattle.cni_result.specs.declared.result.Dns.{Dns}

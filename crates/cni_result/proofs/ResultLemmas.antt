@@ -1,5 +1,5 @@
 -- What is printed of results and errors.
-use Rattle.std.proofs.Common.{◌≡◌, false, refl}
+use Rattle.std.proofs.Common.{◌≡◌, false}
 use Rattle.serde_json.specs.Written.{has_float, members_have_float}
 use Rattle.cni_result.proofs.WholeNumbers.{puts_are_whole}
 use Rattle.cni_result.specs.Mappings.{mapping_data}

@@ -4,7 +4,7 @@ use Rattle.serde_json.specs.Data.{Data, object, Members, no_members, member, put
 use Rattle.serde_json.specs.View.{items_of}
 use Rattle.serde_json.specs.Written.{has_float, items_have_float, members_have_float}
 use Rattle.cni_json.proofs.Building.{members_have_float-put}
-use Rattle.cni_result.specs.Members.{list_data, put_if, put_if_true, put_text_unless_empty, put_list_unless_empty, put_object_unless_empty}
+use Rattle.cni_result.specs.Members.{put_if, put_if_true, put_text_unless_empty, put_list_unless_empty, put_object_unless_empty}
 
 pub put_is_whole : (k : List ℕ) (d : Data) (ms : Members) → has_float d ≡ false → members_have_float ms ≡ false → members_have_float (put k d ms) ≡ false
 put_is_whole k d ms here rest = members_have_float-put k d ms here rest

@@ -1,7 +1,7 @@
 -- Members of an object that is read, each with the key that is to blame where it is wrong.
-use Rattle.std.specs.Prelude.{ℕ, ◌^◌, List, [], ◌∷◌, ◌++◌, nat_lt, if◌then◌else◌, Option, Some, None, Result, Ok, Err}
-use Rattle.serde_json.specs.Data.{Data, Items, no_items, item}
-use Rattle.cni_json.specs.Outcome.{◌>>=◌}
+use Rattle.std.specs.Prelude.{ℕ, ◌^◌, List, [], nat_lt, if◌then◌else◌, Option, Some, None, Result, Ok}
+use Rattle.serde_json.specs.Data.{Data, Items}
+use Rattle.cni_json.specs.Each.{each}
 use Rattle.cni_json.specs.declared.fields.Field.{Field}
 use Rattle.cni_json.specs.declared.fields.Field.TheVariants.{Absent, WrongKind, Here}
 use Rattle.cni_result.specs.Refusals.{invalid}
@@ -28,20 +28,6 @@ abbrev pub optional : {A B : Type 0} → List ℕ → (A → Option B) → Field
 optional blamed read Absent = Ok None
 optional blamed read WrongKind = invalid blamed
 optional blamed read (Here x) = given blamed (read x)
-
--- each item is read, up to the first refusal
-abbrev pub each : {A : Type 0} → (Data → Result A ResultError) → Items → Result (List A) ResultError
-each read no_items = Ok []
-each read (item d ds) = do
-  first ← read d
-  rest ← each read ds
-  Ok (first ∷ rest)
-
--- these first, and then those that are read
-abbrev pub with_front : {A : Type 0} → List A → Result (List A) ResultError → Result (List A) ResultError
-with_front front r = do
-  rest ← r
-  Ok (front ++ rest)
 
 -- a list that may be absent, and is empty then
 abbrev pub list_of : {A : Type 0} → List ℕ → (Data → Result A ResultError) → Field Items → Result (List A) ResultError

@@ -1,5 +1,5 @@
 -- When a result that was printed is read again as the same result.
-use Rattle.std.specs.Prelude.{◌≡◌, ℕ, ◌^◌, ◌<◌, length, true, IfSome, None, Ok}
+use Rattle.std.specs.Prelude.{◌≡◌, ◌^◌, ◌<◌, length, true, IfSome, None, Ok}
 use Rattle.std.specs.List.{AllByRecursion}
 use Rattle.cni_addr.specs.MacText.{IsMac}
 use Rattle.cni_addr.specs.Network.{IsCidr}

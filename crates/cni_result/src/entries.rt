@@ -2,7 +2,7 @@
 
 ghost use Rattle.serde_json.specs.View.{view, items_view};
 ghost use Rattle.cni_json.specs.Outcome.{GivesAs};
-ghost use Rattle.cni_result.specs.Fields.{each};
+ghost use Rattle.cni_json.specs.Each.{each};
 ghost use Rattle.cni_result.specs.Reading.{mtu_if_at, interface_at, interfaces_at, ip_at, ips_at, route_at, routes_at};
 ghost use Rattle.cni_result.specs.Refusals.{is_want_of_memory};
 
@@ -15,7 +15,7 @@ use cni_json::{Field, Value, field_list};
 use std::alloc::Global;
 
 /// The interfaces, none where there is no list of them.
-#[tactic(auto, using(crate::proofs::Steps::steps), unfolding(crate::specs::Reading::interfaces_at))]
+#[tactic(auto, using(cni_json::proofs::Steps::steps), unfolding(crate::specs::Reading::interfaces_at))]
 pub(crate) fn interfaces(
     alloc: Global,
     version: Version,
@@ -30,7 +30,7 @@ pub(crate) fn interfaces(
     }
 }
 
-#[tactic(auto, using(crate::proofs::Steps::steps))]
+#[tactic(auto, using(cni_json::proofs::Steps::steps))]
 fn all_interfaces(
     alloc: Global,
     version: Version,
@@ -46,7 +46,7 @@ fn all_interfaces(
     Ok(found)
 }
 
-#[tactic(auto, using(crate::proofs::Steps::steps), unfolding(crate::specs::Reading::interface_at))]
+#[tactic(auto, using(cni_json::proofs::Steps::steps), unfolding(crate::specs::Reading::interface_at))]
 fn interface(alloc: Global, version: Version, entry: &Value) -> Result<Interface, ResultError>
     ensures { GivesAs is_want_of_memory (λ interface. interface) result (interface_at version (view entry.now)) }
 {
@@ -72,7 +72,7 @@ fn mtu_if(alloc: Global, version: Version, entry: &Value) -> Result<Option<u32>,
 }
 
 /// The addresses, none where there is no list of them.
-#[tactic(auto, using(crate::proofs::Steps::steps), unfolding(crate::specs::Reading::ips_at))]
+#[tactic(auto, using(cni_json::proofs::Steps::steps), unfolding(crate::specs::Reading::ips_at))]
 pub(crate) fn ips(alloc: Global, top: &Value) -> Result<Items<IpEntry>, ResultError>
     ensures { GivesAs is_want_of_memory (λ ips. ips) result (ips_at (view top.now)) }
 {
@@ -83,7 +83,7 @@ pub(crate) fn ips(alloc: Global, top: &Value) -> Result<Items<IpEntry>, ResultEr
     }
 }
 
-#[tactic(auto, using(crate::proofs::Steps::steps))]
+#[tactic(auto, using(cni_json::proofs::Steps::steps))]
 fn all_ips(alloc: Global, list: &[Value]) -> Result<Items<IpEntry>, ResultError>
     ensures { GivesAs is_want_of_memory (λ ips. ips) result (each ip_at (items_view list.now)) }
 {
@@ -95,7 +95,7 @@ fn all_ips(alloc: Global, list: &[Value]) -> Result<Items<IpEntry>, ResultError>
     Ok(found)
 }
 
-#[tactic(auto, using(crate::proofs::Steps::steps), unfolding(crate::specs::Reading::ip_at))]
+#[tactic(auto, using(cni_json::proofs::Steps::steps), unfolding(crate::specs::Reading::ip_at))]
 fn ip(alloc: Global, entry: &Value) -> Result<IpEntry, ResultError>
     ensures { GivesAs is_want_of_memory (λ ip. ip) result (ip_at (view entry.now)) }
 {
@@ -110,7 +110,7 @@ fn ip(alloc: Global, entry: &Value) -> Result<IpEntry, ResultError>
 }
 
 /// The routes, none where there is no list of them.
-#[tactic(auto, using(crate::proofs::Steps::steps), unfolding(crate::specs::Reading::routes_at))]
+#[tactic(auto, using(cni_json::proofs::Steps::steps), unfolding(crate::specs::Reading::routes_at))]
 pub(crate) fn routes(alloc: Global, top: &Value) -> Result<Items<RouteEntry>, ResultError>
     ensures { GivesAs is_want_of_memory (λ routes. routes) result (routes_at (view top.now)) }
 {
@@ -121,7 +121,7 @@ pub(crate) fn routes(alloc: Global, top: &Value) -> Result<Items<RouteEntry>, Re
     }
 }
 
-#[tactic(auto, using(crate::proofs::Steps::steps))]
+#[tactic(auto, using(cni_json::proofs::Steps::steps))]
 fn all_routes(alloc: Global, list: &[Value]) -> Result<Items<RouteEntry>, ResultError>
     ensures { GivesAs is_want_of_memory (λ routes. routes) result (each route_at (items_view list.now)) }
 {
@@ -133,7 +133,7 @@ fn all_routes(alloc: Global, list: &[Value]) -> Result<Items<RouteEntry>, Result
     Ok(found)
 }
 
-#[tactic(auto, using(crate::proofs::Steps::steps), unfolding(crate::specs::Reading::route_at))]
+#[tactic(auto, using(cni_json::proofs::Steps::steps), unfolding(crate::specs::Reading::route_at))]
 fn route(alloc: Global, entry: &Value) -> Result<RouteEntry, ResultError>
     ensures { GivesAs is_want_of_memory (λ route. route) result (route_at (view entry.now)) }
 {

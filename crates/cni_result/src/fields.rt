@@ -11,7 +11,7 @@ use cni_json::{Field, Value, field_str, field_u64};
 use std::alloc::Global;
 
 /// A text that must be there.
-#[tactic(auto, using(crate::proofs::Steps::steps), unfolding(crate::specs::Reading::text_at))]
+#[tactic(auto, using(cni_json::proofs::Steps::steps), unfolding(crate::specs::Reading::text_at))]
 pub(crate) fn text(
     alloc: Global,
     object: &Value,
@@ -27,7 +27,7 @@ pub(crate) fn text(
 }
 
 /// A text that may be absent.
-#[tactic(auto, using(crate::proofs::Steps::steps), unfolding(crate::specs::Reading::text_if_at))]
+#[tactic(auto, using(cni_json::proofs::Steps::steps), unfolding(crate::specs::Reading::text_if_at))]
 pub(crate) fn text_if(
     alloc: Global,
     object: &Value,
@@ -44,7 +44,7 @@ pub(crate) fn text_if(
 }
 
 /// A network that must be there.
-#[tactic(auto, using(crate::proofs::Steps::steps), unfolding(crate::specs::Reading::cidr_at))]
+#[tactic(auto, using(cni_json::proofs::Steps::steps), unfolding(crate::specs::Reading::cidr_at))]
 pub(crate) fn cidr(
     alloc: Global,
     object: &Value,
@@ -63,7 +63,7 @@ pub(crate) fn cidr(
 }
 
 /// An address that may be absent.
-#[tactic(auto, using(crate::proofs::Steps::steps), unfolding(crate::specs::Reading::addr_if_at))]
+#[tactic(auto, using(cni_json::proofs::Steps::steps), unfolding(crate::specs::Reading::addr_if_at))]
 pub(crate) fn addr_if(
     alloc: Global,
     object: &Value,
@@ -83,7 +83,7 @@ pub(crate) fn addr_if(
 }
 
 /// A hardware address that may be absent.
-#[tactic(auto, using(crate::proofs::Steps::steps), unfolding(crate::specs::Reading::mac_if_at))]
+#[tactic(auto, using(cni_json::proofs::Steps::steps), unfolding(crate::specs::Reading::mac_if_at))]
 pub(crate) fn mac_if(
     alloc: Global,
     object: &Value,
@@ -103,7 +103,7 @@ pub(crate) fn mac_if(
 }
 
 /// A number below 2^32 that may be absent.
-#[tactic(auto, using(crate::proofs::Steps::steps), unfolding(crate::specs::Reading::number_if_at))]
+#[tactic(auto, using(cni_json::proofs::Steps::steps), unfolding(crate::specs::Reading::number_if_at))]
 pub(crate) fn number_if(
     alloc: Global,
     object: &Value,

@@ -26,6 +26,7 @@ mod tests;
 pub mod version;
 
 pub use cached::{Cached, PortMapping, Proto};
+pub use dns::no_dns;
 pub use error::CniError;
 pub use members::{JsonObject, ToJson, list_value};
 pub use printing::{error_value, proto_text, result_line, to_value, version_text};

@@ -1,6 +1,6 @@
 //! Results that are read.
 
-ghost use Rattle.std.specs.Prelude.{◌≡◌, length};
+ghost use Rattle.std.specs.Prelude.{◌≡◌};
 ghost use Rattle.serde_json.specs.View.{view};
 ghost use Rattle.cni_json.specs.Json.{json_of};
 ghost use Rattle.cni_json.specs.Outcome.{GivesAs};
@@ -22,7 +22,7 @@ use std::alloc::Global;
 /// (`number`); no object (`result`); the version; the first of `interfaces`, `ips`, `routes` and `dns` that is wrong;
 /// and an address on an interface that isn't in the list (`interface`). It takes time and memory in proportion to the
 /// bytes.
-#[tactic(auto, using(crate::proofs::Steps::steps), unfolding(crate::specs::Reading::result_of_bytes))]
+#[tactic(auto, using(cni_json::proofs::Steps::steps), unfolding(crate::specs::Reading::result_of_bytes))]
 pub fn read_result(alloc: Global, bytes: &[u8]) -> Result<AddResult, ResultError>
     ensures { GivesAs is_want_of_memory (λ found. found) result (result_of_bytes bytes.now) }
 {
@@ -41,7 +41,7 @@ fn decode(alloc: Global, bytes: &[u8]) -> Result<Value, ResultError>
     }
 }
 
-#[tactic(auto, using(crate::proofs::Steps::steps), unfolding(crate::specs::Reading::result_at))]
+#[tactic(auto, using(cni_json::proofs::Steps::steps), unfolding(crate::specs::Reading::result_at))]
 fn result_of(alloc: Global, top: &Value) -> Result<AddResult, ResultError>
     ensures { GivesAs is_want_of_memory (λ found. found) result (result_at (view top.now)) }
 {
@@ -61,7 +61,7 @@ fn result_of(alloc: Global, top: &Value) -> Result<AddResult, ResultError>
     })
 }
 
-#[tactic(auto, using(crate::proofs::Steps::steps))]
+#[tactic(auto, using(cni_json::proofs::Steps::steps))]
 fn object(alloc: Global, top: &Value) -> Result<(), ResultError>
     ensures { GivesAs is_want_of_memory (λ unit. unit) result (object_at (view top.now)) }
 {
@@ -71,7 +71,7 @@ fn object(alloc: Global, top: &Value) -> Result<(), ResultError>
     }
 }
 
-#[tactic(auto, using(crate::proofs::Steps::steps), unfolding(crate::specs::Reading::version_at))]
+#[tactic(auto, using(cni_json::proofs::Steps::steps), unfolding(crate::specs::Reading::version_at))]
 fn version(alloc: Global, top: &Value) -> Result<Version, ResultError>
     ensures { GivesAs is_want_of_memory (λ version. version) result (version_at (view top.now)) }
 {
@@ -84,7 +84,7 @@ fn version(alloc: Global, top: &Value) -> Result<Version, ResultError>
 }
 
 // Each address is on an interface of the list, or on none.
-#[tactic(auto, using(crate::proofs::Steps::steps), unfolding(crate::specs::Reading::indexes_at))]
+#[tactic(auto, using(cni_json::proofs::Steps::steps), unfolding(crate::specs::Reading::indexes_at))]
 fn indexes(alloc: Global, count: usize, ips: &[IpEntry]) -> Result<(), ResultError>
     ensures { GivesAs is_want_of_memory (λ unit. unit) result (indexes_at count ips.now) }
 {

@@ -38,15 +38,6 @@ fn interface(
     })
 }
 
-fn no_dns(alloc: Global) -> Result<Dns, NoMemory> {
-    Ok(Dns {
-        nameservers: Items::new(alloc),
-        domain: Text::of(alloc, "")?,
-        search: Items::new(alloc),
-        options: Items::new(alloc),
-    })
-}
-
 fn on_container_end(gateway: &str) -> IpEntry {
     IpEntry {
         address: cidr("10.88.0.2/16"),

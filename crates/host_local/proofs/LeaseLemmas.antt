@@ -1,6 +1,6 @@
 -- A candidate of a set has a range that holds it, and lists of given addresses end with the shorter of the two lists.
-use Rattle.std.proofs.Common.{◌≡◌, ℕ, ◌≤◌, ◌<◌, Bool, true, false, cond, List, [], ◌∷◌, Option, Some, None, refl, sym, ◌∙◌, ap, arith, drop, inl, inr}
-use Rattle.std.specs.Prelude.{find, ◌⊎◌, length, slice_get, option_map, option_to_list, nat_le, nat_lt, not, ◌&&◌, min}
+use Rattle.std.proofs.Common.{◌≡◌, ℕ, ◌≤◌, Bool, true, false, cond, List, [], ◌∷◌, Option, Some, refl, ap, arith, drop, inl, inr}
+use Rattle.std.specs.Prelude.{find, ◌⊎◌, length, option_map, option_to_list, nat_lt, min}
 use Rattle.std.specs.List.{list_any}
 use Rattle.std.proofs.lemmas.Bool.Decides.{nat_tests}
 use Rattle.std.proofs.lemmas.List.{drop_all}

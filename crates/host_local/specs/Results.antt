@@ -2,14 +2,11 @@
 use Rattle.std.specs.Prelude.{List, [], map, Option, Some, None}
 use Rattle.cni_result.specs.declared.version.Version.{Version}
 use Rattle.cni_result.specs.declared.result.IpEntry.{IpEntry}
-use Rattle.cni_result.specs.declared.result.Dns.{Dns}
+use Rattle.cni_result.specs.Reading.{no_dns}
 use Rattle.cni_result.specs.declared.result.AddResult.{AddResult}
 use Rattle.net_conf.specs.declared.first.HostLocalConf.{HostLocalConf}
 use Rattle.kernel_types.specs.declared.call.Given.{Given}
 use Rattle.host_local.specs.Conf.{routes_of}
-
-abbrev pub no_dns : Dns
-no_dns = record { nameservers = []; domain = []; search = []; options = [] }
 
 abbrev pub ip_of : Given → IpEntry
 ip_of g = record { address = g.address; gateway = Some g.gateway; interface = None }

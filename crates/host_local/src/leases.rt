@@ -1,6 +1,6 @@
 //! Leases and given addresses.
 
-ghost use Rattle.std.specs.Prelude.{◌≡◌, ◌+◌, ◌∷◌, [], ◌≤◌, ◌<◌, true, find, length, option_to_list, slice_get, Some, IfOk, OnOk};
+ghost use Rattle.std.specs.Prelude.{◌≡◌, ◌+◌, ◌∷◌, [], ◌≤◌, ◌<◌, true, find, length, option_to_list, slice_get, Some, IfOk};
 ghost use Rattle.std.specs.Option.{option_copied};
 ghost use Rattle.ip_pool.specs.NextAddress.{is_candidate};
 ghost use Rattle.cni_addr.specs.declared.range.RangeSet.{RangeSet};

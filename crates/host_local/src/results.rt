@@ -4,23 +4,11 @@ ghost use Rattle.std.specs.Prelude.{◌≡◌, map, IfOk, Some};
 ghost use Rattle.host_local.specs.Conf.{routes_of};
 ghost use Rattle.host_local.specs.Results as results;
 
-use cni_addr::{Duplicate, Items, NoMemory, Text};
-use cni_result::{AddResult, Dns, IpEntry, RouteEntry, Version};
+use cni_addr::{Duplicate, Items, NoMemory};
+use cni_result::{AddResult, IpEntry, RouteEntry, Version, no_dns};
 use kernel_types::Given;
 use net_conf::HostLocalConf;
 use std::alloc::Global;
-
-/// Name resolution of which nothing is said.
-pub fn no_dns(alloc: Global) -> Result<Dns, NoMemory>
-    ensures { IfOk result (λ dns. dns ≡ results.no_dns) }
-{
-    Ok(Dns {
-        nameservers: Items::new(alloc),
-        domain: Text::of(alloc, "")?,
-        search: Items::new(alloc),
-        options: Items::new(alloc),
-    })
-}
 
 /// The given addresses with their gateways, of no interface yet.
 pub fn ips_of(alloc: Global, given: &[Given]) -> Result<Items<IpEntry>, NoMemory>

@@ -1,5 +1,5 @@
 -- Ranges in the order of their starts share no address exactly where each ends before the next starts.
-use Rattle.std.proofs.Common.{◌≡◌, ◌≢◌, ℕ, zero, suc, ◌+◌, ◌<◌, ◌≤◌, ◌⊎◌, inl, inr, List, [], ◌∷◌, length, get_or, swap, Bool, true, false, not, IsPermutation, refl, sym, ap, ap₂, ◌∙◌, arith, true≢false}
+use Rattle.std.proofs.Common.{◌≡◌, ◌≢◌, ℕ, zero, suc, ◌<◌, ◌≤◌, ◌⊎◌, inl, inr, List, [], ◌∷◌, length, get_or, swap, Bool, true, false, not, IsPermutation, refl, sym, ap, ap₂, ◌∙◌, arith}
 use Rattle.std.specs.Prelude.{◌&&◌, ◌||◌, ◌==◌, nat_lt, nat_le, min, max}
 use Rattle.std.specs.List.{list_all}
 use Rattle.std.specs.List.Sorted.{IsNonDecreasingBy}
@@ -11,7 +11,7 @@ use Rattle.cni_addr.specs.Codes.{family_code, family_eq}
 use Rattle.cni_addr.specs.declared.address.Family.{Family}
 use Rattle.cni_addr.specs.declared.range.Range.{Range}
 use Rattle.ip_pool.specs.Pool.{is_apart, are_apart}
-use Rattle.net_conf.specs.Apart.{has_address_of, ascends_from, ascends, have_addresses_of_one_family}
+use Rattle.net_conf.specs.Apart.{has_address_of, ascends, have_addresses_of_one_family}
 
 -- ---- two ranges
 

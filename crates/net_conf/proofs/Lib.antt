@@ -6,7 +6,6 @@ pub mod PluginFacts
 pub mod RangeFacts
 pub mod RangeLemmas
 pub mod SetFacts
-pub mod Steps
 pub mod TuningFacts
 pub mod TuningLemmas
 pub mod ValueLemmas

@@ -7,7 +7,7 @@ use Rattle.cni_json.specs.declared.fields.Field.{Field}
 use Rattle.cni_json.specs.declared.fields.Field.TheVariants.{Absent, WrongKind, Here}
 use Rattle.cni_json.specs.declared.reading.ReadEnd.{ReadEnd}
 use Rattle.cni_json.specs.declared.reading.ReadEnd.TheVariants as ends
-use Rattle.net_conf.proofs.Endings.{goes, ok_same, passed}
+use Rattle.cni_json.proofs.Endings.{goes, ok_same, passed}
 use Rattle.net_conf.proofs.JsonOrder.{IsOrdered, json_of-ordered}
 use Rattle.net_conf.proofs.PluginFacts.{chain_at-ok}
 use Rattle.net_conf.specs.List.{read_or_refused, list_object, version_at, name_of, name_at, switch_at, list_at, list_of}

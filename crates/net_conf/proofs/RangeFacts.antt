@@ -1,22 +1,19 @@
 -- What a range keeps that is read.
-use Rattle.std.proofs.Common.{◌≡◌, ℕ, ◌+◌, ◌-◌, ◌≤◌, ◌<◌, Bool, true, false, List, Option, Some, None, Result, Ok, Err, refl, sym, ap, ◌∙◌, subst, arith}
+use Rattle.std.proofs.Common.{◌≡◌, ℕ, ◌-◌, ◌≤◌, ◌<◌, true, List, Option, Some, None, Ok, refl, sym, ◌∙◌, subst, arith}
 use Rattle.std.specs.Prelude.{nat_lt}
-use Rattle.std.proofs.lemmas.Bool.{and_parts}
 use Rattle.std.proofs.lemmas.Bool.Decides.{nat_tests}
 use Rattle.serde_json.specs.Data.{Data}
-use Rattle.cni_json.specs.Fields.{text_field}
 use Rattle.cni_json.specs.declared.fields.Field.{Field}
 use Rattle.cni_json.specs.declared.fields.Field.TheVariants.{Absent, WrongKind, Here}
 use Rattle.cni_addr.proofs.AddrTexts.{read_is_spelled}
 use Rattle.cni_addr.proofs.CidrTexts.{network_read_is_spelled, spelled_is_cidr}
-use Rattle.cni_addr.proofs.Networks.{contains_between, IsAddr-last_of, IsCidr-network_of, network_of_network}
-use Rattle.cni_addr.specs.declared.address.Family.{Family}
+use Rattle.cni_addr.proofs.Networks.{contains_between, IsAddr-last_of}
 use Rattle.cni_addr.specs.declared.range.Range.{Range}
 use Rattle.cni_addr.specs.AddrText.{addr_of_text}
 use Rattle.cni_addr.specs.CidrText.{cidr_of_text}
-use Rattle.cni_addr.specs.Network.{IsCidr, network_of, network_bits, network_size, last_of, contains}
+use Rattle.cni_addr.specs.Network.{IsCidr, network_of, last_of, contains}
 use Rattle.cni_addr.specs.Value.{AddrValue, CidrValue, IsAddr, bits_below}
-use Rattle.net_conf.proofs.Endings.{goes, ok_same, passed, not_refused}
+use Rattle.cni_json.proofs.Endings.{goes, ok_same, passed, not_refused}
 use Rattle.net_conf.proofs.RangeLemmas.{subnet_says, subnet_room, same_family}
 use Rattle.net_conf.specs.Ranges.{is_subnet, subnet_or_refused, subnet_of, subnet_at, bound_or_refused, bound_of, bound_at, first_host, last_host, in_order, gateway_or_refused, gateway_of, gateway_at, range_at}
 use Rattle.net_conf.specs.WellFormed.{IsWellFormedRange}

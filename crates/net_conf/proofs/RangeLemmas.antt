@@ -1,20 +1,13 @@
 -- Subnets have room for their hosts, and the parts of a range have one family.
-use Rattle.std.proofs.Common.{◌≡◌, ℕ, ◌+◌, ◌-◌, ◌^◌, ◌%◌, ◌≤◌, ◌<◌, ◌&&◌, Bool, true, false, nat_le, ◌==◌, List, Option, Some, None, Result, Ok, Err, sym, ap, subst, ◌∙◌, refl, arith}
-use Rattle.std.proofs.lemmas.Nat.{pow_pos}
-use Rattle.std.proofs.lemmas.Bool.{and_parts}
-use Rattle.std.proofs.lemmas.Grind.{common_steps}
+use Rattle.std.proofs.Common.{◌≡◌, ℕ, ◌+◌, ◌-◌, ◌^◌, ◌≤◌, ◌&&◌, Bool, true, nat_le, ◌==◌, sym, ap, refl, arith}
 use Rattle.std.proofs.lemmas.Bool.Decides.{nat_tests}
 use Rattle.std.proofs.Math.Pow.{pow_mono}
-use Rattle.cni_json.specs.declared.fields.Field.{Field}
-use Rattle.cni_json.specs.declared.fields.Field.TheVariants.{Absent, WrongKind, Here}
 use Rattle.cni_addr.specs.declared.address.Family.{Family}
 use Rattle.cni_addr.specs.declared.address.Family.TheVariants.{V4, V6}
-use Rattle.cni_addr.specs.Value.{AddrValue, CidrValue, longest_prefix}
+use Rattle.cni_addr.specs.Value.{CidrValue, longest_prefix}
 use Rattle.cni_addr.specs.Codes.{family_eq}
-use Rattle.cni_addr.specs.Equal.{cidr_eq}
-use Rattle.cni_addr.specs.Network.{network_size, network_bits, network_of, last_of, contains}
-use Rattle.net_conf.specs.Ranges.{is_subnet, bound_of, bound_at, bound_or_refused, gateway_or_refused, gateway_of, gateway_at, first_host, last_host}
-use Rattle.net_conf.specs.declared.error.ConfError.{ConfError}
+use Rattle.cni_addr.specs.Network.{network_size, network_bits, network_of, last_of}
+use Rattle.net_conf.specs.Ranges.{is_subnet}
 
 pub same_family : (f g : Family) → family_eq f g ≡ true → f ≡ g
 same_family V4 V4 h = refl

@@ -1,7 +1,7 @@
 -- What sets of ranges and routes keep that are read.
-use Rattle.std.proofs.Common.{◌≡◌, ℕ, suc, ◌+◌, ◌≤◌, ◌<◌, ◌&&◌, Bool, true, false, List, [], ◌∷◌, ◌++◌, codes, length, Option, Some, None, Result, Ok, Err, refl, sym, ap, ◌∙◌, subst, arith, length-append}
-use Rattle.std.specs.Prelude.{All, nat_le}
-use Rattle.std.specs.List.{list_all, flat_map}
+use Rattle.std.proofs.Common.{◌≡◌, ℕ, suc, ◌+◌, ◌≤◌, ◌<◌, ◌&&◌, Bool, true, false, List, [], ◌∷◌, ◌++◌, codes, length, Option, Some, None, Ok, refl, sym, ap, ◌∙◌, subst, arith, length-append}
+use Rattle.std.specs.Prelude.{All}
+use Rattle.std.specs.List.{list_all}
 use Rattle.std.proofs.lemmas.Bool.{and_parts}
 use Rattle.std.proofs.lemmas.Bool.Decides.{nat_tests}
 use Rattle.std.proofs.lemmas.List.Elements.{All-nil, All-cons, All-append}
@@ -20,15 +20,15 @@ use Rattle.cni_addr.specs.Network.{IsCidr, network_of}
 use Rattle.cni_addr.specs.Value.{AddrValue, CidrValue, IsAddr}
 use Rattle.cni_result.specs.declared.result.RouteEntry.{RouteEntry}
 use Rattle.ip_pool.specs.Pool.{is_apart, are_apart}
-use Rattle.net_conf.proofs.Endings.{goes, ok_same, passed, each_all, each_tested, each_count}
+use Rattle.net_conf.proofs.Endings.{each_tested, each_count}
+use Rattle.cni_json.proofs.Endings.{goes, ok_same, passed, each_all}
 use Rattle.net_conf.proofs.RangeFacts.{range_at-ok, read_is_addr, read_is_cidr}
 use Rattle.net_conf.proofs.RangeLemmas.{same_family}
-use Rattle.net_conf.specs.Members.{each, with_front}
+use Rattle.cni_json.specs.Each.{each, with_front}
 use Rattle.net_conf.specs.Ranges.{range_at}
 use Rattle.net_conf.specs.Routes.{destination_or_refused, destination_of, destination_at, hop_or_refused, hop_of, hop_at, route_at, routes_of, routes_at}
-use Rattle.net_conf.specs.Sets.{set_of, is_set, is_object, all_items, is_of_one_family, ranges_of, are_separate, is_there, listed_at, item_count, is_set_count, one_if, well_formed, own_sets_of, separate, sets_at}
+use Rattle.net_conf.specs.Sets.{set_of, is_set, all_items, is_of_one_family, ranges_of, is_there, listed_at, item_count, is_set_count, one_if, well_formed, own_sets_of, separate, sets_at}
 use Rattle.net_conf.specs.WellFormed.{IsWellFormedRange, IsWellFormedSet, IsWellFormedRoute}
-use Rattle.net_conf.specs.declared.error.ConfError.{ConfError}
 
 -- ---- a set
 

@@ -1,7 +1,7 @@
 -- What the configuration of `tuning` keeps that is read.
-use Rattle.std.proofs.Common.{◌≡◌, ℕ, suc, ◌≤◌, ◌<◌, ◌^◌, Bool, true, false, cond, List, [], ◌∷◌, codes, length, Option, Some, None, Result, Ok, Err, Ordering, Less, Equal, Greater, nat_cmp, nat_eq, refl, sym, ap, ◌∙◌, subst, arith}
-use Rattle.std.specs.Prelude.{All, IsTrue, nat_le, not, map, if◌then◌else◌, ⊤}
-use Rattle.std.specs.Cmp.Lexicographic.{slice_cmp, nat_list_cmp_total, bytes_decides}
+use Rattle.std.proofs.Common.{◌≡◌, ℕ, ◌<◌, ◌^◌, Bool, true, false, List, [], codes, Option, Some, None, Result, Ok, Less, nat_cmp, nat_eq, refl, sym, ap, ◌∙◌, subst, arith}
+use Rattle.std.specs.Prelude.{All, nat_le, not, map, if◌then◌else◌}
+use Rattle.std.specs.Cmp.Lexicographic.{slice_cmp}
 use Rattle.std.specs.List.{AllByRecursion, IsDistinct, starts_with}
 use Rattle.std.specs.Str.{bytes_eq}
 use Rattle.std.proofs.lemmas.Bool.Decides.{nat_tests}
@@ -16,7 +16,7 @@ use Rattle.cni_json.specs.declared.fields.Field.TheVariants.{Absent, WrongKind, 
 use Rattle.cni_addr.proofs.MacTexts.{mac_read_is_spelled}
 use Rattle.cni_addr.specs.declared.mac.Mac.{Mac}
 use Rattle.cni_addr.specs.MacText.{IsMac, mac_of_text}
-use Rattle.net_conf.proofs.Endings.{goes, ok_same, passed, not_refused}
+use Rattle.cni_json.proofs.Endings.{goes, ok_same, passed}
 use Rattle.net_conf.proofs.JsonOrder.{IsBelowAll, IsOrdered, HasOrder, get-ordered}
 use Rattle.net_conf.specs.Members.{flag_at, is_mtu}
 use Rattle.net_conf.specs.Tuning.{has_part, setting_or_refused, setting_of, is_null, settings_of, sysctl_of, sysctl_at, mac_or_refused, new_mac_of, new_mac_at, new_mtu_of, new_mtu_at, queue_length_of, queue_length_at, tuning_at}

@@ -1,10 +1,10 @@
 -- One more step through a text, and through the members of an object.
-use Rattle.std.proofs.Common.{◌≡◌, ℕ, zero, suc, ◌+◌, ◌<◌, ◌||◌, cond, Bool, true, false, List, [], ◌∷◌, ◌++◌, length, drop, nat_eq, Result, Ok, Err, refl, sym, ap, arith, add-one, append_assoc}
+use Rattle.std.proofs.Common.{◌≡◌, ℕ, zero, suc, ◌+◌, ◌<◌, ◌||◌, false, List, [], ◌∷◌, ◌++◌, length, drop, nat_eq, Result, Ok, Err, refl, sym, ap, arith, add-one, append_assoc}
 use Rattle.std.proofs.lemmas.List.{take_rest}
 use Rattle.std.specs.List.{starts_with}
 use Rattle.cni_json.specs.Outcome.{◌>>=◌}
 use Rattle.serde_json.specs.Data.{Data, Members, member}
-use Rattle.net_conf.specs.Members.{with_front}
+use Rattle.cni_json.specs.Each.{with_front}
 use Rattle.net_conf.specs.Tuning.{has_part, settings_of, setting_of, is_null}
 use Rattle.net_conf.specs.declared.chained.Sysctl.{Sysctl}
 use Rattle.net_conf.specs.declared.error.ConfError.{ConfError}

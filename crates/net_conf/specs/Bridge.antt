@@ -1,5 +1,5 @@
 -- The configuration of the `bridge` plugin, key by key in the order of its refusals.
-use Rattle.std.specs.Prelude.{◌&&◌, ◌||◌, ℕ, List, [], ◌∷◌, codes, Bool, true, false, if◌then◌else◌, Result, Ok, Err, ⊤}
+use Rattle.std.specs.Prelude.{◌&&◌, ◌||◌, ℕ, List, [], ◌∷◌, codes, Bool, true, false, if◌then◌else◌, Result, Ok, ⊤}
 use Rattle.serde_json.specs.Data.{Data}
 use Rattle.cni_json.specs.Fields.{text_field}
 use Rattle.cni_json.specs.Outcome.{◌>>=◌}

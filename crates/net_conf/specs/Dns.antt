@@ -1,12 +1,13 @@
 -- The configuration of name resolution (CNI specification 1.1.0, section 1, `dns`).
-use Rattle.std.specs.Prelude.{ℕ, List, [], codes, Result, Ok, Err}
+use Rattle.std.specs.Prelude.{ℕ, List, [], codes, Result, Ok}
 use Rattle.serde_json.specs.Data.{Data, string, Items}
 use Rattle.cni_json.specs.Fields.{text_field, list_field, object_field}
 use Rattle.cni_json.specs.Outcome.{◌>>=◌}
 use Rattle.cni_json.specs.declared.fields.Field.{Field}
 use Rattle.cni_json.specs.declared.fields.Field.TheVariants.{Absent, WrongKind, Here}
+use Rattle.cni_result.specs.Reading.{no_dns}
 use Rattle.cni_result.specs.declared.result.Dns.{Dns}
-use Rattle.net_conf.specs.Members.{each}
+use Rattle.cni_json.specs.Each.{each}
 use Rattle.net_conf.specs.Refusals.{invalid}
 use Rattle.net_conf.specs.declared.error.ConfError.{ConfError}
 
@@ -43,9 +44,6 @@ dns_members_at d = do
   searched ← texts_at (codes "search") d
   options ← texts_at (codes "options") d
   Ok (record { nameservers = nameservers; domain = domain; search = searched; options = options })
-
-abbrev pub no_dns : Dns
-no_dns = record { nameservers = []; domain = []; search = []; options = [] }
 
 abbrev pub dns_of : Field Data → Result Dns ConfError
 dns_of Absent = Ok no_dns

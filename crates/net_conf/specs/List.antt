@@ -1,7 +1,7 @@
 -- A network list, part by part in the order of its refusals (CNI specification 1.1.0, section 1).
 use Rattle.std.specs.Prelude.{ℕ, List, [], codes, Bool, true, false, if◌then◌else◌, Result, Ok, Err, Option, Some, None, ⊤}
 use Rattle.std.specs.Str.{bytes_eq}
-use Rattle.serde_json.specs.Data.{Data, null, boolean, number, string, array, object}
+use Rattle.serde_json.specs.Data.{Data, null, boolean, number, string, object}
 use Rattle.serde_json.specs.Find.{get}
 use Rattle.cni_json.specs.Json.{json_of}
 use Rattle.cni_json.specs.Fields.{text_field}

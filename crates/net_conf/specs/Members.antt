@@ -1,26 +1,11 @@
 -- Members of a plugin's object, each with its refusal.
-use Rattle.std.specs.Prelude.{◌==◌, ◌&&◌, ℕ, List, [], ◌∷◌, ◌++◌, codes, Bool, nat_le, if◌then◌else◌, Result, Ok, Err}
-use Rattle.serde_json.specs.Data.{Data, Items, no_items, item}
+use Rattle.std.specs.Prelude.{◌==◌, ◌&&◌, ℕ, List, codes, Bool, nat_le, if◌then◌else◌, Result, Ok}
+use Rattle.serde_json.specs.Data.{Data}
 use Rattle.cni_json.specs.Fields.{bool_field, u64_field}
-use Rattle.cni_json.specs.Outcome.{◌>>=◌}
 use Rattle.cni_json.specs.declared.fields.Field.{Field}
 use Rattle.cni_json.specs.declared.fields.Field.TheVariants.{Absent, WrongKind, Here}
 use Rattle.net_conf.specs.Refusals.{invalid}
 use Rattle.net_conf.specs.declared.error.ConfError.{ConfError}
-
--- each item is read, up to the first refusal
-abbrev pub each : {A : Type 0} → (Data → Result A ConfError) → Items → Result (List A) ConfError
-each read no_items = Ok []
-each read (item d ds) = do
-  first ← read d
-  rest ← each read ds
-  Ok (first ∷ rest)
-
--- these first, and then those that are read
-abbrev pub with_front : {A : Type 0} → List A → Result (List A) ConfError → Result (List A) ConfError
-with_front front r = do
-  rest ← r
-  Ok (front ++ rest)
 
 -- a truth value, or the default where there is none
 abbrev pub flag_of : List ℕ → Bool → Field Bool → Result Bool ConfError

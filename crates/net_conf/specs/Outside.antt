@@ -2,7 +2,7 @@
 use Rattle.std.specs.Prelude.{◌==◌, ◌||◌, ℕ, List, [], ◌∷◌, codes, Bool, true, false, not, if◌then◌else◌, Result, Ok, Err, Option, Some, None, ⊤, map}
 use Rattle.std.specs.Str.{bytes_eq}
 use Rattle.std.specs.Borrow.{Bor}
-use Rattle.serde_json.specs.Data.{Data, null, boolean, number, string, array, object, Num, Items, no_items, item, unsigned}
+use Rattle.serde_json.specs.Data.{Data, null, boolean, number, string, array, no_items, unsigned}
 use Rattle.serde_json.specs.Find.{get}
 use Rattle.serde_json.specs.Written.{compact_text}
 use Rattle.cni_json.specs.Outcome.{◌>>=◌}

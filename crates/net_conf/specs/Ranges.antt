@@ -1,5 +1,5 @@
 -- A range of addresses (the `host-local` plugin, `subnet`, `rangeStart`, `rangeEnd` and `gateway`).
-use Rattle.std.specs.Prelude.{◌+◌, ◌-◌, ◌==◌, ◌&&◌, ℕ, List, [], ◌∷◌, codes, Bool, true, false, nat_le, nat_lt, if◌then◌else◌, Result, Ok, Err, Option, Some, None, ⊤}
+use Rattle.std.specs.Prelude.{◌+◌, ◌-◌, ◌&&◌, ℕ, List, codes, Bool, nat_le, nat_lt, if◌then◌else◌, Result, Ok, Option, Some, None, ⊤}
 use Rattle.serde_json.specs.Data.{Data}
 use Rattle.cni_json.specs.Fields.{text_field}
 use Rattle.cni_json.specs.Outcome.{◌>>=◌}

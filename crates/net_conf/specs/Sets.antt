@@ -1,7 +1,7 @@
 -- The sets of ranges (the `host-local` plugin, `ranges`, and the older form `subnet`).
-use Rattle.std.specs.Prelude.{◌+◌, ◌&&◌, ℕ, suc, List, [], ◌∷◌, codes, Bool, true, false, nat_le, if◌then◌else◌, Result, Ok, Err, Option, Some, None, ⊤}
+use Rattle.std.specs.Prelude.{◌+◌, ◌&&◌, ℕ, suc, List, [], ◌∷◌, codes, Bool, true, false, nat_le, if◌then◌else◌, Result, Ok, Option, Some, None, ⊤}
 use Rattle.std.specs.List.{list_all, flat_map}
-use Rattle.serde_json.specs.Data.{Data, null, boolean, number, string, array, object, Items, no_items, item}
+use Rattle.serde_json.specs.Data.{Data, null, array, object, Items, no_items, item}
 use Rattle.serde_json.specs.Find.{get}
 use Rattle.cni_json.specs.Fields.{list_field}
 use Rattle.cni_json.specs.Outcome.{◌>>=◌}
@@ -12,7 +12,7 @@ use Rattle.cni_addr.specs.declared.range.Range.{Range}
 use Rattle.cni_addr.specs.declared.range.RangeSet.{RangeSet}
 use Rattle.cni_addr.specs.Codes.{family_eq}
 use Rattle.ip_pool.specs.Pool.{are_apart}
-use Rattle.net_conf.specs.Members.{each, with_front}
+use Rattle.cni_json.specs.Each.{each, with_front}
 use Rattle.net_conf.specs.Ranges.{range_at}
 use Rattle.net_conf.specs.Refusals.{invalid}
 use Rattle.net_conf.specs.declared.error.ConfError.{ConfError}

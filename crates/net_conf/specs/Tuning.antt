@@ -1,8 +1,8 @@
 -- The configuration of the `tuning` plugin, key by key in the order of its refusals.
-use Rattle.std.specs.Prelude.{◌==◌, ◌||◌, ℕ, List, [], ◌∷◌, codes, Bool, true, false, nat_eq, nat_le, not, if◌then◌else◌, Result, Ok, Err, Option, Some, None, ⊤}
+use Rattle.std.specs.Prelude.{◌==◌, ◌||◌, ℕ, List, [], ◌∷◌, codes, Bool, true, false, nat_eq, nat_le, not, if◌then◌else◌, Result, Ok, Err, Option, Some, None}
 use Rattle.std.specs.List.{starts_with}
 use Rattle.std.specs.Str.{bytes_eq}
-use Rattle.serde_json.specs.Data.{Data, null, boolean, number, string, array, object, Members, no_members, member}
+use Rattle.serde_json.specs.Data.{Data, null, string, object, Members, no_members, member}
 use Rattle.serde_json.specs.Find.{get}
 use Rattle.serde_json.specs.Written.{compact_text}
 use Rattle.cni_json.specs.Fields.{text_field, u64_field}

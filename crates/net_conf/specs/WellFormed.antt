@@ -1,5 +1,5 @@
 -- What every network list that is read keeps.
-use Rattle.std.specs.Prelude.{◌≡◌, ℕ, ◌<◌, ◌≤◌, ◌^◌, ◌&&◌, List, length, codes, IsTrue, false, nat_eq, All, Option, Some, None, map, ⊤}
+use Rattle.std.specs.Prelude.{◌≡◌, ℕ, ◌<◌, ◌≤◌, ◌^◌, ◌&&◌, length, codes, IsTrue, false, nat_eq, All, Option, Some, None, map, ⊤}
 use Rattle.std.specs.List.{IsDistinct, starts_with}
 use Rattle.std.specs.Str.{bytes_eq}
 use Rattle.cni_addr.specs.declared.address.Addr.{Addr}

@@ -33,7 +33,7 @@ pub struct BridgeModes {
 }
 
 /// The configuration of the `bridge` plugin, from its object in a list.
-#[tactic(auto, using(crate::proofs::Steps::steps), unfolding(crate::specs::Bridge::bridge_at))]
+#[tactic(auto, using(cni_json::proofs::Steps::steps), unfolding(crate::specs::Bridge::bridge_at))]
 pub fn bridge(alloc: Global, object: &Value) -> Result<BridgeConf, ConfError>
     requires { has_float (view object.now) ≡ false }
     ensures { GivesAs is_want_of_memory (λ conf. conf) result (wanted.bridge_at (view object.now)) }
@@ -78,7 +78,7 @@ fn bridge_supported(alloc: Global, object: &Value) -> Result<(), ConfError>
     )
 }
 
-#[tactic(auto, using(crate::proofs::Steps::steps), unfolding(crate::specs::Bridge::bridge_name_at))]
+#[tactic(auto, using(cni_json::proofs::Steps::steps), unfolding(crate::specs::Bridge::bridge_name_at))]
 fn bridge_name(alloc: Global, object: &Value) -> Result<Text, ConfError>
     ensures { GivesAs is_want_of_memory (λ name. name) result (wanted.bridge_name_at (view object.now)) }
 {
@@ -89,7 +89,7 @@ fn bridge_name(alloc: Global, object: &Value) -> Result<Text, ConfError>
     }
 }
 
-#[tactic(auto, using(crate::proofs::Steps::steps), unfolding(crate::specs::Bridge::gateway_role_at))]
+#[tactic(auto, using(cni_json::proofs::Steps::steps), unfolding(crate::specs::Bridge::gateway_role_at))]
 fn gateway_role(alloc: Global, object: &Value) -> Result<GatewayRole, ConfError>
     ensures { GivesAs is_want_of_memory (λ role. role) result (wanted.gateway_role_at (view object.now)) }
 {
@@ -101,7 +101,7 @@ fn gateway_role(alloc: Global, object: &Value) -> Result<GatewayRole, ConfError>
     })
 }
 
-#[tactic(auto, using(crate::proofs::Steps::steps), unfolding(crate::specs::Bridge::modes_at))]
+#[tactic(auto, using(cni_json::proofs::Steps::steps), unfolding(crate::specs::Bridge::modes_at))]
 fn modes(alloc: Global, object: &Value) -> Result<BridgeModes, ConfError>
     ensures { GivesAs is_want_of_memory (λ modes. modes) result (wanted.modes_at (view object.now)) }
 {
@@ -110,7 +110,7 @@ fn modes(alloc: Global, object: &Value) -> Result<BridgeModes, ConfError>
     Ok(modes)
 }
 
-#[tactic(auto, using(crate::proofs::Steps::steps), unfolding(crate::specs::Bridge::mode_flags_at))]
+#[tactic(auto, using(cni_json::proofs::Steps::steps), unfolding(crate::specs::Bridge::mode_flags_at))]
 fn mode_flags(alloc: Global, object: &Value) -> Result<BridgeModes, ConfError>
     ensures { GivesAs is_want_of_memory (λ modes. modes) result (wanted.mode_flags_at (view object.now)) }
 {
@@ -126,7 +126,7 @@ fn promisc(alloc: Global, object: &Value) -> Result<bool, ConfError>
     flag(alloc, object, "promiscMode", false)
 }
 
-#[tactic(auto, using(crate::proofs::Steps::steps), unfolding(crate::specs::Bridge::not_both))]
+#[tactic(auto, using(cni_json::proofs::Steps::steps), unfolding(crate::specs::Bridge::not_both))]
 fn not_both(alloc: Global, modes: BridgeModes) -> Result<(), ConfError>
     ensures { GivesAs is_want_of_memory (λ t. t) result (wanted.not_both modes) }
 {

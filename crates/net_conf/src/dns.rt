@@ -5,40 +5,29 @@ ghost use Rattle.std.specs.Prelude.{Ok, codes};
 ghost use Rattle.cni_json.specs.Outcome.{GivesAs, TellsAs};
 ghost use Rattle.net_conf.specs.declared.error.ConfError.TheVariants as refusal;
 ghost use Rattle.net_conf.specs.Dns as dns;
-ghost use Rattle.net_conf.specs.Members.{each};
+ghost use Rattle.cni_json.specs.Each.{each};
 ghost use Rattle.net_conf.specs.Refusals.{is_want_of_memory};
 
 use crate::error::{ConfError, invalid};
 use cni_addr::{Items, Text};
 use cni_json::{Field, Value, field_list, field_object, field_str};
-use cni_result::Dns;
+use cni_result::{Dns, no_dns};
 use std::alloc::Global;
 
 /// The configuration of name resolution, which is handed on (CNI specification 1.1.0, section 1, `dns`). Where it is
 /// absent each list is empty and the domain is the empty text.
-#[tactic(auto, using(crate::proofs::Steps::steps), unfolding(crate::specs::Dns::dns_at))]
+#[tactic(auto, using(cni_json::proofs::Steps::steps), unfolding(crate::specs::Dns::dns_at))]
 pub fn dns(alloc: Global, object: &Value) -> Result<Dns, ConfError>
     ensures { GivesAs is_want_of_memory (λ found. found) result (dns.dns_at (view object.now)) }
 {
     match field_object(object, "dns") {
-        Field::Absent => no_dns(alloc),
+        Field::Absent => Ok(no_dns(alloc)?),
         Field::WrongKind => Err(wrong(alloc)),
         Field::Here(members) => dns_members(alloc, members),
     }
 }
 
-fn no_dns(alloc: Global) -> Result<Dns, ConfError>
-    ensures { GivesAs is_want_of_memory (λ found. found) result (Ok dns.no_dns) }
-{
-    Ok(Dns {
-        nameservers: Items::new(alloc),
-        domain: Text::of(alloc, "")?,
-        search: Items::new(alloc),
-        options: Items::new(alloc),
-    })
-}
-
-#[tactic(auto, using(crate::proofs::Steps::steps), unfolding(crate::specs::Dns::dns_members_at))]
+#[tactic(auto, using(cni_json::proofs::Steps::steps), unfolding(crate::specs::Dns::dns_members_at))]
 fn dns_members(alloc: Global, members: &Value) -> Result<Dns, ConfError>
     ensures { GivesAs is_want_of_memory (λ found. found) result (dns.dns_members_at (view members.now)) }
 {
@@ -54,7 +43,7 @@ fn dns_members(alloc: Global, members: &Value) -> Result<Dns, ConfError>
     })
 }
 
-#[tactic(auto, using(crate::proofs::Steps::steps), unfolding(crate::specs::Dns::domain_at))]
+#[tactic(auto, using(cni_json::proofs::Steps::steps), unfolding(crate::specs::Dns::domain_at))]
 fn domain(alloc: Global, members: &Value) -> Result<Text, ConfError>
     ensures { GivesAs is_want_of_memory (λ text. text) result (dns.domain_at (view members.now)) }
 {
@@ -65,7 +54,7 @@ fn domain(alloc: Global, members: &Value) -> Result<Text, ConfError>
     }
 }
 
-#[tactic(auto, using(crate::proofs::Steps::steps), unfolding(crate::specs::Dns::texts_at))]
+#[tactic(auto, using(cni_json::proofs::Steps::steps), unfolding(crate::specs::Dns::texts_at))]
 fn texts(alloc: Global, members: &Value, key: &str) -> Result<Items<Text>, ConfError>
     ensures { GivesAs is_want_of_memory (λ texts. texts) result (dns.texts_at key.now (view members.now)) }
 {
@@ -76,7 +65,7 @@ fn texts(alloc: Global, members: &Value, key: &str) -> Result<Items<Text>, ConfE
     }
 }
 
-#[tactic(auto, using(crate::proofs::Steps::steps))]
+#[tactic(auto, using(cni_json::proofs::Steps::steps))]
 fn all_texts(alloc: Global, list: &[Value]) -> Result<Items<Text>, ConfError>
     ensures { GivesAs is_want_of_memory (λ texts. texts) result (each dns.text_of (items_view list.now)) }
 {
@@ -88,7 +77,7 @@ fn all_texts(alloc: Global, list: &[Value]) -> Result<Items<Text>, ConfError>
     Ok(found)
 }
 
-#[tactic(auto, using(crate::proofs::Steps::steps))]
+#[tactic(auto, using(cni_json::proofs::Steps::steps))]
 fn text(alloc: Global, member: &Value) -> Result<Text, ConfError>
     ensures { GivesAs is_want_of_memory (λ text. text) result (dns.text_of (view member.now)) }
 {

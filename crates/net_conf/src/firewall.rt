@@ -15,7 +15,7 @@ use cni_json::Value;
 use std::alloc::Global;
 
 /// The configuration of the `firewall` plugin, from its object in a list.
-#[tactic(auto, using(crate::proofs::Steps::steps), unfolding(crate::specs::Firewall::firewall_at))]
+#[tactic(auto, using(cni_json::proofs::Steps::steps), unfolding(crate::specs::Firewall::firewall_at))]
 pub fn firewall(alloc: Global, object: &Value) -> Result<FirewallConf, ConfError>
     requires { has_float (view object.now) ≡ false }
     ensures { GivesAs is_want_of_memory (λ conf. conf) result (wanted.firewall_at (view object.now)) }

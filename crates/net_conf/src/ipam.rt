@@ -25,7 +25,7 @@ pub struct Addressing {
 }
 
 /// The `dns` and the `ipam` of a plugin's object.
-#[tactic(auto, using(crate::proofs::Steps::steps), unfolding(crate::specs::Ipam::addressing_at))]
+#[tactic(auto, using(cni_json::proofs::Steps::steps), unfolding(crate::specs::Ipam::addressing_at))]
 pub fn addressing_of(alloc: Global, plugin: &Value) -> Result<Addressing, ConfError>
     requires { has_float (view plugin.now) ≡ false }
     ensures { GivesAs is_want_of_memory (λ found. found) result (wanted.addressing_at (view plugin.now)) }
@@ -37,7 +37,7 @@ pub fn addressing_of(alloc: Global, plugin: &Value) -> Result<Addressing, ConfEr
 
 /// The configuration of address management, None where the plugin is to give no address: `ipam` is absent or has no
 /// members.
-#[tactic(auto, using(crate::proofs::Steps::steps, cni_json::proofs::WholeNumbers::parts_are_whole), unfolding(crate::specs::Ipam::ipam_at))]
+#[tactic(auto, using(cni_json::proofs::Steps::steps, cni_json::proofs::WholeNumbers::parts_are_whole), unfolding(crate::specs::Ipam::ipam_at))]
 fn ipam(alloc: Global, plugin: &Value) -> Result<Option<HostLocalConf>, ConfError>
     requires { has_float (view plugin.now) ≡ false }
     ensures { GivesAs is_want_of_memory (λ conf. conf) result (wanted.ipam_at (view plugin.now)) }
@@ -75,7 +75,7 @@ fn all_null(members: &Map<String, Value>) -> bool
     true
 }
 
-#[tactic(auto, using(crate::proofs::Steps::steps), unfolding(crate::specs::Ipam::host_local_at))]
+#[tactic(auto, using(cni_json::proofs::Steps::steps), unfolding(crate::specs::Ipam::host_local_at))]
 fn host_local(alloc: Global, object: &Value) -> Result<HostLocalConf, ConfError>
     requires { has_float (view object.now) ≡ false }
     ensures { GivesAs is_want_of_memory (λ conf. conf) result (wanted.host_local_at (view object.now)) }
@@ -88,7 +88,7 @@ fn host_local(alloc: Global, object: &Value) -> Result<HostLocalConf, ConfError>
     Ok(HostLocalConf { sets, routes })
 }
 
-#[tactic(auto, using(crate::proofs::Steps::steps))]
+#[tactic(auto, using(cni_json::proofs::Steps::steps))]
 fn ipam_object(alloc: Global, object: &Value) -> Result<(), ConfError>
     ensures { GivesAs is_want_of_memory (λ t. t) result (wanted.ipam_object (view object.now)) }
 {
@@ -99,7 +99,7 @@ fn ipam_object(alloc: Global, object: &Value) -> Result<(), ConfError>
     }
 }
 
-#[tactic(auto, using(crate::proofs::Steps::steps, cni_json::proofs::WholeNumbers::parts_are_whole), unfolding(crate::specs::Ipam::manager_at))]
+#[tactic(auto, using(cni_json::proofs::Steps::steps, cni_json::proofs::WholeNumbers::parts_are_whole), unfolding(crate::specs::Ipam::manager_at))]
 fn manager(alloc: Global, object: &Value) -> Result<(), ConfError>
     requires { has_float (view object.now) ≡ false }
     ensures { GivesAs is_want_of_memory (λ t. t) result (wanted.manager_at (view object.now)) }

@@ -19,7 +19,7 @@ use cni_json::{Field, Value, field_str};
 use std::alloc::Global;
 
 /// The configuration of the `macvlan` plugin, from its object in a list.
-#[tactic(auto, using(crate::proofs::Steps::steps), unfolding(crate::specs::Macvlan::macvlan_at))]
+#[tactic(auto, using(cni_json::proofs::Steps::steps), unfolding(crate::specs::Macvlan::macvlan_at))]
 pub fn macvlan(alloc: Global, object: &Value) -> Result<MacvlanConf, ConfError>
     requires { has_float (view object.now) ≡ false }
     ensures { GivesAs is_want_of_memory (λ conf. conf) result (wanted.macvlan_at (view object.now)) }
@@ -49,7 +49,7 @@ fn macvlan_supported(alloc: Global, object: &Value) -> Result<(), ConfError>
     )
 }
 
-#[tactic(auto, using(crate::proofs::Steps::steps), unfolding(crate::specs::Macvlan::master_at))]
+#[tactic(auto, using(cni_json::proofs::Steps::steps), unfolding(crate::specs::Macvlan::master_at))]
 fn master(alloc: Global, object: &Value) -> Result<Text, ConfError>
     ensures { GivesAs is_want_of_memory (λ name. name) result (wanted.master_at (view object.now)) }
 {
@@ -59,7 +59,7 @@ fn master(alloc: Global, object: &Value) -> Result<Text, ConfError>
     }
 }
 
-#[tactic(auto, using(crate::proofs::Steps::steps), unfolding(crate::specs::Macvlan::mode_at))]
+#[tactic(auto, using(cni_json::proofs::Steps::steps), unfolding(crate::specs::Macvlan::mode_at))]
 fn mode(alloc: Global, object: &Value) -> Result<MacvlanMode, ConfError>
     ensures { GivesAs is_want_of_memory (λ mode. mode) result (wanted.mode_at (view object.now)) }
 {

@@ -10,7 +10,7 @@ use cni_json::{Field, Value, field_bool, field_u64};
 use std::alloc::Global;
 
 /// A truth value, or the default where it is absent.
-#[tactic(auto, using(crate::proofs::Steps::steps), unfolding(crate::specs::Members::flag_at))]
+#[tactic(auto, using(cni_json::proofs::Steps::steps), unfolding(crate::specs::Members::flag_at))]
 pub fn flag(alloc: Global, object: &Value, key: &str, default: bool) -> Result<bool, ConfError>
     ensures { GivesAs is_want_of_memory (λ b. b) result (members.flag_at key.now default (view object.now)) }
 {
@@ -22,7 +22,7 @@ pub fn flag(alloc: Global, object: &Value, key: &str, default: bool) -> Result<b
 }
 
 /// The MTU of links, in bytes: 68 to 65535. 0 stands for 1500, as does an absent one.
-#[tactic(auto, using(crate::proofs::Steps::steps), unfolding(crate::specs::Members::mtu_at))]
+#[tactic(auto, using(cni_json::proofs::Steps::steps), unfolding(crate::specs::Members::mtu_at))]
 pub fn mtu(alloc: Global, object: &Value) -> Result<u32, ConfError>
     ensures { GivesAs is_want_of_memory (λ n. n) result (members.mtu_at (view object.now)) }
 {

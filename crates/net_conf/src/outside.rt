@@ -49,7 +49,7 @@ fn is_accepted(accepted: Accepted, value: &Value) -> bool
 }
 
 /// Refuses a value of the key that is neither absent, null nor accepted.
-#[tactic(auto, using(crate::proofs::Steps::steps, cni_json::proofs::WholeNumbers::parts_are_whole), unfolding(crate::specs::Outside::supported))]
+#[tactic(auto, using(cni_json::proofs::Steps::steps, cni_json::proofs::WholeNumbers::parts_are_whole), unfolding(crate::specs::Outside::supported))]
 pub fn supported(
     alloc: Global,
     object: &Value,
@@ -72,7 +72,7 @@ pub fn supported(
 }
 
 /// Refuses the first key of the rows whose value is neither absent, null nor accepted.
-#[tactic(auto, using(crate::proofs::Steps::steps))]
+#[tactic(auto, using(cni_json::proofs::Steps::steps))]
 pub fn all_supported(
     alloc: Global,
     object: &Value,

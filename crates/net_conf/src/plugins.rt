@@ -30,7 +30,7 @@ pub struct PluginChain {
 }
 
 /// The plugins of a list: one that makes the interface, and then those that change it.
-#[tactic(auto, using(crate::proofs::Steps::steps), unfolding(crate::specs::Plugins::chain_at))]
+#[tactic(auto, using(cni_json::proofs::Steps::steps), unfolding(crate::specs::Plugins::chain_at))]
 pub fn plugin_chain(alloc: Global, top: &Value) -> Result<PluginChain, ConfError>
     requires { has_float (view top.now) ≡ false }
     ensures { GivesAs is_want_of_memory (λ chain. chain) result (wanted.chain_at (view top.now)) }
@@ -41,7 +41,7 @@ pub fn plugin_chain(alloc: Global, top: &Value) -> Result<PluginChain, ConfError
     Ok(PluginChain { first, chained })
 }
 
-#[tactic(auto, using(crate::proofs::Steps::steps, cni_json::proofs::WholeNumbers::parts_are_whole), unfolding(crate::specs::Plugins::plugins_at))]
+#[tactic(auto, using(cni_json::proofs::Steps::steps, cni_json::proofs::WholeNumbers::parts_are_whole), unfolding(crate::specs::Plugins::plugins_at))]
 fn plugins<'a>(alloc: Global, top: &'a Value) -> Result<&'a [Value], ConfError>
     requires { has_float (view top.now) ≡ false }
     ensures given { GivesAs is_want_of_memory (λ list. items_view list.now) result (wanted.plugins_at (view top.entry.now)) }
@@ -54,7 +54,7 @@ fn plugins<'a>(alloc: Global, top: &'a Value) -> Result<&'a [Value], ConfError>
 }
 
 /// The plugin that makes the interface, of which there must be one.
-#[tactic(auto, using(crate::proofs::Steps::steps, cni_json::proofs::WholeNumbers::parts_are_whole))]
+#[tactic(auto, using(cni_json::proofs::Steps::steps, cni_json::proofs::WholeNumbers::parts_are_whole))]
 fn first_plugin(alloc: Global, plugins: &[Value]) -> Result<First, ConfError>
     requires { items_have_float (items_view plugins.now) ≡ false }
     ensures { GivesAs is_want_of_memory (λ plugin. plugin) result (wanted.first_plugin (items_view plugins.now)) }
@@ -66,7 +66,7 @@ fn first_plugin(alloc: Global, plugins: &[Value]) -> Result<First, ConfError>
 }
 
 /// The plugins after the first, in order.
-#[tactic(auto, using(crate::proofs::Steps::steps, crate::proofs::ValueLemmas::by_length, cni_json::proofs::WholeNumbers::parts_are_whole))]
+#[tactic(auto, using(cni_json::proofs::Steps::steps, crate::proofs::ValueLemmas::by_length, cni_json::proofs::WholeNumbers::parts_are_whole))]
 fn later_plugins(alloc: Global, plugins: &[Value]) -> Result<Items<Chained>, ConfError>
     requires { items_have_float (items_view plugins.now) ≡ false }
     ensures { GivesAs is_want_of_memory (λ chained. chained) result (wanted.later_plugins (items_view plugins.now)) }
@@ -77,7 +77,7 @@ fn later_plugins(alloc: Global, plugins: &[Value]) -> Result<Items<Chained>, Con
     }
 }
 
-#[tactic(auto, using(crate::proofs::Steps::steps, cni_json::proofs::WholeNumbers::parts_are_whole))]
+#[tactic(auto, using(cni_json::proofs::Steps::steps, cni_json::proofs::WholeNumbers::parts_are_whole))]
 fn all_later(alloc: Global, plugins: &[Value]) -> Result<Items<Chained>, ConfError>
     requires { items_have_float (items_view plugins.now) ≡ false }
     ensures { GivesAs is_want_of_memory (λ chained. chained) result (wanted.chained_after [] (items_view plugins.now)) }
@@ -91,7 +91,7 @@ fn all_later(alloc: Global, plugins: &[Value]) -> Result<Items<Chained>, ConfErr
 }
 
 /// A plugin after the first and the later ones that are given.
-#[tactic(auto, using(crate::proofs::Steps::steps), unfolding(crate::specs::Plugins::later_at))]
+#[tactic(auto, using(cni_json::proofs::Steps::steps), unfolding(crate::specs::Plugins::later_at))]
 fn later(alloc: Global, before: &[Chained], plugin: &Value) -> Result<Chained, ConfError>
     requires { has_float (view plugin.now) ≡ false }
     ensures { GivesAs is_want_of_memory (λ plugin. plugin) result (wanted.later_at before.now (view plugin.now)) }
@@ -102,7 +102,7 @@ fn later(alloc: Global, before: &[Chained], plugin: &Value) -> Result<Chained, C
     later_of(alloc, plugin_type, plugin)
 }
 
-#[tactic(auto, using(crate::proofs::Steps::steps), unfolding(crate::specs::Plugins::not_repeated))]
+#[tactic(auto, using(cni_json::proofs::Steps::steps), unfolding(crate::specs::Plugins::not_repeated))]
 fn not_repeated(alloc: Global, before: &[Chained], plugin_type: PluginType) -> Result<(), ConfError>
     ensures { GivesAs is_want_of_memory (λ t. t) result (wanted.not_repeated before.now plugin_type) }
 {
@@ -125,7 +125,7 @@ fn is_of_type(plugin: &Chained, plugin_type: PluginType) -> bool
     type_of_chained(plugin) == plugin_type
 }
 
-#[tactic(auto, using(crate::proofs::Steps::steps), unfolding(crate::specs::Plugins::first_at))]
+#[tactic(auto, using(cni_json::proofs::Steps::steps), unfolding(crate::specs::Plugins::first_at))]
 fn first(alloc: Global, plugin: &Value) -> Result<First, ConfError>
     requires { has_float (view plugin.now) ≡ false }
     ensures { GivesAs is_want_of_memory (λ plugin. plugin) result (wanted.first_at (view plugin.now)) }
@@ -135,7 +135,7 @@ fn first(alloc: Global, plugin: &Value) -> Result<First, ConfError>
     first_of(alloc, plugin_type, plugin)
 }
 
-#[tactic(auto, using(crate::proofs::Steps::steps))]
+#[tactic(auto, using(cni_json::proofs::Steps::steps))]
 fn plugin_object(alloc: Global, plugin: &Value) -> Result<(), ConfError>
     ensures { GivesAs is_want_of_memory (λ t. t) result (wanted.plugin_object (view plugin.now)) }
 {
@@ -146,7 +146,7 @@ fn plugin_object(alloc: Global, plugin: &Value) -> Result<(), ConfError>
     }
 }
 
-#[tactic(auto, using(crate::proofs::Steps::steps), unfolding(crate::specs::Plugins::type_at))]
+#[tactic(auto, using(cni_json::proofs::Steps::steps), unfolding(crate::specs::Plugins::type_at))]
 fn plugin_type(alloc: Global, plugin: &Value) -> Result<PluginType, ConfError>
     ensures { GivesAs is_want_of_memory (λ kind. kind) result (wanted.type_at (view plugin.now)) }
 {
@@ -161,7 +161,7 @@ fn plugin_type(alloc: Global, plugin: &Value) -> Result<PluginType, ConfError>
     }
 }
 
-#[tactic(auto, using(crate::proofs::Steps::steps))]
+#[tactic(auto, using(cni_json::proofs::Steps::steps))]
 fn first_of(alloc: Global, plugin_type: PluginType, object: &Value) -> Result<First, ConfError>
     requires { has_float (view object.now) ≡ false }
     ensures { GivesAs is_want_of_memory (λ plugin. plugin) result (wanted.first_of plugin_type (view object.now)) }
@@ -185,7 +185,7 @@ fn first_of(alloc: Global, plugin_type: PluginType, object: &Value) -> Result<Fi
     }
 }
 
-#[tactic(auto, using(crate::proofs::Steps::steps))]
+#[tactic(auto, using(cni_json::proofs::Steps::steps))]
 fn later_of(alloc: Global, plugin_type: PluginType, object: &Value) -> Result<Chained, ConfError>
     requires { has_float (view object.now) ≡ false }
     ensures { GivesAs is_want_of_memory (λ plugin. plugin) result (wanted.later_of plugin_type (view object.now)) }

@@ -17,7 +17,7 @@ use cni_json::{Field, Value, field_bool, field_object};
 use std::alloc::Global;
 
 /// The configuration of the `portmap` plugin, from its object in a list.
-#[tactic(auto, using(crate::proofs::Steps::steps), unfolding(crate::specs::Portmap::portmap_at))]
+#[tactic(auto, using(cni_json::proofs::Steps::steps), unfolding(crate::specs::Portmap::portmap_at))]
 pub fn portmap(alloc: Global, object: &Value) -> Result<PortmapConf, ConfError>
     requires { has_float (view object.now) ≡ false }
     ensures { GivesAs is_want_of_memory (λ conf. conf) result (wanted.portmap_at (view object.now)) }
@@ -45,7 +45,7 @@ fn portmap_supported(alloc: Global, object: &Value) -> Result<(), ConfError>
     )
 }
 
-#[tactic(auto, using(crate::proofs::Steps::steps), unfolding(crate::specs::Portmap::mappings_at))]
+#[tactic(auto, using(cni_json::proofs::Steps::steps), unfolding(crate::specs::Portmap::mappings_at))]
 fn mappings(alloc: Global, object: &Value) -> Result<bool, ConfError>
     ensures { GivesAs is_want_of_memory (λ b. b) result (wanted.mappings_at (view object.now)) }
 {
@@ -56,7 +56,7 @@ fn mappings(alloc: Global, object: &Value) -> Result<bool, ConfError>
     }
 }
 
-#[tactic(auto, using(crate::proofs::Steps::steps))]
+#[tactic(auto, using(cni_json::proofs::Steps::steps))]
 fn mappings_flag(alloc: Global, capabilities: &Value) -> Result<bool, ConfError>
     ensures { GivesAs is_want_of_memory (λ b. b) result
         (wanted.mappings_flag (bool_field (codes "portMappings") (view capabilities.now))) }

@@ -15,7 +15,7 @@ use cni_json::Value;
 use std::alloc::Global;
 
 /// The configuration of the `ptp` plugin, from its object in a list.
-#[tactic(auto, using(crate::proofs::Steps::steps), unfolding(crate::specs::Ptp::ptp_at))]
+#[tactic(auto, using(cni_json::proofs::Steps::steps), unfolding(crate::specs::Ptp::ptp_at))]
 pub fn ptp(alloc: Global, object: &Value) -> Result<PtpConf, ConfError>
     requires { has_float (view object.now) ≡ false }
     ensures { GivesAs is_want_of_memory (λ conf. conf) result (wanted.ptp_at (view object.now)) }
@@ -32,7 +32,7 @@ pub fn ptp(alloc: Global, object: &Value) -> Result<PtpConf, ConfError>
     })
 }
 
-#[tactic(auto, using(crate::proofs::Steps::steps))]
+#[tactic(auto, using(cni_json::proofs::Steps::steps))]
 fn ipam_or_refused(alloc: Global, ipam: Option<HostLocalConf>) -> Result<HostLocalConf, ConfError>
     ensures { GivesAs is_want_of_memory (λ conf. conf) result (wanted.ipam_or_refused ipam) }
 {

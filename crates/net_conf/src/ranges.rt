@@ -1,10 +1,9 @@
 //! Ranges of addresses and sets of them.
 
-ghost use Rattle.std.specs.Prelude.{◌≡◌, ◌+◌, ◌-◌, true, codes, IfOk};
-ghost use Rattle.serde_json.specs.View.{view, items_view};
+ghost use Rattle.std.specs.Prelude.{◌≡◌, ◌+◌, ◌-◌, true, IfOk};
+ghost use Rattle.serde_json.specs.View.{view};
 ghost use Rattle.cni_addr.specs.Codes.{family_eq};
 ghost use Rattle.cni_json.specs.Outcome.{GivesAs};
-ghost use Rattle.net_conf.specs.Members.{each};
 ghost use Rattle.net_conf.specs.Ranges as ranges;
 ghost use Rattle.net_conf.specs.Refusals.{is_want_of_memory};
 
@@ -16,7 +15,7 @@ use cni_json::{Field, Value, field_str};
 use std::alloc::Global;
 
 /// The range that an object gives by `subnet`, `rangeStart`, `rangeEnd` and `gateway`.
-#[tactic(auto, using(crate::proofs::Steps::steps), unfolding(crate::specs::Ranges::range_at))]
+#[tactic(auto, using(cni_json::proofs::Steps::steps), unfolding(crate::specs::Ranges::range_at))]
 pub fn range(alloc: Global, object: &Value) -> Result<Range, ConfError>
     ensures { GivesAs is_want_of_memory (λ range. range) result (ranges.range_at (view object.now)) }
 {
@@ -33,7 +32,7 @@ pub fn range(alloc: Global, object: &Value) -> Result<Range, ConfError>
     })
 }
 
-#[tactic(auto, using(crate::proofs::Steps::steps), unfolding(crate::specs::Ranges::subnet_at))]
+#[tactic(auto, using(cni_json::proofs::Steps::steps), unfolding(crate::specs::Ranges::subnet_at))]
 fn subnet(alloc: Global, object: &Value) -> Result<Cidr, ConfError>
     ensures read { GivesAs is_want_of_memory (λ subnet. subnet) result (ranges.subnet_at (view object.now)) }
     ensures tested { IfOk result (λ subnet. ranges.is_subnet subnet ≡ true) }
@@ -80,7 +79,7 @@ fn last_host(subnet: &Cidr) -> Addr
     }
 }
 
-#[tactic(auto, using(crate::proofs::Steps::steps), unfolding(crate::specs::Ranges::bound_at))]
+#[tactic(auto, using(cni_json::proofs::Steps::steps), unfolding(crate::specs::Ranges::bound_at))]
 fn bound(
     alloc: Global,
     object: &Value,
@@ -100,7 +99,7 @@ fn bound(
     }
 }
 
-#[tactic(auto, using(crate::proofs::Steps::steps), unfolding(crate::specs::Ranges::in_order))]
+#[tactic(auto, using(cni_json::proofs::Steps::steps), unfolding(crate::specs::Ranges::in_order))]
 fn in_order(alloc: Global, start: &Addr, end: &Addr) -> Result<(), ConfError>
     ensures { GivesAs is_want_of_memory (λ t. t) result (ranges.in_order start.now end.now) }
 {
@@ -111,7 +110,7 @@ fn in_order(alloc: Global, start: &Addr, end: &Addr) -> Result<(), ConfError>
     }
 }
 
-#[tactic(auto, using(crate::proofs::Steps::steps), unfolding(crate::specs::Ranges::gateway_at))]
+#[tactic(auto, using(cni_json::proofs::Steps::steps), unfolding(crate::specs::Ranges::gateway_at))]
 fn gateway(alloc: Global, object: &Value, subnet: &Cidr) -> Result<Addr, ConfError>
     requires { ranges.is_subnet subnet.now ≡ true }
     ensures { GivesAs is_want_of_memory (λ addr. addr) result (ranges.gateway_at subnet.now (view object.now)) }

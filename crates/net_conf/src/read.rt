@@ -19,7 +19,7 @@ use std::alloc::Global;
 
 /// The network list that the bytes spell (CNI specification 1.1.0, section 1), or the first refusal in the order of its
 /// parts. It takes time in proportion to the bytes.
-#[tactic(auto, using(crate::proofs::Steps::steps), unfolding(crate::specs::List::list_of))]
+#[tactic(auto, using(cni_json::proofs::Steps::steps), unfolding(crate::specs::List::list_of))]
 pub fn read_list(alloc: Global, bytes: &[u8]) -> Result<NetList, ConfError>
     ensures { GivesAs is_want_of_memory (λ list. list) result (wanted.list_of bytes.now) }
 {
@@ -31,7 +31,7 @@ pub fn read_list(alloc: Global, bytes: &[u8]) -> Result<NetList, ConfError>
     }
 }
 
-#[tactic(auto, using(crate::proofs::Steps::steps), unfolding(crate::specs::List::list_at))]
+#[tactic(auto, using(cni_json::proofs::Steps::steps), unfolding(crate::specs::List::list_at))]
 fn list(alloc: Global, top: &Value) -> Result<NetList, ConfError>
     requires { has_float (view top.now) ≡ false }
     ensures { GivesAs is_want_of_memory (λ list. list) result (wanted.list_at (view top.now)) }
@@ -53,7 +53,7 @@ fn list(alloc: Global, top: &Value) -> Result<NetList, ConfError>
     })
 }
 
-#[tactic(auto, using(crate::proofs::Steps::steps))]
+#[tactic(auto, using(cni_json::proofs::Steps::steps))]
 fn list_object(alloc: Global, top: &Value) -> Result<(), ConfError>
     ensures { GivesAs is_want_of_memory (λ t. t) result (wanted.list_object (view top.now)) }
 {
@@ -64,7 +64,7 @@ fn list_object(alloc: Global, top: &Value) -> Result<(), ConfError>
     }
 }
 
-#[tactic(auto, using(crate::proofs::Steps::steps), unfolding(crate::specs::List::version_at))]
+#[tactic(auto, using(cni_json::proofs::Steps::steps), unfolding(crate::specs::List::version_at))]
 fn version(alloc: Global, top: &Value) -> Result<Version, ConfError>
     ensures { GivesAs is_want_of_memory (λ version. version) result (wanted.version_at (view top.now)) }
 {
@@ -77,7 +77,7 @@ fn version(alloc: Global, top: &Value) -> Result<Version, ConfError>
     }
 }
 
-#[tactic(auto, using(crate::proofs::Steps::steps), unfolding(crate::specs::List::name_at))]
+#[tactic(auto, using(cni_json::proofs::Steps::steps), unfolding(crate::specs::List::name_at))]
 fn name(alloc: Global, top: &Value) -> Result<Text, ConfError>
     ensures { GivesAs is_want_of_memory (λ name. name) result (wanted.name_at (view top.now)) }
 {
@@ -88,7 +88,7 @@ fn name(alloc: Global, top: &Value) -> Result<Text, ConfError>
 }
 
 /// A truth value, or the text of one. Absent is false.
-#[tactic(auto, using(crate::proofs::Steps::steps), unfolding(crate::specs::List::switch_at))]
+#[tactic(auto, using(cni_json::proofs::Steps::steps), unfolding(crate::specs::List::switch_at))]
 fn switch(alloc: Global, top: &Value, key: &str) -> Result<bool, ConfError>
     ensures { GivesAs is_want_of_memory (λ b. b) result (wanted.switch_at key.now (view top.now)) }
 {

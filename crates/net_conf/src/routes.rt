@@ -3,7 +3,7 @@
 ghost use Rattle.std.specs.Prelude.{codes};
 ghost use Rattle.serde_json.specs.View.{view, items_view};
 ghost use Rattle.cni_json.specs.Outcome.{GivesAs, TellsAs};
-ghost use Rattle.net_conf.specs.Members.{each};
+ghost use Rattle.cni_json.specs.Each.{each};
 ghost use Rattle.net_conf.specs.Routes as routes;
 ghost use Rattle.net_conf.specs.Refusals.{is_want_of_memory};
 ghost use Rattle.net_conf.specs.declared.error.ConfError.TheVariants as refusal;
@@ -15,7 +15,7 @@ use cni_result::RouteEntry;
 use std::alloc::Global;
 
 /// The routes, none where there is no list of them.
-#[tactic(auto, using(crate::proofs::Steps::steps), unfolding(crate::specs::Routes::routes_at))]
+#[tactic(auto, using(cni_json::proofs::Steps::steps), unfolding(crate::specs::Routes::routes_at))]
 pub fn routes(alloc: Global, object: &Value) -> Result<Items<RouteEntry>, ConfError>
     ensures { GivesAs is_want_of_memory (λ routes. routes) result (routes.routes_at (view object.now)) }
 {
@@ -26,7 +26,7 @@ pub fn routes(alloc: Global, object: &Value) -> Result<Items<RouteEntry>, ConfEr
     }
 }
 
-#[tactic(auto, using(crate::proofs::Steps::steps))]
+#[tactic(auto, using(cni_json::proofs::Steps::steps))]
 fn all_routes(alloc: Global, list: &[Value]) -> Result<Items<RouteEntry>, ConfError>
     ensures { GivesAs is_want_of_memory (λ routes. routes) result (each routes.route_at (items_view list.now)) }
 {
@@ -38,7 +38,7 @@ fn all_routes(alloc: Global, list: &[Value]) -> Result<Items<RouteEntry>, ConfEr
     Ok(found)
 }
 
-#[tactic(auto, using(crate::proofs::Steps::steps), unfolding(crate::specs::Routes::route_at))]
+#[tactic(auto, using(cni_json::proofs::Steps::steps), unfolding(crate::specs::Routes::route_at))]
 fn route(alloc: Global, member: &Value) -> Result<RouteEntry, ConfError>
     ensures { GivesAs is_want_of_memory (λ route. route) result (routes.route_at (view member.now)) }
 {
@@ -47,7 +47,7 @@ fn route(alloc: Global, member: &Value) -> Result<RouteEntry, ConfError>
     Ok(RouteEntry { dst, gw })
 }
 
-#[tactic(auto, using(crate::proofs::Steps::steps), unfolding(crate::specs::Routes::destination_at))]
+#[tactic(auto, using(cni_json::proofs::Steps::steps), unfolding(crate::specs::Routes::destination_at))]
 fn destination(alloc: Global, member: &Value) -> Result<Cidr, ConfError>
     ensures { GivesAs is_want_of_memory (λ dst. dst) result (routes.destination_at (view member.now)) }
 {
@@ -60,7 +60,7 @@ fn destination(alloc: Global, member: &Value) -> Result<Cidr, ConfError>
     }
 }
 
-#[tactic(auto, using(crate::proofs::Steps::steps), unfolding(crate::specs::Routes::hop_at))]
+#[tactic(auto, using(cni_json::proofs::Steps::steps), unfolding(crate::specs::Routes::hop_at))]
 fn hop(alloc: Global, member: &Value, family: Family) -> Result<Option<Addr>, ConfError>
     ensures { GivesAs is_want_of_memory (λ gw. gw) result (routes.hop_at family (view member.now)) }
 {

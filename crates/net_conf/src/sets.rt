@@ -6,8 +6,7 @@ ghost use Rattle.serde_json.specs.Data.{array};
 ghost use Rattle.serde_json.specs.Find.{get};
 ghost use Rattle.serde_json.specs.View.{view, items_view};
 ghost use Rattle.cni_json.specs.Outcome.{GivesAs};
-ghost use Rattle.cni_json.specs.Fields.{field_map};
-ghost use Rattle.net_conf.specs.Members.{each, with_front};
+ghost use Rattle.cni_json.specs.Each.{each, with_front};
 ghost use Rattle.net_conf.specs.Ranges.{range_at};
 ghost use Rattle.net_conf.specs.Refusals.{is_want_of_memory};
 ghost use Rattle.net_conf.specs.Sets as wanted;
@@ -20,7 +19,7 @@ use cni_json::{Field, Value, field_list};
 use std::alloc::Global;
 
 /// The set that the object's own `subnet` gives, and then those of its `ranges`.
-#[tactic(auto, using(crate::proofs::Steps::steps), unfolding(crate::specs::Sets::sets_at))]
+#[tactic(auto, using(cni_json::proofs::Steps::steps), unfolding(crate::specs::Sets::sets_at))]
 pub fn sets(alloc: Global, object: &Value) -> Result<Items<RangeSet>, ConfError>
     ensures { GivesAs is_want_of_memory (λ sets. sets) result (wanted.sets_at (view object.now)) }
 {
@@ -33,7 +32,7 @@ pub fn sets(alloc: Global, object: &Value) -> Result<Items<RangeSet>, ConfError>
     Ok(sets)
 }
 
-#[tactic(auto, using(crate::proofs::Steps::steps), unfolding(crate::specs::Sets::listed_at))]
+#[tactic(auto, using(cni_json::proofs::Steps::steps), unfolding(crate::specs::Sets::listed_at))]
 fn listed<'a>(alloc: Global, object: &'a Value) -> Result<&'a [Value], ConfError>
     ensures { GivesAs is_want_of_memory (λ list. items_view list.now) result (wanted.listed_at (view object.entry.now)) }
 {
@@ -53,7 +52,7 @@ fn is_there(object: &Value, key: &str) -> bool
     }
 }
 
-#[tactic(auto, using(crate::proofs::Steps::steps))]
+#[tactic(auto, using(cni_json::proofs::Steps::steps))]
 fn well_formed(alloc: Global, has_own: bool, listed: &[Value]) -> Result<(), ConfError>
     ensures { GivesAs is_want_of_memory (λ t. t) result (wanted.well_formed has_own (items_view listed.now)) }
 {
@@ -116,7 +115,7 @@ fn all_objects(ranges: &[Value]) -> bool
     true
 }
 
-#[tactic(auto, using(crate::proofs::Steps::steps))]
+#[tactic(auto, using(cni_json::proofs::Steps::steps))]
 fn own_sets(alloc: Global, has_own: bool, object: &Value) -> Result<Items<RangeSet>, ConfError>
     ensures { GivesAs is_want_of_memory (λ own. own) result (wanted.own_sets_of has_own (view object.now)) }
 {
@@ -131,7 +130,7 @@ fn own_sets(alloc: Global, has_own: bool, object: &Value) -> Result<Items<RangeS
 }
 
 /// The sets that are there already, and then the listed ones.
-#[tactic(auto, using(crate::proofs::Steps::steps))]
+#[tactic(auto, using(cni_json::proofs::Steps::steps))]
 fn all_sets(
     alloc: Global,
     own: Items<RangeSet>,
@@ -147,7 +146,7 @@ fn all_sets(
     Ok(found)
 }
 
-#[tactic(auto, using(crate::proofs::Steps::steps))]
+#[tactic(auto, using(cni_json::proofs::Steps::steps))]
 fn set(alloc: Global, member: &Value) -> Result<RangeSet, ConfError>
     ensures { GivesAs is_want_of_memory (λ set. set) result (wanted.set_of (view member.now)) }
 {
@@ -160,7 +159,7 @@ fn set(alloc: Global, member: &Value) -> Result<RangeSet, ConfError>
     }
 }
 
-#[tactic(auto, using(crate::proofs::Steps::steps))]
+#[tactic(auto, using(cni_json::proofs::Steps::steps))]
 fn all_ranges(alloc: Global, list: &[Value]) -> Result<Items<Range>, ConfError>
     ensures { GivesAs is_want_of_memory (λ ranges. ranges) result (each range_at (items_view list.now)) }
 {
@@ -172,7 +171,7 @@ fn all_ranges(alloc: Global, list: &[Value]) -> Result<Items<Range>, ConfError>
     Ok(found)
 }
 
-#[tactic(auto, using(crate::proofs::Steps::steps))]
+#[tactic(auto, using(cni_json::proofs::Steps::steps))]
 fn separate(alloc: Global, sets: &[RangeSet]) -> Result<(), ConfError>
     ensures { GivesAs is_want_of_memory (λ t. t) result (wanted.separate sets.now) }
 {

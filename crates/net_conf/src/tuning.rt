@@ -15,7 +15,7 @@ use cni_json::{Field, Map, Value, field_str, field_u64};
 use std::alloc::Global;
 
 /// The configuration of the `tuning` plugin, from its object in a list.
-#[tactic(auto, using(crate::proofs::Steps::steps), unfolding(crate::specs::Tuning::tuning_at))]
+#[tactic(auto, using(cni_json::proofs::Steps::steps), unfolding(crate::specs::Tuning::tuning_at))]
 pub fn tuning(alloc: Global, object: &Value) -> Result<TuningConf, ConfError>
     ensures { GivesAs is_want_of_memory (λ conf. conf) result (wanted.tuning_at (view object.now)) }
 {
@@ -35,7 +35,7 @@ pub fn tuning(alloc: Global, object: &Value) -> Result<TuningConf, ConfError>
     })
 }
 
-#[tactic(auto, using(crate::proofs::Steps::steps), unfolding(crate::specs::Tuning::sysctl_at))]
+#[tactic(auto, using(cni_json::proofs::Steps::steps), unfolding(crate::specs::Tuning::sysctl_at))]
 fn sysctl(alloc: Global, object: &Value) -> Result<Items<Sysctl>, ConfError>
     ensures { GivesAs is_want_of_memory (λ settings. settings) result (wanted.sysctl_at (view object.now)) }
 {
@@ -46,7 +46,7 @@ fn sysctl(alloc: Global, object: &Value) -> Result<Items<Sysctl>, ConfError>
     }
 }
 
-#[tactic(auto, using(crate::proofs::Steps::steps, crate::proofs::TuningLemmas::settings))]
+#[tactic(auto, using(cni_json::proofs::Steps::steps, crate::proofs::TuningLemmas::settings))]
 fn settings(alloc: Global, members: &Map<String, Value>) -> Result<Items<Sysctl>, ConfError>
     ensures { GivesAs is_want_of_memory (λ settings. settings) result (wanted.settings_of (members_view members.now.entries)) }
 {
@@ -66,7 +66,7 @@ fn is_null(member: &Value) -> bool
     matches!(member, Value::Null)
 }
 
-#[tactic(auto, using(crate::proofs::Steps::steps))]
+#[tactic(auto, using(cni_json::proofs::Steps::steps))]
 fn setting(alloc: Global, key: &str, member: &Value) -> Result<Sysctl, ConfError>
     ensures { GivesAs is_want_of_memory (λ setting. setting) result (wanted.setting_of key.now (view member.now)) }
 {
@@ -112,7 +112,7 @@ fn has_part(text: &[u8], part: &[u8]) -> bool
     false
 }
 
-#[tactic(auto, using(crate::proofs::Steps::steps), unfolding(crate::specs::Tuning::new_mac_at))]
+#[tactic(auto, using(cni_json::proofs::Steps::steps), unfolding(crate::specs::Tuning::new_mac_at))]
 fn new_mac(alloc: Global, object: &Value) -> Result<Option<Mac>, ConfError>
     ensures { GivesAs is_want_of_memory (λ mac. mac) result (wanted.new_mac_at (view object.now)) }
 {
@@ -126,7 +126,7 @@ fn new_mac(alloc: Global, object: &Value) -> Result<Option<Mac>, ConfError>
     }
 }
 
-#[tactic(auto, using(crate::proofs::Steps::steps), unfolding(crate::specs::Tuning::new_mtu_at))]
+#[tactic(auto, using(cni_json::proofs::Steps::steps), unfolding(crate::specs::Tuning::new_mtu_at))]
 fn new_mtu(alloc: Global, object: &Value) -> Result<Option<u32>, ConfError>
     ensures { GivesAs is_want_of_memory (λ mtu. mtu) result (wanted.new_mtu_at (view object.now)) }
 {
@@ -137,7 +137,7 @@ fn new_mtu(alloc: Global, object: &Value) -> Result<Option<u32>, ConfError>
     }
 }
 
-#[tactic(auto, using(crate::proofs::Steps::steps), unfolding(crate::specs::Tuning::queue_length_at))]
+#[tactic(auto, using(cni_json::proofs::Steps::steps), unfolding(crate::specs::Tuning::queue_length_at))]
 fn queue_length(alloc: Global, object: &Value) -> Result<Option<u32>, ConfError>
     ensures { GivesAs is_want_of_memory (λ length. length) result (wanted.queue_length_at (view object.now)) }
 {

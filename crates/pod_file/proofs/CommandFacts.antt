@@ -12,7 +12,7 @@ use Rattle.cni_json.specs.declared.fields.Field.{Field}
 use Rattle.cni_json.specs.declared.fields.Field.TheVariants.{Absent, WrongKind, Here}
 use Rattle.kernel_types.specs.declared.object.Table.{Table}
 use Rattle.kernel_types.specs.declared.object.Table.TheVariants.{Nat, Filter}
-use Rattle.pod_file.proofs.Endings.{goes, ok_same, passed, went_on, each_all, each_from_all}
+use Rattle.cni_json.proofs.Endings.{goes, ok_same, passed, went_on, each_all, each_from_all}
 use Rattle.pod_file.specs.Commands.{command_object, verb_at, needs_table, texts_at, table_of, table_at, stop_of, stop_at, is_call_number, fault_of, fault_at, faults_of, faults_at, command_at}
 use Rattle.pod_file.specs.Members.{mappings_at, valid_at}
 use Rattle.pod_file.specs.Rounds.{command_in, round_at, rounds_of, rounds_at, command_count, is_exclusive, is_alone, each_alone, numbered, round_numbered, all_numbered}

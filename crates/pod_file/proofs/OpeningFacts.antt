@@ -20,7 +20,7 @@ use Rattle.kernel_types.specs.declared.object.Link.{Link}
 use Rattle.kernel_types.specs.declared.object.LinkKind.{LinkKind}
 use Rattle.kernel_types.specs.declared.object.LinkKind.TheVariants.{Device, Bridge}
 use Rattle.kernel_types.specs.declared.object.Tag.TheVariants.{Outside}
-use Rattle.pod_file.proofs.Endings.{goes, ok_same, passed, not_refused}
+use Rattle.cni_json.proofs.Endings.{goes, ok_same, passed, not_refused}
 use Rattle.pod_file.specs.Links.{link_object, name_at, kind_of, kind_at, is_place, ns_of, ns_at, mtu_at, outside_link, not_taken, link_at, links_after, links_of, links_at}
 use Rattle.pod_file.specs.Opening.{cannot_be_added, namespace_at, namespaces_after, namespaces_of, namespaces_at, opening_members_at, opening_of, opening_at}
 use Rattle.pod_file.specs.WellFormed.{IsOpening}

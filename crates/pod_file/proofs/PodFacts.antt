@@ -6,7 +6,7 @@ use Rattle.std.proofs.lemmas.Bool.Decides.{nat_tests}
 use Rattle.serde_json.specs.Data.{Data}
 use Rattle.cni_json.specs.Json.{json_of}
 use Rattle.pod_file.proofs.CommandFacts.{rounds_at-ok, all_numbered-ok, length-all_numbered, count-all_numbered, all-from}
-use Rattle.pod_file.proofs.Endings.{goes, ok_same, passed}
+use Rattle.cni_json.proofs.Endings.{goes, ok_same, passed}
 use Rattle.pod_file.proofs.OpeningFacts.{opening_at-ok}
 use Rattle.pod_file.specs.Opening.{opening_at}
 use Rattle.pod_file.specs.PodFile.{read_or_refused, top_object, pods_at, pods_of}

@@ -8,7 +8,7 @@ use Rattle.cni_json.specs.declared.fields.Field.{Field}
 use Rattle.cni_json.specs.declared.fields.Field.TheVariants.{Absent, WrongKind, Here}
 use Rattle.kernel_types.specs.declared.object.Table.{Table}
 use Rattle.kernel_types.specs.declared.object.Table.TheVariants.{Nat, Filter}
-use Rattle.pod_file.specs.Each.{each}
+use Rattle.cni_json.specs.Each.{each}
 use Rattle.pod_file.specs.Members.{text_at, mappings_at, valid_at}
 use Rattle.pod_file.specs.Refusals.{wrong, wrong_key, command_path}
 use Rattle.pod_file.specs.declared.command.Command.{Command}
@@ -48,17 +48,17 @@ unfoldable pub verb_at : CommandPlace → Data → Result Verb PodError
 verb_at place d = verb_of place (text_field (codes "verb") d)
 
 -- the verbs of the CNI specification, which speak of a network
-abbrev pub needs_network : Verb → Bool
-needs_network verbs.Add = true
-needs_network verbs.Check = true
-needs_network verbs.Del = true
-needs_network verbs.Gc = true
-needs_network verbs.Status = true
-needs_network verbs.Version = true
-needs_network verbs.NsAdd = false
-needs_network verbs.NsDel = false
-needs_network verbs.Drop = false
-needs_network verbs.Flush = false
+abbrev pub is_of_network : Verb → Bool
+is_of_network verbs.Add = true
+is_of_network verbs.Check = true
+is_of_network verbs.Del = true
+is_of_network verbs.Gc = true
+is_of_network verbs.Status = true
+is_of_network verbs.Version = true
+is_of_network verbs.NsAdd = false
+is_of_network verbs.NsDel = false
+is_of_network verbs.Drop = false
+is_of_network verbs.Flush = false
 
 -- a flush names its table
 abbrev pub needs_table : Verb → Bool
@@ -76,7 +76,7 @@ needs_table verbs.Flush = true
 -- ---- texts
 
 abbrev pub network_of : CommandPlace → Verb → Field (List ℕ) → Result (List ℕ) PodError
-network_of place verb Absent = if needs_network verb then wrong_key place (codes "network") else Ok []
+network_of place verb Absent = if is_of_network verb then wrong_key place (codes "network") else Ok []
 network_of place verb WrongKind = wrong_key place (codes "network")
 network_of place verb (Here text) = Ok text
 

@@ -5,7 +5,7 @@ use Rattle.cni_json.specs.Fields.{text_field, list_field, u64_field}
 use Rattle.cni_json.specs.Outcome.{◌>>=◌}
 use Rattle.cni_json.specs.declared.fields.Field.{Field}
 use Rattle.cni_json.specs.declared.fields.Field.TheVariants.{Absent, WrongKind, Here}
-use Rattle.pod_file.specs.Each.{each}
+use Rattle.cni_json.specs.Each.{each}
 use Rattle.pod_file.specs.Refusals.{wrong_key}
 use Rattle.pod_file.specs.declared.command.RawMapping.{RawMapping}
 use Rattle.pod_file.specs.declared.command.ValidAtt.{ValidAtt}

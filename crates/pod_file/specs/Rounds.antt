@@ -6,7 +6,7 @@ use Rattle.cni_json.specs.Fields.{list_field}
 use Rattle.cni_json.specs.declared.fields.Field.{Field}
 use Rattle.cni_json.specs.declared.fields.Field.TheVariants.{Absent, WrongKind, Here}
 use Rattle.pod_file.specs.Commands.{command_at}
-use Rattle.pod_file.specs.Each.{each_from}
+use Rattle.cni_json.specs.Each.{each_from}
 use Rattle.pod_file.specs.Refusals.{wrong, member_path}
 use Rattle.pod_file.specs.declared.command.Command.{Command}
 use Rattle.pod_file.specs.declared.command.Verb.{Verb}

@@ -1,5 +1,8 @@
 //! Commands of a pod file.
 
+ghost use Rattle.std.specs.Prelude.{◌≡◌};
+ghost use Rattle.pod_file.specs.Commands.{is_of_network};
+
 use cni_addr::{Items, Text};
 use kernel_types::Table;
 
@@ -16,6 +19,18 @@ pub enum Verb {
     NsDel,
     Drop,
     Flush,
+}
+
+impl Verb {
+    /// Whether the verb is one of the CNI specification's, which speak of a network.
+    pub fn is_of_network(self) -> bool
+        ensures { result ≡ is_of_network self }
+    {
+        match self {
+            Verb::Add | Verb::Check | Verb::Del | Verb::Gc | Verb::Status | Verb::Version => true,
+            Verb::NsAdd | Verb::NsDel | Verb::Drop | Verb::Flush => false,
+        }
+    }
 }
 
 impl PartialEq for Verb {

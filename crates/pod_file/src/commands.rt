@@ -4,7 +4,7 @@ ghost use Rattle.std.specs.Prelude.{◌≡◌};
 ghost use Rattle.serde_json.specs.View.{view, items_view};
 ghost use Rattle.cni_json.specs.Outcome.{GivesAs};
 ghost use Rattle.pod_file.specs.Commands as wanted;
-ghost use Rattle.pod_file.specs.Each.{each};
+ghost use Rattle.cni_json.specs.Each.{each};
 ghost use Rattle.pod_file.specs.Refusals.{is_want_of_memory};
 
 use crate::command::{Command, Verb};
@@ -27,7 +27,7 @@ pub struct CommandTexts {
 }
 
 /// The command at this place, which has no number yet.
-#[tactic(auto, using(crate::proofs::Steps::steps), unfolding(crate::specs::Commands::command_at))]
+#[tactic(auto, using(cni_json::proofs::Steps::steps), unfolding(crate::specs::Commands::command_at))]
 pub fn read_command(alloc: Global, place: CommandPlace, value: &Value) -> Result<Command, PodError>
     ensures { GivesAs is_want_of_memory (λ command. command) result (wanted.command_at place (view value.now)) }
 {
@@ -55,7 +55,7 @@ pub fn read_command(alloc: Global, place: CommandPlace, value: &Value) -> Result
     })
 }
 
-#[tactic(auto, using(crate::proofs::Steps::steps))]
+#[tactic(auto, using(cni_json::proofs::Steps::steps))]
 fn command_object(alloc: Global, place: CommandPlace, value: &Value) -> Result<(), PodError>
     ensures { GivesAs is_want_of_memory (λ t. t) result (wanted.command_object place (view value.now)) }
 {
@@ -66,7 +66,7 @@ fn command_object(alloc: Global, place: CommandPlace, value: &Value) -> Result<(
     }
 }
 
-#[tactic(auto, using(crate::proofs::Steps::steps), unfolding(crate::specs::Commands::verb_at))]
+#[tactic(auto, using(cni_json::proofs::Steps::steps), unfolding(crate::specs::Commands::verb_at))]
 fn verb(alloc: Global, place: CommandPlace, command: &Value) -> Result<Verb, PodError>
     ensures { GivesAs is_want_of_memory (λ verb. verb) result (wanted.verb_at place (view command.now)) }
 {
@@ -87,16 +87,7 @@ fn verb(alloc: Global, place: CommandPlace, command: &Value) -> Result<Verb, Pod
     }
 }
 
-fn needs_network(verb: Verb) -> bool
-    ensures { result ≡ wanted.needs_network verb }
-{
-    match verb {
-        Verb::Add | Verb::Check | Verb::Del | Verb::Gc | Verb::Status | Verb::Version => true,
-        Verb::NsAdd | Verb::NsDel | Verb::Drop | Verb::Flush => false,
-    }
-}
-
-#[tactic(auto, using(crate::proofs::Steps::steps), unfolding(crate::specs::Commands::texts_at))]
+#[tactic(auto, using(cni_json::proofs::Steps::steps), unfolding(crate::specs::Commands::texts_at))]
 fn texts(
     alloc: Global,
     place: CommandPlace,
@@ -119,7 +110,7 @@ fn texts(
     })
 }
 
-#[tactic(auto, using(crate::proofs::Steps::steps), unfolding(crate::specs::Commands::network_at))]
+#[tactic(auto, using(cni_json::proofs::Steps::steps), unfolding(crate::specs::Commands::network_at))]
 fn network(
     alloc: Global,
     place: CommandPlace,
@@ -129,14 +120,14 @@ fn network(
     ensures { GivesAs is_want_of_memory (λ network. network) result (wanted.network_at place verb (view command.now)) }
 {
     match field_str(command, "network") {
-        Field::Absent if needs_network(verb) => Err(wrong_key(alloc, place, "network")),
+        Field::Absent if verb.is_of_network() => Err(wrong_key(alloc, place, "network")),
         Field::Absent => Ok(Text::of(alloc, "")?),
         Field::WrongKind => Err(wrong_key(alloc, place, "network")),
         Field::Here(network) => Ok(Text::of(alloc, network)?),
     }
 }
 
-#[tactic(auto, using(crate::proofs::Steps::steps), unfolding(crate::specs::Commands::table_at))]
+#[tactic(auto, using(cni_json::proofs::Steps::steps), unfolding(crate::specs::Commands::table_at))]
 fn table(
     alloc: Global,
     place: CommandPlace,
@@ -160,7 +151,7 @@ fn needs_table(verb: Verb) -> bool
     matches!(verb, Verb::Flush)
 }
 
-#[tactic(auto, using(crate::proofs::Steps::steps), unfolding(crate::specs::Commands::stop_at))]
+#[tactic(auto, using(cni_json::proofs::Steps::steps), unfolding(crate::specs::Commands::stop_at))]
 fn stop(alloc: Global, place: CommandPlace, command: &Value) -> Result<Option<u32>, PodError>
     ensures { GivesAs is_want_of_memory (λ stop. stop) result (wanted.stop_at place (view command.now)) }
 {
@@ -171,7 +162,7 @@ fn stop(alloc: Global, place: CommandPlace, command: &Value) -> Result<Option<u3
     }
 }
 
-#[tactic(auto, using(crate::proofs::Steps::steps), unfolding(crate::specs::Commands::faults_at))]
+#[tactic(auto, using(cni_json::proofs::Steps::steps), unfolding(crate::specs::Commands::faults_at))]
 fn faults(alloc: Global, place: CommandPlace, command: &Value) -> Result<Items<u32>, PodError>
     ensures { GivesAs is_want_of_memory (λ faults. faults) result (wanted.faults_at place (view command.now)) }
 {
@@ -182,7 +173,7 @@ fn faults(alloc: Global, place: CommandPlace, command: &Value) -> Result<Items<u
     }
 }
 
-#[tactic(auto, using(crate::proofs::Steps::steps))]
+#[tactic(auto, using(cni_json::proofs::Steps::steps))]
 fn all_faults(alloc: Global, place: CommandPlace, list: &[Value]) -> Result<Items<u32>, PodError>
     ensures { GivesAs is_want_of_memory (λ faults. faults) result (each (wanted.fault_at place) (items_view list.now)) }
 {
@@ -194,7 +185,7 @@ fn all_faults(alloc: Global, place: CommandPlace, list: &[Value]) -> Result<Item
     Ok(found)
 }
 
-#[tactic(auto, using(crate::proofs::Steps::steps))]
+#[tactic(auto, using(cni_json::proofs::Steps::steps))]
 fn fault(alloc: Global, place: CommandPlace, member: &Value) -> Result<u32, PodError>
     ensures { GivesAs is_want_of_memory (λ number. number) result (wanted.fault_at place (view member.now)) }
 {

@@ -18,7 +18,7 @@ use net_conf::is_interface_name;
 use std::alloc::Global;
 
 /// The links, none where there is no list of them.
-#[tactic(auto, using(crate::proofs::Steps::steps), unfolding(crate::specs::Links::links_at))]
+#[tactic(auto, using(cni_json::proofs::Steps::steps), unfolding(crate::specs::Links::links_at))]
 pub fn links(alloc: Global, names: &[Text], opening: &Value) -> Result<Items<Link>, PodError>
     ensures { GivesAs is_want_of_memory (λ links. links) result (wanted.links_at names.now (view opening.now)) }
 {
@@ -29,7 +29,7 @@ pub fn links(alloc: Global, names: &[Text], opening: &Value) -> Result<Items<Lin
     }
 }
 
-#[tactic(auto, using(crate::proofs::Steps::steps))]
+#[tactic(auto, using(cni_json::proofs::Steps::steps))]
 fn all_links(alloc: Global, names: &[Text], list: &[Value]) -> Result<Items<Link>, PodError>
     ensures { GivesAs is_want_of_memory (λ links. links) result (wanted.links_after names.now [] 0 (items_view list.now)) }
 {
@@ -41,7 +41,7 @@ fn all_links(alloc: Global, names: &[Text], list: &[Value]) -> Result<Items<Link
     Ok(found)
 }
 
-#[tactic(auto, using(crate::proofs::Steps::steps), unfolding(crate::specs::Links::link_at))]
+#[tactic(auto, using(cni_json::proofs::Steps::steps), unfolding(crate::specs::Links::link_at))]
 fn link(
     alloc: Global,
     names: &[Text],
@@ -81,7 +81,7 @@ fn outside_link(ns: Text, name: Text, kind: LinkKind, mtu: u32) -> Link
     }
 }
 
-#[tactic(auto, using(crate::proofs::Steps::steps))]
+#[tactic(auto, using(cni_json::proofs::Steps::steps))]
 fn link_object(alloc: Global, index: usize, member: &Value) -> Result<(), PodError>
     ensures { GivesAs is_want_of_memory (λ t. t) result (wanted.link_object index (view member.now)) }
 {
@@ -92,7 +92,7 @@ fn link_object(alloc: Global, index: usize, member: &Value) -> Result<(), PodErr
     }
 }
 
-#[tactic(auto, using(crate::proofs::Steps::steps), unfolding(crate::specs::Links::name_at))]
+#[tactic(auto, using(cni_json::proofs::Steps::steps), unfolding(crate::specs::Links::name_at))]
 fn name(alloc: Global, index: usize, member: &Value) -> Result<Text, PodError>
     ensures { GivesAs is_want_of_memory (λ name. name) result (wanted.name_at index (view member.now)) }
 {
@@ -102,7 +102,7 @@ fn name(alloc: Global, index: usize, member: &Value) -> Result<Text, PodError>
     }
 }
 
-#[tactic(auto, using(crate::proofs::Steps::steps), unfolding(crate::specs::Links::kind_at))]
+#[tactic(auto, using(cni_json::proofs::Steps::steps), unfolding(crate::specs::Links::kind_at))]
 fn kind(alloc: Global, index: usize, member: &Value) -> Result<LinkKind, PodError>
     ensures { GivesAs is_want_of_memory (λ kind. kind) result (wanted.kind_at index (view member.now)) }
 {
@@ -113,7 +113,7 @@ fn kind(alloc: Global, index: usize, member: &Value) -> Result<LinkKind, PodErro
     }
 }
 
-#[tactic(auto, using(crate::proofs::Steps::steps), unfolding(crate::specs::Links::ns_at))]
+#[tactic(auto, using(cni_json::proofs::Steps::steps), unfolding(crate::specs::Links::ns_at))]
 fn ns(alloc: Global, names: &[Text], index: usize, member: &Value) -> Result<Text, PodError>
     ensures { GivesAs is_want_of_memory (λ ns. ns) result (wanted.ns_at names.now index (view member.now)) }
 {
@@ -142,7 +142,7 @@ pub fn is_named(names: &[Text], name: &str) -> bool
     names.iter().any(|other| name == other.as_str())
 }
 
-#[tactic(auto, using(crate::proofs::Steps::steps), unfolding(crate::specs::Links::mtu_at))]
+#[tactic(auto, using(cni_json::proofs::Steps::steps), unfolding(crate::specs::Links::mtu_at))]
 fn mtu(alloc: Global, index: usize, member: &Value) -> Result<u32, PodError>
     ensures { GivesAs is_want_of_memory (λ mtu. mtu) result (wanted.mtu_at index (view member.now)) }
 {
@@ -153,7 +153,7 @@ fn mtu(alloc: Global, index: usize, member: &Value) -> Result<u32, PodError>
     }
 }
 
-#[tactic(auto, using(crate::proofs::Steps::steps), unfolding(crate::specs::Links::not_taken))]
+#[tactic(auto, using(cni_json::proofs::Steps::steps), unfolding(crate::specs::Links::not_taken))]
 fn not_taken(
     alloc: Global,
     before: &[Link],

@@ -1,10 +1,9 @@
 //! Members of a command that several keys have, and the lists of objects. A fault inside such a list has the place of the
 //! command's key.
 
-ghost use Rattle.std.specs.Prelude.{codes};
 ghost use Rattle.serde_json.specs.View.{view, items_view};
 ghost use Rattle.cni_json.specs.Outcome.{GivesAs};
-ghost use Rattle.pod_file.specs.Each.{each};
+ghost use Rattle.cni_json.specs.Each.{each};
 ghost use Rattle.pod_file.specs.Members as wanted;
 ghost use Rattle.pod_file.specs.Refusals.{is_want_of_memory};
 
@@ -29,7 +28,7 @@ pub fn text(
 }
 
 /// A text in the value of the command's key `outer`, or the default where it is absent.
-#[tactic(auto, using(crate::proofs::Steps::steps), unfolding(crate::specs::Members::inner_text_at))]
+#[tactic(auto, using(cni_json::proofs::Steps::steps), unfolding(crate::specs::Members::inner_text_at))]
 fn inner_text(
     alloc: Global,
     place: CommandPlace,
@@ -47,7 +46,7 @@ fn inner_text(
     }
 }
 
-#[tactic(auto, using(crate::proofs::Steps::steps), unfolding(crate::specs::Members::needed_text_at))]
+#[tactic(auto, using(cni_json::proofs::Steps::steps), unfolding(crate::specs::Members::needed_text_at))]
 fn needed_text(
     alloc: Global,
     place: CommandPlace,
@@ -64,7 +63,7 @@ fn needed_text(
 }
 
 /// The port mappings, as they are written.
-#[tactic(auto, using(crate::proofs::Steps::steps), unfolding(crate::specs::Members::mappings_at))]
+#[tactic(auto, using(cni_json::proofs::Steps::steps), unfolding(crate::specs::Members::mappings_at))]
 pub fn mappings(
     alloc: Global,
     place: CommandPlace,
@@ -79,7 +78,7 @@ pub fn mappings(
     }
 }
 
-#[tactic(auto, using(crate::proofs::Steps::steps))]
+#[tactic(auto, using(cni_json::proofs::Steps::steps))]
 fn all_mappings(
     alloc: Global,
     place: CommandPlace,
@@ -95,7 +94,7 @@ fn all_mappings(
     Ok(found)
 }
 
-#[tactic(auto, using(crate::proofs::Steps::steps), unfolding(crate::specs::Members::mapping_at))]
+#[tactic(auto, using(cni_json::proofs::Steps::steps), unfolding(crate::specs::Members::mapping_at))]
 fn mapping(alloc: Global, place: CommandPlace, member: &Value) -> Result<RawMapping, PodError>
     ensures { GivesAs is_want_of_memory (λ mapping. mapping) result (wanted.mapping_at place (view member.now)) }
 {
@@ -112,7 +111,7 @@ fn mapping(alloc: Global, place: CommandPlace, member: &Value) -> Result<RawMapp
     })
 }
 
-#[tactic(auto, using(crate::proofs::Steps::steps))]
+#[tactic(auto, using(cni_json::proofs::Steps::steps))]
 fn inner_object(
     alloc: Global,
     place: CommandPlace,
@@ -128,7 +127,7 @@ fn inner_object(
     }
 }
 
-#[tactic(auto, using(crate::proofs::Steps::steps), unfolding(crate::specs::Members::port_at))]
+#[tactic(auto, using(cni_json::proofs::Steps::steps), unfolding(crate::specs::Members::port_at))]
 fn port(alloc: Global, place: CommandPlace, key: &str, mapping: &Value) -> Result<u64, PodError>
     ensures { GivesAs is_want_of_memory (λ port. port) result (wanted.port_at place key.now (view mapping.now)) }
 {
@@ -152,7 +151,7 @@ fn mapping_text(
 }
 
 /// The attachments that a GC keeps.
-#[tactic(auto, using(crate::proofs::Steps::steps), unfolding(crate::specs::Members::valid_at))]
+#[tactic(auto, using(cni_json::proofs::Steps::steps), unfolding(crate::specs::Members::valid_at))]
 pub fn valid_attachments(
     alloc: Global,
     place: CommandPlace,
@@ -167,7 +166,7 @@ pub fn valid_attachments(
     }
 }
 
-#[tactic(auto, using(crate::proofs::Steps::steps))]
+#[tactic(auto, using(cni_json::proofs::Steps::steps))]
 fn all_valid(
     alloc: Global,
     place: CommandPlace,
@@ -183,7 +182,7 @@ fn all_valid(
     Ok(found)
 }
 
-#[tactic(auto, using(crate::proofs::Steps::steps), unfolding(crate::specs::Members::valid_attachment_at))]
+#[tactic(auto, using(cni_json::proofs::Steps::steps), unfolding(crate::specs::Members::valid_attachment_at))]
 fn valid_attachment(
     alloc: Global,
     place: CommandPlace,

@@ -16,7 +16,7 @@ use kernel_types::{Host, Link, NsObj, Tag};
 use std::alloc::Global;
 
 /// The host as it is found, empty where there is no opening.
-#[tactic(auto, using(crate::proofs::Steps::steps), unfolding(crate::specs::Opening::opening_at))]
+#[tactic(auto, using(cni_json::proofs::Steps::steps), unfolding(crate::specs::Opening::opening_at))]
 pub fn opening(alloc: Global, top: &Value) -> Result<Host, PodError>
     ensures { GivesAs is_want_of_memory (λ host. host) result (wanted.opening_at (view top.now)) }
 {
@@ -27,7 +27,7 @@ pub fn opening(alloc: Global, top: &Value) -> Result<Host, PodError>
     }
 }
 
-#[tactic(auto, using(crate::proofs::Steps::steps), unfolding(crate::specs::Opening::opening_members_at))]
+#[tactic(auto, using(cni_json::proofs::Steps::steps), unfolding(crate::specs::Opening::opening_members_at))]
 fn opening_members(alloc: Global, members: &Value) -> Result<Host, PodError>
     ensures { GivesAs is_want_of_memory (λ host. host) result (wanted.opening_members_at (view members.now)) }
 {
@@ -67,7 +67,7 @@ fn outside_namespaces(alloc: Global, names: &[Text]) -> Result<Items<NsObj>, NoM
 }
 
 /// The names of the namespaces, none where there is no list of them.
-#[tactic(auto, using(crate::proofs::Steps::steps), unfolding(crate::specs::Opening::namespaces_at))]
+#[tactic(auto, using(cni_json::proofs::Steps::steps), unfolding(crate::specs::Opening::namespaces_at))]
 fn namespaces(alloc: Global, members: &Value) -> Result<Items<Text>, PodError>
     ensures { GivesAs is_want_of_memory (λ names. names) result (wanted.namespaces_at (view members.now)) }
 {
@@ -78,7 +78,7 @@ fn namespaces(alloc: Global, members: &Value) -> Result<Items<Text>, PodError>
     }
 }
 
-#[tactic(auto, using(crate::proofs::Steps::steps))]
+#[tactic(auto, using(cni_json::proofs::Steps::steps))]
 fn all_namespaces(alloc: Global, list: &[Value]) -> Result<Items<Text>, PodError>
     ensures { GivesAs is_want_of_memory (λ names. names) result (wanted.namespaces_after [] 0 (items_view list.now)) }
 {
@@ -90,7 +90,7 @@ fn all_namespaces(alloc: Global, list: &[Value]) -> Result<Items<Text>, PodError
     Ok(found)
 }
 
-#[tactic(auto, using(crate::proofs::Steps::steps))]
+#[tactic(auto, using(cni_json::proofs::Steps::steps))]
 fn namespace(alloc: Global, before: &[Text], index: usize, member: &Value) -> Result<Text, PodError>
     ensures { GivesAs is_want_of_memory (λ name. name) result (wanted.namespace_at before.now index (view member.now)) }
 {
@@ -100,7 +100,7 @@ fn namespace(alloc: Global, before: &[Text], index: usize, member: &Value) -> Re
     }
 }
 
-#[tactic(auto, using(crate::proofs::Steps::steps))]
+#[tactic(auto, using(cni_json::proofs::Steps::steps))]
 fn name_or_refused(
     alloc: Global,
     before: &[Text],

@@ -17,7 +17,7 @@ use cni_json::{ReadEnd, Value};
 use std::alloc::Global;
 
 /// The pod file that the bytes spell, or the first refusal.
-#[tactic(auto, using(crate::proofs::Steps::steps), unfolding(crate::specs::PodFile::pods_of))]
+#[tactic(auto, using(cni_json::proofs::Steps::steps), unfolding(crate::specs::PodFile::pods_of))]
 pub fn read_pods(alloc: Global, bytes: &[u8]) -> Result<Pods, PodError>
     ensures { GivesAs is_want_of_memory (λ pods. pods) result (wanted.pods_of bytes.now) }
 {
@@ -29,7 +29,7 @@ pub fn read_pods(alloc: Global, bytes: &[u8]) -> Result<Pods, PodError>
     }
 }
 
-#[tactic(auto, using(crate::proofs::Steps::steps), unfolding(crate::specs::PodFile::pods_at))]
+#[tactic(auto, using(cni_json::proofs::Steps::steps), unfolding(crate::specs::PodFile::pods_at))]
 fn pods(alloc: Global, top: &Value) -> Result<Pods, PodError>
     ensures { GivesAs is_want_of_memory (λ pods. pods) result (wanted.pods_at (view top.now)) }
 {
@@ -44,7 +44,7 @@ fn pods(alloc: Global, top: &Value) -> Result<Pods, PodError>
     })
 }
 
-#[tactic(auto, using(crate::proofs::Steps::steps))]
+#[tactic(auto, using(cni_json::proofs::Steps::steps))]
 fn top_object(alloc: Global, top: &Value) -> Result<(), PodError>
     ensures { GivesAs is_want_of_memory (λ t. t) result (wanted.top_object (view top.now)) }
 {
@@ -56,7 +56,7 @@ fn top_object(alloc: Global, top: &Value) -> Result<(), PodError>
 }
 
 /// Refuses rounds or commands beyond the limits.
-#[tactic(auto, using(crate::proofs::Steps::steps))]
+#[tactic(auto, using(cni_json::proofs::Steps::steps))]
 fn few(alloc: Global, rounds: &[Items<Command>]) -> Result<(), PodError>
     ensures given { GivesAs is_want_of_memory (λ t. t) result (limits.few rounds.now) }
     ensures within { IfOk result (λ _. limits.are_few rounds.now ≡ true) }

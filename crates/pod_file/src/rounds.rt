@@ -4,7 +4,7 @@ ghost use Rattle.std.specs.Prelude.{◌≡◌, ◌+◌, ◌≤◌, length, true,
 ghost use Rattle.std.specs.List.{list_any};
 ghost use Rattle.serde_json.specs.View.{view, items_view};
 ghost use Rattle.cni_json.specs.Outcome.{GivesAs};
-ghost use Rattle.pod_file.specs.Each.{each_from};
+ghost use Rattle.cni_json.specs.Each.{each_from};
 ghost use Rattle.pod_file.specs.Refusals.{is_want_of_memory};
 ghost use Rattle.pod_file.specs.Rounds as wanted;
 
@@ -20,7 +20,7 @@ use std::alloc::Global;
 const LIMIT: usize = 65_536;
 
 /// The rounds, whose commands have no numbers yet.
-#[tactic(auto, using(crate::proofs::Steps::steps), unfolding(crate::specs::Rounds::rounds_at))]
+#[tactic(auto, using(cni_json::proofs::Steps::steps), unfolding(crate::specs::Rounds::rounds_at))]
 pub fn rounds(alloc: Global, top: &Value) -> Result<Items<Items<Command>>, PodError>
     ensures { GivesAs is_want_of_memory (λ rounds. rounds) result (wanted.rounds_at (view top.now)) }
 {
@@ -30,7 +30,7 @@ pub fn rounds(alloc: Global, top: &Value) -> Result<Items<Items<Command>>, PodEr
     }
 }
 
-#[tactic(auto, using(crate::proofs::Steps::steps))]
+#[tactic(auto, using(cni_json::proofs::Steps::steps))]
 fn all_rounds(alloc: Global, list: &[Value]) -> Result<Items<Items<Command>>, PodError>
     ensures { GivesAs is_want_of_memory (λ rounds. rounds) result (each_from wanted.round_at 0 (items_view list.now)) }
 {
@@ -42,7 +42,7 @@ fn all_rounds(alloc: Global, list: &[Value]) -> Result<Items<Items<Command>>, Po
     Ok(found)
 }
 
-#[tactic(auto, using(crate::proofs::Steps::steps))]
+#[tactic(auto, using(cni_json::proofs::Steps::steps))]
 fn round(alloc: Global, index: usize, member: &Value) -> Result<Items<Command>, PodError>
     ensures { GivesAs is_want_of_memory (λ commands. commands) result (wanted.round_at index (view member.now)) }
 {
@@ -52,7 +52,7 @@ fn round(alloc: Global, index: usize, member: &Value) -> Result<Items<Command>, 
     }
 }
 
-#[tactic(auto, using(crate::proofs::Steps::steps))]
+#[tactic(auto, using(cni_json::proofs::Steps::steps))]
 fn all_commands(alloc: Global, round: usize, list: &[Value]) -> Result<Items<Command>, PodError>
     ensures { GivesAs is_want_of_memory (λ commands. commands) result (each_from (wanted.command_in round) 0 (items_view list.now)) }
 {

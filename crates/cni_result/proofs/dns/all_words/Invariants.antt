@@ -1,6 +1,6 @@
 use Rattle.std.proofs.Common.{◌≡◌, drop}
 use Rattle.serde_json.specs.View.{items_view}
-use Rattle.cni_result.specs.Fields.{each, with_front}
+use Rattle.cni_json.specs.Each.{each, with_front}
 use Rattle.cni_result.specs.Reading.{word_of}
 use Rattle.cni_result.proofs.dns.all_words.Given as goal
 

@@ -1,6 +1,6 @@
 use Rattle.std.proofs.Common.{◌≡◌, drop}
 use Rattle.serde_json.specs.View.{items_view}
-use Rattle.cni_result.specs.Fields.{each, with_front}
+use Rattle.cni_json.specs.Each.{each, with_front}
 use Rattle.cni_result.specs.Reading.{interface_at}
 use Rattle.cni_result.proofs.entries.all_interfaces.Given as goal
 

@@ -1,7 +1,6 @@
-use Rattle.std.proofs.Common.{◌≡◌, sym, ◌∙◌, ap, subst, Some}
+use Rattle.std.proofs.Common.{◌≡◌, sym, ◌∙◌, ap, Some}
 use Rattle.std.specs.Prelude.{slice_get}
 use Rattle.std.proofs.lemmas.Option.{slice_get-get_or, same_Some}
-use Rattle.ip_pool.specs.NextAddress.{is_candidate}
 use Rattle.host_local.specs.Leases.{given_in}
 use Rattle.host_local.proofs.LeaseLemmas.{given_in-candidate}
 use Rattle.host_local.proofs.leases.given.Goals as goal

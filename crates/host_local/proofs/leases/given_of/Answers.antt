@@ -1,4 +1,4 @@
-use Rattle.std.proofs.Common.{◌≡◌, ◌++◌, ap, sym, ◌∙◌}
+use Rattle.std.proofs.Common.{◌++◌, ap, sym, ◌∙◌}
 use Rattle.std.proofs.lemmas.List.{append-nil}
 use Rattle.host_local.proofs.LeaseLemmas.{given_of-end, one_is_over}
 use Rattle.host_local.proofs.leases.given_of.Goals as goal

@@ -1,7 +1,7 @@
 use Rattle.std.proofs.Common.{◌≡◌, drop}
 use Rattle.serde_json.specs.View.{items_view}
 use Rattle.net_conf.specs.Dns.{text_of}
-use Rattle.net_conf.specs.Members.{each, with_front}
+use Rattle.cni_json.specs.Each.{each, with_front}
 use Rattle.net_conf.proofs.dns.all_texts.Given as goal
 
 -- what was found, and then what is left, is the whole

@@ -1,6 +1,6 @@
 use Rattle.std.proofs.Common.{◌≡◌, drop}
 use Rattle.serde_json.specs.View.{items_view}
-use Rattle.net_conf.specs.Members.{each, with_front}
+use Rattle.cni_json.specs.Each.{each, with_front}
 use Rattle.net_conf.specs.Routes.{route_at}
 use Rattle.net_conf.proofs.routes.all_routes.Given as goal
 

@@ -1,6 +1,6 @@
 use Rattle.std.proofs.Common.{◌≡◌, drop}
 use Rattle.serde_json.specs.View.{items_view}
-use Rattle.net_conf.specs.Members.{each, with_front}
+use Rattle.cni_json.specs.Each.{each, with_front}
 use Rattle.net_conf.specs.Ranges.{range_at}
 use Rattle.net_conf.proofs.sets.all_ranges.Given as goal
 

@@ -1,6 +1,6 @@
 use Rattle.std.proofs.Common.{◌≡◌}
 use Rattle.serde_json.specs.View.{members_view}
-use Rattle.net_conf.specs.Members.{with_front}
+use Rattle.cni_json.specs.Each.{with_front}
 use Rattle.net_conf.specs.Tuning.{settings_of}
 use Rattle.net_conf.proofs.tuning.settings.Given as goal
 

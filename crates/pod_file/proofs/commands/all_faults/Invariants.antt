@@ -1,7 +1,7 @@
 use Rattle.std.proofs.Common.{◌≡◌, drop}
 use Rattle.serde_json.specs.View.{items_view}
 use Rattle.pod_file.specs.Commands.{fault_at}
-use Rattle.pod_file.specs.Each.{each, with_front}
+use Rattle.cni_json.specs.Each.{each, with_front}
 use Rattle.pod_file.proofs.commands.all_faults.Given as goal
 
 -- what was found, and then what is left, is the whole

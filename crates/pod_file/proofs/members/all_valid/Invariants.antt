@@ -1,6 +1,6 @@
 use Rattle.std.proofs.Common.{◌≡◌, drop}
 use Rattle.serde_json.specs.View.{items_view}
-use Rattle.pod_file.specs.Each.{each, with_front}
+use Rattle.cni_json.specs.Each.{each, with_front}
 use Rattle.pod_file.specs.Members.{valid_attachment_at}
 use Rattle.pod_file.proofs.members.all_valid.Given as goal
 

@@ -1,6 +1,6 @@
 use Rattle.std.proofs.Common.{◌≡◌, drop}
 use Rattle.serde_json.specs.View.{items_view}
-use Rattle.pod_file.specs.Each.{each_from, with_front}
+use Rattle.cni_json.specs.Each.{each_from, with_front}
 use Rattle.pod_file.specs.Rounds.{command_in}
 use Rattle.pod_file.proofs.rounds.all_commands.Given as goal
 

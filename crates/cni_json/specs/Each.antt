@@ -1,11 +1,10 @@
--- Lists of members, each read up to the first refusal.
+-- Lists of members, each read up to the first error.
 use Rattle.std.specs.Prelude.{ℕ, ◌+◌, List, [], ◌∷◌, ◌++◌, Result, Ok}
 use Rattle.serde_json.specs.Data.{Data, Items, no_items, item}
 use Rattle.cni_json.specs.Outcome.{◌>>=◌}
-use Rattle.pod_file.specs.declared.error.PodError.{PodError}
 
 -- each member is read
-abbrev pub each : {A : Type 0} → (Data → Result A PodError) → Items → Result (List A) PodError
+abbrev pub each : {A E : Type 0} → (Data → Result A E) → Items → Result (List A) E
 each read no_items = Ok []
 each read (item d ds) = do
   first ← read d
@@ -13,7 +12,7 @@ each read (item d ds) = do
   Ok (first ∷ rest)
 
 -- each member is read with its place, of which the first is given
-abbrev pub each_from : {A : Type 0} → (ℕ → Data → Result A PodError) → ℕ → Items → Result (List A) PodError
+abbrev pub each_from : {A E : Type 0} → (ℕ → Data → Result A E) → ℕ → Items → Result (List A) E
 each_from read place no_items = Ok []
 each_from read place (item d ds) = do
   first ← read place d
@@ -21,7 +20,7 @@ each_from read place (item d ds) = do
   Ok (first ∷ rest)
 
 -- these first, and then those that are read
-abbrev pub with_front : {A : Type 0} → List A → Result (List A) PodError → Result (List A) PodError
+abbrev pub with_front : {A E : Type 0} → List A → Result (List A) E → Result (List A) E
 with_front front r = do
   rest ← r
   Ok (front ++ rest)

@@ -3,40 +3,39 @@ use Rattle.std.proofs.Common.{◌≡◌, ℕ, ◌+◌, List, Bool, true, false, 
 use Rattle.std.specs.Prelude.{if◌then◌else◌, All}
 use Rattle.std.proofs.lemmas.List.Elements.{All-nil, All-cons}
 use Rattle.serde_json.specs.Data.{Data, Items, no_items, item}
+use Rattle.cni_json.specs.Each.{each, each_from}
 use Rattle.cni_json.specs.Outcome.{◌>>=◌}
-use Rattle.pod_file.specs.Each.{each, each_from}
-use Rattle.pod_file.specs.declared.error.PodError.{PodError}
 
 -- the first step ends with this value, and the next step goes on from it
-pub record Goes {A B : Type 0} (r : Result A PodError) (next : A → Result B PodError) (b : B) : Type 0 where
+pub record Goes {A B E : Type 0} (r : Result A E) (next : A → Result B E) (b : B) : Type 0 where
   pub value : A
   pub first : r ≡ Ok value
   pub rest : next value ≡ Ok b
 
-pub goes : {A B : Type 0} (r : Result A PodError) (next : A → Result B PodError) (b : B) → (r >>= next) ≡ Ok b → Goes r next b
+pub goes : {A B E : Type 0} (r : Result A E) (next : A → Result B E) (b : B) → (r >>= next) ≡ Ok b → Goes r next b
 goes (Ok a) next b is = record { value = a; first = refl; rest = is }
 goes (Err e) next b is = cc
 
-pub ok_same : {A : Type 0} {x y : A} → ◌≡◌ {A = Result A PodError} (Ok x) (Ok y) → x ≡ y
+pub ok_same : {A E : Type 0} {x y : A} → ◌≡◌ {A = Result A E} (Ok x) (Ok y) → x ≡ y
 ok_same is = cc
 
 -- a test that decides between a value and a refusal
-pub passed : {A : Type 0} (t : Bool) (x y : A) (e : PodError) → (if t then Ok x else Err e) ≡ Ok y → (t ≡ true) × (x ≡ y)
+pub passed : {A E : Type 0} (t : Bool) (x y : A) (e : E) → (if t then Ok x else Err e) ≡ Ok y → (t ≡ true) × (x ≡ y)
 passed true x y e is = (refl, ok_same is)
 passed false x y e is = cc
 
 -- a test that refuses where it holds
-pub not_refused : {A : Type 0} (t : Bool) (x y : A) (e : PodError) → (if t then Err e else Ok x) ≡ Ok y → (t ≡ false) × (x ≡ y)
+pub not_refused : {A E : Type 0} (t : Bool) (x y : A) (e : E) → (if t then Err e else Ok x) ≡ Ok y → (t ≡ false) × (x ≡ y)
 not_refused false x y e is = (refl, ok_same is)
 not_refused true x y e is = cc
 
 -- a test that goes on where it holds, and refuses otherwise
-pub went_on : {A : Type 0} (t : Bool) (next : Result A PodError) (y : A) (e : PodError) → (if t then next else Err e) ≡ Ok y → (t ≡ true) × (next ≡ Ok y)
+pub went_on : {A E : Type 0} (t : Bool) (next : Result A E) (y : A) (e : E) → (if t then next else Err e) ≡ Ok y → (t ≡ true) × (next ≡ Ok y)
 went_on true next y e is = (refl, is)
 went_on false next y e is = cc
 
 -- what holds of each item that is read
-pub each_all : {A : Type 0} (read : Data → Result A PodError) (P : A → Type 0) → ((d : Data) (x : A) → read d ≡ Ok x → P x)
+pub each_all : {A E : Type 0} (read : Data → Result A E) (P : A → Type 0) → ((d : Data) (x : A) → read d ≡ Ok x → P x)
     → (ds : Items) (xs : List A) → each read ds ≡ Ok xs → All P xs
 each_all read P holds no_items xs is = subst (All P) (ok_same is) (All-nil P)
 each_all read P holds (item d ds) xs is =
@@ -45,7 +44,7 @@ each_all read P holds (item d ds) xs is =
     subst (All P) (ok_same more.rest) (All-cons P one.value more.value (holds d one.value one.first) (each_all read P holds ds more.value more.first))
 
 -- the same of items that are read with their places
-pub each_from_all : {A : Type 0} (read : ℕ → Data → Result A PodError) (P : A → Type 0) → ((place : ℕ) (d : Data) (x : A) → read place d ≡ Ok x → P x)
+pub each_from_all : {A E : Type 0} (read : ℕ → Data → Result A E) (P : A → Type 0) → ((place : ℕ) (d : Data) (x : A) → read place d ≡ Ok x → P x)
     → (place : ℕ) (ds : Items) (xs : List A) → each_from read place ds ≡ Ok xs → All P xs
 each_from_all read P holds place no_items xs is = subst (All P) (ok_same is) (All-nil P)
 each_from_all read P holds place (item d ds) xs is =
