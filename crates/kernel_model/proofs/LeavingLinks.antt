@@ -1,12 +1,10 @@
 -- Links that leave by their own place, and by a place that is named.
-use Rattle.std.proofs.Common.{◌≡◌, ℕ, true, List, Some, refl, sym, ap, arith}
+use Rattle.std.proofs.Common.{◌≡◌, ℕ, true, List, Some, refl, arith}
 use Rattle.std.specs.Prelude.{find}
-use Rattle.std.specs.Cmp.Lexicographic.{nat_list_eq_equiv}
 use Rattle.std.proofs.lemmas.Slice.Eq.{bytes_eq-Decides}
-use Rattle.kernel_types.specs.Words.{is_own, is_at, has_named_ns, link_at}
-use Rattle.kernel_types.specs.Apply.Calls.{goes_with, without_link, without_links, link_del_of, drop_link_of}
+use Rattle.kernel_types.specs.Words.{is_at, has_named_ns, link_at}
+use Rattle.kernel_types.specs.Apply.Calls.{goes_with, without_links, drop_link_of}
 use Rattle.kernel_types.specs.declared.call.Reply.TheVariants.{Gone}
-use Rattle.kernel_types.specs.declared.object.Att.{Att}
 use Rattle.kernel_types.specs.declared.object.Link.{Link}
 use Rattle.kernel_types.specs.declared.object.LinkKey.{LinkKey}
 use Rattle.kernel_types.specs.declared.object.Host.{Host}

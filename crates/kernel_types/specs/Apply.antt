@@ -1,6 +1,6 @@
 -- What each call does to a host, and what it answers.
 pub mod Calls
-use Rattle.std.specs.Prelude.{List, true, false}
+use Rattle.std.specs.Prelude.{true, false}
 use Rattle.kernel_types.specs.Apply.Calls as calls
 use Rattle.kernel_types.specs.declared.object.Host.{Host}
 use Rattle.kernel_types.specs.declared.call.Call.{Call}

@@ -9,10 +9,12 @@
 
 pub mod call;
 pub mod laws;
+pub mod link_values;
 pub mod names;
 pub mod object;
 
 pub use call::{Call, Change, Given, Kind, Object, Probe, Reply};
+pub use link_values::set_links;
 pub use names::link_mac;
 pub use object::{
     AddrObj, Att, CachedObj, Chain, Host, Last, Lease, Link, LinkKey, LinkKind, NsObj, RouteObj,

@@ -1,5 +1,8 @@
 //! The objects of the modelled kernel.
 
+ghost use Rattle.std.specs.Prelude.{◌≡◌};
+ghost use Rattle.kernel_types.specs.Words.{is_own};
+
 use cni_addr::{Addr, Cidr, Duplicate, Items, Mac, MacvlanMode, NoMemory, Text};
 use cni_result::{Cached, Proto};
 
@@ -9,6 +12,18 @@ pub enum Tag {
     Outside,
     Base,
     Own(Att),
+}
+
+impl Tag {
+    /// Whether the attachment owns what has this tag.
+    pub fn is_own(&self, att: &Att) -> bool
+        ensures { result ≡ is_own att.now self.now }
+    {
+        match self {
+            Tag::Own(own) => own == att,
+            Tag::Outside | Tag::Base => false,
+        }
+    }
 }
 
 impl Duplicate for Tag {
