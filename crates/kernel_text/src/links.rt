@@ -2,7 +2,7 @@
 
 ghost use Rattle.std.specs.Prelude.{◌≡◌, IfOk, OnOk};
 ghost use Rattle.serde_json.specs.View.{view};
-ghost use Rattle.cni_result.specs.Members.{members_of, text_data};
+ghost use Rattle.cni_result.specs.Members.{members_of};
 ghost use Rattle.kernel_text.specs.Dump.{namespace_data, link_key_data, link_data, put_identity, put_attributes, put_relations};
 ghost use Rattle.kernel_text.specs.Words.{mode_text};
 

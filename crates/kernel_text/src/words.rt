@@ -1,6 +1,6 @@
 //! Kinds, modes, tables, chains and targets as texts.
 
-ghost use Rattle.std.specs.Prelude.{◌≡◌, IfOk, option_map};
+ghost use Rattle.std.specs.Prelude.{◌≡◌, IfOk};
 ghost use Rattle.kernel_text.specs.Words.{link_kind_text, link_mode, mode_text, table_text, chain_text, target_text};
 
 use cni_addr::{MacvlanMode, NoMemory, Text, write_addr};
