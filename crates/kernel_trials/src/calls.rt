@@ -1,0 +1,292 @@
+//! The calls that the words of a row stand for, a function each.
+
+use crate::objects::{
+    address, att, cached, host_end, inner_end, key, lease, macvlan, route, rule, set, setting,
+};
+use crate::words::{RowError, cidr_of, cut, kind_of, placed};
+use cni_addr::{Family, Text};
+use kernel_types::{Call, Change, Object, Probe, Table, link_mac};
+use std::alloc::Global;
+
+/// `Begin CONTAINER NAMESPACE`; the host's own namespace is written `host`.
+fn begin(alloc: Global, words: &str) -> Result<Call, RowError> {
+    let (container, netns) = cut(words);
+    let att = att(alloc, container)?;
+    let netns = Text::of(alloc, if netns == "host" { "" } else { netns })?;
+    Ok(Call::Begin { att, netns })
+}
+
+fn bridge_ensure(alloc: Global, name: &str) -> Result<Call, RowError> {
+    let name = Text::of(alloc, name)?;
+    Ok(Call::BridgeEnsure {
+        name,
+        mtu: 1500,
+        promisc: false,
+    })
+}
+
+fn gateway_ensure(alloc: Global, bridge: &str) -> Result<Call, RowError> {
+    let cidr = cidr_of("10.88.0.1/16")?;
+    let bridge = Text::of(alloc, bridge)?;
+    Ok(Call::GatewayEnsure { bridge, cidr })
+}
+
+fn forward_ensure() -> Result<Call, RowError> {
+    Ok(Call::ForwardEnsure { family: Family::V4 })
+}
+
+/// `VethAdd CONTAINER NAMESPACE NAME OUTER MASTER`.
+fn veth_add(alloc: Global, words: &str) -> Result<Call, RowError> {
+    let host_end = host_end(alloc, words)?;
+    let inner_end = inner_end(alloc, words)?;
+    Ok(Call::VethAdd {
+        host_end,
+        inner_end,
+    })
+}
+
+fn macvlan_add(alloc: Global, words: &str) -> Result<Call, RowError> {
+    let link = macvlan(alloc, words)?;
+    Ok(Call::MacvlanAdd { link })
+}
+
+/// `LinkSet CONTAINER NAMESPACE NAME` turns the promiscuous mode on.
+fn link_set(alloc: Global, words: &str) -> Result<Call, RowError> {
+    let at = placed(words);
+    let att = att(alloc, at.container)?;
+    let key = key(alloc, at.ns, at.link)?;
+    Ok(Call::LinkSet {
+        att,
+        key,
+        mac: None,
+        mtu: None,
+        tx_qlen: None,
+        promisc: true,
+        allmulti: false,
+    })
+}
+
+fn addr_add(alloc: Global, words: &str) -> Result<Call, RowError> {
+    let obj = address(alloc, words)?;
+    Ok(Call::AddrAdd { obj })
+}
+
+fn route_add(alloc: Global, words: &str) -> Result<Call, RowError> {
+    let obj = route(alloc, words)?;
+    Ok(Call::RouteAdd { obj })
+}
+
+fn rule_append(alloc: Global, words: &str) -> Result<Call, RowError> {
+    let rule = rule(alloc, words)?;
+    Ok(Call::RuleAppend { rule })
+}
+
+fn setting_set(alloc: Global, words: &str) -> Result<Call, RowError> {
+    let setting = setting(alloc, words)?;
+    Ok(Call::SettingSet { setting })
+}
+
+/// `LeaseNext CONTAINER SET`; the tiny set is the second of the network.
+fn lease_next(alloc: Global, words: &str) -> Result<Call, RowError> {
+    let (container, name) = cut(words);
+    let set = set(alloc, name)?;
+    let att = att(alloc, container)?;
+    Ok(Call::LeaseNext {
+        att,
+        number: u32::from(name == "tiny"),
+        set,
+    })
+}
+
+fn cache_put(alloc: Global, container: &str) -> Result<Call, RowError> {
+    let att = att(alloc, container)?;
+    let cached = cached(alloc)?;
+    Ok(Call::CachePut { att, cached })
+}
+
+fn link_del(alloc: Global, container: &str) -> Result<Call, RowError> {
+    let att = att(alloc, container)?;
+    Ok(Call::LinkDel { att })
+}
+
+fn rule_del(alloc: Global, container: &str) -> Result<Call, RowError> {
+    let att = att(alloc, container)?;
+    Ok(Call::RuleDel { att })
+}
+
+fn setting_del(alloc: Global, container: &str) -> Result<Call, RowError> {
+    let att = att(alloc, container)?;
+    Ok(Call::SettingDel { att })
+}
+
+fn lease_del(alloc: Global, container: &str) -> Result<Call, RowError> {
+    let att = att(alloc, container)?;
+    Ok(Call::LeaseDel { att })
+}
+
+fn cache_del(alloc: Global, container: &str) -> Result<Call, RowError> {
+    let att = att(alloc, container)?;
+    Ok(Call::CacheDel { att })
+}
+
+fn cache_get(alloc: Global, container: &str) -> Result<Call, RowError> {
+    let att = att(alloc, container)?;
+    Ok(Call::CacheGet { att })
+}
+
+fn has_whole(object: Object) -> Call {
+    Call::HasObj {
+        probe: Probe::Whole(object),
+    }
+}
+
+fn has_link(alloc: Global, words: &str) -> Result<Call, RowError> {
+    let link = macvlan(alloc, words)?;
+    Ok(has_whole(Object::Link(link)))
+}
+
+fn has_address(alloc: Global, words: &str) -> Result<Call, RowError> {
+    let address = address(alloc, words)?;
+    Ok(has_whole(Object::Address(address)))
+}
+
+fn has_route(alloc: Global, words: &str) -> Result<Call, RowError> {
+    let route = route(alloc, words)?;
+    Ok(has_whole(Object::Route(route)))
+}
+
+fn has_rule(alloc: Global, words: &str) -> Result<Call, RowError> {
+    let rule = rule(alloc, words)?;
+    Ok(has_whole(Object::Rule(rule)))
+}
+
+fn has_setting(alloc: Global, words: &str) -> Result<Call, RowError> {
+    let setting = setting(alloc, words)?;
+    Ok(has_whole(Object::Setting(setting)))
+}
+
+fn has_lease(alloc: Global, words: &str) -> Result<Call, RowError> {
+    let lease = lease(alloc, words)?;
+    Ok(has_whole(Object::Lease(lease)))
+}
+
+/// `BridgeAt NAME OTHER` asks for the bridge with the hardware address of a link named `OTHER`.
+fn bridge_at(alloc: Global, words: &str) -> Result<Call, RowError> {
+    let (name, other) = cut(words);
+    let mac = link_mac(other);
+    let name = Text::of(alloc, name)?;
+    Ok(Call::HasObj {
+        probe: Probe::BridgeAt { name, mac },
+    })
+}
+
+fn has_master(alloc: Global, name: &str) -> Result<Call, RowError> {
+    let name = Text::of(alloc, name)?;
+    Ok(Call::HasObj {
+        probe: Probe::Master { name },
+    })
+}
+
+fn owners_of(alloc: Global, words: &str) -> Result<Call, RowError> {
+    let (network, kind) = cut(words);
+    let kind = kind_of(kind)?;
+    let network = Text::of(alloc, network)?;
+    Ok(Call::OwnersOf { network, kind })
+}
+
+fn pool_free(alloc: Global, name: &str) -> Result<Call, RowError> {
+    let set = set(alloc, name)?;
+    let network = Text::of(alloc, "pods")?;
+    Ok(Call::PoolFree { network, set })
+}
+
+fn ns_change(alloc: Global, name: &str, add: bool) -> Result<Call, RowError> {
+    let name = Text::of(alloc, name)?;
+    Ok(Call::NsChange { name, add })
+}
+
+fn drop_link(alloc: Global, words: &str) -> Result<Call, RowError> {
+    let (ns, name) = cut(words);
+    let key = key(alloc, ns, name)?;
+    Ok(Call::Outside {
+        change: Change::DropLink(key),
+    })
+}
+
+fn flush(table: Table) -> Result<Call, RowError> {
+    Ok(Call::Outside {
+        change: Change::Flush(table),
+    })
+}
+
+fn outside(alloc: Global, verb: &str, words: &str) -> Result<Call, RowError> {
+    match verb {
+        "NsAdd" => ns_change(alloc, words, true),
+        "NsDel" => ns_change(alloc, words, false),
+        "DropLink" => drop_link(alloc, words),
+        "Flush" if words == "nat" => flush(Table::Nat),
+        "Flush" if words == "filter" => flush(Table::Filter),
+        _ => Err(RowError::NoCall),
+    }
+}
+
+fn object_question(alloc: Global, verb: &str, words: &str) -> Result<Call, RowError> {
+    match verb {
+        "HasLink" => has_link(alloc, words),
+        "HasAddress" => has_address(alloc, words),
+        "HasRoute" => has_route(alloc, words),
+        "HasRule" => has_rule(alloc, words),
+        "HasSetting" => has_setting(alloc, words),
+        "HasLease" => has_lease(alloc, words),
+        _ => outside(alloc, verb, words),
+    }
+}
+
+fn question(alloc: Global, verb: &str, words: &str) -> Result<Call, RowError> {
+    match verb {
+        "BridgeAt" => bridge_at(alloc, words),
+        "Master" => has_master(alloc, words),
+        "CacheGet" => cache_get(alloc, words),
+        "OwnersOf" => owners_of(alloc, words),
+        "PoolFree" => pool_free(alloc, words),
+        _ => object_question(alloc, verb, words),
+    }
+}
+
+fn deletion(alloc: Global, verb: &str, words: &str) -> Result<Call, RowError> {
+    match verb {
+        "LinkDel" => link_del(alloc, words),
+        "RuleDel" => rule_del(alloc, words),
+        "SettingDel" => setting_del(alloc, words),
+        "LeaseDel" => lease_del(alloc, words),
+        "CacheDel" => cache_del(alloc, words),
+        _ => question(alloc, verb, words),
+    }
+}
+
+fn addition(alloc: Global, verb: &str, words: &str) -> Result<Call, RowError> {
+    match verb {
+        "LinkSet" => link_set(alloc, words),
+        "AddrAdd" => addr_add(alloc, words),
+        "RouteAdd" => route_add(alloc, words),
+        "RuleAppend" => rule_append(alloc, words),
+        "SettingSet" => setting_set(alloc, words),
+        "LeaseNext" => lease_next(alloc, words),
+        "CachePut" => cache_put(alloc, words),
+        _ => deletion(alloc, verb, words),
+    }
+}
+
+/// The call that the words of a row stand for.
+pub(crate) fn call_of(alloc: Global, words: &str) -> Result<Call, RowError> {
+    let (verb, words) = cut(words);
+    match verb {
+        "Begin" => begin(alloc, words),
+        "BridgeEnsure" => bridge_ensure(alloc, words),
+        "GatewayEnsure" => gateway_ensure(alloc, words),
+        "ForwardEnsure" => forward_ensure(),
+        "VethAdd" => veth_add(alloc, words),
+        "MacvlanAdd" => macvlan_add(alloc, words),
+        _ => addition(alloc, verb, words),
+    }
+}

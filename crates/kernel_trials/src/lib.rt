@@ -1,0 +1,35 @@
+//! Every call of the modelled kernel, tried once on its happy path and once on each refusal.
+//!
+//! A table has calls written as words, each with the reply that is expected of it; one test carries them out in order on a
+//! [`ListKernel`](kernel_model::ListKernel) and compares the replies as they are printed. So the equations of the calls
+//! are held against replies that were worked out by hand.
+//!
+//! What it promises: [`is_allowed`] tells exactly the calls that may be made in a host, so no row makes another one.
+//!
+//! A worked example, of rows on a host that has the device `ens1` alone. A container stands for its attachment to the
+//! network `pods` by `eth0`:
+//!
+//! ```text
+//! NsAdd /ns/a => Done
+//! Begin c1 /ns/x => NoNs
+//! BridgeEnsure cni0 => Done
+//! VethAdd c1 /ns/a eth0 veth1 cni0 => Done
+//! Begin c1 /ns/a => Taken pods/c1/eth0
+//! ```
+#![tactic(auto)]
+
+mod allowed;
+#[cfg(test)]
+mod calls;
+#[cfg(test)]
+mod objects;
+#[cfg(test)]
+mod outcomes;
+#[cfg(test)]
+mod table;
+#[cfg(test)]
+mod tests;
+#[cfg(test)]
+mod words;
+
+pub use allowed::is_allowed;

@@ -1,0 +1,254 @@
+//! The objects that the words of a row stand for.
+
+ghost use Rattle.std.specs.Prelude.{◌≡◌, [], ◌∷◌, None, IfOk};
+ghost use Rattle.kernel_types.specs.declared.object.LinkKind.TheVariants as kinds;
+ghost use Rattle.kernel_types.specs.declared.object.Tag.TheVariants as tags;
+
+use crate::words::{RowError, addr_of, cidr_of, cut, placed, port_of};
+use cni_addr::{Items, MacvlanMode, NoMemory, Range, RangeSet, Text};
+use cni_result::{AddResult, Cached, Dns, Version};
+use kernel_types::{
+    AddrObj, Att, Chain, Lease, Link, LinkKey, LinkKind, RouteObj, Rule, Setting, Table, Tag,
+    Target, link_mac,
+};
+use std::alloc::Global;
+
+/// The list of one item.
+pub(crate) fn one<T: Drop>(alloc: Global, item: T) -> Result<Items<T>, NoMemory>
+    ensures { IfOk result (λ items. items ≡ item ∷ []) }
+{
+    let mut items = Items::new(alloc);
+    items.push(item)?;
+    Ok(items)
+}
+
+/// The container's attachment by `eth0` to the network `pods`.
+pub(crate) fn att(alloc: Global, container: &str) -> Result<Att, NoMemory> {
+    let network = Text::of(alloc, "pods")?;
+    let container = Text::of(alloc, container)?;
+    let ifname = Text::of(alloc, "eth0")?;
+    Ok(Att {
+        network,
+        container,
+        ifname,
+    })
+}
+
+fn own(alloc: Global, container: &str) -> Result<Tag, NoMemory> {
+    let att = att(alloc, container)?;
+    Ok(Tag::Own(att))
+}
+
+pub(crate) fn key(alloc: Global, ns: &str, name: &str) -> Result<LinkKey, NoMemory> {
+    let ns = Text::of(alloc, ns)?;
+    let name = Text::of(alloc, name)?;
+    Ok(LinkKey { ns, name })
+}
+
+/// A link as a plugin's configuration leaves it. Takes no memory.
+fn link(
+    place: LinkKey,
+    kind: LinkKind,
+    master: Option<Text>,
+    peer: Option<LinkKey>,
+    tag: Tag,
+) -> Link
+    ensures place { result.ns ≡ place.ns }
+    ensures kind { result.kind ≡ kind }
+    ensures peer { result.peer ≡ peer }
+    ensures tag { result.tag ≡ tag }
+{
+    let LinkKey { ns, name } = place;
+    let mac = link_mac(name.as_str());
+    Link {
+        ns,
+        name,
+        kind,
+        master,
+        peer,
+        mac,
+        mtu: 1500,
+        hairpin: false,
+        promisc: false,
+        allmulti: false,
+        tx_qlen: 1000,
+        tag,
+    }
+}
+
+/// A device of the host.
+pub(crate) fn device(alloc: Global, name: &str) -> Result<Link, NoMemory>
+    ensures place { IfOk result (λ device. device.ns ≡ []) }
+    ensures kind { IfOk result (λ device. device.kind ≡ kinds.Device) }
+    ensures peer { IfOk result (λ device. device.peer ≡ None) }
+    ensures tag { IfOk result (λ device. device.tag ≡ tags.Outside) }
+{
+    let ns = Text::of(alloc, "")?;
+    let name = Text::of(alloc, name)?;
+    Ok(link(
+        LinkKey { ns, name },
+        LinkKind::Device,
+        None,
+        None,
+        Tag::Outside,
+    ))
+}
+
+/// The host's end of a veth pair, by the words of the whole pair: container, inner place, outer name and its master.
+pub(crate) fn host_end(alloc: Global, words: &str) -> Result<Link, RowError> {
+    let at = placed(words);
+    let (outer, master) = cut(at.rest);
+    let place = key(alloc, "", outer)?;
+    let master = Text::of(alloc, master)?;
+    let peer = key(alloc, at.ns, at.link)?;
+    let tag = own(alloc, at.container)?;
+    Ok(link(place, LinkKind::Veth, Some(master), Some(peer), tag))
+}
+
+/// The container's end, by the same words.
+pub(crate) fn inner_end(alloc: Global, words: &str) -> Result<Link, RowError> {
+    let at = placed(words);
+    let (outer, _) = cut(at.rest);
+    let place = key(alloc, at.ns, at.link)?;
+    let peer = key(alloc, "", outer)?;
+    let tag = own(alloc, at.container)?;
+    Ok(link(place, LinkKind::Veth, None, Some(peer), tag))
+}
+
+/// A macvlan link in bridge mode: container, place and master.
+pub(crate) fn macvlan(alloc: Global, words: &str) -> Result<Link, RowError> {
+    let at = placed(words);
+    let place = key(alloc, at.ns, at.link)?;
+    let master = Text::of(alloc, at.rest)?;
+    let tag = own(alloc, at.container)?;
+    let kind = LinkKind::Macvlan(MacvlanMode::Bridge);
+    Ok(link(place, kind, Some(master), None, tag))
+}
+
+/// Container, place and address.
+pub(crate) fn address(alloc: Global, words: &str) -> Result<AddrObj, RowError> {
+    let at = placed(words);
+    let cidr = cidr_of(at.rest)?;
+    let ns = Text::of(alloc, at.ns)?;
+    let link = Text::of(alloc, at.link)?;
+    let tag = own(alloc, at.container)?;
+    Ok(AddrObj {
+        ns,
+        link,
+        cidr,
+        tag,
+    })
+}
+
+/// The default route: container and place.
+pub(crate) fn route(alloc: Global, words: &str) -> Result<RouteObj, RowError> {
+    let at = placed(words);
+    let dst = cidr_of("0.0.0.0/0")?;
+    let gateway = addr_of("10.88.0.1")?;
+    let ns = Text::of(alloc, at.ns)?;
+    let link = Text::of(alloc, at.link)?;
+    let tag = own(alloc, at.container)?;
+    Ok(RouteObj {
+        ns,
+        dst,
+        link,
+        gw: Some(gateway),
+        tag,
+    })
+}
+
+/// A rule that accepts what comes to a port: container and port.
+pub(crate) fn rule(alloc: Global, words: &str) -> Result<Rule, RowError> {
+    let (container, port) = cut(words);
+    let port = port_of(port)?;
+    let tag = own(alloc, container)?;
+    Ok(Rule {
+        table: Table::Nat,
+        chain: Chain::Dnat,
+        src: None,
+        dst: None,
+        not_dst: false,
+        protocol: None,
+        dport: Some(port),
+        established: false,
+        target: Target::Accept,
+        tag,
+    })
+}
+
+/// The longest queue of a listening socket: container, namespace and value.
+pub(crate) fn setting(alloc: Global, words: &str) -> Result<Setting, RowError> {
+    let (container, words) = cut(words);
+    let (ns, value) = cut(words);
+    let ns = Text::of(alloc, ns)?;
+    let key = Text::of(alloc, "net.core.somaxconn")?;
+    let value = Text::of(alloc, value)?;
+    let tag = own(alloc, container)?;
+    Ok(Setting {
+        ns,
+        key,
+        value,
+        tag,
+    })
+}
+
+/// Container and address.
+pub(crate) fn lease(alloc: Global, words: &str) -> Result<Lease, RowError> {
+    let (container, addr) = cut(words);
+    let addr = addr_of(addr)?;
+    let network = Text::of(alloc, "pods")?;
+    let tag = own(alloc, container)?;
+    Ok(Lease { network, addr, tag })
+}
+
+/// A set of one range, which has its gateway in it.
+fn set_of(alloc: Global, subnet: &str, gateway: &str, end: &str) -> Result<RangeSet, RowError> {
+    let subnet = cidr_of(subnet)?;
+    let gateway = addr_of(gateway)?;
+    let end = addr_of(end)?;
+    let range = Range {
+        subnet,
+        start: gateway,
+        end,
+        gateway,
+    };
+    let ranges = one(alloc, range)?;
+    Ok(RangeSet { ranges })
+}
+
+/// The wide set, or the tiny one, which has one candidate.
+pub(crate) fn set(alloc: Global, name: &str) -> Result<RangeSet, RowError> {
+    match name {
+        "wide" => set_of(alloc, "10.88.0.0/16", "10.88.0.1", "10.88.255.254"),
+        "tiny" => set_of(alloc, "10.3.0.0/30", "10.3.0.1", "10.3.0.2"),
+        _ => Err(RowError::NoCall),
+    }
+}
+
+fn empty_result(alloc: Global) -> Result<AddResult, NoMemory> {
+    let domain = Text::of(alloc, "")?;
+    let dns = Dns {
+        nameservers: Items::new(alloc),
+        domain,
+        search: Items::new(alloc),
+        options: Items::new(alloc),
+    };
+    Ok(AddResult {
+        version: Version::V1_1,
+        interfaces: Items::new(alloc),
+        ips: Items::new(alloc),
+        routes: Items::new(alloc),
+        dns,
+    })
+}
+
+/// An entry of `/ns/a` whose result is empty.
+pub(crate) fn cached(alloc: Global) -> Result<Cached, NoMemory> {
+    let netns = Text::of(alloc, "/ns/a")?;
+    let result = empty_result(alloc)?;
+    Ok(Cached {
+        netns,
+        mappings: Items::new(alloc),
+        result,
+    })
+}

@@ -1,0 +1,81 @@
+//! The words of a row.
+
+use cni_addr::{Addr, Cidr, NoMemory, read_addr, read_cidr};
+use kernel_types::Kind;
+
+/// Why a row has no reply.
+#[derive(Clone, Copy, Debug)]
+pub(crate) enum RowError {
+    NoMemory,
+    /// Its words are no call.
+    NoCall,
+    /// Its call may not be made in the host as it is by then.
+    NotAllowed,
+}
+
+impl From<NoMemory> for RowError {
+    fn from(_error: NoMemory) -> RowError {
+        RowError::NoMemory
+    }
+}
+
+/// The first word and the words after it.
+pub(crate) fn cut(words: &str) -> (&str, &str) {
+    match words.split_once(' ') {
+        Some(parts) => parts,
+        None => (words, ""),
+    }
+}
+
+/// A container, the place of a link, and the words after these.
+#[derive(Clone, Copy)]
+pub(crate) struct Place<'a> {
+    pub(crate) container: &'a str,
+    pub(crate) ns: &'a str,
+    pub(crate) link: &'a str,
+    pub(crate) rest: &'a str,
+}
+
+pub(crate) fn placed(words: &str) -> Place<'_> {
+    let (container, words) = cut(words);
+    let (ns, words) = cut(words);
+    let (link, rest) = cut(words);
+    Place {
+        container,
+        ns,
+        link,
+        rest,
+    }
+}
+
+pub(crate) fn addr_of(word: &str) -> Result<Addr, RowError> {
+    match read_addr(word.as_bytes()) {
+        Some(addr) => Ok(addr),
+        None => Err(RowError::NoCall),
+    }
+}
+
+pub(crate) fn cidr_of(word: &str) -> Result<Cidr, RowError> {
+    match read_cidr(word.as_bytes()) {
+        Some(cidr) => Ok(cidr),
+        None => Err(RowError::NoCall),
+    }
+}
+
+pub(crate) fn port_of(word: &str) -> Result<u16, RowError> {
+    match word.parse::<u16>() {
+        Ok(port) => Ok(port),
+        Err(_) => Err(RowError::NoCall),
+    }
+}
+
+pub(crate) fn kind_of(word: &str) -> Result<Kind, RowError> {
+    match word {
+        "links" => Ok(Kind::Links),
+        "rules" => Ok(Kind::Rules),
+        "settings" => Ok(Kind::Settings),
+        "leases" => Ok(Kind::Leases),
+        "cached" => Ok(Kind::Cached),
+        _ => Err(RowError::NoCall),
+    }
+}
