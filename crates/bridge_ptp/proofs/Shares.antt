@@ -1,5 +1,5 @@
 -- The calls of `bridge` and `ptp` are of their attachment and append its share.
-use Rattle.std.proofs.Common.{◌≡◌, ℕ, Bool, true, false, ap, List, [], ◌∷◌, ◌++◌, map, Option, refl, sym, ◌∙◌, arith, append_assoc}
+use Rattle.std.proofs.Common.{◌≡◌, ℕ, Bool, true, false, ap, List, [], ◌∷◌, ◌++◌, map, refl, sym, ◌∙◌, arith, append_assoc}
 use Rattle.std.proofs.lemmas.List.{append-nil}
 use Rattle.std.specs.Prelude.{filter_map, flat_map}
 use Rattle.std.specs.List.{list_all}
@@ -12,7 +12,7 @@ use Rattle.kernel_types.specs.declared.call.Call.TheVariants.{GatewayEnsure, Add
 use Rattle.kernel_types.specs.declared.call.Given.{Given}
 use Rattle.plan_words.specs.PlanCalls.{is_plan_call_of, AppendsShare}
 use Rattle.plan_words.specs.Shapes.{host_end, inner_end, route_on, addresses_on, routes_on, masquerade_rules, forward_calls}
-use Rattle.plan_words.specs.Share.{Share, no_objects, share_after_call, share_after_calls}
+use Rattle.plan_words.specs.Share.{Share, share_after_call, share_after_calls}
 use Rattle.plan_words.proofs.Appends.{AreOwnCalls, own-calls, own-append, own-if, own-each, own-address_calls, own-route_calls, own-rule_calls, own-forward_calls, own-addresses, own-routes, own-masquerades, share-laid_on, appends-share}
 use Rattle.plan_words.proofs.CallLists.{share_after_calls-append, share_after_calls-gateways, share_after_calls-forward, share_after_calls-if, share_after_calls-rules, share_plus-links, share_plus-laid_on}
 use Rattle.plan_words.proofs.KeyLists.{list_all-append, list_all-every, list_all-map, list_all-flat, list_all-each_key_once}
@@ -72,7 +72,7 @@ ptp-appends_before conf att netns =
     appends-share att (ptp_calls_before conf att netns) (ptp_share_before conf att netns) (own-ptp_before conf att netns).all
     (λ s. sym (share_plus-links s (host_end att netns _ conf.mtu false ∷ inner_end att netns conf.mtu ∷ [])))
 
-abbrev is_own_object : Att → AddressOrRoute → Bool
+abbrev pub is_own_object : Att → AddressOrRoute → Bool
 is_own_object att (Address obj) = is_own att obj.tag
 is_own_object att (Route obj) = is_own att obj.tag
 
@@ -83,7 +83,7 @@ own-call_for att (Route obj) h = h
 own-objects_for : (att : Att) (netns : List ℕ) (g : Given) → list_all (is_own_object att) (ptp_objects_for att netns g) ≡ true
 own-objects_for att netns g = grind (arith, att_eq-refl att)
 
-own-objects : (conf : PtpConf) (att : Att) (netns : List ℕ) (given : List Given) → list_all (is_own_object att) (ptp_objects conf att netns given) ≡ true
+pub own-objects : (conf : PtpConf) (att : Att) (netns : List ℕ) (given : List Given) → list_all (is_own_object att) (ptp_objects conf att netns given) ≡ true
 own-objects conf att netns given =
     list_all-each_key_once (is_own_object att) same_key (flat_map (ptp_objects_for att netns) given ++ map (λ r. Route (route_on att netns given r)) conf.ipam.routes)
     (list_all-append (is_own_object att) (flat_map (ptp_objects_for att netns) given) (map (λ r. Route (route_on att netns given r)) conf.ipam.routes)

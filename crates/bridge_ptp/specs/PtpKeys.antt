@@ -1,5 +1,5 @@
 -- What tells the addresses and routes of a `ptp` attachment apart.
-use Rattle.std.specs.Prelude.{ℕ, Bool, true, false, not, ◌&&◌, List, [], ◌∷◌, Some, None}
+use Rattle.std.specs.Prelude.{ℕ, Bool, false, not, ◌&&◌, List, [], ◌∷◌, Some, None}
 use Rattle.std.specs.Str.{bytes_eq}
 use Rattle.cni_addr.specs.Network.{whole}
 use Rattle.cni_addr.specs.declared.address.Addr.{Addr}

@@ -3,7 +3,6 @@
 ghost use Rattle.std.specs.Prelude.{◌≡◌, ◌+◌, ◌*◌, ◌≤◌, ◌<◌, ℕ, List, false, length, map, slice_get, Some};
 ghost use Rattle.kernel_types.specs.declared.object.Att.{Att};
 ghost use Rattle.plan_words.specs.Rows.{present};
-ghost use Rattle.plan_words.specs.Shapes as shapes;
 ghost use Rattle.bridge_ptp.specs.Ptp as plan;
 ghost use Rattle.bridge_ptp.specs.PtpKeys as keys;
 

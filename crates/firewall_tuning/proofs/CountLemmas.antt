@@ -1,8 +1,7 @@
 -- The keys of the rules of `firewall` and of the settings of `tuning`.
-use Rattle.std.proofs.Common.{◌≡◌, ℕ, zero, suc, ◌+◌, ◌*◌, ◌/◌, ◌%◌, ◌<◌, ◌≤◌, Bool, true, false, List, [], ◌∷◌, ◌++◌, map, length, take, Option, Some, None, refl, sym, ◌∙◌, ap, arith, add-one}
+use Rattle.std.proofs.Common.{◌≡◌, ℕ, zero, suc, ◌+◌, ◌*◌, ◌/◌, ◌%◌, Bool, true, false, List, [], ◌∷◌, ◌++◌, map, length, take, Option, Some, None, refl, ◌∙◌, ap, arith}
 use Rattle.std.specs.Prelude.{◌&&◌, flat_map, option_map, slice_get, if◌then◌else◌}
 use Rattle.std.specs.List.{list_any}
-use Rattle.std.specs.Str.{bytes_eq}
 use Rattle.std.specs.Cmp.{IsPartialEquivalence, partial_equiv_from_equiv}
 use Rattle.std.specs.Cmp.Lexicographic.{nat_list_eq_equiv}
 use Rattle.std.proofs.Math.Bool.{beq}
@@ -20,7 +19,7 @@ use Rattle.kernel_types.specs.declared.call.Given.{Given}
 use Rattle.plan_words.specs.Keys.{each_key_once}
 use Rattle.plan_words.specs.Rows.{present, spread}
 use Rattle.plan_words.proofs.CountLemmas.{whole-same}
-use Rattle.plan_words.proofs.RowLemmas.{length-spread, spread-none, spread-some, count-more, present-map_some, each_key_once-map}
+use Rattle.plan_words.proofs.RowLemmas.{length-spread, spread-none, spread-some, count-more, each_key_once-map}
 use Rattle.firewall_tuning.specs.Counts.{forward_keys, is_same_key}
 use Rattle.firewall_tuning.specs.Firewall.{accept_replies_to, accept_from, forward_of}
 use Rattle.firewall_tuning.specs.Tuning.{setting_of}

@@ -9,22 +9,22 @@ use Rattle.kernel_types.specs.Equal.{rule_eq}
 use Rattle.kernel_types.specs.Words.{is_own}
 use Rattle.kernel_types.proofs.Cases.{att_eq-refl}
 use Rattle.kernel_types.specs.declared.object.Att.{Att}
-use Rattle.kernel_types.specs.declared.object.Host.{Host}
 use Rattle.kernel_types.specs.declared.object.Link.{Link}
 use Rattle.kernel_types.specs.declared.call.Call.{Call}
 use Rattle.kernel_types.specs.declared.call.Call.TheVariants.{SettingSet, LinkSet}
-use Rattle.plan_words.specs.PlanCalls.{AllDone, applied, AppendsShare}
-use Rattle.plan_words.specs.Share.{Share, share_of, no_objects, share_after_call, share_after_calls}
+use Rattle.plan_words.specs.PlanCalls.{AppendsShare}
+use Rattle.plan_words.specs.Share.{Share, share_of, share_after_call, share_after_calls}
 use Rattle.plan_words.proofs.Appends.{AreOwnCalls, own-one, own-append, own-if, own-rule_calls, own-setting_calls, appends-share, share-applied}
 use Rattle.plan_words.proofs.CallLists.{share_after_calls-append, share_after_calls-rules, share_after_calls-settings, share_plus-rules}
 use Rattle.plan_words.proofs.KeyLists.{list_all-every, list_all-flat, list_all-each_key_once}
 use Rattle.firewall_tuning.specs.Firewall.{forward_of, firewall_rules, firewall_calls_of}
 use Rattle.firewall_tuning.specs.Shares.{firewall_share_of, share_tuned, TunesShare}
-use Rattle.firewall_tuning.specs.Tuning.{setting_of, tuning_settings, sets_any, link_set_calls, tuned, tuning_calls_of}
+use Rattle.firewall_tuning.specs.Tuning.{setting_of, tuning_settings, sets_any, link_set_calls, tuning_calls_of}
 
 -- ---- firewall
 
-own-firewall_rules : (att : Att) (ips : List IpEntry) → list_all (λ x. is_own att x.tag) (firewall_rules att ips) ≡ true
+-- each rule is its attachment's
+pub own-firewall_rules : (att : Att) (ips : List IpEntry) → list_all (λ x. is_own att x.tag) (firewall_rules att ips) ≡ true
 own-firewall_rules att ips =
     list_all-each_key_once (λ x. is_own att x.tag) rule_eq (flat_map (forward_of att) ips)
     (list_all-flat (λ x. is_own att x.tag) (forward_of att) (λ ip. grind (arith, att_eq-refl att)) ips)
@@ -39,7 +39,8 @@ firewall-appends att ips =
 
 -- ---- tuning
 
-own-settings : (conf : TuningConf) (att : Att) (netns : List ℕ) → list_all (λ x. is_own att x.tag) (tuning_settings conf att netns) ≡ true
+-- each setting is its attachment's
+pub own-settings : (conf : TuningConf) (att : Att) (netns : List ℕ) → list_all (λ x. is_own att x.tag) (tuning_settings conf att netns) ≡ true
 own-settings conf att netns =
     list_all-each_key_once (λ x. is_own att x.tag) is_same_setting (map (setting_of att netns) conf.sysctl)
     (list_all-every (λ x. is_own att x.tag) (setting_of att netns) (λ s. att_eq-refl att) conf.sysctl)

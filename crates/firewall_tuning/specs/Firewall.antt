@@ -1,5 +1,5 @@
 -- The plan of the `firewall` plugin: what is forwarded to and from the container. The rule set is this project's own, after iptables.
-use Rattle.std.specs.Prelude.{Bool, true, false, List, [], ◌∷◌, map, flat_map, Some, None}
+use Rattle.std.specs.Prelude.{true, false, List, [], ◌∷◌, map, flat_map, Some, None}
 use Rattle.cni_addr.specs.Network.{whole}
 use Rattle.cni_addr.specs.declared.address.Addr.{Addr}
 use Rattle.cni_result.specs.declared.result.IpEntry.{IpEntry}

@@ -1,5 +1,5 @@
 -- The calls of `macvlan` are of their attachment and append its share.
-use Rattle.std.proofs.Common.{◌≡◌, ℕ, ap, List, [], ◌∷◌, ◌++◌, map, refl, sym, ◌∙◌, arith}
+use Rattle.std.proofs.Common.{◌≡◌, ℕ, ap, List, [], ◌∷◌, ◌++◌, map, sym, ◌∙◌}
 use Rattle.std.proofs.lemmas.List.{append-nil}
 use Rattle.net_conf.specs.declared.first.MacvlanConf.{MacvlanConf}
 use Rattle.kernel_types.proofs.Cases.{att_eq-refl}

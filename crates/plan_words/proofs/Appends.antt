@@ -20,7 +20,7 @@ use Rattle.kernel_types.specs.declared.call.Call.{Call}
 use Rattle.kernel_types.specs.declared.call.Call.TheVariants.{AddrAdd, RouteAdd, RuleAppend, SettingSet, ForwardEnsure}
 use Rattle.kernel_types.specs.declared.call.Given.{Given}
 use Rattle.plan_words.specs.PlanCalls.{is_plan_call_of, AllDone, applied, AppendsShare}
-use Rattle.plan_words.specs.Shapes.{address_on, route_on, masquerade_of, addresses_on, routes_on, masquerade_rules, forward_for, forward_calls}
+use Rattle.plan_words.specs.Shapes.{address_on, route_on, masquerade_of, addresses_on, routes_on, masquerade_rules, forward_calls}
 use Rattle.plan_words.specs.Share.{Share, share_of, share_plus, share_after_calls}
 use Rattle.plan_words.proofs.CallLists.{share_after_calls-append, share_after_calls-addresses, share_after_calls-routes, share_after_calls-rules}
 use Rattle.plan_words.proofs.KeyLists.{list_all-append, list_all-map, list_all-every, list_all-flat, list_all-if, list_all-each_key_once}

@@ -14,7 +14,6 @@ use Rattle.kernel_types.specs.declared.object.Link.{Link}
 use Rattle.kernel_types.specs.declared.object.AddrObj.{AddrObj}
 use Rattle.kernel_types.specs.declared.object.RouteObj.{RouteObj}
 use Rattle.kernel_types.specs.declared.object.Host.{Host}
-use Rattle.kernel_types.specs.declared.call.Reply.{Reply}
 use Rattle.kernel_types.specs.declared.call.Reply.TheVariants.{Gone}
 use Rattle.plan_words.specs.Share.{share_of}
 use Rattle.plan_words.proofs.KeyLists.{filter-none}

@@ -1,9 +1,8 @@
 -- A call of a plan that was not done leaves the host, and so does a lease that found no address.
-use Rattle.std.proofs.Common.{◌≡◌, ℕ, Bool, true, false, List, Option, Some, None, refl, arith}
-use Rattle.std.specs.Prelude.{find, if◌then◌else◌, ◌&&◌}
+use Rattle.std.proofs.Common.{◌≡◌, ℕ, Bool, true, List, Option, Some, None, refl}
+use Rattle.std.specs.Prelude.{find}
 use Rattle.std.specs.List.{list_any}
 use Rattle.std.specs.Option.{option_map, option_or}
-use Rattle.std.specs.Str.{bytes_eq}
 use Rattle.cni_addr.specs.declared.address.Addr.{Addr}
 use Rattle.cni_addr.specs.declared.address.Cidr.{Cidr}
 use Rattle.cni_addr.specs.declared.address.Family.{Family}
@@ -11,10 +10,10 @@ use Rattle.cni_addr.specs.declared.mac.Mac.{Mac}
 use Rattle.cni_addr.specs.declared.range.RangeSet.{RangeSet}
 use Rattle.cni_result.specs.declared.cached.Cached.{Cached}
 use Rattle.ip_pool.specs.Pool.{pick_of}
-use Rattle.kernel_types.specs.Equal.{addr_eq, rule_eq}
-use Rattle.kernel_types.specs.Words.{is_own, is_host_ns, has_named_ns, link_at, is_host_link, has_host_bridge}
+use Rattle.kernel_types.specs.Equal.{rule_eq}
+use Rattle.kernel_types.specs.Words.{is_own, has_named_ns, link_at, is_host_link, has_host_bridge}
 use Rattle.kernel_types.specs.Apply.{apply}
-use Rattle.kernel_types.specs.Apply.Calls.{append_unless_taken, bridge_or_new, new_bridge, gateway_ensure_of, forward_key, forward_ensure_of, has_bridge_as_master, veth_add_of, has_master, macvlan_add_of, is_own_at, link_set_of, has_link_of, addr_add_of, route_add_of, rule_append_of, setting_set_of, cache_put_of, is_same_addr, is_same_route, is_same_setting, leased_addresses, last_leased, lease_taken, lease_next_of}
+use Rattle.kernel_types.specs.Apply.Calls.{bridge_or_new, new_bridge, gateway_ensure_of, forward_ensure_of, has_bridge_as_master, veth_add_of, has_master, macvlan_add_of, is_own_at, link_set_of, has_link_of, addr_add_of, route_add_of, rule_append_of, setting_set_of, cache_put_of, is_same_addr, is_same_route, is_same_setting, leased_addresses, last_leased, lease_taken, lease_next_of}
 use Rattle.kernel_types.proofs.Cases.{by_test, by_way}
 use Rattle.kernel_types.specs.declared.object.Att.{Att}
 use Rattle.kernel_types.specs.declared.object.LinkKey.{LinkKey}

@@ -2,7 +2,7 @@
 use Rattle.std.proofs.Common.{◌≡◌, ℕ, ◌+◌, ◌-◌, ◌*◌, ◌/◌, ◌%◌, ◌<◌, ◌≤◌, Bool, true, false, cond, List, [], ◌∷◌, ◌++◌, map, length, Option, Some, None, refl, sym, ◌∙◌, ap, arith}
 use Rattle.std.specs.Prelude.{◌&&◌, ◌==◌, find, flat_map, option_map, slice_get, if◌then◌else◌}
 use Rattle.std.specs.Option.{option_eq}
-use Rattle.std.proofs.lemmas.List.{length-append, length-map, map-append}
+use Rattle.std.proofs.lemmas.List.{length-append, map-append}
 use Rattle.cni_addr.specs.Codes.{family_eq}
 use Rattle.cni_addr.specs.Equal.{addr_eq, cidr_eq}
 use Rattle.cni_addr.specs.Network.{whole, network_of}
@@ -21,8 +21,8 @@ use Rattle.kernel_types.specs.declared.call.Given.{Given}
 use Rattle.plan_words.specs.Rows.{present, laid}
 use Rattle.plan_words.proofs.CountLemmas.{whole-same}
 use Rattle.plan_words.proofs.RowLemmas.{length-laid, laid-none, laid-some, present-laid, present-append, flat_map-made, slice_get-before, slice_get-behind}
-use Rattle.portmap.specs.PortKeys.{dnat_key, masquerade_key, from_host_key, keys_to, keys_for, mapping_keys}
-use Rattle.portmap.specs.Portmap.{loopback, host_ip_allows, dnat_of, hostport_masquerade, from_host, masquerades_of, rules_for, mapping_rules}
+use Rattle.portmap.specs.PortKeys.{dnat_key, masquerade_key, from_host_key, keys_for, mapping_keys}
+use Rattle.portmap.specs.Portmap.{loopback, host_ip_allows, dnat_of, hostport_masquerade, from_host, rules_for, mapping_rules}
 use Rattle.portmap.specs.declared.counts.PortKey.{PortKey}
 
 -- ---- rules before they are an attachment's

@@ -1,5 +1,5 @@
 -- The calls of `portmap` are of their attachment and append its rules.
-use Rattle.std.proofs.Common.{◌≡◌, Bool, true, false, List, [], ◌∷◌, map, Option, Some, None, refl, sym, ◌∙◌, arith}
+use Rattle.std.proofs.Common.{◌≡◌, Bool, true, false, List, ◌∷◌, Option, Some, None, refl, sym, ◌∙◌, arith}
 use Rattle.std.specs.Prelude.{flat_map, find}
 use Rattle.std.specs.List.{list_all}
 use Rattle.cni_addr.specs.Codes.{family_eq}
@@ -15,7 +15,6 @@ use Rattle.kernel_types.proofs.Cases.{att_eq-refl}
 use Rattle.kernel_types.specs.declared.object.Att.{Att}
 use Rattle.kernel_types.specs.declared.object.Rule.{Rule}
 use Rattle.plan_words.specs.PlanCalls.{AppendsShare}
-use Rattle.plan_words.specs.Share.{Share, no_objects, share_after_calls}
 use Rattle.plan_words.proofs.Appends.{AreOwnCalls, own-rule_calls, appends-share}
 use Rattle.plan_words.proofs.CallLists.{share_after_calls-rules, share_plus-rules}
 use Rattle.plan_words.proofs.KeyLists.{list_all-append, list_all-flat, list_all-if, list_all-each_key_once}
@@ -42,7 +41,8 @@ own-mapping_rules snat att ips m =
     let v6 = find (λ ip. family_eq ip.address.addr.family V6) ips in
     list_all-append (λ x. is_own att x.tag) (rules_for snat att m v4) (rules_for snat att m v6) (own-rules_for snat att m v4) (own-rules_for snat att m v6)
 
-own-portmap_rules : (conf : PortmapConf) (att : Att) (mappings : List PortMapping) (ips : List IpEntry) → list_all (λ x. is_own att x.tag) (portmap_rules conf att mappings ips) ≡ true
+-- each rule is its attachment's
+pub own-portmap_rules : (conf : PortmapConf) (att : Att) (mappings : List PortMapping) (ips : List IpEntry) → list_all (λ x. is_own att x.tag) (portmap_rules conf att mappings ips) ≡ true
 own-portmap_rules conf att mappings ips =
     list_all-each_key_once (λ x. is_own att x.tag) rule_eq (flat_map (mapping_rules conf.snat att ips) mappings)
     (list_all-flat (λ x. is_own att x.tag) (mapping_rules conf.snat att ips) (own-mapping_rules conf.snat att ips) mappings)

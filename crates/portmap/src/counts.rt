@@ -1,6 +1,6 @@
 //! How many calls `portmap` makes. Nothing here takes memory.
 
-ghost use Rattle.std.specs.Prelude.{◌≡◌, ℕ, List, length, map, find, option_map};
+ghost use Rattle.std.specs.Prelude.{◌≡◌, List, length, map, find, option_map};
 ghost use Rattle.cni_addr.specs.Codes.{family_eq};
 ghost use Rattle.cni_result.specs.declared.result.IpEntry.{IpEntry};
 ghost use Rattle.kernel_types.specs.declared.object.Att.{Att};

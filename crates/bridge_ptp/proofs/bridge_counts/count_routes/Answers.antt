@@ -1,7 +1,6 @@
-use Rattle.std.proofs.Common.{◌≡◌, ◌∙◌, ap, map, length}
+use Rattle.std.proofs.Common.{map}
 use Rattle.cni_result.specs.declared.result.RouteEntry.{RouteEntry}
 use Rattle.kernel_types.specs.Apply.Calls.{is_same_route}
-use Rattle.plan_words.specs.Keys.{each_key_once}
 use Rattle.plan_words.specs.Rows.{present}
 use Rattle.plan_words.specs.Shapes.{route_on}
 use Rattle.plan_words.proofs.CountLemmas.{same-route}

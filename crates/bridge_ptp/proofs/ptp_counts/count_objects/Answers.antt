@@ -1,4 +1,4 @@
-use Rattle.std.proofs.Common.{◌≡◌, ◌++◌, ◌∙◌, false, map, Some, sym, ap, length}
+use Rattle.std.proofs.Common.{◌++◌, ◌∙◌, false, map, Some, sym, ap, length}
 use Rattle.cni_result.specs.declared.result.RouteEntry.{RouteEntry}
 use Rattle.plan_words.specs.Keys.{each_key_once}
 use Rattle.plan_words.specs.Rows.{present, spread}

@@ -1,4 +1,4 @@
-use Rattle.std.proofs.Common.{◌≡◌, ◌+◌, length, arith}
+use Rattle.std.proofs.Common.{arith}
 use Rattle.plan_words.specs.Rows.{present}
 use Rattle.bridge_ptp.specs.Ptp.{ptp_objects}
 use Rattle.bridge_ptp.proofs.PtpLemmas.{length-parted}

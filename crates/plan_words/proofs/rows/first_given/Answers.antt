@@ -1,4 +1,4 @@
-use Rattle.std.proofs.Common.{◌≡◌, ◌∙◌, sym, ap, Some, None, arith}
+use Rattle.std.proofs.Common.{◌∙◌, sym, ap, Some, arith}
 use Rattle.cni_addr.specs.Codes.{family_eq}
 use Rattle.kernel_types.specs.declared.call.Given.{Given}
 use Rattle.plan_words.proofs.CountLemmas.{find-none_more, find-passed_more, find-found, find-end}
