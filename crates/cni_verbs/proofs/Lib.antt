@@ -1,6 +1,7 @@
 pub mod Arguments
 pub mod Asked
 pub mod BackCounts
+pub mod CallsOrOver
 pub mod CheckCounts
 pub mod Ends
 pub mod Gathered

@@ -1,9 +1,8 @@
 -- What a phase calls next, and how it ends.
-use Rattle.std.proofs.Common.{◌≡◌, ℕ, ◌+◌, ◌^◌, ◌<◌, ◌≤◌, List, [], ◌∷◌, length, drop, refl, sym, ap, ◌∙◌, subst, arith, Option, Some, None, Result, inl, inr}
+use Rattle.std.proofs.Common.{◌≡◌, ℕ, ◌^◌, ◌<◌, ◌≤◌, List, [], ◌∷◌, length, drop, refl, sym, ap, ◌∙◌, subst, arith, Option, Some, None, Result, inl, inr}
 use Rattle.std.specs.Prelude.{◌⊎◌, slice_get, option_map, IfOk, Ok, Err}
 use Rattle.std.proofs.lemmas.List.{drop_all}
 use Rattle.cni_addr.specs.declared.address.Addr.{Addr}
-use Rattle.cni_addr.specs.declared.range.RangeSet.{RangeSet}
 use Rattle.net_conf.specs.declared.list.NetList.{NetList}
 use Rattle.pod_file.specs.declared.command.Command.{Command}
 use Rattle.kernel_types.specs.declared.call.Kind.{Kind}
@@ -12,7 +11,7 @@ use Rattle.kernel_types.specs.declared.call.Call.TheVariants.{Begin, LeaseNext, 
 use Rattle.cni_verbs.specs.CommandWords.{att_of}
 use Rattle.cni_verbs.specs.Wanted.{sets_of, kinds_of, deletion}
 use Rattle.cni_verbs.specs.Script as script
-use Rattle.cni_verbs.specs.Script.{State, Finish, before_of, back_of, next_call, finish_of}
+use Rattle.cni_verbs.specs.Script.{Finish, before_of, back_of, next_call, finish_of}
 use Rattle.cni_verbs.specs.Phases.{Stands, IsPrepared, IsKept, IsKeptBy, IsPhaseOf, IsSameButPrepared, denied, questions_about, questions_left, state_in, state_outside, state_by_phase}
 use Rattle.cni_verbs.specs.Progress.{answer_by}
 use Rattle.cni_verbs.specs.declared.answer.Ending.{Ending}
@@ -21,7 +20,7 @@ use Rattle.cni_verbs.specs.declared.answer.Question.{Question}
 use Rattle.cni_verbs.specs.declared.inquiry.Inquiry.{Inquiry}
 use Rattle.cni_verbs.specs.declared.phase.Phase.{Phase}
 use Rattle.cni_verbs.specs.declared.phase.Phase.TheVariants as phases
-use Rattle.cni_verbs.proofs.PhaseSteps.{IsLeft, left_of, left_or_none}
+use Rattle.cni_verbs.proofs.PhaseSteps.{left_of, left_or_none}
 
 pub ok_by : {A E : Type 0} (r : Result A E) {x y : A} → x ≡ y → IfOk r (λ v. v ≡ x) → IfOk r (λ v. v ≡ y)
 ok_by (Ok v) e h = h ∙ e

@@ -1,5 +1,5 @@
 -- What a verb calls and what it answers, as a function of the list, the command and all replies so far.
-use Rattle.std.specs.Prelude.{◌≡◌, ℕ, ◌+◌, Bool, true, false, List, [], ◌∷◌, ◌++◌, length, filter_map, Option, Some, None, ⊤, if◌then◌else◌}
+use Rattle.std.specs.Prelude.{ℕ, ◌+◌, Bool, true, false, List, [], ◌∷◌, ◌++◌, length, filter_map, Option, Some, None, ⊤, if◌then◌else◌}
 use Rattle.cni_addr.specs.declared.address.Addr.{Addr}
 use Rattle.cni_addr.specs.declared.range.RangeSet.{RangeSet}
 use Rattle.cni_result.specs.declared.cached.Cached.{Cached}
@@ -19,7 +19,7 @@ use Rattle.kernel_types.specs.declared.call.Reply.{Reply}
 use Rattle.kernel_types.specs.declared.call.Reply.TheVariants.{Done, NoNs, NoLink, Taken, Empty, Leased, Gone, Has, Owners, Entry, Fault}
 use Rattle.cni_verbs.specs.CommandWords.{att_of, mappings_of, add_refusal, del_refusal, netns_refusal, drop_refusal}
 use Rattle.cni_verbs.specs.Questions.{check_questions, status_questions}
-use Rattle.cni_verbs.specs.Sweep.{Gc, Job, Sweep, Work, start_work, step_call, worked}
+use Rattle.cni_verbs.specs.Sweep.{Gc, Job, Sweep, Work, start_work, step_call, work_after}
 use Rattle.cni_verbs.specs.Wanted.{sets_of, calls_before, back_calls, kinds_of, deletion}
 use Rattle.cni_verbs.specs.declared.answer.Cause.{Cause}
 use Rattle.cni_verbs.specs.declared.answer.Cause.TheVariants as causes
@@ -159,9 +159,9 @@ changed number (Owners owners) = Yes
 changed number (Entry cached) = Yes
 changed number Fault = Refused (causes.Fault number)
 
-abbrev pub noted : ℕ → List ℕ → Bool → List ℕ
-noted number faults true = faults ++ number ∷ []
-noted number faults false = faults
+abbrev pub faults_after : ℕ → List ℕ → Bool → List ℕ
+faults_after number faults true = faults ++ number ∷ []
+faults_after number faults false = faults
 
 unfoldable pub advance : NetList → Command → ℕ → State → Reply → State
 advance list c number AtBegin r = at_begin list c number r
@@ -173,7 +173,7 @@ advance list c number (Deleting next left ending) r = at_deletion number next le
 advance list c number FindingEntry r = at_entry list c number r
 advance list c number (Asking next left) r = at_question number next left r
 advance list c number (Changing change) r = Over (changed number r) []
-advance list c number (Collecting work faults) r = Collecting (worked (gc_of list c) work.jobs work.sweeps r) (noted number faults (is_fault r))
+advance list c number (Collecting work faults) r = Collecting (work_after (gc_of list c) work.jobs work.sweeps r) (faults_after number faults (is_fault r))
 advance list c number (Over ending given) r = Over ending given
 
 -- ---- the start

@@ -1,6 +1,6 @@
 -- A garbage collection as work that is left: sweeps over the owners of a kind, and jobs of single owners (CNI specification, section 3,
 -- "Garbage-collecting unused resources", and libcni, which deletes the cached attachments first).
-use Rattle.std.specs.Prelude.{ℕ, ◌&&◌, Bool, true, false, not, List, [], ◌∷◌, ◌++◌, map, filter}
+use Rattle.std.specs.Prelude.{ℕ, ◌&&◌, Bool, false, not, List, [], ◌∷◌, map, filter}
 use Rattle.std.specs.List.{list_any}
 use Rattle.std.specs.Str.{bytes_eq}
 use Rattle.kernel_types.specs.declared.object.Att.{Att}
@@ -9,7 +9,7 @@ use Rattle.kernel_types.specs.declared.call.Call.TheVariants.{CacheGet}
 use Rattle.kernel_types.specs.declared.call.Kind.{Kind}
 use Rattle.kernel_types.specs.declared.call.Kind.TheVariants as kinds
 use Rattle.kernel_types.specs.declared.call.Reply.{Reply}
-use Rattle.kernel_types.specs.declared.call.Reply.TheVariants.{Done, NoNs, NoLink, Taken, Empty, Leased, Gone, Has, Owners, Entry, Fault}
+use Rattle.kernel_types.specs.declared.call.Reply.TheVariants.{Gone, Owners, Entry, Fault}
 use Rattle.pod_file.specs.declared.command.ValidAtt.{ValidAtt}
 use Rattle.cni_verbs.specs.Wanted.{deletion}
 
@@ -31,7 +31,7 @@ pub record Gc : Type 0 where
 
 -- one step for one owner: its cached entry is read, or a kind is deleted until nothing of it is left
 pub data Step : Type 0 where
-  Look : Step
+  AskCached : Step
   Delete : (kind : Kind) → Step
 
 -- the owners of this kind are asked for, and these steps are made for each of them that is not valid
@@ -52,12 +52,12 @@ pub record Work : Type 0 where
   pub sweeps : List Sweep
 
 abbrev pub step_call : Att → Step → Call
-step_call att Look = CacheGet att
+step_call att AskCached = CacheGet att
 step_call att (Delete kind) = deletion att kind
 
 -- a DEL for each owner of a cached entry
 abbrev pub first_sweep : List Kind → Sweep
-first_sweep kinds_of_del = record { kind = kinds.Cached; step = Look; more = map Delete kinds_of_del }
+first_sweep kinds_of_del = record { kind = kinds.Cached; step = AskCached; more = map Delete kinds_of_del }
 
 abbrev pub kind_sweep : Kind → Sweep
 kind_sweep kind = record { kind = kind; step = Delete kind; more = [] }
@@ -102,7 +102,7 @@ after_job j jobs sweeps Fault = record { jobs = jobs; sweeps = sweeps }
 after_job j jobs sweeps r = record { jobs = j ∷ jobs; sweeps = sweeps }
 
 -- a fault ends the sweep that could not ask, or the owner's part of it
-abbrev pub worked : Gc → List Job → List Sweep → Reply → Work
-worked gc [] [] r = record { jobs = []; sweeps = [] }
-worked gc [] (s ∷ sweeps) r = after_owners gc s sweeps r
-worked gc (j ∷ jobs) sweeps r = after_job j jobs sweeps r
+abbrev pub work_after : Gc → List Job → List Sweep → Reply → Work
+work_after gc [] [] r = record { jobs = []; sweeps = [] }
+work_after gc [] (s ∷ sweeps) r = after_owners gc s sweeps r
+work_after gc (j ∷ jobs) sweeps r = after_job j jobs sweeps r

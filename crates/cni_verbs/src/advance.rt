@@ -1,6 +1,6 @@
 //! The phase after a reply. Nothing here takes memory.
 
-ghost use Rattle.std.specs.Prelude.{◌≡◌, ℕ, ◌+◌, ◌<◌, ◌≤◌, ◌^◌, [], ◌∷◌, ◌++◌, List, length, drop, Some, None, MatchBool, vec_capacity};
+ghost use Rattle.std.specs.Prelude.{◌≡◌, ℕ, ◌+◌, ◌<◌, ◌≤◌, ◌^◌, [], ◌∷◌, List, length, drop, Some, None, MatchBool, vec_capacity};
 ghost use Rattle.cni_addr.specs.declared.address.Addr.{Addr};
 ghost use Rattle.net_conf.specs.declared.list.NetList.{NetList};
 ghost use Rattle.pod_file.specs.declared.command.Command.{Command};
@@ -166,16 +166,7 @@ fn after_entry(number: u64, reply: Reply) -> Phase
             questions: None,
         }),
         Reply::Entry(None) => Phase::Over(Ending::Refused(Cause::Unknown)),
-        Reply::Done
-        | Reply::NoNs
-        | Reply::NoLink
-        | Reply::Taken(_)
-        | Reply::Empty
-        | Reply::Leased(_)
-        | Reply::Gone(_)
-        | Reply::Has(_)
-        | Reply::Owners(_)
-        | Reply::Fault => Phase::Over(Ending::Refused(Cause::Fault(number))),
+        _ => Phase::Over(Ending::Refused(Cause::Fault(number))),
     }
 }
 
@@ -191,16 +182,7 @@ fn after_question(mut inquiry: Inquiry, number: u64, reply: Reply) -> Phase
             Phase::Asking(inquiry)
         }
         Reply::Has(false) => Phase::Denied(inquiry),
-        Reply::Done
-        | Reply::NoNs
-        | Reply::NoLink
-        | Reply::Taken(_)
-        | Reply::Empty
-        | Reply::Leased(_)
-        | Reply::Gone(_)
-        | Reply::Owners(_)
-        | Reply::Entry(_)
-        | Reply::Fault => Phase::Over(Ending::Refused(Cause::Fault(number))),
+        _ => Phase::Over(Ending::Refused(Cause::Fault(number))),
     }
 }
 
@@ -214,14 +196,7 @@ fn changed(number: u64, reply: Reply) -> Ending
         Reply::Taken(tag) => Ending::Refused(Cause::NameTaken(tag)),
         Reply::Gone(false) => Ending::Refused(Cause::NothingThere),
         Reply::Fault => Ending::Refused(Cause::Fault(number)),
-        Reply::Done
-        | Reply::NoLink
-        | Reply::Empty
-        | Reply::Leased(_)
-        | Reply::Gone(true)
-        | Reply::Has(_)
-        | Reply::Owners(_)
-        | Reply::Entry(_) => Ending::Yes,
+        _ => Ending::Yes,
     }
 }
 
@@ -232,16 +207,7 @@ fn is_changing(phase: &Phase) -> bool
 {
     match phase {
         Phase::Changing(_) => true,
-        Phase::AtBegin
-        | Phase::BeforeLeases(_)
-        | Phase::Leasing
-        | Phase::AfterLeases { .. }
-        | Phase::ReadingCache(_)
-        | Phase::Deleting(_, _)
-        | Phase::FindingEntry
-        | Phase::Asking(_)
-        | Phase::Denied(_)
-        | Phase::Over(_) => false,
+        _ => false,
     }
 }
 

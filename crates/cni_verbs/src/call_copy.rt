@@ -1,9 +1,11 @@
 //! Copies of calls. Texts are shared, so a copy costs what the lists of a call cost.
 
 ghost use Rattle.std.specs.Prelude.{◌≡◌, IfOk};
+ghost use Rattle.kernel_types.specs.declared.call.Call.TheVariants as calls;
 
-use cni_addr::{Duplicate, NoMemory};
-use kernel_types::{Call, Change, Object, Probe};
+use cni_addr::{Duplicate, Mac, NoMemory, RangeSet, Text};
+use cni_result::Cached;
+use kernel_types::{Att, Call, Change, Link, LinkKey, Object, Probe};
 
 fn copy_object(object: &Object) -> Result<Object, NoMemory>
     ensures { IfOk result (λ twin. twin ≡ object.now) }
@@ -40,15 +42,81 @@ fn copy_change(change: &Change) -> Result<Change, NoMemory>
     }
 }
 
+// A call of more than one part is put together last, so that a want of memory lets go of no half of it.
+
+fn copy_begin(att: &Att, netns: &Text) -> Result<Call, NoMemory>
+    ensures { IfOk result (λ twin. twin ≡ calls.Begin att.now netns.now) }
+{
+    let att = att.copy()?;
+    let netns = netns.copy()?;
+    Ok(Call::Begin { att, netns })
+}
+
+fn copy_veth_add(host_end: &Link, inner_end: &Link) -> Result<Call, NoMemory>
+    ensures { IfOk result (λ twin. twin ≡ calls.VethAdd host_end.now inner_end.now) }
+{
+    let host_end = host_end.copy()?;
+    let inner_end = inner_end.copy()?;
+    Ok(Call::VethAdd {
+        host_end,
+        inner_end,
+    })
+}
+
+fn copy_link_set(
+    att: &Att,
+    key: &LinkKey,
+    mac: Option<Mac>,
+    mtu: Option<u32>,
+    tx_qlen: Option<u32>,
+    promisc: bool,
+    allmulti: bool,
+) -> Result<Call, NoMemory>
+    ensures { IfOk result (λ twin. twin ≡ calls.LinkSet att.now key.now mac mtu tx_qlen promisc allmulti) }
+{
+    let att = att.copy()?;
+    let key = key.copy()?;
+    Ok(Call::LinkSet {
+        att,
+        key,
+        mac,
+        mtu,
+        tx_qlen,
+        promisc,
+        allmulti,
+    })
+}
+
+fn copy_lease_next(att: &Att, number: u32, set: &RangeSet) -> Result<Call, NoMemory>
+    ensures { IfOk result (λ twin. twin ≡ calls.LeaseNext att.now number set.now) }
+{
+    let att = att.copy()?;
+    let set = set.copy()?;
+    Ok(Call::LeaseNext { att, number, set })
+}
+
+fn copy_cache_put(att: &Att, cached: &Cached) -> Result<Call, NoMemory>
+    ensures { IfOk result (λ twin. twin ≡ calls.CachePut att.now cached.now) }
+{
+    let att = att.copy()?;
+    let cached = cached.copy()?;
+    Ok(Call::CachePut { att, cached })
+}
+
+fn copy_pool_free(network: &Text, set: &RangeSet) -> Result<Call, NoMemory>
+    ensures { IfOk result (λ twin. twin ≡ calls.PoolFree network.now set.now) }
+{
+    let network = network.copy()?;
+    let set = set.copy()?;
+    Ok(Call::PoolFree { network, set })
+}
+
 /// An equal call.
 pub fn copy_call(call: &Call) -> Result<Call, NoMemory>
     ensures { IfOk result (λ twin. twin ≡ call.now) }
 {
     match call {
-        Call::Begin { att, netns } => Ok(Call::Begin {
-            att: att.copy()?,
-            netns: netns.copy()?,
-        }),
+        Call::Begin { att, netns } => copy_begin(att, netns),
         Call::BridgeEnsure { name, mtu, promisc } => Ok(Call::BridgeEnsure {
             name: name.copy()?,
             mtu: *mtu,
@@ -62,10 +130,7 @@ pub fn copy_call(call: &Call) -> Result<Call, NoMemory>
         Call::VethAdd {
             host_end,
             inner_end,
-        } => Ok(Call::VethAdd {
-            host_end: host_end.copy()?,
-            inner_end: inner_end.copy()?,
-        }),
+        } => copy_veth_add(host_end, inner_end),
         Call::MacvlanAdd { link } => Ok(Call::MacvlanAdd { link: link.copy()? }),
         Call::LinkSet {
             att,
@@ -75,30 +140,15 @@ pub fn copy_call(call: &Call) -> Result<Call, NoMemory>
             tx_qlen,
             promisc,
             allmulti,
-        } => Ok(Call::LinkSet {
-            att: att.copy()?,
-            key: key.copy()?,
-            mac: *mac,
-            mtu: *mtu,
-            tx_qlen: *tx_qlen,
-            promisc: *promisc,
-            allmulti: *allmulti,
-        }),
+        } => copy_link_set(att, key, *mac, *mtu, *tx_qlen, *promisc, *allmulti),
         Call::AddrAdd { obj } => Ok(Call::AddrAdd { obj: obj.copy()? }),
         Call::RouteAdd { obj } => Ok(Call::RouteAdd { obj: obj.copy()? }),
         Call::RuleAppend { rule } => Ok(Call::RuleAppend { rule: rule.copy()? }),
         Call::SettingSet { setting } => Ok(Call::SettingSet {
             setting: setting.copy()?,
         }),
-        Call::LeaseNext { att, number, set } => Ok(Call::LeaseNext {
-            att: att.copy()?,
-            number: *number,
-            set: set.copy()?,
-        }),
-        Call::CachePut { att, cached } => Ok(Call::CachePut {
-            att: att.copy()?,
-            cached: cached.copy()?,
-        }),
+        Call::LeaseNext { att, number, set } => copy_lease_next(att, *number, set),
+        Call::CachePut { att, cached } => copy_cache_put(att, cached),
         Call::LinkDel { att } => Ok(Call::LinkDel { att: att.copy()? }),
         Call::RuleDel { att } => Ok(Call::RuleDel { att: att.copy()? }),
         Call::SettingDel { att } => Ok(Call::SettingDel { att: att.copy()? }),
@@ -112,10 +162,7 @@ pub fn copy_call(call: &Call) -> Result<Call, NoMemory>
             network: network.copy()?,
             kind: *kind,
         }),
-        Call::PoolFree { network, set } => Ok(Call::PoolFree {
-            network: network.copy()?,
-            set: set.copy()?,
-        }),
+        Call::PoolFree { network, set } => copy_pool_free(network, set),
         Call::NsChange { name, add } => Ok(Call::NsChange {
             name: name.copy()?,
             add: *add,

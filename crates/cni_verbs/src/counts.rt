@@ -1,6 +1,6 @@
 //! How many calls an ADD makes after its last lease. Nothing here takes memory.
 
-ghost use Rattle.std.specs.Prelude.{◌≡◌, ◌+◌, ◌*◌, ◌^◌, ◌≤◌, ◌++◌, ℕ, List, codes, length, map, filter_map};
+ghost use Rattle.std.specs.Prelude.{◌≡◌, ◌+◌, ◌*◌, ◌^◌, ◌≤◌, ℕ, List, length, map, filter_map};
 ghost use Rattle.std.specs.Str.{bytes_eq};
 ghost use Rattle.cni_result.specs.declared.result.AddResult.{AddResult};
 ghost use Rattle.cni_result.specs.declared.result.IpEntry.{IpEntry};

@@ -180,14 +180,6 @@ pub(crate) fn answer_outside(
     match phase {
         Phase::Changing(_) => Ok(None),
         Phase::Over(ending) => Ok(Some(ended_outside(alloc, command, ending)?)),
-        Phase::AtBegin
-        | Phase::BeforeLeases(_)
-        | Phase::Leasing
-        | Phase::AfterLeases { .. }
-        | Phase::ReadingCache(_)
-        | Phase::Deleting(_, _)
-        | Phase::FindingEntry
-        | Phase::Asking(_)
-        | Phase::Denied(_) => Ok(Some(Answer::Yes)),
+        _ => Ok(Some(Answer::Yes)),
     }
 }

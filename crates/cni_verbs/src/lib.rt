@@ -25,6 +25,7 @@ mod counts;
 mod ending;
 pub mod errors;
 mod inquiry;
+pub mod laws;
 mod missed;
 mod next;
 mod over;

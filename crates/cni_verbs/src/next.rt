@@ -149,15 +149,6 @@ pub(crate) fn next_outside(command: &Command, phase: &Phase) -> Result<Option<Ca
 {
     match phase {
         Phase::Changing(change) => Ok(Some(copy_call(change)?)),
-        Phase::AtBegin
-        | Phase::BeforeLeases(_)
-        | Phase::Leasing
-        | Phase::AfterLeases { .. }
-        | Phase::ReadingCache(_)
-        | Phase::Deleting(_, _)
-        | Phase::FindingEntry
-        | Phase::Asking(_)
-        | Phase::Denied(_)
-        | Phase::Over(_) => Ok(None),
+        _ => Ok(None),
     }
 }

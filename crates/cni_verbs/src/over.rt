@@ -83,15 +83,6 @@ pub(crate) fn is_over_outside(phase: &Phase) -> bool
 {
     match phase {
         Phase::Changing(_) => false,
-        Phase::AtBegin
-        | Phase::BeforeLeases(_)
-        | Phase::Leasing
-        | Phase::AfterLeases { .. }
-        | Phase::ReadingCache(_)
-        | Phase::Deleting(_, _)
-        | Phase::FindingEntry
-        | Phase::Asking(_)
-        | Phase::Denied(_)
-        | Phase::Over(_) => true,
+        _ => true,
     }
 }

@@ -47,14 +47,6 @@ pub(crate) fn prepare_phase(
             Ok(())
         }
         Phase::Asking(inquiry) => prepare_inquiry(alloc, list, command, inquiry),
-        Phase::AtBegin
-        | Phase::BeforeLeases(_)
-        | Phase::Leasing
-        | Phase::ReadingCache(_)
-        | Phase::Deleting(_, _)
-        | Phase::FindingEntry
-        | Phase::Denied(_)
-        | Phase::Changing(_)
-        | Phase::Over(_) => Ok(()),
+        _ => Ok(()),
     }
 }

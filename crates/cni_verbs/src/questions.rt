@@ -1,6 +1,6 @@
 //! What CHECK and STATUS ask of the kernel.
 
-ghost use Rattle.std.specs.Prelude.{◌≡◌, ◌+◌, ◌++◌, ◌∷◌, [], map, IfOk, OnOk};
+ghost use Rattle.std.specs.Prelude.{◌≡◌, ◌+◌, ◌++◌, [], map, IfOk, OnOk};
 ghost use Rattle.kernel_types.specs.declared.call.Call.TheVariants as calls;
 ghost use Rattle.cni_verbs.specs.Questions as asked;
 

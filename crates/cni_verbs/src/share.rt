@@ -1,15 +1,13 @@
 //! The objects of an attachment, gathered from the calls that make them.
 
 ghost use Rattle.std.specs.Prelude.{◌≡◌, ◌++◌, ◌∷◌, [], map, OnOk};
-ghost use Rattle.kernel_types.specs.Apply.Calls.{is_own_at, set_link, with_values};
-ghost use Rattle.kernel_types.specs.Words.{is_own};
 ghost use Rattle.plan_words.specs.Share.{no_objects, share_after_call, share_after_calls};
 ghost use Rattle.plan_words.specs.Shapes as shapes;
 
-use cni_addr::{Addr, Duplicate, Mac, NoMemory};
+use cni_addr::{Addr, Duplicate, NoMemory};
 use cni_result::Cached;
 use kernel_types::{
-    AddrObj, Att, CachedObj, Call, Lease, Link, LinkKey, RouteObj, Rule, Setting, Tag,
+    AddrObj, Att, CachedObj, Call, Lease, Link, RouteObj, Rule, Setting, Tag, set_links,
 };
 use plan_words::lease_of;
 use std::alloc::Global;
@@ -47,76 +45,6 @@ pub(crate) fn no_objects(alloc: Global) -> Objects
         settings: Vec::new(alloc),
         leases: Vec::new(alloc),
         cached: Vec::new(alloc),
-    }
-}
-
-// ---- the values of a link
-
-fn is_own(att: &Att, tag: &Tag) -> bool
-    ensures { result ≡ is_own att.now tag.now }
-{
-    match tag {
-        Tag::Own(own) => own == att,
-        Tag::Outside | Tag::Base => false,
-    }
-}
-
-fn is_own_at(att: &Att, key: &LinkKey, link: &Link) -> bool
-    ensures { result ≡ is_own_at att.now key.now link.now }
-{
-    link.ns == key.ns && link.name == key.name && is_own(att, &link.tag)
-}
-
-/// Gives the link the values that are there; a mode is never turned off.
-fn set_values(
-    link: &mut Link,
-    mac: Option<Mac>,
-    mtu: Option<u32>,
-    tx_qlen: Option<u32>,
-    promisc: bool,
-    allmulti: bool,
-)
-    ensures { link.new ≡ with_values mac mtu tx_qlen promisc allmulti link.old }
-{
-    link.mac = mac.unwrap_or(link.mac);
-    link.mtu = mtu.unwrap_or(link.mtu);
-    link.tx_qlen = tx_qlen.unwrap_or(link.tx_qlen);
-    link.promisc = promisc || link.promisc;
-    link.allmulti = allmulti || link.allmulti;
-}
-
-fn set_link(
-    link: &mut Link,
-    att: &Att,
-    key: &LinkKey,
-    mac: Option<Mac>,
-    mtu: Option<u32>,
-    tx_qlen: Option<u32>,
-    promisc: bool,
-    allmulti: bool,
-)
-    ensures { link.new ≡ set_link att.now key.now mac mtu tx_qlen promisc allmulti link.old }
-{
-    if is_own_at(att, key, link) {
-        set_values(link, mac, mtu, tx_qlen, promisc, allmulti);
-    }
-}
-
-/// Gives the attachment's link at the place its values.
-fn set_links(
-    links: &mut Vec<Link>,
-    att: &Att,
-    key: &LinkKey,
-    mac: Option<Mac>,
-    mtu: Option<u32>,
-    tx_qlen: Option<u32>,
-    promisc: bool,
-    allmulti: bool,
-)
-    ensures { links.new.items ≡ map (set_link att.now key.now mac mtu tx_qlen promisc allmulti) links.old.items }
-{
-    for link in links.iter_mut() {
-        set_link(link, att, key, mac, mtu, tx_qlen, promisc, allmulti);
     }
 }
 
@@ -184,22 +112,7 @@ impl Objects {
             Call::RuleAppend { rule } => push(&mut self.rules, rule),
             Call::SettingSet { setting } => push(&mut self.settings, setting),
             Call::CachePut { att, cached } => push_cached(&mut self.cached, att, cached),
-            Call::Begin { .. }
-            | Call::BridgeEnsure { .. }
-            | Call::GatewayEnsure { .. }
-            | Call::ForwardEnsure { .. }
-            | Call::LeaseNext { .. }
-            | Call::LinkDel { .. }
-            | Call::RuleDel { .. }
-            | Call::SettingDel { .. }
-            | Call::LeaseDel { .. }
-            | Call::CacheDel { .. }
-            | Call::HasObj { .. }
-            | Call::CacheGet { .. }
-            | Call::OwnersOf { .. }
-            | Call::PoolFree { .. }
-            | Call::NsChange { .. }
-            | Call::Outside { .. } => Ok(()),
+            _ => Ok(()),
         }
     }
 

@@ -1,12 +1,11 @@
 //! The calls of an ADD, its result, and the kinds of objects that a DEL takes back, each as the plugins of a list make
 //! it one after another.
 
-ghost use Rattle.std.specs.Prelude.{◌≡◌, ◌++◌, ◌∷◌, [], ◌≤◌, length, IfOk, OnOk};
+ghost use Rattle.std.specs.Prelude.{◌≡◌, ◌++◌, [], IfOk, OnOk};
 ghost use Rattle.std.specs.Option.{option_copied};
 ghost use Rattle.host_local.specs.Conf.{ipam_of};
 ghost use Rattle.host_local.specs.Results.{ipam_result_of};
 ghost use Rattle.kernel_types.specs.declared.call.Call.TheVariants as call;
-ghost use Rattle.cni_verbs.specs.CommandWords.{mappings_of};
 ghost use Rattle.cni_verbs.specs.Wanted as wanted;
 
 use bridge_ptp::{

@@ -1,4 +1,4 @@
-use Rattle.std.proofs.Common.{◌≡◌, sym, lit<}
+use Rattle.std.proofs.Common.{sym, lit<}
 use Rattle.std.proofs.lemmas.Str.Pattern.{split_once_first}
 use Rattle.cni_verbs.proofs.Arguments.{uncut_is_none, argument_is}
 use Rattle.cni_verbs.proofs.words.argument_of.Goals as goal

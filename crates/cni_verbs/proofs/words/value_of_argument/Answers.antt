@@ -1,4 +1,4 @@
-use Rattle.std.proofs.Common.{◌≡◌, ◌∙◌, sym, ap, lit<, rules}
+use Rattle.std.proofs.Common.{◌∙◌, sym, ap, lit<, rules}
 use Rattle.std.specs.Option.{option_copied}
 use Rattle.std.proofs.lemmas.Str.Pattern.{split_once_first}
 use denote.Shadow.{shadow}

@@ -1,6 +1,4 @@
-use Rattle.std.proofs.Common.{◌≡◌, ◌∙◌, [], Some, sym, ap, subst, arith}
-use Rattle.net_conf.specs.declared.list.NetList.{NetList}
-use Rattle.pod_file.specs.declared.command.Command.{Command}
+use Rattle.std.proofs.Common.{◌≡◌, ◌∙◌, [], Some, sym, ap, subst}
 use Rattle.cni_verbs.specs.Progress.{Progress, progress}
 use Rattle.cni_verbs.specs.Script.{before_of}
 use Rattle.cni_verbs.specs.Wanted.{kinds_of}
