@@ -36,7 +36,7 @@ use Rattle.kernel_types.proofs.TouchRemoval.{list_all-both}
 use Rattle.net_conf.specs.declared.list.NetList.{NetList}
 use Rattle.pod_file.specs.declared.command.ValidAtt.{ValidAtt}
 use Rattle.cni_verbs.specs.Script.{call_of_work, gc_of}
-use Rattle.cni_verbs.specs.Sweep.{Gc, Step, Look, Delete, Sweep, Job, is_valid, step_call, job_of, after_step, worked}
+use Rattle.cni_verbs.specs.Sweep.{Gc, Step, AskCached, Delete, Sweep, Job, is_valid, step_call, job_of, after_step, work_after}
 use Rattle.cni_verbs.specs.Wanted.{deletion, kinds_of, first_kinds, chained_kinds_reversed}
 use Rattle.gc_sweep.specs.Bound.{stale_owners, all_tags, objects_by, kinds_over_plugins, GcBound}
 use Rattle.gc_sweep.specs.Keep.{goes, IsWithin}
@@ -46,7 +46,7 @@ use Rattle.gc_sweep.proofs.Deletions.{deletes}
 use Rattle.gc_sweep.proofs.Kept.{tags_within}
 use Rattle.gc_sweep.proofs.Lists.{list_all-none, list_all-sublist}
 use Rattle.gc_sweep.proofs.Machine.{Point, start_point, point_after, IsTrail}
-use Rattle.gc_sweep.proofs.Owners.{is_stale, goes_own, own_goes, owners_cover, owners_stale, has_att, list_all-firsts}
+use Rattle.gc_sweep.proofs.Owners.{is_stale, goes_own, own_goes, owners_cover, owners_stale, has_att, list_all-firsts, by_bool}
 use Rattle.gc_sweep.proofs.Runs.{trail, early_or, early_makes_none}
 use Rattle.gc_sweep.proofs.Weights.{jobs_weight, total, weight}
 
@@ -67,10 +67,6 @@ list_any-without_other p q w (y ∷ ys) h = grind (arith, h, w y, list_any-witho
 length-without_first : {X : Type 0} (q : X → Bool) (ys : List X) → list_any q ys ≡ true → length (without_first q ys) < length ys
 length-without_first q [] h = cc
 length-without_first q (y ∷ ys) h = grind (arith, h, length-without_first q ys)
-
-by_bool : {C : Type 0} (b : Bool) → (b ≡ true → C) → (b ≡ false → C) → C
-by_bool true h g = h refl
-by_bool false h g = g refl
 
 apart_same : (x a y : Att) → not (att_eq x a) ≡ true → att_eq x y ≡ true → att_eq a y ≡ false
 apart_same x a y differ xy =
@@ -136,7 +132,7 @@ jobs_weight-after att [] js = omega arith
 jobs_weight-after att (s ∷ more) js = omega arith
 
 abbrev pub Falls : Gc → ℕ → (Tag → Bool) → List Job → List Sweep → Host → Call → Reply → Type 0
-Falls gc m p js ss k call r = weight m p (worked gc js ss r).jobs (worked gc js ss r).sweeps (host_by (is_fault r) k call) < weight m p js ss k
+Falls gc m p js ss k call r = weight m p (work_after gc js ss r).jobs (work_after gc js ss r).sweeps (host_by (is_fault r) k call) < weight m p js ss k
 
 ask_falls : (gc : Gc) (m : ℕ) (p : Tag → Bool) (s : Sweep) (ss : List Sweep) (k : Host) (faulty : Bool) → length (stale_owners gc.network gc.valid (tags_of k s.kind)) ≤ m
     → Falls gc m p [] (s ∷ ss) k (OwnersOf gc.network s.kind) (reply_by faulty k (OwnersOf gc.network s.kind))
@@ -158,7 +154,7 @@ drop_falls gc m p att d more js ss k w sound false is =
 step_falls : (gc : Gc) (m : ℕ) (p : Tag → Bool) (att : Att) (step : Step) (more : List Step) (js : List Job) (ss : List Sweep) (k : Host) (faulty : Bool) → ((t : Tag) → is_own att t ≡ true → p t ≡ true) → IsSound k
     → Falls gc m p (record { att = att; step = step; more = more } ∷ js) ss k (step_call att step) (reply_by faulty k (step_call att step))
 step_falls gc m p att step more js ss k true w sound = omega arith
-step_falls gc m p att Look more js ss k false w sound = let left = jobs_weight-after att more js in omega arith
+step_falls gc m p att AskCached more js ss k false w sound = let left = jobs_weight-after att more js in omega arith
 step_falls gc m p att (Delete d) more js ss k false w sound =
     let P : Reply → Type 0 = λ r. Falls gc m p (record { att = att; step = Delete d; more = more } ∷ js) ss k (deletion att d) r in
     subst P (sym (deletes att d k sound).reply) (drop_falls gc m p att d more js ss k w sound (list_any (is_own att) (tags_of k d)) refl)

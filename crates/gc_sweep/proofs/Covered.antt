@@ -19,7 +19,7 @@ use Rattle.kernel_types.specs.declared.call.Reply.TheVariants.{Gone, Fault}
 use Rattle.kernel_types.proofs.ListLemmas.{list_all-weaker, list_any-map, list_all-map}
 use Rattle.kernel_types.proofs.TouchRemoval.{list_all-both}
 use Rattle.cni_verbs.specs.Script.{call_of_work}
-use Rattle.cni_verbs.specs.Sweep.{Gc, Step, Look, Delete, Sweep, Job, step_call, job_of, after_step, worked, all_sweeps}
+use Rattle.cni_verbs.specs.Sweep.{Gc, Step, AskCached, Delete, Sweep, Job, step_call, job_of, after_step, work_after, all_sweeps}
 use Rattle.cni_verbs.specs.Wanted.{deletion}
 use Rattle.gc_sweep.specs.Keep.{stays, goes}
 use Rattle.gc_sweep.specs.Trace.{Made, host_by, reply_by, is_about, blames, is_blamed}
@@ -28,7 +28,7 @@ use Rattle.kernel_types.specs.Replies.{is_fault}
 use Rattle.gc_sweep.specs.Sweep.{is_excused}
 use Rattle.gc_sweep.proofs.Lists.{list_all-sublist, list_any-snoc, list_all-none}
 use Rattle.gc_sweep.specs.Bound.{stale_owners}
-use Rattle.gc_sweep.proofs.Owners.{is_stale, owners_cover, owners_stale, has_att}
+use Rattle.gc_sweep.proofs.Owners.{is_stale, owners_cover, owners_stale, has_att, by_bool}
 use Rattle.gc_sweep.proofs.Deletions.{deletes}
 use Rattle.gc_sweep.proofs.Kept.{Stays, stays_start, stays_deleted, tags_within}
 
@@ -41,7 +41,7 @@ asks kind ss = list_any (λ (s : Sweep). kind_eq s.kind kind) ss
 abbrev pub is_sole : Kind → Step → List Step → Bool
 is_sole kind (Delete k) [] = kind_eq k kind
 is_sole kind (Delete k) (s ∷ more) = false
-is_sole kind Look more = false
+is_sole kind AskCached more = false
 
 abbrev pub does : Kind → Tag → Job → Bool
 does kind t j = is_own j.att t && is_sole kind j.step j.more
@@ -76,10 +76,6 @@ carry_all : (gc : Gc) (es : List Made) (e : Made) (js js' : List Job) (ss ss' : 
 carry_all gc es e js js' ss ss' kind ts w h =
     list_all-weaker (is_covered gc es js ss kind) (is_covered gc (es ++ e ∷ []) js' ss' kind) (λ t. carry gc es e js js' ss ss' kind t (w t)) ts h
 
-by_bool : {C : Type 0} (b : Bool) → (b ≡ true → C) → (b ≡ false → C) → C
-by_bool true h g = h refl
-by_bool false h g = g refl
-
 -- ---- kinds
 
 pub kind_same : (a b : Kind) → kind_eq a b ≡ true → a ≡ b
@@ -109,13 +105,6 @@ kind_same Cached Settings h = cc
 kind_same Cached Leases h = cc
 kind_same Cached Cached h = refl
 
-pub kind_itself : (a : Kind) → kind_eq a a ≡ true
-kind_itself Links = refl
-kind_itself Rules = refl
-kind_itself Settings = refl
-kind_itself Leases = refl
-kind_itself Cached = refl
-
 about_deletion : (kind : Kind) (t : Tag) (a : Att) (k : Kind) → is_about kind t (deletion a k) ≡ (kind_eq k kind && is_own a t)
 about_deletion kind t a Links = refl
 about_deletion kind t a Rules = refl
@@ -133,7 +122,7 @@ pub record WorkKept (gc : Gc) (h : Host) (es : List Made) (js : List Job) (ss : 
 
 -- after a call with this reply
 abbrev pub Next : Gc → Host → List Made → List Job → List Sweep → Host → Call → Reply → Type 0
-Next gc h es js ss k call r = WorkKept gc h (es ++ record { call = call; reply = r } ∷ []) (worked gc js ss r).jobs (worked gc js ss r).sweeps (host_by (is_fault r) k call)
+Next gc h es js ss k call r = WorkKept gc h (es ++ record { call = call; reply = r } ∷ []) (work_after gc js ss r).jobs (work_after gc js ss r).sweeps (host_by (is_fault r) k call)
 
 -- ---- asking for owners
 
@@ -193,18 +182,18 @@ done_stale gc att (s ∷ more) js h g = grind (arith, h, g)
 abbrev job : Att → Step → List Step → Job
 job att step more = record { att = att; step = step; more = more }
 
-look_fault : (gc : Gc) (h : Host) (es : List Made) (att : Att) (more : List Step) (js : List Job) (ss : List Sweep) (k : Host) → WorkKept gc h es (job att Look more ∷ js) ss k → Next gc h es (job att Look more ∷ js) ss k (CacheGet att) Fault
+look_fault : (gc : Gc) (h : Host) (es : List Made) (att : Att) (more : List Step) (js : List Job) (ss : List Sweep) (k : Host) → WorkKept gc h es (job att AskCached more ∷ js) ss k → Next gc h es (job att AskCached more ∷ js) ss k (CacheGet att) Fault
 look_fault gc h es att more js ss k v = record {
   stays = v.stays;
-  covered = λ kind. carry_all gc es (record { call = CacheGet att; reply = Fault }) (job att Look more ∷ js) js ss ss kind (tags_of k kind) (λ t w. grind (arith, w)) (v.covered kind);
+  covered = λ kind. carry_all gc es (record { call = CacheGet att; reply = Fault }) (job att AskCached more ∷ js) js ss ss kind (tags_of k kind) (λ t w. grind (arith, w)) (v.covered kind);
   stale = let w = v.stale in grind (arith, w);
   well = v.well;
 }
 
-look_entry : (gc : Gc) (h : Host) (es : List Made) (att : Att) (more : List Step) (js : List Job) (ss : List Sweep) (k : Host) → WorkKept gc h es (job att Look more ∷ js) ss k → Next gc h es (job att Look more ∷ js) ss k (CacheGet att) (apply k (CacheGet att)).1
+look_entry : (gc : Gc) (h : Host) (es : List Made) (att : Att) (more : List Step) (js : List Job) (ss : List Sweep) (k : Host) → WorkKept gc h es (job att AskCached more ∷ js) ss k → Next gc h es (job att AskCached more ∷ js) ss k (CacheGet att) (apply k (CacheGet att)).1
 look_entry gc h es att more js ss k v = record {
   stays = v.stays;
-  covered = λ kind. carry_all gc es (record { call = CacheGet att; reply = (apply k (CacheGet att)).1 }) (job att Look more ∷ js) (after_step att more js) ss ss kind (tags_of k kind) (λ t w. grind (arith, w, done_more kind t att more js)) (v.covered kind);
+  covered = λ kind. carry_all gc es (record { call = CacheGet att; reply = (apply k (CacheGet att)).1 }) (job att AskCached more ∷ js) (after_step att more js) ss ss kind (tags_of k kind) (λ t w. grind (arith, w, done_more kind t att more js)) (v.covered kind);
   stale = let w = v.stale in done_stale gc att more js (grind (arith, w)) (grind (arith, w));
   well = v.well;
 }
@@ -268,8 +257,8 @@ drop_by gc h es att d more js ss k v false is = drop_empty gc h es att d more js
 
 step_by : (gc : Gc) (h : Host) (es : List Made) (att : Att) (step : Step) (more : List Step) (js : List Job) (ss : List Sweep) (k : Host) (faulty : Bool) → WorkKept gc h es (job att step more ∷ js) ss k
     → Next gc h es (job att step more ∷ js) ss k (step_call att step) (reply_by faulty k (step_call att step))
-step_by gc h es att Look more js ss k true v = look_fault gc h es att more js ss k v
-step_by gc h es att Look more js ss k false v = look_entry gc h es att more js ss k v
+step_by gc h es att AskCached more js ss k true v = look_fault gc h es att more js ss k v
+step_by gc h es att AskCached more js ss k false v = look_entry gc h es att more js ss k v
 step_by gc h es att (Delete d) more js ss k true v = drop_fault gc h es att d more js ss k v
 step_by gc h es att (Delete d) more js ss k false v =
     let P : Reply → Type 0 = λ r. Next gc h es (job att (Delete d) more ∷ js) ss k (deletion att d) r in

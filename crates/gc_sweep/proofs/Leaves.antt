@@ -23,7 +23,7 @@ use Rattle.kernel_types.proofs.ListLemmas.{list_all-weaker, list_all-map}
 use Rattle.kernel_types.proofs.TouchRemoval.{is_own-tag_eq}
 use Rattle.net_conf.specs.declared.list.NetList.{NetList}
 use Rattle.pod_file.specs.declared.command.Command.{Command}
-use Rattle.cni_verbs.specs.Script.{gc_of, noted, swept}
+use Rattle.cni_verbs.specs.Script.{gc_of, faults_after, swept}
 use Rattle.cni_verbs.specs.Sweep.{Gc, Job, Sweep}
 use Rattle.cni_verbs.specs.declared.answer.Ending.TheVariants.{Yes}
 use Rattle.gc_sweep.specs.Keep.{stays, keep, IsWithin}
@@ -57,7 +57,7 @@ snoc_some : (xs : List ℕ) (x : ℕ) → xs ++ x ∷ [] ≡ [] → ⊥
 snoc_some [] x e = cc
 snoc_some (y ∷ ys) x e = cc
 
-not_noted : (number : ℕ) (faults : List ℕ) (b : Bool) → noted number faults b ≡ [] → (faults ≡ []) × (b ≡ false)
+not_noted : (number : ℕ) (faults : List ℕ) (b : Bool) → faults_after number faults b ≡ [] → (faults ≡ []) × (b ≡ false)
 not_noted number faults true e = absurd (snoc_some faults number e)
 not_noted number faults false e = (e, refl)
 
@@ -198,7 +198,7 @@ yes_keeps list c host es gc sound run ends = elim (early_or list c gc) [
 
 -- ---- the numbers of faulty calls
 
-noted_rest : (made : ℕ) (faults : List ℕ) (b : Bool) (rest : List ℕ) → noted (made + 1) faults b ++ rest ≡ faults ++ (if b then (made + 1) ∷ rest else rest)
+noted_rest : (made : ℕ) (faults : List ℕ) (b : Bool) (rest : List ℕ) → faults_after (made + 1) faults b ++ rest ≡ faults ++ (if b then (made + 1) ∷ rest else rest)
 noted_rest made faults true rest = append_assoc faults ((made + 1) ∷ []) rest
 noted_rest made faults false rest = refl
 

@@ -4,8 +4,8 @@ use Rattle.kernel_types.specs.Replies.{is_fault}
 use Rattle.kernel_types.specs.declared.object.Host.{Host}
 use Rattle.kernel_types.specs.declared.call.Reply.{Reply}
 use Rattle.std.proofs.Common.{Bool, Some}
-use Rattle.cni_verbs.specs.Script.{call_of_work, noted}
-use Rattle.cni_verbs.specs.Sweep.{Gc, Work, start_work, worked}
+use Rattle.cni_verbs.specs.Script.{call_of_work, faults_after}
+use Rattle.cni_verbs.specs.Sweep.{Gc, Work, start_work, work_after}
 use Rattle.gc_sweep.specs.Trace.{Made, reply_by, host_on}
 
 -- the work that is left, the calls that were made, and the numbers of those that were faulty
@@ -19,9 +19,9 @@ start_point gc = record { work = start_work gc; made = 0; faults = [] }
 
 abbrev pub point_after : Gc → Point → Reply → Point
 point_after gc p r = record {
-  work = worked gc p.work.jobs p.work.sweeps r;
+  work = work_after gc p.work.jobs p.work.sweeps r;
   made = p.made + 1;
-  faults = noted (p.made + 1) p.faults (is_fault r);
+  faults = faults_after (p.made + 1) p.faults (is_fault r);
 }
 
 abbrev pub point_from : Gc → Point → List Made → Point

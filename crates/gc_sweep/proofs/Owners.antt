@@ -60,7 +60,7 @@ owners_all network (Outside ∷ ts) = owners_all network ts
 owners_all network (Base ∷ ts) = owners_all network ts
 owners_all network (Own a ∷ ts) = own_case (bytes_eq a.network network) a network (filter_map (owner_in network) ts) ts (owners_all network ts)
 
-by_bool : {C : Type 0} (b : Bool) → (b ≡ true → C) → (b ≡ false → C) → C
+pub by_bool : {C : Type 0} (b : Bool) → (b ≡ true → C) → (b ≡ false → C) → C
 by_bool true h g = h refl
 by_bool false h g = g refl
 

@@ -12,9 +12,9 @@ use Rattle.kernel_types.specs.declared.call.Kind.{Kind}
 use Rattle.kernel_types.specs.declared.call.Reply.{Reply}
 use Rattle.kernel_types.specs.Replies.{is_fault}
 use Rattle.cni_verbs.specs.Answers.{answer_of, error_of}
-use Rattle.cni_verbs.specs.Progress.{Progress, is_gc, progress, advanced, answer_by}
-use Rattle.cni_verbs.specs.Script.{State, Collecting, IsOpen, start_state, start_of, advance, next_call, call_of_work, finish_of, finish_of_work, gc_of, noted}
-use Rattle.cni_verbs.specs.Sweep.{Job, Sweep, Work, all_sweeps, start_work, worked}
+use Rattle.cni_verbs.specs.Progress.{Progress, is_gc, advanced, answer_by}
+use Rattle.cni_verbs.specs.Script.{State, Collecting, IsOpen, start_state, start_of, advance, next_call, call_of_work, finish_of, finish_of_work, gc_of, faults_after}
+use Rattle.cni_verbs.specs.Sweep.{Job, Sweep, Work, start_work, work_after}
 use Rattle.cni_verbs.specs.Wanted.{kinds_of}
 use Rattle.cni_verbs.specs.declared.answer.Answer.{Answer}
 use Rattle.cni_verbs.specs.declared.answer.Answer.TheVariants.{Yes, Refused}
@@ -42,15 +42,6 @@ starts_by list c verbs.Flush h = cc
 
 pub starts : (list : NetList) (c : Command) → is_gc c.verb ≡ true → state_by list.version list.disable_gc (start_work (gc_of list c)) [] ≡ start_state list c
 starts list c h = starts_by list c c.verb h
-
--- the run of copies of a list and a command is theirs
-pub starts_as : (list twin : NetList) (c d : Command) (p : Place) → is_gc c.verb ≡ true → twin ≡ list → d ≡ c → work_of (kinds_of twin) p ≡ record { jobs = []; sweeps = all_sweeps (kinds_of twin) }
-    → progress_of twin d 0 p [] ≡ progress (Some list) c []
-starts_as list twin c d p gc same_list same_command work =
-    let f : Work → Progress = λ w. record { list = Some twin; command = d; made = 0; state = state_by twin.version twin.disable_gc w [] } in
-    let g : NetList → Command → Progress = λ l e. record { list = Some l; command = e; made = 0; state = state_by l.version l.disable_gc (start_work (gc_of l e)) [] } in
-    let s : State → Progress = λ x. record { list = Some list; command = c; made = 0; state = x } in
-    ap f work ∙ ap (λ l. g l d) same_list ∙ ap (g list) same_command ∙ ap s (starts list c gc)
 
 -- ---- the next call
 
@@ -86,7 +77,7 @@ open_late V1_0 disabled w faults h = absurd h
 open_late V1_1 true w faults h = absurd h
 open_late V1_1 false w faults h = refl
 
-advance_working : (list : NetList) (c : Command) (number : ℕ) (w : Work) (faults : List ℕ) (r : Reply) → advance list c number (Collecting w faults) r ≡ Collecting (worked (gc_of list c) w.jobs w.sweeps r) (noted number faults (is_fault r))
+advance_working : (list : NetList) (c : Command) (number : ℕ) (w : Work) (faults : List ℕ) (r : Reply) → advance list c number (Collecting w faults) r ≡ Collecting (work_after (gc_of list c) w.jobs w.sweeps r) (faults_after number faults (is_fault r))
 unfolding advance
 advance_working list c number w faults r = refl
 
@@ -94,7 +85,7 @@ advance_working list c number w faults r = refl
 abbrev pub progress_with : NetList → Command → ℕ → Work → List ℕ → Progress
 progress_with list c made w faults = record { list = Some list; command = c; made = made; state = state_by list.version list.disable_gc w faults }
 
-pub advances : (list : NetList) (c : Command) (made : ℕ) (w v : Work) (faults more : List ℕ) (r : Reply) → IsOpen (state_by list.version list.disable_gc w faults) → v ≡ worked (gc_of list c) w.jobs w.sweeps r → more ≡ noted (made + 1) faults (is_fault r)
+pub advances : (list : NetList) (c : Command) (made : ℕ) (w v : Work) (faults more : List ℕ) (r : Reply) → IsOpen (state_by list.version list.disable_gc w faults) → v ≡ work_after (gc_of list c) w.jobs w.sweeps r → more ≡ faults_after (made + 1) faults (is_fault r)
     → progress_with list c (made + 1) v more ≡ advanced (progress_with list c made w faults) r
 advances list c made w v faults more r opened work note =
     let later = open_late list.version list.disable_gc w faults opened in
@@ -102,7 +93,7 @@ advances list c made w v faults more r opened work note =
     let now : state_by list.version list.disable_gc v more ≡ advance list c (made + 1) (state_by list.version list.disable_gc w faults) r =
     late list.version list.disable_gc v more later
     ∙ ap (λ x. Collecting x more) work
-    ∙ ap (Collecting (worked (gc_of list c) w.jobs w.sweeps r)) note
+    ∙ ap (Collecting (work_after (gc_of list c) w.jobs w.sweeps r)) note
     ∙ sym (advance_working list c (made + 1) w faults r)
     ∙ ap (λ x. advance list c (made + 1) x r) (sym (late list.version list.disable_gc w faults later)) in
     ap s now
@@ -110,7 +101,7 @@ advances list c made w v faults more r opened work note =
 -- the progress after a reply, by what its steps ensure
 pub taken : (list : NetList) (c : Command) (made : ℕ) (ks ls : List Kind) (valid : List ValidAtt) (p q : Place) (faults more : List ℕ) (r : Reply) (move : Move) (b : Bool)
     → IsOpen (state_by list.version list.disable_gc (work_of (kinds_of list) p) faults) → ks ≡ kinds_of list → IsPlace ks p → ls ≡ ks → valid ≡ c.valid
-    → b ≡ nat_lt p.at (length p.owners.items) → move ≡ move_by b r → work_of ls q ≡ moved valid (jobs_left ls p) (sweeps_after ls p.stage) move → more ≡ noted (made + 1) faults (is_fault r)
+    → b ≡ nat_lt p.at (length p.owners.items) → move ≡ move_by b r → work_of ls q ≡ moved valid (jobs_left ls p) (sweeps_after ls p.stage) move → more ≡ faults_after (made + 1) faults (is_fault r)
     → progress_of list c (made + 1) q more ≡ advanced (progress_of list c made p faults) r
 taken list c made ks ls valid p q faults more r move b opened ks_is within ls_is valid_is has is work note =
     let P : List Kind → List ValidAtt → Type 0 = λ k v. work_of k q ≡ moved v (jobs_left k p) (sweeps_after k p.stage) move in

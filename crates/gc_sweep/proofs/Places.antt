@@ -12,7 +12,7 @@ use Rattle.kernel_types.specs.declared.call.Reply.{Reply}
 use Rattle.kernel_types.specs.declared.call.Reply.TheVariants.{Done, NoNs, NoLink, Taken, Empty, Leased, Gone, Has, Owners, Entry, Fault}
 use Rattle.pod_file.specs.declared.command.ValidAtt.{ValidAtt}
 use Rattle.cni_verbs.specs.Script.{call_of_work}
-use Rattle.cni_verbs.specs.Sweep.{Gc, Step, Delete, Sweep, Job, Work, step_call, is_valid, job_of, after_step, first_sweep, worked}
+use Rattle.cni_verbs.specs.Sweep.{Gc, Step, Delete, Sweep, Job, Work, step_call, is_valid, job_of, after_step, first_sweep, work_after}
 use Rattle.gc_sweep.specs.View.{whole, jobs_at, jobs_left, sweeps_after, sweep_of, IsPlace, work_of, step_done, owner_done, has_job, has_no_work, move_by, moved, stage_after, asked}
 use Rattle.gc_sweep.specs.declared.place.Move.{Move}
 use Rattle.gc_sweep.specs.declared.place.Place.{Place}
@@ -83,7 +83,7 @@ next_here network s step at owners sweeps a x is_a is_x here within =
 
 -- ---- a reply, as a move
 
-pub worked_moved : (gc : Gc) (jobs : List Job) (sweeps : List Sweep) (r : Reply) → worked gc jobs sweeps r ≡ moved gc.valid jobs sweeps (move_by (has_job jobs) r)
+pub worked_moved : (gc : Gc) (jobs : List Job) (sweeps : List Sweep) (r : Reply) → work_after gc jobs sweeps r ≡ moved gc.valid jobs sweeps (move_by (has_job jobs) r)
 worked_moved gc [] [] Done = refl
 worked_moved gc [] [] NoNs = refl
 worked_moved gc [] [] NoLink = refl
@@ -136,7 +136,7 @@ has_job_left s step at owners within = elim (cases_lt at (length owners)) [
 
 -- the work after a reply, by the owner at hand and the move that the reply means
 pub work_taken : (gc : Gc) (p q : Place) (r : Reply) (move : Move) (b : Bool) → IsPlace gc.kinds p → b ≡ nat_lt p.at (length p.owners.items) → move ≡ move_by b r
-    → work_of gc.kinds q ≡ moved gc.valid (jobs_left gc.kinds p) (sweeps_after gc.kinds p.stage) move → work_of gc.kinds q ≡ worked gc (jobs_left gc.kinds p) (sweeps_after gc.kinds p.stage) r
+    → work_of gc.kinds q ≡ moved gc.valid (jobs_left gc.kinds p) (sweeps_after gc.kinds p.stage) move → work_of gc.kinds q ≡ work_after gc (jobs_left gc.kinds p) (sweeps_after gc.kinds p.stage) r
 work_taken gc p q r move b within has is work =
     let jobs = jobs_left gc.kinds p in
     let sweeps = sweeps_after gc.kinds p.stage in

@@ -125,7 +125,3 @@ run_from-push list c made s host (e ∷ es) call faulty run next = (run.0, run.1
 pub run-push : (list : NetList) (c : Command) (host : Host) (es : List Made) (call : Call) (faulty : Bool) → IsRun list c host es → next_call c (state_after list c (replies es)) ≡ Some call
     → IsRun list c host (es ++ record { call = call; reply = reply_by faulty (host_from host es) call } ∷ [])
 run-push list c host es call faulty run next = run_from-push list c 0 (start_state list c) host es call faulty run next
-
-pub host_from-push : (host : Host) (es : List Made) (e : Made) → host_from host (es ++ e ∷ []) ≡ host_on (host_from host es) e
-host_from-push host [] e = refl
-host_from-push host (x ∷ xs) e = host_from-push (host_on host x) xs e

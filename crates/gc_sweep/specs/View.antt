@@ -14,7 +14,7 @@ use Rattle.cni_verbs.specs.Answers.{error_of}
 use Rattle.cni_verbs.specs.Progress.{Progress}
 use Rattle.cni_verbs.specs.Script.{State, unless_old}
 use Rattle.cni_verbs.specs.Script as script
-use Rattle.cni_verbs.specs.Sweep.{Step, Look, Delete, Sweep, Job, Work, first_sweep, kind_sweep, all_sweeps, is_valid, job_of, after_step}
+use Rattle.cni_verbs.specs.Sweep.{Step, AskCached, Delete, Sweep, Job, Work, first_sweep, kind_sweep, all_sweeps, is_valid, job_of, after_step}
 use Rattle.cni_verbs.specs.Wanted.{kinds_of}
 use Rattle.cni_verbs.specs.declared.answer.Answer.{Answer}
 use Rattle.cni_verbs.specs.declared.answer.Answer.TheVariants as answers
@@ -60,7 +60,7 @@ stage_after Leases = Some (Cached, kinds.Cached)
 stage_after Cached = None
 
 abbrev pub step_of : Task → Step
-step_of tasks.Look = Look
+step_of tasks.AskCached = AskCached
 step_of (tasks.Delete kind) = Delete kind
 
 abbrev pub whole : Sweep → List Step

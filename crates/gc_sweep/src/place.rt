@@ -1,10 +1,9 @@
 //! Where a collection is: the sweep at hand, its owners, and the step of the one at hand.
 
-ghost use Rattle.std.specs.Prelude.{◌≡◌, ◌<◌, ◌≤◌, ◌+◌, not, Bool, true, ℕ, List, map, filter, drop, length, slice_get, Option, Some, nat_le, nat_lt, [], IfOk};
-ghost use Rattle.std.specs.List.{list_any};
+ghost use Rattle.std.specs.Prelude.{◌≡◌, ◌<◌, ◌+◌, not, true, List, filter, length, slice_get, Option, Some, nat_le, nat_lt, [], IfOk};
 ghost use Rattle.kernel_types.specs.declared.call.Kind.{Kind};
 ghost use Rattle.cni_verbs.specs.Script.{call_of_work};
-ghost use Rattle.cni_verbs.specs.Sweep.{Work, first_sweep, all_sweeps, is_named, is_valid, step_call};
+ghost use Rattle.cni_verbs.specs.Sweep.{first_sweep, all_sweeps, is_valid, step_call};
 ghost use Rattle.gc_sweep.specs.View.{stage_after, sweep_of, sweeps_after, whole, jobs_left, IsPlace, work_of, move_by, step_done, owner_done, asked, moved, step_of, has_no_work};
 ghost use Rattle.gc_sweep.specs.declared.place.Move.TheVariants.{SkipSweep};
 
@@ -29,7 +28,7 @@ pub(crate) enum Stage {
 /// What is done about one owner: its cached entry is read, or a kind is deleted until nothing of it is left.
 #[derive(Clone, Copy, Drop)]
 pub(crate) enum Task {
-    Look,
+    AskCached,
     Delete(Kind),
 }
 
@@ -99,7 +98,7 @@ fn first_task(kinds: &[Kind], step: usize) -> Task
     ensures { slice_get (whole (first_sweep kinds.now)) step ≡ Some (step_of result) }
 {
     if step == 0 {
-        Task::Look
+        Task::AskCached
     } else {
         Task::Delete(kind_at(kinds, step - 1))
     }
@@ -125,7 +124,7 @@ fn call_of(att: &Att, task: Task) -> Result<Call, NoMemory>
 {
     let att = att.copy()?;
     Ok(match task {
-        Task::Look => Call::CacheGet { att },
+        Task::AskCached => Call::CacheGet { att },
         Task::Delete(kind) => deletion(att, kind),
     })
 }

@@ -4,7 +4,7 @@ ghost use Rattle.std.specs.Prelude.{◌≡◌, ◌+◌, ◌<◌, ◌^◌, IfOk, 
 ghost use Rattle.kernel_types.specs.Replies.{is_fault};
 ghost use Rattle.cni_verbs.specs.Answers.{error_of};
 ghost use Rattle.cni_verbs.specs.Progress.{is_gc, progress, advanced, answer_by};
-ghost use Rattle.cni_verbs.specs.Script.{IsOpen, next_call, finish_of, finish_of_work, noted};
+ghost use Rattle.cni_verbs.specs.Script.{IsOpen, next_call, finish_of, finish_of_work, faults_after};
 ghost use Rattle.cni_verbs.specs.declared.answer.Answer.TheVariants.{Refused};
 ghost use Rattle.gc_sweep.specs.View.{is_early, early_answer, jobs_left, sweeps_after, IsPlace};
 
@@ -208,7 +208,7 @@ fn is_fault(reply: &Reply) -> bool
 
 /// Adds the number of a faulty call.
 fn note(faults: &mut Items<u64>, number: u64, faulty: bool) -> Result<(), NoMemory>
-    ensures ok { OnOk result (faults.new ≡ noted number faults.old faulty) }
+    ensures ok { OnOk result (faults.new ≡ faults_after number faults.old faulty) }
     ensures err { OnErr result (faults.new ≡ faults.old) }
     ensures frees { faulty ≡ false → IsOk result }
 {

@@ -1,6 +1,6 @@
 use Rattle.std.proofs.Common.{◌∙◌, ◌+◌, ap, sym, subst}
 use Rattle.cni_verbs.specs.Progress.{Progress}
-use Rattle.cni_verbs.specs.Script.{IsOpen, noted}
+use Rattle.cni_verbs.specs.Script.{IsOpen, faults_after}
 use Rattle.gc_sweep.proofs.Phases.{taken}
 use Rattle.gc_sweep.proofs.run.GcRun.take.Goals as goal
 
@@ -8,7 +8,7 @@ pub returns-clause-ok : goal.returns-clause-ok
 returns-clause-ok c =
     let r = c.self.inside in
     let opened = subst (λ (p : Progress). IsOpen p.state) (sym c.self.view_is) c.requires.open in
-    let note = c.in_ok-note.ensures.ok ∙ ap (noted (r.made + 1) r.faults) c.is_fault-faulty.ensures in
+    let note = c.in_ok-note.ensures.ok ∙ ap (faults_after (r.made + 1) r.faults) c.is_fault-faulty.ensures in
     rw (← c.self.view_is)
     (taken r.list r.command r.made r.kinds c.as_slice.result.now c.as_slice-2.result.now r.place c.go.new.place r.faults c.note.new.faults c.args.reply c.move_of-reply.result c.has_owner.result opened c.self.invariant.0 c.self.invariant.1
     c.as_slice.ensures c.as_slice-2.ensures c.has_owner.ensures c.move_of-reply.ensures c.go.ensures.work note)
