@@ -25,7 +25,7 @@ use Rattle.kernel_types.specs.declared.call.Kind.TheVariants as kinds
 use Rattle.kernel_types.specs.declared.call.Reply.{Reply}
 use Rattle.kernel_types.specs.declared.call.Reply.TheVariants.{Fault, Gone}
 use Rattle.cni_verbs.specs.Script.{call_of_work}
-use Rattle.cni_verbs.specs.Sweep.{Gc, Job, Look, Delete, Step, Sweep, after_step, is_valid, job_of, step_call, worked}
+use Rattle.cni_verbs.specs.Sweep.{Gc, Job, AskCached, Delete, Step, Sweep, after_step, is_valid, job_of, step_call, work_after}
 use Rattle.cni_verbs.specs.Wanted.{deletion}
 use Rattle.pod_workers.specs.CallsLeft.{collection_left, jobs_left, objects_in, sweeps_left}
 use Rattle.pod_workers.proofs.Deletable.{one_if}
@@ -112,7 +112,7 @@ fewer-sweeps few many (s ∷ ss) less =
 -- ---- each call
 
 abbrev FallsBy : Gc → List Job → List Sweep → Host → Reply → Host → Type 0
-FallsBy gc js ss host r k = collection_left (worked gc js ss r) k < collection_left (record { jobs = js; sweeps = ss }) host
+FallsBy gc js ss host r k = collection_left (work_after gc js ss r) k < collection_left (record { jobs = js; sweeps = ss }) host
 
 owners-fall : (gc : Gc) (s : Sweep) (ss : List Sweep) (host : Host) → FallsBy gc [] (s ∷ ss) host (apply host (OwnersOf gc.network s.kind)).1 (apply host (OwnersOf gc.network s.kind)).0
 owners-fall gc s ss host =
@@ -138,7 +138,7 @@ gone-falls gc att kind more js ss host k false fewer =
 
 step-falls : (gc : Gc) (att : Att) (step : Step) (more : List Step) (js : List Job) (ss : List Sweep) (host : Host)
     → FallsBy gc (record { att = att; step = step; more = more } ∷ js) ss host (apply host (step_call att step)).1 (apply host (step_call att step)).0
-step-falls gc att Look more js ss host = let left = jobs-after att more js in omega arith
+step-falls gc att AskCached more js ss host = let left = jobs-after att more js in omega arith
 step-falls gc att (Delete kind) more js ss host =
     let d = deletion-shrinks att kind host in
     subst (λ r. FallsBy gc (record { att = att; step = Delete kind; more = more } ∷ js) ss host r (apply host (deletion att kind)).0) (sym d.reply)
@@ -149,14 +149,14 @@ CallFalls gc js ss host call = FallsBy gc js ss host (apply host call).1 (apply 
 
 -- the kernel's reply lowers what is left to a collection
 pub work-falls : (gc : Gc) (js : List Job) (ss : List Sweep) (host : Host) (call : Call) → call_of_work gc.network js ss ≡ Some call
-    → collection_left (worked gc js ss (apply host call).1) (apply host call).0 < collection_left (record { jobs = js; sweeps = ss }) host
+    → collection_left (work_after gc js ss (apply host call).1) (apply host call).0 < collection_left (record { jobs = js; sweeps = ss }) host
 work-falls gc [] [] host call is = absurd (none-some call is)
 work-falls gc [] (s ∷ ss) host call is = subst (CallFalls gc [] (s ∷ ss) host) (same_Some (OwnersOf gc.network s.kind) call is) (owners-fall gc s ss host)
 work-falls gc (j ∷ js) ss host call is = subst (CallFalls gc (j ∷ js) ss host) (same_Some (step_call j.att j.step) call is) (step-falls gc j.att j.step j.more js ss host)
 
 -- and so does a fault
 pub fault-falls : (gc : Gc) (js : List Job) (ss : List Sweep) (host : Host) (call : Call) → call_of_work gc.network js ss ≡ Some call
-    → collection_left (worked gc js ss Fault) host < collection_left (record { jobs = js; sweeps = ss }) host
+    → collection_left (work_after gc js ss Fault) host < collection_left (record { jobs = js; sweeps = ss }) host
 fault-falls gc [] [] host call is = absurd (none-some call is)
 fault-falls gc [] (s ∷ ss) host call is = omega arith
 fault-falls gc (j ∷ js) ss host call is = omega arith

@@ -1,11 +1,11 @@
 -- A step of the first open command in file order keeps the file's order.
-use Rattle.std.proofs.Common.{◌≡◌, ℕ, ◌+◌, ◌≤◌, false, List, [], ◌∷◌, ◌++◌, refl, ◌∙◌, ap, inl, inr, Some, slice_get, None, arith}
+use Rattle.std.proofs.Common.{◌≡◌, ℕ, ◌+◌, ◌≤◌, false, List, [], ◌∷◌, ◌++◌, refl, ◌∙◌, ap, inl, inr, arith}
 use Rattle.std.proofs.lemmas.Bool.{cases_lt}
 use Rattle.cni_verbs.specs.declared.answer.Answer.{Answer}
 use Rattle.pod_workers.specs.Facts.{IsEntryOf}
 use Rattle.pod_workers.specs.Legal.{Legal}
 use Rattle.pod_workers.specs.Order.{IsInFileOrder, EarlierAreAnswered}
-use Rattle.pod_workers.specs.Plans.{Placed, commands_of}
+use Rattle.pod_workers.specs.Plans.{Placed}
 use Rattle.pod_workers.specs.World.{World, IsReady, own_replies, replies_of, host_of, is_cut, done, answered, with_entry, entry_of, next_of, next_round, stepped}
 use Rattle.pod_workers.specs.declared.plan.Entry.{Entry}
 use Rattle.pod_workers.specs.declared.plan.Next.{Next}
@@ -13,19 +13,10 @@ use Rattle.pod_workers.specs.declared.plan.Next.TheVariants as next
 use Rattle.pod_workers.proofs.DoneBefore.{done-not_ready, done_before_answered, done_before_entered}
 use Rattle.pod_workers.proofs.Facts.{each_two-grows, none_two, is_reached, goes_in}
 use Rattle.pod_workers.proofs.Histories.{has_reply}
-use Rattle.pod_workers.proofs.Order.{in_order, not_both}
+use Rattle.pod_workers.proofs.Order.{in_order}
 use Rattle.pod_workers.proofs.RoundsAscend.{rounds_ascend}
 
 -- ---- the first open command
-
--- it is ready
-pub first_open_is_ready : (w : World) (n : ℕ) (c : Placed) → slice_get (commands_of w.plan) n ≡ Some c → c.round ≡ w.round → slice_get w.answers n ≡ Some None → EarlierAreAnswered w n → IsReady w n c
-first_open_is_ready w n c there current is_open earlier = record {
-  there = there;
-  current = current;
-  unanswered = is_open;
-  first = λ m d o less at is blocks. not_both w m (earlier m d less at blocks.0) (is ∙ ap Some blocks.2);
-}
 
 -- ---- an answer
 

@@ -11,7 +11,8 @@ use Rattle.net_conf.specs.declared.list.NetList.{NetList}
 use Rattle.pod_file.specs.declared.command.Command.{Command}
 use Rattle.pod_workers.specs.Join.{joined, plan_unless, unless, first_repeat_after, first_without_list}
 use Rattle.pod_workers.specs.Laws.{JoinedPlansAreWellFormed}
-use Rattle.pod_workers.specs.Plans.{placed_from, IsWellFormed, commands_of, list_for, list_in, is_of_network}
+use Rattle.pod_file.specs.Commands.{is_of_network}
+use Rattle.pod_workers.specs.Plans.{placed_from, IsWellFormed, commands_of, list_for, list_in}
 use Rattle.pod_workers.specs.declared.plan.Plan.{Plan}
 use Rattle.pod_workers.specs.declared.plan.PlanError.{PlanError}
 use Rattle.pod_workers.specs.declared.plan.PlanError.TheVariants.{SameName, NoNetwork}
@@ -108,17 +109,13 @@ has-list true false h = cc
 has-list false b h = refl
 
 pub joined_is_well_formed : JoinedPlansAreWellFormed
-joined_is_well_formed p q h opening pools numbers alone bounds rounds =
+joined_is_well_formed p q h lists pods =
     let j = is-joined p q h in
     let well : IsWellFormed p = record {
-      opening = opening;
-      pools = pools;
+      lists = lists;
+      pods = pods;
       names = (apart [] 0 p.lists j.names).1;
       networks = all-where_none _ (λ c. not (is_of_network c.command.verb) || is_some (list_for p c.command)) (λ c passed. has-list _ _ passed) (commands_of p) j.networks;
-      numbers = numbers;
-      alone = alone;
-      bounds = bounds;
-      rounds = rounds;
     } in
     subst IsWellFormed j.same well
 

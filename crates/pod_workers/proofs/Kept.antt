@@ -1,7 +1,7 @@
 -- Each change of a step keeps what a book keeps.
-use Rattle.std.proofs.Common.{◌≡◌, ℕ, zero, suc, ◌+◌, ◌-◌, ◌<◌, ◌≤◌, ◌^◌, Bool, true, false, List, [], ◌∷◌, ◌++◌, length, map, Option, Some, None, slice_get, slice_set, refl, sym, ◌∙◌, ap, subst, arith, inl, inr}
-use Rattle.std.specs.Prelude.{if◌then◌else◌, ◌||◌, nat_le, replicate, IsSome}
-use Rattle.std.proofs.lemmas.List.{length-set, length-map, length-replicate}
+use Rattle.std.proofs.Common.{◌≡◌, ℕ, ◌+◌, ◌-◌, ◌<◌, ◌≤◌, ◌^◌, Bool, true, false, List, [], ◌∷◌, ◌++◌, length, Option, Some, None, slice_get, slice_set, refl, sym, ◌∙◌, ap, subst, arith, inl, inr}
+use Rattle.std.specs.Prelude.{if◌then◌else◌, ◌||◌, nat_le, IsSome}
+use Rattle.std.proofs.lemmas.List.{length-set}
 use Rattle.std.proofs.lemmas.Option.{same_Some, none-some, slice_get_within}
 use Rattle.std.proofs.lemmas.Bool.{false≢true}
 use Rattle.std.proofs.lemmas.Bool.Decides.{eqb_tells, leb_tells}
@@ -14,11 +14,11 @@ use Rattle.kernel_types.specs.declared.call.Reply.{Reply}
 use Rattle.kernel_types.specs.declared.object.Host.{Host}
 use Rattle.net_conf.specs.declared.list.NetList.{NetList}
 use Rattle.pod_file.specs.declared.command.Command.{Command}
-use Rattle.pod_workers.specs.Index.{IsIndex, command_in, is_cut_by}
-use Rattle.pod_workers.specs.Legal.{Legal, IsBegun, begins, steps, refused_memory}
-use Rattle.pod_workers.specs.Plans.{IsWellFormed, Placed, commands_of, list_for, list_in, placed_from}
+use Rattle.pod_workers.specs.Index.{command_in, is_cut_by}
+use Rattle.pod_workers.specs.Legal.{Legal, steps, refused_memory}
+use Rattle.pod_workers.specs.Plans.{Placed, commands_of, list_for, list_in}
 use Rattle.pod_workers.specs.Slots.{Fits, IsDone, IsKept, IsWithin, MayBeMade, MayCarryOn, entry_by, next_in, opened, opened_by, slot_after}
-use Rattle.pod_workers.specs.World.{World, AllNone, IsReady, IsReadyNumber, answered, begun, done, end_of, entry_of, host_of, host_on, is_cut, is_faulty, is_stop, next_by, next_of, own_replies, reply_to, stepped, with_entry}
+use Rattle.pod_workers.specs.World.{World, IsReady, IsReadyNumber, answered, done, end_of, entry_of, host_of, host_on, is_cut, is_faulty, is_stop, next_by, next_of, own_replies, reply_to, stepped, with_entry}
 use Rattle.pod_workers.specs.declared.index.Place.{Place}
 use Rattle.pod_workers.specs.declared.plan.Entry.{Entry}
 use Rattle.pod_workers.specs.declared.plan.Next.{Next}
@@ -32,10 +32,12 @@ use Rattle.pod_workers.specs.declared.slots.Outcome.TheVariants as outcome
 use Rattle.pod_workers.proofs.Histories.{slice_get-set_same, slice_get-set_other, replies_of-own, replies_of-other, after-append, length-replies_of, length-append_one}
 use Rattle.pod_workers.proofs.ReadyByIndex.{cut-is}
 use Rattle.pod_workers.proofs.Sound.{allowed_next, fine}
+use Rattle.pod_workers.proofs.WellFormedPlans.{are_numbered}
 
 -- ---- a run and its replies
 
-state_from-append : (list : NetList) (c : Command) (made : ℕ) (s : State) (rs : List Reply) (r : Reply)
+-- one more reply makes one more step
+pub state_from-append : (list : NetList) (c : Command) (made : ℕ) (s : State) (rs : List Reply) (r : Reply)
     → state_from list c made s (rs ++ r ∷ []) ≡ advance list c (made + length rs + 1) (state_from list c made s rs) r
 state_from-append list c made s [] r = ap (λ k. advance list c k s r) (omega arith)
 state_from-append list c made s (x ∷ xs) r =
@@ -103,7 +105,7 @@ here host slots places before w n c s kept ready slot =
       ready = ready;
       run = ap (λ l. opened l c.command s) (found-list w.plan c.command) ∙ opened-is (list_for w.plan c.command) c.command (own_replies w n) s fits;
       within = within-fits (list_for w.plan c.command) c.command (own_replies w n) s fits;
-      number = (fine w kept.legal).plan.numbers n c ready.there;
+      number = are_numbered w.plan (fine w kept.legal).plan.pods n c ready.there;
     }
 
 -- what the run does next is the world's next
@@ -276,44 +278,6 @@ refused-here host host' slots places before w n c s h' h same_host same_history 
     let still = answer_keeps host slots places before w n c OutOfMemory h.kept h.ready (refused_memory w (answered w n OutOfMemory) n c h.kept.legal h.ready refl) in
     rw (same_host, same_history) still
 
--- ---- a book as it is begun
-
-all-none : (xs : List Placed) → AllNone {T = Answer} (map (λ (c : Placed). None) xs)
-all-none [] n o is = absurd (none-some o is)
-all-none (x ∷ xs) zero o is = sym (same_Some None o is)
-all-none (x ∷ xs) (suc n) o is = all-none xs n o is
-
-is-begun : (p : Plan) → IsWellFormed p → IsBegun (begun p)
-is-begun p well = record { plan = well; empty = refl; long = length-map (commands_of p) _; unanswered = all-none (commands_of p); round = refl }
-
-replicate-none : {X : Type 0} (n : ℕ) (i : ℕ) (o : Option X) → slice_get (replicate n None) i ≡ Some o → o ≡ None
-replicate-none zero i o is = absurd (none-some o is)
-replicate-none (suc n) zero o is = sym (same_Some None o is)
-replicate-none (suc n) (suc i) o is = replicate-none n i o is
-
-blanks-of : (xs : List Placed) → replicate {A = Option Answer} (length xs) None ≡ map (λ (c : Placed). None) xs
-blanks-of [] = refl
-blanks-of (x ∷ xs) = ap (λ (os : List (Option Answer)). None ∷ os) (blanks-of xs)
-
-pub blank-answers : (xs : List Placed) (n : ℕ) → n ≡ length xs → replicate {A = Option Answer} n None ≡ map (λ (c : Placed). None) xs
-blank-answers xs n is = ap (λ k. replicate k None) is ∙ blanks-of xs
-
-fits-blank : (list : Option NetList) (c : Command) (s : Option Slot) → s ≡ None → Fits list c [] s
-fits-blank list c s is = rw is refl
-
-pub begun-kept : (p : Plan) (host : Host) (places : List Place) (count : ℕ) → IsWellFormed p → host ≡ p.pods.opening → IsIndex p.pods.rounds (commands_of p) places → count ≡ length places
-    → IsKept host (replicate count None) places 0 (begun p)
-begun-kept p host places count well host_is index count_is = record {
-  legal = begins (begun p) (is-begun p well);
-  host_is = host_is;
-  slots_long = length-replicate count None ∙ count_is ∙ index.long;
-  answers_long = length-map (commands_of p) _;
-  index = index;
-  runs = λ n c s at_n slot_n open_n. fits-blank _ c.command s (replicate-none count n s slot_n);
-  before_is = refl;
-  round_within = omega arith;
-}
-
 -- ---- the step of a book
 
 -- the command that a step found by the index is the ready one
@@ -417,20 +381,3 @@ number-command host slots places before w v number p kept same ready at_n =
     let same_n : r.0 ≡ number - 1 = omega arith in
     let placed = kept.index.each (number - 1) r.1 p (ap (slice_get (commands_of w.plan)) (sym same_n) ∙ r.3.there) at_n in
     subst IsSome (sym placed.command) refl
-
--- ---- a book as it is begun
-
-pub begun-is : (p : Plan) (count : ℕ) (places : List Place) (history : List Entry) (answers : List (Option Answer)) → IsIndex p.pods.rounds (placed_from 0 p.pods.rounds) places → count ≡ length places → history ≡ []
-    → answers ≡ replicate count None → record { plan = p; history = history; answers = answers; round = 0 } ≡ begun p
-unfolding commands_of
-begun-is p count places history answers index count_is none blank =
-    ap (λ h. record { plan = p; history = h; answers = answers; round = 0 }) none
-    ∙ ap (λ a. record { plan = p; history = []; answers = a; round = 0 }) (blank ∙ blank-answers (placed_from 0 p.pods.rounds) count (count_is ∙ index.long))
-
-pub begun-here : (p : Plan) (host : Host) (count more : ℕ) (places : List Place) (history : List Entry) (answers : List (Option Answer)) (slots : List (Option Slot)) → IsWellFormed p → host ≡ p.pods.opening
-    → IsIndex p.pods.rounds (placed_from 0 p.pods.rounds) places → count ≡ length places → more ≡ length places → history ≡ [] → answers ≡ replicate count None → slots ≡ replicate more None
-    → IsKept host slots places 0 (record { plan = p; history = history; answers = answers; round = 0 })
-unfolding commands_of
-begun-here p host count more places history answers slots well host_is index count_is more_is none blank empty =
-    subst (IsKept host slots places 0) (sym (begun-is p count places history answers index count_is none blank))
-    (subst (λ ss. IsKept host ss places 0 (begun p)) (sym empty) (begun-kept p host places more well host_is index more_is))

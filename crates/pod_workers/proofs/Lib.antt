@@ -1,3 +1,4 @@
+pub mod Alone
 pub mod AnswersDue
 pub mod Asked
 pub mod Clauses
@@ -13,6 +14,7 @@ pub mod Histories
 pub mod Indexed
 pub mod Joined
 pub mod Kept
+pub mod KeptAtBegin
 pub mod Listed
 pub mod MostCalls
 pub mod OneOutcome
@@ -30,3 +32,4 @@ pub mod Splits
 pub mod StepsLeft
 pub mod TakenBack
 pub mod Turns
+pub mod WellFormedPlans

@@ -11,7 +11,7 @@ use Rattle.cni_verbs.specs.declared.answer.Answer.TheVariants.{OutOfMemory}
 use Rattle.pod_file.specs.Rounds.{is_exclusive}
 use Rattle.pod_workers.specs.Facts.{IsUntouched}
 use Rattle.pod_workers.specs.Legal.{Legal, IsBegun, begins, steps, refused_memory, turns}
-use Rattle.pod_workers.specs.Plans.{AreAlone, Placed, commands_of}
+use Rattle.pod_workers.specs.Plans.{Placed, commands_of}
 use Rattle.pod_workers.specs.World.{World, IsAnswered, IsReady, IsRoundOver, replies_of, own_replies, answered, with_entry, entry_of, host_of, done, next_of, next_round}
 use Rattle.pod_workers.specs.declared.plan.Entry.{Entry}
 use Rattle.pod_workers.specs.declared.plan.Next.{Next}
@@ -19,6 +19,8 @@ use Rattle.pod_workers.specs.declared.plan.Next.TheVariants as next
 use Rattle.pod_workers.specs.declared.plan.Plan.{Plan}
 use Rattle.pod_workers.proofs.Histories.{slice_get-set_other, replies_of-other}
 use Rattle.pod_workers.proofs.Sound.{fine}
+use Rattle.pod_workers.proofs.Alone.{AreAlone}
+use Rattle.pod_workers.proofs.WellFormedPlans.{stand_alone}
 
 pub record IsInOrder (w : World) : Type 0 where
   pub long : length w.answers ≡ length (commands_of w.plan)
@@ -190,5 +192,5 @@ alone_apart w legal m n d c ready other at is_open exclusive =
     elim (compared d.round w.round) [
       | inl less ↦ absurd (not_both w m (order.past m d at less) is_open)
       | inr (inl more) ↦ (order.later m d at more).no_reply
-      | inr (inr same) ↦ absurd (other (one_alone w.plan m n d c (fine w legal).plan.alone at ready.there (same ∙ sym ready.current) exclusive))
+      | inr (inr same) ↦ absurd (other (one_alone w.plan m n d c (stand_alone w.plan (fine w legal).plan) at ready.there (same ∙ sym ready.current) exclusive))
     ]

@@ -1,7 +1,7 @@
 -- The calls of an ADD after its Begin are planned: each is of its attachment or of what all share, and its links have the shapes that a kernel takes.
 use Rattle.std.proofs.Common.{◌≡◌, ℕ, ◌+◌, Bool, true, false, not, List, [], ◌∷◌, ◌++◌, map, length, Option, Some, None, refl, arith}
 use Rattle.std.proofs.lemmas.List.{length_push}
-use Rattle.std.specs.Prelude.{if◌then◌else◌, flat_map, ◌&&◌}
+use Rattle.std.specs.Prelude.{if◌then◌else◌, ◌&&◌}
 use Rattle.std.specs.List.{list_any, list_all}
 use Rattle.std.specs.Cmp.Lexicographic.{nat_list_eq_equiv}
 use Rattle.cni_addr.specs.Codes.{family_eq}
@@ -9,7 +9,6 @@ use Rattle.cni_addr.specs.declared.address.Addr.{Addr}
 use Rattle.cni_addr.specs.declared.address.Family.TheVariants as families
 use Rattle.cni_result.specs.declared.result.AddResult.{AddResult}
 use Rattle.cni_result.specs.declared.result.IpEntry.{IpEntry}
-use Rattle.cni_result.specs.declared.result.RouteEntry.{RouteEntry}
 use Rattle.cni_result.specs.declared.cached.PortMapping.{PortMapping}
 use Rattle.net_conf.specs.declared.first.BridgeConf.{BridgeConf}
 use Rattle.net_conf.specs.declared.first.First.{First}
@@ -18,9 +17,8 @@ use Rattle.net_conf.specs.declared.chained.Chained.{Chained}
 use Rattle.net_conf.specs.declared.chained.Chained.TheVariants.{Portmap, Firewall, Tuning}
 use Rattle.net_conf.specs.declared.chained.TuningConf.{TuningConf}
 use Rattle.net_conf.specs.declared.list.NetList.{NetList}
-use Rattle.kernel_types.specs.Apply.Calls.{is_same_addr, is_same_route, is_same_setting}
+use Rattle.kernel_types.specs.Apply.Calls.{is_same_setting}
 use Rattle.kernel_types.specs.Allowed.{IsVethPair, IsMacvlanLink}
-use Rattle.kernel_types.specs.Equal.{rule_eq}
 use Rattle.kernel_types.specs.Names.{host_name_of}
 use Rattle.kernel_types.specs.Words.{is_host_ns, is_own}
 use Rattle.kernel_types.proofs.Cases.{att_eq-refl}
@@ -32,8 +30,9 @@ use Rattle.kernel_types.specs.declared.call.Given.{Given}
 use Rattle.kernel_types.specs.declared.call.Call.{Call}
 use Rattle.kernel_types.specs.declared.call.Call.TheVariants.{GatewayEnsure, ForwardEnsure, VethAdd, MacvlanAdd, LinkSet, AddrAdd, RouteAdd, RuleAppend, SettingSet, CachePut}
 use Rattle.plan_words.specs.PlanCalls.{is_plan_call_of}
-use Rattle.plan_words.specs.Shapes.{host_end, inner_end, address_on, route_on, masquerade_of, addresses_on, routes_on, masquerade_rules, forward_for, forward_calls}
-use Rattle.plan_words.proofs.KeyLists.{list_all-each_key_once, list_all-every, list_all-flat, list_all-append}
+use Rattle.plan_words.specs.Shapes.{host_end, inner_end, addresses_on, routes_on, masquerade_rules, forward_for, forward_calls}
+use Rattle.plan_words.proofs.Appends.{own-addresses, own-routes, own-masquerades}
+use Rattle.plan_words.proofs.KeyLists.{list_all-each_key_once, list_all-every}
 use Rattle.host_local.specs.Conf.{routes_of}
 use Rattle.host_local.specs.Results.{ip_of}
 use Rattle.bridge_ptp.specs.Bridge as bridge
@@ -41,8 +40,11 @@ use Rattle.bridge_ptp.specs.Ptp as ptp
 use Rattle.bridge_ptp.specs.declared.ptp.AddressOrRoute.{AddressOrRoute}
 use Rattle.bridge_ptp.specs.declared.ptp.AddressOrRoute.TheVariants.{Address, Route}
 use Rattle.bridge_ptp.specs.Results.{bridge_routes}
-use Rattle.portmap.specs.Portmap.{portmap_rules, mapping_rules, rules_for, host_ip_allows, dnat_of, masquerades_of, from_host}
-use Rattle.firewall_tuning.specs.Firewall.{firewall_rules, forward_of}
+use Rattle.bridge_ptp.proofs.Shares.{is_own_object, own-objects}
+use Rattle.portmap.specs.Portmap.{portmap_rules}
+use Rattle.portmap.proofs.Shares.{own-portmap_rules}
+use Rattle.firewall_tuning.specs.Firewall.{firewall_rules}
+use Rattle.firewall_tuning.proofs.Shares.{own-firewall_rules}
 use Rattle.firewall_tuning.specs.Tuning.{tuning_settings, setting_of, sets_any, link_set_calls}
 use Rattle.cni_verbs.specs.Wanted.{calls_before, calls_after, chained_calls, all_chained_calls, chained_result, back_calls, cached_of, given_by_list, first_plugin_result}
 
@@ -98,26 +100,6 @@ planned-routes att xs h = planned-map att (λ x. RouteAdd x) (λ x. is_own att x
 planned-rules : (att : Att) (xs : List Rule) → list_all (λ x. is_own att x.tag) xs ≡ true → AllPlanned att (map RuleAppend xs)
 planned-rules att xs h = planned-map att (λ x. RuleAppend x) (λ x. is_own att x.tag) (λ x own. (own, tt)) xs h
 
-own-addresses : (att : Att) (netns : List ℕ) (given : List Given) → list_all (λ x. is_own att x.tag) (addresses_on att netns given) ≡ true
-own-addresses att netns given =
-    list_all-each_key_once (λ x. is_own att x.tag) is_same_addr (map (address_on att netns) given)
-    (list_all-every (λ x. is_own att x.tag) (address_on att netns) (λ g. att_eq-refl att) given)
-
-own-routes : (att : Att) (netns : List ℕ) (given : List Given) (entries : List RouteEntry) → list_all (λ x. is_own att x.tag) (routes_on att netns given entries) ≡ true
-own-routes att netns given entries =
-    list_all-each_key_once (λ x. is_own att x.tag) is_same_route (map (route_on att netns given) entries)
-    (list_all-every (λ x. is_own att x.tag) (route_on att netns given) (λ g. att_eq-refl att) entries)
-
-own-if : {X : Type 0} (q : X → Bool) (b : Bool) (xs : List X) → list_all q xs ≡ true → list_all q (if b then xs else []) ≡ true
-own-if q true xs h = h
-own-if q false xs h = refl
-
-own-masquerades : (b : Bool) (att : Att) (given : List Given) → list_all (λ x. is_own att x.tag) (masquerade_rules b att given) ≡ true
-own-masquerades b att given =
-    own-if (λ x. is_own att x.tag) b _
-    (list_all-each_key_once (λ x. is_own att x.tag) rule_eq (flat_map (masquerade_of att) given)
-    (list_all-flat (λ x. is_own att x.tag) (masquerade_of att) (λ g. grind (arith, att_eq-refl att)) given))
-
 -- ---- the plugins that make the interface
 
 pair : (att : Att) (netns : List ℕ) (master : Option (List ℕ)) (mtu : ℕ) (hairpin : Bool) → is_host_ns netns ≡ false → IsVethPair (host_end att netns master mtu hairpin) (inner_end att netns mtu)
@@ -131,9 +113,6 @@ pair att netns master mtu hairpin place = record {
   outer = refl;
   inner = place;
 }
-
-both-own : (a : Bool) → a ≡ true → (a && a) ≡ true
-both-own a h = grind (arith, h)
 
 planned-veth : (att : Att) (netns : List ℕ) (master : Option (List ℕ)) (mtu : ℕ) (hairpin : Bool) → is_host_ns netns ≡ false → IsPlanned att (VethAdd (host_end att netns master mtu hairpin) (inner_end att netns mtu))
 planned-veth att netns master mtu hairpin place = (grind (arith, att_eq-refl att), pair att netns master mtu hairpin place)
@@ -155,20 +134,9 @@ planned-gateways conf att gs =
     (planned-append att (map (GatewayEnsure conf.bridge) (bridge.gateways gs)) (forward_calls gs)
     (planned-map att (GatewayEnsure conf.bridge) (λ c. true) (λ c t. (refl, tt)) (bridge.gateways gs) (list_all-true (bridge.gateways gs))) (planned-forward att gs))
 
-abbrev own_object : Att → AddressOrRoute → Bool
-own_object att (Address obj) = is_own att obj.tag
-own_object att (Route obj) = is_own att obj.tag
-
-planned-object : (att : Att) (x : AddressOrRoute) → own_object att x ≡ true → IsPlanned att (ptp.call_for x)
+planned-object : (att : Att) (x : AddressOrRoute) → is_own_object att x ≡ true → IsPlanned att (ptp.call_for x)
 planned-object att (Address obj) own = (own, tt)
 planned-object att (Route obj) own = (own, tt)
-
-own-ptp : (conf : _) (att : Att) (netns : List ℕ) (gs : List Given) → list_all (own_object att) (ptp.ptp_objects conf att netns gs) ≡ true
-own-ptp conf att netns gs =
-    list_all-each_key_once (own_object att) ptp.same_key (flat_map (ptp.ptp_objects_for att netns) gs ++ map (λ r. Route (route_on att netns gs r)) conf.ipam.routes)
-    (list_all-append (own_object att) (flat_map (ptp.ptp_objects_for att netns) gs) (map (λ r. Route (route_on att netns gs r)) conf.ipam.routes)
-    (list_all-flat (own_object att) (ptp.ptp_objects_for att netns) (λ g. grind (arith, att_eq-refl att)) gs)
-    (list_all-every (own_object att) (λ r. Route (route_on att netns gs r)) (λ r. att_eq-refl att) conf.ipam.routes))
 
 planned-after : (first : First) (att : Att) (netns : List ℕ) (gs : List Given) → AllPlanned att (calls_after first att netns gs)
 planned-after (Bridge c) att netns gs =
@@ -178,38 +146,13 @@ planned-after (Bridge c) att netns gs =
     (planned-append att (bridge.gateway_calls c gs) (map RuleAppend (masquerade_rules c.ip_masq att gs)) (planned-gateways c att gs)
     (planned-rules att (masquerade_rules c.ip_masq att gs) (own-masquerades c.ip_masq att gs))))
 planned-after (Ptp c) att netns gs =
-    planned-append att (map ptp.call_for (ptp.ptp_objects c att netns gs)) _ (planned-map att ptp.call_for (own_object att) (planned-object att) (ptp.ptp_objects c att netns gs) (own-ptp c att netns gs))
+    planned-append att (map ptp.call_for (ptp.ptp_objects c att netns gs)) _ (planned-map att ptp.call_for (is_own_object att) (planned-object att) (ptp.ptp_objects c att netns gs) (own-objects c att netns gs))
     (planned-append att (forward_calls gs) (map RuleAppend (masquerade_rules c.ip_masq att gs)) (planned-forward att gs) (planned-rules att (masquerade_rules c.ip_masq att gs) (own-masquerades c.ip_masq att gs)))
 planned-after (Macvlan c) att netns gs =
     planned-append att (map AddrAdd (addresses_on att netns gs)) (map RouteAdd (routes_on att netns gs (routes_of c.ipam)))
     (planned-addresses att (addresses_on att netns gs) (own-addresses att netns gs)) (planned-routes att (routes_on att netns gs (routes_of c.ipam)) (own-routes att netns gs (routes_of c.ipam)))
 
 -- ---- the chained plugins
-
-own-from_host : (att : Att) (m : PortMapping) (addr : Addr) (f : _) → list_all (λ x. is_own att x.tag) (from_host att m addr f) ≡ true
-own-from_host att m addr families.V4 = grind (arith, att_eq-refl att)
-own-from_host att m addr families.V6 = refl
-
-own-masquerades_of : (snat : Bool) (att : Att) (ip : IpEntry) (m : PortMapping) → list_all (λ x. is_own att x.tag) (masquerades_of snat att ip m) ≡ true
-own-masquerades_of true att ip m = grind (arith, att_eq-refl att, own-from_host att m ip.address.addr ip.address.addr.family)
-own-masquerades_of false att ip m = refl
-
-own-rules_for : (snat : Bool) (att : Att) (m : PortMapping) (ip : Option IpEntry) → list_all (λ x. is_own att x.tag) (rules_for snat att m ip) ≡ true
-own-rules_for snat att m None = refl
-own-rules_for snat att m (Some ip) =
-    own-if (λ (x : Rule). is_own att x.tag) (host_ip_allows m.host_ip ip.address.addr) (dnat_of att m ip.address.addr ∷ masquerades_of snat att ip m)
-    (grind (arith, att_eq-refl att, own-masquerades_of snat att ip m))
-
-own-portmap : (conf : _) (att : Att) (mappings : List PortMapping) (ips : List IpEntry) → list_all (λ x. is_own att x.tag) (portmap_rules conf att mappings ips) ≡ true
-own-portmap conf att mappings ips =
-    list_all-each_key_once (λ x. is_own att x.tag) rule_eq (flat_map (mapping_rules conf.snat att ips) mappings)
-    (list_all-flat (λ x. is_own att x.tag) (mapping_rules conf.snat att ips)
-    (λ m. list_all-append (λ x. is_own att x.tag) (rules_for conf.snat att m _) (rules_for conf.snat att m _) (own-rules_for conf.snat att m _) (own-rules_for conf.snat att m _)) mappings)
-
-own-firewall : (att : Att) (ips : List IpEntry) → list_all (λ x. is_own att x.tag) (firewall_rules att ips) ≡ true
-own-firewall att ips =
-    list_all-each_key_once (λ x. is_own att x.tag) rule_eq (flat_map (forward_of att) ips)
-    (list_all-flat (λ x. is_own att x.tag) (forward_of att) (λ ip. grind (arith, att_eq-refl att)) ips)
 
 not-false : (b : Bool) → not b ≡ true → b ≡ false
 not-false true h = cc
@@ -224,8 +167,8 @@ planned-settings att netns conf place =
     (list_all-every (λ x. is_own att x.tag && not (is_host_ns x.ns)) (setting_of att netns) (λ s. grind (arith, att_eq-refl att, place)) conf.sysctl))
 
 planned-chained : (c : Chained) (att : Att) (netns : List ℕ) (mappings : List PortMapping) (ips : List IpEntry) → is_host_ns netns ≡ false → AllPlanned att (chained_calls c att netns mappings ips)
-planned-chained (Portmap x) att netns mappings ips place = planned-rules att (portmap_rules x att mappings ips) (own-portmap x att mappings ips)
-planned-chained (Firewall x) att netns mappings ips place = planned-rules att (firewall_rules att ips) (own-firewall att ips)
+planned-chained (Portmap x) att netns mappings ips place = planned-rules att (portmap_rules x att mappings ips) (own-portmap_rules x att mappings ips)
+planned-chained (Firewall x) att netns mappings ips place = planned-rules att (firewall_rules att ips) (own-firewall_rules att ips)
 planned-chained (Tuning x) att netns mappings ips place =
     planned-append att (map SettingSet (tuning_settings x att netns)) (link_set_calls x att netns) (planned-settings att netns x place)
     (planned-if att (sets_any x) (LinkSet att (record { ns = netns; name = att.ifname }) x.mac x.mtu x.tx_qlen x.promisc x.allmulti ∷ []) ((att_eq-refl att, tt), tt))

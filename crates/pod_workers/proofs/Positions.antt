@@ -51,9 +51,6 @@ pub record IsScanned (t : Placed → Bool) (rounds : List (List Command)) (round
   pub rest : position_from t 0 (placed_from 0 rounds) ≡ position_from t before (placed_from round (drop round rounds))
   pub count : before + length (placed_from round (drop round rounds)) ≡ length (placed_from 0 rounds)
 
-pub none-scanned : (t : Placed → Bool) (rounds : List (List Command)) → IsScanned t rounds 0 0
-none-scanned t rounds = record { rest = refl; count = omega arith }
-
 this-round : (rounds : List (List Command)) (round : ℕ) (d : List Command) → round < length rounds
     → placed_from round (drop round rounds) ≡ map (in_round round) (get_or rounds round d) ++ placed_from (round + 1) (drop (round + 1) rounds)
 this-round rounds round d within = ap (placed_from round) (drop_more rounds round d within)
@@ -66,10 +63,6 @@ this-count t rounds round before cs d scanned within is =
     let long = length-map (get_or rounds round d) (in_round round) in
     let same = ap length is in
     omega (arith, scanned.count, here, split, long, same)
-
-pub scanned-fits : (t : Placed → Bool) (rounds : List (List Command)) (round before : ℕ) (cs d : List Command) → IsScanned t rounds round before → round < length rounds → cs ≡ get_or rounds round d
-    → before + length cs ≤ length (placed_from 0 rounds)
-scanned-fits t rounds round before cs d scanned within is = omega (arith, this-count t rounds round before cs d scanned within is)
 
 pub scanned-more : (t : Placed → Bool) (rounds : List (List Command)) (round before : ℕ) (cs d : List Command) → IsScanned t rounds round before → round < length rounds → cs ≡ get_or rounds round d
     → position (λ c. t (in_round round c)) cs ≡ None → IsScanned t rounds (round + 1) (before + length cs)

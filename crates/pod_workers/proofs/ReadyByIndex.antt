@@ -125,14 +125,6 @@ ready-tells b host slots places before w v n p number kept same is place tells =
     subst (λ u. MatchBool b (IsReadyNumber u number) (IsReadyNumber u number → ⊥)) same
     (ready-by b w n c p number is (in_order w kept.legal) short at_n (kept.index.each n c p at_n place) tells)
 
--- no command has a number outside
-pub none-ready : (host : Host) (slots : List (Option Slot)) (places : List Place) (before : ℕ) (w v : World) (number : ℕ) → IsKept host slots places before w → w ≡ v → (number ≡ 0) ⊎ (length places < number) → IsReadyNumber v number → ⊥
-none-ready host slots places before w v number kept same outside r =
-    let within : r.0 < length (commands_of v.plan) = slice_get_within (commands_of v.plan) r.0 r.1 r.3.there in
-    let long : length places ≡ length (commands_of v.plan) = kept.index.long ∙ ap (λ (u : World). length (commands_of u.plan)) same in
-    let e = r.2 in
-    elim outside [ inl none ↦ absurd (omega arith) | inr past ↦ absurd (omega arith) ]
-
 -- ---- where a round is stopped
 
 last-entry-is : (h : List Entry) → last_entry h ≡ slice_get h (length h - 1)

@@ -1,6 +1,8 @@
 -- A round's commands are stepped to their answers one after another, and the next round is current.
-use Rattle.std.proofs.Common.{◌≡◌, ℕ, zero, suc, ◌+◌, ◌-◌, ◌<◌, ◌≤◌, List, [], ◌∷◌, ◌++◌, length, map, take, Option, Some, None, Result, Ok, Err, OnOk, OnErr, slice_get, get_or, refl, sym, ◌∙◌, ap, subst, arith, inl, inr}
+use Rattle.std.proofs.Common.{◌≡◌, ◌≢◌, ℕ, zero, suc, ◌+◌, ◌-◌, ◌<◌, ◌≤◌, List, [], ◌∷◌, ◌++◌, length, map, take, Option, Some, None, Result, Ok, Err, OnOk, OnErr, slice_get, get_or, refl, sym, ◌∙◌, ap, subst, arith, inl, inr}
+use Rattle.std.specs.List.{All}
 use Rattle.std.proofs.lemmas.List.{append-nil, append_assoc, length-append, length-map}
+use Rattle.std.proofs.lemmas.List.Elements.{All-append, All-cons, All-nil}
 use Rattle.std.proofs.lemmas.Bool.{cases_lt}
 use Rattle.std.proofs.lemmas.Bool.Decides.{eqb_tells}
 use Rattle.std.proofs.lemmas.Option.{same_Some, none-some, slice_get_within, slice_get_read}
@@ -9,13 +11,14 @@ use Rattle.cni_verbs.specs.declared.answer.Answer.{Answer}
 use Rattle.cni_verbs.specs.declared.answer.Answer.TheVariants.{OutOfMemory}
 use Rattle.kernel_types.specs.declared.object.Host.{Host}
 use Rattle.pod_file.specs.declared.command.Command.{Command}
-use Rattle.pod_workers.specs.Extends.{Extends, Rounds}
+use Rattle.pod_workers.specs.Extends.{Extends, IsOfRound, Rounds}
 use Rattle.pod_workers.specs.Legal.{Legal, turns}
 use Rattle.pod_workers.specs.Order.{EarlierAreAnswered, IsInFileOrder}
 use Rattle.pod_workers.specs.Plans.{Placed, commands_of, in_round, placed_from}
 use Rattle.pod_workers.specs.Slots.{AreNumbersOf, IsKept}
-use Rattle.pod_workers.specs.World.{World, IsAnswered, IsReadyNumber, IsRoundOver, answered, done, next_of, next_round, own_replies, stepped}
+use Rattle.pod_workers.specs.World.{World, IsAnswered, IsReady, IsReadyNumber, IsRoundOver, answered, done, entry_of, host_of, next_of, next_round, own_replies, stepped}
 use Rattle.pod_workers.specs.declared.index.Place.{Place}
+use Rattle.pod_workers.specs.declared.plan.Entry.{Entry}
 use Rattle.pod_workers.specs.declared.plan.Next.{Next}
 use Rattle.pod_workers.specs.declared.plan.Next.TheVariants as next
 use Rattle.pod_workers.specs.declared.plan.Plan.{Plan}
@@ -27,34 +30,64 @@ use Rattle.pod_workers.proofs.Order.{in_order, not_both, open_or_answered}
 use Rattle.pod_workers.proofs.Rounds.{placed-fits, placed_from-more, placed_from-front, round-of, rounds-before}
 use Rattle.pod_workers.proofs.Elements.{slice_get-left, slice_get-right}
 use Rattle.pod_workers.proofs.Sound.{fine}
+use Rattle.pod_workers.proofs.WellFormedPlans.{few_commands}
 
 -- ---- one world goes on from another
 
 pub extends_refl : (w : World) → Extends w w
-extends_refl w = record { plan_is = refl; round_is = refl; entries = ([], sym (append-nil w.history)); answers_stand = λ n a is. is }
+extends_refl w = record {
+  plan_is = refl;
+  round_is = refl;
+  entries = ([], sym (append-nil w.history), All-nil (IsOfRound w.plan w.round));
+  answers_stand = λ n a is. is;
+  others = λ n c at far. refl;
+}
+
+same-round : (u v : World) (es : List Entry) → v.plan ≡ u.plan → v.round ≡ u.round → All (IsOfRound v.plan v.round) es → All (IsOfRound u.plan u.round) es
+same-round u v es plan_is round_is all = subst (λ p. All (IsOfRound p u.round) es) plan_is (subst (λ r. All (IsOfRound v.plan r) es) round_is all)
 
 pub extends_trans : (u v w : World) → Extends u v → Extends v w → Extends u w
 extends_trans u v w e f = record {
   plan_is = f.plan_is ∙ e.plan_is;
   round_is = f.round_is ∙ e.round_is;
-  entries = (e.entries.0 ++ f.entries.0, f.entries.1 ∙ ap (λ h. h ++ f.entries.0) e.entries.1 ∙ append_assoc u.history e.entries.0 f.entries.0);
+  entries = (
+    e.entries.0 ++ f.entries.0,
+    f.entries.1 ∙ ap (λ h. h ++ f.entries.0) e.entries.1 ∙ append_assoc u.history e.entries.0 f.entries.0,
+    All-append (IsOfRound u.plan u.round) e.entries.0 f.entries.0 e.entries.2 (same-round u v f.entries.0 e.plan_is e.round_is f.entries.2),
+  );
   answers_stand = λ n a is. f.answers_stand n a (e.answers_stand n a is);
+  others = λ n c at far. f.others n c (ap (λ p. slice_get (commands_of p) n) e.plan_is ∙ at) (λ same. far (same ∙ e.round_is)) ∙ e.others n c at far;
 }
 
-answered_extends : (w : World) (n : ℕ) (a : Answer) → slice_get w.answers n ≡ Some None → Extends w (answered w n a)
-answered_extends w n a unanswered = record {
+-- a command of another round stands at another place
+elsewhere : (w : World) (n m : ℕ) (c d : Placed) → IsReady w n c → slice_get (commands_of w.plan) m ≡ Some d → (d.round ≡ w.round → ⊥) → m ≢ n
+elsewhere w n m c d ready at_m far = λ same.
+    far (ap (λ (x : Placed). x.round) (same_Some d c (sym at_m ∙ ap (slice_get (commands_of w.plan)) same ∙ ready.there)) ∙ ready.current)
+
+answered_extends : (w : World) (n : ℕ) (c : Placed) (a : Answer) → IsReady w n c → Extends w (answered w n a)
+answered_extends w n c a ready = record {
   plan_is = refl;
   round_is = refl;
-  entries = ([], sym (append-nil w.history));
+  entries = ([], sym (append-nil w.history), All-nil (IsOfRound w.plan w.round));
   answers_stand = λ m b is. elim (eqb_tells m n) [
-    | inl t ↦ absurd (none-some b (same_Some None (Some b) (sym unanswered ∙ ap (slice_get w.answers) (sym t.1) ∙ is)))
+    | inl t ↦ absurd (none-some b (same_Some None (Some b) (sym ready.unanswered ∙ ap (slice_get w.answers) (sym t.1) ∙ is)))
     | inr f ↦ slice_get-set_other w.answers n m (Some a) f.1 ∙ is
   ];
+  others = λ m d at_m far. slice_get-set_other w.answers n m (Some a) (elsewhere w n m c d ready at_m far);
 }
 
-done_extends : (w : World) (n : ℕ) (x : Next) → slice_get w.answers n ≡ Some None → Extends w (done w n x)
-done_extends w n (next.Answer a) unanswered = answered_extends w n a unanswered
-done_extends w n (next.Call call faulty) unanswered = record { plan_is = refl; round_is = refl; entries = (_, refl); answers_stand = λ m a is. is }
+done_extends : (w : World) (n : ℕ) (c : Placed) (x : Next) → IsReady w n c → Extends w (done w n x)
+done_extends w n c (next.Answer a) ready = answered_extends w n c a ready
+done_extends w n c (next.Call call faulty) ready =
+    let e = entry_of (host_of w) n call faulty in
+    let mine : IsOfRound w.plan w.round e = record { n = n; placed = c; number_is = refl; there = ready.there; round_is = ready.current } in
+    record {
+      plan_is = refl;
+      round_is = refl;
+      entries = (e ∷ [], refl, All-cons (IsOfRound w.plan w.round) e [] mine (All-nil (IsOfRound w.plan w.round)));
+      answers_stand = λ m a is. is;
+      others = λ m d at_m far. refl;
+    }
 
 -- whatever a step of a ready command gives
 abbrev pub IsStepped : Result StepEnd NoMemory → World → World → ℕ → Type 0
@@ -64,8 +97,8 @@ IsStepped r v w number =
 
 pub step_extends : (r : Result StepEnd NoMemory) (v w : World) (number : ℕ) → IsReadyNumber v number → IsStepped r v w number → Extends v w
 step_extends (Ok x) v w number ready is =
-    subst (Extends v) (sym (is.0 ready.0 ready.1 ready.2 ready.3.there)) (done_extends v ready.0 (next_of v ready.1.command (own_replies v ready.0)) ready.3.unanswered)
-step_extends (Err x) v w number ready is = subst (Extends v) (sym (is.1 ready.0 ready.2)) (answered_extends v ready.0 OutOfMemory ready.3.unanswered)
+    subst (Extends v) (sym (is.0 ready.0 ready.1 ready.2 ready.3.there)) (done_extends v ready.0 ready.1 (next_of v ready.1.command (own_replies v ready.0)) ready.3)
+step_extends (Err x) v w number ready is = subst (Extends v) (sym (is.1 ready.0 ready.2)) (answered_extends v ready.0 ready.1 OutOfMemory ready.3)
 
 -- ---- the numbers of a round
 
@@ -165,8 +198,8 @@ round-is-over v w first end number numbers e past below n c at_n current =
     let high = (numbers.all n c (ap (λ p. slice_get (commands_of p) n) (sym e.plan_is) ∙ at_n) (current ∙ e.round_is)).1 in
     below n c (omega arith) at_n current
 
-pub rounds-from : (v w u : World) → Extends v w → IsRoundOver w → u ≡ next_round w → Rounds v u
-rounds-from v w u e over is = record { last = w; extends = e; over = over; next_is = is }
+pub rounds-from : (v w u : World) → Legal w → Extends v w → IsRoundOver w → u ≡ next_round w → Rounds v u
+rounds-from v w u legal e over is = record { last = w; legal = legal; extends = e; over = over; next_is = is }
 
 -- ---- the next round
 
@@ -200,8 +233,8 @@ pub round-fits : (host : Host) (slots : List (Option Slot)) (places : List Place
 round-fits host slots places before w cs kept is =
     let fits = placed-fits w.plan.pods.rounds w.round cs is in
     let all = ap length (placed-all w) in
-    let bounds = (fine w kept.legal).plan.bounds in
-    let rounds = (fine w kept.legal).plan.rounds in
+    let bounds = few_commands w.plan (fine w kept.legal).plan.pods in
+    let rounds = (fine w kept.legal).plan.pods.few_rounds in
     let before_is = kept.before_is in
     let within = slice_get_within w.plan.pods.rounds w.round cs is in
     (omega (arith, fits, all, bounds, before_is), omega (arith, within, rounds))

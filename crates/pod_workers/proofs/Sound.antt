@@ -40,11 +40,13 @@ use Rattle.cni_verbs.specs.CommandWords.{att_of}
 use Rattle.cni_verbs.specs.declared.answer.Answer.{Answer}
 use Rattle.cni_verbs.specs.declared.answer.Answer.TheVariants.{Stopped}
 use Rattle.cni_verbs.specs.Script.{State, AtBegin, BeforeLeases, Leasing, AfterLeases, ReadingCache, Deleting, FindingEntry, Asking, Changing, Collecting, Over, Turn, Calls, Finishes, turn, turn_of_work, state_after, outside_after}
-use Rattle.cni_verbs.specs.Sweep.{Job, Step, Sweep, Look, Delete, step_call}
+use Rattle.cni_verbs.specs.Sweep.{Job, Step, Sweep, AskCached, Delete, step_call}
 use Rattle.cni_verbs.specs.Progress.{turn_by}
 use Rattle.cni_verbs.specs.Wanted.{sets_of, deletion}
+use Rattle.pod_workers.specs.Lasts.{AreLastsOfSets, IsLastOfSet}
 use Rattle.pod_workers.specs.Legal.{Legal, IsBegun, begins, steps, refused_memory, turns}
-use Rattle.pod_workers.specs.Plans.{Placed, IsWellFormed, list_for, list_in, list_named, is_of_network, has_pools_apart}
+use Rattle.pod_file.specs.Commands.{is_of_network}
+use Rattle.pod_workers.specs.Plans.{Placed, IsWellFormed, list_for, list_in, list_named}
 use Rattle.pod_workers.specs.World.{World, IsReady, after, host_on, host_of, own_replies, next_by, next_of, is_cut, is_faulty, entry_of, done}
 use Rattle.pod_workers.specs.declared.plan.Entry.{Entry}
 use Rattle.pod_workers.specs.declared.plan.Next.{Next}
@@ -53,6 +55,7 @@ use Rattle.pod_workers.specs.declared.plan.Plan.{Plan}
 use Rattle.pod_workers.proofs.Asked.{IsQuestionOf, slice_get-middle}
 use Rattle.pod_workers.proofs.Planned.{IsOutside, IsRest, LeftArePlanned, LeftIsOutside, left-are-planned, left-is-outside}
 use Rattle.pod_workers.proofs.PlannedCalls.{IsPlanned}
+use Rattle.pod_workers.proofs.WellFormedPlans.{has_pools_apart, pools_apart}
 
 -- ---- lists
 
@@ -63,16 +66,7 @@ list_all-at p (y ∷ ys) (suc i) x h at = list_all-at p ys i x (grind (arith, h)
 
 -- ---- the last address of a pool
 
--- the last of a pool of the plan is a candidate of its set
-abbrev pub LastIsCandidate : Plan → Last → Type 0
-LastIsCandidate p last =
-    (list : NetList) (set : RangeSet) → find (λ l. bytes_eq l.name last.network) p.lists ≡ Some list → slice_get (sets_of list) last.set ≡ Some set → is_candidate set last.addr ≡ true
-
-abbrev pub EachLast : Plan → List Last → Type 0
-EachLast p [] = Unit {0}
-EachLast p (x ∷ xs) = LastIsCandidate p x × EachLast p xs
-
-each-push : (p : Plan) (xs : List Last) (x : Last) → EachLast p xs → LastIsCandidate p x → EachLast p (xs ++ x ∷ [])
+each-push : (p : Plan) (xs : List Last) (x : Last) → AreLastsOfSets p xs → IsLastOfSet p x → AreLastsOfSets p (xs ++ x ∷ [])
 each-push p [] x h g = (g, tt)
 each-push p (y ∷ ys) x h g = (h.0, each-push p ys x h.1 g)
 
@@ -82,41 +76,43 @@ same-pool network number x h = (
   elim (eqb_tells x.set number) [ inl t ↦ t.1 | inr f ↦ absurd (let no_way = f.0 in grind (arith, h, no_way)) ],
 )
 
-moved-one : (p : Plan) (network : List ℕ) (number : ℕ) (a : Addr) (x : Last) (b : Bool) → is_of_pool network number x ≡ b → LastIsCandidate p x
-    → LastIsCandidate p (record { network = network; set = number; addr = a }) → LastIsCandidate p (if b then record x { addr = a } else x)
+moved-one : (p : Plan) (network : List ℕ) (number : ℕ) (a : Addr) (x : Last) (b : Bool) → is_of_pool network number x ≡ b → IsLastOfSet p x
+    → IsLastOfSet p (record { network = network; set = number; addr = a }) → IsLastOfSet p (if b then record x { addr = a } else x)
 moved-one p network number a x true is h g =
     let same = same-pool network number x is in
-    λ list set found at. g list set (ap (λ n. find (λ l. bytes_eq l.name n) p.lists) (sym same.0) ∙ found) (ap (slice_get (sets_of list)) (sym same.1) ∙ at)
+    record {
+      list = g.list;
+      set = g.set;
+      found = ap (λ n. find (λ l. bytes_eq l.name n) p.lists) same.0 ∙ g.found;
+      there = ap (slice_get (sets_of g.list)) same.1 ∙ g.there;
+      fits = g.fits;
+    }
 moved-one p network number a x false is h g = h
 
-each-moved : (p : Plan) (network : List ℕ) (number : ℕ) (a : Addr) (xs : List Last) → EachLast p xs → LastIsCandidate p (record { network = network; set = number; addr = a }) → EachLast p (map (moved_last network number a) xs)
+each-moved : (p : Plan) (network : List ℕ) (number : ℕ) (a : Addr) (xs : List Last) → AreLastsOfSets p xs → IsLastOfSet p (record { network = network; set = number; addr = a }) → AreLastsOfSets p (map (moved_last network number a) xs)
 each-moved p network number a [] h g = tt
 each-moved p network number a (x ∷ xs) h g = (moved-one p network number a x (is_of_pool network number x) refl h.0 g, each-moved p network number a xs h.1 g)
 
-found-step : (p : Plan) (b : Bool) (y x : Last) (o : Option Last) → LastIsCandidate p y → (o ≡ Some x → LastIsCandidate p x) → cond b (Some y) o ≡ Some x → LastIsCandidate p x
-found-step p true y x o h g is = subst (LastIsCandidate p) (same_Some y x is) h
+found-step : (p : Plan) (b : Bool) (y x : Last) (o : Option Last) → IsLastOfSet p y → (o ≡ Some x → IsLastOfSet p x) → cond b (Some y) o ≡ Some x → IsLastOfSet p x
+found-step p true y x o h g is = subst (IsLastOfSet p) (same_Some y x is) h
 found-step p false y x o h g is = g is
 
-each-found : (p : Plan) (q : Last → Bool) (xs : List Last) (x : Last) → EachLast p xs → find q xs ≡ Some x → LastIsCandidate p x
+each-found : (p : Plan) (q : Last → Bool) (xs : List Last) (x : Last) → AreLastsOfSets p xs → find q xs ≡ Some x → IsLastOfSet p x
 each-found p q [] x h is = absurd (none-some x is)
 each-found p q (y ∷ ys) x h is = found-step p (q y) y x (find q ys) h.0 (λ rest. each-found p q ys x h.1 rest) is
 
-last-with : (p : Plan) (host : Host) (network : List ℕ) (number : ℕ) (a : Addr) (b : Bool) → EachLast p host.lasts → LastIsCandidate p (record { network = network; set = number; addr = a })
-    → EachLast p (if b then record host { lasts = map (moved_last network number a) host.lasts } else record host { lasts = host.lasts ++ record { network = network; set = number; addr = a } ∷ [] }).lasts
+last-with : (p : Plan) (host : Host) (network : List ℕ) (number : ℕ) (a : Addr) (b : Bool) → AreLastsOfSets p host.lasts → IsLastOfSet p (record { network = network; set = number; addr = a })
+    → AreLastsOfSets p (if b then record host { lasts = map (moved_last network number a) host.lasts } else record host { lasts = host.lasts ++ record { network = network; set = number; addr = a } ∷ [] }).lasts
 last-with p host network number a true h g = each-moved p network number a host.lasts h g
 last-with p host network number a false h g = each-push p host.lasts _ h g
 
 -- a lease moves the last of its pool to a candidate of its set
 lasts-lease : (p : Plan) (host : Host) (att : Att) (number : ℕ) (set : RangeSet) (list : NetList) (o : Option Addr)
     → find (λ l. bytes_eq l.name att.network) p.lists ≡ Some list → slice_get (sets_of list) number ≡ Some set
-    → ((a : Addr) → o ≡ Some a → is_candidate set a ≡ true) → EachLast p host.lasts → EachLast p (lease_taken host att number o).0.lasts
+    → ((a : Addr) → o ≡ Some a → is_candidate set a ≡ true) → AreLastsOfSets p host.lasts → AreLastsOfSets p (lease_taken host att number o).0.lasts
 lasts-lease p host att number set list None found at fits h = h
 lasts-lease p host att number set list (Some a) found at fits h =
-    last-with p _ att.network number a _ h
-    (λ other t is_list is_set.
-    let same_list : other ≡ list = same_Some other list (sym is_list ∙ found) in
-    let same_set : t ≡ set = same_Some t set (sym is_set ∙ ap (λ l. slice_get (sets_of l) number) same_list ∙ at) in
-    subst (λ s. is_candidate s a ≡ true) (sym same_set) (fits a refl))
+    last-with p _ att.network number a _ h (record { list = list; set = set; found = found; there = at; fits = fits a refl })
 
 -- ---- calls that move no last
 
@@ -165,13 +161,13 @@ owned att (tags.Own own) h = refl
 
 -- the call may be made in this host, and after it each last is a candidate still
 abbrev pub GoesWell : Plan → Host → Call → Type 0
-GoesWell p host call = IsAllowed host call × EachLast p (apply host call).0.lasts
+GoesWell p host call = IsAllowed host call × AreLastsOfSets p (apply host call).0.lasts
 
-stays-well : (p : Plan) (host : Host) (call : Call) → IsSound host → EachLast p host.lasts → moves_last call ≡ false → IsAllowed host call → GoesWell p host call
+stays-well : (p : Plan) (host : Host) (call : Call) → IsSound host → AreLastsOfSets p host.lasts → moves_last call ≡ false → IsAllowed host call → GoesWell p host call
 stays-well p host call sound lasts n allowed =
-    (allowed, subst (EachLast p) (sym (lasts-touches call host (apply host call).0 n (Touches-apply host call sound allowed))) lasts)
+    (allowed, subst (AreLastsOfSets p) (sym (lasts-touches call host (apply host call).0 n (Touches-apply host call sound allowed))) lasts)
 
-planned-well : (p : Plan) (att : Att) (host : Host) (call : Call) → IsSound host → EachLast p host.lasts → IsPlanned att call → GoesWell p host call
+planned-well : (p : Plan) (att : Att) (host : Host) (call : Call) → IsSound host → AreLastsOfSets p host.lasts → IsPlanned att call → GoesWell p host call
 planned-well p att host (BridgeEnsure a b d) sound lasts h = stays-well p host (BridgeEnsure a b d) sound lasts refl tt
 planned-well p att host (GatewayEnsure a b) sound lasts h = stays-well p host (GatewayEnsure a b) sound lasts refl tt
 planned-well p att host (ForwardEnsure a) sound lasts h = stays-well p host (ForwardEnsure a) sound lasts refl tt
@@ -197,7 +193,7 @@ planned-well p att host (PoolFree a b) sound lasts h = absurd (let e = h.0 in cc
 planned-well p att host (NsChange a b) sound lasts h = absurd (let e = h.0 in cc)
 planned-well p att host (Outside a) sound lasts h = absurd (let e = h.0 in cc)
 
-deletion-well : (p : Plan) (att : Att) (host : Host) (kind : Kind) → IsSound host → EachLast p host.lasts → GoesWell p host (deletion att kind)
+deletion-well : (p : Plan) (att : Att) (host : Host) (kind : Kind) → IsSound host → AreLastsOfSets p host.lasts → GoesWell p host (deletion att kind)
 deletion-well p att host kinds.Links sound lasts = stays-well p host (LinkDel att) sound lasts refl tt
 deletion-well p att host kinds.Rules sound lasts = stays-well p host (RuleDel att) sound lasts refl tt
 deletion-well p att host kinds.Settings sound lasts = stays-well p host (SettingDel att) sound lasts refl tt
@@ -207,21 +203,23 @@ deletion-well p att host kinds.Cached sound lasts = stays-well p host (CacheDel 
 -- ---- a lease may be made
 
 last-fits : (p : Plan) (network : List ℕ) (number : ℕ) (set : RangeSet) (list : NetList) (lasts : List Last) (o : Option Last) → find (is_of_pool network number) lasts ≡ o
-    → find (λ l. bytes_eq l.name network) p.lists ≡ Some list → slice_get (sets_of list) number ≡ Some set → EachLast p lasts
+    → find (λ l. bytes_eq l.name network) p.lists ≡ Some list → slice_get (sets_of list) number ≡ Some set → AreLastsOfSets p lasts
     → is_candidate_or_none set (option_map (λ l. l.addr) o) ≡ true
 last-fits p network number set list lasts None is found at h = refl
 last-fits p network number set list lasts (Some x) is found at h =
     let same = same-pool network number x (passes-find (is_of_pool network number) lasts x is) in
-    each-found p (is_of_pool network number) lasts x h is list set
-    (ap (λ n. find (λ l. bytes_eq l.name n) p.lists) same.0 ∙ found) (ap (slice_get (sets_of list)) same.1 ∙ at)
+    let last = each-found p (is_of_pool network number) lasts x h is in
+    let same_list : last.list ≡ list = same_Some last.list list (sym last.found ∙ ap (λ n. find (λ l. bytes_eq l.name n) p.lists) same.0 ∙ found) in
+    let same_set : last.set ≡ set = same_Some last.set set (sym last.there ∙ ap (λ l. slice_get (sets_of l) x.set) same_list ∙ ap (slice_get (sets_of list)) same.1 ∙ at) in
+    subst (λ (t : RangeSet). is_candidate t x.addr ≡ true) same_set last.fits
 
 leased-by : (host : Host) (att : Att) (number : ℕ) (set : RangeSet) (o : Option Addr) (a : Addr) → o ≡ Some a → (lease_taken host att number o).1 ≡ Leased a
 leased-by host att number set o a is = ap (λ q. (lease_taken host att number q).1) is
 
-lease-well : (p : Plan) (host : Host) (att : Att) (number : ℕ) (set : RangeSet) (list : NetList) → IsWellFormed p → EachLast p host.lasts
+lease-well : (p : Plan) (host : Host) (att : Att) (number : ℕ) (set : RangeSet) (list : NetList) → IsWellFormed p → AreLastsOfSets p host.lasts
     → find (λ l. bytes_eq l.name att.network) p.lists ≡ Some list → slice_get (sets_of list) number ≡ Some set → GoesWell p host (LeaseNext att number set)
 lease-well p host att number set list well lasts found at =
-    let apart : has_pools_apart list ≡ true = passes-list_all has_pools_apart (λ l. bytes_eq l.name att.network) p.lists list well.pools found in (
+    let apart : has_pools_apart list ≡ true = passes-list_all has_pools_apart (λ l. bytes_eq l.name att.network) p.lists list (pools_apart p well) found in (
       (
         list_all-at (λ s. are_apart s.ranges) (sets_of list) number set apart at,
         last-fits p att.network number set list host.lasts (find (is_of_pool att.network number) host.lasts) refl found at lasts,
@@ -232,31 +230,31 @@ lease-well p host att number set list well lasts found at =
 
 -- ---- the next call of a run
 
-head-well : (p : Plan) (att : Att) (host : Host) (x call : Call) → IsSound host → EachLast p host.lasts → IsPlanned att x → x ≡ call → GoesWell p host call
+head-well : (p : Plan) (att : Att) (host : Host) (x call : Call) → IsSound host → AreLastsOfSets p host.lasts → IsPlanned att x → x ≡ call → GoesWell p host call
 head-well p att host x call sound lasts h is = subst (GoesWell p host) is (planned-well p att host x sound lasts h)
 
 rest-at : (list : NetList) (next : RangeSet) (left : List RangeSet) (given : List Addr) → IsRest list (next ∷ left) given → slice_get (sets_of list) (length given) ≡ Some next
 rest-at list next left given rest = ap (λ s. slice_get s (length given)) rest.1 ∙ ap (slice_get (rest.0 ++ next ∷ left)) (sym rest.2) ∙ slice_get-middle rest.0 left next
 
-step-well : (p : Plan) (att : Att) (host : Host) (step : Step) → IsSound host → EachLast p host.lasts → GoesWell p host (step_call att step)
-step-well p att host Look sound lasts = stays-well p host (CacheGet att) sound lasts refl tt
+step-well : (p : Plan) (att : Att) (host : Host) (step : Step) → IsSound host → AreLastsOfSets p host.lasts → GoesWell p host (step_call att step)
+step-well p att host AskCached sound lasts = stays-well p host (CacheGet att) sound lasts refl tt
 step-well p att host (Delete kind) sound lasts = deletion-well p att host kind sound lasts
 
-work-well : (p : Plan) (host : Host) (network : List ℕ) (jobs : List Job) (sweeps : List Sweep) (faults : List ℕ) (call : Call) → IsSound host → EachLast p host.lasts
+work-well : (p : Plan) (host : Host) (network : List ℕ) (jobs : List Job) (sweeps : List Sweep) (faults : List ℕ) (call : Call) → IsSound host → AreLastsOfSets p host.lasts
     → turn_of_work network jobs sweeps faults ≡ Calls call → GoesWell p host call
 work-well p host network [] [] faults call sound lasts is = absurd cc
 work-well p host network [] (s ∷ sweeps) faults call sound lasts is =
     subst (GoesWell p host) (let e : OwnersOf network s.kind ≡ call = cc in e) (stays-well p host (OwnersOf network s.kind) sound lasts refl tt)
 work-well p host network (j ∷ jobs) sweeps faults call sound lasts is = subst (GoesWell p host) (let e : step_call j.att j.step ≡ call = cc in e) (step-well p j.att host j.step sound lasts)
 
-question-well : (p : Plan) (host : Host) (list : NetList) (network : List ℕ) (call : Call) → IsWellFormed p → IsSound host → EachLast p host.lasts → list_named p.lists network ≡ Some list → IsQuestionOf list call → GoesWell p host call
+question-well : (p : Plan) (host : Host) (list : NetList) (network : List ℕ) (call : Call) → IsWellFormed p → IsSound host → AreLastsOfSets p host.lasts → list_named p.lists network ≡ Some list → IsQuestionOf list call → GoesWell p host call
 question-well p host list network (HasObj probe) well sound lasts found asks = stays-well p host (HasObj probe) sound lasts refl tt
 question-well p host list network (PoolFree pool set) well sound lasts found asks =
-    let apart : has_pools_apart list ≡ true = passes-list_all has_pools_apart (λ l. bytes_eq l.name network) p.lists list well.pools found in
+    let apart : has_pools_apart list ≡ true = passes-list_all has_pools_apart (λ l. bytes_eq l.name network) p.lists list (pools_apart p well) found in
     stays-well p host (PoolFree pool set) sound lasts refl (list_all-at (λ s. are_apart s.ranges) (sets_of list) asks.0 set apart asks.1)
 question-well p host list network _ well sound lasts found asks = absurd asks
 
-turn-well : (p : Plan) (host : Host) (list : NetList) (c : Command) (s : State) (call : Call) → IsWellFormed p → IsSound host → EachLast p host.lasts
+turn-well : (p : Plan) (host : Host) (list : NetList) (c : Command) (s : State) (call : Call) → IsWellFormed p → IsSound host → AreLastsOfSets p host.lasts
     → list_named p.lists c.network ≡ Some list → LeftArePlanned list c s → turn c s ≡ Calls call → GoesWell p host call
 unfolding turn
 turn-well p host list c AtBegin call well sound lasts found left is = subst (GoesWell p host) (let e : Begin (att_of c) c.netns ≡ call = cc in e) (stays-well p host (Begin (att_of c) c.netns) sound lasts refl tt)
@@ -276,12 +274,12 @@ turn-well p host list c (Over ending given) call well sound lasts found left is 
 
 -- ---- a change from outside
 
-change-well : (p : Plan) (host : Host) (call : Call) → IsSound host → EachLast p host.lasts → IsOutside call → GoesWell p host call
+change-well : (p : Plan) (host : Host) (call : Call) → IsSound host → AreLastsOfSets p host.lasts → IsOutside call → GoesWell p host call
 change-well p host (NsChange name add) sound lasts place = stays-well p host (NsChange name add) sound lasts refl place
 change-well p host (Outside change) sound lasts place = stays-well p host (Outside change) sound lasts refl place
 change-well p host _ sound lasts place = absurd place
 
-outside-well : (p : Plan) (host : Host) (c : Command) (s : State) (call : Call) → IsSound host → EachLast p host.lasts → LeftIsOutside s → turn c s ≡ Calls call → GoesWell p host call
+outside-well : (p : Plan) (host : Host) (c : Command) (s : State) (call : Call) → IsSound host → AreLastsOfSets p host.lasts → LeftIsOutside s → turn c s ≡ Calls call → GoesWell p host call
 unfolding turn
 outside-well p host c (Changing change) call sound lasts left is = subst (GoesWell p host) (let e : change ≡ call = cc in e) (change-well p host change sound lasts left)
 outside-well p host c (Over ending given) call sound lasts left is = cc
@@ -292,7 +290,7 @@ listed : (b : Bool) (o : Option NetList) (list : NetList) → (if b then o else 
 listed true o list is = is
 listed false o list is = absurd (none-some list is)
 
-by-list : (p : Plan) (host : Host) (c : Command) (rs : List Reply) (o : Option NetList) (call : Call) → IsWellFormed p → IsSound host → EachLast p host.lasts
+by-list : (p : Plan) (host : Host) (c : Command) (rs : List Reply) (o : Option NetList) (call : Call) → IsWellFormed p → IsSound host → AreLastsOfSets p host.lasts
     → list_in p.lists c ≡ o → turn_by o c rs ≡ Calls call → GoesWell p host call
 by-list p host c rs None call well sound lasts found is = outside-well p host c (outside_after c rs) call sound lasts (left-is-outside c rs) is
 by-list p host c rs (Some list) call well sound lasts found is =
@@ -312,7 +310,7 @@ next-is-call list c made cut (Calls k) call faulty is = call-by (Stopped made) c
 pub record IsFine (w : World) : Type 0 where
   pub plan : IsWellFormed w.plan
   pub sound : IsSound (host_of w)
-  pub lasts : EachLast w.plan (host_of w).lasts
+  pub lasts : AreLastsOfSets w.plan (host_of w).lasts
 
 list_for-found : (p : Plan) (c : Command) → list_in p.lists c ≡ list_for p c
 unfolding list_for
@@ -327,7 +325,7 @@ after-entry : (host : Host) (es : List Entry) (e : Entry) → after host (es ++ 
 after-entry host [] e = refl
 after-entry host (x ∷ xs) e = after-entry (host_on host x) xs e
 
-either-fine : (p : Plan) (b : Bool) (old new : Host) → IsSound old → EachLast p old.lasts → IsSound new → EachLast p new.lasts → IsSound (if b then old else new) × EachLast p (if b then old else new).lasts
+either-fine : (p : Plan) (b : Bool) (old new : Host) → IsSound old → AreLastsOfSets p old.lasts → IsSound new → AreLastsOfSets p new.lasts → IsSound (if b then old else new) × AreLastsOfSets p (if b then old else new).lasts
 either-fine p true old new a b d e = (a, b)
 either-fine p false old new a b d e = (d, e)
 
@@ -338,15 +336,15 @@ fine-done w n c (next.Call call faulty) fine is =
     let e = entry_of (host_of w) n call faulty in
     let both = either-fine w.plan (is_fault e.reply) (host_of w) (apply (host_of w) call).0 fine.sound fine.lasts (IsSound-apply (host_of w) call fine.sound well.0) well.1 in
     let grown = after-entry w.plan.pods.opening w.history e in
-    record { plan = fine.plan; sound = subst IsSound (sym grown) both.0; lasts = subst (λ (h : Host). EachLast w.plan h.lasts) (sym grown) both.1 }
+    record { plan = fine.plan; sound = subst IsSound (sym grown) both.0; lasts = subst (λ (h : Host). AreLastsOfSets w.plan h.lasts) (sym grown) both.1 }
 
 fine-begun : (w : World) → IsBegun w → IsFine w
 fine-begun w begun =
     let still : host_of w ≡ w.plan.pods.opening = ap (λ h. after w.plan.pods.opening h) begun.empty in
     record {
       plan = begun.plan;
-      sound = subst IsSound (sym still) begun.plan.opening.sound;
-      lasts = subst (EachLast w.plan) (sym (ap (λ (h : Host). h.lasts) still ∙ begun.plan.opening.lasts)) tt;
+      sound = subst IsSound (sym still) begun.plan.pods.opening.sound;
+      lasts = subst (AreLastsOfSets w.plan) (sym (ap (λ (h : Host). h.lasts) still ∙ begun.plan.pods.opening.lasts)) tt;
     }
 
 pub fine : (w : World) → Legal w → IsFine w

@@ -10,7 +10,7 @@ use Rattle.cni_verbs.specs.CommandWords.{att_of}
 use Rattle.cni_verbs.specs.Progress.{turn_by}
 use Rattle.cni_verbs.specs.Questions.{check_questions}
 use Rattle.cni_verbs.specs.Script.{State, AtBegin, BeforeLeases, Leasing, AfterLeases, ReadingCache, Deleting, FindingEntry, Asking, Changing, Collecting, Over, Calls, turn, turn_of_work, call_of_work, gc_of, advance, start_state, state_from, state_after, outside_advance, outside_from, outside_start, outside_after, at_begin, at_call_before, at_lease, at_call_after, at_cache, at_deletion, at_entry, at_question, checking, after_leases, leasing, before_leases, deleting, asking, back_of, before_of}
-use Rattle.cni_verbs.specs.Sweep.{Gc, Job, Sweep, Work, worked}
+use Rattle.cni_verbs.specs.Sweep.{Gc, Job, Sweep, Work, work_after}
 use Rattle.cni_verbs.specs.Wanted.{kinds_of, sets_of}
 use Rattle.cni_verbs.specs.declared.answer.Answer.{Answer}
 use Rattle.cni_verbs.specs.declared.answer.Answer.TheVariants.{OutOfMemory}
@@ -217,10 +217,10 @@ work-calls network faults [] (s ∷ ss) call is = ap Some cc
 work-calls network faults (j ∷ js) ss call is = ap Some cc
 
 collecting-falls : (gc : Gc) (work : Work) (n : ℕ) (host : Host) (call : Call) (faulty : Bool) → call_of_work gc.network work.jobs work.sweeps ≡ Some call
-    → collection_left (worked gc work.jobs work.sweeps (reply_to host call faulty)) (host_on host (entry_of host n call faulty)) < collection_left work host
+    → collection_left (work_after gc work.jobs work.sweeps (reply_to host call faulty)) (host_on host (entry_of host n call faulty)) < collection_left work host
 collecting-falls gc work n host call true is = fault-falls gc work.jobs work.sweeps host call is
 collecting-falls gc work n host call false is =
-    subst (λ k. collection_left (worked gc work.jobs work.sweeps (apply host call).1) k < collection_left work host) (sym (host-made host n call)) (work-falls gc work.jobs work.sweeps host call is)
+    subst (λ k. collection_left (work_after gc work.jobs work.sweeps (apply host call).1) k < collection_left work host) (sym (host-made host n call)) (work-falls gc work.jobs work.sweeps host call is)
 
 state-falls : (list : NetList) (c : Command) (number n : ℕ) (s : State) (host : Host) (call : Call) (faulty : Bool) → MayGo host call faulty → LeftArePlanned list c s → turn c s ≡ Calls call
     → in_state list c (advance list c number s (reply_to host call faulty)) (host_on host (entry_of host n call faulty)) < in_state list c s host

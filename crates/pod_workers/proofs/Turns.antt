@@ -3,9 +3,9 @@ use Rattle.std.proofs.Common.{◌≡◌, ℕ, Bool, true, false, List, [], ◌�
 use Rattle.std.specs.Prelude.{option_map, if◌then◌else◌, ◌||◌}
 use Rattle.std.proofs.lemmas.Bool.{false≢true}
 use Rattle.std.proofs.lemmas.Option.{same_Some, none-some}
+use Rattle.cni_verbs.proofs.CallsOrOver.{calls_or_over}
 use Rattle.cni_verbs.specs.Progress.{answer_by}
-use Rattle.cni_verbs.specs.Script.{IsOpen, IsWork, State, AtBegin, BeforeLeases, Leasing, AfterLeases, ReadingCache, Deleting, FindingEntry, Asking, Changing, Collecting, Over, Turn, Calls, Finishes, Finish, turn, turn_of_work, next_call, call_of_work, finish_of, finish_of_work}
-use Rattle.cni_verbs.specs.Sweep.{Job, Sweep}
+use Rattle.cni_verbs.specs.Script.{IsOpen, State, Over, Turn, Calls, Finishes, Finish, turn, next_call, finish_of}
 use Rattle.cni_verbs.specs.declared.answer.Answer.{Answer}
 use Rattle.cni_verbs.specs.declared.answer.Answer.TheVariants.{Stopped}
 use Rattle.kernel_types.specs.Allowed.{IsAllowed}
@@ -25,90 +25,31 @@ use Rattle.pod_workers.specs.declared.plan.Entry.{Entry}
 use Rattle.pod_workers.specs.declared.slots.Slot.{Slot}
 use Rattle.pod_workers.specs.declared.slots.Outcome.TheVariants as outcome
 
--- ---- the work of a collection
-
-work-calls : (network : List ℕ) (jobs : List Job) (sweeps : List Sweep) (faults : List ℕ) (call : Call) → call_of_work network jobs sweeps ≡ Some call → turn_of_work network jobs sweeps faults ≡ Calls call
-work-calls network [] [] faults call is = absurd (none-some call is)
-work-calls network [] (s ∷ sweeps) faults call is = ap Calls (same_Some _ call is)
-work-calls network (j ∷ jobs) sweeps faults call is = ap Calls (same_Some _ call is)
-
-work-finishes : (network : List ℕ) (jobs : List Job) (sweeps : List Sweep) (faults : List ℕ) (f : Finish) → finish_of_work jobs sweeps faults ≡ Some f → turn_of_work network jobs sweeps faults ≡ Finishes f
-work-finishes network [] [] faults f is = ap Finishes (same_Some _ f is)
-work-finishes network [] (s ∷ sweeps) faults f is = absurd (none-some f is)
-work-finishes network (j ∷ jobs) sweeps faults f is = absurd (none-some f is)
-
-work-over : (network : List ℕ) (jobs : List Job) (sweeps : List Sweep) (faults : List ℕ) → call_of_work network jobs sweeps ≡ None → (f : Finish) × (finish_of_work jobs sweeps faults ≡ Some f)
-work-over network [] [] faults is = (_, refl)
-work-over network [] (s ∷ sweeps) faults is = absurd (none-some _ (sym is))
-work-over network (j ∷ jobs) sweeps faults is = absurd (none-some _ (sym is))
-
-work-open : (network : List ℕ) (jobs : List Job) (sweeps : List Sweep) (faults : List ℕ) (call : Call) → turn_of_work network jobs sweeps faults ≡ Calls call → IsWork jobs sweeps
-work-open network [] [] faults call is = absurd cc
-work-open network [] (s ∷ sweeps) faults call is = tt
-work-open network (j ∷ jobs) sweeps faults call is = tt
-
-work-left : (network : List ℕ) (jobs : List Job) (sweeps : List Sweep) (faults : List ℕ) → finish_of_work jobs sweeps faults ≡ None → (call : Call) × (call_of_work network jobs sweeps ≡ Some call)
-work-left network [] [] faults is = absurd (none-some _ (sym is))
-work-left network [] (s ∷ sweeps) faults is = (_, refl)
-work-left network (j ∷ jobs) sweeps faults is = (_, refl)
-
 -- ---- by the state
 
 turn-calls : (c : Command) (s : State) (call : Call) → next_call c s ≡ Some call → turn c s ≡ Calls call
-unfolding next_call turn
-turn-calls c AtBegin call is = ap Calls (same_Some _ call is)
-turn-calls c (BeforeLeases next left) call is = ap Calls (same_Some _ call is)
-turn-calls c (Leasing next left given) call is = ap Calls (same_Some _ call is)
-turn-calls c (AfterLeases next left given) call is = ap Calls (same_Some _ call is)
-turn-calls c (ReadingCache ending) call is = ap Calls (same_Some _ call is)
-turn-calls c (Deleting next left ending) call is = ap Calls (same_Some _ call is)
-turn-calls c FindingEntry call is = ap Calls (same_Some _ call is)
-turn-calls c (Asking next left) call is = ap Calls (same_Some _ call is)
-turn-calls c (Changing change) call is = ap Calls (same_Some _ call is)
-turn-calls c (Collecting work faults) call is = work-calls c.network work.jobs work.sweeps faults call is
-turn-calls c (Over ending given) call is = absurd (none-some call is)
+turn-calls c s call is = elim (calls_or_over c s) [
+  | inl k ↦ k.turn_is ∙ ap Calls (same_Some k.call call (sym k.next_is ∙ is))
+  | inr o ↦ absurd (none-some call (sym o.none_next ∙ is))
+]
 
 turn-finishes : (c : Command) (s : State) (f : Finish) → finish_of s ≡ Some f → turn c s ≡ Finishes f
-unfolding finish_of turn
-turn-finishes c AtBegin f is = absurd (none-some f is)
-turn-finishes c (BeforeLeases next left) f is = absurd (none-some f is)
-turn-finishes c (Leasing next left given) f is = absurd (none-some f is)
-turn-finishes c (AfterLeases next left given) f is = absurd (none-some f is)
-turn-finishes c (ReadingCache ending) f is = absurd (none-some f is)
-turn-finishes c (Deleting next left ending) f is = absurd (none-some f is)
-turn-finishes c FindingEntry f is = absurd (none-some f is)
-turn-finishes c (Asking next left) f is = absurd (none-some f is)
-turn-finishes c (Changing change) f is = absurd (none-some f is)
-turn-finishes c (Collecting work faults) f is = work-finishes c.network work.jobs work.sweeps faults f is
-turn-finishes c (Over ending given) f is = ap Finishes (same_Some _ f is)
+turn-finishes c s f is = elim (calls_or_over c s) [
+  | inl k ↦ absurd (none-some f (sym k.unfinished ∙ is))
+  | inr o ↦ o.turn_is ∙ ap Finishes (same_Some o.finish f (sym o.finish_is ∙ is))
+]
 
 over-finishes : (c : Command) (s : State) → next_call c s ≡ None → (f : Finish) × (finish_of s ≡ Some f)
-unfolding next_call finish_of
-over-finishes c AtBegin is = absurd (none-some _ (sym is))
-over-finishes c (BeforeLeases next left) is = absurd (none-some _ (sym is))
-over-finishes c (Leasing next left given) is = absurd (none-some _ (sym is))
-over-finishes c (AfterLeases next left given) is = absurd (none-some _ (sym is))
-over-finishes c (ReadingCache ending) is = absurd (none-some _ (sym is))
-over-finishes c (Deleting next left ending) is = absurd (none-some _ (sym is))
-over-finishes c FindingEntry is = absurd (none-some _ (sym is))
-over-finishes c (Asking next left) is = absurd (none-some _ (sym is))
-over-finishes c (Changing change) is = absurd (none-some _ (sym is))
-over-finishes c (Collecting work faults) is = work-over c.network work.jobs work.sweeps faults is
-over-finishes c (Over ending given) is = (record { ending = ending; given = given }, refl)
+over-finishes c s is = elim (calls_or_over c s) [
+  | inl k ↦ absurd (none-some k.call (sym is ∙ k.next_is))
+  | inr o ↦ (o.finish, o.finish_is)
+]
 
 open-where : (c : Command) (s : State) (call : Call) → turn c s ≡ Calls call → IsOpen s
-unfolding turn
-open-where c AtBegin call is = tt
-open-where c (BeforeLeases next left) call is = tt
-open-where c (Leasing next left given) call is = tt
-open-where c (AfterLeases next left given) call is = tt
-open-where c (ReadingCache ending) call is = tt
-open-where c (Deleting next left ending) call is = tt
-open-where c FindingEntry call is = tt
-open-where c (Asking next left) call is = tt
-open-where c (Changing change) call is = tt
-open-where c (Collecting work faults) call is = work-open c.network work.jobs work.sweeps faults call is
-open-where c (Over ending given) call is = absurd cc
+open-where c s call is = elim (calls_or_over c s) [
+  | inl k ↦ k.is_open
+  | inr o ↦ absurd (let e : Calls call ≡ Finishes o.finish = sym is ∙ o.turn_is in cc)
+]
 
 -- ---- a run that has a call to make
 
@@ -127,18 +68,10 @@ stop-by made n true reached = refl
 stop-by made n false reached = absurd (false≢true reached)
 
 unfinished : (c : Command) (s : State) → finish_of s ≡ None → (call : Call) × (next_call c s ≡ Some call)
-unfolding next_call finish_of
-unfinished c AtBegin is = (_, refl)
-unfinished c (BeforeLeases next left) is = (_, refl)
-unfinished c (Leasing next left given) is = (_, refl)
-unfinished c (AfterLeases next left given) is = (_, refl)
-unfinished c (ReadingCache ending) is = (_, refl)
-unfinished c (Deleting next left ending) is = (_, refl)
-unfinished c FindingEntry is = (_, refl)
-unfinished c (Asking next left) is = (_, refl)
-unfinished c (Changing change) is = (_, refl)
-unfinished c (Collecting work faults) is = work-left c.network work.jobs work.sweeps faults is
-unfinished c (Over ending given) is = absurd (none-some _ (sym is))
+unfinished c s is = elim (calls_or_over c s) [
+  | inl k ↦ (k.call, k.next_is)
+  | inr o ↦ absurd (none-some o.finish (sym is ∙ o.finish_is))
+]
 
 none-of : (list : Option NetList) (c : Command) (o : Option Finish) → option_map (answer_by list c) o ≡ None → o ≡ None
 none-of list c None is = refl

@@ -1,26 +1,45 @@
 -- One world goes on from another.
-use Rattle.std.specs.Prelude.{◌≡◌, ℕ, List, ◌++◌, Option, Some, slice_get}
+use Rattle.std.specs.Prelude.{◌≡◌, ℕ, ◌+◌, List, ◌++◌, Option, Some, slice_get}
+use Rattle.std.specs.List.{All}
 use Rattle.cni_verbs.specs.declared.answer.Answer.{Answer}
+use Rattle.pod_workers.specs.Legal.{Legal}
+use Rattle.pod_workers.specs.Plans.{Placed, commands_of}
 use Rattle.pod_workers.specs.World.{World, IsRoundOver, next_round}
 use Rattle.pod_workers.specs.declared.plan.Entry.{Entry}
+use Rattle.pod_workers.specs.declared.plan.Plan.{Plan}
 
-abbrev pub BeginsWith : List Entry → List Entry → Type 0
-BeginsWith long short = (rest : List Entry) × (long ≡ short ++ rest)
+-- the entry is of a command of this round
+pub record IsOfRound (p : Plan) (round : ℕ) (e : Entry) : Type 0 where
+  pub n : ℕ
+  pub placed : Placed
+  pub number_is : e.command ≡ n + 1
+  pub there : slice_get (commands_of p) n ≡ Some placed
+  pub round_is : placed.round ≡ round
+
+-- what is new, behind what was there, is of this round
+abbrev pub GrowsInRound : Plan → ℕ → List Entry → List Entry → Type 0
+GrowsInRound p round long short = (rest : List Entry) × (long ≡ short ++ rest) × All (IsOfRound p round) rest
 
 -- each answer that was given stands
 abbrev pub KeepsAnswers : List (Option Answer) → List (Option Answer) → Type 0
 KeepsAnswers old new = (n : ℕ) (a : Answer) → slice_get old n ≡ Some (Some a) → slice_get new n ≡ Some (Some a)
 
--- in the same round
+-- commands of other rounds are answered as they were
+abbrev pub KeepsOtherRounds : World → World → Type 0
+KeepsOtherRounds from w = (n : ℕ) (c : Placed) → slice_get (commands_of from.plan) n ≡ Some c → (c.round ≡ from.round → ⊥) → slice_get w.answers n ≡ slice_get from.answers n
+
+-- in the same round, whose commands alone go on
 pub record Extends (from w : World) : Type 0 where
   pub plan_is : w.plan ≡ from.plan
   pub round_is : w.round ≡ from.round
-  pub entries : BeginsWith w.history from.history
+  pub entries : GrowsInRound from.plan from.round w.history from.history
   pub answers_stand : KeepsAnswers from.answers w.answers
+  pub others : KeepsOtherRounds from w
 
--- the current round of this world was done, and the next is current
+-- the current round of this world was done, and the next is current: no command of it has made an entry or has an answer
 pub record Rounds (from w : World) : Type 0 where
   pub last : World
+  pub legal : Legal last
   pub extends : Extends from last
   pub over : IsRoundOver last
   pub next_is : w ≡ next_round last

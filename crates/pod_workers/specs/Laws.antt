@@ -1,12 +1,14 @@
 -- Laws over every legal world, whatever was interleaved, stopped or refused memory.
-use Rattle.std.specs.Prelude.{◌≡◌, ℕ, ◌≤◌, true, false, List, length, Ok}
-use Rattle.std.specs.List.{list_all}
+use Rattle.std.specs.Prelude.{◌≡◌, ℕ, false, List, Ok}
+use Rattle.std.specs.List.{All}
 use Rattle.kernel_types.specs.Allowed.{IsAllowed}
 use Rattle.kernel_types.specs.Sound.{IsSound, NoAddressTwice}
 use Rattle.kernel_types.specs.declared.call.Call.{Call}
+use Rattle.net_conf.specs.WellFormed.{IsWellFormedList}
+use Rattle.pod_file.specs.WellFormed.{IsWellFormedPods}
 use Rattle.pod_workers.specs.Join.{joined}
 use Rattle.pod_workers.specs.Legal.{Legal}
-use Rattle.pod_workers.specs.Plans.{Placed, IsOpening, IsWellFormed, AreAlone, AreNumbered, has_pools_apart, commands_of}
+use Rattle.pod_workers.specs.Plans.{Placed, IsWellFormed}
 use Rattle.pod_workers.specs.World.{World, IsReady, host_of, own_replies, next_of}
 use Rattle.pod_workers.specs.declared.plan.Next.TheVariants as next
 use Rattle.pod_workers.specs.declared.plan.Plan.{Plan}
@@ -24,8 +26,6 @@ abbrev pub EveryCallMayBeMade : Type 0
 EveryCallMayBeMade =
     (w : World) (n : ℕ) (c : Placed) (call : Call) → Legal w → IsReady w n c → next_of w c.command (own_replies w n) ≡ next.Call call false → IsAllowed (host_of w) call
 
--- a plan that was joined is well formed, where its opening, its pools and its numbers are, and its exclusive commands stand alone
+-- a plan that was joined is well formed, where its lists and its pods are
 abbrev pub JoinedPlansAreWellFormed : Type 0
-JoinedPlansAreWellFormed =
-    (p q : Plan) → joined p ≡ Ok q → IsOpening p.pods.opening → list_all has_pools_apart p.lists ≡ true → AreNumbered p → AreAlone p
-    → length (commands_of p) ≤ 65536 → length p.pods.rounds ≤ 65536 → IsWellFormed q
+JoinedPlansAreWellFormed = (p q : Plan) → joined p ≡ Ok q → All IsWellFormedList p.lists → IsWellFormedPods p.pods → IsWellFormed q

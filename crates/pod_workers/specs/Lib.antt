@@ -3,6 +3,7 @@ pub mod Extends
 pub mod Facts
 pub mod Index
 pub mod Join
+pub mod Lasts
 pub mod Laws
 pub mod Legal
 pub mod Order

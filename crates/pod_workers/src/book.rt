@@ -1,6 +1,6 @@
 //! The book: a plan, the kernel that it is carried out on, what was done, and who is answered.
 
-ghost use Rattle.std.specs.Prelude.{◌≡◌, ◌+◌, ◌<◌, ◌≤◌, ◌^◌, ℕ, ◌-◌, Some, slice_get, length, nat_le, IfOk, IsTrue, OnOk, OnErr, MatchBool};
+ghost use Rattle.std.specs.Prelude.{◌≡◌, ◌+◌, ◌<◌, ◌^◌, ℕ, ◌-◌, Some, slice_get, length, nat_le, IfOk, IsTrue, OnOk, OnErr, MatchBool};
 ghost use Rattle.std.specs.Option.{option_copied};
 ghost use Rattle.cni_verbs.specs.declared.answer.Answer.TheVariants.{OutOfMemory};
 ghost use Rattle.pod_workers.specs.Extends.{Extends, Rounds};
@@ -149,12 +149,12 @@ impl<K: Kernel + Drop> Book<K> {
             self.round,
         );
         let slot = take_at(&mut self.slots, n);
-        let task = command_at(self.plan.pods.rounds.as_slice(), place);
+        let wanted = command_at(self.plan.pods.rounds.as_slice(), place);
         match carry_on(
             &mut self.kernel,
             &mut self.history,
             self.plan.lists.as_slice(),
-            task,
+            wanted,
             cut,
             slot,
         ) {
@@ -190,6 +190,7 @@ impl<K: Kernel + Drop> Book<K> {
             self.finish(number);
             self.is_legal();
         }
+        self.is_legal();
         self.turn();
     }
 

@@ -56,7 +56,7 @@ fn index_round(
     Ok(())
 }
 
-pub fn place_at(places: &[Place], n: usize) -> Place
+pub(crate) fn place_at(places: &[Place], n: usize) -> Place
     requires { n < length places.now }
     ensures { slice_get places.now n ≡ Some result }
 {

@@ -7,12 +7,13 @@ ghost use Rattle.std.specs.Str.{bytes_eq};
 ghost use Rattle.pod_workers.specs.Join.{first_repeat_after, joined, plan_unless};
 ghost use Rattle.pod_workers.specs.Laws.{JoinedPlansAreWellFormed};
 ghost use Rattle.pod_workers.specs.declared.plan.Plan.{Plan};
-ghost use Rattle.pod_workers.specs.Plans.{commands_of, is_of_network, list_in, list_named, placed_from};
+ghost use Rattle.pod_file.specs.Commands.{is_of_network};
+ghost use Rattle.pod_workers.specs.Plans.{commands_of, list_in, list_named, placed_from};
 
 use crate::plan::{Plan, PlanError};
 use cni_addr::{Items, Text};
 use net_conf::NetList;
-use pod_file::{Command, Pods, Verb};
+use pod_file::{Command, Pods};
 
 impl Plan {
     /// The plan of these lists and this pod file. Refused are, in this order, the first list that has the name of an earlier
@@ -33,7 +34,7 @@ impl Plan {
     }
 }
 
-/// A plan that was joined is well formed, where its opening, its pools and its numbers are, and its exclusive commands stand alone.
+/// A plan that was joined is well formed, where its lists and its pods are.
 pub fn joined_plans_are_well_formed()
     ensures { JoinedPlansAreWellFormed }
 {}
@@ -48,23 +49,17 @@ fn list_named<'a>(lists: &'a [NetList], network: &Text) -> Option<&'a NetList>
 pub(crate) fn list_of<'a>(lists: &'a [NetList], command: &Command) -> Option<&'a NetList>
     ensures { option_copied result ≡ list_in lists.now command.now }
 {
-    if is_of_network(command.verb) {
+    if command.verb.is_of_network() {
         list_named(lists, &command.network)
     } else {
         None
     }
 }
 
-fn is_of_network(verb: Verb) -> bool
-    ensures { result ≡ is_of_network verb }
-{
-    !matches!(verb, Verb::NsAdd | Verb::NsDel | Verb::Drop | Verb::Flush)
-}
-
 fn lacks_list(lists: &[NetList], command: &Command) -> bool
     ensures { result ≡ (is_of_network command.now.verb && not (is_some (list_in lists.now command.now))) }
 {
-    is_of_network(command.verb) && list_of(lists, command).is_none()
+    command.verb.is_of_network() && list_of(lists, command).is_none()
 }
 
 /// Why these make no plan, if they don't.

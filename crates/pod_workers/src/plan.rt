@@ -26,13 +26,14 @@ pub enum PlanError {
 /// One call of one command, and its reply.
 #[derive(PartialEq, Eq, Drop)]
 pub struct Entry {
+    /// The command's number in the file, from 1.
     pub command: u32,
     pub call: Call,
     pub reply: Reply,
 }
 
 /// What a step came to: a call was made, or the command got its answer.
-#[derive(Clone, Copy, Debug)]
+#[derive(Clone, Copy, Debug, PartialEq, Eq)]
 pub enum StepEnd {
     Went,
     Over,

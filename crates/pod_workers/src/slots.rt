@@ -54,7 +54,7 @@ pub fn take_at<T: Drop>(items: &mut Vec<Option<T>>, n: usize) -> Option<T>
     items[n].take()
 }
 
-pub fn put_at<T: Drop>(items: &mut Vec<Option<T>>, n: usize, item: T)
+pub(crate) fn put_at<T: Drop>(items: &mut Vec<Option<T>>, n: usize, item: T)
     requires { n < length items.old.items }
     ensures { items.new.items ≡ slice_set items.old.items n (Some item) }
 {

@@ -1,5 +1,6 @@
 use Rattle.std.specs.Prelude.{not, ◌&&◌, is_some}
-use Rattle.pod_workers.specs.Plans.{is_of_network, list_in}
+use Rattle.pod_file.specs.Commands.{is_of_network}
+use Rattle.pod_workers.specs.Plans.{list_in}
 use Rattle.pod_workers.proofs.Positions.{IsScanned}
 use Rattle.pod_workers.proofs.join.first_without_list.Given as goal
 

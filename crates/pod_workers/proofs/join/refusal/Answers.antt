@@ -1,6 +1,7 @@
 use Rattle.std.proofs.Common.{sym, ◌∙◌, arith}
 use Rattle.std.specs.Prelude.{not, ◌&&◌, is_some}
-use Rattle.pod_workers.specs.Plans.{is_of_network, list_in, placed_from}
+use Rattle.pod_file.specs.Commands.{is_of_network}
+use Rattle.pod_workers.specs.Plans.{list_in, placed_from}
 use Rattle.pod_workers.proofs.Joined.{refusal-same_name, refusal-no_network, refusal-none}
 use Rattle.pod_workers.proofs.Positions.{found-within}
 use Rattle.pod_workers.proofs.join.refusal.Goals as goal

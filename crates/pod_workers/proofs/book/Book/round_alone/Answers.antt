@@ -19,7 +19,7 @@ turn-requires g c = record {
 
 pub returns-clause-rounds : goal.returns-clause-rounds
 returns-clause-rounds g c =
-    rounds-from _ _ _ c.loop-number.invariant.extends
+    rounds-from _ _ _ c.is_legal-2.ensures c.loop-number.invariant.extends
     (round-is-over _ _ _ _ c.loop-number.number c.numbers-first.ensures c.loop-number.invariant.extends c.loop-number-test.false c.loop-number.invariant.below) c.turn.ensures
 
 pub returns-clause-order : goal.returns-clause-order

@@ -1,0 +1,85 @@
+-- What a well-formed plan keeps: pools of addresses apart, commands numbered from 1, exclusive ones alone in their rounds, and bounds.
+use Rattle.std.proofs.Common.{◌≡◌, ◌∙◌, ◌≤◌, ◌+◌, ◌++◌, ℕ, Bool, true, List, [], ◌∷◌, map, length, refl, sym, ap, arith, Option, Some, None, slice_get, option_map}
+use Rattle.std.specs.List.{All, list_all}
+use Rattle.std.proofs.lemmas.Bool.{and_from}
+use Rattle.std.proofs.lemmas.List.{length-map, map-append}
+use Rattle.std.proofs.lemmas.List.Elements.{All-drop, All-get_or}
+use Rattle.std.proofs.lemmas.Option.{slice_get-map}
+use Rattle.cni_addr.specs.declared.range.RangeSet.{RangeSet}
+use Rattle.host_local.specs.Conf.{ipam_of, range_sets_of}
+use Rattle.ip_pool.specs.Pool.{are_apart}
+use Rattle.net_conf.specs.WellFormed.{IsWellFormedFirst, IsWellFormedIpam, IsWellFormedList, IsWellFormedSet}
+use Rattle.net_conf.specs.declared.first.First.{First}
+use Rattle.net_conf.specs.declared.first.First.TheVariants as first
+use Rattle.net_conf.specs.declared.first.HostLocalConf.{HostLocalConf}
+use Rattle.net_conf.specs.declared.list.NetList.{NetList}
+use Rattle.pod_file.specs.WellFormed.{IsWellFormedPods, in_file_order}
+use Rattle.pod_file.specs.declared.command.Command.{Command}
+use Rattle.pod_workers.specs.Plans.{IsWellFormed, Placed, commands_of, in_round, placed_from}
+use Rattle.pod_workers.specs.declared.plan.Plan.{Plan}
+use Rattle.cni_verbs.specs.Wanted.{sets_of}
+use Rattle.pod_workers.proofs.Alone.{AreAlone, are_alone}
+
+-- the ranges of each set share no address
+abbrev pub has_pools_apart : NetList → Bool
+has_pools_apart list = list_all (λ set. are_apart set.ranges) (sets_of list)
+
+-- the commands are numbered from 1 in file order
+abbrev pub AreNumbered : Plan → Type 0
+AreNumbered p = (n : ℕ) (c : Placed) → slice_get (commands_of p) n ≡ Some c → c.command.number ≡ n + 1
+
+-- ---- the pools
+
+each_apart : (sets : List RangeSet) → All IsWellFormedSet sets → list_all (λ set. are_apart set.ranges) sets ≡ true
+each_apart [] all = refl
+each_apart (set ∷ sets) all =
+    and_from _ _ (All-get_or IsWellFormedSet (set ∷ sets) 0 set (omega arith) all).apart (each_apart sets (All-drop IsWellFormedSet 1 (set ∷ sets) all))
+
+ipam_apart : (ipam : Option HostLocalConf) → IsWellFormedIpam ipam → list_all (λ set. are_apart set.ranges) (range_sets_of ipam) ≡ true
+ipam_apart None formed = refl
+ipam_apart (Some conf) formed = each_apart conf.sets formed.sets
+
+first_apart : (plugin : First) → IsWellFormedFirst plugin → list_all (λ set. are_apart set.ranges) (range_sets_of (ipam_of plugin)) ≡ true
+first_apart (first.Bridge conf) formed = ipam_apart conf.ipam formed.ipam
+first_apart (first.Ptp conf) formed = each_apart conf.ipam.sets formed.ipam.sets
+first_apart (first.Macvlan conf) formed = ipam_apart conf.ipam formed.ipam
+
+-- ---- the commands
+
+placed_commands : (round : ℕ) (commands : List Command) → map (λ (c : Placed). c.command) (map (in_round round) commands) ≡ commands
+placed_commands round [] = refl
+placed_commands round (c ∷ cs) = ap (λ xs. c ∷ xs) (placed_commands round cs)
+
+all_placed : (round : ℕ) (rounds : List (List Command)) → map (λ (c : Placed). c.command) (placed_from round rounds) ≡ in_file_order rounds
+all_placed round [] = refl
+all_placed round (commands ∷ rounds) =
+    map-append (λ (c : Placed). c.command) (map (in_round round) commands) (placed_from (round + 1) rounds)
+    ∙ ap (λ xs. xs ++ map (λ (c : Placed). c.command) (placed_from (round + 1) rounds)) (placed_commands round commands)
+    ∙ ap (λ xs. commands ++ xs) (all_placed (round + 1) rounds)
+
+file_order : (p : Plan) → map (λ (c : Placed). c.command) (commands_of p) ≡ in_file_order p.pods.rounds
+unfolding commands_of
+file_order p = all_placed 0 p.pods.rounds
+
+pub few_commands : (p : Plan) → IsWellFormedPods p.pods → length (commands_of p) ≤ 65536
+few_commands p formed =
+    let same : length (commands_of p) ≡ length (in_file_order p.pods.rounds) = sym (length-map (commands_of p) (λ (c : Placed). c.command)) ∙ ap length (file_order p) in
+    rw same formed.few_commands
+
+pub are_numbered : (p : Plan) → IsWellFormedPods p.pods → AreNumbered p
+are_numbered p formed n c at =
+    formed.numbers n c.command
+    (ap (λ xs. slice_get xs n) (sym (file_order p)) ∙ slice_get-map (λ (d : Placed). d.command) (commands_of p) n ∙ ap (option_map (λ (d : Placed). d.command)) at)
+
+-- ---- the plan
+
+lists_apart : (lists : List NetList) → All IsWellFormedList lists → list_all has_pools_apart lists ≡ true
+lists_apart [] all = refl
+lists_apart (list ∷ lists) all =
+    and_from _ _ (first_apart list.first (All-get_or IsWellFormedList (list ∷ lists) 0 list (omega arith) all).first) (lists_apart lists (All-drop IsWellFormedList 1 (list ∷ lists) all))
+
+pub pools_apart : (p : Plan) → IsWellFormed p → list_all has_pools_apart p.lists ≡ true
+pools_apart p well = lists_apart p.lists well.lists
+
+pub stand_alone : (p : Plan) → IsWellFormed p → AreAlone p
+stand_alone p well = are_alone p well.pods
