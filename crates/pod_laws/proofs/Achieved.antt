@@ -49,13 +49,6 @@ with_leases list c given = share_with_leases list (att_of c) c.netns given
 abbrev pub wanted_by : NetList → Command → List Addr → Share
 wanted_by list c given = wanted list (att_of c) c.netns (mappings_of list c) given
 
-abbrev IsNotAdded : Ending → Type 0
-IsNotAdded Added = ⊥
-IsNotAdded Yes = Unit {0}
-IsNotAdded (Skipped skip) = Unit {0}
-IsNotAdded Versions = Unit {0}
-IsNotAdded (Refused cause) = Unit {0}
-
 -- one address a set was leased, and the objects are those that they ask for
 abbrev pub IsAddedWith : NetList → Command → List Entry → Ending → List Addr → Share → Type 0
 IsAddedWith list c es Added given s = (leased_in es ≡ given) × (length given ≡ length (sets_of list)) × (s ≡ wanted_by list c given)
@@ -71,8 +64,8 @@ Achieved list c es (BeforeLeases next left) s = (made : List Call) × (before_of
 Achieved list c es (Leasing next left given) s = (past : List RangeSet) × (sets_of list ≡ past ++ next ∷ left) × (length given ≡ length past) × (s ≡ with_leases list c given) × (leased_in es ≡ given)
 Achieved list c es (AfterLeases next left given) s =
     (made : List Call) × (back_of list c given ≡ made ++ next ∷ left) × (length given ≡ length (sets_of list)) × (s ≡ share_after_calls (with_leases list c given) made) × (leased_in es ≡ given)
-Achieved list c es (ReadingCache ending) s = IsNotAdded ending
-Achieved list c es (Deleting next left ending) s = IsNotAdded ending
+Achieved list c es (ReadingCache ending) s = IsNoResult ending
+Achieved list c es (Deleting next left ending) s = IsNoResult ending
 Achieved list c es FindingEntry s = Unit {0}
 Achieved list c es (Asking next left) s = Unit {0}
 Achieved list c es (Changing change) s = Unit {0}
@@ -123,7 +116,7 @@ to-before_leases list c es made [] s all is was =
     to-leasing list c es [] (sets_of list) [] s refl refl (is ∙ ap (share_after_calls no_objects) (sym (all ∙ append-nil made)) ∙ no_leases list.first (att_of c) c.netns) was
 to-before_leases list c es made (x ∷ xs) s all is was = (made, all, is, was)
 
-not_added-over : (list : NetList) (c : Command) (es : List Entry) (e : Ending) (s : Share) → IsNotAdded e → IsAddedWith list c es e [] s
+not_added-over : (list : NetList) (c : Command) (es : List Entry) (e : Ending) (s : Share) → IsNoResult e → IsAddedWith list c es e [] s
 not_added-over list c es Added s h = absurd h
 not_added-over list c es Yes s h = tt
 not_added-over list c es (Skipped skip) s h = tt
@@ -137,7 +130,7 @@ not_added-faulted list c es number (Skipped skip) s = tt
 not_added-faulted list c es number Versions s = tt
 not_added-faulted list c es number (Refused cause) s = tt
 
-to-deleting : (list : NetList) (c : Command) (es : List Entry) (ks : List Kind) (e : Ending) (s : Share) → IsNotAdded e → Achieved list c es (deleting ks e) s
+to-deleting : (list : NetList) (c : Command) (es : List Entry) (ks : List Kind) (e : Ending) (s : Share) → IsNoResult e → Achieved list c es (deleting ks e) s
 to-deleting list c es [] e s h = not_added-over list c es e s h
 to-deleting list c es (k ∷ ks) e s h = h
 
@@ -174,15 +167,15 @@ moves-after list c es e number x xs given Done s t is was h =
     (h refl ∙ ap (λ u. share_after_call u x) was.3 ∙ sym (share_after_calls-append (with_leases list c given) made (x ∷ []))) (leased-done es e given is was.4)
 moves-after list c es e number x xs given _ s t is was h = tt
 
-moves-cache : (list : NetList) (c : Command) (es : List Entry) (number : ℕ) (ending : Ending) (r : Reply) (t : Share) → IsNotAdded ending → Achieved list c es (at_cache list number ending r) t
+moves-cache : (list : NetList) (c : Command) (es : List Entry) (number : ℕ) (ending : Ending) (r : Reply) (t : Share) → IsNoResult ending → Achieved list c es (at_cache list number ending r) t
 moves-cache list c es number ending Fault t was = not_added-faulted list c es number ending t
 moves-cache list c es number ending _ t was = to-deleting list c es (kinds_of list) ending t was
 
-moves-gone : (list : NetList) (c : Command) (es : List Entry) (number : ℕ) (k : Kind) (ks : List Kind) (ending : Ending) (b : Bool) (t : Share) → IsNotAdded ending → Achieved list c es (at_deletion number k ks ending (Gone b)) t
+moves-gone : (list : NetList) (c : Command) (es : List Entry) (number : ℕ) (k : Kind) (ks : List Kind) (ending : Ending) (b : Bool) (t : Share) → IsNoResult ending → Achieved list c es (at_deletion number k ks ending (Gone b)) t
 moves-gone list c es number k ks ending true t was = was
 moves-gone list c es number k ks ending false t was = to-deleting list c es ks ending t was
 
-moves-deletion : (list : NetList) (c : Command) (es : List Entry) (number : ℕ) (k : Kind) (ks : List Kind) (ending : Ending) (r : Reply) (t : Share) → IsNotAdded ending → Achieved list c es (at_deletion number k ks ending r) t
+moves-deletion : (list : NetList) (c : Command) (es : List Entry) (number : ℕ) (k : Kind) (ks : List Kind) (ending : Ending) (r : Reply) (t : Share) → IsNoResult ending → Achieved list c es (at_deletion number k ks ending r) t
 moves-deletion list c es number k ks ending (Gone b) t was = moves-gone list c es number k ks ending b t was
 moves-deletion list c es number k ks ending Fault t was = not_added-faulted list c es number ending t
 moves-deletion list c es number k ks ending _ t was = was

@@ -162,7 +162,7 @@ together-changed w n c call faulty on was = together-next w n c call faulty (inr
 -- in every history the entries of an exclusive command stand together
 pub stands_together : (w : World) → Legal w → (n : ℕ) (c : Placed) → slice_get (commands_of w.plan) n ≡ Some c → is_exclusive_verb c.command.verb ≡ true → StandsTogether w.plan w.history n c
 stands_together w legal =
-    by-entries AllTogether (λ p well m d at exclusive. record { before = []; until = refl; none_before = refl; run = λ list listed. tt; sound = well.opening.sound }) together-kept together-changed w legal
+    by-entries AllTogether (λ p well m d at exclusive. record { before = []; until = refl; none_before = refl; run = λ list listed. tt; sound = well.pods.opening.sound }) together-kept together-changed w legal
 
 -- ---- and lead from the host at its start to the one at its end
 

@@ -53,6 +53,7 @@ use Rattle.pod_laws.proofs.Steps.{Changes, GoesOn, by-entries, on-entry}
 use Rattle.pod_laws.proofs.Turns.{AsksOrCollects, change-of, removes-changed, turn-of, work-turn}
 use Rattle.pod_laws.proofs.Undoing.{Undoing, IsUnrefused, undone-start, undone-step}
 use Rattle.pod_laws.proofs.Within.{done-or-not, leased-or-not, opening-share}
+use Rattle.pod_laws.proofs.Tests.{clash}
 
 -- ---- a call that leaves or removes what the attachment has
 
@@ -267,9 +268,6 @@ own-asked w n c list call faulty (Changing change) sound left fit is un ach was 
 own-asked w n c list call faulty (Collecting work faults) sound left fit is un ach was = λ on. aside-now w n c.command (att_of c.command) call faulty sound (work-turn c.command work.jobs work.sweeps faults call fit is) was
 own-asked w n c list call faulty (Over ending given) sound left fit is un ach was = cc
 
-differs : (a : Bool) → a ≡ true → a ≡ false → ⊥
-differs a h g = cc
-
 -- a call of another attachment
 other-asked : (w : World) (n : ℕ) (c : Placed) (list : NetList) (call : Call) (faulty : Bool) (att : Att) → GoesOn w n c list call faulty → att_eq (att_of c.command) att ≡ false → is_call_of (att_of c.command) call ≡ true → HasNothingUnasked w.plan w.history att
     → NextAsked w n att faulty call
@@ -286,7 +284,7 @@ other-asked w n c list call faulty att on differ own was =
           let place : a.place ≡ n = let s : n + 1 ≡ a.place + 1 = same in omega (arith, s) in
           let by : a.by ≡ c = ready_is w n a.place c a.by on.ready place a.there in
           let att_is : att_of c.command ≡ att = ap (λ (x : Placed). att_of x.command) (sym by) ∙ a.attachment in
-          differs (att_eq (att_of c.command) att) (ap (att_eq (att_of c.command)) (sym att_is) ∙ att_eq-refl (att_of c.command)) differ in
+          clash (att_eq (att_of c.command) att) (ap (att_eq (att_of c.command)) (sym att_is) ∙ att_eq-refl (att_of c.command)) differ in
           inr (record {
             place = a.place;
             by = a.by;
@@ -325,4 +323,4 @@ asked-changed w n c call faulty on was = λ att.
     quiet-now w n att faulty call (not-begins att (entry_of (host_of w) n call faulty) (outside-no_begin att call from)) (outside-no_lease (host_of w) call faulty from) (removes-changed w n c call faulty on) (was att)
 
 pub nothing_is_unasked : NothingIsUnasked
-nothing_is_unasked w legal att = by-entries AllAsked (λ p well a. inl (opening-share a p.pods.opening well.opening)) asked-kept asked-changed w legal att
+nothing_is_unasked w legal att = by-entries AllAsked (λ p well a. inl (opening-share a p.pods.opening well.pods.opening)) asked-kept asked-changed w legal att

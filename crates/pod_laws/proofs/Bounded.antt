@@ -25,8 +25,10 @@ use Rattle.pod_workers.proofs.Splits.{split_nil, split_snoc}
 use Rattle.pod_workers.proofs.StepsLeft.{IsNoCollection, entry-falls, none-from}
 use Rattle.pod_laws.specs.Moments.{is_of, own_entries, until_last}
 use Rattle.pod_laws.proofs.Entries.{is_of-own, is_of-other, own_entries-own, own_entries-other, replies_in, replies-own_entries, no-entries, until_last-own, until_last-other}
-use Rattle.pod_laws.proofs.Runs.{all-still, own-state, state_by, state_by-append}
+use Rattle.pod_laws.proofs.RunFacts.{state_by, state_by-append}
+use Rattle.pod_laws.proofs.Runs.{all-still, own-state}
 use Rattle.pod_laws.proofs.Steps.{GoesOn, IsKept, IsKeptOutside, by-entries}
+use Rattle.pod_laws.proofs.Tests.{clash}
 
 -- ---- calls made and calls left
 
@@ -54,16 +56,13 @@ FromFirst p h = (n : ℕ) (c : Placed) (list : NetList) → slice_get (commands_
 
 -- ---- an entry of another command
 
-true_false : (b : Bool) → b ≡ true → b ≡ false → ⊥
-true_false b h g = cc
-
 from-other : (p : Plan) (h : List Entry) (n : ℕ) (c : Placed) (list : NetList) (x : Entry) → is_of n x ≡ false → RunFrom p h n c list → RunFrom p (h ++ x ∷ []) n c list
 from-other p h n c list x far was = λ most before rest e in_most none split own first.
     let same : made_and_left p (h ++ x ∷ []) n c.command list most ≡ made_and_left p h n c.command list most =
     ap (λ es. length es + calls_left most list c.command (state_by list c.command es) (share_of (att_of c.command) (after p.pods.opening (until_last n (h ++ x ∷ []))))) (own_entries-other n h x far)
     ∙ ap (λ l. length (own_entries n h) + calls_left most list c.command (state_by list c.command (own_entries n h)) (share_of (att_of c.command) (after p.pods.opening l))) (until_last-other n h x far) in
     elim (split_snoc h before rest x e split) [
-      | inl t ↦ absurd (true_false (is_of n x) (ap (is_of n) t.2 ∙ is_of-own n e own) far)
+      | inl t ↦ absurd (clash (is_of n x) (ap (is_of n) t.2 ∙ is_of-own n e own) far)
       | inr t ↦ (let earlier = was most before t.0 e in_most none t.2 own first in (omega arith, omega arith))
     ]
 

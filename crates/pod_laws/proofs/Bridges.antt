@@ -4,8 +4,8 @@ use Rattle.std.proofs.lemmas.Bool.{cases_Bool}
 use Rattle.std.proofs.lemmas.Bool.Decides.{eqb_tells}
 use Rattle.std.proofs.lemmas.Option.{same_Some, none-some}
 use Rattle.std.proofs.lemmas.Slice.Eq.{bytes_eq-Decides}
-use Rattle.std.specs.Prelude.{filter, find, ◌&&◌, if◌then◌else◌}
-use Rattle.std.specs.List.{list_any, list_all}
+use Rattle.std.specs.Prelude.{find, ◌&&◌, if◌then◌else◌}
+use Rattle.std.specs.List.{list_any}
 use Rattle.std.specs.Str.{bytes_eq}
 use Rattle.std.specs.Cmp.Lexicographic.{nat_list_eq_equiv}
 use Rattle.cni_addr.specs.declared.address.Addr.{Addr}
@@ -56,13 +56,15 @@ use Rattle.pod_workers.proofs.Sound.{sound_host}
 use Rattle.pod_laws.specs.Moments.{is_of, own_entries}
 use Rattle.pod_laws.proofs.Entries.{is_of-own, is_of-other, no-entries, own_entries-own, own_entries-other, replies-own_entries}
 use Rattle.pod_laws.proofs.States.{IsAside, aside-advance, aside-start, is_question}
-use Rattle.pod_laws.proofs.Runs.{own-state, state_by, state_by-append}
+use Rattle.pod_laws.proofs.RunFacts.{state_by, state_by-append}
+use Rattle.pod_laws.proofs.Runs.{own-state}
 use Rattle.pod_laws.proofs.Steps.{AllOpen, Changes, GoesOn, IsOpenKept, OpenFact, by-open, host-made, on-entry}
 use Rattle.pod_laws.proofs.Turns.{IsTurnOf, alone-outside, turn-of}
+use Rattle.pod_laws.proofs.Tests.{any-filtered, none-by}
 
 -- ---- a bridge of the host stays
 
-own_kind : (ns : List ℕ) (k : LinkKind) → is_owned_kind ns k ≡ true → is_bridge k ≡ false
+pub own_kind : (ns : List ℕ) (k : LinkKind) → is_owned_kind ns k ≡ true → is_bridge k ≡ false
 own_kind ns linkkinds.Device h = cc
 own_kind ns linkkinds.Bridge h = cc
 own_kind ns linkkinds.Veth h = refl
@@ -72,14 +74,6 @@ bridge-unowned : (name : List ℕ) (l : Link) (t : Tag) → link_fits_tag l t �
 bridge-unowned name l tags.Outside h = grind arith
 bridge-unowned name l tags.Base h = grind arith
 bridge-unowned name l (tags.Own att) h = let k = own_kind l.ns l.kind h in grind (arith, k)
-
-none-by : {X : Type 0} (q r : X → Bool) → ((x : X) → q x ≡ true → r x ≡ false) → (xs : List X) → list_all q xs ≡ true → list_any r xs ≡ false
-none-by q r w [] h = refl
-none-by q r w (x ∷ xs) h = grind (arith, w x, none-by q r w xs)
-
-any-filtered : {X : Type 0} (p q : X → Bool) (xs : List X) → list_any p (filter q xs) ≡ true → list_any p xs ≡ true
-any-filtered p q [] h = h
-any-filtered p q (x ∷ xs) h = grind (arith, h, any-filtered p q xs)
 
 stays-unshared : (host : Host) (call : Call) (name : List ℕ) → IsSound host → IsAllowed host call → is_from_outside call ≡ false → ensures_shared call ≡ false → has_host_bridge host name ≡ true → has_host_bridge (apply host call).0 name ≡ true
 stays-unshared host call name sound allowed inside own there =

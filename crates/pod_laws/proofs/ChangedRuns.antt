@@ -21,7 +21,8 @@ use Rattle.cni_verbs.specs.declared.answer.Cause.{Cause}
 use Rattle.cni_verbs.specs.declared.answer.Ending.{Ending}
 use Rattle.cni_verbs.specs.declared.answer.Ending.TheVariants.{Yes, Refused}
 use Rattle.pod_workers.specs.Facts.{IsScripts}
-use Rattle.pod_workers.specs.Plans.{Placed, commands_of, is_of_network, list_for, list_named}
+use Rattle.pod_file.specs.Commands.{is_of_network}
+use Rattle.pod_workers.specs.Plans.{Placed, commands_of, list_for, list_named}
 use Rattle.pod_workers.specs.World.{World, entry_of, host_of, own_replies}
 use Rattle.pod_workers.specs.declared.plan.Entry.{Entry}
 use Rattle.pod_workers.specs.declared.plan.Plan.{Plan}

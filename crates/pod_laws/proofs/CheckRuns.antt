@@ -33,10 +33,10 @@ use Rattle.pod_laws.specs.Moments.{has_fault, host_at_end, own_entries}
 use Rattle.pod_laws.proofs.Asking.{Each, EndsAsked, HasAsked, IsAsking, asked-all, asked-none, asked-reply, calm-more, denied-some, each-at, each-front, fault-last}
 use Rattle.pod_laws.proofs.CheckQuestions.{IsSteadyQuestion, cached-stays, granted-check, granted-stay, steady-questions}
 use Rattle.pod_laws.proofs.CutOff.{over-by}
-use Rattle.pod_laws.proofs.HostRuns.{HostFact, IsHostFact, StartsOn, every-host_run}
+use Rattle.pod_laws.proofs.RunFacts.{HostFact, IsHostFact, StartsOn, each-run}
 use Rattle.pod_laws.proofs.QuestionRuns.{question-entered}
 use Rattle.pod_laws.proofs.Runs.{own-state}
-use Rattle.pod_laws.proofs.SteadyHosts.{KeepsAsked}
+use Rattle.pod_laws.proofs.SteadyHosts.{KeepsAsked, asked-kept}
 
 -- ---- how it ends
 
@@ -167,7 +167,7 @@ check-own list c es e (Asking q qs) old host faulty keeps is turn_is a =
 check-own list c es e (Over ending given) old host faulty keeps is turn_is a = cc
 check-own list c es e _ old host faulty keeps is turn_is a = absurd a
 
-check-step : IsHostFact AsksCheck
+check-step : IsHostFact KeepsAsked AsksCheck
 check-step w n c list call faulty old on keeps was = λ verb.
     let e = entry_of (host_of w) n call faulty in
     let es = own_entries n w.history in
@@ -188,7 +188,7 @@ was_checked w legal n c list a at listed verb is whole =
     let es = own_entries n w.history in
     let host = host_at_end w n in
     let over = over-by w legal n c list a at listed is whole in
-    let last = every-host_run AsksCheck check-start check-step w legal n c list at listed verb in
+    let last = each-run KeepsAsked AsksCheck asked-kept check-start check-step w legal n c list at listed verb in
     elim over.state_is [
       | inl ends ↦ check-over list c.command es host a over.ending over.given (subst (λ st. CheckAt list c.command es st host) ends last) over.answer_is
       | inr swept ↦ absurd (subst (λ st. CheckAt list c.command es st host) swept.collecting last)

@@ -12,10 +12,9 @@ use Rattle.pod_file.specs.declared.command.Command.{Command}
 use Rattle.pod_file.specs.declared.command.Verb.TheVariants as verbs
 use Rattle.kernel_types.specs.Sound.{IsSound}
 use Rattle.kernel_types.specs.declared.object.Host.{Host}
-use Rattle.kernel_types.specs.declared.call.Call.{Call}
 use Rattle.kernel_types.specs.declared.call.Reply.{Reply}
-use Rattle.cni_verbs.specs.Script.{State, Collecting, Over, Calls, advance, finish_of, gc_of, noted, start_of, start_state, state_after, state_from, swept, turn, unless_old}
-use Rattle.cni_verbs.specs.Sweep.{Work, start_work, worked}
+use Rattle.cni_verbs.specs.Script.{State, Collecting, Over, advance, finish_of, gc_of, faults_after, start_of, start_state, state_after, state_from, swept, turn, unless_old}
+use Rattle.cni_verbs.specs.Sweep.{Work, start_work, work_after}
 use Rattle.cni_verbs.specs.declared.answer.Answer.{Answer}
 use Rattle.cni_verbs.specs.declared.answer.Cause.TheVariants as causes
 use Rattle.cni_verbs.specs.declared.answer.Ending.{Ending}
@@ -28,7 +27,8 @@ use Rattle.gc_sweep.specs.Trace as trace
 use Rattle.cni_verbs.specs.Progress.{is_gc}
 use Rattle.gc_sweep.proofs.Calls.{gc_bound}
 use Rattle.gc_sweep.proofs.Leaves.{always_bounded, faults_named, over_excused, yes_keeps}
-use Rattle.pod_workers.specs.Plans.{Placed, is_of_network, list_for}
+use Rattle.pod_file.specs.Commands.{is_of_network}
+use Rattle.pod_workers.specs.Plans.{Placed, list_for}
 use Rattle.pod_workers.specs.World.{World, after}
 use Rattle.pod_workers.specs.declared.plan.Entry.{Entry}
 use Rattle.pod_file.specs.Rounds.{is_exclusive_verb}
@@ -36,10 +36,12 @@ use Rattle.pod_laws.specs.Collected.{CollectionsAreAnswered, CollectionsAreBound
 use Rattle.pod_laws.specs.Moments.{has_fault, host_at_end, host_at_start, own_entries}
 use Rattle.pod_laws.proofs.AloneRuns.{IsRunFrom, StandsTogether, alone-end, alone-start, stands_together}
 use Rattle.pod_laws.proofs.CollectedRuns.{no-faults, some-faults, to-host, to-replies, to-run}
-use Rattle.pod_laws.proofs.Due.{IsOver, IsSwept, answer-due}
+use Rattle.pod_laws.proofs.CutOff.{cut-off}
+use Rattle.pod_laws.proofs.Due.{IsOver, IsSwept, answer-due, over-calls}
 use Rattle.pod_laws.proofs.Entries.{replies_in}
 use Rattle.pod_laws.proofs.OfAnswers.{Says, says}
-use Rattle.pod_laws.proofs.Runs.{listed-network, state_by}
+use Rattle.pod_laws.proofs.RunFacts.{state_by}
+use Rattle.pod_laws.proofs.Runs.{listed-network}
 
 -- ---- how a collection starts
 
@@ -50,11 +52,6 @@ starts : (list : NetList) (c : Command) → c.verb ≡ verbs.Gc → (v : Version
 starts list c gc v b version disabled =
     ap (λ x. start_of list x c) gc ∙ ap (λ x. unless_old x (if list.disable_gc then Over (Skipped skips.Gc) [] else collecting list c)) version
     ∙ ap (λ x. unless_old v (if x then Over (Skipped skips.Gc) [] else collecting list c)) disabled
-
--- a run that is over at its start makes no call
-over-calls : (c : Command) (ending : Ending) (given : List Addr) (call : Call) → turn c (Over ending given) ≡ Calls call → ⊥
-unfolding turn
-over-calls c ending given call is = cc
 
 over-none : (list : NetList) (c : Command) (st : State) (ending : Ending) (given : List Addr) (host : Host) (es : List Entry) → st ≡ Over ending given → IsRunFrom list c 0 st host es → es ≡ []
 over-none list c st ending given host [] is run = refl
@@ -71,7 +68,7 @@ IsCollecting st = (work : Work) × (faults : List ℕ) × (st ≡ Collecting wor
 collects-from : (list : NetList) (c : Command) (made : ℕ) (work : Work) (faults : List ℕ) (rs : List Reply) → IsCollecting (state_from list c made (Collecting work faults) rs)
 unfolding advance
 collects-from list c made work faults [] = (work, faults, refl)
-collects-from list c made work faults (r ∷ rs) = collects-from list c (made + 1) (worked (gc_of list c) work.jobs work.sweeps r) (noted (made + 1) faults _) rs
+collects-from list c made work faults (r ∷ rs) = collects-from list c (made + 1) (work_after (gc_of list c) work.jobs work.sweeps r) (faults_after (made + 1) faults _) rs
 
 collects-after : (list : NetList) (c : Command) (rs : List Reply) → start_state list c ≡ collecting list c → IsCollecting (state_after list c rs)
 collects-after list c rs is = subst (λ st. IsCollecting (state_from list c 0 st rs)) (sym is) (collects-from list c 0 (start_work (gc_of list c)) [] rs)
@@ -180,7 +177,7 @@ answered-by w n c list a listed gc t over V1_1 false version disabled =
 pub collections_are_answered : CollectionsAreAnswered
 collections_are_answered w legal n c list a at listed gc is = elim (answer-due w legal n c list a at listed is) [
   | inl over ↦ answered-by w n c list a listed gc (stands_together w legal n c at (ap is_exclusive_verb gc)) over list.version list.disable_gc refl refl
-  | inr cut ↦ inr (inr (inr (inr cut)))
+  | inr cut ↦ inr (inr (inr (inr (cut-off a cut))))
 ]
 
 pub collections_are_bounded : CollectionsAreBounded

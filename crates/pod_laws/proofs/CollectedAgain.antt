@@ -12,7 +12,7 @@ use Rattle.gc_sweep.specs.Keep.{IsSublist, keep, name_of}
 use Rattle.gc_sweep.specs.Sweep.{Bounds}
 use Rattle.gc_sweep.proofs.Kept.{host_of_parts}
 use Rattle.gc_sweep.proofs.Lists.{sublist_skip}
-use Rattle.pod_workers.specs.Plans.{is_of_network}
+use Rattle.pod_file.specs.Commands.{is_of_network}
 use Rattle.pod_workers.specs.declared.plan.Entry.{Entry}
 use Rattle.pod_laws.specs.Collected.{CollectionsInARowKeep, IsClean, IsCollectionAnswer}
 use Rattle.pod_laws.specs.Moments.{host_at_end, host_at_start, own_entries}
@@ -93,8 +93,7 @@ clean-of list c es old new (inl old_list) = absurd (let e = old_list.answer in c
 clean-of list c es old new (inr (inl disabled)) = absurd (let e = disabled.answer in cc)
 clean-of list c es old new (inr (inr (inl clean))) = clean
 clean-of list c es old new (inr (inr (inr (inl faulty)))) = absurd (let e = faulty.answer in cc)
-clean-of list c es old new (inr (inr (inr (inr (inl memory))))) = absurd (let e = memory in cc)
-clean-of list c es old new (inr (inr (inr (inr (inr stopped))))) = absurd (let e = stopped.1 in cc)
+clean-of list c es old new (inr (inr (inr (inr cut)))) = absurd (let e : false ≡ true = cut in cc)
 
 pub collections_in_a_row_keep : CollectionsInARowKeep
 collections_in_a_row_keep w legal m n d c at_m at_n row some answered =

@@ -1,5 +1,5 @@
 -- The entries of a command that stands alone are a run in the words of a collection.
-use Rattle.std.proofs.Common.{◌≡◌, ℕ, ◌+◌, Bool, true, false, List, [], ◌∷◌, length, Some, refl, sym, ◌∙◌, ap, subst}
+use Rattle.std.proofs.Common.{◌≡◌, ℕ, ◌+◌, Bool, true, false, List, [], ◌∷◌, Some, refl, sym, ◌∙◌, ap, subst, inl, inr}
 use Rattle.std.specs.Prelude.{◌||◌, if◌then◌else◌}
 use Rattle.net_conf.specs.declared.list.NetList.{NetList}
 use Rattle.pod_file.specs.declared.command.Command.{Command}
@@ -7,11 +7,8 @@ use Rattle.kernel_types.specs.Apply.{apply}
 use Rattle.kernel_types.specs.Replies.{is_fault}
 use Rattle.kernel_types.specs.declared.object.Host.{Host}
 use Rattle.kernel_types.specs.declared.call.Call.{Call}
-use Rattle.kernel_types.specs.declared.call.Call.TheVariants.{Begin, LeaseNext, CacheGet, OwnersOf}
-use Rattle.cni_verbs.specs.CommandWords.{att_of}
-use Rattle.cni_verbs.specs.Script.{State, AtBegin, BeforeLeases, Leasing, AfterLeases, ReadingCache, Deleting, FindingEntry, Asking, Changing, Collecting, Over, Calls, advance, call_of_work, next_call, turn, turn_of_work}
-use Rattle.cni_verbs.specs.Sweep.{Job, Sweep, step_call}
-use Rattle.cni_verbs.specs.Wanted.{deletion}
+use Rattle.cni_verbs.proofs.CallsOrOver.{calls_or_over}
+use Rattle.cni_verbs.specs.Script.{State, Calls, Finishes, advance, next_call, turn}
 use Rattle.gc_sweep.specs.Sweep.{fault_numbers}
 use Rattle.gc_sweep.specs.Trace as trace
 use Rattle.pod_workers.specs.World.{after, host_on, reply_to}
@@ -23,24 +20,11 @@ use Rattle.pod_laws.proofs.Entries.{replies_in}
 
 -- ---- the next call
 
-work-next : (network : List ℕ) (jobs : List Job) (sweeps : List Sweep) (faults : List ℕ) (call : Call) → turn_of_work network jobs sweeps faults ≡ Calls call → call_of_work network jobs sweeps ≡ Some call
-work-next network [] [] faults call is = cc
-work-next network [] (s ∷ sweeps) faults call is = let e : OwnersOf network s.kind ≡ call = cc in ap Some e
-work-next network (j ∷ jobs) sweeps faults call is = let e : step_call j.att j.step ≡ call = cc in ap Some e
-
 next-turn : (c : Command) (st : State) (call : Call) → turn c st ≡ Calls call → next_call c st ≡ Some call
-unfolding turn next_call
-next-turn c AtBegin call is = let e : Begin (att_of c) c.netns ≡ call = cc in ap Some e
-next-turn c (BeforeLeases x xs) call is = let e : x ≡ call = cc in ap Some e
-next-turn c (Leasing set sets given) call is = let e : LeaseNext (att_of c) (length given) set ≡ call = cc in ap Some e
-next-turn c (AfterLeases x xs given) call is = let e : x ≡ call = cc in ap Some e
-next-turn c (ReadingCache ending) call is = let e : CacheGet (att_of c) ≡ call = cc in ap Some e
-next-turn c (Deleting kind ks ending) call is = let e : deletion (att_of c) kind ≡ call = cc in ap Some e
-next-turn c FindingEntry call is = let e : CacheGet (att_of c) ≡ call = cc in ap Some e
-next-turn c (Asking q qs) call is = let e : q.call ≡ call = cc in ap Some e
-next-turn c (Changing change) call is = let e : change ≡ call = cc in ap Some e
-next-turn c (Collecting work faults) call is = work-next c.network work.jobs work.sweeps faults call is
-next-turn c (Over ending given) call is = cc
+next-turn c st call is = elim (calls_or_over c st) [
+  | inl k ↦ let same : Calls k.call ≡ Calls call = sym k.turn_is ∙ is in let e : k.call ≡ call = cc in k.next_is ∙ ap Some e
+  | inr o ↦ absurd (let e : Calls call ≡ Finishes o.finish = sym is ∙ o.turn_is in cc)
+]
 
 -- ---- hosts and replies
 

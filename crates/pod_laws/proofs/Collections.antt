@@ -19,7 +19,7 @@ use Rattle.kernel_types.specs.Sound.{IsSound}
 use Rattle.kernel_types.specs.Touch.{TouchesOwnAlone}
 use Rattle.kernel_types.specs.Words.{is_own}
 use Rattle.kernel_types.proofs.EveryCall.{Touches-apply}
-use Rattle.kernel_types.proofs.Isolation.{KeepsWhere-TouchesOwn, KeepsWhere-nothing, is_own-one}
+use Rattle.kernel_types.proofs.Isolation.{KeepsWhere-TouchesOwn, KeepsWhere-nothing}
 use Rattle.kernel_types.proofs.ListLemmas.{list_all-filter, list_all-kept, list_all-map}
 use Rattle.kernel_types.specs.declared.object.Att.{Att}
 use Rattle.kernel_types.specs.declared.object.Host.{Host}
@@ -33,11 +33,14 @@ use Rattle.kernel_types.specs.declared.call.Reply.{Reply}
 use Rattle.kernel_types.specs.declared.call.Reply.TheVariants.{Gone, Entry as Kept, Fault}
 use Rattle.plan_words.specs.Share.{Share}
 use Rattle.cni_verbs.specs.Script.{State, Collecting, Over, Calls, gc_of, advance, start_of, turn, turn_of_work, unless_old}
-use Rattle.cni_verbs.specs.Sweep.{Job, Step, Look, Delete, Sweep, after_job, after_step, is_valid, job_of, jobs_of, start_work, step_call, worked}
+use Rattle.cni_verbs.specs.Sweep.{Job, Step, AskCached, Delete, Sweep, after_job, after_step, is_valid, job_of, jobs_of, start_work, step_call, work_after}
 use Rattle.cni_verbs.specs.Wanted.{deletion}
 use Rattle.cni_verbs.specs.declared.answer.Ending.TheVariants.{Skipped}
 use Rattle.cni_verbs.specs.declared.answer.Skip.TheVariants as skips
-use Rattle.pod_workers.specs.Plans.{Placed, commands_of, is_of_network}
+use Rattle.pod_file.specs.Commands.{is_of_network}
+use Rattle.gc_sweep.specs.Keep.{stays}
+use Rattle.gc_sweep.proofs.Owners.{is_stale, own_goes}
+use Rattle.pod_workers.specs.Plans.{Placed, commands_of}
 use Rattle.pod_workers.specs.World.{World, after, entry_of, host_of, host_on, reply_to}
 use Rattle.pod_workers.specs.declared.plan.Entry.{Entry}
 use Rattle.pod_workers.specs.declared.plan.Plan.{Plan}
@@ -45,11 +48,12 @@ use Rattle.pod_workers.proofs.Histories.{after-append}
 use Rattle.pod_workers.proofs.Order.{ready_is}
 use Rattle.pod_workers.proofs.Sound.{sound_host}
 use Rattle.pod_workers.proofs.Splits.{split_nil, split_snoc}
-use Rattle.pod_laws.specs.Apart.{EachCollectionTakesTheStaleAlone, is_kept_by, is_stale}
+use Rattle.pod_laws.specs.Apart.{EachCollectionTakesTheStaleAlone}
 use Rattle.pod_laws.specs.Moments.{own_entries}
 use Rattle.pod_laws.proofs.Runs.{StartsWith, IsRunFact, every-run-now, own-state}
 use Rattle.pod_laws.proofs.Steps.{Changes, GoesOn, by-entries, on-entry}
 use Rattle.pod_laws.proofs.Turns.{change-of}
+use Rattle.pod_laws.proofs.Entries.{same-place}
 
 -- ---- the owners that the kernel lists are of the network
 
@@ -79,44 +83,44 @@ all-firsts p (x ∷ xs) h =
 -- ---- the owners that are left to a collection are stale
 
 abbrev AllStale : Command → List Job → Type 0
-AllStale c jobs = list_all (λ j. is_stale c j.att) jobs ≡ true
+AllStale c jobs = list_all (λ j. is_stale c.network c.valid j.att) jobs ≡ true
 
 jobs-stale : (list : NetList) (c : Command) (s : Sweep) (owners : List Att) → list_all (is_in c.network) owners ≡ true → AllStale c (jobs_of (gc_of list c) s owners)
 jobs-stale list c s owners h =
-    list_all-map (λ j. is_stale c j.att) (job_of s) (filter (λ a. not (is_valid c.valid a)) owners)
-    ∙ list_all-kept (is_in c.network) (is_stale c) (λ a. not (is_valid c.valid a)) (λ a near named. grind (arith, near, named)) owners h
+    list_all-map (λ j. is_stale c.network c.valid j.att) (job_of s) (filter (λ a. not (is_valid c.valid a)) owners)
+    ∙ list_all-kept (is_in c.network) (is_stale c.network c.valid) (λ a. not (is_valid c.valid a)) (λ a near named. grind (arith, near, named)) owners h
 
-swept-stale : (list : NetList) (c : Command) (s : Sweep) (sweeps : List Sweep) (k : Host) (faulty : Bool) → AllStale c (worked (gc_of list c) [] (s ∷ sweeps) (reply_to k (OwnersOf c.network s.kind) faulty)).jobs
+swept-stale : (list : NetList) (c : Command) (s : Sweep) (sweeps : List Sweep) (k : Host) (faulty : Bool) → AllStale c (work_after (gc_of list c) [] (s ∷ sweeps) (reply_to k (OwnersOf c.network s.kind) faulty)).jobs
 swept-stale list c s sweeps k true = refl
 swept-stale list c s sweeps k false =
     jobs-stale list c s (firsts att_eq (filter_map (owner_in c.network) (tags_of k s.kind)))
     (all-firsts (is_in c.network) (filter_map (owner_in c.network) (tags_of k s.kind)) (owners-in c.network (tags_of k s.kind)))
 
-stale-step : (c : Command) (att : Att) (more : List Step) (jobs : List Job) → is_stale c att ≡ true → AllStale c jobs → AllStale c (after_step att more jobs)
+stale-step : (c : Command) (att : Att) (more : List Step) (jobs : List Job) → is_stale c.network c.valid att ≡ true → AllStale c jobs → AllStale c (after_step att more jobs)
 stale-step c att [] jobs stale h = h
 stale-step c att (s ∷ more) jobs stale h = grind (arith, stale, h)
 
-stale-gone : (c : Command) (j : Job) (jobs : List Job) (sweeps : List Sweep) (b : Bool) → is_stale c j.att ≡ true → AllStale c jobs → AllStale c (j ∷ jobs) → AllStale c (after_job j jobs sweeps (Gone b)).jobs
+stale-gone : (c : Command) (j : Job) (jobs : List Job) (sweeps : List Sweep) (b : Bool) → is_stale c.network c.valid j.att ≡ true → AllStale c jobs → AllStale c (j ∷ jobs) → AllStale c (after_job j jobs sweeps (Gone b)).jobs
 stale-gone c j jobs sweeps true stale h all = all
 stale-gone c j jobs sweeps false stale h all = stale-step c j.att j.more jobs stale h
 
-stale-job : (c : Command) (j : Job) (jobs : List Job) (sweeps : List Sweep) (r : Reply) → is_stale c j.att ≡ true → AllStale c jobs → AllStale c (j ∷ jobs) → AllStale c (after_job j jobs sweeps r).jobs
+stale-job : (c : Command) (j : Job) (jobs : List Job) (sweeps : List Sweep) (r : Reply) → is_stale c.network c.valid j.att ≡ true → AllStale c jobs → AllStale c (j ∷ jobs) → AllStale c (after_job j jobs sweeps r).jobs
 stale-job c j jobs sweeps (Gone b) stale h all = stale-gone c j jobs sweeps b stale h all
 stale-job c j jobs sweeps (Kept cached) stale h all = stale-step c j.att j.more jobs stale h
 stale-job c j jobs sweeps Fault stale h all = h
 stale-job c j jobs sweeps _ stale h all = all
 
-head-stale : (c : Command) (j : Job) (jobs : List Job) → AllStale c (j ∷ jobs) → is_stale c j.att ≡ true
+head-stale : (c : Command) (j : Job) (jobs : List Job) → AllStale c (j ∷ jobs) → is_stale c.network c.valid j.att ≡ true
 head-stale c j jobs h = grind (arith, h)
 
 tail-stale : (c : Command) (j : Job) (jobs : List Job) → AllStale c (j ∷ jobs) → AllStale c jobs
 tail-stale c j jobs h = grind (arith, h)
 
 work-stale : (list : NetList) (c : Command) (jobs : List Job) (sweeps : List Sweep) (faults : List ℕ) (k : Host) (call : Call) (faulty : Bool) → turn_of_work c.network jobs sweeps faults ≡ Calls call → AllStale c jobs
-    → AllStale c (worked (gc_of list c) jobs sweeps (reply_to k call faulty)).jobs
+    → AllStale c (work_after (gc_of list c) jobs sweeps (reply_to k call faulty)).jobs
 work-stale list c [] [] faults k call faulty is h = cc
 work-stale list c [] (s ∷ sweeps) faults k call faulty is h =
-    let P : Call → Type 0 = λ j. AllStale c (worked (gc_of list c) [] (s ∷ sweeps) (reply_to k j faulty)).jobs in
+    let P : Call → Type 0 = λ j. AllStale c (work_after (gc_of list c) [] (s ∷ sweeps) (reply_to k j faulty)).jobs in
     subst P (let e : OwnersOf c.network s.kind ≡ call = cc in e) (swept-stale list c s sweeps k faulty)
 work-stale list c (j ∷ jobs) sweeps faults k call faulty is h = stale-job c j jobs sweeps (reply_to k call faulty) (head-stale c j jobs h) (tail-stale c j jobs h) h
 
@@ -161,13 +165,13 @@ collects-step w n c list call faulty on was = λ gc.
 -- ---- one entry
 
 abbrev Keeps : Command → Host → Host → Type 0
-Keeps c old new = KeepsWhere (is_kept_by c) old new
+Keeps c old new = KeepsWhere (stays c.network c.valid) old new
 
 abbrev KeepsBy : Command → Host → Call → Type 0
 KeepsBy c k call = IsAllowed k call → Keeps c k (apply k call).0
 
-owned-stale : (c : Command) (att : Att) → is_stale c att ≡ true → (t : Tag) → is_own att t ≡ true → is_kept_by c t ≡ false
-owned-stale c att stale t own = ap (is_kept_by c) (is_own-one att t own) ∙ ap not stale
+owned-stale : (c : Command) (att : Att) → is_stale c.network c.valid att ≡ true → (t : Tag) → is_own att t ≡ true → stays c.network c.valid t ≡ false
+owned-stale c att stale t own = let gone = own_goes c.network c.valid att stale t own in grind (arith, gone)
 
 touches-deletion : (att : Att) (k : Host) (kind : Kind) → IsSound k → IsAllowed k (deletion att kind) → TouchesOwnAlone att k (apply k (deletion att kind)).0
 touches-deletion att k kinds.Links sound allowed = Touches-apply k (LinkDel att) sound allowed
@@ -176,13 +180,13 @@ touches-deletion att k kinds.Settings sound allowed = Touches-apply k (SettingDe
 touches-deletion att k kinds.Leases sound allowed = Touches-apply k (LeaseDel att) sound allowed
 touches-deletion att k kinds.Cached sound allowed = Touches-apply k (CacheDel att) sound allowed
 
-step-keeps : (c : Command) (att : Att) (k : Host) (step : Step) → IsSound k → is_stale c att ≡ true → KeepsBy c k (step_call att step)
-step-keeps c att k Look sound stale = λ allowed. KeepsWhere-nothing (is_kept_by c) k
-step-keeps c att k (Delete kind) sound stale = λ allowed. KeepsWhere-TouchesOwn (is_kept_by c) att k (apply k (deletion att kind)).0 (owned-stale c att stale) (touches-deletion att k kind sound allowed).own
+step-keeps : (c : Command) (att : Att) (k : Host) (step : Step) → IsSound k → is_stale c.network c.valid att ≡ true → KeepsBy c k (step_call att step)
+step-keeps c att k AskCached sound stale = λ allowed. KeepsWhere-nothing (stays c.network c.valid) k
+step-keeps c att k (Delete kind) sound stale = λ allowed. KeepsWhere-TouchesOwn (stays c.network c.valid) att k (apply k (deletion att kind)).0 (owned-stale c att stale) (touches-deletion att k kind sound allowed).own
 
 work-keeps : (c : Command) (jobs : List Job) (sweeps : List Sweep) (faults : List ℕ) (k : Host) (call : Call) → IsSound k → AllStale c jobs → turn_of_work c.network jobs sweeps faults ≡ Calls call → KeepsBy c k call
 work-keeps c [] [] faults k call sound h is = cc
-work-keeps c [] (s ∷ sweeps) faults k call sound h is = subst (KeepsBy c k) (let e : OwnersOf c.network s.kind ≡ call = cc in e) (λ allowed. KeepsWhere-nothing (is_kept_by c) k)
+work-keeps c [] (s ∷ sweeps) faults k call sound h is = subst (KeepsBy c k) (let e : OwnersOf c.network s.kind ≡ call = cc in e) (λ allowed. KeepsWhere-nothing (stays c.network c.valid) k)
 work-keeps c (j ∷ jobs) sweeps faults k call sound h is = subst (KeepsBy c k) (let e : step_call j.att j.step ≡ call = cc in e) (step-keeps c j.att k j.step sound (head-stale c j jobs h))
 
 turn-keeps : (c : Command) (st : State) (k : Host) (call : Call) → IsSound k → StaleLeft c st → turn c st ≡ Calls call → KeepsBy c k call
@@ -194,7 +198,7 @@ turn-keeps c _ k call sound h is = absurd h
 collection-keeps : (w : World) (n : ℕ) (c : Placed) (list : NetList) (call : Call) (faulty : Bool) → GoesOn w n c list call faulty → c.command.verb ≡ verbs.Gc → Keeps c.command (host_of w) (host_on (host_of w) (entry_of (host_of w) n call faulty))
 collection-keeps w n c list call faulty on gc =
     let left = every-run-now Collects collects-start collects-step w n c list call faulty on gc in
-    on-entry (Keeps c.command (host_of w)) (host_of w) n call faulty (KeepsWhere-nothing (is_kept_by c.command) (host_of w))
+    on-entry (Keeps c.command (host_of w)) (host_of w) n call faulty (KeepsWhere-nothing (stays c.command.network c.command.valid) (host_of w))
     (λ f. turn-keeps c.command _ (host_of w) call (sound_host w on.legal) left (own-state w n c list call faulty on).turn_is (on.allowed f))
 
 -- ---- every history
@@ -204,10 +208,6 @@ KeepsAt p before e c = Keeps c.command (after p.pods.opening before) (after p.po
 
 abbrev AllKept : Plan → List Entry → Type 0
 AllKept p h = (n : ℕ) (c : Placed) (before later : List Entry) (e : Entry) → slice_get (commands_of p) n ≡ Some c → e.command ≡ n + 1 → c.command.verb ≡ verbs.Gc → h ≡ before ++ e ∷ later → KeepsAt p before e c
-
--- the last entry is of the ready command
-same-place : (n m : ℕ) (e x : Entry) → e.command ≡ m + 1 → x ≡ e → x.command ≡ n + 1 → m ≡ n
-same-place n m e x number same own = let b : x.command ≡ e.command = ap (λ (y : Entry). y.command) same in omega (arith, number, b, own)
 
 collection-kept : (w : World) (n : ℕ) (c : Placed) (list : NetList) (call : Call) (faulty : Bool) → GoesOn w n c list call faulty → AllKept w.plan w.history → AllKept w.plan (w.history ++ entry_of (host_of w) n call faulty ∷ [])
 collection-kept w n c list call faulty on was = λ m d before later e at number gc is.

@@ -1,10 +1,11 @@
 -- An answer is what the command's script came to, or it was stopped or refused memory.
 use Rattle.std.proofs.Common.{◌≡◌, ℕ, List, [], ◌∷◌, length, Some, refl, slice_get, sym, ◌∙◌, ap, subst, inl, inr, ◌⊎◌}
 use Rattle.net_conf.specs.declared.list.NetList.{NetList}
+use Rattle.kernel_types.specs.declared.call.Call.{Call}
 use Rattle.pod_file.specs.declared.command.Command.{Command}
 use Rattle.cni_verbs.specs.Answers.{answer_of}
 use Rattle.cni_verbs.specs.Progress.{turn_by, answer_by}
-use Rattle.cni_verbs.specs.Script.{State, AtBegin, BeforeLeases, Leasing, AfterLeases, ReadingCache, Deleting, FindingEntry, Asking, Changing, Collecting, Over, Finishes, Finish, turn, turn_of_work, finish_of_work, state_after, swept}
+use Rattle.cni_verbs.specs.Script.{State, AtBegin, BeforeLeases, Leasing, AfterLeases, ReadingCache, Deleting, FindingEntry, Asking, Changing, Collecting, Over, Calls, Finishes, Finish, turn, turn_of_work, finish_of_work, state_after, swept}
 use Rattle.cni_verbs.specs.Sweep.{Job, Sweep, Work}
 use Rattle.cni_verbs.specs.declared.answer.Answer.{Answer}
 use Rattle.cni_verbs.specs.declared.answer.Answer.TheVariants.{OutOfMemory, Stopped}
@@ -17,7 +18,7 @@ use Rattle.pod_workers.specs.World.{World, own_replies}
 use Rattle.pod_workers.proofs.AnswersDue.{answer_is_due}
 use Rattle.pod_laws.specs.Moments.{own_entries}
 use Rattle.pod_laws.proofs.Entries.{replies-own_entries}
-use Rattle.pod_laws.proofs.Runs.{state_by}
+use Rattle.pod_laws.proofs.RunFacts.{state_by}
 
 -- the run of a garbage collection has nothing left to do
 pub record IsSwept (st : State) (ending : Ending) : Type 0 where
@@ -78,3 +79,8 @@ answer-due w legal n c list a at listed is = elim (answer_is_due w legal n a c i
   | inr (inl stopped) ↦ inr (inr (length (own_replies w n), stopped.0.2))
   | inr (inr memory) ↦ inr (inl memory)
 ]
+
+-- a run that is over makes no call
+pub over-calls : (c : Command) (ending : Ending) (given : List Addr) (call : Call) → turn c (Over ending given) ≡ Calls call → ⊥
+unfolding turn
+over-calls c ending given call is = cc

@@ -64,3 +64,7 @@ until_last-other n [] e is = ap (λ b. if b then e ∷ [] else []) (any-other (i
 until_last-other n (x ∷ xs) e is =
     ap (λ b. if b then x ∷ until_last n (xs ++ e ∷ []) else []) (any-other (is_of n) (x ∷ xs) e is)
     ∙ ap (λ t. if list_any (is_of n) (x ∷ xs) then x ∷ t else []) (until_last-other n xs e is)
+
+-- an entry that is another's is of the same command
+pub same-place : (n m : ℕ) (e x : Entry) → e.command ≡ m + 1 → x ≡ e → x.command ≡ n + 1 → m ≡ n
+same-place n m e x number same own = let b : x.command ≡ e.command = ap (λ (y : Entry). y.command) same in omega (arith, number, b, own)

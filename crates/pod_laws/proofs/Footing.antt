@@ -1,6 +1,6 @@
 -- A plan's call finds what it stands on, unless it is `macvlan`'s: its links are there, and so is the list's bridge.
 use Rattle.std.proofs.Common.{◌≡◌, ℕ, Bool, true, false, List, [], ◌∷◌, ◌++◌, map, Option, Some, None, refl, ◌∙◌, arith}
-use Rattle.std.specs.Prelude.{filter, find, flat_map, ◌&&◌, if◌then◌else◌}
+use Rattle.std.specs.Prelude.{find, flat_map, ◌&&◌, if◌then◌else◌}
 use Rattle.std.specs.List.{list_any, list_all}
 use Rattle.std.specs.Option.{option_map, option_or}
 use Rattle.std.specs.Str.{bytes_eq}
@@ -55,6 +55,7 @@ use Rattle.portmap.specs.Portmap.{portmap_rules}
 use Rattle.firewall_tuning.specs.Firewall.{firewall_rules}
 use Rattle.firewall_tuning.specs.Tuning.{tuning_settings, sets_any, link_set_calls}
 use Rattle.cni_verbs.specs.Wanted.{share_before, calls_before, calls_after, chained_calls, all_chained_calls, chained_result, back_calls, given_by_list, first_plugin_result, cached_of, untuned}
+use Rattle.pod_laws.proofs.Tests.{clash, any-filtered}
 
 -- ---- what a call stands on
 
@@ -71,9 +72,6 @@ bridge_for _ = None
 
 abbrev NeverNoLink : Host × Reply → Type 0
 NeverNoLink step = step.1 ≡ NoLink → ⊥
-
-clash : (b : Bool) → b ≡ true → b ≡ false → ⊥
-clash b h g = cc
 
 appended-found : (o : Option Tag) (host next : Host) → NeverNoLink (append_unless_taken o host next)
 appended-found None host next = λ e. cc
@@ -157,15 +155,11 @@ lies-calls s calls (RouteAdd obj) h = any-calls (is_link_of obj.ns obj.link obj.
 lies-calls s calls (LinkSet att key mac mtu tx_qlen promisc allmulti) h = any-calls (is_own_at att key) s calls (place-own_at att key) h
 lies-calls s calls _ h = refl
 
-any-filter : {X : Type 0} (p q : X → Bool) (xs : List X) → list_any p (filter q xs) ≡ true → list_any p xs ≡ true
-any-filter p q [] h = h
-any-filter p q (x ∷ xs) h = grind (arith, h, any-filter p q xs)
-
 -- what is in the share is in the host
 pub lies-host : (att : Att) (host : Host) (call : Call) → lies_on (share_of att host).links call ≡ true → lies_on host.links call ≡ true
-lies-host att host (AddrAdd obj) h = any-filter (is_link_of obj.ns obj.link obj.tag) (λ l. is_own att l.tag) host.links h
-lies-host att host (RouteAdd obj) h = any-filter (is_link_of obj.ns obj.link obj.tag) (λ l. is_own att l.tag) host.links h
-lies-host att host (LinkSet own key mac mtu tx_qlen promisc allmulti) h = any-filter (is_own_at own key) (λ l. is_own att l.tag) host.links h
+lies-host att host (AddrAdd obj) h = any-filtered (is_link_of obj.ns obj.link obj.tag) (λ l. is_own att l.tag) host.links h
+lies-host att host (RouteAdd obj) h = any-filtered (is_link_of obj.ns obj.link obj.tag) (λ l. is_own att l.tag) host.links h
+lies-host att host (LinkSet own key mac mtu tx_qlen promisc allmulti) h = any-filtered (is_own_at own key) (λ l. is_own att l.tag) host.links h
 lies-host att host _ h = refl
 
 -- ---- the calls of each plugin lie on its links

@@ -63,20 +63,13 @@ IsOverLeased list (Skipped skip) given = Unit {0}
 IsOverLeased list Versions given = Unit {0}
 IsOverLeased list (Refused cause) given = Unit {0}
 
-abbrev IsNotAdded : Ending → Type 0
-IsNotAdded Added = ⊥
-IsNotAdded Yes = Unit {0}
-IsNotAdded (Skipped skip) = Unit {0}
-IsNotAdded Versions = Unit {0}
-IsNotAdded (Refused cause) = Unit {0}
-
 abbrev pub LeasedRun : NetList → Command → List Entry → State → Share → Type 0
 LeasedRun list c es AtBegin s = Unit {0}
 LeasedRun list c es (BeforeLeases next left) s = Unit {0}
 LeasedRun list c es (Leasing next left given) s = (past : List RangeSet) × (sets_of list ≡ past ++ next ∷ left) × AreCandidates past given
 LeasedRun list c es (AfterLeases next left given) s = AreCandidates (sets_of list) given
-LeasedRun list c es (ReadingCache ending) s = IsNotAdded ending
-LeasedRun list c es (Deleting next left ending) s = IsNotAdded ending
+LeasedRun list c es (ReadingCache ending) s = IsNoResult ending
+LeasedRun list c es (Deleting next left ending) s = IsNoResult ending
 LeasedRun list c es FindingEntry s = Unit {0}
 LeasedRun list c es (Asking next left) s = Unit {0}
 LeasedRun list c es (Changing change) s = Unit {0}
@@ -97,7 +90,7 @@ to-before_leases : (list : NetList) (c : Command) (es : List Entry) (left : List
 to-before_leases list c es [] s = to-leasing list c es [] (sets_of list) [] s refl tt
 to-before_leases list c es (x ∷ xs) s = tt
 
-over-not_added : (list : NetList) (ending : Ending) → IsNotAdded ending → IsOverLeased list ending []
+over-not_added : (list : NetList) (ending : Ending) → IsNoResult ending → IsOverLeased list ending []
 over-not_added list Added h = absurd h
 over-not_added list Yes h = tt
 over-not_added list (Skipped skip) h = tt
@@ -111,7 +104,7 @@ over-faulted list number (Skipped skip) = tt
 over-faulted list number Versions = tt
 over-faulted list number (Refused cause) = tt
 
-to-deleting : (list : NetList) (c : Command) (es : List Entry) (ks : List Kind) (ending : Ending) (s : Share) → IsNotAdded ending → LeasedRun list c es (deleting ks ending) s
+to-deleting : (list : NetList) (c : Command) (es : List Entry) (ks : List Kind) (ending : Ending) (s : Share) → IsNoResult ending → LeasedRun list c es (deleting ks ending) s
 to-deleting list c es [] ending s h = over-not_added list ending h
 to-deleting list c es (k ∷ ks) ending s h = h
 
@@ -135,15 +128,15 @@ run-after : (list : NetList) (c : Command) (es : List Entry) (number : ℕ) (lef
 run-after list c es number left given Done s h = to-after_leases list c es left given s h
 run-after list c es number left given _ s h = tt
 
-run-cache : (list : NetList) (c : Command) (es : List Entry) (number : ℕ) (ending : Ending) (r : Reply) (s : Share) → IsNotAdded ending → LeasedRun list c es (at_cache list number ending r) s
+run-cache : (list : NetList) (c : Command) (es : List Entry) (number : ℕ) (ending : Ending) (r : Reply) (s : Share) → IsNoResult ending → LeasedRun list c es (at_cache list number ending r) s
 run-cache list c es number ending Fault s h = over-faulted list number ending
 run-cache list c es number ending _ s h = to-deleting list c es (kinds_of list) ending s h
 
-run-gone : (list : NetList) (c : Command) (es : List Entry) (number : ℕ) (k : Kind) (ks : List Kind) (ending : Ending) (b : Bool) (s : Share) → IsNotAdded ending → LeasedRun list c es (at_deletion number k ks ending (Gone b)) s
+run-gone : (list : NetList) (c : Command) (es : List Entry) (number : ℕ) (k : Kind) (ks : List Kind) (ending : Ending) (b : Bool) (s : Share) → IsNoResult ending → LeasedRun list c es (at_deletion number k ks ending (Gone b)) s
 run-gone list c es number k ks ending true s h = h
 run-gone list c es number k ks ending false s h = to-deleting list c es ks ending s h
 
-run-deletion : (list : NetList) (c : Command) (es : List Entry) (number : ℕ) (k : Kind) (ks : List Kind) (ending : Ending) (r : Reply) (s : Share) → IsNotAdded ending → LeasedRun list c es (at_deletion number k ks ending r) s
+run-deletion : (list : NetList) (c : Command) (es : List Entry) (number : ℕ) (k : Kind) (ks : List Kind) (ending : Ending) (r : Reply) (s : Share) → IsNoResult ending → LeasedRun list c es (at_deletion number k ks ending r) s
 run-deletion list c es number k ks ending (Gone b) s h = run-gone list c es number k ks ending b s h
 run-deletion list c es number k ks ending Fault s h = over-faulted list number ending
 run-deletion list c es number k ks ending _ s h = h
@@ -246,5 +239,5 @@ sound-next w e sound was = λ m.
 
 pub sound-at_end : (w : World) → Legal w → (n : ℕ) → IsSound (host_at_end w n)
 sound-at_end w legal =
-    by-entries AllSound (λ p well m. well.opening.sound) (λ v n c list call faulty on was. sound-next v (entry_of (host_of v) n call faulty) (sound-entered v n c list call faulty on) was)
+    by-entries AllSound (λ p well m. well.pods.opening.sound) (λ v n c list call faulty on was. sound-next v (entry_of (host_of v) n call faulty) (sound-entered v n c list call faulty on) was)
     (λ v n c call faulty on was. sound-next v (entry_of (host_of v) n call faulty) (sound-changed v n c call faulty on) was) w legal

@@ -19,7 +19,6 @@ pub mod Due
 pub mod Entries
 pub mod Footing
 pub mod Fronts
-pub mod HostRuns
 pub mod LastAddresses
 pub mod LeasedRuns
 pub mod NextRounds
@@ -31,12 +30,14 @@ pub mod QuestionRuns
 pub mod Quiet
 pub mod Removes
 pub mod Rest
+pub mod RunFacts
 pub mod Runs
 pub mod Stands
 pub mod States
 pub mod StatusRuns
 pub mod SteadyHosts
 pub mod Steps
+pub mod Tests
 pub mod TunedLinks
 pub mod Turns
 pub mod Undoing

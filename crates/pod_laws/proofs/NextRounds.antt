@@ -15,6 +15,7 @@ use Rattle.pod_laws.specs.Moments.{host_at_end, host_at_start, is_of, own_entrie
 use Rattle.pod_laws.proofs.AloneRuns.{legal-of, ready-of, until_first-own}
 use Rattle.pod_laws.proofs.Entries.{is_of-own, is_of-other, no-entries, own_entries-own, own_entries-other, replies-own_entries, until_last-own, until_last-other}
 use Rattle.pod_laws.proofs.Steps.{AllOpen, Goes, IsKept, IsKeptOutside, IsOpenKept, OpenFact, by-entries, by-open}
+use Rattle.pod_workers.proofs.WellFormedPlans.{stand_alone}
 
 -- the second command is of the round after the first one's, and both are exclusive
 pub record AreNext (d c : Placed) : Type 0 where
@@ -44,7 +45,7 @@ open-round w legal n c at is_open = elim (compared c.round w.round) [
 ]
 
 alone-in : (w : World) → Legal w → (k m : ℕ) (x d : Placed) → slice_get (commands_of w.plan) k ≡ Some x → slice_get (commands_of w.plan) m ≡ Some d → x.round ≡ d.round → is_exclusive_verb d.command.verb ≡ true → k ≡ m
-alone-in w legal k m x d at_k at_m round exclusive = (fine w legal).plan.alone k m x d at_k at_m round exclusive
+alone-in w legal k m x d at_k at_m round exclusive = stand_alone w.plan (fine w legal).plan k m x d at_k at_m round exclusive
 
 -- between the first and the second no other command is ready
 no-third : (w : World) → Legal w → (k m n : ℕ) (x d c : Placed) → IsReady w k x → slice_get (commands_of w.plan) m ≡ Some d → slice_get (commands_of w.plan) n ≡ Some c → AreNext d c → d.round ≤ w.round → w.round ≤ c.round → (k ≡ m) ⊎ (k ≡ n)

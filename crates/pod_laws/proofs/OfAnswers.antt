@@ -42,6 +42,7 @@ use Rattle.pod_laws.proofs.LeasedRuns.{IsOverLeased, LeasedRun, leased-end, leas
 use Rattle.pod_laws.proofs.States.{IsNoResult, IsOtherVerb, swept-no_result}
 use Rattle.pod_laws.proofs.Runs.{every-run, listed-command}
 use Rattle.pod_laws.proofs.Undoing.{Undoing, Ends, undone-end, undone-start, undone-step}
+use Rattle.pod_laws.proofs.Tests.{clash, middle-passes}
 
 -- ---- answers by endings
 
@@ -269,19 +270,12 @@ answers_of_del w legal n c a at verb is =
 some-none : {X : Type 0} (o : Option X) (x : X) → o ≡ Some x → o ≡ None → ⊥
 some-none o x a b = none-some x (sym b ∙ a)
 
-clash : (b : Bool) → b ≡ true → b ≡ false → ⊥
-clash b h g = cc
-
 cause-refuses : (number : ℕ) (call : Call) (reply : Reply) (cause : Cause) → IsCause number call reply cause → is_granted reply ≡ false
 cause-refuses _ _ _ _ (no_namespace number call) = refl
 cause-refuses _ _ _ _ (name_taken number call tag) = refl
 cause-refuses _ _ _ _ (pool_empty number att set ranges) = refl
 cause-refuses _ _ _ _ (no_master number link) = refl
 cause-refuses _ _ _ _ (fault number call) = refl
-
-middle-passes : {X : Type 0} (p : X → Bool) (xs : List X) (y : X) (ys : List X) → list_all p (xs ++ y ∷ ys) ≡ true → p y ≡ true
-middle-passes p [] y ys h = grind (arith, h)
-middle-passes p (x ∷ xs) y ys h = middle-passes p xs y ys (grind (arith, h))
 
 unrefused : (c : Command) (es : List Entry) (s : Share) (cause : Cause) → add_refusal c ≡ None → list_all lets_go_on es ≡ true → IsRefusedFor c es s cause → ⊥
 unrefused c es s cause words go_on (inl r) = some-none (add_refusal c) cause r.words words

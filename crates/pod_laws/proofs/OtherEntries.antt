@@ -8,7 +8,8 @@ use Rattle.plan_words.specs.Share.{share_of}
 use Rattle.cni_verbs.specs.CommandWords.{att_of}
 use Rattle.pod_file.specs.declared.command.Verb.{Verb}
 use Rattle.pod_file.specs.declared.command.Verb.TheVariants as verbs
-use Rattle.pod_workers.specs.Plans.{Placed, commands_of, is_of_network}
+use Rattle.pod_file.specs.Commands.{is_of_network}
+use Rattle.pod_workers.specs.Plans.{Placed, commands_of}
 use Rattle.pod_workers.specs.World.{World, IsReady, after, entry_of, host_of, host_on}
 use Rattle.pod_workers.specs.declared.plan.Entry.{Entry}
 use Rattle.pod_workers.specs.declared.plan.Plan.{Plan}

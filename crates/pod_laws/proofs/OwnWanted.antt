@@ -1,41 +1,36 @@
 -- All objects that an attachment wants are its own.
-use Rattle.std.proofs.Common.{◌≡◌, ℕ, Bool, true, false, List, [], ◌∷◌, ◌++◌, map, refl, ◌∙◌, arith}
-use Rattle.std.specs.Prelude.{flat_map, if◌then◌else◌, Option, Some, None}
+use Rattle.std.proofs.Common.{◌≡◌, ℕ, Bool, true, false, List, [], ◌∷◌, map, refl, ◌∙◌, arith}
+use Rattle.std.specs.Prelude.{flat_map, if◌then◌else◌}
 use Rattle.std.specs.List.{list_all, filter_map}
 use Rattle.cni_addr.specs.declared.address.Addr.{Addr}
-use Rattle.cni_addr.specs.declared.address.Family.{Family}
-use Rattle.cni_addr.specs.declared.address.Family.TheVariants.{V4, V6}
 use Rattle.cni_result.specs.declared.cached.PortMapping.{PortMapping}
 use Rattle.cni_result.specs.declared.result.IpEntry.{IpEntry}
 use Rattle.net_conf.specs.declared.first.First.{First}
 use Rattle.net_conf.specs.declared.first.First.TheVariants.{Bridge, Ptp, Macvlan}
-use Rattle.net_conf.specs.declared.first.PtpConf.{PtpConf}
 use Rattle.net_conf.specs.declared.chained.Chained.{Chained}
 use Rattle.net_conf.specs.declared.chained.Chained.TheVariants.{Portmap, Firewall, Tuning}
-use Rattle.net_conf.specs.declared.chained.PortmapConf.{PortmapConf}
 use Rattle.net_conf.specs.declared.list.NetList.{NetList}
-use Rattle.kernel_types.specs.Apply.Calls.{is_same_setting, set_link}
-use Rattle.kernel_types.specs.Equal.{rule_eq}
+use Rattle.kernel_types.specs.Apply.Calls.{set_link}
 use Rattle.kernel_types.specs.Words.{is_own}
 use Rattle.kernel_types.proofs.Cases.{att_eq-refl}
 use Rattle.kernel_types.specs.declared.object.Att.{Att}
 use Rattle.kernel_types.specs.declared.object.Link.{Link}
-use Rattle.kernel_types.specs.declared.object.Rule.{Rule}
 use Rattle.kernel_types.specs.declared.call.Given.{Given}
 use Rattle.plan_words.specs.Share.{Share}
-use Rattle.plan_words.specs.Shapes.{lease_of, route_on}
+use Rattle.plan_words.specs.Shapes.{lease_of}
 use Rattle.plan_words.proofs.Appends.{own-addresses, own-routes, own-masquerades}
-use Rattle.plan_words.proofs.KeyLists.{list_all-append, list_all-each_key_once, list_all-every, list_all-flat, list_all-if, list_all-map}
+use Rattle.plan_words.proofs.KeyLists.{list_all-append, list_all-every, list_all-flat, list_all-map}
 use Rattle.plan_words.proofs.OwnCalls.{set_link-tag}
 use Rattle.bridge_ptp.specs.declared.ptp.AddressOrRoute.{AddressOrRoute}
 use Rattle.bridge_ptp.specs.declared.ptp.AddressOrRoute.TheVariants.{Address, Route}
-use Rattle.bridge_ptp.specs.Ptp.{same_key, address_in, route_in, ptp_objects_for, ptp_objects}
+use Rattle.bridge_ptp.specs.Ptp.{address_in, route_in, ptp_objects}
+use Rattle.bridge_ptp.proofs.Shares.{is_own_object, own-objects}
 use Rattle.bridge_ptp.specs.Results.{bridge_routes}
 use Rattle.host_local.specs.Conf.{routes_of}
 use Rattle.host_local.specs.Results.{ip_of}
-use Rattle.portmap.specs.Portmap.{dnat_of, host_ip_allows, from_host, masquerades_of, rules_for, mapping_rules, portmap_rules}
-use Rattle.firewall_tuning.specs.Firewall.{firewall_rules, forward_of}
-use Rattle.firewall_tuning.specs.Tuning.{setting_of, sets_any}
+use Rattle.portmap.proofs.Shares.{own-portmap_rules}
+use Rattle.firewall_tuning.proofs.Shares.{own-firewall_rules, own-settings}
+use Rattle.firewall_tuning.specs.Tuning.{sets_any}
 use Rattle.cni_verbs.specs.Wanted.{share_before, share_after, links_after, rules_of, settings_of, all_links_after, given_by_list, first_plugin_result, untuned, wanted}
 
 -- each object that a check asks for
@@ -53,17 +48,6 @@ own-untuned : (first : First) (att : Att) (netns : List ℕ) → list_all (λ x.
 own-untuned (Bridge conf) att netns = grind (arith, att_eq-refl att)
 own-untuned (Ptp conf) att netns = grind (arith, att_eq-refl att)
 own-untuned (Macvlan conf) att netns = grind (arith, att_eq-refl att)
-
-abbrev is_own_object : Att → AddressOrRoute → Bool
-is_own_object att (Address obj) = is_own att obj.tag
-is_own_object att (Route obj) = is_own att obj.tag
-
-own-objects : (conf : PtpConf) (att : Att) (netns : List ℕ) (given : List Given) → list_all (is_own_object att) (ptp_objects conf att netns given) ≡ true
-own-objects conf att netns given =
-    list_all-each_key_once (is_own_object att) same_key (flat_map (ptp_objects_for att netns) given ++ map (λ r. Route (route_on att netns given r)) conf.ipam.routes)
-    (list_all-append (is_own_object att) (flat_map (ptp_objects_for att netns) given) (map (λ r. Route (route_on att netns given r)) conf.ipam.routes)
-    (list_all-flat (is_own_object att) (ptp_objects_for att netns) (λ g. grind (arith, att_eq-refl att)) given)
-    (list_all-every (is_own_object att) (λ r. Route (route_on att netns given r)) (λ r. att_eq-refl att) conf.ipam.routes))
 
 own-addresses_in : (att : Att) (xs : List AddressOrRoute) → list_all (is_own_object att) xs ≡ true → list_all (λ x. is_own att x.tag) (filter_map address_in xs) ≡ true
 own-addresses_in att [] h = refl
@@ -92,39 +76,15 @@ own-first_rules (Macvlan conf) att netns given = refl
 
 -- ---- the chained plugins
 
-own-from_host : (att : Att) (m : PortMapping) (addr : Addr) (f : Family) → list_all (λ x. is_own att x.tag) (from_host att m addr f) ≡ true
-own-from_host att m addr V4 = grind (arith, att_eq-refl att)
-own-from_host att m addr V6 = refl
-
-own-masquerades_of : (snat : Bool) (att : Att) (ip : IpEntry) (m : PortMapping) → list_all (λ x. is_own att x.tag) (masquerades_of snat att ip m) ≡ true
-own-masquerades_of true att ip m = grind (arith, att_eq-refl att, own-from_host att m ip.address.addr ip.address.addr.family)
-own-masquerades_of false att ip m = refl
-
-own-rules_for : (snat : Bool) (att : Att) (m : PortMapping) (ip : Option IpEntry) → list_all (λ x. is_own att x.tag) (rules_for snat att m ip) ≡ true
-own-rules_for snat att m None = refl
-own-rules_for snat att m (Some ip) = list_all-if (λ (x : Rule). is_own att x.tag) (host_ip_allows m.host_ip ip.address.addr) (dnat_of att m ip.address.addr ∷ masquerades_of snat att ip m)
-    (grind (arith, att_eq-refl att, own-masquerades_of snat att ip m))
-
-own-portmap : (conf : PortmapConf) (att : Att) (mappings : List PortMapping) (ips : List IpEntry) → list_all (λ x. is_own att x.tag) (portmap_rules conf att mappings ips) ≡ true
-own-portmap conf att mappings ips =
-    list_all-each_key_once (λ x. is_own att x.tag) rule_eq (flat_map (mapping_rules conf.snat att ips) mappings)
-    (list_all-flat (λ x. is_own att x.tag) (mapping_rules conf.snat att ips)
-    (λ m. list_all-append (λ x. is_own att x.tag) (rules_for conf.snat att m _) (rules_for conf.snat att m _) (own-rules_for conf.snat att m _) (own-rules_for conf.snat att m _)) mappings)
-
-own-firewall : (att : Att) (ips : List IpEntry) → list_all (λ x. is_own att x.tag) (firewall_rules att ips) ≡ true
-own-firewall att ips =
-    list_all-each_key_once (λ x. is_own att x.tag) rule_eq (flat_map (forward_of att) ips) (list_all-flat (λ x. is_own att x.tag) (forward_of att) (λ ip. grind (arith, att_eq-refl att)) ips)
-
 own-rules_of : (c : Chained) (att : Att) (mappings : List PortMapping) (ips : List IpEntry) → list_all (λ x. is_own att x.tag) (rules_of c att mappings ips) ≡ true
-own-rules_of (Portmap conf) att mappings ips = own-portmap conf att mappings ips
-own-rules_of (Firewall conf) att mappings ips = own-firewall att ips
+own-rules_of (Portmap conf) att mappings ips = own-portmap_rules conf att mappings ips
+own-rules_of (Firewall conf) att mappings ips = own-firewall_rules att ips
 own-rules_of (Tuning conf) att mappings ips = refl
 
 own-settings_of : (c : Chained) (att : Att) (netns : List ℕ) → list_all (λ x. is_own att x.tag) (settings_of c att netns) ≡ true
 own-settings_of (Portmap conf) att netns = refl
 own-settings_of (Firewall conf) att netns = refl
-own-settings_of (Tuning conf) att netns =
-    list_all-each_key_once (λ x. is_own att x.tag) is_same_setting (map (setting_of att netns) conf.sysctl) (list_all-every (λ x. is_own att x.tag) (setting_of att netns) (λ s. att_eq-refl att) conf.sysctl)
+own-settings_of (Tuning conf) att netns = own-settings conf att netns
 
 own-tuned : (b : Bool) (f : Link → Link) (att : Att) (links : List Link) → ((l : Link) → is_own att (f l).tag ≡ is_own att l.tag) → list_all (λ x. is_own att x.tag) links ≡ true → list_all (λ x. is_own att x.tag) (if b then map f links else links) ≡ true
 own-tuned true f att links keeps h = list_all-map (λ x. is_own att x.tag) f (λ x. is_own att x.tag) (λ l own. keeps l ∙ own) links h

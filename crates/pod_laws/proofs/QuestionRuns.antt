@@ -1,5 +1,5 @@
 -- A CHECK and a STATUS only ask.
-use Rattle.std.proofs.Common.{◌≡◌, ℕ, ◌+◌, Bool, true, List, [], ◌∷◌, ◌++◌, Some, slice_get, refl, sym, ◌∙◌, ap, subst, inl, inr, arith}
+use Rattle.std.proofs.Common.{◌≡◌, ℕ, ◌+◌, Bool, true, List, [], ◌∷◌, ◌++◌, Some, slice_get, refl, sym, ◌∙◌, ap, subst, inl, inr}
 use Rattle.std.specs.List.{list_all}
 use Rattle.net_conf.specs.declared.list.NetList.{NetList}
 use Rattle.pod_file.specs.declared.command.Command.{Command}
@@ -10,7 +10,8 @@ use Rattle.kernel_types.specs.declared.call.Call.TheVariants.{CacheGet}
 use Rattle.plan_words.specs.Share.{Share}
 use Rattle.cni_verbs.specs.CommandWords.{att_of}
 use Rattle.cni_verbs.specs.Script.{State, FindingEntry, Asking, Changing, Collecting, Over, Calls, turn}
-use Rattle.pod_workers.specs.Plans.{Placed, commands_of, is_of_network}
+use Rattle.pod_file.specs.Commands.{is_of_network}
+use Rattle.pod_workers.specs.Plans.{Placed, commands_of}
 use Rattle.pod_workers.specs.World.{World, after, entry_of, host_of, host_on}
 use Rattle.pod_workers.specs.declared.plan.Entry.{Entry}
 use Rattle.pod_workers.specs.declared.plan.Plan.{Plan}
@@ -18,11 +19,12 @@ use Rattle.pod_workers.proofs.Histories.{after-append}
 use Rattle.pod_workers.proofs.Order.{ready_is}
 use Rattle.pod_workers.proofs.Splits.{split_nil, split_snoc}
 use Rattle.pod_laws.specs.Granted.{EachQuestionLeavesTheHost, only_asks}
-use Rattle.pod_laws.proofs.CutOff.{clash}
 use Rattle.pod_laws.proofs.Runs.{IsRunFact, StartsWith, every-run-now, own-state}
 use Rattle.pod_laws.proofs.States.{IsAside, IsOtherVerb, LeftFit, aside-advance, aside-start, asks, head_fits, is_question, question-leaves}
 use Rattle.pod_laws.proofs.Steps.{Changes, GoesOn, by-entries, on-entry}
 use Rattle.pod_laws.proofs.Turns.{change-of}
+use Rattle.pod_laws.proofs.Tests.{clash}
+use Rattle.pod_laws.proofs.Entries.{same-place}
 
 -- ---- its calls
 
@@ -66,10 +68,6 @@ Leaves p before e = after p.pods.opening (before ++ e ∷ []) ≡ after p.pods.o
 
 abbrev AllLeave : Plan → List Entry → Type 0
 AllLeave p h = (m : ℕ) (d : Placed) (before later : List Entry) (e : Entry) → slice_get (commands_of p) m ≡ Some d → only_asks d.command.verb ≡ true → e.command ≡ m + 1 → h ≡ before ++ e ∷ later → Leaves p before e
-
--- the last entry is of the ready command
-same-place : (n m : ℕ) (e x : Entry) → e.command ≡ m + 1 → x ≡ e → x.command ≡ n + 1 → m ≡ n
-same-place n m e x number same own = let b : x.command ≡ e.command = ap (λ (y : Entry). y.command) same in omega (arith, number, b, own)
 
 leave-kept : (w : World) (n : ℕ) (c : Placed) (list : NetList) (call : Call) (faulty : Bool) → GoesOn w n c list call faulty → AllLeave w.plan w.history → AllLeave w.plan (w.history ++ entry_of (host_of w) n call faulty ∷ [])
 leave-kept w n c list call faulty on was = λ m d before later e at only number is.

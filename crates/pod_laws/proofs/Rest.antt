@@ -17,7 +17,8 @@ use Rattle.kernel_types.specs.declared.object.Tag.TheVariants as tags
 use Rattle.kernel_types.specs.declared.call.Call.{Call}
 use Rattle.kernel_types.specs.declared.call.Call.TheVariants.{BridgeEnsure, GatewayEnsure, ForwardEnsure, NsChange, Outside}
 use Rattle.plan_words.proofs.KeyLists.{filter-push_dropped, filter-push_kept, filter-within}
-use Rattle.pod_workers.specs.Plans.{Placed, is_of_network}
+use Rattle.pod_file.specs.Commands.{is_of_network}
+use Rattle.pod_workers.specs.Plans.{Placed}
 use Rattle.pod_workers.specs.World.{World, after, entry_of, host_of, host_on}
 use Rattle.pod_workers.specs.declared.plan.Entry.{Entry}
 use Rattle.pod_workers.specs.declared.plan.Plan.{Plan}
@@ -29,6 +30,7 @@ use Rattle.pod_laws.specs.Apart.{is_outside, GrowsAtEnd, KeepsShared, KeepsTheRe
 use Rattle.pod_laws.proofs.Bridges.{turn-inside}
 use Rattle.pod_laws.proofs.Steps.{Changes, GoesOn, by-entries, on-entry}
 use Rattle.pod_laws.proofs.Turns.{change-of, turn-of}
+use Rattle.pod_laws.proofs.Tests.{clash}
 
 -- ---- what is unowned is the same
 
@@ -217,9 +219,6 @@ keep-kept w n c list call faulty on was =
     (λ f. rest-call (host_of w) call (sound_host w on.legal) (on.allowed f) (turn-inside c.command call (turn-of w n c list call faulty on))) in
     keep-next w x (record { outside = λ m d at number verb. both.outside; shared = both.shared }) was
 
-not-both : (b : Bool) → b ≡ true → b ≡ false → ⊥
-not-both b h g = cc
-
 keep-changed : (w : World) (n : ℕ) (c : Placed) (call : Call) (faulty : Bool) → Changes w n c call faulty → AllKeep w.plan w.history → AllKeep w.plan (w.history ++ entry_of (host_of w) n call faulty ∷ [])
 keep-changed w n c call faulty on was =
     let x = entry_of (host_of w) n call faulty in
@@ -231,7 +230,7 @@ keep-changed w n c call faulty on was =
       outside = λ m d at number verb.
           let place : m ≡ n = let a : n + 1 ≡ m + 1 = number in omega (arith, a) in
           let same : d ≡ c = ready_is w n m c d on.ready place at in
-          absurd (not-both (is_of_network c.command.verb) (ap (λ (z : Placed). is_of_network z.command.verb) (sym same) ∙ verb) change.verb_is);
+          absurd (clash (is_of_network c.command.verb) (ap (λ (z : Placed). is_of_network z.command.verb) (sym same) ∙ verb) change.verb_is);
       shared = shared;
     }) was
 

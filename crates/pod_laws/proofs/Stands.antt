@@ -55,9 +55,11 @@ use Rattle.pod_laws.proofs.Bridges.{BridgeIn, BridgeComes, HasBridge, bridge_of,
 use Rattle.pod_laws.proofs.Footing.{IsMacvlan, bridge_for, lies_on, lies-calls, lies-host, lie-back, lie-before, no_link-macvlan}
 use Rattle.pod_laws.proofs.Fronts.{untuned-links}
 use Rattle.pod_laws.proofs.States.{LeftFit, asks, head_fits, is_question}
-use Rattle.pod_laws.proofs.Runs.{every-run-now, own-state, state_by}
+use Rattle.pod_laws.proofs.RunFacts.{state_by}
+use Rattle.pod_laws.proofs.Runs.{every-run-now, own-state}
 use Rattle.pod_laws.proofs.Steps.{GoesOn}
 use Rattle.pod_laws.proofs.Turns.{AsksOrCollects, work-turn}
+use Rattle.pod_laws.proofs.Tests.{middle-passes}
 
 -- ---- the bridge that a call names is the list's
 
@@ -139,10 +141,6 @@ bridged-back list att netns mappings addrs =
     (bridged-append list.first chain put (bridged-all_chained list.first list.chained att netns mappings (first_plugin_result list att netns addrs)) refl)
 
 -- ---- one of a list
-
-middle-passes : {X : Type 0} (p : X → Bool) (xs : List X) (y : X) (ys : List X) → list_all p (xs ++ y ∷ ys) ≡ true → p y ≡ true
-middle-passes p [] y ys h = grind (arith, h)
-middle-passes p (x ∷ xs) y ys h = middle-passes p xs y ys (grind (arith, h))
 
 no_more : {X : Type 0} (ms xs : List X) (x : X) → [] ≡ ms ++ x ∷ xs → ⊥
 no_more [] xs x e = cc

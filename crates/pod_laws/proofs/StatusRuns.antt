@@ -36,9 +36,10 @@ use Rattle.pod_laws.specs.Granted.{grants, only_asks}
 use Rattle.pod_laws.specs.Moments.{has_fault, host_at_end, own_entries}
 use Rattle.pod_laws.proofs.Asking.{Each, EndsAsked, HasAsked, IsAsking, all-both, and-true, asked-all, asked-none, asked-reply, calm-more, denied-some, each-append, each-at, fault-last, tells}
 use Rattle.pod_laws.proofs.CutOff.{over-by}
-use Rattle.pod_laws.proofs.HostRuns.{HostFact, IsHostFact, StartsOn, every-host_run}
+use Rattle.pod_laws.proofs.RunFacts.{HostFact, IsHostFact, StartsOn, each-run}
 use Rattle.pod_laws.proofs.QuestionRuns.{question-entered}
 use Rattle.pod_laws.proofs.Runs.{own-state}
+use Rattle.pod_laws.proofs.SteadyHosts.{KeepsAsked, asked-kept}
 
 -- ---- its questions
 
@@ -148,7 +149,7 @@ status-own list c es e (Asking q qs) host faulty is turn_is a = status-reply lis
 status-own list c es e (Over ending given) host faulty is turn_is a = cc
 status-own list c es e _ host faulty is turn_is a = absurd a
 
-status-step : IsHostFact AsksStatus
+status-step : IsHostFact KeepsAsked AsksStatus
 status-step w n c list call faulty old on keeps was = λ verb.
     let e = entry_of (host_of w) n call faulty in
     let es = own_entries n w.history in
@@ -171,7 +172,7 @@ was_available w legal n c list a at listed verb is whole =
     let es = own_entries n w.history in
     let host = host_at_end w n in
     let over = over-by w legal n c list a at listed is whole in
-    let last = every-host_run AsksStatus status-start status-step w legal n c list at listed verb in
+    let last = each-run KeepsAsked AsksStatus asked-kept status-start status-step w legal n c list at listed verb in
     elim over.state_is [
       | inl ends ↦ status-over list c.command es host a over.ending over.given (subst (λ st. StatusAt list c.command es st host) ends last) over.answer_is
       | inr swept ↦ absurd (subst (λ st. StatusAt list c.command es st host) swept.collecting last)

@@ -1,7 +1,7 @@
 -- What a command asks of a host stays between its entries: its attachment's share, each bridge, and all where it stands alone.
 use Rattle.std.proofs.Common.{◌≡◌, ◌≢◌, ℕ, ◌+◌, Bool, true, false, not, List, [], ◌∷◌, ◌++◌, Some, None, slice_get, refl, sym, ◌∙◌, ap, subst, inl, inr, ◌⊎◌, arith}
-use Rattle.std.specs.Prelude.{◌&&◌, filter}
-use Rattle.std.specs.List.{list_any, list_all}
+use Rattle.std.specs.Prelude.{◌&&◌}
+use Rattle.std.specs.List.{list_any}
 use Rattle.std.proofs.lemmas.Bool.{cases_Bool}
 use Rattle.std.proofs.lemmas.Bool.Decides.{eqb_tells}
 use Rattle.cni_addr.specs.declared.mac.Mac.{Mac}
@@ -12,15 +12,13 @@ use Rattle.kernel_types.specs.Allowed.{IsAllowed}
 use Rattle.kernel_types.specs.Apply.{apply}
 use Rattle.kernel_types.specs.Equal.{mac_eq}
 use Rattle.kernel_types.specs.Isolation.{ensures_shared, is_from_outside}
-use Rattle.kernel_types.specs.Sound.{IsSound, is_owned_kind, link_fits_tag}
-use Rattle.kernel_types.specs.Words.{is_bridge, is_host_bridge, is_owned}
+use Rattle.kernel_types.specs.Sound.{IsSound, link_fits_tag}
+use Rattle.kernel_types.specs.Words.{is_host_bridge, is_owned}
 use Rattle.kernel_types.proofs.EveryCall.{Touches-apply}
 use Rattle.kernel_types.proofs.Isolation.{KeepsUnowned-Touches}
 use Rattle.kernel_types.proofs.ListLemmas.{list_any-append_left, list_any-kept}
 use Rattle.kernel_types.specs.declared.object.Host.{Host}
 use Rattle.kernel_types.specs.declared.object.Link.{Link}
-use Rattle.kernel_types.specs.declared.object.LinkKind.{LinkKind}
-use Rattle.kernel_types.specs.declared.object.LinkKind.TheVariants as linkkinds
 use Rattle.kernel_types.specs.declared.object.Tag.{Tag}
 use Rattle.kernel_types.specs.declared.object.Tag.TheVariants as tags
 use Rattle.kernel_types.specs.declared.call.Call.{Call}
@@ -35,35 +33,22 @@ use Rattle.pod_workers.proofs.Order.{alone_apart, apart}
 use Rattle.pod_workers.proofs.Sound.{sound_host}
 use Rattle.pod_laws.specs.Checked.{has_bridge_at}
 use Rattle.pod_laws.specs.Moments.{until_last}
-use Rattle.pod_laws.proofs.Bridges.{turn-inside}
-use Rattle.pod_laws.proofs.CutOff.{clash}
+use Rattle.pod_laws.proofs.Bridges.{turn-inside, own_kind}
 use Rattle.pod_laws.proofs.Entries.{is_of-own, is_of-other, until_last-own, until_last-other}
+use Rattle.pod_laws.proofs.RunFacts.{IsKeptBetween}
 use Rattle.pod_laws.proofs.Steps.{AllOpen, GoesOn, IsOpenKept, OpenFact, by-open, on-entry}
 use Rattle.pod_laws.proofs.Turns.{alone-collecting, alone-outside, other-entered, other_att, turn-of}
+use Rattle.pod_laws.proofs.Tests.{any-filtered, none-by, clash}
 
 -- ---- a bridge of the host stays, with its MAC address
 
 abbrev is_bridge_with : List ℕ → Mac → Link → Bool
 is_bridge_with name mac l = is_host_bridge name l && mac_eq l.mac mac
 
-own_kind : (ns : List ℕ) (k : LinkKind) → is_owned_kind ns k ≡ true → is_bridge k ≡ false
-own_kind ns linkkinds.Device h = cc
-own_kind ns linkkinds.Bridge h = cc
-own_kind ns linkkinds.Veth h = refl
-own_kind ns (linkkinds.Macvlan mode) h = refl
-
 bridge-unowned : (name : List ℕ) (mac : Mac) (l : Link) (t : Tag) → link_fits_tag l t ≡ true → (is_bridge_with name mac l && not (not (is_owned t))) ≡ false
 bridge-unowned name mac l tags.Outside h = grind arith
 bridge-unowned name mac l tags.Base h = grind arith
 bridge-unowned name mac l (tags.Own att) h = let k = own_kind l.ns l.kind h in grind (arith, k)
-
-none-by : {X : Type 0} (q r : X → Bool) → ((x : X) → q x ≡ true → r x ≡ false) → (xs : List X) → list_all q xs ≡ true → list_any r xs ≡ false
-none-by q r w [] h = refl
-none-by q r w (x ∷ xs) h = grind (arith, w x, none-by q r w xs)
-
-any-filtered : {X : Type 0} (p q : X → Bool) (xs : List X) → list_any p (filter q xs) ≡ true → list_any p xs ≡ true
-any-filtered p q [] h = h
-any-filtered p q (x ∷ xs) h = grind (arith, h, any-filtered p q xs)
 
 -- each bridge of the one host is in the other
 abbrev pub KeepsBridges : Host → Host → Type 0
@@ -172,3 +157,7 @@ steady-kept w n c call faulty goes still = λ m d at is_open.
 
 pub all-steady : (w : World) → Legal w → AllOpen IsSteady w
 all-steady w legal = by-open IsSteady (λ p m d. inl refl) steady-kept w legal
+
+-- what a command asks is kept between its entries
+pub asked-kept : IsKeptBetween KeepsAsked
+asked-kept = record { same = keeps-same; since = all-steady }

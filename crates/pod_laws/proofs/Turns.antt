@@ -25,10 +25,11 @@ use Rattle.plan_words.specs.Share.{share_of}
 use Rattle.plan_words.proofs.OtherCalls.{share-other, call-plan}
 use Rattle.cni_verbs.specs.CommandWords.{att_of, netns_refusal, drop_refusal}
 use Rattle.cni_verbs.specs.Script.{State, AtBegin, BeforeLeases, Leasing, AfterLeases, ReadingCache, Deleting, FindingEntry, Asking, Changing, Collecting, Over, Calls, turn, turn_of_work, unless_refused, flush_by, outside_of, outside_start, outside_advance, outside_from}
-use Rattle.cni_verbs.specs.Sweep.{Job, Step, Look, Delete, Sweep, step_call}
+use Rattle.cni_verbs.specs.Sweep.{Job, Step, AskCached, Delete, Sweep, step_call}
 use Rattle.cni_verbs.specs.Wanted.{deletion}
 use Rattle.cni_verbs.specs.declared.answer.Cause.{Cause}
-use Rattle.pod_workers.specs.Plans.{Placed, commands_of, is_of_network}
+use Rattle.pod_file.specs.Commands.{is_of_network}
+use Rattle.pod_workers.specs.Plans.{Placed, commands_of}
 use Rattle.pod_workers.specs.World.{World, host_on, host_of, own_replies, entry_of}
 use Rattle.pod_workers.proofs.Order.{alone_apart}
 use Rattle.pod_workers.proofs.Planned.{LeftArePlanned, left-are-planned}
@@ -62,7 +63,7 @@ abbrev pub IsTurnOf : Command → Call → Type 0
 IsTurnOf c call = (is_call_of (att_of c) call ≡ true) ⊎ AsksOrCollects c call
 
 step-turn : (c : Command) (att : Att) (step : Step) → c.verb ≡ verbs.Gc → AsksOrCollects c (step_call att step)
-step-turn c att Look gc = inl refl
+step-turn c att AskCached gc = inl refl
 step-turn c att (Delete kind) gc = inr (record { verb = gc; att = att; kind = kind; deletes = refl })
 
 pub work-turn : (c : Command) (jobs : List Job) (sweeps : List Sweep) (faults : List ℕ) (call : Call) → c.verb ≡ verbs.Gc → turn_of_work c.network jobs sweeps faults ≡ Calls call → AsksOrCollects c call

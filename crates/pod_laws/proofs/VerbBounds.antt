@@ -12,6 +12,7 @@ use Rattle.cni_result.specs.declared.version.Version.TheVariants.{V1_0, V1_1}
 use Rattle.net_conf.specs.declared.first.First.{First}
 use Rattle.net_conf.specs.declared.first.First.TheVariants.{Bridge, Ptp, Macvlan}
 use Rattle.net_conf.specs.declared.list.NetList.{NetList}
+use Rattle.pod_file.specs.Commands.{is_of_network}
 use Rattle.pod_file.specs.declared.command.Command.{Command}
 use Rattle.pod_file.specs.declared.command.Verb.{Verb}
 use Rattle.pod_file.specs.declared.command.Verb.TheVariants as verbs
@@ -37,7 +38,7 @@ use Rattle.pod_workers.specs.World.{World, after, own_replies}
 use Rattle.pod_workers.specs.declared.plan.Entry.{Entry}
 use Rattle.pod_workers.proofs.MostCalls.{adds_in_most_calls}
 use Rattle.pod_workers.proofs.StepsLeft.{IsNoCollection}
-use Rattle.pod_laws.specs.Bounded.{EachAddHasMost, EachChangeIsOneCall, EachRunIsBounded, IsFirst, asked_of, had_after, is_from_outside}
+use Rattle.pod_laws.specs.Bounded.{EachAddHasMost, EachChangeIsOneCall, EachRunIsBounded, IsFirst, asked_of, had_after}
 use Rattle.pod_laws.proofs.Bounded.{made-below, made-within, one-call}
 
 -- ---- questions
@@ -126,10 +127,6 @@ start-unless_old : (most : ℕ) (list : NetList) (c : Command) (v : Version) (s 
 start-unless_old most list c V1_0 s bound starts = record { none = tt; few = λ had. omega arith }
 start-unless_old most list c V1_1 s bound starts = starts
 
-start-if : (most : ℕ) (list : NetList) (c : Command) (b : Bool) (s t : State) (bound : Share → ℕ) → StartsIn most list c s bound → StartsIn most list c t bound → StartsIn most list c (if b then s else t) bound
-start-if most list c true s t bound h g = h
-start-if most list c false s t bound h g = g
-
 start-asking : (most : ℕ) (list : NetList) (c : Command) (questions : List Question) → StartsIn most list c (asking questions) (λ had. length questions)
 start-asking most list c [] = record { none = tt; few = λ had. omega arith }
 start-asking most list c (q ∷ qs) = record { none = tt; few = λ had. omega arith }
@@ -150,7 +147,7 @@ start-status most list c = start-unless_old most list c list.version (asking (st
 start-nothing : (most : ℕ) (list : NetList) (c : Command) → StartsIn most list c (Over Yes []) (λ had. 0)
 start-nothing most list c = record { none = tt; few = λ had. omega arith }
 
-start-outside : (most : ℕ) (list : NetList) (c : Command) (verb : Verb) → is_from_outside verb ≡ true → Starts most list c verb (λ had. 0)
+start-outside : (most : ℕ) (list : NetList) (c : Command) (verb : Verb) → is_of_network verb ≡ false → Starts most list c verb (λ had. 0)
 start-outside most list c verbs.NsAdd is = start-nothing most list c
 start-outside most list c verbs.NsDel is = start-nothing most list c
 start-outside most list c verbs.Drop is = start-nothing most list c
@@ -258,7 +255,7 @@ run_is_bounded w legal n c list at listed =
           no-replies (own_replies w n) (made-below w legal n c list most0 0 at listed in_most0 starts.none starts.few);
     }
 
-one-by-list : (w : World) → Legal w → (n : ℕ) (c : Placed) (o : Option NetList) → slice_get (commands_of w.plan) n ≡ Some c → is_from_outside c.command.verb ≡ true → list_for w.plan c.command ≡ o → length (own_replies w n) ≤ 1
+one-by-list : (w : World) → Legal w → (n : ℕ) (c : Placed) (o : Option NetList) → slice_get (commands_of w.plan) n ≡ Some c → is_of_network c.command.verb ≡ false → list_for w.plan c.command ≡ o → length (own_replies w n) ≤ 1
 one-by-list w legal n c None at is by = one-call w legal n c at by
 one-by-list w legal n c (Some list) at is by =
     let most = most_calls list c.command in

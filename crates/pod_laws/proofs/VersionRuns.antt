@@ -6,9 +6,8 @@ use Rattle.pod_file.specs.declared.command.Verb.{Verb}
 use Rattle.pod_file.specs.declared.command.Verb.TheVariants as verbs
 use Rattle.plan_words.specs.Share.{Share}
 use Rattle.cni_addr.specs.declared.address.Addr.{Addr}
-use Rattle.kernel_types.specs.declared.call.Call.{Call}
 use Rattle.cni_verbs.specs.Answers.{answer_of}
-use Rattle.cni_verbs.specs.Script.{State, Over, Calls, start_of, turn}
+use Rattle.cni_verbs.specs.Script.{State, Over, start_of, turn}
 use Rattle.cni_verbs.specs.declared.answer.Answer.{Answer}
 use Rattle.cni_verbs.specs.declared.answer.Answer.TheVariants as answers
 use Rattle.cni_verbs.specs.declared.answer.Ending.{Ending}
@@ -16,7 +15,7 @@ use Rattle.cni_verbs.specs.declared.answer.Ending.TheVariants.{Versions}
 use Rattle.pod_workers.specs.declared.plan.Entry.{Entry}
 use Rattle.pod_laws.specs.Changed.{VersionsAreTheLists}
 use Rattle.pod_laws.proofs.CutOff.{over-by}
-use Rattle.pod_laws.proofs.Due.{IsOver}
+use Rattle.pod_laws.proofs.Due.{IsOver, over-calls}
 use Rattle.pod_laws.proofs.Runs.{IsRunFact, StartsWith, every-run, own-state}
 
 abbrev OnlyTells : NetList → Command → List Entry → State → Share → Type 0
@@ -28,10 +27,6 @@ tells-start_of list c _ is = cc
 
 tells-start : StartsWith OnlyTells
 tells-start list c s = λ verb. (refl, tells-start_of list c c.verb verb)
-
-over-calls : (c : Command) (ending : Ending) (given : List Addr) (call : Call) → turn c (Over ending given) ≡ Calls call → ⊥
-unfolding turn
-over-calls c ending given call is = cc
 
 tells-step : IsRunFact OnlyTells
 tells-step w n c list call faulty on was = λ verb.

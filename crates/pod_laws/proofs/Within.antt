@@ -33,8 +33,10 @@ use Rattle.plan_words.proofs.Refusals.{refused-same, refused-lease}
 use Rattle.cni_verbs.specs.CommandWords.{att_of}
 use Rattle.cni_verbs.specs.Script.{State, AtBegin, BeforeLeases, Leasing, AfterLeases, ReadingCache, Deleting, FindingEntry, Asking, Changing, Collecting, Over, Calls, turn, state_after}
 use Rattle.cni_verbs.specs.Wanted.{kinds_of, deletion}
+use Rattle.pod_file.specs.WellFormed.{IsOpening}
 use Rattle.pod_workers.specs.Legal.{Legal}
-use Rattle.pod_workers.specs.Plans.{Placed, IsOpening, IsWellFormed, is_of_network, list_for}
+use Rattle.pod_file.specs.Commands.{is_of_network}
+use Rattle.pod_workers.specs.Plans.{Placed, IsWellFormed, list_for}
 use Rattle.pod_workers.specs.World.{World, after, entry_of, host_of, host_on, own_replies}
 use Rattle.pod_workers.specs.declared.plan.Entry.{Entry}
 use Rattle.pod_workers.specs.declared.plan.Plan.{Plan}
@@ -159,7 +161,7 @@ opening-share att host opening =
     rw (links, addresses, routes, rules, settings, leases, cached) refl
 
 within-start : (p : Plan) → IsWellFormed p → AllWithin p []
-within-start p well = λ att list listed. subst (IsWithin (kinds_of list)) (sym (opening-share att p.pods.opening well.opening)) (IsWithin-nothing (kinds_of list))
+within-start p well = λ att list listed. subst (IsWithin (kinds_of list)) (sym (opening-share att p.pods.opening well.pods.opening)) (IsWithin-nothing (kinds_of list))
 
 within-mine : (w : World) (n : ℕ) (c : Placed) (list : NetList) (call : Call) (faulty : Bool) → GoesOn w n c list call faulty → IsWithin (kinds_of list) (share_of (att_of c.command) (host_of w))
     → IsWithin (kinds_of list) (share_of (att_of c.command) (host_on (host_of w) (entry_of (host_of w) n call faulty)))

@@ -1,8 +1,6 @@
 -- An entry of one attachment leaves all others alone, and what none owns.
-use Rattle.std.specs.Prelude.{◌≡◌, ℕ, ◌+◌, Bool, true, false, not, ◌&&◌, List, [], ◌∷◌, ◌++◌, filter, Some, slice_get}
-use Rattle.std.specs.Str.{bytes_eq}
+use Rattle.std.specs.Prelude.{◌≡◌, ℕ, ◌+◌, Bool, true, false, List, [], ◌∷◌, ◌++◌, filter, Some, slice_get}
 use Rattle.cni_verbs.specs.CommandWords.{att_of}
-use Rattle.cni_verbs.specs.Sweep.{is_valid}
 use Rattle.kernel_types.specs.Equal.{att_eq}
 use Rattle.kernel_types.specs.Isolation.{KeepsWhere}
 use Rattle.kernel_types.specs.Touch.{is_base}
@@ -11,11 +9,12 @@ use Rattle.kernel_types.specs.declared.object.Host.{Host}
 use Rattle.kernel_types.specs.declared.object.Tag.{Tag}
 use Rattle.kernel_types.specs.declared.object.Tag.TheVariants.{Outside, Base, Own}
 use Rattle.plan_words.specs.Share.{share_of}
-use Rattle.pod_file.specs.declared.command.Command.{Command}
 use Rattle.pod_file.specs.declared.command.Verb.{Verb}
 use Rattle.pod_file.specs.declared.command.Verb.TheVariants as verbs
+use Rattle.gc_sweep.specs.Keep.{stays}
 use Rattle.pod_workers.specs.Legal.{Legal}
-use Rattle.pod_workers.specs.Plans.{Placed, commands_of, is_of_network}
+use Rattle.pod_file.specs.Commands.{is_of_network}
+use Rattle.pod_workers.specs.Plans.{Placed, commands_of}
 use Rattle.pod_workers.specs.World.{World, after}
 use Rattle.pod_workers.specs.declared.plan.Entry.{Entry}
 use Rattle.pod_workers.specs.declared.plan.Plan.{Plan}
@@ -39,21 +38,11 @@ EachEntryLeavesOthers = (w : World) → Legal w → (n : ℕ) (c : Placed) (befo
     → slice_get (commands_of w.plan) n ≡ Some c → e.command ≡ n + 1 → leaves_others c.command.verb ≡ true → att_eq (att_of c.command) other ≡ false → w.history ≡ before ++ e ∷ later
     → share_of other (after w.plan.pods.opening (before ++ e ∷ [])) ≡ share_of other (after w.plan.pods.opening before)
 
--- an attachment of the command's network that its valid list leaves out
-abbrev pub is_stale : Command → Att → Bool
-is_stale c att = bytes_eq att.network c.network && not (is_valid c.valid att)
-
--- what a garbage collection keeps: all but the objects of stale attachments
-abbrev pub is_kept_by : Command → Tag → Bool
-is_kept_by c Outside = true
-is_kept_by c Base = true
-is_kept_by c (Own att) = not (is_stale c att)
-
 -- each entry of a garbage collection leaves all that it keeps, list by list (CNI specification, section 3, "Garbage-collecting unused resources")
 abbrev pub EachCollectionTakesTheStaleAlone : Type 0
 EachCollectionTakesTheStaleAlone = (w : World) → Legal w → (n : ℕ) (c : Placed) (before later : List Entry) (e : Entry)
     → slice_get (commands_of w.plan) n ≡ Some c → e.command ≡ n + 1 → c.command.verb ≡ verbs.Gc → w.history ≡ before ++ e ∷ later
-    → KeepsWhere (is_kept_by c.command) (after w.plan.pods.opening before) (after w.plan.pods.opening (before ++ e ∷ []))
+    → KeepsWhere (stays c.command.network c.command.valid) (after w.plan.pods.opening before) (after w.plan.pods.opening (before ++ e ∷ []))
 
 -- ---- what no attachment owns
 

@@ -1,5 +1,5 @@
 -- How many calls a run makes at most.
-use Rattle.std.specs.Prelude.{◌≡◌, ◌≢◌, ℕ, ◌+◌, ◌*◌, ◌≤◌, Bool, true, false, List, [], ◌∷◌, ◌++◌, length, Some, slice_get}
+use Rattle.std.specs.Prelude.{◌≡◌, ◌≢◌, ℕ, ◌+◌, ◌*◌, ◌≤◌, false, List, [], ◌∷◌, ◌++◌, length, Some, slice_get}
 use Rattle.cni_result.specs.declared.cached.Cached.{Cached}
 use Rattle.cni_verbs.specs.CommandWords.{att_of}
 use Rattle.cni_verbs.specs.Questions.{cached_share}
@@ -8,8 +8,8 @@ use Rattle.gc_sweep.specs.Bound.{kinds_over_plugins}
 use Rattle.kernel_types.specs.declared.call.Reply.TheVariants.{Entry as Found}
 use Rattle.net_conf.specs.declared.list.NetList.{NetList}
 use Rattle.plan_words.specs.Share.{Share, share_of}
+use Rattle.pod_file.specs.Commands.{is_of_network}
 use Rattle.pod_file.specs.declared.command.Command.{Command}
-use Rattle.pod_file.specs.declared.command.Verb.{Verb}
 use Rattle.pod_file.specs.declared.command.Verb.TheVariants as verbs
 use Rattle.pod_workers.specs.CallsLeft.{AddsInAtMost, deletions_of, most_calls}
 use Rattle.pod_workers.specs.Legal.{Legal}
@@ -33,18 +33,6 @@ had_after w c before = share_of (att_of c) (after w.plan.pods.opening before)
 abbrev pub asked_of : Share → ℕ
 asked_of s = length s.links + length s.addresses + length s.routes + length s.rules + length s.settings + length s.leases
 
-abbrev pub is_from_outside : Verb → Bool
-is_from_outside verbs.NsAdd = true
-is_from_outside verbs.NsDel = true
-is_from_outside verbs.Drop = true
-is_from_outside verbs.Flush = true
-is_from_outside verbs.Add = false
-is_from_outside verbs.Check = false
-is_from_outside verbs.Del = false
-is_from_outside verbs.Gc = false
-is_from_outside verbs.Status = false
-is_from_outside verbs.Version = false
-
 -- the calls that a command has made, by its verb
 pub record IsBounded (w : World) (n : ℕ) (c : Placed) (list : NetList) : Type 0 where
   pub add : c.command.verb ≡ verbs.Add → (most : ℕ) → AddsInAtMost list c.command most → length (own_replies w n) ≤ 2 * most + kinds_over_plugins list + 2
@@ -66,4 +54,4 @@ EachAddHasMost = (list : NetList) (c : Command) → AddsInAtMost list c (most_ca
 
 -- a change from outside is one call
 abbrev pub EachChangeIsOneCall : Type 0
-EachChangeIsOneCall = (w : World) → Legal w → (n : ℕ) (c : Placed) → slice_get (commands_of w.plan) n ≡ Some c → is_from_outside c.command.verb ≡ true → length (own_replies w n) ≤ 1
+EachChangeIsOneCall = (w : World) → Legal w → (n : ℕ) (c : Placed) → slice_get (commands_of w.plan) n ≡ Some c → is_of_network c.command.verb ≡ false → length (own_replies w n) ≤ 1

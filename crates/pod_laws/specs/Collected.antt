@@ -18,6 +18,7 @@ use Rattle.pod_workers.specs.Legal.{Legal}
 use Rattle.pod_workers.specs.Plans.{Placed, commands_of, list_for}
 use Rattle.pod_workers.specs.World.{World}
 use Rattle.pod_workers.specs.declared.plan.Entry.{Entry}
+use Rattle.pod_laws.specs.Changed.{is_cut_off}
 use Rattle.pod_laws.specs.Moments.{has_fault, host_at_end, host_at_start, own_entries}
 
 abbrev pub made_of : Entry → Made
@@ -57,12 +58,8 @@ pub record IsFaulty (list : NetList) (c : Command) (entries : List Entry) (new :
   pub excused : AreExcused c.network c.valid (made_in entries) new
   pub answer : a ≡ answers.Refused (error_of list.version c (causes.Faults (fault_numbers 0 (made_in entries))))
 
--- the book gave the answer: memory was refused, or it was stopped
-abbrev pub IsByBook : Answer → Type 0
-IsByBook a = (a ≡ answers.OutOfMemory) ⊎ ((calls : ℕ) × (a ≡ answers.Stopped calls))
-
 abbrev pub IsCollectionAnswer : NetList → Command → List Entry → Host → Host → Answer → Type 0
-IsCollectionAnswer list c entries old new a = IsTooOld list c entries a ⊎ (IsDisabled list entries a ⊎ (IsClean list c entries old new a ⊎ (IsFaulty list c entries new a ⊎ IsByBook a)))
+IsCollectionAnswer list c entries old new a = IsTooOld list c entries a ⊎ (IsDisabled list entries a ⊎ (IsClean list c entries old new a ⊎ (IsFaulty list c entries new a ⊎ (is_cut_off a ≡ true))))
 
 -- each answer of a collection is of one of these kinds, from the host right before its first entry to the one right after its last
 abbrev pub CollectionsAreAnswered : Type 0

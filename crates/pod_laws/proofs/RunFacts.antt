@@ -1,24 +1,34 @@
--- What holds of every run and of the host at its last entry, because its own entries keep it.
-use Rattle.std.proofs.Common.{◌≡◌, ℕ, ◌+◌, Bool, true, false, List, [], ◌∷◌, ◌++◌, length, Some, slice_get, refl, sym, ◌∙◌, ap, subst, inl, inr, arith}
+-- A fact about every run that its own entries keep, where the host keeps enough between them.
+use Rattle.std.proofs.Common.{◌≡◌, ℕ, ◌+◌, Bool, true, false, List, [], ◌∷◌, ◌++◌, length, Some, slice_get, refl, sym, ◌∙◌, ap, subst, inl, inr, ◌⊎◌, arith}
+use Rattle.std.proofs.lemmas.List.{length-map, map-append}
 use Rattle.std.proofs.lemmas.Option.{same_Some, none-some}
 use Rattle.std.proofs.lemmas.Bool.Decides.{eqb_tells}
 use Rattle.net_conf.specs.declared.list.NetList.{NetList}
 use Rattle.pod_file.specs.declared.command.Command.{Command}
 use Rattle.kernel_types.specs.declared.object.Host.{Host}
 use Rattle.kernel_types.specs.declared.call.Call.{Call}
-use Rattle.cni_verbs.specs.Script.{State, advance, start_state}
+use Rattle.cni_verbs.specs.Script.{State, advance, start_state, state_after}
 use Rattle.pod_workers.specs.Legal.{Legal}
 use Rattle.pod_workers.specs.Plans.{Placed, commands_of, list_for}
-use Rattle.pod_workers.specs.World.{World, IsReady, after, host_on, host_of, entry_of}
+use Rattle.pod_workers.specs.World.{World, IsReady, after, host_on, host_of, replies_of, entry_of}
 use Rattle.pod_workers.specs.declared.plan.Entry.{Entry}
 use Rattle.pod_workers.specs.declared.plan.Plan.{Plan}
 use Rattle.pod_workers.proofs.Histories.{after-append}
+use Rattle.pod_workers.proofs.Kept.{state_from-append}
 use Rattle.pod_workers.proofs.Order.{ready_is}
-use Rattle.pod_laws.specs.Moments.{is_of, own_entries, until_last, host_at_end}
-use Rattle.pod_laws.proofs.Entries.{is_of-own, is_of-other, own_entries-own, own_entries-other, replies-own_entries, no-entries, until_last-own, until_last-other}
-use Rattle.pod_laws.proofs.Runs.{state_by, state_by-append}
-use Rattle.pod_laws.proofs.SteadyHosts.{KeepsAsked, all-steady, keeps-same}
-use Rattle.pod_laws.proofs.Steps.{GoesOn, IsKept, IsKeptOutside, by-entries}
+use Rattle.pod_laws.specs.Moments.{is_of, own_entries, until_last}
+use Rattle.pod_laws.proofs.Entries.{is_of-own, is_of-other, own_entries-own, own_entries-other, replies_in, replies-own_entries, no-entries, until_last-own, until_last-other}
+use Rattle.pod_laws.proofs.Steps.{AllOpen, GoesOn, IsKept, IsKeptOutside, by-entries}
+
+-- the state of a run after these entries
+abbrev pub state_by : NetList → Command → List Entry → State
+state_by list c es = state_after list c (replies_in es)
+
+pub state_by-append : (list : NetList) (c : Command) (es : List Entry) (e : Entry) → state_by list c (es ++ e ∷ []) ≡ advance list c (length es + 1) (state_by list c es) e.reply
+state_by-append list c es e =
+    let rs = replies_in es in
+    let long : 0 + length rs + 1 ≡ length es + 1 = let same = length-map es (λ (x : Entry). x.reply) in omega (arith, same) in
+    ap (state_after list c) (map-append (λ (x : Entry). x.reply) es (e ∷ [])) ∙ state_from-append list c 0 (start_state list c) rs e.reply ∙ ap (λ k. advance list c k (state_by list c es) e.reply) long
 
 -- what holds of a run's entries, its state and the host at its last entry
 abbrev pub HostFact : Type 1
@@ -28,31 +38,41 @@ HostFact = NetList → Command → List Entry → State → Host → Type 0
 abbrev pub StartsOn : HostFact → Type 0
 StartsOn F = (list : NetList) (c : Command) (host : Host) → F list c [] (start_state list c) host
 
--- each own entry keeps it, in a host that kept since the last one what the command asks
-abbrev pub IsHostFact : HostFact → Type 0
-IsHostFact F = (w : World) (n : ℕ) (c : Placed) (list : NetList) (call : Call) (faulty : Bool) (old : Host) → GoesOn w n c list call faulty → KeepsAsked c.command old (host_of w)
+-- what a host keeps for a command from one of its entries to the next: of the host as it was and as it is
+abbrev pub Keeping : Type 1
+Keeping = Command → Host → Host → Type 0
+
+-- it is kept where nothing happens, and for each command that isn't answered since its last entry
+pub record IsKeptBetween (R : Keeping) : Type 0 where
+  pub same : (c : Command) (host : Host) → R c host host
+  pub since : (w : World) → Legal w → AllOpen (λ p h m d. (replies_of m h ≡ []) ⊎ R d.command (after p.pods.opening (until_last m h)) (after p.pods.opening h)) w
+
+-- each own entry keeps the fact, in a host that kept this since the last one
+abbrev pub IsHostFact : Keeping → HostFact → Type 0
+IsHostFact R F = (w : World) (n : ℕ) (c : Placed) (list : NetList) (call : Call) (faulty : Bool) (old : Host) → GoesOn w n c list call faulty → R c.command old (host_of w)
     → let e = entry_of (host_of w) n call faulty in
     let es = own_entries n w.history in
     F list c.command es (state_by list c.command es) old → F list c.command (es ++ e ∷ []) (advance list c.command (length es + 1) (state_by list c.command es) e.reply) (host_on (host_of w) e)
 
-abbrev RunAt : HostFact → Plan → List Entry → ℕ → Placed → NetList → Type 0
+abbrev pub RunAt : HostFact → Plan → List Entry → ℕ → Placed → NetList → Type 0
 RunAt F p h m d list = F list d.command (own_entries m h) (state_by list d.command (own_entries m h)) (after p.pods.opening (until_last m h))
 
-abbrev EachRun : HostFact → Plan → List Entry → Type 0
+abbrev pub EachRun : HostFact → Plan → List Entry → Type 0
 EachRun F p h = (n : ℕ) (c : Placed) (list : NetList) → slice_get (commands_of p) n ≡ Some c → list_for p c.command ≡ Some list → RunAt F p h n c list
 
--- the fact about a ready run, at a host since which the host kept what the command asks
-record IsNow (F : HostFact) (w : World) (n : ℕ) (c : Placed) (list : NetList) : Type 0 where
-  old : Host
-  keeps : KeepsAsked c.command old (host_of w)
-  holds : F list c.command (own_entries n w.history) (state_by list c.command (own_entries n w.history)) old
+-- the fact about a ready run, at a host of which enough was kept since
+pub record IsNow (R : Keeping) (F : HostFact) (w : World) (n : ℕ) (c : Placed) (list : NetList) : Type 0 where
+  pub old : Host
+  pub keeps : R c.command old (host_of w)
+  pub holds : F list c.command (own_entries n w.history) (state_by list c.command (own_entries n w.history)) old
 
-run-now : (F : HostFact) → StartsOn F → (w : World) (n : ℕ) (c : Placed) (list : NetList) → Legal w → IsReady w n c → EachRun F w.plan w.history → list_for w.plan c.command ≡ Some list → IsNow F w n c list
-run-now F start w n c list legal ready each listed = elim (all-steady w legal n c ready.there ready.unanswered) [
+run-now : (R : Keeping) (F : HostFact) → IsKeptBetween R → StartsOn F → (w : World) (n : ℕ) (c : Placed) (list : NetList) → Legal w → IsReady w n c → EachRun F w.plan w.history → list_for w.plan c.command ≡ Some list
+    → IsNow R F w n c list
+run-now R F kept start w n c list legal ready each listed = elim (kept.since w legal n c ready.there ready.unanswered) [
   | inl none ↦
       let no_entry : own_entries n w.history ≡ [] = no-entries (own_entries n w.history) (sym (replies-own_entries n w.history) ∙ none) in
       let P : List Entry → Type 0 = λ es. F list c.command es (state_by list c.command es) (host_of w) in
-      record { old = host_of w; keeps = keeps-same c.command (host_of w); holds = subst P (sym no_entry) (start list c.command (host_of w)) }
+      record { old = host_of w; keeps = kept.same c.command (host_of w); holds = subst P (sym no_entry) (start list c.command (host_of w)) }
   | inr keeps ↦ record { old = after w.plan.pods.opening (until_last n w.history); keeps = keeps; holds = each n c list ready.there listed }
 ]
 
@@ -62,8 +82,8 @@ run-other F p m d list h e far was =
     subst (λ l. F list d.command l (state_by list d.command l) (after p.pods.opening (until_last m (h ++ e ∷ [])))) (sym (own_entries-other m h e far))
     (subst (λ l. F list d.command (own_entries m h) (state_by list d.command (own_entries m h)) (after p.pods.opening l)) (sym (until_last-other m h e far)) was)
 
-run-entered : (F : HostFact) → StartsOn F → IsHostFact F → IsKept (EachRun F)
-run-entered F start step w n c list call faulty on each = λ m d other_list at listed.
+run-entered : (R : Keeping) (F : HostFact) → IsKeptBetween R → StartsOn F → IsHostFact R F → IsKept (EachRun F)
+run-entered R F kept start step w n c list call faulty on each = λ m d other_list at listed.
     let h = w.history in
     let e = entry_of (host_of w) n call faulty in
     let opening = w.plan.pods.opening in
@@ -73,7 +93,7 @@ run-entered F start step w n c list call faulty on each = λ m d other_list at l
           let same_list : other_list ≡ list = same_Some other_list list (sym listed ∙ ap (λ (x : Placed). list_for w.plan x.command) same ∙ on.listed) in
           let own : is_of n e ≡ true = is_of-own n e refl in
           let es = own_entries n h in
-          let before = run-now F start w n c list on.legal on.ready each on.listed in
+          let before = run-now R F kept start w n c list on.legal on.ready each on.listed in
           let now = step w n c list call faulty before.old on before.keeps before.holds in
           let at_state = subst (λ st. F list c.command (es ++ e ∷ []) st (host_on (host_of w) e)) (sym (state_by-append list c.command es e)) now in
           let at_entries = subst (λ l. F list c.command l (state_by list c.command l) (host_on (host_of w) e)) (sym (own_entries-own n h e own)) at_state in
@@ -92,7 +112,10 @@ run-changed F w n c call faulty on each = λ m d list at listed.
       | inr f ↦ run-other F w.plan m d list w.history e (is_of-other m e (λ same. f.1 (let s : n + 1 ≡ m + 1 = same in omega (arith, s)))) (each m d list at listed)
     ]
 
-pub every-host_run : (F : HostFact) → StartsOn F → IsHostFact F → (w : World) → Legal w → (n : ℕ) (c : Placed) (list : NetList) → slice_get (commands_of w.plan) n ≡ Some c → list_for w.plan c.command ≡ Some list
-    → F list c.command (own_entries n w.history) (state_by list c.command (own_entries n w.history)) (host_at_end w n)
-every-host_run F start step w legal n c list at listed =
-    by-entries (EachRun F) (λ p well n c list at listed. start list c.command _) (run-entered F start step) (run-changed F) w legal n c list at listed
+-- a fact that holds at the start of each run, and that each own entry keeps, holds of every run at its last entry
+pub each-run : (R : Keeping) (F : HostFact) → IsKeptBetween R → StartsOn F → IsHostFact R F → (w : World) → Legal w → EachRun F w.plan w.history
+each-run R F kept start step w legal = by-entries (EachRun F) (λ p well n c list at listed. start list c.command _) (run-entered R F kept start step) (run-changed F) w legal
+
+-- and of a run that goes on, at its last entry
+pub each-run-now : (R : Keeping) (F : HostFact) → IsKeptBetween R → StartsOn F → IsHostFact R F → (w : World) (n : ℕ) (c : Placed) (list : NetList) (call : Call) (faulty : Bool) → GoesOn w n c list call faulty → IsNow R F w n c list
+each-run-now R F kept start step w n c list call faulty on = run-now R F kept start w n c list on.legal on.ready (each-run R F kept start step w on.legal) on.listed

@@ -1,0 +1,23 @@
+-- Tests of one and of many.
+use Rattle.std.proofs.Common.{◌≡◌, Bool, true, false, List, [], ◌∷◌, ◌++◌, refl, arith}
+use Rattle.std.specs.Prelude.{filter}
+use Rattle.std.specs.List.{list_all, list_any}
+
+-- a test that passes and fails
+pub clash : (b : Bool) → b ≡ true → b ≡ false → ⊥
+clash b h g = cc
+
+-- what passes among some passes among all
+pub any-filtered : {X : Type 0} (p q : X → Bool) (xs : List X) → list_any p (filter q xs) ≡ true → list_any p xs ≡ true
+any-filtered p q [] h = h
+any-filtered p q (x ∷ xs) h = grind (arith, h, any-filtered p q xs)
+
+-- where all pass one test, and none that does passes the other, none passes that
+pub none-by : {X : Type 0} (q r : X → Bool) → ((x : X) → q x ≡ true → r x ≡ false) → (xs : List X) → list_all q xs ≡ true → list_any r xs ≡ false
+none-by q r w [] h = refl
+none-by q r w (x ∷ xs) h = grind (arith, w x, none-by q r w xs)
+
+-- one of a list of which all pass
+pub middle-passes : {X : Type 0} (p : X → Bool) (xs : List X) (y : X) (ys : List X) → list_all p (xs ++ y ∷ ys) ≡ true → p y ≡ true
+middle-passes p [] y ys h = grind (arith, h)
+middle-passes p (x ∷ xs) y ys h = middle-passes p xs y ys (grind (arith, h))
