@@ -1,4 +1,3 @@
-pub mod Alone
 pub mod Ended
 pub mod Joined
 pub mod Lists

@@ -1,7 +1,7 @@
 -- Lists that are read one after another.
-use Rattle.std.proofs.Common.{◌≡◌, ◌∙◌, ◌<◌, ◌≤◌, ℕ, zero, suc, ◌^◌, List, [], ◌∷◌, ◌++◌, refl, sym, ap, subst, arith, append_assoc, append-nil, Ok, Err, inl, inr, length, drop, ◌+◌, Option, Result, is_err, OnOk, true≢false, false}
+use Rattle.std.proofs.Common.{◌≡◌, ◌∙◌, ◌<◌, ◌≤◌, ℕ, suc, List, [], ◌∷◌, ◌++◌, refl, sym, ap, subst, arith, append_assoc, Ok, Err, inl, inr, length, drop, ◌+◌, Option, Result, is_err, OnOk, true≢false, false}
 use Rattle.std.specs.Prelude.{⊤}
-use Rattle.std.specs.List.{Contains, slice_index_or}
+use Rattle.std.specs.List.{slice_index_or}
 use Rattle.cni_io.specs.Faults.{Rose}
 use Rattle.cni_io.specs.Files.{StoredFiles}
 use Rattle.cni_json.specs.Outcome.{◌>>=◌}
@@ -9,21 +9,15 @@ use Rattle.net_conf.specs.declared.list.NetList.{NetList}
 use Rattle.pod_file.specs.declared.pods.Pods.{Pods}
 use Rattle.pod_workers.specs.declared.plan.Plan.{Plan}
 use Rattle.tool_words.specs.declared.words.Words.{Words}
-use Rattle.tool_run.specs.Causes.{IsUnread, Steps, WhereTold}
-use Rattle.tool_run.specs.Lines.{unread_line}
+use Rattle.tool_run.specs.Causes.{Steps, WhereTold}
 use Rattle.tool_run.specs.Verdict.{Told, list_in, lists_in, plan_of, pods_in, told_plan}
 use Rattle.tool_run.specs.declared.plan.Stop.{Stop}
 use Rattle.tool_run.specs.declared.plan.Stop.TheVariants.{Line, Unread, NoMemory}
-use Rattle.std.proofs.Math.ListN.{drop_of_length-le}
 use Rattle.std.proofs.lemmas.List.{drop_more}
 
 -- what is read of the rest stands behind what was read
 abbrev pub behind : List NetList → Told (List NetList) → Told (List NetList)
 behind front rest = rest >>= (λ (lists : List NetList). Ok (front ++ lists))
-
-pub behind-nil : (rest : Told (List NetList)) → behind [] rest ≡ rest
-behind-nil (Ok lists) = refl
-behind-nil (Err line) = refl
 
 behind-cons : (front : List NetList) (list : NetList) (rest : Told (List NetList))
     → behind front (rest >>= (λ (lists : List NetList). Ok (list ∷ lists))) ≡ behind (front ++ list ∷ []) rest
@@ -37,38 +31,10 @@ lists-one_more files front name names list is =
     ap (λ (t : Told NetList). behind front (t >>= (λ (l : NetList). lists_in files names >>= (λ (ls : List NetList). Ok (l ∷ ls))))) is
     ∙ behind-cons front list (lists_in files names)
 
--- the first list that is refused decides
-pub lists-refused : (files : StoredFiles) (front : List NetList) (name : List ℕ) (names : List (List ℕ)) (line : List ℕ) → list_in files name ≡ Err line
-    → behind front (lists_in files (name ∷ names)) ≡ Err line
-lists-refused files front name names line is =
-    ap (λ (t : Told NetList). behind front (t >>= (λ (l : NetList). lists_in files names >>= (λ (ls : List NetList). Ok (l ∷ ls))))) is
-
--- no list is left
-pub lists-done : (files : StoredFiles) (front : List NetList) (names : List (List ℕ)) → names ≡ [] → behind front (lists_in files names) ≡ Ok front
-lists-done files front names none = ap (λ (ns : List (List ℕ)). behind front (lists_in files ns)) none ∙ ap (λ (xs : List NetList). Ok xs) (append-nil front)
-
--- a list among several is one of them
-pub unread_among : (names : List (List ℕ)) (i : ℕ) (name : List ℕ) (before now : ℕ) (line : List ℕ) → i < length names → slice_index_or names i name ≡ name
-    → IsUnread (name ∷ []) before now line → IsUnread names before now line
-unread_among names i name before now line lt at unread = record {
-  file = name;
-  named = (i, lt, at);
-  rose = unread.rose;
-  says = unread.says ∙ ap unread_line (only name unread.file unread.named);
-}
-  where
-    only : (x y : List ℕ) → Contains (x ∷ []) y → y ≡ x
-    only x y (zero, lt, at) = sym at
-    only x y (suc k, lt, at) = absurd (omega arith)
-
 -- a rise is still one later on
 pub rose_later : (before between now : ℕ) → before ≤ between → Rose between now → Rose before now
 rose_later before between now up (inl higher) = inl (omega arith)
 rose_later before between now up (inr top) = inr top
-
-pub rose_before : (before between now : ℕ) → between ≤ now → now < 2 ^ 64 → Rose before between → Rose before now
-rose_before before between now up bound (inl higher) = inl (omega arith)
-rose_before before between now up bound (inr top) = inr (omega arith)
 
 pub pushed : {E : Type 0} (r : Result ⊤ E) (P : Type 0) → is_err r ≡ false → OnOk r P → P
 pushed (Ok u) P ok h = h
@@ -87,27 +53,6 @@ pub rest-next : (files : Option StoredFiles) (names : List (List ℕ)) (front : 
 rest-next files names front i name list lt at rest read = λ stored told.
     rest stored told ∙ ap (λ (ns : List (List ℕ)). behind front (lists_in stored ns)) (here names i name lt at)
     ∙ lists-one_more stored front name (drop (i + 1) names) list (read stored told)
-
--- the loop stops at a list
-pub rest-stops : (files : Option StoredFiles) (start before now : ℕ) (names : List (List ℕ)) (front : List NetList) (i : ℕ) (name : List ℕ) (stop : Stop)
-    → i < length names → name ≡ slice_index_or names i name → start ≤ before → Rest files names front i
-    → Steps {X = NetList} (λ list. list) files before now (name ∷ []) (λ stored. list_in stored name) (Err stop)
-    → Steps {X = List NetList} (λ lists. lists) files start now names (λ stored. lists_in stored names) (Err stop)
-rest-stops files start before now names front i name (Line line) lt at up rest steps = λ stored told.
-    rest stored told ∙ ap (λ (ns : List (List ℕ)). behind front (lists_in stored ns)) (here names i name lt at)
-    ∙ lists-refused stored front name (drop (i + 1) names) line.items (steps stored told)
-rest-stops files start before now names front i name (Unread line) lt at up rest steps = unread_among names i name start now line.items lt (sym at) (record {
-  file = steps.file;
-  named = steps.named;
-  rose = rose_later start before now up steps.rose;
-  says = steps.says;
-})
-rest-stops files start before now names front i name NoMemory lt at up rest steps = tt
-
--- no name is left
-pub rest-done : (files : Option StoredFiles) (names : List (List ℕ)) (front : List NetList) (i : ℕ) → length names ≤ i → Rest files names front i
-    → WhereTold files (λ stored. lists_in stored names ≡ Ok front)
-rest-done files names front i past rest = λ stored told. rest stored told ∙ lists-done stored front (drop i names) (drop_of_length-le names past)
 
 -- ---- the plan
 

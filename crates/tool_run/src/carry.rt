@@ -25,7 +25,8 @@ pub(crate) fn carry_out(alloc: Global, plan: Plan) -> Result<Book<ListKernel>, N
     Ok(book)
 }
 
-fn begin(alloc: Global, plan: Plan) -> Result<Book<ListKernel>, NoMemory>
+/// The plan's book over the kernel of lists, as it is begun.
+pub(crate) fn begin(alloc: Global, plan: Plan) -> Result<Book<ListKernel>, NoMemory>
     requires { IsWellFormed plan }
     ensures begun { IfOk result (λ book. book ≡ begun plan) }
     ensures order { IfOk result IsInFileOrder }

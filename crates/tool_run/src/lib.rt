@@ -19,5 +19,7 @@ mod lines;
 mod plan;
 mod refusals;
 pub mod run;
+#[cfg(test)]
+mod tests;
 
 pub use run::{Outcome, run_alone};

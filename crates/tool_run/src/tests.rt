@@ -1,0 +1,135 @@
+//! Two ADDs of one round, stepped in turn by hand, and the room that an entry of the history takes.
+
+ghost use Rattle.std.specs.Prelude.{◌≤◌, IfOk, length};
+
+use crate::carry::begin;
+use crate::plan::read_plan;
+use cni_addr::{Items, NoMemory, Text};
+use cni_io::{MemFiles, Text1};
+use cni_verbs::Answer;
+use kernel_model::ListKernel;
+use kernel_text::reply_text;
+use pod_workers::{Book, Entry};
+use std::alloc::Global;
+use std::mem::size_of;
+use std::test::Fail;
+use tool_words::Words;
+
+const LIST: &str =
+    "{\"cniVersion\":\"1.1.0\",\"name\":\"pods\",\"plugins\":[{\"type\":\"bridge\",\"ipam\":{\"type\":\"host-local\",\"subnet\":\"10.88.0.0/16\"}}]}";
+
+const APART: &str = "{\"opening\":{\"namespaces\":[\"/ns/a\",\"/ns/b\"]},\"rounds\":[[\
+{\"verb\":\"ADD\",\"network\":\"pods\",\"container\":\"c1\",\"netns\":\"/ns/a\"},\
+{\"verb\":\"ADD\",\"network\":\"pods\",\"container\":\"c2\",\"netns\":\"/ns/b\"}]]}";
+
+const TOGETHER: &str = "{\"opening\":{\"namespaces\":[\"/ns/a\"]},\"rounds\":[[\
+{\"verb\":\"ADD\",\"network\":\"pods\",\"container\":\"c1\",\"netns\":\"/ns/a\"},\
+{\"verb\":\"ADD\",\"network\":\"pods\",\"container\":\"c2\",\"netns\":\"/ns/a\"}]]}";
+
+fn add(alloc: Global, files: &mut MemFiles, name: &str, text: &str) -> Result<(), Fail> {
+    let mut bytes = Vec::new(alloc);
+    bytes.extend_from_slice(text.as_bytes())?;
+    let Ok(name) = Text1::of(alloc, name) else {
+        return Err("no memory for a name".into());
+    };
+    match files.add(name, bytes) {
+        Ok(()) => Ok(()),
+        Err(_) => Err("no memory for a file".into()),
+    }
+}
+
+fn words(alloc: Global) -> Result<Words, NoMemory>
+    ensures { IfOk result (λ words. length words.lists ≤ 64) }
+{
+    let mut lists = Items::new(alloc);
+    lists.push(Text::of(alloc, "net.json")?)?;
+    Ok(Words {
+        threads: 1,
+        stop_at: None,
+        trace: false,
+        dump: false,
+        pods: Text::of(alloc, "pods.json")?,
+        lists,
+    })
+}
+
+/// The book of these pods as it is begun.
+fn book_of(alloc: Global, pods: &str) -> Result<Book<ListKernel>, Fail> {
+    let mut files = MemFiles::new(alloc, Vec::new(alloc));
+    add(alloc, &mut files, "pods.json", pods)?;
+    add(alloc, &mut files, "net.json", LIST)?;
+    let words = words(alloc)?;
+    match read_plan(alloc, &mut files, &words) {
+        Ok(plan) => Ok(begin(alloc, plan)?),
+        Err(_) => Err("the files make no plan".into()),
+    }
+}
+
+/// A step of the first command, then one of the second, and so on, until neither may step.
+fn step_in_turn(book: &mut Book<ListKernel>) {
+    for _ in 0..20 {
+        for number in 1..3u32 {
+            if book.ready(number) {
+                let _ = book.step(number);
+            }
+        }
+    }
+}
+
+/// The entries, a line each: the command and the reply.
+fn lines(alloc: Global, history: &[Entry]) -> Result<String, Fail> {
+    let mut lines = String::new(alloc);
+    for entry in history {
+        let number = entry.command;
+        let reply = reply_text(alloc, &entry.reply)?;
+        let reply = reply.as_str();
+        let line = format!(in alloc; "{number} {reply}\n")?;
+        lines.push_str(line.as_str())?;
+    }
+    Ok(lines)
+}
+
+fn is_added(answer: Option<&Answer>) -> bool {
+    matches!(answer, Some(Answer::Added(_)))
+}
+
+fn code(answer: Option<&Answer>) -> u32 {
+    match answer {
+        Some(Answer::Refused(error)) => error.code,
+        _ => 0,
+    }
+}
+
+#[test]
+fn two_adds_take_turns(rt: HostRuntime) -> Result<(), Fail> {
+    let alloc = rt.alloc();
+    let mut book = book_of(alloc, APART)?;
+    step_in_turn(&mut book);
+    let found = lines(alloc, book.history())?;
+    let wanted =
+        "1 Done\n2 Done\n1 Done\n2 Done\n1 Done\n2 Done\n1 Leased 10.88.0.2\n2 Leased 10.88.0.3\n1 Done\n2 Done\n1 Done\n2 Done\n";
+    assert_eq!(rt; found.as_str(), wanted);
+    assert!(rt; is_added(book.answer(1)) && is_added(book.answer(2)));
+    Ok(())
+}
+
+#[test]
+fn the_second_finds_the_name_taken(rt: HostRuntime) -> Result<(), Fail> {
+    let alloc = rt.alloc();
+    let mut book = book_of(alloc, TOGETHER)?;
+    step_in_turn(&mut book);
+    let found = lines(alloc, book.history())?;
+    let wanted =
+        "1 Done\n2 Done\n1 Done\n2 Done\n1 Done\n2 Taken pods/c1/eth0\n1 Leased 10.88.0.2\n2 Entry none\n1 Done\n2 Gone false\n1 Done\n2 Gone false\n2 Gone false\n";
+    assert_eq!(rt; found.as_str(), wanted);
+    assert!(rt; is_added(book.answer(1)));
+    assert_eq!(rt; code(book.answer(2)), 101);
+    Ok(())
+}
+
+/// So that a change of the types that entries are made of is seen.
+#[test]
+fn an_entry_takes_so_many_bytes(rt: HostRuntime) -> Result<(), Fail> {
+    assert_eq!(rt; size_of::<Entry>(), 528);
+    Ok(())
+}
