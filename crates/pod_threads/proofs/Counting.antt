@@ -1,0 +1,80 @@
+-- Entries of a round are counted.
+use Rattle.std.proofs.Common.{◌≡◌, ℕ, ◌+◌, ◌-◌, ◌≤◌, ◌==◌, ◌&&◌, Bool, true, not, cond, List, [], ◌∷◌, ◌++◌, length, Some, slice_get, refl, sym, ◌∙◌, ap, subst, arith, inl, inr}
+use Rattle.std.specs.List.{All, count_by}
+use Rattle.std.proofs.lemmas.Bool.Decides.{eqb_tells}
+use Rattle.std.proofs.lemmas.List.{length-append}
+use Rattle.std.proofs.lemmas.List.Elements.{All-head, All-tail}
+use Rattle.std.proofs.lemmas.List.Sums.{sum_by-append}
+use Rattle.pod_workers.proofs.RoundDone.{extends_trans}
+use Rattle.pod_workers.specs.Extends.{Extends, IsOfRound, Rounds}
+use Rattle.pod_workers.specs.Plans.{Placed, commands_of}
+use Rattle.pod_workers.specs.World.{World, is_in_round}
+use Rattle.pod_workers.specs.declared.plan.Entry.{Entry}
+use Rattle.pod_workers.specs.declared.plan.Plan.{Plan}
+use Rattle.pod_threads.specs.Counted.{entries_of_round, is_of_round}
+
+-- ---- counts of a list
+
+count-cons : {X : Type 0} (p : X → Bool) (x : X) (xs : List X) → count_by p (x ∷ xs) ≡ cond (p x) 1 0 + count_by p xs
+count-cons p x xs =
+    let one : 0 + cond (p x) 1 0 ≡ cond (p x) 1 0 = omega arith in
+    sum_by-append (λ y. cond (p y) 1 0) (x ∷ []) xs ∙ ap (λ k. k + count_by p xs) one
+
+pub count-same : {X : Type 0} (p q : X → Bool) → ((x : X) → p x ≡ q x) → (xs : List X) → count_by p xs ≡ count_by q xs
+count-same p q same [] = refl
+count-same p q same (x ∷ xs) = count-cons p x xs ∙ ap (λ b. cond b 1 0 + count_by p xs) (same x) ∙ ap (λ k. cond (q x) 1 0 + k) (count-same p q same xs) ∙ sym (count-cons q x xs)
+
+-- ---- entries of a round
+
+same-is-in : (round : ℕ) (c : Placed) → c.round ≡ round → is_in_round round (Some c) ≡ true
+same-is-in round c is = elim (eqb_tells c.round round) [ inl t ↦ t.0 | inr f ↦ absurd (f.1 is) ]
+
+of-round : (p : Plan) (round : ℕ) (e : Entry) → IsOfRound p round e → is_of_round p round e ≡ true
+of-round p round e is =
+    let P : ℕ → Type 0 = λ k. (not (k == 0) && is_in_round round (slice_get (commands_of p) (k - 1))) ≡ true in
+    let place : is.n + 1 - 1 ≡ is.n = omega arith in
+    subst P (sym is.number_is) (elim (eqb_tells (is.n + 1) 0) [
+      | inl t ↦ absurd (let none = t.1 in omega arith)
+      | inr f ↦
+          ap (λ b. not b && is_in_round round (slice_get (commands_of p) (is.n + 1 - 1))) f.0
+          ∙ ap (λ k. is_in_round round (slice_get (commands_of p) k)) place ∙ ap (is_in_round round) is.there ∙ same-is-in round is.placed is.round_is
+    ])
+
+count-all : (p : Plan) (round : ℕ) (es : List Entry) → All (IsOfRound p round) es → entries_of_round p round es ≡ length es
+count-all p round [] all = refl
+count-all p round (e ∷ es) all =
+    count-cons (is_of_round p round) e es ∙ ap (λ b. cond b 1 0 + count_by (is_of_round p round) es) (of-round p round e (All-head (IsOfRound p round) e es all))
+    ∙ ap (λ k. 1 + k) (count-all p round es (All-tail (IsOfRound p round) e es all)) ∙ (omega arith)
+
+count-append : (p : Plan) (round : ℕ) (g h : List Entry) → entries_of_round p round (g ++ h) ≡ entries_of_round p round g + entries_of_round p round h
+count-append p round g h = sum_by-append (λ e. cond (is_of_round p round e) 1 0) g h
+
+-- what a round adds to its entries is what it adds to the history
+pub entries-more : (u w : World) → Extends u w → entries_of_round u.plan u.round w.history + length u.history ≡ entries_of_round u.plan u.round u.history + length w.history
+entries-more u w e =
+    let more = ap (entries_of_round u.plan u.round) e.entries.1 ∙ count-append u.plan u.round u.history e.entries.0 in
+    let all = count-all u.plan u.round e.entries.0 e.entries.2 in
+    let long = ap length e.entries.1 ∙ length-append u.history e.entries.0 in
+    omega (arith, more, all, long)
+
+-- ---- a round that is done by the workers and then to its end
+
+pub rounds-after : (u v w : World) → Extends u v → Rounds v w → Rounds u w
+rounds-after u v w e r = record { last = r.last; legal = r.legal; extends = extends_trans u v r.last e r.extends; over = r.over; next_is = r.next_is }
+
+pub rounds-more : (u w : World) → Rounds u w → entries_of_round u.plan u.round w.history + length u.history ≡ entries_of_round u.plan u.round u.history + length w.history
+rounds-more u w r = subst (λ (v : World). entries_of_round u.plan u.round v.history + length u.history ≡ entries_of_round u.plan u.round u.history + length v.history) (sym r.next_is) (entries-more u r.last r.extends)
+
+no-shorter : (u w : World) → Rounds u w → length u.history ≤ length w.history
+no-shorter u w r =
+    let long = ap length r.extends.entries.1 ∙ length-append u.history r.extends.entries.0 in
+    let same = ap (λ (v : World). length v.history) r.next_is in
+    omega (arith, long, same)
+
+-- the workers made so many entries, so many stood before, and the rest was made at the end
+pub whole-count : (u v w : World) (made before short long total : ℕ) → Extends u v → Rounds v w → length v.history ≡ length u.history + made → before ≡ entries_of_round u.plan u.round u.history
+    → short ≡ length v.history → long ≡ length w.history → total ≡ made + (before + (long - short)) → total ≡ entries_of_round u.plan u.round w.history
+whole-count u v w made before short long total e r made_is before_is short_is long_is total_is =
+    let more = rounds-more u w (rounds-after u v w e r) in
+    let least = no-shorter v w r in
+    omega (arith, more, least, made_is, before_is, short_is, long_is, total_is)

@@ -1,0 +1,4 @@
+pub mod Counting
+pub mod Entered
+pub mod Formed
+pub mod Numbered

@@ -1,0 +1,15 @@
+-- What is known of the value under the lock.
+use Rattle.std.specs.Prelude.{ℕ}
+use Rattle.pod_workers.specs.World.{World}
+use Rattle.pod_workers.specs.declared.plan.StepEnd.{StepEnd}
+use Rattle.pod_workers.specs.declared.plan.StepEnd.TheVariants.{Went, Over}
+
+-- the book's world, and the number of entries that were made since it went in
+pub record Guarded : Type 0 where
+  pub world : World
+  pub total : ℕ
+
+-- how many entries a step makes that ends so
+abbrev pub entries_by : StepEnd → ℕ
+entries_by Went = 1
+entries_by Over = 0

@@ -1,0 +1,54 @@
+//! Which worker steps which command.
+
+ghost use Rattle.std.specs.Prelude.{◌<◌, length};
+
+use crate::counts::current_round;
+use cni_addr::{Duplicate, Text};
+use kernel_model::Kernel;
+use pod_workers::Book;
+use std::alloc::Global;
+use std::collections::HashMap;
+
+/// A command that a worker steps to its answer.
+#[derive(Clone, Copy)]
+pub(crate) struct Owned {
+    pub command: u32,
+    pub worker: usize,
+}
+
+/// The commands of the current round that have no answer, in file order. The round's containers are numbered from 0 by first
+/// occurrence, and the commands of one all go to the worker of its number modulo the number of workers.
+pub(crate) fn share_out<K: Kernel + Drop>(
+    alloc: Global,
+    book: &Book<K>,
+    workers: u8,
+) -> Option<Vec<Owned>>
+    requires some { 0 < workers }
+    requires left { book.now.round < length book.now.plan.pods.rounds }
+{
+    let mut containers: HashMap<Text, usize> = HashMap::new(alloc);
+    let mut owned = Vec::new(alloc);
+    for command in current_round(book) {
+        let place = place_of(&mut containers, &command.container)?;
+        if book.answer(command.number).is_none() {
+            let worker = place % workers as usize;
+            owned
+                .push(Owned {
+                    command: command.number,
+                    worker,
+                })
+                .ok()?;
+        }
+    }
+    Some(owned)
+}
+
+/// The container's number, which is the next one where it is new.
+fn place_of(containers: &mut HashMap<Text, usize>, container: &Text) -> Option<usize> {
+    if let Some(place) = containers.get(container).copied() {
+        return Some(place);
+    }
+    let next = containers.len();
+    containers.insert(container.copy().ok()?, next).ok()?;
+    Some(next)
+}

@@ -1,0 +1,114 @@
+//! A round by several workers.
+
+ghost use Rattle.std.specs.Prelude.{◌≡◌, ◌<◌, ◌≤◌, length, sum, IfOk, IfErr};
+ghost use Rattle.pod_workers.specs.Extends.{Rounds};
+ghost use Rattle.pod_threads.specs.Counted.{entries_of_round};
+
+use crate::counts::{add_first, entries_of_current};
+use crate::gate::Gate;
+use crate::owners::share_out;
+use crate::shared::{Origin, Shared};
+use crate::workers::{gather, places, work};
+use cni_addr::Items;
+use kernel_model::Kernel;
+use pod_workers::Book;
+use std::alloc::Global;
+use std::marker::Brand;
+use std::sync::ledger::{Blank, Ledger};
+use std::sync::{Mutex, Wait};
+use std::thread;
+use std::thread::Threads;
+
+/// The book after a round, and for each worker how many entries it made. The first worker's count has besides the round's
+/// entries that no worker made: those that stood before, and those of commands that were left to be done at the end.
+#[derive(Drop)]
+pub struct Rounded<K: Kernel> {
+    pub book: Book<K>,
+    pub counts: Items<u64>,
+}
+
+/// Does the current round by so many workers, each in a thread of its own where there is one to be had.
+///
+/// A worker steps the commands of its containers in file order, each to its answer, and passes the gate before each step.
+/// What is left open when all workers are done is stepped here in file order. An error is want of memory alone, before any
+/// worker is started. A gate that holds a worker for ever holds this call for ever.
+pub fn round_threads<K: Kernel + Send + Drop, R: Threads + Wait + Sync, G: Gate>(
+    rt: &R,
+    alloc: Global,
+    book: Book<K>,
+    n: u8,
+    gate: &G,
+) -> Result<Rounded<K>, Book<K>>
+    requires some { 1 ≤ n }
+    requires few { n ≤ 16 }
+    requires left { book.round < length book.plan.pods.rounds }
+    ensures rounds { IfOk result (λ r. Rounds book r.book) }
+    ensures many { IfOk result (λ r. length r.counts ≡ n) }
+    ensures counts { IfOk result (λ r. sum r.counts ≡ entries_of_round book.plan book.round r.book.history) }
+    ensures err { IfErr result (λ b. b ≡ book) }
+{
+    round_as::<Brand, Brand, K, R, G>(rt, alloc, book, n, gate, Blank::new(n as u64))
+}
+
+/// The same, with the world of the book that went in and the ledger named.
+fn round_as<
+    J: Origin + Send + Sync,
+    L: Ledger + Send + Sync,
+    K: Kernel + Send + Drop,
+    R: Threads + Wait + Sync,
+    G: Gate,
+>(
+    rt: &R,
+    alloc: Global,
+    book: Book<K>,
+    n: u8,
+    gate: &G,
+    blank: Blank,
+) -> Result<Rounded<K>, Book<K>>
+    requires from { book ≡ J.from }
+    requires name { blank.name ≡ L.name }
+    requires parts { (blank.parts ≡ L.parts) × (blank.parts ≡ n) }
+    requires some { 1 ≤ n }
+    requires left { book.round < length book.plan.pods.rounds }
+    ensures rounds { IfOk result (λ r. Rounds book r.book) }
+    ensures many { IfOk result (λ r. length r.counts ≡ n) }
+    ensures counts { IfOk result (λ r. sum r.counts ≡ entries_of_round book.plan book.round r.book.history) }
+    ensures err { IfErr result (λ b. b ≡ book) }
+{
+    let (made, all) = blank.open::<L>();
+    let Some(owned) = share_out(alloc, &book, n) else {
+        return Err(book);
+    };
+    let Some((mut workers, all)) = places(alloc, n, all) else {
+        return Err(book);
+    };
+    let Ok(counts) = Vec::with_capacity(alloc, n as usize) else {
+        return Err(book);
+    };
+    let before = entries_of_current(&book);
+    let shared = Mutex::new(Shared::<J, L, K>::new(book, made));
+    thread::for_each_mut(
+        rt,
+        workers.as_mut_slice(),
+        n as usize,
+        &|i, worker| { work(rt, &shared, worker, i, owned.as_slice(), gate) },
+    );
+    let (mut all, mut counts) = gather(workers, all, counts);
+    let mut book = shared.into_inner().into_book(&mut all);
+    let made = book.history().len();
+    end_round(&mut book);
+    let rest = book.history().len() - made;
+    add_first(&mut counts, (before + rest) as u64);
+    Ok(Rounded {
+        book,
+        counts: Items::of_vec(counts),
+    })
+}
+
+/// Steps what is left of the current round, and makes the next one current.
+fn end_round<K: Kernel + Drop>(book: &mut Book<K>)
+    requires { book.old.round < length book.old.plan.pods.rounds }
+    ensures { Rounds book.old book.new }
+{
+    book.round_alone();
+}

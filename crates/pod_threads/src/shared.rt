@@ -1,0 +1,120 @@
+//! What lies under the lock.
+
+ghost use Rattle.std.specs.Prelude.{◌≡◌, ◌+◌, ◌<◌, ◌^◌, length};
+ghost use Rattle.pod_workers.specs.Extends.{Extends};
+ghost use Rattle.pod_workers.specs.World.{IsReadyNumber};
+ghost use Rattle.pod_threads.specs.Guarded.{entries_by, Guarded};
+
+use cni_addr::NoMemory;
+use kernel_model::Kernel;
+use pod_workers::{Book, StepEnd};
+use std::marker::{Brand, Model, PhantomData};
+use std::sync::ledger;
+use std::sync::ledger::{Ledger, Share};
+
+/// Names the world of the book that went in. Each round picks its own.
+pub trait Origin {
+    ghost use Rattle.pod_workers.specs.World.{World};
+
+    ghost from: { World };
+}
+
+impl Origin for Brand {
+    ghost use Rattle.pod_threads.specs.Nowhere.{nowhere};
+
+    ghost from = { nowhere };
+}
+
+/// The book, which goes on from the one that went in, and a ledger of the entries made since. Whoever takes the lock finds
+/// this true, and has to leave it so.
+#[derive(Drop)]
+pub struct Shared<J: Origin, L: Ledger, K: Kernel + Drop> {
+    book: Book<K>,
+    made: ledger::Book<L>,
+    of: PhantomData<J>,
+}
+
+impl<J: Origin, L: Ledger, K: Kernel + Drop> Model for Shared<J, L, K> {
+    ghost use Rattle.std.specs.Prelude.{◌≡◌, ◌+◌, length};
+    ghost use Rattle.pod_workers.specs.Extends.{Extends};
+    ghost use Rattle.pod_threads.specs.Guarded.{Guarded};
+
+    ghost Value = { Guarded };
+
+    ghost view = { λ s. record { world = s.book; total = s.made.total } };
+
+    ghost invariant = { λ s. Extends J.from s.book × (length s.book.history ≡ length J.from.history + s.made.total) };
+}
+
+impl<J: Origin, L: Ledger, K: Kernel + Drop> Shared<J, L, K> {
+    /// Nothing is counted yet.
+    pub fn new(book: Book<K>, made: ledger::Book<L>) -> Shared<J, L, K>
+        requires from { book ≡ J.from }
+        requires none { made.total ≡ 0 }
+        ensures { result ≡ record { world = book; total = 0 } }
+    {
+        Shared {
+            book,
+            made,
+            of: PhantomData,
+        }
+    }
+
+    /// Steps a command if it is ready, and says whether a call was made, which counts for the share.
+    pub fn step(&mut self, command: u32, mine: &mut Share<L>) -> StepEnd
+        requires { 0 < mine.old.parts }
+        ensures parts { mine.new.parts ≡ mine.old.parts }
+        ensures amount { mine.new.amount ≡ mine.old.amount + entries_by result }
+        ensures fits { mine.new.amount < 2 ^ 64 }
+    {
+        let end = if self.book.ready(command) {
+            self.enter(command, mine)
+        } else {
+            StepEnd::Over
+        };
+        self.tell(mine);
+        end
+    }
+
+    /// Changes nothing, and tells that a share's amount fits.
+    fn tell(&mut self, mine: &mut Share<L>)
+        ensures parts { mine.new.parts ≡ mine.old.parts }
+        ensures amount { mine.new.amount ≡ mine.old.amount }
+        ensures fits { mine.old.amount < 2 ^ 64 }
+    {
+        let _length = self.book.history().len();
+        self.made.audit(mine);
+    }
+
+    fn enter(&mut self, command: u32, mine: &mut Share<L>) -> StepEnd
+        requires parts { 0 < mine.old.parts }
+        requires ready { IsReadyNumber self.old.world command }
+        ensures parts { mine.new.parts ≡ mine.old.parts }
+        ensures amount { mine.new.amount ≡ mine.old.amount + entries_by result }
+    {
+        match self.book.step(command) {
+            Ok(StepEnd::Went) => {
+                self.made.add(mine, 1);
+                StepEnd::Went
+            }
+            Ok(StepEnd::Over) => StepEnd::Over,
+            Err(NoMemory) => StepEnd::Over,
+        }
+    }
+
+    /// The book, once all shares are in one.
+    pub fn into_book(self, all: &mut Share<L>) -> Book<K>
+        requires { all.old.parts ≡ L.parts }
+        ensures book { result ≡ self.world }
+        ensures extends { Extends J.from result }
+        ensures entries { length result.history ≡ length J.from.history + all.old.amount }
+    {
+        let Shared {
+            book,
+            mut made,
+            of: _,
+        } = self;
+        made.audit(all);
+        book
+    }
+}
