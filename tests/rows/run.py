@@ -9,6 +9,7 @@ A row has the files that lie where the program runs, the words, and what is expe
     stdout      all lines
     answers     the lines of the commands, which come first
     calls       by command number: how many calls it made, or their kinds in order (the words ask for a trace)
+    replies     by command number: the replies to its calls, in order (the words ask for a trace)
     dump        the lines of the dump, or the kinds of its objects where they are single words
     later       instead of what is printed: the file is read, so a refusal is one that comes after reading
 
@@ -61,11 +62,12 @@ def put_file(path, content, lists):
         path.write_text(json.dumps(content, separators=(",", ":")), encoding="utf-8")
 
 
-def calls_of(lines):
-    calls = {}
+def by_command(lines, key):
+    """What the trace's lines have under that key, in order, by command number."""
+    found = {}
     for line in lines:
-        calls.setdefault(str(line["n"]), []).append(line["call"])
-    return calls
+        found.setdefault(str(line["n"]), []).append(line[key])
+    return found
 
 
 def reader_rows():
@@ -93,6 +95,17 @@ def is_read(status, lines):
     return isinstance(error, dict) and LATER.fullmatch(error["msg"]) is not None
 
 
+def trace_differences(row, trace):
+    calls, replies = by_command(trace, "call"), by_command(trace, "reply")
+    for number, made in row.get("calls", {}).items():
+        got = calls.get(number, [])
+        if (len(got) if isinstance(made, int) else got) != made:
+            yield f"calls of command {number}: {got}"
+    for number, due in row.get("replies", {}).items():
+        if replies.get(number, []) != due:
+            yield f"replies to command {number}: {replies.get(number, [])}"
+
+
 def differences(row, status, out):
     """What is other than expected, a text each."""
     if "later" in row:
@@ -106,16 +119,11 @@ def differences(row, status, out):
         yield "no line feed at the end"
     read = [json.loads(line) for line in lines]
     answers = [line for line, value in zip(lines, read) if "verb" in value]
-    calls = calls_of(value for value in read if "call" in value)
     dump = [line for line, value in zip(lines, read) if "kind" in value]
-    wanted = [("stdout", lines), ("answers", answers)]
-    for key, got in wanted:
+    for key, got in (("stdout", lines), ("answers", answers)):
         if key in row and got != [expanded(line) for line in row[key]]:
             yield f"{key}: {json.dumps(got)}"
-    for number, made in row.get("calls", {}).items():
-        got = calls.get(number, [])
-        if (len(got) if isinstance(made, int) else got) != made:
-            yield f"calls of command {number}: {got}"
+    yield from trace_differences(row, [value for value in read if "call" in value])
     if "dump" in row:
         kinds = [json.loads(line)["kind"] for line in dump]
         got = kinds if all(line.isalpha() for line in row["dump"]) else dump
