@@ -1,25 +1,27 @@
 #!/usr/bin/env python3
-"""Looks up what the documents name, and runs the session of the README.
+"""Looks up what the documents name, and runs their examples.
 
     check.py [PROGRAM]
 
-Each file that a document names in backticks is there. Each `crate::item` is an item of that crate. Each definition of
-docs/DEFINITIONS.md stands in the file beside it. docs/INDEX.md names every public definition and function. With a program, each command of the README's session prints what stands
-below it.
+Each file that a document names in backticks is there. Each `crate::item` is an item of that crate, each `crate/edit` an edit that must be
+refused, and each bare name in the documents on the code stands in some crate. Each definition of docs/DEFINITIONS.md stands in the file beside
+it. docs/INDEX.md names every public definition and function. With a program, the documents' sessions and examples are run by examples.py.
 """
 
 import os
 import pathlib
 import re
-import shlex
-import subprocess
 import sys
 
+sys.dont_write_bytecode = True
+
+import examples
 import index
 
 TOP = pathlib.Path(__file__).resolve().parent.parent.parent
 CRATES = {it.name: it for it in (TOP / "crates").iterdir() if (it / "src").is_dir()}
 SUFFIXES = (".antt", ".rt", ".md", ".json", ".py", ".txt", ".edit")
+ON_THE_CODE = ("ARCHITECTURE.md", "DECISIONS.md", "DEFINITIONS.md", "GUARANTEES.md")
 
 
 def documents():
@@ -52,10 +54,24 @@ def missing_files(text):
 
 
 def missing_items(text, sources):
-    for word in re.findall(r"`([a-z_]+::[A-Za-z_:]+)`", text):
+    for word in re.findall(r"`(\w+(?:::\w+)+)`", text):
         crate, *path = word.split("::")
         if crate in sources and not holds(sources[crate], path[-1]):
             yield f"no item {word}"
+
+
+def missing_names(text, sources):
+    known = {*sources, *re.findall(r"\w+", "\n".join(sources.values()))}
+    for word in re.findall(r"`([A-Za-z_]\w*)`", text):
+        if word not in known:
+            yield f"no name {word}"
+
+
+def missing_edits(text):
+    for crate, name in re.findall(r"`(\w+)/([\w-]+)`", text):
+        places = [CRATES[crate] / "must-fail" / f"{name}.edit", CRATES[crate] / name] if crate in CRATES else []
+        if places and not any(it.exists() for it in places):
+            yield f"no edit {crate}/{name}"
 
 
 def missing_definitions(text):
@@ -80,39 +96,26 @@ def missing_definitions(text):
                 yield f"no definition {name} in {', '.join(files)}"
 
 
-def session(text):
-    commands = []
-    for line in text.splitlines():
-        if line.startswith("    $ "):
-            commands.append((line[6:], []))
-        elif commands and line.startswith("    "):
-            commands[-1][1].append(line[4:])
-        elif commands and line.strip():
-            break
-    return commands
-
-
-def wrong_session(text, program):
-    for command, expected in session(text):
-        words = shlex.split(command)
-        if words[0] == "./cnitool":
-            words[0] = str(pathlib.Path(program).resolve())
-        ran = subprocess.run(words, cwd=TOP, capture_output=True, text=True, check=False)
-        if ran.stdout.splitlines() != expected:
-            yield f"the README's session: `{command}` prints something else"
+def wrong_in(path, sources, program):
+    text = path.read_text(encoding="utf-8")
+    yield from missing_files(text)
+    yield from missing_items(text, sources)
+    yield from missing_edits(text)
+    if path.name in ON_THE_CODE:
+        yield from missing_names(text, sources)
+    if path.name == "DEFINITIONS.md":
+        yield from missing_definitions(text)
+    if program:
+        yield from examples.wrong_sessions(text, program)
+        yield from examples.unread_examples(text, program)
 
 
 def main():
+    program = str(pathlib.Path(sys.argv[1]).resolve()) if len(sys.argv) > 1 else None
     sources = {name: texts_of(folder) for name, folder in CRATES.items()}
-    wrong = []
-    for path in documents():
-        text = path.read_text(encoding="utf-8")
-        found = [*missing_files(text), *missing_items(text, sources)]
-        if path.name == "DEFINITIONS.md":
-            found += missing_definitions(text)
-        if path.name == "README.md" and path.parent == TOP and len(sys.argv) > 1:
-            found += wrong_session(text, sys.argv[1])
-        wrong += [f"{path.relative_to(TOP)}: {it}" for it in found]
+    wrong = [f"{path.relative_to(TOP)}: {it}" for path in documents() for it in wrong_in(path, sources, program)]
+    if program:
+        wrong += examples.wrong_first(program)
     if not index.INDEX.exists() or index.INDEX.read_text(encoding="utf-8") != index.index():
         wrong.append("docs/INDEX.md isn't what tests/docs/index.py prints")
     for it in wrong:
