@@ -1,62 +1,84 @@
 #!/usr/bin/env python3
-"""Times the program on pods of one round, and prints ratios within this one run. It is no test.
+"""Times the program on pods of one verb a round, and prints ratios within this one run. It is no test.
 
-Each size N gives three pod files of N containers in N namespaces:
-- faults: N ADDs whose first call is a listed fault, so that no kernel call is made, less the time for the opening alone: what the book costs;
-- adds:   N ADDs;
-- both:   the same, followed by a round of N DELs (to 1,000 only: the kernel over plain lists is slow there).
+    rounds.py [PROGRAM [N ..]]
+
+Each size N gives rounds of N commands, one a container, each timed less the same file without these:
+
+- faults: ADDs whose first call is a listed fault, so that no kernel call is made: what the book costs;
+- gone:   DELs of what isn't there, four kernel calls each on lists that are empty: what the book costs with its calls;
+- adds:   ADDs;
+- dels:   DELs of what the ADDs of a round before made.
+
+`adds` and `dels` show the kernel over plain lists. A time is the processor's, the least of some runs. What isn't over within LIMIT seconds is
+ended, and no figure is given.
 """
-import json, os, subprocess, sys, tempfile, time
+import json, os, resource, subprocess, sys, tempfile
 
 TOP = os.path.dirname(os.path.dirname(os.path.abspath(__file__)))
+LIMIT = 120
+RUNS = 25
+NET = {"cniVersion": "1.1.0", "name": "pods", "plugins": [{"type": "bridge", "ipam": {"type": "host-local", "subnet": "10.0.0.0/8"}}]}
+# the steps of a command: its calls, and the one that gives its answer
+STEPS = {"faults": 2, "gone": 5, "adds": 7, "dels": 8}
 
 
-def pods(count, verbs, faults):
-    def command(verb, i):
-        made = {"verb": verb, "network": "pods", "container": f"c{i}", "netns": f"/ns/{i}"}
-        return {**made, "faults": [1]} if faults else made
-
-    return {
-        "opening": {"namespaces": [f"/ns/{i}" for i in range(count)]},
-        "rounds": [[command(verb, i) for i in range(count)] for verb in verbs],
-    }
+def round_of(verb, count, faults):
+    made = ({"verb": verb, "network": "pods", "container": f"c{i}", "netns": f"/ns/{i}"} for i in range(count))
+    return [{**it, "faults": [1]} if faults else it for it in made]
 
 
-def least(program, folder, runs):
+def files(kind, count):
+    """The pod file of that kind, and the same without the commands that are timed."""
+    opening = {} if kind == "gone" else {"namespaces": [f"/ns/{i}" for i in range(count)]}
+    before = [round_of("ADD", count, False)] if kind == "dels" else []
+    timed = round_of("ADD" if kind in ("faults", "adds") else "DEL", count, kind == "faults")
+    return {"opening": opening, "rounds": [*before, timed]}, {"opening": opening, "rounds": before}
+
+
+def used():
+    children = resource.getrusage(resource.RUSAGE_CHILDREN)
+    return children.ru_utime + children.ru_stime
+
+
+def seconds(program, pods):
+    """The least time of the runs, fewer where they take long; none where one isn't over in time."""
     times = []
-    for _ in range(runs):
-        start = time.perf_counter()
-        subprocess.run([program, "pods.json", "net.json"], cwd=folder, stdout=subprocess.DEVNULL, check=False)
-        times.append(time.perf_counter() - start)
+    with tempfile.TemporaryDirectory() as folder:
+        for file, content in (("pods.json", pods), ("net.json", NET)):
+            with open(f"{folder}/{file}", "w", encoding="utf-8") as it:
+                json.dump(content, it)
+        while len(times) < RUNS and sum(times) < LIMIT / 8:
+            start = used()
+            try:
+                subprocess.run([program, "pods.json", "net.json"], cwd=folder, stdout=subprocess.DEVNULL, check=False, timeout=LIMIT)
+            except subprocess.TimeoutExpired:
+                return None
+            times.append(used() - start)
     return min(times)
 
 
-def timed(program, value, net, runs):
-    with tempfile.TemporaryDirectory() as folder:
-        for file, content in (("pods.json", value), ("net.json", net)):
-            with open(f"{folder}/{file}", "w", encoding="utf-8") as it:
-                json.dump(content, it)
-        return least(program, folder, runs)
+def timed(program, kind, count):
+    whole, without = files(kind, count)
+    most = seconds(program, whole)
+    least = None if most is None else seconds(program, without)
+    return None if least is None else most - least
 
 
 def main():
     program = os.path.abspath(sys.argv[1]) if len(sys.argv) > 1 else f"{TOP}/crates/cnitool/out/cnitool"
-    sizes = [int(it) for it in sys.argv[2:]] or [100, 1000, 10000]
-    net = {"cniVersion": "1.1.0", "name": "pods", "plugins": [{"type": "bridge", "ipam": {"type": "host-local", "subnet": "10.0.0.0/8"}}]}
-    steps = {"faults": 2, "adds": 7, "both": 14}
+    sizes = [int(it) for it in sys.argv[2:]] or [1000, 10000]
     first = {}
     for size in sizes:
-        for name, verbs, faults in (("faults", ["ADD"], True), ("adds", ["ADD"], False), ("both", ["ADD", "DEL"], False)):
-            if name == "both" and size > 1000:
+        for kind, steps in STEPS.items():
+            taken = timed(program, kind, size)
+            if taken is None or taken <= 0:
+                print(f"{kind:7} N={size:6} " + (f"not over within {LIMIT} s" if taken is None else "too short to be timed"), flush=True)
                 continue
-            runs = 7 if size <= 1000 or faults else 1
-            value = pods(size, verbs, faults)
-            seconds = timed(program, value, net, runs)
-            if faults:
-                seconds = max(seconds - timed(program, {**value, "rounds": []}, net, runs), 1e-9)
-            a_step = seconds / (size * steps[name])
-            first.setdefault(name, a_step)
-            print(f"{name:7} N={size:6} {seconds:8.4f} s {1 / a_step:12.0f} steps/s   a step: x{a_step / first[name]:.2f} of N={sizes[0]}", flush=True)
+            a_step = taken / (size * steps)
+            first.setdefault(kind, (size, a_step))
+            base, of_base = first[kind]
+            print(f"{kind:7} N={size:6} {taken:8.4f} s {1 / a_step:12.0f} steps/s   a step: x{a_step / of_base:.2f} of N={base}", flush=True)
 
 
 if __name__ == "__main__":
