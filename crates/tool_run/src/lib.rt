@@ -1,9 +1,10 @@
 //! The top call of the program `cnitool`: words, files, a plan that is carried out on the modelled kernel, and the text.
 //!
-//! What it promises above: [`run_alone`] has one clause for each exit status and its cause (`specs/Statuses.antt`). Where
-//! files and sink tell their bytes, what is written is the text of a legal book of exactly the plan that the definition
-//! `verdict_of` (`specs/Verdict.antt`) makes of the words and the files, or the one line that it gives in place of a plan.
-//! Where no read and no write failed, nothing but want of memory takes the place of that.
+//! What it promises above: [`run_alone`] has one clause for each exit status (`specs/Statuses.antt`): its cause, and
+//! at 6, want of memory, that nothing was written. Where files and sink tell their bytes, what is written is the text of a
+//! legal book of exactly the plan that the definition `verdict_of` (`specs/Verdict.antt`) makes of the words and the
+//! files, or the one line that it gives in place of a plan. Where no read and no write failed, nothing but want of memory
+//! takes the place of that.
 //!
 //! ```text
 //! // words: pods.json net.json

@@ -45,8 +45,8 @@ pub(crate) enum Due {
 
 /// Carries out the plan that the words and the files come to, and writes its text, on one thread.
 ///
-/// The words are those of the program without its name. Nothing is written before the whole text is there. The number of
-/// workers is read and not used: each command runs whole, in file order.
+/// The words are those of the program without its name. The number of threads is read and not used: each command runs
+/// whole, in file order.
 pub fn run_alone<F: Files, S: Sink>(
     alloc: Global,
     words: &[Text],

@@ -13,7 +13,8 @@ const MOST_LISTS: usize = 64;
 /// What the words say.
 #[derive(Drop)]
 pub struct Words {
-    /// How many workers run a round: 1 to 16.
+    /// The number that `--threads` gives, 1 to 16, and 1 where it gives none. Every round runs on one thread, so no
+    /// caller reads it yet.
     pub threads: u8,
     /// The number, from 1, of the history's entry after which the rest of its round is stopped.
     pub stop_at: Option<u32>,
