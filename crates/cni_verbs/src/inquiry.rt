@@ -4,9 +4,8 @@ ghost use Rattle.std.specs.Prelude.{◌≡◌, IfOk, length, option_map, slice_g
 ghost use Rattle.cni_verbs.specs.Phases.{IsReady, questions_about};
 
 use crate::answer::Question;
-use crate::call_copy::copy_call;
 use crate::questions::{check_questions, status_questions};
-use cni_addr::{Items, NoMemory};
+use cni_addr::{Duplicate, Items, NoMemory};
 use cni_result::Cached;
 use kernel_types::Call;
 use net_conf::NetList;
@@ -55,7 +54,7 @@ fn call_of(questions: &[Question], place: usize) -> Result<Option<Call>, NoMemor
     ensures { IfOk result (λ next. next ≡ option_map (λ question. question.call) (slice_get questions.now place)) }
 {
     match questions.get(place) {
-        Some(question) => Ok(Some(copy_call(&question.call)?)),
+        Some(question) => Ok(Some(question.call.copy()?)),
         None => Ok(None),
     }
 }

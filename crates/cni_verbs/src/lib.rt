@@ -19,7 +19,6 @@
 
 mod advance;
 pub mod answer;
-mod call_copy;
 mod check_counts;
 mod counts;
 mod ending;

@@ -7,7 +7,6 @@ ghost use Rattle.cni_verbs.specs.Wanted.{deletion};
 ghost use Rattle.cni_verbs.specs.Script.{before_of, back_of, next_call};
 ghost use Rattle.cni_verbs.specs.Phases.{IsKept, state_in, state_outside};
 
-use crate::call_copy::copy_call;
 use crate::inquiry::call_asked;
 use crate::phase::Phase;
 use crate::wanted::{back_calls, calls_before, deletion, sets_of};
@@ -61,7 +60,7 @@ fn call_at(calls: &[Call], place: usize) -> Result<Option<Call>, NoMemory>
     ensures { IfOk result (λ next. next ≡ slice_get calls.now place) }
 {
     match calls.get(place) {
-        Some(call) => Ok(Some(copy_call(call)?)),
+        Some(call) => Ok(Some(call.copy()?)),
         None => Ok(None),
     }
 }
@@ -137,7 +136,7 @@ pub(crate) fn next_of(
         Phase::ReadingCache(_) | Phase::FindingEntry => cache_get(command),
         Phase::Deleting(passed, _) => deletion_at(command, kinds, *passed),
         Phase::Asking(inquiry) => call_asked(alloc, list, command, inquiry),
-        Phase::Changing(change) => Ok(Some(copy_call(change)?)),
+        Phase::Changing(change) => Ok(Some(change.copy()?)),
         Phase::Denied(_) | Phase::Over(_) => Ok(None),
     }
 }
@@ -148,7 +147,7 @@ pub(crate) fn next_outside(command: &Command, phase: &Phase) -> Result<Option<Ca
     ensures { IfOk result (λ next. next ≡ next_call command.now (state_outside phase.now)) }
 {
     match phase {
-        Phase::Changing(change) => Ok(Some(copy_call(change)?)),
+        Phase::Changing(change) => Ok(Some(change.copy()?)),
         _ => Ok(None),
     }
 }

@@ -14,10 +14,8 @@ use Rattle.kernel_types.specs.declared.object.Tag.TheVariants.{Outside, Base, Ow
 use Rattle.kernel_types.proofs.Cases.{att_eq-refl}
 use Rattle.kernel_types.proofs.Isolation.{att_eq-same, is_own-one}
 use Rattle.pod_file.specs.declared.command.ValidAtt.{ValidAtt}
-use Rattle.cni_verbs.specs.Sweep.{is_named, is_valid}
-use Rattle.gc_sweep.specs.Keep.{name_of, goes}
-use Rattle.kernel_types.specs.Parts as parts
-use Rattle.std.specs.Cmp.Lexicographic.{nat_list_eq_equiv}
+use Rattle.cni_verbs.specs.Sweep.{is_valid}
+use Rattle.gc_sweep.specs.Keep.{goes}
 use Rattle.gc_sweep.specs.Bound.{stale_owners}
 use Rattle.kernel_types.proofs.ListLemmas.{list_all-weaker, list_all-filter}
 use Rattle.gc_sweep.proofs.Lists.{list_any-kept_all}
@@ -26,15 +24,8 @@ use Rattle.gc_sweep.proofs.Lists.{list_any-kept_all}
 abbrev pub is_stale : List ℕ → List ValidAtt → Att → Bool
 is_stale network valid att = bytes_eq att.network network && not (is_valid valid att)
 
-named_same : (a : Att) (v : ValidAtt) → parts.is_named a (name_of v) ≡ is_named a v
-named_same a v = grind (arith, nat_list_eq_equiv.symm a.container v.container, nat_list_eq_equiv.symm a.ifname v.ifname)
-
-valid_same : (a : Att) (valid : List ValidAtt) → list_any (parts.is_named a) (map name_of valid) ≡ is_valid valid a
-valid_same a [] = refl
-valid_same a (v ∷ valid) = grind (arith, named_same a v, valid_same a valid)
-
 pub goes_own : (network : List ℕ) (valid : List ValidAtt) (a : Att) → goes network valid (Own a) ≡ is_stale network valid a
-goes_own network valid a = grind (arith, valid_same a valid)
+goes_own network valid a = grind (arith)
 
 -- a stale attachment's objects go
 pub own_goes : (network : List ℕ) (valid : List ValidAtt) (a : Att) → is_stale network valid a ≡ true → (t : Tag) → is_own a t ≡ true → goes network valid t ≡ true

@@ -5,18 +5,12 @@ ghost use Rattle.std.specs.Option.{option_copied, option_map};
 ghost use Rattle.std.specs.List.{list_any};
 ghost use Rattle.std.specs.Str.{bytes_eq};
 ghost use Rattle.kernel_types.specs.Apply.Calls.{is_free_master};
-ghost use Rattle.kernel_types.specs.Words.{is_at, is_bridge, is_host_ns, is_host_or_ns, is_host_link, is_host_bridge, is_link_of, is_owned, is_peer_at};
+ghost use Rattle.kernel_types.specs.Words.{is_at, is_host_or_ns, is_host_link, is_host_bridge, is_link_of};
 
 use crate::lists::Tagged;
 use cni_addr::{Duplicate, NoMemory, Text};
-use kernel_types::{Link, LinkKey, LinkKind, NsObj, Tag};
-
-/// Whether this is the name of the host's own namespace.
-pub(crate) fn is_host_ns(ns: &Text) -> bool
-    ensures { result ≡ is_host_ns ns.now }
-{
-    ns.as_str().is_empty()
-}
+use kernel_types::words::{is_at, is_host_ns};
+use kernel_types::{Link, NsObj, Tag};
 
 /// Whether a namespace has this name.
 pub(crate) fn has_named_ns(namespaces: &[NsObj], name: &Text) -> bool
@@ -32,34 +26,11 @@ pub(crate) fn is_host_or_ns(namespaces: &[NsObj], ns: &Text) -> bool
     is_host_ns(ns) || has_named_ns(namespaces, ns)
 }
 
-/// Whether the link stands at this place.
-pub(crate) fn is_at(ns: &Text, name: &Text, link: &Link) -> bool
-    ensures { result ≡ is_at ns.now name.now link.now }
-{
-    link.ns == *ns && link.name == *name
-}
-
-/// Whether the peer stands at this place.
-pub(crate) fn is_peer_at(ns: &Text, name: &Text, peer: &Option<LinkKey>) -> bool
-    ensures { result ≡ is_peer_at ns.now name.now peer.now }
-{
-    match peer {
-        Some(key) => key.ns == *ns && key.name == *name,
-        None => false,
-    }
-}
-
-pub(crate) fn is_bridge(kind: LinkKind) -> bool
-    ensures { result ≡ is_bridge kind }
-{
-    matches!(kind, LinkKind::Bridge)
-}
-
 /// The link at this place.
 pub(crate) fn link_at<'a>(links: &'a [Link], ns: &Text, name: &Text) -> Option<&'a Link>
     ensures { option_copied result ≡ find (is_at ns.now name.now) links.now }
 {
-    links.iter().find(|l| is_at(ns, name, l))
+    links.iter().find(|l| is_at(ns.as_str(), name.as_str(), l))
 }
 
 /// Whether the link stands in the host under this name.
@@ -80,7 +51,7 @@ pub(crate) fn host_link<'a>(links: &'a [Link], name: &Text) -> Option<&'a Link>
 pub(crate) fn is_host_bridge(name: &Text, link: &Link) -> bool
     ensures { result ≡ is_host_bridge name.now link.now }
 {
-    is_host_link(name, link) && is_bridge(link.kind)
+    is_host_link(name, link) && link.kind.is_bridge()
 }
 
 /// Whether a bridge of the host has this name.
@@ -90,17 +61,10 @@ pub(crate) fn has_host_bridge(links: &[Link], name: &Text) -> bool
     links.iter().any(|l| is_host_bridge(name, l))
 }
 
-/// Whether some attachment owns what has this tag.
-pub(crate) fn is_owned(tag: &Tag) -> bool
-    ensures { result ≡ is_owned tag.now }
-{
-    matches!(tag, Tag::Own(_))
-}
-
 fn is_free_master(name: &Text, link: &Link) -> bool
     ensures { result ≡ is_free_master name.now link.now }
 {
-    is_host_link(name, link) && !is_owned(&link.tag)
+    is_host_link(name, link) && !link.tag.is_owned()
 }
 
 /// Whether a link of the host that no attachment owns has this name.
@@ -120,7 +84,7 @@ pub(crate) fn has_link_of(links: &[Link], ns: &Text, name: &Text, tag: &Tag) -> 
 fn is_link_of(ns: &Text, name: &Text, tag: &Tag, link: &Link) -> bool
     ensures { result ≡ is_link_of ns.now name.now tag.now link.now }
 {
-    is_at(ns, name, link) && link.tag == *tag
+    is_at(ns.as_str(), name.as_str(), link) && link.tag == *tag
 }
 
 /// A copy of the tag of what was found.

@@ -9,40 +9,8 @@ ghost use Rattle.kernel_types.specs.Words.{is_host_ns, is_owned, is_peer_at, is_
 
 use cni_addr::{Addr, RangeSet, Text};
 use ip_pool::{are_apart, contains_candidate};
-use kernel_types::{Call, Change, Host, Last, Link, LinkKey, LinkKind, Setting, Tag};
-
-fn is_host_ns(ns: &Text) -> bool
-    ensures { result ≡ is_host_ns ns.now }
-{
-    ns.as_str().is_empty()
-}
-
-fn is_owned(tag: &Tag) -> bool
-    ensures { result ≡ is_owned tag.now }
-{
-    matches!(tag, Tag::Own(_))
-}
-
-fn is_peer_at(ns: &Text, name: &Text, peer: &Option<LinkKey>) -> bool
-    ensures { result ≡ is_peer_at ns.now name.now peer.now }
-{
-    match peer {
-        Some(key) => key.ns == *ns && key.name == *name,
-        None => false,
-    }
-}
-
-fn is_veth(kind: LinkKind) -> bool
-    ensures { result ≡ is_veth kind }
-{
-    matches!(kind, LinkKind::Veth)
-}
-
-fn is_macvlan(kind: LinkKind) -> bool
-    ensures { result ≡ is_macvlan kind }
-{
-    matches!(kind, LinkKind::Macvlan(_))
-}
+use kernel_types::words::{is_host_ns, is_peer_at, last_leased};
+use kernel_types::{Call, Change, Host, Link, Setting, Tag};
 
 fn is_same_tag(tag: &Tag, other: &Tag) -> bool
     ensures same { result ≡ true → tag.now ≡ other.now }
@@ -55,8 +23,8 @@ fn is_veth_pair(host_end: &Link, inner_end: &Link) -> bool
     ensures pair { result ≡ true → IsVethPair host_end.now inner_end.now }
     ensures told { IsVethPair host_end.now inner_end.now → result ≡ true }
 {
-    let kinds = is_veth(host_end.kind) & is_veth(inner_end.kind);
-    let tags = is_owned(&host_end.tag) & is_same_tag(&inner_end.tag, &host_end.tag);
+    let kinds = host_end.kind.is_veth() & inner_end.kind.is_veth();
+    let tags = host_end.tag.is_owned() & is_same_tag(&inner_end.tag, &host_end.tag);
     let peers = is_peer_at(&inner_end.ns, &inner_end.name, &host_end.peer)
         & is_peer_at(&host_end.ns, &host_end.name, &inner_end.peer);
     let places = is_host_ns(&host_end.ns) & !is_host_ns(&inner_end.ns);
@@ -67,8 +35,8 @@ fn is_macvlan_link(link: &Link) -> bool
     ensures link { result ≡ true → IsMacvlanLink link.now }
     ensures told { IsMacvlanLink link.now → result ≡ true }
 {
-    let over = is_macvlan(link.kind) & link.master.is_some();
-    let alone = is_owned(&link.tag) & link.peer.is_none();
+    let over = link.kind.is_macvlan() & link.master.is_some();
+    let alone = link.tag.is_owned() & link.peer.is_none();
     over & alone & !is_host_ns(&link.ns)
 }
 
@@ -77,28 +45,7 @@ fn is_attachments_setting(setting: &Setting) -> bool
     ensures inner { result ≡ true → is_host_ns setting.now.ns ≡ false }
     ensures told { is_owned setting.now.tag ≡ true → is_host_ns setting.now.ns ≡ false → result ≡ true }
 {
-    is_owned(&setting.tag) & !is_host_ns(&setting.ns)
-}
-
-fn is_of_pool(network: &Text, number: u32, last: &Last) -> bool
-    ensures { result ≡ is_of_pool network.now number last.now }
-{
-    last.network == *network && last.set == number
-}
-
-fn last_of<'a>(lasts: &'a [Last], network: &Text, number: u32) -> Option<&'a Last>
-    ensures { option_copied result ≡ find (is_of_pool network.now number) lasts.now }
-{
-    lasts.iter().find(|l| is_of_pool(network, number, l))
-}
-
-fn last_leased(host: &Host, network: &Text, number: u32) -> Option<Addr>
-    ensures { result ≡ last_leased host.now network.now number }
-{
-    match last_of(host.lasts.as_slice(), network, number) {
-        Some(last) => Some(last.addr),
-        None => None,
-    }
+    setting.tag.is_owned() & !is_host_ns(&setting.ns)
 }
 
 fn is_candidate_or_none(set: &RangeSet, last: Option<Addr>) -> bool
@@ -122,7 +69,7 @@ fn may_lease(host: &Host, network: &Text, number: u32, set: &RangeSet) -> bool
     ensures last { result ≡ true → is_candidate_or_none set.now (last_leased host.now network.now number) ≡ true }
     ensures told { IsPool set.now → is_candidate_or_none set.now (last_leased host.now network.now number) ≡ true → result ≡ true }
 {
-    is_pool(set) & is_candidate_or_none(set, last_leased(host, network, number))
+    is_pool(set) & is_candidate_or_none(set, last_leased(host.lasts.as_slice(), network, number))
 }
 
 fn is_allowed_change(change: &Change) -> bool
@@ -147,9 +94,9 @@ pub fn is_allowed(host: &Host, call: &Call) -> bool
             inner_end,
         } => is_veth_pair(host_end, inner_end),
         Call::MacvlanAdd { link } => is_macvlan_link(link),
-        Call::AddrAdd { obj } => is_owned(&obj.tag),
-        Call::RouteAdd { obj } => is_owned(&obj.tag),
-        Call::RuleAppend { rule } => is_owned(&rule.tag),
+        Call::AddrAdd { obj } => obj.tag.is_owned(),
+        Call::RouteAdd { obj } => obj.tag.is_owned(),
+        Call::RuleAppend { rule } => rule.tag.is_owned(),
         Call::SettingSet { setting } => is_attachments_setting(setting),
         Call::LeaseNext { att, number, set } => may_lease(host, &att.network, *number, set),
         Call::PoolFree { set, .. } => is_pool(set),

@@ -4,7 +4,6 @@ use Rattle.std.specs.Prelude.{filter}
 use Rattle.std.proofs.lemmas.Slice.Eq.{bytes_eq-Decides}
 use Rattle.kernel_types.specs.Equal.{att_eq}
 use Rattle.kernel_types.specs.Isolation.{KeepsWhere, KeepsPart, KeepsUnowned, names_att, is_from_outside, ensures_shared}
-use Rattle.kernel_types.specs.Parts.{part_of, keep, is_kept, ValidName}
 use Rattle.kernel_types.specs.Words.{is_own, is_owned}
 use Rattle.kernel_types.specs.Touch.{Touches, TouchesOwn, TouchesOwnAlone, TouchesTag, AddsBridge, AddsAddress, AddsSetting, RemovesUnshared, is_base}
 use Rattle.kernel_types.proofs.ChangeLemmas.{filter-ChangesOnly, filter-DropsOnly}
@@ -127,23 +126,6 @@ KeepsPart-Touches (OwnersOf network kind) other old new inside differ touches = 
 KeepsPart-Touches (PoolFree network set) other old new inside differ touches = KeepsWhere-same (is_own other) old new touches
 KeepsPart-Touches (NsChange name add) other old new inside differ touches = cc
 KeepsPart-Touches (Outside change) other old new inside differ touches = cc
-
--- the same where no last is moved, as an equation of hosts
-pub part_of-TouchesOwnAlone : (att other : Att) (old new : Host) → att_eq att other ≡ false → TouchesOwnAlone att old new → part_of other new ≡ part_of other old
-part_of-TouchesOwnAlone att other old new differ touches =
-    let keeps : KeepsPart other old new = KeepsPart-TouchesOwn att other old new differ touches.own in
-    let lasts : new.lasts ≡ old.lasts = touches.lasts in
-    cc
-
--- what a GC is to leave stays where the attachment is none that it keeps
-kept_apart : (network : List ℕ) (valid : List ValidName) (att : Att) → is_kept network valid (tags.Own att) ≡ false → (t : Tag) → is_own att t ≡ true → is_kept network valid t ≡ false
-kept_apart network valid att gone t own = ap (is_kept network valid) (is_own-one att t own) ∙ gone
-
-pub keep-TouchesOwnAlone : (network : List ℕ) (valid : List ValidName) (att : Att) (old new : Host) → is_kept network valid (tags.Own att) ≡ false → TouchesOwnAlone att old new → keep network valid new ≡ keep network valid old
-keep-TouchesOwnAlone network valid att old new gone touches =
-    let keeps : KeepsWhere (is_kept network valid) old new = KeepsWhere-TouchesOwn (is_kept network valid) att old new (kept_apart network valid att gone) touches.own in
-    let lasts : new.lasts ≡ old.lasts = touches.lasts in
-    cc
 
 -- ---- what no attachment owns
 

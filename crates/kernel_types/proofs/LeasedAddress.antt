@@ -98,25 +98,3 @@ after_taken host att number a (Some b) h =
 
 pub last_leased-lease_next : (host : Host) (att : Att) (number : ℕ) (set : RangeSet) (a : Addr) → (lease_next_of host att number set).1 ≡ Leased a → last_leased (lease_next_of host att number set).0 att.network number ≡ Some a
 last_leased-lease_next host att number set a h = after_taken host att number a (pick_of set (last_leased host att.network number) (leased_addresses host att.network)) h
-
--- ---- the lasts of other pools stay
-
-find-step : {X : Type 0} (p : X → Bool) (b : Bool) (x : X) (kept xs : List X) → p x ≡ b → find p kept ≡ find p xs → find p (cond b (x ∷ kept) kept) ≡ cond b (Some x) (find p xs)
-find-step p true x kept xs e h = ap (λ c. cond c (Some x) (find p kept)) e
-find-step p false x kept xs e h = h
-
-find-filter : {X : Type 0} (p : X → Bool) (xs : List X) → find p (filter p xs) ≡ find p xs
-find-filter p [] = refl
-find-filter p (x ∷ xs) = find-step p (p x) x (filter p xs) xs refl (find-filter p xs)
-
-pools_apart : (net : List ℕ) (n : ℕ) (network : List ℕ) (number : ℕ) → (bytes_eq net network && n == number) ≡ false → (l : Last) → is_of_pool net n l ≡ true → is_of_pool network number l ≡ false
-pools_apart net n network number differ l own =
-    let ns : l.network ≡ net = (bytes_eq-Decides l.network net).0 (grind (arith, own)) in
-    let number : l.set ≡ n = grind (arith, nat_tests, own) in
-    rw (ns, number) differ
-
-pub last_leased-ChangesOnly : (net : List ℕ) (n : ℕ) (network : List ℕ) (number : ℕ) (old new : Host) → (bytes_eq net network && n == number) ≡ false → ChangesOnly (is_of_pool net n) old.lasts new.lasts → last_leased new network number ≡ last_leased old network number
-last_leased-ChangesOnly net n network number old new differ changes =
-    let kept = filter-ChangesOnly (is_of_pool net n) (is_of_pool network number) (pools_apart net n network number differ) old.lasts new.lasts changes in
-    ap (option_map (λ l. l.addr))
-    (sym (find-filter (is_of_pool network number) new.lasts) ∙ ap (find (is_of_pool network number)) kept ∙ find-filter (is_of_pool network number) old.lasts)

@@ -7,7 +7,6 @@ use Rattle.std.specs.Cmp.Lexicographic.{nat_list_eq_equiv}
 use Rattle.std.proofs.lemmas.Slice.Eq.{bytes_eq-Decides}
 use Rattle.kernel_types.specs.Equal.{addr_eq, tag_eq}
 use Rattle.kernel_types.specs.Lists.{distinct}
-use Rattle.kernel_types.specs.Parts.{part_of}
 use Rattle.kernel_types.specs.Words.{is_host_or_ns, is_own, is_owned, is_at, is_peer_at, is_link_of}
 use Rattle.kernel_types.specs.Apply.Calls.{goes_with}
 use Rattle.kernel_types.specs.Sound.{IsSound, AreInPlaces, NoNamespaceOwned, NoAddressTwice, is_link_or_peer, address_fits_tag, peer_fits, peers_back, setting_fits_tag}
@@ -66,18 +65,6 @@ none_owned (n ∷ ns) h = grind (arith, h, outside-not_owned n.tag, none_owned n
 
 pub NoNamespaceOwned-sound : (host : Host) → IsSound host → NoNamespaceOwned host
 NoNamespaceOwned-sound host sound = none_owned host.namespaces sound.namespaces.tags
-
-not_owned-not_own : (att : Att) (t : Tag) → is_owned t ≡ false → is_own att t ≡ false
-not_owned-not_own att Outside h = refl
-not_owned-not_own att Base h = refl
-not_owned-not_own att (Own a) h = cc
-
-none-filter : (att : Att) (namespaces : List NsObj) → list_any (λ n. is_owned n.tag) namespaces ≡ false → filter (λ n. is_own att n.tag) namespaces ≡ []
-none-filter att [] h = refl
-none-filter att (n ∷ ns) h = grind (arith, h, not_owned-not_own att n.tag, none-filter att ns)
-
-pub part_of-namespaces : (att : Att) (host : Host) → IsSound host → (part_of att host).namespaces ≡ []
-part_of-namespaces att host sound = none-filter att host.namespaces (NoNamespaceOwned-sound host sound)
 
 -- ---- leases
 

@@ -7,7 +7,6 @@ pub mod Isolation
 pub mod Lists
 pub mod Names
 pub mod Opening
-pub mod Parts
 pub mod Replies
 pub mod Sound
 pub mod Texts

@@ -8,10 +8,15 @@ use std::marker::Model;
 /// A kind of objects that a plugin makes.
 #[derive(Clone, Copy)]
 pub enum Kind {
+    /// Links, with the addresses and routes on them.
     Links,
+    /// Rules of packet filtering and address translation.
     Rules,
+    /// Settings of a namespace.
     Settings,
+    /// Leased addresses.
     Leases,
+    /// The cached result of an attachment.
     Cached,
 }
 
@@ -46,45 +51,61 @@ pub enum Object {
     Lease(Lease),
 }
 
+/// What a check asks whether the host has.
 #[derive(PartialEq, Eq, Drop)]
 pub enum Probe {
+    /// An object that is equal to this one in all of its parts.
     Whole(Object),
+    /// A bridge of the host of this name and hardware address.
     BridgeAt { name: Text, mac: Mac },
+    /// A link of the host of this name that no attachment owns, which a macvlan link may stand on.
     Master { name: Text },
 }
 
 /// What the world outside does.
 #[derive(PartialEq, Eq, Drop)]
 pub enum Change {
+    /// A link of a namespace other than the host's goes, with its peer.
     DropLink(LinkKey),
+    /// All rules of a table go.
     Flush(Table),
 }
 
+/// A call of the kernel. Each is named with what it does where nothing refuses it; `specs/Apply/Calls.antt` has its
+/// equation, with each refusal.
 #[derive(PartialEq, Eq, Drop)]
 pub enum Call {
+    /// Asks whether an attachment may begin: its namespace is there, and nothing is its own yet. Changes nothing.
     Begin {
         att: Att,
         netns: Text,
     },
+    /// A bridge of the host of this name, made where it isn't there; its MTU in bytes.
     BridgeEnsure {
         name: Text,
         mtu: u32,
         promisc: bool,
     },
+    /// The address on the host's bridge, added where it isn't there.
     GatewayEnsure {
         bridge: Text,
         cidr: Cidr,
     },
+    /// Forwarding of the family in the host, turned on where the setting isn't there.
     ForwardEnsure {
         family: Family,
     },
+    /// Both ends of a veth pair.
     VethAdd {
         host_end: Link,
         inner_end: Link,
     },
+    /// A macvlan link on its master.
     MacvlanAdd {
         link: Link,
     },
+    /// The given values of the attachment's link at the place; a mode is turned on where its flag is set, and never
+    /// off.
     LinkSet {
         att: Att,
         key: LinkKey,
@@ -94,77 +115,106 @@ pub enum Call {
         promisc: bool,
         allmulti: bool,
     },
+    /// An address on a link of its owner.
     AddrAdd {
         obj: AddrObj,
     },
+    /// A route over a link of its owner.
     RouteAdd {
         obj: RouteObj,
     },
+    /// A rule at the end of its chain.
     RuleAppend {
         rule: Rule,
     },
+    /// A setting of a namespace.
     SettingSet {
         setting: Setting,
     },
+    /// A lease of the next free address of the set of this number.
     LeaseNext {
         att: Att,
         number: u32,
         set: RangeSet,
     },
+    /// The cached result of the attachment.
     CachePut {
         att: Att,
         cached: Cached,
     },
+    /// The attachment's first link goes, with its peer and what stands on either.
     LinkDel {
         att: Att,
     },
+    /// The attachment's first rule goes.
     RuleDel {
         att: Att,
     },
+    /// The attachment's first setting goes.
     SettingDel {
         att: Att,
     },
+    /// The attachment's first lease goes.
     LeaseDel {
         att: Att,
     },
+    /// The attachment's cached result goes.
     CacheDel {
         att: Att,
     },
+    /// Asks whether the host has what the probe names.
     HasObj {
         probe: Probe,
     },
+    /// Asks for the attachment's cached result.
     CacheGet {
         att: Att,
     },
+    /// Asks which attachments of the network own an object of the kind.
     OwnersOf {
         network: Text,
         kind: Kind,
     },
+    /// Asks whether the set has an address without a lease.
     PoolFree {
         network: Text,
         set: RangeSet,
     },
+    /// The world outside makes a namespace, or takes one away with all that is in it.
     NsChange {
         name: Text,
         add: bool,
     },
+    /// The world outside takes something away.
     Outside {
         change: Change,
     },
 }
 
+/// What the kernel answers to a call.
 #[derive(PartialEq, Eq, Drop)]
 pub enum Reply {
+    /// It is done.
     Done,
+    /// The namespace isn't there.
     NoNs,
+    /// The link that it needs isn't there.
     NoLink,
+    /// Something stands in the place already; the tag says whose it is.
     Taken(Tag),
+    /// The set has no free address.
     Empty,
+    /// The address that was leased.
     Leased(Addr),
+    /// Whether anything was there to remove.
     Gone(bool),
+    /// Whether the host has what was asked for.
     Has(bool),
+    /// The attachments that own an object, each once, in the order of the host's list.
     Owners(Items<Att>),
+    /// The cached result, where there is one.
     Entry(Option<Cached>),
+    /// The call failed and changed nothing. The kernel never answers so: it stands for a listed fault.
     Fault,
 }
 

@@ -8,10 +8,12 @@
 #![tactic(auto)]
 
 pub mod call;
+mod call_copy;
 pub mod laws;
 pub mod link_values;
 pub mod names;
 pub mod object;
+pub mod words;
 
 pub use call::{Call, Change, Given, Kind, Object, Probe, Reply};
 pub use link_values::set_links;

@@ -9,8 +9,11 @@ use cni_result::{Cached, Proto};
 /// Whose an object is.
 #[derive(PartialEq, Eq, Drop)]
 pub enum Tag {
+    /// It was there before, or the world outside made it: nobody here takes it away.
     Outside,
+    /// The attachments of a host share it (a bridge, its gateway, forwarding); it stays.
     Base,
+    /// It is this attachment's own, and goes with it.
     Own(Att),
 }
 
@@ -36,17 +39,25 @@ impl Duplicate for Tag {
     }
 }
 
+/// What a link is.
 #[derive(Clone, Copy, PartialEq, Eq)]
 pub enum LinkKind {
+    /// A device of the machine.
     Device,
+    /// A bridge.
     Bridge,
+    /// One end of a veth pair; its peer is the other.
     Veth,
+    /// A macvlan link on its master.
     Macvlan(MacvlanMode),
 }
 
+/// A table of packet rules.
 #[derive(Clone, Copy)]
 pub enum Table {
+    /// Address translation.
     Nat,
+    /// Filtering.
     Filter,
 }
 
@@ -70,11 +81,16 @@ impl Eq for Table {
     ghost laws = { on_equiv table_code nat_eq_equiv };
 }
 
+/// A chain of packet rules. The plugins' chains of one purpose are one here.
 #[derive(Clone, Copy)]
 pub enum Chain {
+    /// Where a packet for a mapped port of the host gets the container's address.
     Dnat,
+    /// Where a packet of the host or a container to a mapped port gets the host's address.
     HostMasq,
+    /// Where a packet that leaves a container's network gets the host's address.
     Masq,
+    /// Where a packet that is forwarded is accepted.
     Forward,
 }
 
@@ -98,10 +114,14 @@ impl Eq for Chain {
     ghost laws = { on_equiv chain_code nat_eq_equiv };
 }
 
+/// What becomes of a packet that a rule fits.
 #[derive(Clone, Copy, PartialEq, Eq)]
 pub enum Target {
+    /// It passes.
     Accept,
+    /// Its source becomes the address of the link that it leaves by.
     Masquerade,
+    /// Its destination becomes this address and port.
     Dnat { addr: Addr, port: u16 },
 }
 

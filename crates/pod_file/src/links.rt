@@ -13,6 +13,7 @@ ghost use Rattle.pod_file.specs.declared.error.PodError.TheVariants as refusal;
 use crate::error::{PodError, wrong, wrong_member};
 use cni_addr::{Items, Text};
 use cni_json::{Field, Value, field_list, field_str, field_u64};
+use kernel_types::words::is_at;
 use kernel_types::{Link, LinkKind, Tag, link_mac};
 use net_conf::is_interface_name;
 use std::alloc::Global;
@@ -173,13 +174,7 @@ fn not_taken(
 fn is_taken(links: &[Link], ns: &str, name: &str) -> bool
     ensures { result ≡ list_any (words.is_at ns.now name.now) links.now }
 {
-    links.iter().any(|link| is_at(link, ns, name))
-}
-
-fn is_at(link: &Link, ns: &str, name: &str) -> bool
-    ensures { result ≡ words.is_at ns.now name.now link.now }
-{
-    link.ns.as_str() == ns && link.name.as_str() == name
+    links.iter().any(|link| is_at(ns, name, link))
 }
 
 fn wrong_link(alloc: Global, index: usize) -> PodError

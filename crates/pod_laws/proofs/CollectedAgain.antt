@@ -5,10 +5,9 @@ use Rattle.net_conf.specs.declared.list.NetList.{NetList}
 use Rattle.pod_file.specs.Rounds.{is_exclusive_verb}
 use Rattle.pod_file.specs.declared.command.Command.{Command}
 use Rattle.pod_file.specs.declared.command.ValidAtt.{ValidAtt}
-use Rattle.kernel_types.specs.Parts.{is_kept}
 use Rattle.kernel_types.specs.declared.object.Host.{Host}
 use Rattle.cni_verbs.specs.declared.answer.Answer.TheVariants as answers
-use Rattle.gc_sweep.specs.Keep.{IsSublist, keep, name_of}
+use Rattle.gc_sweep.specs.Keep.{IsSublist, keep, stays}
 use Rattle.gc_sweep.specs.Sweep.{Bounds}
 use Rattle.gc_sweep.proofs.Kept.{host_of_parts}
 use Rattle.gc_sweep.proofs.Lists.{sublist_skip}
@@ -76,16 +75,15 @@ between p xs ys lower upper =
 
 kept-same : (c : Command) (old new : Host) → Bounds c old new → keep c.network c.valid new ≡ keep c.network c.valid old
 kept-same c old new b =
-    let names = map name_of c.valid in
     host_of_parts (keep c.network c.valid new) (keep c.network c.valid old)
-    (ap (filter (λ n. is_kept c.network names n.tag)) b.upper.namespaces)
-    (between (λ l. is_kept c.network names l.tag) old.links new.links b.lower.links b.upper.links)
-    (between (λ a. is_kept c.network names a.tag) old.addresses new.addresses b.lower.addresses b.upper.addresses)
-    (between (λ r. is_kept c.network names r.tag) old.routes new.routes b.lower.routes b.upper.routes)
-    (between (λ r. is_kept c.network names r.tag) old.rules new.rules b.lower.rules b.upper.rules)
-    (between (λ s. is_kept c.network names s.tag) old.settings new.settings b.lower.settings b.upper.settings)
-    (between (λ l. is_kept c.network names l.tag) old.leases new.leases b.lower.leases b.upper.leases)
-    (between (λ x. is_kept c.network names x.tag) old.cached new.cached b.lower.cached b.upper.cached)
+    (ap (filter (λ n. stays c.network c.valid n.tag)) b.upper.namespaces)
+    (between (λ l. stays c.network c.valid l.tag) old.links new.links b.lower.links b.upper.links)
+    (between (λ a. stays c.network c.valid a.tag) old.addresses new.addresses b.lower.addresses b.upper.addresses)
+    (between (λ r. stays c.network c.valid r.tag) old.routes new.routes b.lower.routes b.upper.routes)
+    (between (λ r. stays c.network c.valid r.tag) old.rules new.rules b.lower.rules b.upper.rules)
+    (between (λ s. stays c.network c.valid s.tag) old.settings new.settings b.lower.settings b.upper.settings)
+    (between (λ l. stays c.network c.valid l.tag) old.leases new.leases b.lower.leases b.upper.leases)
+    (between (λ x. stays c.network c.valid x.tag) old.cached new.cached b.lower.cached b.upper.cached)
     b.upper.lasts
 
 clean-of : (list : NetList) (c : Command) (es : List Entry) (old new : Host) → IsCollectionAnswer list c es old new answers.Yes → IsClean list c es old new answers.Yes

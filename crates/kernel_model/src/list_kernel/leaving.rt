@@ -8,8 +8,8 @@ ghost use Rattle.kernel_types.specs.declared.object.Link.{Link};
 
 use super::ListKernel;
 use crate::lists::{find_own, take_own};
-use crate::words::{is_at, is_peer_at};
 use cni_addr::Text;
+use kernel_types::words::{is_at, is_peer_at};
 use kernel_types::{AddrObj, Att, Link, LinkKey, Reply, RouteObj};
 
 /// A test of which links leave.
@@ -36,7 +36,8 @@ impl Leaving for AtPlace<'_> {
     ghost leaving = { λ place. goes_with place.ns.now place.name.now };
 
     fn is_leaving(&self, link: &Link) -> bool {
-        is_at(self.ns, self.name, link) || is_peer_at(self.ns, self.name, &link.peer)
+        is_at(self.ns.as_str(), self.name.as_str(), link)
+            || is_peer_at(self.ns, self.name, &link.peer)
     }
 }
 
@@ -69,9 +70,7 @@ fn has_peer_in(name: &Text, peer: &Option<LinkKey>) -> bool
 fn is_left<L: Leaving>(links: &[Link], leaving: &L, ns: &Text, name: &Text) -> bool
     ensures { result ≡ list_any (λ l. L.leaving leaving.now l && is_at ns.now name.now l) links.now }
 {
-    links
-        .iter()
-        .any(|l| leaving.is_leaving(l) && is_at(ns, name, l))
+    links.iter().any(|l| leaving.is_leaving(l) && is_at(ns.as_str(), name.as_str(), l))
 }
 
 /// Drops the addresses on links that leave.

@@ -2,7 +2,6 @@
 
 ghost use Rattle.std.specs.Prelude.{◌≡◌, true, ◌&&◌, [], ◌∷◌, ◌++◌, map, find, IfOk, OnOk, OnErr};
 ghost use Rattle.std.specs.List.{list_any};
-ghost use Rattle.std.specs.Option.{option_copied, option_map};
 ghost use Rattle.std.specs.Str.{bytes_eq};
 ghost use Rattle.cni_addr.specs.Equal.{addr_eq};
 ghost use Rattle.ip_pool.specs.NextAddress.{is_candidate_or_none};
@@ -14,6 +13,7 @@ ghost use Rattle.kernel_types.specs.declared.object.Tag.TheVariants.{Own};
 use super::ListKernel;
 use cni_addr::{Addr, Duplicate, NoMemory, RangeSet, Text};
 use ip_pool::{Taken, has_free, pick};
+use kernel_types::words::last_leased;
 use kernel_types::{Att, Last, Lease, Reply, Tag};
 
 /// The addresses that are leased in a network.
@@ -42,37 +42,16 @@ fn is_leased(leases: &[Lease], network: &Text, addr: &Addr) -> bool
         .any(|l| l.network == *network && l.addr == *addr)
 }
 
-fn is_of_pool(network: &Text, number: u32, last: &Last) -> bool
-    ensures { result ≡ is_of_pool network.now number last.now }
-{
-    last.network == *network && last.set == number
-}
-
-fn last_of<'a>(lasts: &'a [Last], network: &Text, number: u32) -> Option<&'a Last>
-    ensures { option_copied result ≡ find (is_of_pool network.now number) lasts.now }
-{
-    lasts.iter().find(|l| is_of_pool(network, number, l))
-}
-
-pub(super) fn last_leased(lasts: &[Last], network: &Text, number: u32) -> Option<Addr>
-    ensures { result ≡ option_map (λ l. l.addr) (find (is_of_pool network.now number) lasts.now) }
-{
-    match last_of(lasts, network, number) {
-        Some(last) => Some(last.addr),
-        None => None,
-    }
-}
-
 fn has_last(lasts: &[Last], network: &Text, number: u32) -> bool
     ensures { result ≡ list_any (is_of_pool network.now number) lasts.now }
 {
-    lasts.iter().any(|l| is_of_pool(network, number, l))
+    lasts.iter().any(|l| l.is_of_pool(network, number))
 }
 
 fn move_last(last: &mut Last, network: &Text, number: u32, addr: Addr)
     ensures { last.new ≡ moved_last network.now number addr last.old }
 {
-    if is_of_pool(network, number, last) {
+    if last.is_of_pool(network, number) {
         last.addr = addr;
     }
 }

@@ -8,8 +8,9 @@ ghost use Rattle.kernel_types.specs.Words.{is_host_ns};
 ghost use Rattle.kernel_types.specs.Apply.Calls.{bridge_ensure_of, new_bridge, gateway_ensure_of, forward_ensure_of, forward_key};
 
 use super::ListKernel;
-use crate::words::{has_host_bridge, host_link, is_bridge, is_host_ns};
+use crate::words::{has_host_bridge, host_link};
 use cni_addr::{Addr, Cidr, Duplicate, Family, NoMemory, Text};
+use kernel_types::words::is_host_ns;
 use kernel_types::{AddrObj, Link, LinkKind, Reply, Setting, Tag, link_mac};
 use std::alloc::Global;
 
@@ -71,7 +72,7 @@ impl ListKernel {
         ensures err { OnErr result (self.new ≡ self.old) }
     {
         if let Some(link) = host_link(&self.links, name) {
-            return if is_bridge(link.kind) {
+            return if link.kind.is_bridge() {
                 Ok(Reply::Done)
             } else {
                 Ok(Reply::Taken(link.tag.copy()?))

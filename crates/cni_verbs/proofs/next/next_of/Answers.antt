@@ -40,9 +40,9 @@ pub returns-in-Asking : goal.returns-in-Asking
 returns-in-Asking c =
     ok_by c.call_asked.result (next_asking c.args.list.now c.args.command.now _ c.args.given.now c.args.phase.now c.in-Asking.is) c.call_asked.ensures
 
-pub returns-in_ok-copy_call-in-Changing : goal.returns-in_ok-copy_call-in-Changing
-returns-in_ok-copy_call-in-Changing c =
-    ap Some c.in_ok-copy_call-in-Changing.ensures ∙ next_change c.args.list.now c.args.command.now _ c.args.given.now c.args.phase.now c.in-Changing.is
+pub returns-in_ok-copy-in-Changing : goal.returns-in_ok-copy-in-Changing
+returns-in_ok-copy-in-Changing c =
+    ap Some c.in_ok-copy-in-Changing.ensures ∙ next_change c.args.list.now c.args.command.now _ c.args.given.now c.args.phase.now c.in-Changing.is
 
 pub returns-in-Denied : goal.returns-in-Denied
 returns-in-Denied c = next_over c.args.list.now c.args.command.now c.args.given.now c.args.phase.now c.in-Denied.is
