@@ -13,7 +13,7 @@ use Rattle.cni_result.proofs.Lookups.{text_member, list_member, object_member}
 use Rattle.cni_result.specs.Fields.{needed, optional, list_of, in_32_bits}
 use Rattle.cni_json.specs.Each.{each}
 use Rattle.cni_result.specs.Members.{text_data, number_data}
-use Rattle.cni_result.specs.Reading.{domain_of, dns_of, words_at, domain_at, dns_members_at}
+use Rattle.cni_result.specs.Dns.{domain_of, dns_of, words_at, domain_at, dns_members_at}
 use Rattle.cni_result.specs.declared.refusal.ResultError.{ResultError}
 use Rattle.cni_result.specs.declared.result.Dns.{Dns}
 
@@ -32,7 +32,7 @@ number_again blamed None fits = refl
 number_again blamed (Some n) fits = search rules
 
 -- the items of a list, each of which is read again
-pub each_again : {A : Type 0} (print : A → Data) (read : Data → Result A ResultError) (xs : List A) → AllByRecursion (λ x. read (print x) ≡ Ok x) xs → each read (items_of (map print xs)) ≡ Ok xs
+pub each_again : {A E : Type 0} (print : A → Data) (read : Data → Result A E) (xs : List A) → AllByRecursion (λ x. read (print x) ≡ Ok x) xs → each read (items_of (map print xs)) ≡ Ok xs
 each_again print read [] all = refl
 each_again print read (x ∷ xs) all = rw (all.0, each_again print read xs all.1) refl
 

@@ -9,15 +9,18 @@ use Rattle.cni_addr.specs.CidrText.{cidr_of_text}
 use Rattle.cni_addr.specs.MacText.{mac_of_text}
 use Rattle.cni_addr.specs.Value.{AddrValue, CidrValue}
 use Rattle.cni_addr.specs.declared.mac.Mac.{Mac}
-use Rattle.cni_json.specs.Fields.{text_field, u64_field, list_field, object_field}
+use Rattle.cni_json.specs.Fields.{text_field, u64_field, list_field}
 use Rattle.cni_json.specs.Json.{json_of}
 use Rattle.cni_json.specs.Outcome.{◌>>=◌}
 use Rattle.cni_json.specs.declared.fields.Field.{Field}
 use Rattle.cni_json.specs.declared.fields.Field.TheVariants.{Absent, WrongKind, Here}
 use Rattle.cni_json.specs.declared.reading.ReadEnd.{ReadEnd}
 use Rattle.cni_json.specs.declared.reading.ReadEnd.TheVariants as reading
+use Rattle.cni_result.specs.Dns.{dns_of_object}
 use Rattle.cni_result.specs.Fields.{needed, optional, list_of, as_it_is, in_32_bits}
 use Rattle.cni_result.specs.Refusals.{invalid}
+use Rattle.cni_result.specs.declared.dns.DnsError.{DnsError}
+use Rattle.cni_result.specs.declared.dns.DnsError.TheVariants as ends
 use Rattle.cni_result.specs.declared.refusal.ResultError.{ResultError}
 use Rattle.cni_result.specs.declared.refusal.ResultError.TheVariants as refusal
 use Rattle.cni_result.specs.declared.result.AddResult.{AddResult}
@@ -110,46 +113,14 @@ routes_at d = list_of (codes "routes") route_at (list_field (codes "routes") d)
 
 -- ---- name resolution
 
-abbrev pub word_of : Data → Result (List ℕ) ResultError
-word_of null = invalid (codes "dns")
-word_of (boolean b) = invalid (codes "dns")
-word_of (number n) = invalid (codes "dns")
-word_of (string text) = Ok text
-word_of (array ds) = invalid (codes "dns")
-word_of (object ms) = invalid (codes "dns")
-
--- a list of texts
-unfoldable pub words_at : List ℕ → Data → Result (List (List ℕ)) ResultError
-words_at key d = list_of (codes "dns") word_of (list_field key d)
-
-abbrev pub domain_of : Field (List ℕ) → Result (List ℕ) ResultError
-domain_of Absent = Ok []
-domain_of WrongKind = invalid (codes "dns")
-domain_of (Here text) = Ok text
-
--- a domain, empty where absent
-unfoldable pub domain_at : Data → Result (List ℕ) ResultError
-domain_at d = domain_of (text_field (codes "domain") d)
-
-unfoldable pub dns_members_at : Data → Result Dns ResultError
-dns_members_at d = do
-  nameservers ← words_at (codes "nameservers") d
-  domain ← domain_at d
-  searched ← words_at (codes "search") d
-  options ← words_at (codes "options") d
-  Ok (record { nameservers = nameservers; domain = domain; search = searched; options = options })
-
--- nothing is configured
-abbrev pub no_dns : Dns
-no_dns = record { nameservers = []; domain = []; search = []; options = [] }
-
-abbrev pub dns_of : Field Data → Result Dns ResultError
-dns_of Absent = Ok no_dns
-dns_of WrongKind = invalid (codes "dns")
-dns_of (Here d) = dns_members_at d
+-- the configuration that was read; whatever is wrong in it, `dns` is to blame
+abbrev pub dns_or_refused : Result Dns DnsError → Result Dns ResultError
+dns_or_refused (Ok dns) = Ok dns
+dns_or_refused (Err ends.Invalid) = invalid (codes "dns")
+dns_or_refused (Err ends.NoMemory) = Err refusal.NoMemory
 
 unfoldable pub dns_at : Data → Result Dns ResultError
-dns_at d = dns_of (object_field (codes "dns") d)
+dns_at d = dns_or_refused (dns_of_object d)
 
 -- ---- the whole
 

@@ -1,33 +1,51 @@
-//! The configuration of name resolution of a result that is read.
+//! The configuration of name resolution, which results and network lists both have under `dns`.
 
-ghost use Rattle.std.specs.Prelude.{◌≡◌, IfOk, Ok};
+ghost use Rattle.std.specs.Prelude.{◌≡◌, IfOk};
 ghost use Rattle.serde_json.specs.View.{view, items_view};
 ghost use Rattle.cni_json.specs.Outcome.{GivesAs};
 ghost use Rattle.cni_json.specs.Each.{each};
-ghost use Rattle.cni_result.specs.Reading as reading;
-ghost use Rattle.cni_result.specs.Refusals.{is_want_of_memory};
+ghost use Rattle.cni_result.specs.Dns as wanted;
+ghost use Rattle.cni_result.specs.Dns.{is_want_of_memory};
+ghost use Rattle.cni_result.specs.declared.dns.DnsError.TheVariants as ends;
 
-use crate::refusal::{ResultError, invalid};
 use crate::result::Dns;
 use cni_addr::{Items, NoMemory, Text};
 use cni_json::{Field, Value, field_list, field_object, field_str};
 use std::alloc::Global;
 
-/// The configuration; where it is absent each list is empty and the domain is the empty text.
-#[tactic(auto, using(cni_json::proofs::Steps::steps), unfolding(crate::specs::Reading::dns_at))]
-pub(crate) fn dns(alloc: Global, top: &Value) -> Result<Dns, ResultError>
-    ensures { GivesAs is_want_of_memory (λ dns. dns) result (reading.dns_at (view top.now)) }
+/// Why a configuration of name resolution is not read.
+#[derive(Clone, Copy, Debug)]
+pub enum DnsError {
+    /// `dns` is no object, `domain` is no text, or one of the lists is no list of texts.
+    Invalid,
+    /// Memory ran out.
+    NoMemory,
+}
+
+impl From<NoMemory> for DnsError {
+    ghost from_gives = { λ _ e. e ≡ ends.NoMemory };
+
+    fn from(_refused: NoMemory) -> DnsError {
+        DnsError::NoMemory
+    }
+}
+
+/// The configuration under `dns` of an object (CNI specification 1.1.0, sections 1 and 5). Where it is absent each list
+/// is empty and the domain is the empty text.
+#[tactic(auto, using(cni_json::proofs::Steps::steps), unfolding(crate::specs::Dns::dns_of_object))]
+pub fn read_dns(alloc: Global, object: &Value) -> Result<Dns, DnsError>
+    ensures { GivesAs is_want_of_memory (λ dns. dns) result (wanted.dns_of_object (view object.now)) }
 {
-    match field_object(top, "dns") {
+    match field_object(object, "dns") {
         Field::Absent => Ok(no_dns(alloc)?),
-        Field::WrongKind => Err(invalid(alloc, "dns")),
+        Field::WrongKind => Err(DnsError::Invalid),
         Field::Here(members) => dns_members(alloc, members),
     }
 }
 
 /// Nothing is configured: each list is empty and the domain is the empty text.
 pub fn no_dns(alloc: Global) -> Result<Dns, NoMemory>
-    ensures { IfOk result (λ dns. dns ≡ reading.no_dns) }
+    ensures { IfOk result (λ dns. dns ≡ wanted.no_dns) }
 {
     Ok(Dns {
         nameservers: Items::new(alloc),
@@ -37,9 +55,9 @@ pub fn no_dns(alloc: Global) -> Result<Dns, NoMemory>
     })
 }
 
-#[tactic(auto, using(cni_json::proofs::Steps::steps), unfolding(crate::specs::Reading::dns_members_at))]
-fn dns_members(alloc: Global, members: &Value) -> Result<Dns, ResultError>
-    ensures { GivesAs is_want_of_memory (λ dns. dns) result (reading.dns_members_at (view members.now)) }
+#[tactic(auto, using(cni_json::proofs::Steps::steps), unfolding(crate::specs::Dns::dns_members_at))]
+fn dns_members(alloc: Global, members: &Value) -> Result<Dns, DnsError>
+    ensures { GivesAs is_want_of_memory (λ dns. dns) result (wanted.dns_members_at (view members.now)) }
 {
     let nameservers = words(alloc, members, "nameservers")?;
     let domain = domain(alloc, members)?;
@@ -53,31 +71,31 @@ fn dns_members(alloc: Global, members: &Value) -> Result<Dns, ResultError>
     })
 }
 
-#[tactic(auto, using(cni_json::proofs::Steps::steps), unfolding(crate::specs::Reading::domain_at))]
-fn domain(alloc: Global, members: &Value) -> Result<Text, ResultError>
-    ensures { GivesAs is_want_of_memory (λ text. text) result (reading.domain_at (view members.now)) }
+#[tactic(auto, using(cni_json::proofs::Steps::steps), unfolding(crate::specs::Dns::domain_at))]
+fn domain(alloc: Global, members: &Value) -> Result<Text, DnsError>
+    ensures { GivesAs is_want_of_memory (λ text. text) result (wanted.domain_at (view members.now)) }
 {
     match field_str(members, "domain") {
         Field::Absent => Ok(Text::of(alloc, "")?),
-        Field::WrongKind => Err(invalid(alloc, "dns")),
+        Field::WrongKind => Err(DnsError::Invalid),
         Field::Here(text) => Ok(Text::of(alloc, text)?),
     }
 }
 
-#[tactic(auto, using(cni_json::proofs::Steps::steps), unfolding(crate::specs::Reading::words_at))]
-fn words(alloc: Global, members: &Value, key: &str) -> Result<Items<Text>, ResultError>
-    ensures { GivesAs is_want_of_memory (λ words. words) result (reading.words_at key.now (view members.now)) }
+#[tactic(auto, using(cni_json::proofs::Steps::steps), unfolding(crate::specs::Dns::words_at))]
+fn words(alloc: Global, members: &Value, key: &str) -> Result<Items<Text>, DnsError>
+    ensures { GivesAs is_want_of_memory (λ words. words) result (wanted.words_at key.now (view members.now)) }
 {
     match field_list(members, key) {
         Field::Absent => Ok(Items::new(alloc)),
-        Field::WrongKind => Err(invalid(alloc, "dns")),
+        Field::WrongKind => Err(DnsError::Invalid),
         Field::Here(list) => all_words(alloc, list),
     }
 }
 
 #[tactic(auto, using(cni_json::proofs::Steps::steps))]
-fn all_words(alloc: Global, list: &[Value]) -> Result<Items<Text>, ResultError>
-    ensures { GivesAs is_want_of_memory (λ words. words) result (each reading.word_of (items_view list.now)) }
+fn all_words(alloc: Global, list: &[Value]) -> Result<Items<Text>, DnsError>
+    ensures { GivesAs is_want_of_memory (λ words. words) result (each wanted.word_of (items_view list.now)) }
 {
     let mut found = Items::new(alloc);
     for entry in list {
@@ -88,11 +106,11 @@ fn all_words(alloc: Global, list: &[Value]) -> Result<Items<Text>, ResultError>
 }
 
 #[tactic(auto, using(cni_json::proofs::Steps::steps))]
-fn word(alloc: Global, entry: &Value) -> Result<Text, ResultError>
-    ensures { GivesAs is_want_of_memory (λ text. text) result (reading.word_of (view entry.now)) }
+fn word(alloc: Global, entry: &Value) -> Result<Text, DnsError>
+    ensures { GivesAs is_want_of_memory (λ text. text) result (wanted.word_of (view entry.now)) }
 {
     match entry {
         Value::String(text) => Ok(Text::of(alloc, text.as_str())?),
-        _ => Err(invalid(alloc, "dns")),
+        _ => Err(DnsError::Invalid),
     }
 }

@@ -11,7 +11,7 @@
 #![tactic(auto)]
 
 pub mod cached;
-mod dns;
+pub mod dns;
 mod entries;
 pub mod error;
 mod fields;
@@ -26,7 +26,7 @@ mod tests;
 pub mod version;
 
 pub use cached::{Cached, PortMapping, Proto};
-pub use dns::no_dns;
+pub use dns::{DnsError, no_dns, read_dns};
 pub use error::CniError;
 pub use members::{JsonObject, ToJson, list_value};
 pub use printing::{error_value, proto_text, result_line, to_value, version_text};

@@ -4,13 +4,13 @@ ghost use Rattle.std.specs.Prelude.{◌≡◌};
 ghost use Rattle.serde_json.specs.View.{view};
 ghost use Rattle.cni_json.specs.Json.{json_of};
 ghost use Rattle.cni_json.specs.Outcome.{GivesAs};
-ghost use Rattle.cni_result.specs.Reading.{object_at, version_at, is_on_one_of, are_on, indexes_at, result_at, decoded, result_of_bytes};
+ghost use Rattle.cni_result.specs.Reading.{object_at, version_at, is_on_one_of, are_on, indexes_at, result_at, dns_at, decoded, result_of_bytes};
 ghost use Rattle.cni_result.specs.Refusals.{is_want_of_memory};
 
-use crate::dns::dns;
+use crate::dns::{DnsError, read_dns};
 use crate::entries::{interfaces, ips, routes};
 use crate::refusal::{ResultError, invalid, version_refused};
-use crate::result::{AddResult, IpEntry};
+use crate::result::{AddResult, Dns, IpEntry};
 use crate::version::Version;
 use cni_json::{Field, ReadEnd, Value, field_str, read};
 use std::alloc::Global;
@@ -80,6 +80,17 @@ fn version(alloc: Global, top: &Value) -> Result<Version, ResultError>
         Field::Here("1.0.0") => Ok(Version::V1_0),
         Field::Here("1.1.0") => Ok(Version::V1_1),
         Field::Here(found) => Err(version_refused(alloc, found)),
+    }
+}
+
+#[tactic(auto, using(cni_json::proofs::Steps::steps), unfolding(crate::specs::Reading::dns_at))]
+fn dns(alloc: Global, top: &Value) -> Result<Dns, ResultError>
+    ensures { GivesAs is_want_of_memory (λ dns. dns) result (dns_at (view top.now)) }
+{
+    match read_dns(alloc, top) {
+        Ok(dns) => Ok(dns),
+        Err(DnsError::Invalid) => Err(invalid(alloc, "dns")),
+        Err(DnsError::NoMemory) => Err(ResultError::NoMemory),
     }
 }
 

@@ -2,7 +2,7 @@
 use Rattle.std.specs.Prelude.{List, [], map, Option, Some, None}
 use Rattle.cni_result.specs.declared.version.Version.{Version}
 use Rattle.cni_result.specs.declared.result.IpEntry.{IpEntry}
-use Rattle.cni_result.specs.Reading.{no_dns}
+use Rattle.cni_result.specs.Dns.{no_dns}
 use Rattle.cni_result.specs.declared.result.AddResult.{AddResult}
 use Rattle.net_conf.specs.declared.first.HostLocalConf.{HostLocalConf}
 use Rattle.kernel_types.specs.declared.call.Given.{Given}

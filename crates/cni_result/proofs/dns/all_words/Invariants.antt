@@ -1,7 +1,7 @@
 use Rattle.std.proofs.Common.{◌≡◌, drop}
 use Rattle.serde_json.specs.View.{items_view}
 use Rattle.cni_json.specs.Each.{each, with_front}
-use Rattle.cni_result.specs.Reading.{word_of}
+use Rattle.cni_result.specs.Dns.{word_of}
 use Rattle.cni_result.proofs.dns.all_words.Given as goal
 
 -- what was found, and then what is left, is the whole
