@@ -47,7 +47,7 @@ AreAscending-put_at Greater k l d e ms is below old later =
     (IsBelow-put l k d ms (nat_list_cmp_total.antisymm l k ∙ ap ordering_reverse is) below, later)
 
 -- a member that is put among ascending ones leaves them ascending
-pub AreAscending-put : (k : List ℕ) (d : Data) (ms : Members) → AreAscending ms → AreAscending (put k d ms)
+AreAscending-put : (k : List ℕ) (d : Data) (ms : Members) → AreAscending ms → AreAscending (put k d ms)
 unfolding IsStrictlySortedBy
 AreAscending-put k d no_members h = (tt, tt)
 AreAscending-put k d (member l e ms) h = AreAscending-put_at (compare k l) k l d e ms refl h.0 h.1 (AreAscending-put k d ms h.1)
@@ -59,7 +59,7 @@ in_members-put_at P Equal k l d e ms new first rest later = (new, rest)
 in_members-put_at P Greater k l d e ms new first rest later = (first, later)
 
 -- what holds everywhere in the members and in a new one holds everywhere in them together
-pub EverywhereInMembers-put : (P : Data → Type 0) (k : List ℕ) (d : Data) (ms : Members) → Everywhere P d → EverywhereInMembers P ms → EverywhereInMembers P (put k d ms)
+EverywhereInMembers-put : (P : Data → Type 0) (k : List ℕ) (d : Data) (ms : Members) → Everywhere P d → EverywhereInMembers P ms → EverywhereInMembers P (put k d ms)
 EverywhereInMembers-put P k d no_members new h = (new, tt)
 EverywhereInMembers-put P k d (member l e ms) new h = in_members-put_at P (compare k l) k l d e ms new h.0 h.1 (EverywhereInMembers-put P k d ms new h.1)
 
