@@ -1,3 +1,5 @@
+//! Which calls fail, by their numbers: what files and sinks in memory share.
+
 ghost use Rattle.std.specs.Prelude.{◌≡◌, ◌==◌};
 ghost use Rattle.std.specs.List.{list_any};
 ghost use Rattle.cni_io.specs.FailingCalls.{CallsState, fails_next, next_call};

@@ -1,3 +1,5 @@
+//! What it is to read files: the trait, and why a file was not read.
+
 use std::alloc::Global;
 use thiserror::Error;
 

@@ -1,3 +1,5 @@
+//! Files in memory: they tell what they hold, and some of their reads fail, as a test wants it.
+
 ghost use Rattle.std.specs.Prelude.{◌≡◌, ◌≢◌, ℕ, ◌≤◌, List, [], Option, Some, IfSome, IfErr, OnOk, OnErr, option_map, filter, not, vec_len};
 ghost use Rattle.std.specs.Str.{bytes_eq};
 ghost use Rattle.std.specs.Vec.{vec_capacity};

@@ -1,3 +1,5 @@
+//! A sink in memory: it tells what it was given, and some of its writes fail, as a test wants it.
+
 ghost use Rattle.std.specs.Prelude.{◌≡◌, IfOk, []};
 
 use crate::failing_calls::FailingCalls;

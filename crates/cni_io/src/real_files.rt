@@ -1,3 +1,5 @@
+//! The files of the file system, each read whole and up to a limit.
+
 ghost use Rattle.std.specs.Prelude.{◌≡◌, is_ok, if◌then◌else◌};
 ghost use Rattle.cni_io.specs.Faults.{CountsFault, counted};
 ghost use Rattle.cni_io.specs.Files.{IsFailed, KeepsToLimit};
@@ -27,6 +29,7 @@ impl<R> Model for RealFiles<R> {
 }
 
 impl<R: rt::Files + Drop> RealFiles<R> {
+    /// The files that this runtime reaches, with no fault so far.
     pub fn new(rt: R) -> RealFiles<R>
         ensures { result ≡ 0 }
     {

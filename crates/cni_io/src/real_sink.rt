@@ -1,3 +1,5 @@
+//! The sink over a writer of the system, as standard output.
+
 ghost use Rattle.std.specs.Prelude.{◌≡◌};
 
 use crate::sink::{Sink, SinkFault, count_fault};
@@ -24,6 +26,7 @@ impl<W> Model for RealSink<W> {
 }
 
 impl<W: Write + Drop> RealSink<W> {
+    /// A sink over this writer, with no fault so far.
     pub fn new(writer: W) -> RealSink<W>
         ensures { result ≡ 0 }
     {

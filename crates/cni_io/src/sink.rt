@@ -1,3 +1,5 @@
+//! What it is to take output: the trait, and why a piece was not written.
+
 ghost use Rattle.std.specs.Prelude.{◌≡◌};
 ghost use Rattle.cni_io.specs.Sink.{faults_after};
 

@@ -1,3 +1,5 @@
+//! Names of the files that are kept in memory.
+
 ghost use Rattle.std.specs.Prelude.{◌≡◌, IfOk, IfErr};
 
 use crate::files::FileFault;

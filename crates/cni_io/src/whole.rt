@@ -1,3 +1,5 @@
+//! Writing all of some bytes to a sink, in as many writes as that takes.
+
 ghost use Rattle.std.specs.Prelude.{◌≡◌, ◌≤◌, ◌<◌, ◌^◌, OnErr, length, take};
 ghost use Rattle.std.specs.Io.KnownBytes.{append_known};
 ghost use Rattle.cni_io.specs.Faults.{Rose};

@@ -1,3 +1,5 @@
+//! Members of an object, each asked for by its key and the kind that it is to have.
+
 ghost use Rattle.std.specs.Prelude.{◌≡◌};
 ghost use Rattle.serde_json.specs.View.{view, items_view};
 ghost use Rattle.cni_json.specs.Fields.{field_map, text_field, bool_field, u64_field, list_field, object_field};

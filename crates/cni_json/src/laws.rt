@@ -1,4 +1,5 @@
-// What is true of the definitions, without any call.
+//! What is true of the definitions, without any call.
+
 ghost use Rattle.cni_json.specs.Laws.{LinesAreReadAgain, LineFeedsAreSpace, ReadKeysAscend};
 
 /// What a line was written for is what it is read as: `json_of (line_of d)` is `Ok d`.

@@ -1,3 +1,5 @@
+//! Reading bytes as one JSON value whose numbers are whole and have 64 bits.
+
 ghost use Rattle.std.specs.Prelude.{◌≡◌, ◌≤◌, false, IfOk};
 ghost use Rattle.serde_json.specs.Data.{depth};
 ghost use Rattle.serde_json.specs.Read.{max_depth};

@@ -1,3 +1,5 @@
+//! Tests of reading, of members and of lines, at the limits of each.
+
 use crate::{
     Field, ReadEnd, Value, field_bool, field_list, field_object, field_str, field_u64, line, read,
 };
