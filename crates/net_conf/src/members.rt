@@ -1,5 +1,6 @@
 //! Members of a plugin's object that several types have.
 
+ghost use Rattle.std.specs.Prelude.{◌≡◌};
 ghost use Rattle.serde_json.specs.View.{view};
 ghost use Rattle.cni_json.specs.Outcome.{GivesAs};
 ghost use Rattle.net_conf.specs.Members as members;
@@ -21,14 +22,22 @@ pub fn flag(alloc: Global, object: &Value, key: &str, default: bool) -> Result<b
     }
 }
 
-/// The MTU of links, in bytes: 68 to 65535. 0 stands for 1500, as does an absent one.
+/// Whether a link may have an MTU of so many bytes: from the least of IPv4 (RFC 791, section 3.2) to the greatest length
+/// of a packet.
+pub fn is_mtu(number: u64) -> bool
+    ensures { result ≡ members.is_mtu number }
+{
+    matches!(number, 68..=65535)
+}
+
+/// The MTU of links, in bytes. 0 stands for 1500, as does an absent one.
 #[tactic(auto, using(cni_json::proofs::Steps::steps), unfolding(crate::specs::Members::mtu_at))]
 pub fn mtu(alloc: Global, object: &Value) -> Result<u32, ConfError>
     ensures { GivesAs is_want_of_memory (λ n. n) result (members.mtu_at (view object.now)) }
 {
     match field_u64(object, "mtu") {
         Field::Absent | Field::Here(0) => Ok(1500),
-        Field::Here(number @ 68..=65535) => Ok(number as u32),
+        Field::Here(number) if is_mtu(number) => Ok(number as u32),
         Field::Here(_) | Field::WrongKind => Err(invalid(alloc, "mtu")),
     }
 }

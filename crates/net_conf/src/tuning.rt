@@ -9,7 +9,7 @@ ghost use Rattle.net_conf.specs.Tuning as wanted;
 
 use crate::chained::{Sysctl, TuningConf};
 use crate::error::{ConfError, invalid, unsupported};
-use crate::members::flag;
+use crate::members::{flag, is_mtu};
 use cni_addr::{Items, Mac, Text, read_mac};
 use cni_json::{Field, Map, Value, field_str, field_u64};
 use std::alloc::Global;
@@ -132,7 +132,7 @@ fn new_mtu(alloc: Global, object: &Value) -> Result<Option<u32>, ConfError>
 {
     match field_u64(object, "mtu") {
         Field::Absent | Field::Here(0) => Ok(None),
-        Field::Here(number @ 68..=65535) => Ok(Some(number as u32)),
+        Field::Here(number) if is_mtu(number) => Ok(Some(number as u32)),
         Field::Here(_) | Field::WrongKind => Err(invalid(alloc, "mtu")),
     }
 }

@@ -1,5 +1,5 @@
 -- The links of an opening.
-use Rattle.std.specs.Prelude.{ℕ, ◌+◌, ◌&&◌, List, [], ◌∷◌, ◌++◌, codes, Bool, true, false, nat_le, if◌then◌else◌, Result, Ok, None, ⊤}
+use Rattle.std.specs.Prelude.{ℕ, ◌+◌, List, [], ◌∷◌, ◌++◌, codes, Bool, true, false, if◌then◌else◌, Result, Ok, None, ⊤}
 use Rattle.std.specs.List.{list_any}
 use Rattle.std.specs.Str.{bytes_eq}
 use Rattle.serde_json.specs.Data.{Data, object, Items, no_items, item}
@@ -13,6 +13,7 @@ use Rattle.kernel_types.specs.declared.object.Link.{Link}
 use Rattle.kernel_types.specs.declared.object.LinkKind.{LinkKind}
 use Rattle.kernel_types.specs.declared.object.LinkKind.TheVariants.{Device, Bridge}
 use Rattle.kernel_types.specs.declared.object.Tag.TheVariants.{Outside}
+use Rattle.net_conf.specs.Members.{is_mtu}
 use Rattle.net_conf.specs.Names.{is_interface_name}
 use Rattle.pod_file.specs.Refusals.{wrong, member_path}
 use Rattle.pod_file.specs.declared.error.PodError.{PodError}
@@ -61,10 +62,6 @@ ns_of names index (Here text) = if is_place names text then Ok text else wrong_l
 -- the namespace that the link is in; the empty text is the host
 unfoldable pub ns_at : List (List ℕ) → ℕ → Data → Result (List ℕ) PodError
 ns_at names index d = ns_of names index (text_field (codes "ns") d)
-
--- the least MTU of IPv4 (RFC 791, section 3.2) to the greatest length of a packet
-abbrev pub is_mtu : ℕ → Bool
-is_mtu n = nat_le 68 n && nat_le n 65535
 
 abbrev pub mtu_of : ℕ → Field ℕ → Result ℕ PodError
 mtu_of index Absent = Ok 1500
