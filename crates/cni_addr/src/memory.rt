@@ -28,6 +28,18 @@ pub trait Duplicate: Sized {
         ensures { IfOk result (λ twin. twin ≡ self.now) };
 }
 
+impl Duplicate for u32 {
+    fn copy(&self) -> Result<u32, NoMemory> {
+        Ok(*self)
+    }
+}
+
+impl Duplicate for u64 {
+    fn copy(&self) -> Result<u64, NoMemory> {
+        Ok(*self)
+    }
+}
+
 impl<T: Duplicate> Duplicate for Option<T> {
     fn copy(&self) -> Result<Option<T>, NoMemory> {
         match self {

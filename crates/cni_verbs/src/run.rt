@@ -78,7 +78,7 @@ impl Run {
         let kinds = kinds_of(alloc, list)?;
         let given = Vec::with_capacity(alloc, sets)?;
         let list_copy = list.copy()?;
-        let command_copy = command.copy(alloc)?;
+        let command_copy = command.copy()?;
         let phase = first_phase(alloc, list, command)?;
         Ok(Run::begun(list_copy, command_copy, phase, before, kinds, given))
     }
@@ -114,7 +114,7 @@ impl Run {
     fn of_no_list(alloc: Global, command: &Command) -> Result<Run, NoMemory>
         ensures { IfOk result (λ run. run ≡ progress None command.now []) }
     {
-        let twin = command.copy(alloc)?;
+        let twin = command.copy()?;
         let phase = first_outside(command)?;
         Ok(Run::begun_outside(alloc, twin, phase))
     }

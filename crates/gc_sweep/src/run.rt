@@ -49,7 +49,7 @@ impl GcRun {
         ensures { IfOk result (λ run. run ≡ progress (Some list.now) command.now []) }
     {
         let list_copy = list.copy()?;
-        let command_copy = command.copy(alloc)?;
+        let command_copy = command.copy()?;
         let kinds = kinds_of(alloc, list)?;
         Ok(GcRun {
             list: list_copy,

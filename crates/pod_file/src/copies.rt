@@ -1,10 +1,7 @@
 //! Copies of commands. Texts are shared, so a copy costs what its lists cost.
 
-ghost use Rattle.std.specs.Prelude.{◌≡◌, IfOk};
-
 use crate::command::{Command, RawMapping, ValidAtt};
-use cni_addr::{Duplicate, Items, NoMemory};
-use std::alloc::Global;
+use cni_addr::{Duplicate, NoMemory};
 
 impl Duplicate for RawMapping {
     fn copy(&self) -> Result<RawMapping, NoMemory> {
@@ -26,21 +23,8 @@ impl Duplicate for ValidAtt {
     }
 }
 
-fn numbers(alloc: Global, all: &Items<u32>) -> Result<Items<u32>, NoMemory>
-    ensures { IfOk result (λ twin. twin ≡ all.now) }
-{
-    let mut twin = Items::new(alloc);
-    for number in all.as_slice() {
-        twin.push(*number)?;
-    }
-    Ok(twin)
-}
-
-impl Command {
-    /// An equal command.
-    pub fn copy(&self, alloc: Global) -> Result<Command, NoMemory>
-        ensures { IfOk result (λ twin. twin ≡ self.now) }
-    {
+impl Duplicate for Command {
+    fn copy(&self) -> Result<Command, NoMemory> {
         Ok(Command {
             number: self.number,
             verb: self.verb,
@@ -53,7 +37,7 @@ impl Command {
             valid: self.valid.copy()?,
             table: self.table,
             stop: self.stop,
-            faults: numbers(alloc, &self.faults)?,
+            faults: self.faults.copy()?,
         })
     }
 }

@@ -3,7 +3,7 @@
 mod rows;
 
 use super::*;
-use cni_addr::NoMemory;
+use cni_addr::{Duplicate, NoMemory};
 use kernel_types::{LinkKind, Tag};
 use rows::ROWS;
 use std::alloc::{AllocError, Global};
@@ -117,10 +117,10 @@ fn has_command(pods: &Pods, round: usize, number: u32, stop: Option<u32>) -> boo
     }
 }
 
-fn is_copied(alloc: Global, pods: &Pods, round: usize) -> Result<bool, NoMemory> {
+fn is_copied(pods: &Pods, round: usize) -> Result<bool, NoMemory> {
     match only_command(pods, round) {
         Some(command) => {
-            let twin = command.copy(alloc)?;
+            let twin = command.copy()?;
             Ok(twin == *command)
         }
         None => Ok(false),
@@ -135,7 +135,7 @@ fn reads_pods(rt: HostRuntime) -> Result<(), Fail> {
     let pods = read(rt.alloc(), text)?;
     assert!(rt; has_bridge_in(&pods, "/ns/a"));
     assert!(rt; has_command(&pods, 0, 1, None) && has_command(&pods, 1, 2, Some(2)));
-    let copied = is_copied(rt.alloc(), &pods, 1)?;
+    let copied = is_copied(&pods, 1)?;
     assert!(rt; copied);
     Ok(())
 }
