@@ -60,9 +60,6 @@ share_after_calls-forward s given =
 
 -- ---- shares
 
-pub share_plus-no_objects : (s : Share) → share_plus s no_objects ≡ s
-share_plus-no_objects s = rw (append-nil s.links, append-nil s.addresses, append-nil s.routes, append-nil s.rules, append-nil s.settings, append-nil s.leases, append-nil s.cached) refl
-
 pub share_plus-laid_on : (s : Share) (addresses : List AddrObj) (routes : List RouteObj) (rules : List Rule)
     → share_plus s (record no_objects { addresses = addresses; routes = routes; rules = rules }) ≡ record s { addresses = s.addresses ++ addresses; routes = s.routes ++ routes; rules = s.rules ++ rules }
 share_plus-laid_on s addresses routes rules = rw (append-nil s.links, append-nil s.settings, append-nil s.leases, append-nil s.cached) refl

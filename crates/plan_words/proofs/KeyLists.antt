@@ -2,7 +2,6 @@
 use Rattle.std.proofs.Common.{◌≡◌, Bool, true, false, List, [], ◌∷◌, ◌++◌, map, refl, arith}
 use Rattle.std.specs.Prelude.{filter, fold, flat_map, if◌then◌else◌}
 use Rattle.std.specs.List.{list_any, list_all}
-use Rattle.kernel_types.specs.Lists.{without_first}
 use Rattle.kernel_types.proofs.ListLemmas.{list_all-push}
 use Rattle.plan_words.specs.Keys.{push_unless_there, each_key_once}
 
@@ -18,10 +17,6 @@ pub filter-two_kept : {X : Type 0} (p : X → Bool) (xs : List X) (y z : X) → 
 filter-two_kept p [] y z h g = grind arith
 filter-two_kept p (x ∷ xs) y z h g = grind (arith, filter-two_kept p xs y z)
 
-pub filter-two_dropped : {X : Type 0} (p : X → Bool) (xs : List X) (y z : X) → p y ≡ false → p z ≡ false → filter p (xs ++ y ∷ z ∷ []) ≡ filter p xs
-filter-two_dropped p [] y z h g = grind arith
-filter-two_dropped p (x ∷ xs) y z h g = grind (arith, filter-two_dropped p xs y z)
-
 pub filter-none : {X : Type 0} (p : X → Bool) (xs : List X) → list_any p xs ≡ false → filter p xs ≡ []
 filter-none p [] h = refl
 filter-none p (x ∷ xs) h = grind (arith, filter-none p xs)
@@ -30,15 +25,6 @@ filter-none p (x ∷ xs) h = grind (arith, filter-none p xs)
 pub filter-map_kept : {X : Type 0} (p : X → Bool) (f : X → X) → ((x : X) → p (f x) ≡ p x) → (xs : List X) → filter p (map f xs) ≡ map f (filter p xs)
 filter-map_kept p f w [] = refl
 filter-map_kept p f w (x ∷ xs) = grind (arith, w x, filter-map_kept p f w xs)
-
--- a map that keeps the test, and changes only what fails it
-pub filter-map_others : {X : Type 0} (p : X → Bool) (f : X → X) → ((x : X) → p (f x) ≡ p x) → ((x : X) → p x ≡ true → f x ≡ x) → (xs : List X) → filter p (map f xs) ≡ filter p xs
-filter-map_others p f w v [] = refl
-filter-map_others p f w v (x ∷ xs) = grind (arith, w x, v x, filter-map_others p f w v xs)
-
-pub filter-without_other : {X : Type 0} (p q : X → Bool) → ((x : X) → q x ≡ true → p x ≡ false) → (xs : List X) → filter p (without_first q xs) ≡ filter p xs
-filter-without_other p q w [] = refl
-filter-without_other p q w (x ∷ xs) = grind (arith, w x, filter-without_other p q w xs)
 
 -- what is filtered out of what is filtered out
 pub filter-within : {X : Type 0} (p q : X → Bool) → ((x : X) → p x ≡ true → q x ≡ true) → (xs : List X) → filter p (filter q xs) ≡ filter p xs

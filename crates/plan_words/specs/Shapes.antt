@@ -8,18 +8,24 @@ use Rattle.cni_addr.specs.declared.address.Cidr.{Cidr}
 use Rattle.cni_addr.specs.declared.address.Family.{Family}
 use Rattle.cni_addr.specs.declared.address.Family.TheVariants.{V4, V6}
 use Rattle.cni_addr.specs.Network.{whole}
+use Rattle.cni_addr.specs.declared.mac.Mac.{Mac}
 use Rattle.cni_addr.specs.declared.macvlan.MacvlanMode.{MacvlanMode}
 use Rattle.cni_result.specs.declared.result.RouteEntry.{RouteEntry}
 use Rattle.kernel_types.specs.declared.object.Att.{Att}
 use Rattle.kernel_types.specs.declared.object.Tag.TheVariants.{Own}
+use Rattle.kernel_types.specs.declared.object.LinkKey.{LinkKey}
+use Rattle.kernel_types.specs.declared.object.LinkKind.{LinkKind}
 use Rattle.kernel_types.specs.declared.object.LinkKind.TheVariants.{Veth, Macvlan}
 use Rattle.kernel_types.specs.declared.object.Link.{Link}
 use Rattle.kernel_types.specs.declared.object.AddrObj.{AddrObj}
 use Rattle.kernel_types.specs.declared.object.RouteObj.{RouteObj}
 use Rattle.kernel_types.specs.declared.object.Rule.{Rule}
 use Rattle.kernel_types.specs.declared.object.Lease.{Lease}
+use Rattle.kernel_types.specs.declared.object.Table.{Table}
 use Rattle.kernel_types.specs.declared.object.Table.TheVariants.{Nat}
+use Rattle.kernel_types.specs.declared.object.Chain.{Chain}
 use Rattle.kernel_types.specs.declared.object.Chain.TheVariants.{Masq}
+use Rattle.kernel_types.specs.declared.object.Target.{Target}
 use Rattle.kernel_types.specs.declared.object.Target.TheVariants.{Accept, Masquerade}
 use Rattle.kernel_types.specs.Apply.Calls.{is_same_addr, is_same_route}
 use Rattle.kernel_types.specs.Equal.{rule_eq}
@@ -42,53 +48,39 @@ multicast V6 = record { addr = record { family = V6; bits = 255 * 2 ^ 120 }; pre
 
 -- ---- links
 
-abbrev pub host_end : Att → List ℕ → Option (List ℕ) → ℕ → Bool → Link
-host_end att netns master mtu hairpin = record {
-  ns = [];
-  name = host_name_of att;
-  kind = Veth;
-  master = master;
-  peer = Some (record { ns = netns; name = att.ifname });
-  mac = host_mac_of att;
+-- where the host's end of the attachment is, and where the container's
+abbrev pub host_key : Att → LinkKey
+host_key att = record { ns = []; name = host_name_of att }
+
+abbrev pub inner_key : Att → List ℕ → LinkKey
+inner_key att netns = record { ns = netns; name = att.ifname }
+
+-- a link of the attachment by itself: under no master, without a peer, and as Linux makes a new link
+abbrev pub new_link : Att → LinkKey → LinkKind → Mac → ℕ → Link
+new_link att key kind mac mtu = record {
+  ns = key.ns;
+  name = key.name;
+  kind = kind;
+  master = None;
+  peer = None;
+  mac = mac;
   mtu = mtu;
-  hairpin = hairpin;
+  hairpin = false;
   promisc = false;
   allmulti = false;
   tx_qlen = 1000;
   tag = Own att;
 }
+
+abbrev pub host_end : Att → List ℕ → Option (List ℕ) → ℕ → Bool → Link
+host_end att netns master mtu hairpin =
+    record (new_link att (host_key att) Veth (host_mac_of att) mtu) { master = master; peer = Some (inner_key att netns); hairpin = hairpin }
 
 abbrev pub inner_end : Att → List ℕ → ℕ → Link
-inner_end att netns mtu = record {
-  ns = netns;
-  name = att.ifname;
-  kind = Veth;
-  master = None;
-  peer = Some (record { ns = []; name = host_name_of att });
-  mac = inner_mac_of att;
-  mtu = mtu;
-  hairpin = false;
-  promisc = false;
-  allmulti = false;
-  tx_qlen = 1000;
-  tag = Own att;
-}
+inner_end att netns mtu = record (new_link att (inner_key att netns) Veth (inner_mac_of att) mtu) { peer = Some (host_key att) }
 
 abbrev pub macvlan_link : Att → List ℕ → List ℕ → MacvlanMode → ℕ → Link
-macvlan_link att netns master mode mtu = record {
-  ns = netns;
-  name = att.ifname;
-  kind = Macvlan mode;
-  master = Some master;
-  peer = None;
-  mac = inner_mac_of att;
-  mtu = mtu;
-  hairpin = false;
-  promisc = false;
-  allmulti = false;
-  tx_qlen = 1000;
-  tag = Own att;
-}
+macvlan_link att netns master mode mtu = record (new_link att (inner_key att netns) (Macvlan mode) (inner_mac_of att) mtu) { master = Some master }
 
 -- ---- on the container end
 
@@ -99,21 +91,40 @@ address_on att netns g = record { ns = netns; link = att.ifname; cidr = g.addres
 abbrev pub gateway_for : List Given → RouteEntry → Option Addr
 gateway_for given r = option_or r.gw (option_map (λ g. g.gateway) (find (λ g. family_eq g.address.addr.family r.dst.addr.family) given))
 
+abbrev pub route_by : Att → List ℕ → Cidr → Option Addr → RouteObj
+route_by att netns dst gw = record { ns = netns; dst = dst; link = att.ifname; gw = gw; tag = Own att }
+
 abbrev pub route_on : Att → List ℕ → List Given → RouteEntry → RouteObj
-route_on att netns given r = record { ns = netns; dst = r.dst; link = att.ifname; gw = gateway_for given r; tag = Own att }
+route_on att netns given r = route_by att netns r.dst (gateway_for given r)
 
 abbrev pub lease_of : Att → Addr → Lease
 lease_of att addr = record { network = att.network; addr = addr; tag = Own att }
 
 -- ---- rules
 
+-- a rule of the attachment that every packet of the chain matches
+abbrev pub rule_for_all : Att → Table → Chain → Target → Rule
+rule_for_all att table chain target = record {
+  table = table;
+  chain = chain;
+  src = None;
+  dst = None;
+  not_dst = false;
+  protocol = None;
+  dport = None;
+  established = false;
+  target = target;
+  tag = Own att;
+}
+
 -- from the address into its subnet: as it is
 abbrev pub no_masquerade_in_subnet : Att → Given → Rule
-no_masquerade_in_subnet att g = record { table = Nat; chain = Masq; src = Some (whole g.address.addr); dst = Some g.subnet; not_dst = false; protocol = None; dport = None; established = false; target = Accept; tag = Own att }
+no_masquerade_in_subnet att g = record (rule_for_all att Nat Masq Accept) { src = Some (whole g.address.addr); dst = Some g.subnet }
 
 -- from the address to anywhere but multicast: masqueraded
 abbrev pub masquerade_out : Att → Given → Rule
-masquerade_out att g = record { table = Nat; chain = Masq; src = Some (whole g.address.addr); dst = Some (multicast g.address.addr.family); not_dst = true; protocol = None; dport = None; established = false; target = Masquerade; tag = Own att }
+masquerade_out att g =
+    record (rule_for_all att Nat Masq Masquerade) { src = Some (whole g.address.addr); dst = Some (multicast g.address.addr.family); not_dst = true }
 
 abbrev pub masquerade_of : Att → Given → List Rule
 masquerade_of att g = no_masquerade_in_subnet att g ∷ masquerade_out att g ∷ []

@@ -9,7 +9,7 @@ ghost use Rattle.plan_words.specs.Keys.{each_key_once};
 ghost use Rattle.plan_words.specs.Shapes as shapes;
 
 use crate::asked::push_unless_there;
-use cni_addr::{Addr, Cidr, Duplicate, Family, MacvlanMode, NoMemory, Text, whole};
+use cni_addr::{Addr, Cidr, Duplicate, Family, Mac, MacvlanMode, NoMemory, Text, whole};
 use cni_result::RouteEntry;
 use kernel_types::{
     AddrObj, Att, Call, Chain, Given, Lease, Link, LinkKey, LinkKind, RouteObj, Rule, Table, Tag,
@@ -49,6 +49,45 @@ fn multicast(family: Family) -> Cidr
 
 // ---- links
 
+fn host_key(alloc: Global, att: &Att) -> Result<LinkKey, NoMemory>
+    ensures { IfOk result (λ key. key ≡ shapes.host_key att.now) }
+{
+    Ok(LinkKey {
+        ns: Text::of(alloc, "")?,
+        name: att.host_name(alloc)?,
+    })
+}
+
+/// Where the container's interface is.
+pub fn inner_key(att: &Att, netns: &Text) -> Result<LinkKey, NoMemory>
+    ensures { IfOk result (λ key. key ≡ shapes.inner_key att.now netns.now) }
+{
+    Ok(LinkKey {
+        ns: netns.copy()?,
+        name: att.ifname.copy()?,
+    })
+}
+
+/// A link under no master and without a peer, as Linux makes a new one.
+fn new_link(att: &Att, key: LinkKey, kind: LinkKind, mac: Mac, mtu: u32) -> Result<Link, NoMemory>
+    ensures { IfOk result (λ link. link ≡ shapes.new_link att.now key kind mac mtu) }
+{
+    Ok(Link {
+        ns: key.ns,
+        name: key.name,
+        kind,
+        master: None,
+        peer: None,
+        mac,
+        mtu,
+        hairpin: false,
+        promisc: false,
+        allmulti: false,
+        tx_qlen: 1000,
+        tag: Tag::Own(att.copy()?),
+    })
+}
+
 /// The host's end of the attachment's veth pair, under this master.
 pub fn host_end(
     alloc: Global,
@@ -60,22 +99,12 @@ pub fn host_end(
 ) -> Result<Link, NoMemory>
     ensures { IfOk result (λ link. link ≡ shapes.host_end att.now netns.now master mtu hairpin) }
 {
+    let key = host_key(alloc, att)?;
     Ok(Link {
-        ns: Text::of(alloc, "")?,
-        name: att.host_name(alloc)?,
-        kind: LinkKind::Veth,
         master,
-        peer: Some(LinkKey {
-            ns: netns.copy()?,
-            name: att.ifname.copy()?,
-        }),
-        mac: att.host_mac(),
-        mtu,
+        peer: Some(inner_key(att, netns)?),
         hairpin,
-        promisc: false,
-        allmulti: false,
-        tx_qlen: 1000,
-        tag: Tag::Own(att.copy()?),
+        ..new_link(att, key, LinkKind::Veth, att.host_mac(), mtu)?
     })
 }
 
@@ -83,22 +112,10 @@ pub fn host_end(
 pub fn inner_end(alloc: Global, att: &Att, netns: &Text, mtu: u32) -> Result<Link, NoMemory>
     ensures { IfOk result (λ link. link ≡ shapes.inner_end att.now netns.now mtu) }
 {
+    let key = inner_key(att, netns)?;
     Ok(Link {
-        ns: netns.copy()?,
-        name: att.ifname.copy()?,
-        kind: LinkKind::Veth,
-        master: None,
-        peer: Some(LinkKey {
-            ns: Text::of(alloc, "")?,
-            name: att.host_name(alloc)?,
-        }),
-        mac: att.inner_mac(),
-        mtu,
-        hairpin: false,
-        promisc: false,
-        allmulti: false,
-        tx_qlen: 1000,
-        tag: Tag::Own(att.copy()?),
+        peer: Some(host_key(alloc, att)?),
+        ..new_link(att, key, LinkKind::Veth, att.inner_mac(), mtu)?
     })
 }
 
@@ -112,19 +129,10 @@ pub fn macvlan_link(
 ) -> Result<Link, NoMemory>
     ensures { IfOk result (λ link. link ≡ shapes.macvlan_link att.now netns.now master.now mode mtu) }
 {
+    let key = inner_key(att, netns)?;
     Ok(Link {
-        ns: netns.copy()?,
-        name: att.ifname.copy()?,
-        kind: LinkKind::Macvlan(mode),
         master: Some(master.copy()?),
-        peer: None,
-        mac: att.inner_mac(),
-        mtu,
-        hairpin: false,
-        promisc: false,
-        allmulti: false,
-        tx_qlen: 1000,
-        tag: Tag::Own(att.copy()?),
+        ..new_link(att, key, LinkKind::Macvlan(mode), att.inner_mac(), mtu)?
     })
 }
 
@@ -176,6 +184,19 @@ fn gateway_for(given: &[Given], route: &RouteEntry) -> Option<Addr>
     }
 }
 
+/// The route from the container's end to this destination, by this gateway or directly.
+pub fn route_by(att: &Att, netns: &Text, dst: Cidr, gw: Option<Addr>) -> Result<RouteObj, NoMemory>
+    ensures { IfOk result (λ obj. obj ≡ shapes.route_by att.now netns.now dst gw) }
+{
+    Ok(RouteObj {
+        ns: netns.copy()?,
+        dst,
+        link: att.ifname.copy()?,
+        gw,
+        tag: Tag::Own(att.copy()?),
+    })
+}
+
 /// The route from the container's end: by its own gateway, else by that of the first given address of its family.
 pub fn route_on(
     att: &Att,
@@ -185,13 +206,7 @@ pub fn route_on(
 ) -> Result<RouteObj, NoMemory>
     ensures { IfOk result (λ obj. obj ≡ shapes.route_on att.now netns.now given.now route.now) }
 {
-    Ok(RouteObj {
-        ns: netns.copy()?,
-        dst: route.dst,
-        link: att.ifname.copy()?,
-        gw: gateway_for(given, route),
-        tag: Tag::Own(att.copy()?),
-    })
+    route_by(att, netns, route.dst, gateway_for(given, route))
 }
 
 /// The routes from the container's end, each destination once.
@@ -222,22 +237,35 @@ pub fn lease_of(att: &Att, addr: Addr) -> Result<Lease, NoMemory>
     })
 }
 
+// ---- rules of packet filtering
+
+/// A rule that every packet of the chain matches. The plugins narrow it to the packets that they mean.
+pub fn rule_for_all(att: &Att, table: Table, chain: Chain, target: Target) -> Result<Rule, NoMemory>
+    ensures { IfOk result (λ rule. rule ≡ shapes.rule_for_all att.now table chain target) }
+{
+    Ok(Rule {
+        table,
+        chain,
+        src: None,
+        dst: None,
+        not_dst: false,
+        protocol: None,
+        dport: None,
+        established: false,
+        target,
+        tag: Tag::Own(att.copy()?),
+    })
+}
+
 // ---- masquerading and forwarding
 
 fn no_masquerade_in_subnet(att: &Att, given: &Given) -> Result<Rule, NoMemory>
     ensures { IfOk result (λ rule. rule ≡ shapes.no_masquerade_in_subnet att.now given.now) }
 {
     Ok(Rule {
-        table: Table::Nat,
-        chain: Chain::Masq,
         src: Some(whole(&given.address.addr)),
         dst: Some(given.subnet),
-        not_dst: false,
-        protocol: None,
-        dport: None,
-        established: false,
-        target: Target::Accept,
-        tag: Tag::Own(att.copy()?),
+        ..rule_for_all(att, Table::Nat, Chain::Masq, Target::Accept)?
     })
 }
 
@@ -246,16 +274,10 @@ fn masquerade_out(att: &Att, given: &Given) -> Result<Rule, NoMemory>
 {
     let family = given.address.addr.family;
     Ok(Rule {
-        table: Table::Nat,
-        chain: Chain::Masq,
         src: Some(whole(&given.address.addr)),
         dst: Some(multicast(family)),
         not_dst: true,
-        protocol: None,
-        dport: None,
-        established: false,
-        target: Target::Masquerade,
-        tag: Tag::Own(att.copy()?),
+        ..rule_for_all(att, Table::Nat, Chain::Masq, Target::Masquerade)?
     })
 }
 
