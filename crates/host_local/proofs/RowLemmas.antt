@@ -1,6 +1,6 @@
 -- What is at the places of a row of given addresses.
 use Rattle.std.proofs.Common.{◌≡◌, ℕ, zero, suc, ◌+◌, List, [], ◌∷◌, ◌++◌, map, length, Option, Some, None, refl, ◌∙◌, ap, arith}
-use Rattle.std.specs.Prelude.{find, slice_get, option_map, option_to_list, min}
+use Rattle.std.specs.Prelude.{slice_get, option_to_list, min}
 use Rattle.std.proofs.lemmas.List.{length-map}
 use Rattle.std.proofs.lemmas.Option.{slice_get-map, slice_get_read}
 use Rattle.cni_addr.specs.declared.address.Addr.{Addr}
@@ -8,7 +8,7 @@ use Rattle.cni_addr.specs.declared.range.RangeSet.{RangeSet}
 use Rattle.cni_result.specs.declared.result.IpEntry.{IpEntry}
 use Rattle.kernel_types.specs.declared.call.Given.{Given}
 use Rattle.plan_words.specs.Rows.{present}
-use Rattle.host_local.specs.Leases.{range_contains, given_by, given_in, given_of, given_row}
+use Rattle.host_local.specs.Leases.{given_by_set, given_in, given_of, given_row}
 
 present-cons : (o : Option Given) (row : List (Option Given)) → present (o ∷ row) ≡ option_to_list o ++ present row
 present-cons None row = refl
@@ -19,7 +19,7 @@ pub present-given_row : (sets : List RangeSet) (addrs : List Addr) → present (
 present-given_row [] addrs = refl
 present-given_row (s ∷ ss) [] = refl
 present-given_row (s ∷ ss) (a ∷ as_left) =
-    present-cons (option_map (given_by a) (find (range_contains a) s.ranges)) (given_row ss as_left) ∙ ap (λ l. given_in s a ++ l) (present-given_row ss as_left)
+    present-cons (given_by_set s a) (given_row ss as_left) ∙ ap (λ l. given_in s a ++ l) (present-given_row ss as_left)
 
 pub given_row-places : (sets : List RangeSet) (addrs : List Addr) → length (given_row sets addrs) ≡ min (length sets) (length addrs)
 given_row-places [] addrs = omega arith
@@ -32,14 +32,14 @@ same_list None (Some y) h = cc
 same_list (Some x) None h = cc
 same_list (Some x) (Some y) h = grind (arith, h)
 
-given_row-found : (sets : List RangeSet) (addrs : List Addr) (i : ℕ) (s : RangeSet) (a : Addr) → slice_get sets i ≡ Some s → slice_get addrs i ≡ Some a → slice_get (given_row sets addrs) i ≡ Some (option_map (given_by a) (find (range_contains a) s.ranges))
+given_row-found : (sets : List RangeSet) (addrs : List Addr) (i : ℕ) (s : RangeSet) (a : Addr) → slice_get sets i ≡ Some s → slice_get addrs i ≡ Some a → slice_get (given_row sets addrs) i ≡ Some (given_by_set s a)
 given_row-found [] addrs i s a h k = cc
 given_row-found (t ∷ ts) [] i s a h k = cc
 given_row-found (t ∷ ts) (b ∷ bs) zero s a h k = grind (arith, h, k)
 given_row-found (t ∷ ts) (b ∷ bs) (suc i) s a h k = given_row-found ts bs i s a h k
 
 pub given_row-at : (sets : List RangeSet) (addrs : List Addr) (i : ℕ) (s : RangeSet) (a : Addr) (o : Option Given) → slice_get sets i ≡ Some s → slice_get addrs i ≡ Some a → option_to_list o ≡ given_in s a → slice_get (given_row sets addrs) i ≡ Some o
-given_row-at sets addrs i s a o h k is = given_row-found sets addrs i s a h k ∙ ap (λ p. Some p) (same_list o (option_map (given_by a) (find (range_contains a) s.ranges)) is)
+given_row-at sets addrs i s a o h k is = given_row-found sets addrs i s a h k ∙ ap (λ p. Some p) (same_list o (given_by_set s a) is)
 
 pub ruleset row_steps = (given_row-places, given_row-at, slice_get_read)
 

@@ -25,9 +25,12 @@ range_contains addr r = family_eq addr.family r.start.family && (nat_le r.start.
 abbrev pub given_by : Addr → Range → Given
 given_by addr r = record { address = record { addr = addr; prefix = r.subnet.prefix }; gateway = r.gateway; subnet = r.subnet }
 
--- by the range of the set that holds it; there is one where the address is a candidate
+-- by the first range of the set that holds it; there is one where the address is a candidate
+abbrev pub given_by_set : RangeSet → Addr → Option Given
+given_by_set set addr = option_map (given_by addr) (find (range_contains addr) set.ranges)
+
 abbrev pub given_in : RangeSet → Addr → List Given
-given_in set addr = option_to_list (option_map (given_by addr) (find (range_contains addr) set.ranges))
+given_in set addr = option_to_list (given_by_set set addr)
 
 -- the k-th address by the k-th set
 abbrev pub given_of : List RangeSet → List Addr → List Given
@@ -39,4 +42,4 @@ given_of (set ∷ sets) (addr ∷ addrs) = given_in set addr ++ given_of sets ad
 abbrev pub given_row : List RangeSet → List Addr → List (Option Given)
 given_row [] addrs = []
 given_row (set ∷ sets) [] = []
-given_row (set ∷ sets) (addr ∷ addrs) = option_map (given_by addr) (find (range_contains addr) set.ranges) ∷ given_row sets addrs
+given_row (set ∷ sets) (addr ∷ addrs) = given_by_set set addr ∷ given_row sets addrs
