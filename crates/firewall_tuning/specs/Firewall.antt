@@ -1,11 +1,10 @@
 -- The plan of the `firewall` plugin: what is forwarded to and from the container. The rule set is this project's own, after iptables.
-use Rattle.std.specs.Prelude.{true, false, List, [], ◌∷◌, map, flat_map, Some, None}
+use Rattle.std.specs.Prelude.{true, List, [], ◌∷◌, map, flat_map, Some}
 use Rattle.cni_addr.specs.Network.{whole}
 use Rattle.cni_addr.specs.declared.address.Addr.{Addr}
 use Rattle.cni_result.specs.declared.result.IpEntry.{IpEntry}
 use Rattle.kernel_types.specs.Equal.{rule_eq}
 use Rattle.kernel_types.specs.declared.object.Att.{Att}
-use Rattle.kernel_types.specs.declared.object.Tag.TheVariants.{Own}
 use Rattle.kernel_types.specs.declared.object.Rule.{Rule}
 use Rattle.kernel_types.specs.declared.object.Table.TheVariants.{Filter}
 use Rattle.kernel_types.specs.declared.object.Chain.TheVariants as chains
@@ -13,36 +12,15 @@ use Rattle.kernel_types.specs.declared.object.Target.TheVariants as targets
 use Rattle.kernel_types.specs.declared.call.Call.{Call}
 use Rattle.kernel_types.specs.declared.call.Call.TheVariants.{RuleAppend}
 use Rattle.plan_words.specs.Keys.{each_key_once}
+use Rattle.plan_words.specs.Shapes.{rule_for_all}
 
 -- to the address: what answers it
 abbrev pub accept_replies_to : Att → Addr → Rule
-accept_replies_to att addr = record {
-  table = Filter;
-  chain = chains.Forward;
-  src = None;
-  dst = Some (whole addr);
-  not_dst = false;
-  protocol = None;
-  dport = None;
-  established = true;
-  target = targets.Accept;
-  tag = Own att;
-}
+accept_replies_to att addr = record (rule_for_all att Filter chains.Forward targets.Accept) { dst = Some (whole addr); established = true }
 
 -- from the address: everything
 abbrev pub accept_from : Att → Addr → Rule
-accept_from att addr = record {
-  table = Filter;
-  chain = chains.Forward;
-  src = Some (whole addr);
-  dst = None;
-  not_dst = false;
-  protocol = None;
-  dport = None;
-  established = false;
-  target = targets.Accept;
-  tag = Own att;
-}
+accept_from att addr = record (rule_for_all att Filter chains.Forward targets.Accept) { src = Some (whole addr) }
 
 abbrev pub forward_of : Att → IpEntry → List Rule
 forward_of att ip = accept_replies_to att ip.address.addr ∷ accept_from att ip.address.addr ∷ []

@@ -6,8 +6,8 @@ ghost use Rattle.firewall_tuning.specs.Firewall as plan;
 
 use cni_addr::{Addr, Duplicate, Items, NoMemory, whole};
 use cni_result::{AddResult, IpEntry};
-use kernel_types::{Att, Call, Chain, Kind, Rule, Table, Tag, Target};
-use plan_words::{ask_all, push_unless_there};
+use kernel_types::{Att, Call, Chain, Kind, Rule, Table, Target};
+use plan_words::{ask_all, push_unless_there, rule_for_all};
 use std::alloc::Global;
 
 /// What answers the address is let through.
@@ -15,16 +15,9 @@ fn accept_replies_to(att: &Att, addr: &Addr) -> Result<Rule, NoMemory>
     ensures { IfOk result (λ rule. rule ≡ plan.accept_replies_to att.now addr.now) }
 {
     Ok(Rule {
-        table: Table::Filter,
-        chain: Chain::Forward,
-        src: None,
         dst: Some(whole(addr)),
-        not_dst: false,
-        protocol: None,
-        dport: None,
         established: true,
-        target: Target::Accept,
-        tag: Tag::Own(att.copy()?),
+        ..rule_for_all(att, Table::Filter, Chain::Forward, Target::Accept)?
     })
 }
 
@@ -33,16 +26,8 @@ fn accept_from(att: &Att, addr: &Addr) -> Result<Rule, NoMemory>
     ensures { IfOk result (λ rule. rule ≡ plan.accept_from att.now addr.now) }
 {
     Ok(Rule {
-        table: Table::Filter,
-        chain: Chain::Forward,
         src: Some(whole(addr)),
-        dst: None,
-        not_dst: false,
-        protocol: None,
-        dport: None,
-        established: false,
-        target: Target::Accept,
-        tag: Tag::Own(att.copy()?),
+        ..rule_for_all(att, Table::Filter, Chain::Forward, Target::Accept)?
     })
 }
 

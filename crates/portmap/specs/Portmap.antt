@@ -1,5 +1,5 @@
 -- The plan of the `portmap` plugin: ports of the host that lead to the container. The rule sets are this project's own, after iptables.
-use Rattle.std.specs.Prelude.{◌+◌, ◌*◌, ◌^◌, Bool, true, false, List, [], ◌∷◌, ◌++◌, map, find, flat_map, Option, Some, None, option_map, if◌then◌else◌}
+use Rattle.std.specs.Prelude.{◌+◌, ◌*◌, ◌^◌, Bool, true, List, [], ◌∷◌, ◌++◌, map, find, flat_map, Option, Some, None, option_map, if◌then◌else◌}
 use Rattle.cni_addr.specs.Codes.{family_eq}
 use Rattle.cni_addr.specs.Network.{whole, network_of}
 use Rattle.cni_addr.specs.declared.address.Family.{Family}
@@ -11,7 +11,6 @@ use Rattle.cni_result.specs.declared.result.IpEntry.{IpEntry}
 use Rattle.net_conf.specs.declared.chained.PortmapConf.{PortmapConf}
 use Rattle.kernel_types.specs.Equal.{rule_eq}
 use Rattle.kernel_types.specs.declared.object.Att.{Att}
-use Rattle.kernel_types.specs.declared.object.Tag.TheVariants.{Own}
 use Rattle.kernel_types.specs.declared.object.Rule.{Rule}
 use Rattle.kernel_types.specs.declared.object.Table.TheVariants.{Nat}
 use Rattle.kernel_types.specs.declared.object.Chain.TheVariants as chains
@@ -19,6 +18,7 @@ use Rattle.kernel_types.specs.declared.object.Target.TheVariants as targets
 use Rattle.kernel_types.specs.declared.call.Call.{Call}
 use Rattle.kernel_types.specs.declared.call.Call.TheVariants.{RuleAppend}
 use Rattle.plan_words.specs.Keys.{each_key_once}
+use Rattle.plan_words.specs.Shapes.{rule_for_all}
 
 -- `127.0.0.1/32`
 abbrev pub loopback : Cidr
@@ -31,32 +31,19 @@ host_ip_allows (Some host_ip) addr = family_eq host_ip.family addr.family
 
 -- to the port of the host: on to the container
 abbrev pub dnat_of : Att → PortMapping → Addr → Rule
-dnat_of att m addr = record {
-  table = Nat;
-  chain = chains.Dnat;
-  src = None;
+dnat_of att m addr = record (rule_for_all att Nat chains.Dnat (targets.Dnat addr m.container_port)) {
   dst = option_map whole m.host_ip;
-  not_dst = false;
   protocol = Some m.protocol;
   dport = Some m.host_port;
-  established = false;
-  target = targets.Dnat addr m.container_port;
-  tag = Own att;
 }
 
 -- to the container's port from its own network, or from the host itself: masqueraded, so that replies come back this way
 abbrev pub hostport_masquerade : Att → PortMapping → Addr → Cidr → Rule
-hostport_masquerade att m addr src = record {
-  table = Nat;
-  chain = chains.HostMasq;
+hostport_masquerade att m addr src = record (rule_for_all att Nat chains.HostMasq targets.Masquerade) {
   src = Some src;
   dst = Some (whole addr);
-  not_dst = false;
   protocol = Some m.protocol;
   dport = Some m.container_port;
-  established = false;
-  target = targets.Masquerade;
-  tag = Own att;
 }
 
 abbrev pub from_host : Att → PortMapping → Addr → Family → List Rule

@@ -23,9 +23,9 @@ ghost use Rattle.portmap.specs.Portmap as plan;
 use cni_addr::{Addr, Cidr, Duplicate, Family, Items, NoMemory, network_of, whole};
 use cni_result::{AddResult, IpEntry, PortMapping};
 pub use counts::{MappingRow, count};
-use kernel_types::{Att, Call, Chain, Kind, Rule, Table, Tag, Target};
+use kernel_types::{Att, Call, Chain, Kind, Rule, Table, Target};
 use net_conf::PortmapConf;
-use plan_words::{ask_all, first_of_family, push_unless_there};
+use plan_words::{ask_all, first_of_family, push_unless_there, rule_for_all};
 use std::alloc::Global;
 
 /// `127.0.0.1/32`
@@ -64,20 +64,15 @@ fn host_network(mapping: &PortMapping) -> Option<Cidr>
 fn dnat_of(att: &Att, mapping: &PortMapping, addr: &Addr) -> Result<Rule, NoMemory>
     ensures { IfOk result (λ rule. rule ≡ plan.dnat_of att.now mapping.now addr.now) }
 {
+    let target = Target::Dnat {
+        addr: *addr,
+        port: mapping.container_port,
+    };
     Ok(Rule {
-        table: Table::Nat,
-        chain: Chain::Dnat,
-        src: None,
         dst: host_network(mapping),
-        not_dst: false,
         protocol: Some(mapping.protocol),
         dport: Some(mapping.host_port),
-        established: false,
-        target: Target::Dnat {
-            addr: *addr,
-            port: mapping.container_port,
-        },
-        tag: Tag::Own(att.copy()?),
+        ..rule_for_all(att, Table::Nat, Chain::Dnat, target)?
     })
 }
 
@@ -91,16 +86,11 @@ fn hostport_masquerade(
     ensures { IfOk result (λ rule. rule ≡ plan.hostport_masquerade att.now mapping.now addr.now src) }
 {
     Ok(Rule {
-        table: Table::Nat,
-        chain: Chain::HostMasq,
         src: Some(src),
         dst: Some(whole(addr)),
-        not_dst: false,
         protocol: Some(mapping.protocol),
         dport: Some(mapping.container_port),
-        established: false,
-        target: Target::Masquerade,
-        tag: Tag::Own(att.copy()?),
+        ..rule_for_all(att, Table::Nat, Chain::HostMasq, Target::Masquerade)?
     })
 }
 

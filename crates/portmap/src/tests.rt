@@ -3,6 +3,7 @@
 use super::*;
 use cni_addr::{Text, read_addr, read_cidr};
 use cni_result::{Proto, read_result};
+use kernel_types::Tag;
 use std::test::Fail;
 
 const BRIDGED: &str =
