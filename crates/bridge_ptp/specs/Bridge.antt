@@ -59,5 +59,9 @@ abbrev pub lease_kinds : Option HostLocalConf → List Kind
 lease_kinds None = []
 lease_kinds (Some ipam) = Leases ∷ []
 
+-- of a plugin that makes links: with `ipMasq` the rules, and with addresses the leases
+abbrev pub interface_kinds : Bool → Option HostLocalConf → List Kind
+interface_kinds ip_masq ipam = Links ∷ (rule_kinds ip_masq ++ lease_kinds ipam)
+
 abbrev pub bridge_kinds_of : BridgeConf → List Kind
-bridge_kinds_of conf = Links ∷ (rule_kinds conf.ip_masq ++ lease_kinds conf.ipam)
+bridge_kinds_of conf = interface_kinds conf.ip_masq conf.ipam

@@ -10,13 +10,12 @@ use Rattle.kernel_types.specs.declared.object.AddrObj.{AddrObj}
 use Rattle.kernel_types.specs.declared.object.RouteObj.{RouteObj}
 use Rattle.kernel_types.specs.declared.call.Given.{Given}
 use Rattle.kernel_types.specs.declared.call.Kind.{Kind}
-use Rattle.kernel_types.specs.declared.call.Kind.TheVariants.{Links, Leases}
 use Rattle.kernel_types.specs.declared.call.Call.{Call}
 use Rattle.kernel_types.specs.declared.call.Call.TheVariants.{VethAdd, AddrAdd, RouteAdd, RuleAppend}
 use Rattle.plan_words.specs.Keys.{each_key_once}
-use Rattle.plan_words.specs.Shapes.{host_end, inner_end, address_on, route_on, masquerade_rules, forward_calls}
+use Rattle.plan_words.specs.Shapes.{host_end, inner_end, address_on, route_by, route_on, masquerade_rules, forward_calls}
 use Rattle.plan_words.specs.Share.{Share, no_objects}
-use Rattle.bridge_ptp.specs.Bridge.{rule_kinds}
+use Rattle.bridge_ptp.specs.Bridge.{interface_kinds}
 -- an address or a route, in the order in which they are asked for
 pub use Rattle.bridge_ptp.specs.declared.ptp.AddressOrRoute.{AddressOrRoute}
 pub use Rattle.bridge_ptp.specs.declared.ptp.AddressOrRoute.TheVariants.{Address, Route}
@@ -43,8 +42,8 @@ call_for (Route obj) = RouteAdd obj
 abbrev pub ptp_objects_for : Att → List ℕ → Given → List AddressOrRoute
 ptp_objects_for att netns g =
     Address (address_on att netns g)
-    ∷ Route (record { ns = netns; dst = whole g.gateway; link = att.ifname; gw = None; tag = Own att })
-    ∷ Route (record { ns = netns; dst = g.subnet; link = att.ifname; gw = Some g.gateway; tag = Own att })
+    ∷ Route (route_by att netns (whole g.gateway) None)
+    ∷ Route (route_by att netns g.subnet (Some g.gateway))
     ∷ Address (record { ns = []; link = host_name_of att; cidr = whole g.gateway; tag = Own att })
     ∷ Route (record { ns = []; dst = whole g.address.addr; link = host_name_of att; gw = None; tag = Own att })
     ∷ []
@@ -70,4 +69,4 @@ ptp_calls_after conf att netns given = map call_for (ptp_objects conf att netns 
 
 -- the kinds of objects that DEL takes back
 abbrev pub ptp_kinds_of : PtpConf → List Kind
-ptp_kinds_of conf = Links ∷ (rule_kinds conf.ip_masq ++ Leases ∷ [])
+ptp_kinds_of conf = interface_kinds conf.ip_masq (Some conf.ipam)

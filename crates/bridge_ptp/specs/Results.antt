@@ -6,32 +6,32 @@ use Rattle.cni_addr.specs.Equal.{cidr_eq}
 use Rattle.cni_addr.specs.declared.address.Family.{Family}
 use Rattle.cni_addr.specs.declared.address.Family.TheVariants.{V4, V6}
 use Rattle.cni_result.specs.declared.version.Version.{Version}
-use Rattle.cni_result.specs.declared.version.Version.TheVariants.{V1_0, V1_1}
 use Rattle.cni_result.specs.declared.result.Interface.{Interface}
 use Rattle.cni_result.specs.declared.result.IpEntry.{IpEntry}
 use Rattle.cni_result.specs.declared.result.RouteEntry.{RouteEntry}
 use Rattle.cni_result.specs.declared.result.AddResult.{AddResult}
+use Rattle.cni_result.specs.declared.result.Dns.{Dns}
 use Rattle.net_conf.specs.declared.first.BridgeConf.{BridgeConf}
 use Rattle.net_conf.specs.declared.first.PtpConf.{PtpConf}
 use Rattle.kernel_types.specs.Names.{host_name_of, host_mac_of, inner_mac_of, link_mac_of}
 use Rattle.kernel_types.specs.declared.object.Att.{Att}
 use Rattle.plan_words.specs.Shapes.{default_route}
+use Rattle.plan_words.specs.Versions.{mtu_since_1_1}
 
 -- ---- interfaces
-
--- the MTU is told since 1.1.0
-abbrev pub mtu_since_1_1 : Version → ℕ → Option ℕ
-mtu_since_1_1 V1_0 mtu = None
-mtu_since_1_1 V1_1 mtu = Some mtu
 
 abbrev pub bridge_interface : List ℕ → Interface
 bridge_interface name = record { name = name; mac = Some (link_mac_of name); mtu = None; sandbox = None }
 
 abbrev pub host_interface : Att → ℕ → Version → Interface
-host_interface att mtu version = record { name = host_name_of att; mac = Some (host_mac_of att); mtu = mtu_since_1_1 version mtu; sandbox = None }
+host_interface att mtu version = record { name = host_name_of att; mac = Some (host_mac_of att); mtu = mtu_since_1_1 version (Some mtu); sandbox = None }
 
 abbrev pub inner_interface : Att → List ℕ → ℕ → Version → Interface
-inner_interface att netns mtu version = record { name = att.ifname; mac = Some (inner_mac_of att); mtu = mtu_since_1_1 version mtu; sandbox = Some netns }
+inner_interface att netns mtu version = record { name = att.ifname; mac = Some (inner_mac_of att); mtu = mtu_since_1_1 version (Some mtu); sandbox = Some netns }
+
+-- both ends of the veth pair, the container's last
+abbrev pub pair_interfaces : Att → List ℕ → ℕ → Version → List Interface
+pair_interfaces att netns mtu version = host_interface att mtu version ∷ inner_interface att netns mtu version ∷ []
 
 -- the address is on the interface of this index
 abbrev pub at_interface : ℕ → IpEntry → IpEntry
@@ -61,23 +61,14 @@ bridge_routes is_default_gateway routes ips =
 
 -- ---- the results
 
-abbrev pub bridge_interfaces : BridgeConf → Att → List ℕ → Version → List Interface
-bridge_interfaces conf att netns version = bridge_interface conf.bridge ∷ host_interface att conf.mtu version ∷ inner_interface att netns conf.mtu version ∷ []
+-- the address plugin's result with these interfaces, its addresses on the one of this index, and these routes and name servers
+abbrev pub completed : AddResult → List Interface → ℕ → List RouteEntry → Dns → AddResult
+completed ipam interfaces index routes dns =
+    record { version = ipam.version; interfaces = interfaces; ips = map (at_interface index) ipam.ips; routes = routes; dns = dns }
 
 abbrev pub bridge_result_of : BridgeConf → Att → List ℕ → AddResult → AddResult
-bridge_result_of conf att netns ipam = record {
-  version = ipam.version;
-  interfaces = bridge_interfaces conf att netns ipam.version;
-  ips = map (at_interface 2) ipam.ips;
-  routes = bridge_routes conf.is_default_gateway ipam.routes ipam.ips;
-  dns = conf.dns;
-}
+bridge_result_of conf att netns ipam =
+    completed ipam (bridge_interface conf.bridge ∷ pair_interfaces att netns conf.mtu ipam.version) 2 (bridge_routes conf.is_default_gateway ipam.routes ipam.ips) conf.dns
 
 abbrev pub ptp_result_of : PtpConf → Att → List ℕ → AddResult → AddResult
-ptp_result_of conf att netns ipam = record {
-  version = ipam.version;
-  interfaces = host_interface att conf.mtu ipam.version ∷ inner_interface att netns conf.mtu ipam.version ∷ [];
-  ips = map (at_interface 1) ipam.ips;
-  routes = ipam.routes;
-  dns = conf.dns;
-}
+ptp_result_of conf att netns ipam = completed ipam (pair_interfaces att netns conf.mtu ipam.version) 1 ipam.routes conf.dns

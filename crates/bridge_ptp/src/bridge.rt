@@ -8,9 +8,10 @@ ghost use Rattle.plan_words.specs.Keys.{push_unless_there};
 ghost use Rattle.bridge_ptp.specs.Bridge as plan;
 ghost use Rattle.bridge_ptp.specs.Results as results;
 
-use crate::interfaces::{bridge_interface, host_interface, inner_interface, ips_at};
+use crate::interfaces::{bridge_interface, completed, push_pair};
+use crate::kinds::interface_kinds;
 use cni_addr::{Cidr, Duplicate, Family, Items, NoMemory, Text};
-use cni_result::{AddResult, Interface, IpEntry, RouteEntry, Version};
+use cni_result::{AddResult, IpEntry, RouteEntry};
 use host_local::{configured_routes, ips_of};
 use kernel_types::{Att, Call, Given, Kind};
 use net_conf::BridgeConf;
@@ -22,7 +23,8 @@ use std::alloc::Global;
 
 // ---- before the addresses
 
-fn calls_before(
+/// The calls before an address is leased: the bridge, and the veth pair under it.
+pub fn bridge_before(
     alloc: Global,
     conf: &BridgeConf,
     att: &Att,
@@ -44,18 +46,6 @@ fn calls_before(
         inner_end,
     })?;
     Ok(calls)
-}
-
-/// The calls before an address is leased: the bridge, and the veth pair under it.
-pub fn bridge_before(
-    alloc: Global,
-    conf: &BridgeConf,
-    att: &Att,
-    netns: &Text,
-) -> Result<Items<Call>, NoMemory>
-    ensures { IfOk result (λ calls. calls ≡ plan.bridge_calls_before conf.now att.now netns.now) }
-{
-    calls_before(alloc, conf, att, netns)
 }
 
 // ---- routes
@@ -218,22 +208,6 @@ pub fn bridge_after(
 
 // ---- the result
 
-fn interfaces(
-    alloc: Global,
-    conf: &BridgeConf,
-    att: &Att,
-    netns: &Text,
-    version: Version,
-) -> Result<Items<Interface>, NoMemory>
-    ensures { IfOk result (λ all. all ≡ results.bridge_interfaces conf.now att.now netns.now version) }
-{
-    let mut all = Vec::with_capacity(alloc, 3)?;
-    all.push(bridge_interface(&conf.bridge)?)?;
-    all.push(host_interface(alloc, att, conf.mtu, version)?)?;
-    all.push(inner_interface(att, netns, conf.mtu, version)?)?;
-    Ok(Items::of_vec(all))
-}
-
 /// The result of the address plugin with the bridge's interfaces, the index of the container's end, and the routes.
 pub fn bridge_result(
     alloc: Global,
@@ -244,13 +218,11 @@ pub fn bridge_result(
 ) -> Result<AddResult, NoMemory>
     ensures { IfOk result (λ r. r ≡ results.bridge_result_of conf.now att.now netns.now ipam.now) }
 {
-    Ok(AddResult {
-        version: ipam.version,
-        interfaces: interfaces(alloc, conf, att, netns, ipam.version)?,
-        ips: ips_at(alloc, 2, ipam.ips.as_slice())?,
-        routes: result_routes(conf.is_default_gateway, &ipam.routes, ipam.ips.as_slice())?,
-        dns: conf.dns.copy()?,
-    })
+    let mut interfaces = Items::new(alloc);
+    interfaces.push(bridge_interface(&conf.bridge)?)?;
+    push_pair(alloc, &mut interfaces, att, netns, conf.mtu, ipam.version)?;
+    let routes = result_routes(conf.is_default_gateway, &ipam.routes, ipam.ips.as_slice())?;
+    completed(alloc, ipam, interfaces, 2, routes, conf.dns.copy()?)
 }
 
 // ---- the kinds
@@ -259,13 +231,5 @@ pub fn bridge_result(
 pub fn bridge_kinds(alloc: Global, conf: &BridgeConf) -> Result<Items<Kind>, NoMemory>
     ensures { IfOk result (λ kinds. kinds ≡ plan.bridge_kinds_of conf.now) }
 {
-    let mut kinds = Items::new(alloc);
-    kinds.push(Kind::Links)?;
-    if conf.ip_masq {
-        kinds.push(Kind::Rules)?;
-    }
-    if conf.ipam.is_some() {
-        kinds.push(Kind::Leases)?;
-    }
-    Ok(kinds)
+    interface_kinds(alloc, conf.ip_masq, conf.ipam.as_ref())
 }

@@ -1,22 +1,13 @@
-//! The interfaces and addresses of a result.
+//! The interfaces and addresses of a result, and how a plugin that makes interfaces completes the one of the addresses.
 
-ghost use Rattle.std.specs.Prelude.{◌≡◌, map, IfOk};
+ghost use Rattle.std.specs.Prelude.{◌≡◌, ◌++◌, map, IfOk, OnOk};
 ghost use Rattle.bridge_ptp.specs.Results as results;
 
 use cni_addr::{Duplicate, Items, NoMemory, Text};
-use cni_result::{Interface, IpEntry, Version};
+use cni_result::{AddResult, Dns, Interface, IpEntry, RouteEntry, Version};
 use kernel_types::{Att, link_mac};
+use plan_words::mtu_since_1_1;
 use std::alloc::Global;
-
-/// The MTU is told since 1.1.0.
-pub fn mtu_since_1_1(version: Version, mtu: u32) -> Option<u32>
-    ensures { result ≡ results.mtu_since_1_1 version mtu }
-{
-    match version {
-        Version::V1_0 => None,
-        Version::V1_1 => Some(mtu),
-    }
-}
 
 /// A bridge of the host.
 pub fn bridge_interface(name: &Text) -> Result<Interface, NoMemory>
@@ -42,7 +33,7 @@ pub fn host_interface(
     Ok(Interface {
         name: att.host_name(alloc)?,
         mac: Some(att.host_mac()),
-        mtu: mtu_since_1_1(version, mtu),
+        mtu: mtu_since_1_1(version, Some(mtu)),
         sandbox: None,
     })
 }
@@ -59,13 +50,28 @@ pub fn inner_interface(
     Ok(Interface {
         name: att.ifname.copy()?,
         mac: Some(att.inner_mac()),
-        mtu: mtu_since_1_1(version, mtu),
+        mtu: mtu_since_1_1(version, Some(mtu)),
         sandbox: Some(netns.copy()?),
     })
 }
 
+/// Puts both ends of the attachment's veth pair at the end, the container's last.
+pub fn push_pair(
+    alloc: Global,
+    interfaces: &mut Items<Interface>,
+    att: &Att,
+    netns: &Text,
+    mtu: u32,
+    version: Version,
+) -> Result<(), NoMemory>
+    ensures { OnOk result (interfaces.new ≡ interfaces.old ++ results.pair_interfaces att.now netns.now mtu version) }
+{
+    interfaces.push(host_interface(alloc, att, mtu, version)?)?;
+    interfaces.push(inner_interface(att, netns, mtu, version)?)
+}
+
 /// The addresses on the interface of this index.
-pub fn ips_at(alloc: Global, index: u32, ips: &[IpEntry]) -> Result<Items<IpEntry>, NoMemory>
+fn ips_at(alloc: Global, index: u32, ips: &[IpEntry]) -> Result<Items<IpEntry>, NoMemory>
     ensures { IfOk result (λ all. all ≡ map (results.at_interface index) ips.now) }
 {
     let mut all = Vec::with_capacity(alloc, ips.len())?;
@@ -77,4 +83,25 @@ pub fn ips_at(alloc: Global, index: u32, ips: &[IpEntry]) -> Result<Items<IpEntr
         })?;
     }
     Ok(Items::of_vec(all))
+}
+
+/// The result of the address plugin with what the plugin that makes the interfaces adds: these interfaces, the index of
+/// the one that the addresses are on, and its routes and name servers (CNI specification, section 4, "IPAM plugins").
+pub fn completed(
+    alloc: Global,
+    ipam: &AddResult,
+    interfaces: Items<Interface>,
+    index: u32,
+    routes: Items<RouteEntry>,
+    dns: Dns,
+) -> Result<AddResult, NoMemory>
+    ensures { IfOk result (λ r. r ≡ results.completed ipam.now interfaces index routes dns) }
+{
+    Ok(AddResult {
+        version: ipam.version,
+        interfaces,
+        ips: ips_at(alloc, index, ipam.ips.as_slice())?,
+        routes,
+        dns,
+    })
 }

@@ -14,6 +14,7 @@
 pub mod bridge;
 pub mod bridge_counts;
 pub mod interfaces;
+pub mod kinds;
 pub mod laws;
 pub mod ptp;
 pub mod ptp_counts;

@@ -1,6 +1,6 @@
 //! The `ptp` plugin.
 
-ghost use Rattle.std.specs.Prelude.{◌≡◌, [], ◌∷◌, map, flat_map, fold, None, IfOk, OnOk};
+ghost use Rattle.std.specs.Prelude.{◌≡◌, [], map, flat_map, fold, None, IfOk, OnOk};
 ghost use Rattle.cni_addr.specs.Network as network;
 ghost use Rattle.kernel_types.specs.Names.{host_name_of};
 ghost use Rattle.kernel_types.specs.declared.object.Tag.TheVariants as tags;
@@ -9,14 +9,15 @@ ghost use Rattle.plan_words.specs.Shapes as shapes;
 ghost use Rattle.bridge_ptp.specs.Ptp as plan;
 ghost use Rattle.bridge_ptp.specs.Results as results;
 
-use crate::interfaces::{host_interface, inner_interface, ips_at};
+use crate::interfaces::{completed, push_pair};
+use crate::kinds::interface_kinds;
 use cni_addr::{Addr, Cidr, Duplicate, Items, NoMemory, Text, whole};
-use cni_result::{AddResult, Interface, RouteEntry, Version};
+use cni_result::{AddResult, RouteEntry};
 use kernel_types::{AddrObj, Att, Call, Given, Kind, RouteObj, Tag};
 use net_conf::PtpConf;
 use plan_words::{
     Asked, address_on, ask_all, ask_forward, host_end, inner_end, masquerade_rules,
-    push_unless_there, route_on,
+    push_unless_there, route_by, route_on,
 };
 use std::alloc::Global;
 
@@ -82,18 +83,6 @@ pub fn ptp_before(
 
 // ---- what lies on both ends
 
-fn route_inside(att: &Att, netns: &Text, dst: Cidr, gw: Option<Addr>) -> Result<RouteObj, NoMemory>
-    ensures { IfOk result (λ obj. obj ≡ record { ns = netns.now; dst = dst; link = att.now.ifname; gw = gw; tag = tags.Own att.now }) }
-{
-    Ok(RouteObj {
-        ns: netns.copy()?,
-        dst,
-        link: att.ifname.copy()?,
-        gw,
-        tag: Tag::Own(att.copy()?),
-    })
-}
-
 /// The gateway is an address of the host's end.
 fn gateway_on_host(alloc: Global, att: &Att, gateway: &Addr) -> Result<AddrObj, NoMemory>
     ensures { IfOk result (λ obj. obj ≡ record { ns = []; link = host_name_of att.now; cidr = network.whole gateway.now; tag = tags.Own att.now }) }
@@ -142,13 +131,10 @@ fn push_objects_for(
     ensures { OnOk result (objects.new.items ≡ fold (push_unless_there plan.same_key) objects.old.items (plan.ptp_objects_for att.now netns.now given.now)) }
 {
     push_address(objects, address_on(att, netns, given)?)?;
+    push_route(objects, route_by(att, netns, whole(&given.gateway), None)?)?;
     push_route(
         objects,
-        route_inside(att, netns, whole(&given.gateway), None)?,
-    )?;
-    push_route(
-        objects,
-        route_inside(att, netns, given.subnet, Some(given.gateway))?,
+        route_by(att, netns, given.subnet, Some(given.gateway))?,
     )?;
     push_address(objects, gateway_on_host(alloc, att, &given.gateway)?)?;
     push_route(objects, route_on_host(alloc, att, &given.address.addr)?)
@@ -220,21 +206,6 @@ pub fn ptp_after(
 
 // ---- the result
 
-fn interfaces(
-    alloc: Global,
-    conf: &PtpConf,
-    att: &Att,
-    netns: &Text,
-    version: Version,
-) -> Result<Items<Interface>, NoMemory>
-    ensures { IfOk result (λ all. all ≡ results.host_interface att.now conf.now.mtu version ∷ results.inner_interface att.now netns.now conf.now.mtu version ∷ []) }
-{
-    let mut all = Vec::with_capacity(alloc, 2)?;
-    all.push(host_interface(alloc, att, conf.mtu, version)?)?;
-    all.push(inner_interface(att, netns, conf.mtu, version)?)?;
-    Ok(Items::of_vec(all))
-}
-
 /// The result of the address plugin with both ends and the index of the container's.
 pub fn ptp_result(
     alloc: Global,
@@ -245,13 +216,10 @@ pub fn ptp_result(
 ) -> Result<AddResult, NoMemory>
     ensures { IfOk result (λ r. r ≡ results.ptp_result_of conf.now att.now netns.now ipam.now) }
 {
-    Ok(AddResult {
-        version: ipam.version,
-        interfaces: interfaces(alloc, conf, att, netns, ipam.version)?,
-        ips: ips_at(alloc, 1, ipam.ips.as_slice())?,
-        routes: ipam.routes.copy()?,
-        dns: conf.dns.copy()?,
-    })
+    let mut interfaces = Items::new(alloc);
+    push_pair(alloc, &mut interfaces, att, netns, conf.mtu, ipam.version)?;
+    let routes = ipam.routes.copy()?;
+    completed(alloc, ipam, interfaces, 1, routes, conf.dns.copy()?)
 }
 
 // ---- the kinds
@@ -260,11 +228,5 @@ pub fn ptp_result(
 pub fn ptp_kinds(alloc: Global, conf: &PtpConf) -> Result<Items<Kind>, NoMemory>
     ensures { IfOk result (λ kinds. kinds ≡ plan.ptp_kinds_of conf.now) }
 {
-    let mut kinds = Items::new(alloc);
-    kinds.push(Kind::Links)?;
-    if conf.ip_masq {
-        kinds.push(Kind::Rules)?;
-    }
-    kinds.push(Kind::Leases)?;
-    Ok(kinds)
+    interface_kinds(alloc, conf.ip_masq, Some(&conf.ipam))
 }

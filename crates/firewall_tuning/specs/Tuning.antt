@@ -2,7 +2,6 @@
 use Rattle.std.specs.Prelude.{ℕ, Bool, ◌||◌, List, [], ◌∷◌, ◌++◌, map, Option, is_some, if◌then◌else◌}
 use Rattle.std.specs.Option.{option_or}
 use Rattle.cni_result.specs.declared.version.Version.{Version}
-use Rattle.cni_result.specs.declared.version.Version.TheVariants.{V1_0, V1_1}
 use Rattle.cni_result.specs.declared.result.Interface.{Interface}
 use Rattle.cni_result.specs.declared.result.AddResult.{AddResult}
 use Rattle.net_conf.specs.declared.chained.Sysctl.{Sysctl}
@@ -15,6 +14,8 @@ use Rattle.kernel_types.specs.declared.object.Tag.TheVariants.{Own}
 use Rattle.kernel_types.specs.declared.call.Call.{Call}
 use Rattle.kernel_types.specs.declared.call.Call.TheVariants.{LinkSet, SettingSet}
 use Rattle.plan_words.specs.Keys.{each_key_once}
+use Rattle.plan_words.specs.Shapes.{inner_key}
+use Rattle.plan_words.specs.Versions.{mtu_since_1_1}
 
 -- ---- settings
 
@@ -31,26 +32,22 @@ sets_any conf = is_some conf.mac || (is_some conf.mtu || (is_some conf.tx_qlen |
 
 abbrev pub link_set_calls : TuningConf → Att → List ℕ → List Call
 link_set_calls conf att netns =
-    if sets_any conf then LinkSet att (record { ns = netns; name = att.ifname }) conf.mac conf.mtu conf.tx_qlen conf.promisc conf.allmulti ∷ [] else []
+    if sets_any conf then LinkSet att (inner_key att netns) conf.mac conf.mtu conf.tx_qlen conf.promisc conf.allmulti ∷ [] else []
 
 -- the links after it
 abbrev pub tuned : TuningConf → Att → List ℕ → List Link → List Link
 tuned conf att netns links =
-    if sets_any conf then map (set_link att (record { ns = netns; name = att.ifname }) conf.mac conf.mtu conf.tx_qlen conf.promisc conf.allmulti) links else links
+    if sets_any conf then map (set_link att (inner_key att netns) conf.mac conf.mtu conf.tx_qlen conf.promisc conf.allmulti) links else links
 
 abbrev pub tuning_calls_of : TuningConf → Att → List ℕ → List Call
 tuning_calls_of conf att netns = map SettingSet (tuning_settings conf att netns) ++ link_set_calls conf att netns
 
 -- ---- the result
 
-abbrev pub new_mtu : Version → Option ℕ → Option ℕ → Option ℕ
-new_mtu V1_0 mtu old = old
-new_mtu V1_1 mtu old = option_or mtu old
-
 -- the container's end alone has a sandbox
 abbrev pub tuned_interface : TuningConf → Version → Interface → Interface
 tuned_interface conf version i =
-    if is_some i.sandbox then record { name = i.name; mac = option_or conf.mac i.mac; mtu = new_mtu version conf.mtu i.mtu; sandbox = i.sandbox } else i
+    if is_some i.sandbox then record { name = i.name; mac = option_or conf.mac i.mac; mtu = option_or (mtu_since_1_1 version conf.mtu) i.mtu; sandbox = i.sandbox } else i
 
 abbrev pub tuning_result_of : TuningConf → AddResult → AddResult
 tuning_result_of conf prev =

@@ -8,9 +8,9 @@ ghost use Rattle.firewall_tuning.specs.Tuning as plan;
 
 use cni_addr::{Duplicate, Items, NoMemory, Text};
 use cni_result::{AddResult, Interface, Version};
-use kernel_types::{Att, Call, Kind, LinkKey, Setting, Tag};
+use kernel_types::{Att, Call, Kind, Setting, Tag};
 use net_conf::{Sysctl, TuningConf};
-use plan_words::{ask_all, push_unless_there};
+use plan_words::{ask_all, inner_key, mtu_since_1_1, push_unless_there};
 use std::alloc::Global;
 
 // ---- settings
@@ -63,10 +63,7 @@ fn ask_link_values(
     if sets_any(conf) {
         calls.push(Call::LinkSet {
             att: att.copy()?,
-            key: LinkKey {
-                ns: netns.copy()?,
-                name: att.ifname.copy()?,
-            },
+            key: inner_key(att, netns)?,
             mac: conf.mac,
             mtu: conf.mtu,
             tx_qlen: conf.tx_qlen,
@@ -95,16 +92,6 @@ pub fn tuning_calls(
 
 // ---- the result
 
-/// The MTU is told since 1.1.0.
-fn new_mtu(version: Version, mtu: Option<u32>, old: Option<u32>) -> Option<u32>
-    ensures { result ≡ plan.new_mtu version mtu old }
-{
-    match version {
-        Version::V1_0 => old,
-        Version::V1_1 => mtu.or(old),
-    }
-}
-
 fn tuned_interface(
     conf: &TuningConf,
     version: Version,
@@ -118,7 +105,7 @@ fn tuned_interface(
     Ok(Interface {
         name: interface.name.copy()?,
         mac: conf.mac.or(interface.mac),
-        mtu: new_mtu(version, conf.mtu, interface.mtu),
+        mtu: mtu_since_1_1(version, conf.mtu).or(interface.mtu),
         sandbox: interface.sandbox.copy()?,
     })
 }

@@ -19,10 +19,11 @@ ghost use Rattle.plan_words.specs.Rows.{present};
 ghost use Rattle.plan_words.specs.Shapes.{addresses_on, routes_on};
 ghost use Rattle.macvlan.specs.Macvlan as plan;
 
-use bridge_ptp::interfaces::{inner_interface, ips_at};
+use bridge_ptp::interfaces::{completed, inner_interface};
+use bridge_ptp::kinds::interface_kinds;
 use cni_addr::{Duplicate, Items, NoMemory, Text};
 use cni_result::{AddResult, RouteEntry};
-use host_local::{configured_routes, routes_of};
+use host_local::routes_of;
 use kernel_types::{Att, Call, Given, Kind};
 use net_conf::MacvlanConf;
 use plan_words::{
@@ -55,9 +56,8 @@ pub fn after(
 ) -> Result<Items<Call>, NoMemory>
     ensures { IfOk result (λ calls. calls ≡ plan.macvlan_calls_after conf.now att.now netns.now given.now) }
 {
-    let entries = configured_routes(alloc, &conf.ipam)?;
     let addresses = addresses_on(alloc, att, netns, given)?;
-    let routes = routes_on(alloc, att, netns, given, entries.as_slice())?;
+    let routes = routes_on(alloc, att, netns, given, routes_of(&conf.ipam))?;
     let mut calls = Vec::new(alloc);
     ask_all(&mut calls, addresses.as_slice())?;
     ask_all(&mut calls, routes.as_slice())?;
@@ -92,23 +92,13 @@ pub fn result(
 {
     let mut interfaces = Items::new(alloc);
     interfaces.push(inner_interface(att, netns, conf.mtu, ipam.version)?)?;
-    Ok(AddResult {
-        version: ipam.version,
-        interfaces,
-        ips: ips_at(alloc, 0, ipam.ips.as_slice())?,
-        routes: ipam.routes.copy()?,
-        dns: conf.dns.copy()?,
-    })
+    let routes = ipam.routes.copy()?;
+    completed(alloc, ipam, interfaces, 0, routes, conf.dns.copy()?)
 }
 
 /// The kinds of objects that DEL takes back.
 pub fn kinds(alloc: Global, conf: &MacvlanConf) -> Result<Items<Kind>, NoMemory>
     ensures { IfOk result (λ all. all ≡ plan.macvlan_kinds_of conf.now) }
 {
-    let mut all = Items::new(alloc);
-    all.push(Kind::Links)?;
-    if conf.ipam.is_some() {
-        all.push(Kind::Leases)?;
-    }
-    Ok(all)
+    interface_kinds(alloc, false, conf.ipam.as_ref())
 }

@@ -4,3 +4,4 @@ pub mod Rows
 pub mod RuleKeys
 pub mod Shapes
 pub mod Share
+pub mod Versions
