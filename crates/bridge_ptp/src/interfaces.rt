@@ -22,7 +22,7 @@ pub fn bridge_interface(name: &Text) -> Result<Interface, NoMemory>
 }
 
 /// The host's end of the attachment's veth pair.
-pub fn host_interface(
+fn host_interface(
     alloc: Global,
     att: &Att,
     mtu: u32,
