@@ -200,8 +200,8 @@ pub fn bridge_object_count<G: GivenRow + Copy>(conf: &BridgeConf, given: G) -> u
     count_of_objects(conf, routes_of(&conf.ipam), given)
 }
 
-/// How many calls `bridge` makes after the leases, for any attachment that is given these addresses: what comes twice by
-/// its key is asked for once. Takes no memory; quadratic in the addresses and in the routes.
+/// How many calls `bridge` makes after the leases, for any attachment that is given these addresses: what comes twice
+/// by its key is asked for once. Takes no memory; quadratic in the addresses and in the routes.
 pub fn bridge_after_count<G: GivenRow + Copy>(conf: &BridgeConf, given: G) -> usize
     ensures { (att : Att) (netns : List ℕ) → length (plan.bridge_calls_after conf.now att netns (present (G.values given))) ≡ result }
 {

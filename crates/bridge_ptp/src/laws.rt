@@ -8,8 +8,9 @@ use cni_addr::Text;
 use kernel_types::{Att, Given};
 use net_conf::{BridgeConf, PtpConf};
 
-/// In every sound host in which each call of `bridge` is done, the calls before the leases append the veth pair, and those
-/// after them the addresses, the routes and the rules, in order. What attachments share is none of the attachment's.
+/// In every sound host in which each call of `bridge` is done, the calls before the leases append the veth pair, and
+/// those after them the addresses, the routes and the rules, in order. What attachments share is none of the
+/// attachment's.
 pub fn bridge_appends_its_share(conf: &BridgeConf, att: &Att, netns: &Text, given: &[Given])
     ensures before { AppendsShare att.now (bridge_calls_before conf.now att.now netns.now) (bridge_share_before conf.now att.now netns.now) }
     ensures after { AppendsShare att.now (bridge_calls_after conf.now att.now netns.now given.now) (bridge_share_after conf.now att.now netns.now given.now) }

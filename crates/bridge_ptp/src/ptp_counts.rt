@@ -126,8 +126,8 @@ pub fn ptp_after_count<G: GivenRow + Copy>(conf: &PtpConf, two_ends: bool, given
 }
 
 /// How many addresses, routes and rules `ptp` makes after the leases, for any attachment that is given these addresses:
-/// what comes twice by its key is made once. Its ends are told apart as by [`ptp_after_count`]. Takes no memory; quadratic
-/// in addresses and routes together.
+/// what comes twice by its key is made once. Its ends are told apart as by [`ptp_after_count`]. Takes no memory;
+/// quadratic in addresses and routes together.
 pub fn ptp_object_count<G: GivenRow + Copy>(conf: &PtpConf, two_ends: bool, given: G) -> usize
     ensures { (att : Att) (netns : List ℕ) → keys.has_two_ends att netns ≡ two_ends
         → let share = plan.ptp_share_after conf.now att netns (present (G.values given)) in

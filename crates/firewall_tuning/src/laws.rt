@@ -9,8 +9,8 @@ use cni_result::AddResult;
 use kernel_types::Att;
 use net_conf::TuningConf;
 
-/// In every sound host in which each call of `firewall` is done, the calls append its rules, in order, for the addresses
-/// of the result that it is handed.
+/// In every sound host in which each call of `firewall` is done, the calls append its rules, in order, for the
+/// addresses of the result that it is handed.
 pub fn firewall_appends_its_share(att: &Att, prev: &AddResult)
     ensures { AppendsShare att.now (firewall_calls_of att.now prev.now.ips) (firewall_share_of att.now prev.now.ips) }
 {}

@@ -8,8 +8,8 @@ use cni_result::{AddResult, PortMapping};
 use kernel_types::Att;
 use net_conf::PortmapConf;
 
-/// In every sound host in which each call of `portmap` is done, the calls append the rules of its mappings, in order, for
-/// the addresses of the result that it is handed.
+/// In every sound host in which each call of `portmap` is done, the calls append the rules of its mappings, in order,
+/// for the addresses of the result that it is handed.
 pub fn portmap_appends_its_share(
     conf: &PortmapConf,
     att: &Att,

@@ -195,7 +195,8 @@ fn portmap_rules(
     Ok(rules)
 }
 
-/// The rules of each mapping, for the first address of each family that the attachment was given. None without an address.
+/// The rules of each mapping, for the first address of each family that the attachment was given. None without an
+/// address.
 pub fn calls(
     alloc: Global,
     conf: &PortmapConf,
