@@ -5,7 +5,7 @@ use Rattle.std.proofs.lemmas.Slice.Eq.{bytes_eq-Decides}
 use Rattle.kernel_types.specs.Equal.{att_eq}
 use Rattle.kernel_types.specs.Isolation.{KeepsWhere, KeepsPart, KeepsUnowned, names_att, is_from_outside, ensures_shared}
 use Rattle.kernel_types.specs.Words.{is_own, is_owned}
-use Rattle.kernel_types.specs.Touch.{Touches, TouchesOwn, TouchesOwnAlone, TouchesTag, AddsBridge, AddsAddress, AddsSetting, RemovesUnshared, is_base}
+use Rattle.kernel_types.specs.Touch.{Touches, TouchesOwn, TouchesTag, AddsBridge, AddsAddress, AddsSetting, RemovesUnshared, is_base}
 use Rattle.kernel_types.proofs.ChangeLemmas.{filter-ChangesOnly, filter-DropsOnly}
 use Rattle.kernel_types.specs.declared.object.Att.{Att}
 use Rattle.kernel_types.specs.declared.object.Tag.{Tag}

@@ -7,12 +7,11 @@ use Rattle.std.specs.Cmp.Lexicographic.{nat_list_eq_equiv}
 use Rattle.std.proofs.lemmas.Slice.Eq.{bytes_eq-Decides}
 use Rattle.kernel_types.specs.Equal.{addr_eq, tag_eq}
 use Rattle.kernel_types.specs.Lists.{distinct}
-use Rattle.kernel_types.specs.Words.{is_host_or_ns, is_own, is_owned, is_at, is_peer_at, is_link_of}
+use Rattle.kernel_types.specs.Words.{is_host_or_ns, is_owned, is_at, is_peer_at, is_link_of}
 use Rattle.kernel_types.specs.Apply.Calls.{goes_with}
 use Rattle.kernel_types.specs.Sound.{IsSound, AreInPlaces, NoNamespaceOwned, NoAddressTwice, is_link_or_peer, address_fits_tag, peer_fits, peers_back, setting_fits_tag}
 use Rattle.kernel_types.proofs.ListLemmas.{list_all-weaker, list_any-none, list_any-map_filter}
 use Rattle.kernel_types.proofs.TouchRemoval.{is_at-symm}
-use Rattle.kernel_types.specs.declared.object.Att.{Att}
 use Rattle.kernel_types.specs.declared.object.LinkKey.{LinkKey}
 use Rattle.kernel_types.specs.declared.object.Tag.{Tag}
 use Rattle.kernel_types.specs.declared.object.Tag.TheVariants.{Outside, Base, Own}

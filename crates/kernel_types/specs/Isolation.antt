@@ -7,7 +7,7 @@ use Rattle.kernel_types.specs.declared.object.Att.{Att}
 use Rattle.kernel_types.specs.declared.object.Host.{Host}
 use Rattle.kernel_types.specs.declared.object.Tag.{Tag}
 use Rattle.kernel_types.specs.declared.call.Call.{Call}
-use Rattle.kernel_types.specs.declared.call.Call.TheVariants.{Begin, BridgeEnsure, GatewayEnsure, ForwardEnsure, VethAdd, MacvlanAdd, LinkSet, AddrAdd, RouteAdd, RuleAppend, SettingSet, LeaseNext, CachePut, LinkDel, RuleDel, SettingDel, LeaseDel, CacheDel, HasObj, CacheGet, OwnersOf, PoolFree, NsChange, Outside}
+use Rattle.kernel_types.specs.declared.call.Call.TheVariants.{Begin, BridgeEnsure, GatewayEnsure, ForwardEnsure, VethAdd, MacvlanAdd, LinkSet, AddrAdd, RouteAdd, RuleAppend, SettingSet, LeaseNext, CachePut, LinkDel, RuleDel, SettingDel, LeaseDel, CacheDel, CacheGet, NsChange, Outside}
 
 -- each tagged list has the same objects whose tag passes, in the same order
 pub record KeepsWhere (test : Tag → Bool) (old new : Host) : Type 0 where
@@ -31,9 +31,6 @@ KeepsUnowned old new = KeepsWhere (λ t. not (is_owned t)) old new
 -- the call names this attachment, itself or by the tag of what it makes
 abbrev pub names_att : Att → Call → Bool
 names_att att (Begin a netns) = att_eq a att
-names_att att (BridgeEnsure name mtu promisc) = false
-names_att att (GatewayEnsure bridge cidr) = false
-names_att att (ForwardEnsure family) = false
 names_att att (VethAdd host_end inner_end) = is_own att host_end.tag
 names_att att (MacvlanAdd link) = is_own att link.tag
 names_att att (LinkSet a key mac mtu tx_qlen promisc allmulti) = att_eq a att
@@ -48,93 +45,30 @@ names_att att (RuleDel a) = att_eq a att
 names_att att (SettingDel a) = att_eq a att
 names_att att (LeaseDel a) = att_eq a att
 names_att att (CacheDel a) = att_eq a att
-names_att att (HasObj probe) = false
 names_att att (CacheGet a) = att_eq a att
-names_att att (OwnersOf network kind) = false
-names_att att (PoolFree network set) = false
-names_att att (NsChange name add) = false
-names_att att (Outside change) = false
+names_att att call = false
 
 -- the world outside makes the call
 abbrev pub is_from_outside : Call → Bool
-is_from_outside (Begin att netns) = false
-is_from_outside (BridgeEnsure name mtu promisc) = false
-is_from_outside (GatewayEnsure bridge cidr) = false
-is_from_outside (ForwardEnsure family) = false
-is_from_outside (VethAdd host_end inner_end) = false
-is_from_outside (MacvlanAdd link) = false
-is_from_outside (LinkSet att key mac mtu tx_qlen promisc allmulti) = false
-is_from_outside (AddrAdd obj) = false
-is_from_outside (RouteAdd obj) = false
-is_from_outside (RuleAppend rule) = false
-is_from_outside (SettingSet setting) = false
-is_from_outside (LeaseNext att number set) = false
-is_from_outside (CachePut att cached) = false
-is_from_outside (LinkDel att) = false
-is_from_outside (RuleDel att) = false
-is_from_outside (SettingDel att) = false
-is_from_outside (LeaseDel att) = false
-is_from_outside (CacheDel att) = false
-is_from_outside (HasObj probe) = false
-is_from_outside (CacheGet att) = false
-is_from_outside (OwnersOf network kind) = false
-is_from_outside (PoolFree network set) = false
 is_from_outside (NsChange name add) = true
 is_from_outside (Outside change) = true
+is_from_outside call = false
 
 -- the call ensures something that attachments share
 abbrev pub ensures_shared : Call → Bool
-ensures_shared (Begin att netns) = false
 ensures_shared (BridgeEnsure name mtu promisc) = true
 ensures_shared (GatewayEnsure bridge cidr) = true
 ensures_shared (ForwardEnsure family) = true
-ensures_shared (VethAdd host_end inner_end) = false
-ensures_shared (MacvlanAdd link) = false
-ensures_shared (LinkSet att key mac mtu tx_qlen promisc allmulti) = false
-ensures_shared (AddrAdd obj) = false
-ensures_shared (RouteAdd obj) = false
-ensures_shared (RuleAppend rule) = false
-ensures_shared (SettingSet setting) = false
-ensures_shared (LeaseNext att number set) = false
-ensures_shared (CachePut att cached) = false
-ensures_shared (LinkDel att) = false
-ensures_shared (RuleDel att) = false
-ensures_shared (SettingDel att) = false
-ensures_shared (LeaseDel att) = false
-ensures_shared (CacheDel att) = false
-ensures_shared (HasObj probe) = false
-ensures_shared (CacheGet att) = false
-ensures_shared (OwnersOf network kind) = false
-ensures_shared (PoolFree network set) = false
-ensures_shared (NsChange name add) = false
-ensures_shared (Outside change) = false
+ensures_shared call = false
 
 -- the attachment of which the call deletes objects
 abbrev pub deletes_for : Call → Option Att
-deletes_for (Begin att netns) = None
-deletes_for (BridgeEnsure name mtu promisc) = None
-deletes_for (GatewayEnsure bridge cidr) = None
-deletes_for (ForwardEnsure family) = None
-deletes_for (VethAdd host_end inner_end) = None
-deletes_for (MacvlanAdd link) = None
-deletes_for (LinkSet att key mac mtu tx_qlen promisc allmulti) = None
-deletes_for (AddrAdd obj) = None
-deletes_for (RouteAdd obj) = None
-deletes_for (RuleAppend rule) = None
-deletes_for (SettingSet setting) = None
-deletes_for (LeaseNext att number set) = None
-deletes_for (CachePut att cached) = None
 deletes_for (LinkDel att) = Some att
 deletes_for (RuleDel att) = Some att
 deletes_for (SettingDel att) = Some att
 deletes_for (LeaseDel att) = Some att
 deletes_for (CacheDel att) = Some att
-deletes_for (HasObj probe) = None
-deletes_for (CacheGet att) = None
-deletes_for (OwnersOf network kind) = None
-deletes_for (PoolFree network set) = None
-deletes_for (NsChange name add) = None
-deletes_for (Outside change) = None
+deletes_for call = None
 
 -- objects of the attachment are removed, and all else stands as it stood
 pub record RemovesOwn (att : Att) (old new : Host) : Type 0 where

@@ -6,9 +6,9 @@ use Rattle.kernel_types.specs.Equal.{att_eq, tag_eq}
 use Rattle.kernel_types.specs.declared.object.Att.{Att}
 use Rattle.kernel_types.specs.declared.object.LinkKey.{LinkKey}
 use Rattle.kernel_types.specs.declared.object.Tag.{Tag}
-use Rattle.kernel_types.specs.declared.object.Tag.TheVariants.{Outside, Base, Own}
+use Rattle.kernel_types.specs.declared.object.Tag.TheVariants.{Own}
 use Rattle.kernel_types.specs.declared.object.LinkKind.{LinkKind}
-use Rattle.kernel_types.specs.declared.object.LinkKind.TheVariants.{Device, Bridge, Veth, Macvlan}
+use Rattle.kernel_types.specs.declared.object.LinkKind.TheVariants.{Bridge, Veth}
 use Rattle.kernel_types.specs.declared.object.Link.{Link}
 use Rattle.kernel_types.specs.declared.object.NsObj.{NsObj}
 use Rattle.kernel_types.specs.declared.object.Host.{Host}
@@ -18,21 +18,16 @@ abbrev pub is_host_ns : List ℕ → Bool
 is_host_ns ns = length ns == 0
 
 abbrev pub is_own : Att → Tag → Bool
-is_own att Outside = false
-is_own att Base = false
 is_own att (Own own) = att_eq own att
+is_own att tag = false
 
 abbrev pub is_bridge : LinkKind → Bool
-is_bridge Device = false
 is_bridge Bridge = true
-is_bridge Veth = false
-is_bridge (Macvlan mode) = false
+is_bridge kind = false
 
 abbrev pub is_veth : LinkKind → Bool
-is_veth Device = false
-is_veth Bridge = false
 is_veth Veth = true
-is_veth (Macvlan mode) = false
+is_veth kind = false
 
 -- the link stands at this place
 abbrev pub is_at : List ℕ → List ℕ → Link → Bool
@@ -77,9 +72,8 @@ has_objects host att =
     || list_any (λ c. is_own att c.tag) host.cached
 
 abbrev pub is_owned : Tag → Bool
-is_owned Outside = false
-is_owned Base = false
 is_owned (Own att) = true
+is_owned tag = false
 
 -- the link stands at this place and has this tag
 abbrev pub is_link_of : List ℕ → List ℕ → Tag → Link → Bool
