@@ -8,7 +8,7 @@ use Rattle.kernel_types.specs.Words.{is_own}
 use Rattle.kernel_types.specs.declared.object.Tag.{Tag}
 use Rattle.kernel_types.specs.declared.object.Host.{Host}
 use Rattle.kernel_types.specs.declared.call.Call.{Call}
-use Rattle.kernel_types.specs.declared.call.Call.TheVariants.{Begin, BridgeEnsure, GatewayEnsure, ForwardEnsure, VethAdd, MacvlanAdd, LinkSet, AddrAdd, RouteAdd, RuleAppend, SettingSet, LeaseNext, CachePut, LinkDel, RuleDel, SettingDel, LeaseDel, CacheDel, HasObj, CacheGet, OwnersOf, PoolFree, NsChange, Outside}
+use Rattle.kernel_types.specs.declared.call.Call.TheVariants.{LinkDel, RuleDel, SettingDel, LeaseDel, CacheDel, OwnersOf}
 use Rattle.kernel_types.specs.declared.call.Kind.{Kind}
 use Rattle.kernel_types.specs.declared.call.Kind.TheVariants.{Links, Rules, Settings, Leases, Cached}
 use Rattle.kernel_types.specs.declared.call.Reply.{Reply}
@@ -58,30 +58,13 @@ Ends list c es ending = finish_of (state_after list c (replies es)) ≡ Some (re
 
 -- the call asks for the owners of the kind, or deletes the kind for this tag's attachment
 abbrev pub is_about : Kind → Tag → Call → Bool
-is_about kind tag (Begin att netns) = false
-is_about kind tag (BridgeEnsure name mtu promisc) = false
-is_about kind tag (GatewayEnsure bridge cidr) = false
-is_about kind tag (ForwardEnsure family) = false
-is_about kind tag (VethAdd host_end inner_end) = false
-is_about kind tag (MacvlanAdd link) = false
-is_about kind tag (LinkSet att key mac mtu tx_qlen promisc allmulti) = false
-is_about kind tag (AddrAdd obj) = false
-is_about kind tag (RouteAdd obj) = false
-is_about kind tag (RuleAppend rule) = false
-is_about kind tag (SettingSet setting) = false
-is_about kind tag (LeaseNext att number set) = false
-is_about kind tag (CachePut att cached) = false
 is_about kind tag (LinkDel att) = kind_eq Links kind && is_own att tag
 is_about kind tag (RuleDel att) = kind_eq Rules kind && is_own att tag
 is_about kind tag (SettingDel att) = kind_eq Settings kind && is_own att tag
 is_about kind tag (LeaseDel att) = kind_eq Leases kind && is_own att tag
 is_about kind tag (CacheDel att) = kind_eq Cached kind && is_own att tag
-is_about kind tag (HasObj probe) = false
-is_about kind tag (CacheGet att) = false
 is_about kind tag (OwnersOf network asked) = kind_eq asked kind
-is_about kind tag (PoolFree network set) = false
-is_about kind tag (NsChange name add) = false
-is_about kind tag (Outside change) = false
+is_about kind tag call = false
 
 abbrev pub blames : Kind → Tag → Made → Bool
 blames kind tag e = is_fault e.reply && is_about kind tag e.call

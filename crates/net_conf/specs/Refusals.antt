@@ -5,11 +5,8 @@ use Rattle.net_conf.specs.declared.error.ConfError.TheVariants as refusal
 
 -- the refusal says that memory ran out
 abbrev pub is_want_of_memory : ConfError → Bool
-is_want_of_memory (refusal.Version found) = false
-is_want_of_memory (refusal.Unsupported key value) = false
-is_want_of_memory refusal.Decode = false
-is_want_of_memory (refusal.Invalid why) = false
 is_want_of_memory refusal.NoMemory = true
+is_want_of_memory refused = false
 
 -- this key or part of the list is wrong
 abbrev pub invalid : {A : Type 0} → List ℕ → Result A ConfError

@@ -24,19 +24,7 @@ is_plan_call_of att (RouteAdd obj) = is_own att obj.tag
 is_plan_call_of att (RuleAppend rule) = is_own att rule.tag
 is_plan_call_of att (SettingSet setting) = is_own att setting.tag
 is_plan_call_of att (CachePut own cached) = att_eq own att
-is_plan_call_of att (Begin own netns) = false
-is_plan_call_of att (LeaseNext own number set) = false
-is_plan_call_of att (LinkDel own) = false
-is_plan_call_of att (RuleDel own) = false
-is_plan_call_of att (SettingDel own) = false
-is_plan_call_of att (LeaseDel own) = false
-is_plan_call_of att (CacheDel own) = false
-is_plan_call_of att (HasObj probe) = false
-is_plan_call_of att (CacheGet own) = false
-is_plan_call_of att (OwnersOf network kind) = false
-is_plan_call_of att (PoolFree network set) = false
-is_plan_call_of att (NsChange name add) = false
-is_plan_call_of att (Outside change) = false
+is_plan_call_of att call = false
 
 -- the call is one that an ADD or a DEL of this attachment makes
 abbrev pub is_call_of : Att → Call → Bool

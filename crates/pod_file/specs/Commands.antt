@@ -49,29 +49,16 @@ verb_at place d = verb_of place (text_field (codes "verb") d)
 
 -- the verbs of the CNI specification, which speak of a network
 abbrev pub is_of_network : Verb → Bool
-is_of_network verbs.Add = true
-is_of_network verbs.Check = true
-is_of_network verbs.Del = true
-is_of_network verbs.Gc = true
-is_of_network verbs.Status = true
-is_of_network verbs.Version = true
 is_of_network verbs.NsAdd = false
 is_of_network verbs.NsDel = false
 is_of_network verbs.Drop = false
 is_of_network verbs.Flush = false
+is_of_network verb = true
 
 -- a flush names its table
 abbrev pub needs_table : Verb → Bool
-needs_table verbs.Add = false
-needs_table verbs.Check = false
-needs_table verbs.Del = false
-needs_table verbs.Gc = false
-needs_table verbs.Status = false
-needs_table verbs.Version = false
-needs_table verbs.NsAdd = false
-needs_table verbs.NsDel = false
-needs_table verbs.Drop = false
 needs_table verbs.Flush = true
+needs_table verb = false
 
 -- ---- texts
 

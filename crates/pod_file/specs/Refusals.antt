@@ -6,11 +6,8 @@ use Rattle.pod_file.specs.declared.place.CommandPlace.{CommandPlace}
 
 -- the refusal says that memory ran out
 abbrev pub is_want_of_memory : PodError → Bool
-is_want_of_memory refusal.Decode = false
-is_want_of_memory refusal.Number = false
-is_want_of_memory (refusal.Shape path) = false
-is_want_of_memory (refusal.Alone round) = false
 is_want_of_memory refusal.NoMemory = true
+is_want_of_memory refused = false
 
 -- the first fault is at this place
 abbrev pub wrong : {A : Type 0} → List ℕ → Result A PodError

@@ -53,13 +53,8 @@ abbrev pub is_exclusive_verb : Verb → Bool
 is_exclusive_verb verbs.Add = false
 is_exclusive_verb verbs.Check = false
 is_exclusive_verb verbs.Del = false
-is_exclusive_verb verbs.Gc = true
-is_exclusive_verb verbs.Status = true
 is_exclusive_verb verbs.Version = false
-is_exclusive_verb verbs.NsAdd = true
-is_exclusive_verb verbs.NsDel = true
-is_exclusive_verb verbs.Drop = true
-is_exclusive_verb verbs.Flush = true
+is_exclusive_verb verb = true
 
 abbrev pub is_exclusive : Command → Bool
 is_exclusive command = is_exclusive_verb command.verb
