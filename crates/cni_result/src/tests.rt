@@ -221,11 +221,8 @@ fn key_of(refused: Option<ResultError>) -> Option<Text> {
 }
 
 #[test]
-fn the_first_wrong_member_is_named(rt: HostRuntime) -> Result<(), Fail> {
+fn the_first_wrong_list_is_named(rt: HostRuntime) -> Result<(), Fail> {
     for (text, wrong) in [
-        (r#"{"cniVersion":1.5}"#, "number"),
-        ("[]", "result"),
-        (r#""1.1.0""#, "result"),
         (
             r#"{"cniVersion":"1.1.0","interfaces":7,"ips":7}"#,
             "interfaces",
@@ -252,6 +249,19 @@ fn the_first_wrong_member_is_named(rt: HostRuntime) -> Result<(), Fail> {
             r#"{"cniVersion":"1.1.0","routes":[{"gw":"10.0.0.1"}],"dns":7}"#,
             "routes",
         ),
+    ] {
+        let key = key_of(read_result(rt.alloc(), text.as_bytes()).err()).ok_or("no key")?;
+        assert_eq!(rt; key.as_str(), wrong, "at {text}");
+    }
+    Ok(())
+}
+
+#[test]
+fn what_is_wrong_beside_the_lists_is_named(rt: HostRuntime) -> Result<(), Fail> {
+    for (text, wrong) in [
+        (r#"{"cniVersion":1.5}"#, "number"),
+        ("[]", "result"),
+        (r#""1.1.0""#, "result"),
         (r#"{"cniVersion":"1.1.0","dns":{"search":[null]}}"#, "dns"),
         (r#"{"cniVersion":"1.1.0","dns":{"domain":7}}"#, "dns"),
         (
