@@ -11,7 +11,7 @@ ghost use Rattle.bridge_ptp.specs.Results as results;
 
 use crate::interfaces::{completed, push_pair};
 use crate::kinds::interface_kinds;
-use cni_addr::{Addr, Cidr, Duplicate, Items, NoMemory, Text, whole};
+use cni_addr::{Addr, Duplicate, Items, NoMemory, Text, whole};
 use cni_result::{AddResult, RouteEntry};
 use kernel_types::{AddrObj, Att, Call, Given, Kind, RouteObj, Tag};
 use net_conf::PtpConf;
