@@ -5,6 +5,7 @@ ghost use Rattle.std.specs.Option.{option_copied};
 ghost use Rattle.bridge_ptp.specs.Bridge as plan;
 
 use cni_addr::{Items, NoMemory};
+use host_local::release_kinds;
 use kernel_types::Kind;
 use net_conf::HostLocalConf;
 use std::alloc::Global;
@@ -23,7 +24,8 @@ pub fn interface_kinds(
         kinds.push(Kind::Rules)?;
     }
     if ipam.is_some() {
-        kinds.push(Kind::Leases)?;
+        let [leases] = release_kinds();
+        kinds.push(leases)?;
     }
     Ok(kinds)
 }

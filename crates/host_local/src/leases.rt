@@ -4,10 +4,11 @@ ghost use Rattle.std.specs.Prelude.{◌≡◌, ◌+◌, ◌∷◌, [], ◌≤◌
 ghost use Rattle.std.specs.Option.{option_copied};
 ghost use Rattle.ip_pool.specs.NextAddress.{is_candidate};
 ghost use Rattle.cni_addr.specs.declared.range.RangeSet.{RangeSet};
+ghost use Rattle.kernel_types.specs.declared.call.Kind.TheVariants.{Leases};
 ghost use Rattle.host_local.specs.Leases as leases;
 
 use cni_addr::{Addr, Cidr, Duplicate, Items, NoMemory, Range, RangeSet};
-use kernel_types::{Att, Call, Given};
+use kernel_types::{Att, Call, Given, Kind};
 use net_conf::HostLocalConf;
 use std::alloc::Global;
 
@@ -92,4 +93,11 @@ pub fn given_of(alloc: Global, sets: &[RangeSet], addrs: &[Addr]) -> Result<Vec<
         }
     }
     Ok(all)
+}
+
+/// The kinds of objects that DEL takes back.
+pub fn release_kinds() -> [Kind; 1]
+    ensures { result ≡ Leases ∷ [] }
+{
+    [Kind::Leases]
 }
