@@ -1,6 +1,7 @@
 //! The lines of a dump.
 
-ghost use Rattle.std.specs.Prelude.{◌≡◌, ◌++◌, take, vec_len, false, OnOk, IfOk};
+ghost use Rattle.std.specs.Prelude.{◌≡◌, ◌++◌, take, vec_len, false, OnOk, OnErr, IfOk};
+ghost use Rattle.cni_json.specs.Json.{line_of};
 ghost use Rattle.serde_json.specs.Data.{Data};
 ghost use Rattle.serde_json.specs.View.{view};
 ghost use Rattle.serde_json.specs.Written.{has_float};
@@ -22,6 +23,20 @@ pub trait Dumped {
         ensures { IfOk result (λ v. view v ≡ shown self.now) };
 }
 
+/// Appends the value as a line of its own. It asks that each number be a `u64` or an `i64`. Memory that is refused
+/// leaves `lines` as they were. It takes time and memory in proportion to the line.
+pub fn push_line(alloc: Global, value: &Value, lines: &mut Vec<u8>) -> Result<(), NoMemory>
+    requires { has_float (view value.now) ≡ false }
+    ensures ok { OnOk result (lines.new.items ≡ lines.old.items ++ line_of (view value.now)) }
+    ensures err { OnErr result (lines.new.items ≡ lines.old.items) }
+{
+    let Ok(text) = line(alloc, value) else {
+        return Err(NoMemory);
+    };
+    lines.extend_from_slice(text.as_slice())?;
+    Ok(())
+}
+
 /// Appends a line for each object. It asks that what is shown be a line, which is so of each kind of objects.
 #[tactic(auto, using(crate::proofs::TextLemmas::front_of_append))]
 fn push_lines<T: Dumped>(alloc: Global, objects: &[T], lines: &mut Vec<u8>) -> Result<(), NoMemory>
@@ -31,17 +46,14 @@ fn push_lines<T: Dumped>(alloc: Global, objects: &[T], lines: &mut Vec<u8>) -> R
 {
     for object in objects {
         let value = object.dump_value(alloc)?;
-        let Ok(text) = line(alloc, &value) else {
-            return Err(NoMemory);
-        };
-        lines.extend_from_slice(text.as_slice())?;
+        push_line(alloc, &value, lines)?;
     }
     Ok(())
 }
 
 /// Appends the lines of all objects, list by list in the order of [`Host`]. What stood in `lines` stays; a refusal may
 /// leave a part of the dump behind it. It takes time and memory in proportion to the lines.
-#[tactic(auto, using(crate::proofs::TextLemmas::front_of_front))]
+#[tactic(auto, using(crate::proofs::TextLemmas::front_of_front, crate::proofs::DumpLemmas::namespace_is_whole, crate::proofs::DumpLemmas::link_is_whole, crate::proofs::DumpLemmas::address_is_whole, crate::proofs::DumpLemmas::route_is_whole, crate::proofs::DumpLemmas::rule_is_whole, crate::proofs::DumpLemmas::setting_is_whole, crate::proofs::DumpLemmas::lease_is_whole, crate::proofs::DumpLemmas::cached_is_whole, crate::proofs::DumpLemmas::last_is_whole))]
 pub fn push_dump(alloc: Global, host: &Host, lines: &mut Vec<u8>) -> Result<(), NoMemory>
     ensures shown { OnOk result (lines.new.items ≡ lines.old.items ++ dump_of host.now) }
     ensures kept { take (vec_len lines.old) lines.new.items ≡ lines.old.items }

@@ -22,6 +22,6 @@ pub mod rules;
 pub mod tags;
 pub mod words;
 
-pub use dump::push_dump;
+pub use dump::{push_dump, push_line};
 pub use replies::{call_name, reply_text, trace_value};
 pub use tags::{attachment_text, tag_text};

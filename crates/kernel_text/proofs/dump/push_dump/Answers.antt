@@ -1,32 +1,5 @@
-use Rattle.kernel_text.proofs.DumpLemmas.{namespace_is_whole, link_is_whole, address_is_whole, route_is_whole, rule_is_whole, setting_is_whole, lease_is_whole, cached_is_whole, last_is_whole, first_list, next_list}
+use Rattle.kernel_text.proofs.DumpLemmas.{first_list, next_list}
 use Rattle.kernel_text.proofs.dump.push_dump.Goals as goal
-
-pub push_lines-requires : goal.push_lines-requires
-push_lines-requires c = namespace_is_whole
-
-pub push_lines-requires-2 : goal.push_lines-requires-2
-push_lines-requires-2 c = link_is_whole
-
-pub push_lines-requires-3 : goal.push_lines-requires-3
-push_lines-requires-3 c = address_is_whole
-
-pub push_lines-requires-4 : goal.push_lines-requires-4
-push_lines-requires-4 c = route_is_whole
-
-pub push_lines-requires-5 : goal.push_lines-requires-5
-push_lines-requires-5 c = rule_is_whole
-
-pub push_lines-requires-6 : goal.push_lines-requires-6
-push_lines-requires-6 c = setting_is_whole
-
-pub push_lines-requires-7 : goal.push_lines-requires-7
-push_lines-requires-7 c = lease_is_whole
-
-pub push_lines-requires-8 : goal.push_lines-requires-8
-push_lines-requires-8 c = cached_is_whole
-
-pub push_lines-requires-9 : goal.push_lines-requires-9
-push_lines-requires-9 c = last_is_whole
 
 pub returns-clause-shown : goal.returns-clause-shown
 returns-clause-shown c =
