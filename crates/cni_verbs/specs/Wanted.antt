@@ -30,9 +30,9 @@ use Rattle.bridge_ptp.specs.Bridge.{bridge_share_before, bridge_share_after, bri
 use Rattle.bridge_ptp.specs.Ptp.{ptp_share_before, ptp_share_after, ptp_calls_before, ptp_calls_after, ptp_kinds_of}
 use Rattle.bridge_ptp.specs.Results.{bridge_result_of, ptp_result_of}
 use Rattle.macvlan.specs.Macvlan.{macvlan_share_before, macvlan_share_after, macvlan_calls_before, macvlan_calls_after, macvlan_kinds_of, macvlan_result_of}
-use Rattle.portmap.specs.Portmap.{portmap_rules, portmap_calls_of}
-use Rattle.firewall_tuning.specs.Firewall.{firewall_rules, firewall_calls_of}
-use Rattle.firewall_tuning.specs.Tuning.{tuning_settings, tuned, tuning_calls_of, tuning_result_of}
+use Rattle.portmap.specs.Portmap.{portmap_rules, portmap_calls_of, portmap_kinds}
+use Rattle.firewall_tuning.specs.Firewall.{firewall_rules, firewall_calls_of, firewall_kinds}
+use Rattle.firewall_tuning.specs.Tuning.{tuning_settings, tuned, tuning_calls_of, tuning_result_of, tuning_kinds}
 
 -- ---- the first plugin
 
@@ -94,9 +94,9 @@ chained_result (Firewall conf) prev = prev
 chained_result (Tuning conf) prev = tuning_result_of conf prev
 
 abbrev pub chained_kinds : Chained → List Kind
-chained_kinds (Portmap conf) = kinds.Rules ∷ []
-chained_kinds (Firewall conf) = kinds.Rules ∷ []
-chained_kinds (Tuning conf) = kinds.Settings ∷ []
+chained_kinds (Portmap conf) = portmap_kinds
+chained_kinds (Firewall conf) = firewall_kinds
+chained_kinds (Tuning conf) = tuning_kinds
 
 -- each is handed the result of the one before
 abbrev pub all_chained_results : List Chained → AddResult → AddResult

@@ -11,6 +11,8 @@ use Rattle.kernel_types.specs.declared.object.Chain.TheVariants as chains
 use Rattle.kernel_types.specs.declared.object.Target.TheVariants as targets
 use Rattle.kernel_types.specs.declared.call.Call.{Call}
 use Rattle.kernel_types.specs.declared.call.Call.TheVariants.{RuleAppend}
+use Rattle.kernel_types.specs.declared.call.Kind.{Kind}
+use Rattle.kernel_types.specs.declared.call.Kind.TheVariants.{Rules}
 use Rattle.plan_words.specs.Keys.{each_key_once}
 use Rattle.plan_words.specs.Shapes.{rule_for_all}
 
@@ -30,3 +32,7 @@ firewall_rules att ips = each_key_once rule_eq (flat_map (forward_of att) ips)
 
 abbrev pub firewall_calls_of : Att → List IpEntry → List Call
 firewall_calls_of att ips = map RuleAppend (firewall_rules att ips)
+
+-- the kinds of objects that DEL takes back
+abbrev pub firewall_kinds : List Kind
+firewall_kinds = Rules ∷ []

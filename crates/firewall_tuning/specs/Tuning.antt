@@ -13,6 +13,8 @@ use Rattle.kernel_types.specs.declared.object.Setting.{Setting}
 use Rattle.kernel_types.specs.declared.object.Tag.TheVariants.{Own}
 use Rattle.kernel_types.specs.declared.call.Call.{Call}
 use Rattle.kernel_types.specs.declared.call.Call.TheVariants.{LinkSet, SettingSet}
+use Rattle.kernel_types.specs.declared.call.Kind.{Kind}
+use Rattle.kernel_types.specs.declared.call.Kind.TheVariants.{Settings}
 use Rattle.plan_words.specs.Keys.{each_key_once}
 use Rattle.plan_words.specs.Shapes.{inner_key}
 use Rattle.plan_words.specs.Versions.{mtu_since_1_1}
@@ -52,3 +54,9 @@ tuned_interface conf version i =
 abbrev pub tuning_result_of : TuningConf → AddResult → AddResult
 tuning_result_of conf prev =
     record { version = prev.version; interfaces = map (tuned_interface conf prev.version) prev.interfaces; ips = prev.ips; routes = prev.routes; dns = prev.dns }
+
+-- ---- the kinds
+
+-- the kinds of objects that DEL takes back; a link's values go with the link
+abbrev pub tuning_kinds : List Kind
+tuning_kinds = Settings ∷ []

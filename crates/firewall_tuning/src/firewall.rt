@@ -1,7 +1,6 @@
 //! The `firewall` plugin.
 
-ghost use Rattle.std.specs.Prelude.{◌≡◌, ◌∷◌, [], IfOk};
-ghost use Rattle.kernel_types.specs.declared.call.Kind.TheVariants as kind;
+ghost use Rattle.std.specs.Prelude.{◌≡◌, IfOk};
 ghost use Rattle.firewall_tuning.specs.Firewall as plan;
 
 use cni_addr::{Addr, Duplicate, Items, NoMemory, whole};
@@ -61,7 +60,7 @@ pub fn firewall_result(prev: &AddResult) -> Result<AddResult, NoMemory>
 
 /// The kinds of objects that DEL takes back.
 pub fn firewall_kinds() -> [Kind; 1]
-    ensures { result ≡ kind.Rules ∷ [] }
+    ensures { result ≡ plan.firewall_kinds }
 {
     [Kind::Rules]
 }

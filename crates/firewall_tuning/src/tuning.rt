@@ -1,8 +1,7 @@
 //! The `tuning` plugin.
 
-ghost use Rattle.std.specs.Prelude.{◌≡◌, ◌∷◌, [], ◌++◌, map, IfOk, OnOk};
+ghost use Rattle.std.specs.Prelude.{◌≡◌, ◌++◌, map, IfOk, OnOk};
 ghost use Rattle.kernel_types.specs.Apply.Calls.{is_same_setting};
-ghost use Rattle.kernel_types.specs.declared.call.Kind.TheVariants as kind;
 ghost use Rattle.plan_words.specs.Keys.{each_key_once};
 ghost use Rattle.firewall_tuning.specs.Tuning as plan;
 
@@ -144,7 +143,7 @@ pub fn tuning_result(
 
 /// The kinds of objects that DEL takes back.
 pub fn tuning_kinds() -> [Kind; 1]
-    ensures { result ≡ kind.Settings ∷ [] }
+    ensures { result ≡ plan.tuning_kinds }
 {
     [Kind::Settings]
 }

@@ -17,6 +17,8 @@ use Rattle.kernel_types.specs.declared.object.Chain.TheVariants as chains
 use Rattle.kernel_types.specs.declared.object.Target.TheVariants as targets
 use Rattle.kernel_types.specs.declared.call.Call.{Call}
 use Rattle.kernel_types.specs.declared.call.Call.TheVariants.{RuleAppend}
+use Rattle.kernel_types.specs.declared.call.Kind.{Kind}
+use Rattle.kernel_types.specs.declared.call.Kind.TheVariants.{Rules}
 use Rattle.plan_words.specs.Keys.{each_key_once}
 use Rattle.plan_words.specs.Shapes.{rule_for_all}
 
@@ -72,3 +74,7 @@ portmap_rules conf att mappings ips = each_key_once rule_eq (flat_map (mapping_r
 
 abbrev pub portmap_calls_of : PortmapConf → Att → List PortMapping → List IpEntry → List Call
 portmap_calls_of conf att mappings ips = map RuleAppend (portmap_rules conf att mappings ips)
+
+-- the kinds of objects that DEL takes back
+abbrev pub portmap_kinds : List Kind
+portmap_kinds = Rules ∷ []

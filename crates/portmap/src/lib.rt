@@ -12,11 +12,10 @@
 pub mod counts;
 pub mod laws;
 
-ghost use Rattle.std.specs.Prelude.{◌≡◌, ◌∷◌, [], find, fold, option_map, IfOk, OnOk};
+ghost use Rattle.std.specs.Prelude.{◌≡◌, find, fold, option_map, IfOk, OnOk};
 ghost use Rattle.cni_addr.specs.Codes.{family_eq};
 ghost use Rattle.cni_addr.specs.Network as network;
 ghost use Rattle.kernel_types.specs.Equal.{rule_eq};
-ghost use Rattle.kernel_types.specs.declared.call.Kind.TheVariants as kind;
 ghost use Rattle.plan_words.specs.Keys.{push_unless_there};
 ghost use Rattle.portmap.specs.Portmap as plan;
 
@@ -221,7 +220,7 @@ pub fn result(prev: &AddResult) -> Result<AddResult, NoMemory>
 
 /// The kinds of objects that DEL takes back.
 pub fn kinds() -> [Kind; 1]
-    ensures { result ≡ kind.Rules ∷ [] }
+    ensures { result ≡ plan.portmap_kinds }
 {
     [Kind::Rules]
 }
