@@ -1,7 +1,8 @@
 -- What a deletion does to a sound host, for every kind.
-use Rattle.std.proofs.Common.{◌≡◌, ◌<◌, Bool, true, false, not, ap, List, [], ◌∷◌, Option, Some, None, length, refl, sym, ◌∙◌, arith}
+use Rattle.std.proofs.Common.{◌≡◌, ◌<◌, Bool, true, false, not, ap, List, [], ◌∷◌, Option, Some, None, length, map, refl, sym, ◌∙◌, arith}
 use Rattle.std.specs.Prelude.{filter, find, ◌&&◌}
 use Rattle.std.specs.List.{list_any}
+use Rattle.kernel_types.specs.Lists.{without_first}
 use Rattle.kernel_types.specs.Words.{is_own, is_at}
 use Rattle.kernel_types.specs.Apply.{apply}
 use Rattle.kernel_types.specs.Apply.Calls.{tags_of, without_link, goes_with, without_links}
@@ -64,53 +65,44 @@ within_leases h xs s = record { namespaces = refl; links = sublist_same h.links;
 within_cached : (h : Host) (xs : List CachedObj) → IsSublist xs h.cached → IsWithin (record h { cached = xs }) h
 within_cached h xs s = record { namespaces = refl; links = sublist_same h.links; addresses = sublist_same h.addresses; routes = sublist_same h.routes; rules = sublist_same h.rules; settings = sublist_same h.settings; leases = sublist_same h.leases; cached = s; lasts = refl }
 
+-- One list loses the first of the attachment's objects, and nothing else changes. `put` sets that list in a host, and `more` is what the other lists
+-- add to a total.
+deletes_first : {X : Type 0} (a : Att) (kind : Kind) (h : Host) (tag_of : X → Tag) (xs : List X) (put : List X → Host) (left : List X) (any : Bool)
+    → left ≡ without_first (λ x. is_own a (tag_of x)) xs → any ≡ list_any (λ x. is_own a (tag_of x)) xs → tags_of h kind ≡ map tag_of xs → put xs ≡ h
+    → ((p : Tag → Bool) → length (filter (λ x. p (tag_of x)) left) < length (filter (λ x. p (tag_of x)) xs) → total p (put left) < total p h)
+    → IsSound (put left) → TouchesOwn a h (put left) → IsWithin (put left) h → Deletes a kind h (put left, Gone any)
+deletes_first a kind h tag_of xs put left any is_left is_any tags same less sound touch within =
+    let own : list_any (is_own a) (tags_of h kind) ≡ list_any (λ x. is_own a (tag_of x)) xs = ap (list_any (is_own a)) tags ∙ list_any-map (is_own a) tag_of xs in
+    record {
+      sound = sound;
+      touch = touch;
+      within = within;
+      reply = ap Gone (is_any ∙ sym own);
+      none = λ e. ap put (is_left ∙ without_first-none (λ x. is_own a (tag_of x)) xs (sym own ∙ e)) ∙ same;
+      fewer = λ p w e.
+          let c = count_without_first (λ x. is_own a (tag_of x)) (λ x. p (tag_of x)) (λ x. w (tag_of x)) xs (sym own ∙ e) in
+          less p (rw is_left c);
+    }
+
 deletes_rules : (a : Att) (h : Host) → IsSound h → Deletes a Rules h (apply h (deletion a Rules))
 deletes_rules a h sound =
-    let any = list_any-map (is_own a) (λ x. x.tag) h.rules in
-    record {
-      sound = IsSound-rule_del h a sound;
-      touch = (TouchesOwnAlone-rule_del h a).own;
-      within = within_rules h _ (sublist_without_first (λ x. is_own a x.tag) h.rules);
-      reply = ap Gone (sym any);
-      none = λ e. ap (λ xs. record h { rules = xs }) (without_first-none (λ x. is_own a x.tag) h.rules (sym any ∙ e));
-      fewer = λ p w e. let c = count_without_first (λ x. is_own a x.tag) (λ x. p x.tag) (λ x. w x.tag) h.rules (sym any ∙ e) in omega arith;
-    }
+    deletes_first a Rules h (λ x. x.tag) h.rules (λ xs. record h { rules = xs }) _ _ refl refl refl refl (λ p c. omega arith) (IsSound-rule_del h a sound) (TouchesOwnAlone-rule_del h a).own
+    (within_rules h _ (sublist_without_first (λ x. is_own a x.tag) h.rules))
 
 deletes_settings : (a : Att) (h : Host) → IsSound h → Deletes a Settings h (apply h (deletion a Settings))
 deletes_settings a h sound =
-    let any = list_any-map (is_own a) (λ x. x.tag) h.settings in
-    record {
-      sound = IsSound-setting_del h a sound;
-      touch = (TouchesOwnAlone-setting_del h a).own;
-      within = within_settings h _ (sublist_without_first (λ x. is_own a x.tag) h.settings);
-      reply = ap Gone (sym any);
-      none = λ e. ap (λ xs. record h { settings = xs }) (without_first-none (λ x. is_own a x.tag) h.settings (sym any ∙ e));
-      fewer = λ p w e. let c = count_without_first (λ x. is_own a x.tag) (λ x. p x.tag) (λ x. w x.tag) h.settings (sym any ∙ e) in omega arith;
-    }
+    deletes_first a Settings h (λ x. x.tag) h.settings (λ xs. record h { settings = xs }) _ _ refl refl refl refl (λ p c. omega arith) (IsSound-setting_del h a sound) (TouchesOwnAlone-setting_del h a).own
+    (within_settings h _ (sublist_without_first (λ x. is_own a x.tag) h.settings))
 
 deletes_leases : (a : Att) (h : Host) → IsSound h → Deletes a Leases h (apply h (deletion a Leases))
 deletes_leases a h sound =
-    let any = list_any-map (is_own a) (λ x. x.tag) h.leases in
-    record {
-      sound = IsSound-lease_del h a sound;
-      touch = (TouchesOwnAlone-lease_del h a).own;
-      within = within_leases h _ (sublist_without_first (λ x. is_own a x.tag) h.leases);
-      reply = ap Gone (sym any);
-      none = λ e. ap (λ xs. record h { leases = xs }) (without_first-none (λ x. is_own a x.tag) h.leases (sym any ∙ e));
-      fewer = λ p w e. let c = count_without_first (λ x. is_own a x.tag) (λ x. p x.tag) (λ x. w x.tag) h.leases (sym any ∙ e) in omega arith;
-    }
+    deletes_first a Leases h (λ x. x.tag) h.leases (λ xs. record h { leases = xs }) _ _ refl refl refl refl (λ p c. omega arith) (IsSound-lease_del h a sound) (TouchesOwnAlone-lease_del h a).own
+    (within_leases h _ (sublist_without_first (λ x. is_own a x.tag) h.leases))
 
 deletes_cached : (a : Att) (h : Host) → IsSound h → Deletes a Cached h (apply h (deletion a Cached))
 deletes_cached a h sound =
-    let any = list_any-map (is_own a) (λ x. x.tag) h.cached in
-    record {
-      sound = IsSound-cache_del h a sound;
-      touch = (TouchesOwnAlone-cache_del h a).own;
-      within = within_cached h _ (sublist_without_first (λ x. is_own a x.tag) h.cached);
-      reply = ap Gone (sym any);
-      none = λ e. ap (λ xs. record h { cached = xs }) (without_first-none (λ x. is_own a x.tag) h.cached (sym any ∙ e));
-      fewer = λ p w e. let c = count_without_first (λ x. is_own a x.tag) (λ x. p x.tag) (λ x. w x.tag) h.cached (sym any ∙ e) in omega arith;
-    }
+    deletes_first a Cached h (λ x. x.tag) h.cached (λ xs. record h { cached = xs }) _ _ refl refl refl refl (λ p c. omega arith) (IsSound-cache_del h a sound) (TouchesOwnAlone-cache_del h a).own
+    (within_cached h _ (sublist_without_first (λ x. is_own a x.tag) h.cached))
 
 -- ---- links go with their peers
 

@@ -44,6 +44,10 @@ impl Model for GcRun {
 
 impl GcRun {
     /// The run of a collection of this list's network, before its first call.
+    ///
+    /// It copies the list and the command, and keeps the copies until it is dropped. Texts are shared, so that takes
+    /// time and memory in proportion to the ranges, routes and settings of the list, and to the valid attachments of
+    /// the command. Besides it makes the kinds of a DEL, of which each plugin of the list has three at most.
     pub fn start(alloc: Global, list: &NetList, command: &Command) -> Result<GcRun, NoMemory>
         requires { is_gc command.now.verb ≡ true }
         ensures { IfOk result (λ run. run ≡ progress (Some list.now) command.now []) }
