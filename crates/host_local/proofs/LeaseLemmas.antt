@@ -1,5 +1,5 @@
 -- A candidate of a set has a range that holds it, and lists of given addresses end with the shorter of the two lists.
-use Rattle.std.proofs.Common.{◌≡◌, ℕ, ◌≤◌, Bool, true, false, cond, List, [], ◌∷◌, Option, Some, refl, ap, arith, drop, inl, inr}
+use Rattle.std.proofs.Common.{◌≡◌, ℕ, ◌≤◌, Bool, true, false, cond, List, [], ◌∷◌, ◌++◌, map, Option, Some, refl, ◌∙◌, ap, arith, drop, inl, inr}
 use Rattle.std.specs.Prelude.{find, ◌⊎◌, length, option_map, option_to_list, nat_lt, min}
 use Rattle.std.specs.List.{list_any}
 use Rattle.std.proofs.lemmas.Bool.Decides.{nat_tests}
@@ -9,6 +9,7 @@ use Rattle.cni_addr.specs.declared.range.Range.{Range}
 use Rattle.cni_addr.specs.declared.range.RangeSet.{RangeSet}
 use Rattle.ip_pool.specs.NextAddress.{is_in, is_candidate}
 use Rattle.kernel_types.specs.declared.call.Given.{Given}
+use Rattle.host_local.specs.Laws.{CandidatesAreGiven}
 use Rattle.host_local.specs.Leases.{range_contains, given_by, given_in, given_of}
 
 found-step : {X : Type 0} (b : Bool) (x : X) (o : Option X) → (b ≡ false → (y : X) × (o ≡ Some y)) → (y : X) × (cond b (Some x) o ≡ Some y)
@@ -29,6 +30,16 @@ pub given_in-candidate : (set : RangeSet) (a : Addr) → is_candidate set a ≡ 
 given_in-candidate set a h =
     let f = range-found a set.ranges h in
     (given_by a f.0, ap (λ o. option_to_list (option_map (given_by a) o)) f.1)
+
+-- candidates are all given, in order
+pub given_candidates : CandidatesAreGiven
+given_candidates [] [] h = refl
+given_candidates [] (a ∷ more) h = absurd h
+given_candidates (s ∷ ss) [] h = absurd h
+given_candidates (s ∷ ss) (a ∷ more) h =
+    let f = range-found a s.ranges h.0 in
+    let here : given_in s a ≡ given_by a f.0 ∷ [] = ap (λ o. option_to_list (option_map (given_by a) o)) f.1 in
+    ap (λ l. map (λ given. given.address.addr) (l ++ given_of ss more)) here ∙ ap (λ addrs. a ∷ addrs) (given_candidates ss more h.1)
 
 pub given_of-no_addrs : (sets : List RangeSet) → given_of sets [] ≡ []
 given_of-no_addrs [] = refl

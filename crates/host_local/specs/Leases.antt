@@ -32,7 +32,7 @@ given_by_set set addr = option_map (given_by addr) (find (range_contains addr) s
 abbrev pub given_in : RangeSet → Addr → List Given
 given_in set addr = option_to_list (given_by_set set addr)
 
--- the k-th address by the k-th set
+-- the k-th address by the k-th set; one that its set doesn't hold is passed over, which no candidate is (Laws.antt)
 abbrev pub given_of : List RangeSet → List Addr → List Given
 given_of [] addrs = []
 given_of (set ∷ sets) [] = []

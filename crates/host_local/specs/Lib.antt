@@ -1,3 +1,4 @@
 pub mod Conf
+pub mod Laws
 pub mod Leases
 pub mod Results

@@ -82,7 +82,8 @@ pub fn given(conf: &HostLocalConf, set: u32, addr: &Addr) -> Given
     }
 }
 
-/// The k-th address by the k-th set.
+/// The k-th address by the k-th set. An address that no range of its set holds is passed over, which no candidate is:
+/// see [`candidates_are_given`](crate::laws::candidates_are_given).
 pub fn given_of(alloc: Global, sets: &[RangeSet], addrs: &[Addr]) -> Result<Vec<Given>, NoMemory>
     ensures { IfOk result (λ given. given.items ≡ leases.given_of sets.now addrs.now) }
 {

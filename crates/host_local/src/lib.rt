@@ -2,7 +2,8 @@
 //!
 //! To the verbs it promises the calls that lease, what a leased address is given with, and the part of the result that
 //! the plugin which makes the interface completes (`specs/Leases.antt`, `specs/Results.antt`). It holds no addresses
-//! itself: leases live in the modelled kernel.
+//! itself: leases live in the modelled kernel. The [`laws`] say that no candidate of a set is dropped
+//! (`specs/Laws.antt`).
 //!
 //! ```text
 //! lease_calls(alloc, &conf, &att)? // one LeaseNext for each set, in order
@@ -10,6 +11,7 @@
 //! ```
 #![tactic(auto)]
 
+pub mod laws;
 pub mod leases;
 pub mod results;
 pub mod rows;

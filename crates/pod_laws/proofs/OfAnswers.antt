@@ -31,7 +31,8 @@ use Rattle.pod_workers.specs.Legal.{Legal}
 use Rattle.pod_workers.specs.Plans.{Placed, commands_of, list_for}
 use Rattle.pod_workers.specs.World.{World, own_replies}
 use Rattle.pod_workers.specs.declared.plan.Entry.{Entry}
-use Rattle.pod_laws.specs.Added.{AreCandidates, WasAdded, HasMade}
+use Rattle.host_local.specs.Laws.{AreCandidates}
+use Rattle.pod_laws.specs.Added.{WasAdded, HasMade}
 use Rattle.pod_laws.specs.Deleted.{WasDeleted, HasDeleted, IsUndeletedByWords, IsUndeletedByFault, WasNotDeleted, AnswersOfDel, IsAnswerOfDel, CalmIsDeleted, IsYesOrCutOff}
 use Rattle.pod_laws.specs.Moments.{has_fault, host_at_end, own_entries}
 use Rattle.pod_laws.specs.Refused.{is_granted, lets_go_on, IsCause, no_namespace, name_taken, pool_empty, no_master, fault, IsResultOrCutOff, UnrefusedIsAdded, WasRefused, IsRefusedFor, AnswersOfAdd, IsAnswerOfAdd, BeginLeavesTheHost}

@@ -1,15 +1,13 @@
 -- What an ADD that was answered with a result has made (CNI specification, section 3, "Adding an attachment").
-use Rattle.std.specs.Prelude.{◌≡◌, ℕ, true, List, [], ◌∷◌, Some, None, slice_get}
+use Rattle.std.specs.Prelude.{◌≡◌, ℕ, true, Some, None, slice_get}
 use Rattle.std.specs.List.{list_all}
 use Rattle.cni_addr.specs.Equal.{addr_eq}
-use Rattle.cni_addr.specs.declared.address.Addr.{Addr}
-use Rattle.cni_addr.specs.declared.range.RangeSet.{RangeSet}
 use Rattle.cni_result.specs.declared.result.AddResult.{AddResult}
 use Rattle.cni_verbs.specs.CommandWords.{add_refusal, att_of, mappings_of}
 use Rattle.cni_verbs.specs.Script.{leases_in}
 use Rattle.cni_verbs.specs.Wanted.{result_of_add, sets_of, wanted}
 use Rattle.cni_verbs.specs.declared.answer.Answer.TheVariants as answers
-use Rattle.ip_pool.specs.NextAddress.{is_candidate}
+use Rattle.host_local.specs.Laws.{AreCandidates}
 use Rattle.kernel_types.specs.Lists.{distinct}
 use Rattle.net_conf.specs.declared.list.NetList.{NetList}
 use Rattle.plan_words.specs.Share.{share_of}
@@ -20,13 +18,6 @@ use Rattle.pod_workers.specs.Plans.{Placed, commands_of, list_for}
 use Rattle.pod_workers.specs.World.{World, own_replies}
 use Rattle.pod_laws.specs.Moments.{host_at_end, own_entries}
 use Rattle.pod_laws.specs.Refused.{lets_go_on}
-
--- one address a range set, each a candidate of its own set
-abbrev pub AreCandidates : List RangeSet → List Addr → Type 0
-AreCandidates [] [] = Unit {0}
-AreCandidates [] (addr ∷ addrs) = ⊥
-AreCandidates (set ∷ sets) [] = ⊥
-AreCandidates (set ∷ sets) (addr ∷ addrs) = (is_candidate set addr ≡ true) × AreCandidates sets addrs
 
 -- It was leased one address a range set, no two the same, and these decide its result. At its last entry its attachment has
 -- exactly the objects that they ask for, list by list, in order. No entry refused it.
