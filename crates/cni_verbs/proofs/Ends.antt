@@ -94,6 +94,3 @@ denied-over list c addrs phase (inr w) opened = subst (λ p. IsOpen (state_in li
 -- a run of no network
 pub outside-over : (list : Option NetList) (c : Command) (addrs : List Addr) (phase : Phase) (over : Bool) → list ≡ None → IsOverIf over (state_outside phase) → IsOverIf over (state_by_phase list c addrs phase)
 outside-over list c addrs phase over none h = subst (λ l. IsOverIf over (state_by_phase l c addrs phase)) (sym none) h
-
-pub inside-over : (list : Option NetList) (l : NetList) (c : Command) (addrs : List Addr) (phase : Phase) (over : Bool) → list ≡ Some l → IsOverIf over (state_in l c addrs phase) → IsOverIf over (state_by_phase list c addrs phase)
-inside-over list l c addrs phase over is h = subst (λ o. IsOverIf over (state_by_phase o c addrs phase)) (sym is) h

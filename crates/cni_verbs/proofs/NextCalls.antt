@@ -1,7 +1,6 @@
 -- What a phase calls next, and how it ends.
 use Rattle.std.proofs.Common.{◌≡◌, ℕ, ◌^◌, ◌<◌, ◌≤◌, List, [], ◌∷◌, length, drop, refl, sym, ap, ◌∙◌, subst, arith, Option, Some, None, Result, inl, inr}
 use Rattle.std.specs.Prelude.{◌⊎◌, slice_get, option_map, IfOk, Ok, Err}
-use Rattle.std.proofs.lemmas.List.{drop_all}
 use Rattle.cni_addr.specs.declared.address.Addr.{Addr}
 use Rattle.net_conf.specs.declared.list.NetList.{NetList}
 use Rattle.pod_file.specs.declared.command.Command.{Command}
@@ -208,14 +207,6 @@ pub asking_is_open : {A : Type 0} (list : NetList) (c : Command) (inquiry : Inqu
 asking_is_open list c inquiry addrs phase f is h =
     sym (ap (λ p. option_map f (finish_of (state_in list c addrs p))) is
     ∙ ap (option_map f) (questions_are_left (questions_about list c inquiry.about) inquiry.passed h))
-
-pub asking_is_over : {A : Type 0} (list : NetList) (c : Command) (inquiry : Inquiry) (addrs : List Addr) (phase : Phase) (f : Finish → A)
-    → phase ≡ phases.Asking inquiry → length (questions_about list c inquiry.about) ≤ inquiry.passed
-    → Some (f (record { ending = Yes; given = [] })) ≡ option_map f (finish_of (state_in list c addrs phase))
-unfolding finish_of
-asking_is_over list c inquiry addrs phase f is h =
-    sym (ap (λ p. option_map f (finish_of (state_in list c addrs p))) is
-    ∙ ap (λ rest. option_map f (finish_of (script.asking rest))) (drop_all inquiry.passed (questions_about list c inquiry.about) h))
 
 pub denied_finish : {A : Type 0} (questions : List Question) (place : ℕ) (question : Question) (f : Finish → A) → slice_get questions place ≡ Some question
     → Some (f (record { ending = Refused question.lack; given = [] })) ≡ option_map f (finish_of (denied (drop place questions)))

@@ -49,17 +49,9 @@ state_in list c given (phases.Over ending) = Over ending []
 
 -- the state of a run of no network: one change is left, or none
 abbrev pub state_outside : Phase → State
-state_outside phases.AtBegin = Over Yes []
-state_outside (phases.BeforeLeases passed) = Over Yes []
-state_outside phases.Leasing = Over Yes []
-state_outside (phases.AfterLeases passed prepared) = Over Yes []
-state_outside (phases.ReadingCache ending) = Over Yes []
-state_outside (phases.Deleting passed ending) = Over Yes []
-state_outside phases.FindingEntry = Over Yes []
-state_outside (phases.Asking inquiry) = Over Yes []
-state_outside (phases.Denied inquiry) = Over Yes []
 state_outside (phases.Changing change) = states.Changing change
 state_outside (phases.Over ending) = Over ending []
+state_outside phase = Over Yes []
 
 abbrev pub state_by_phase : Option NetList → Command → List Addr → Phase → State
 state_by_phase None c given phase = state_outside phase
@@ -74,13 +66,9 @@ Stands calls sets made given phases.AtBegin = given ≡ []
 Stands calls sets made given (phases.BeforeLeases passed) = (passed < calls) × (given ≡ [])
 Stands calls sets made given phases.Leasing = length given < sets
 Stands calls sets made given (phases.AfterLeases passed prepared) = passed ≤ made
-Stands calls sets made given (phases.ReadingCache ending) = ⊤
 Stands calls sets made given (phases.Deleting passed ending) = passed ≤ made
-Stands calls sets made given phases.FindingEntry = ⊤
 Stands calls sets made given (phases.Asking inquiry) = inquiry.passed ≤ made
-Stands calls sets made given (phases.Denied inquiry) = ⊤
-Stands calls sets made given (phases.Changing change) = ⊤
-Stands calls sets made given (phases.Over ending) = ⊤
+Stands calls sets made given phase = ⊤
 
 -- where the questions are prepared, they are those of what is asked about
 abbrev pub IsReady : NetList → Command → Inquiry → Type 0
@@ -88,17 +76,10 @@ IsReady list c inquiry = MatchOption inquiry.questions ⊤ (λ questions. questi
 
 -- where the calls after the leases are prepared, they are those of these addresses
 abbrev pub IsPrepared : NetList → Command → List Addr → Phase → Type 0
-IsPrepared list c given phases.AtBegin = ⊤
-IsPrepared list c given (phases.BeforeLeases passed) = ⊤
-IsPrepared list c given phases.Leasing = ⊤
 IsPrepared list c given (phases.AfterLeases passed prepared) = MatchOption prepared ⊤ (λ calls. calls ≡ back_of list c given)
-IsPrepared list c given (phases.ReadingCache ending) = ⊤
-IsPrepared list c given (phases.Deleting passed ending) = ⊤
-IsPrepared list c given phases.FindingEntry = ⊤
 IsPrepared list c given (phases.Asking inquiry) = IsReady list c inquiry
 IsPrepared list c given (phases.Denied inquiry) = IsReady list c inquiry
-IsPrepared list c given (phases.Changing change) = ⊤
-IsPrepared list c given (phases.Over ending) = ⊤
+IsPrepared list c given phase = ⊤
 
 -- a run of this list keeps the parts of its plan, and has room for an address of each set
 pub record IsKept (list : NetList) (c : Command) (before : List Call) (kinds : List Kind) (room : ℕ) (made : ℕ) (given : List Addr) (phase : Phase) : Type 0 where

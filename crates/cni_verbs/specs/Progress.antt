@@ -11,16 +11,8 @@ use Rattle.cni_verbs.specs.declared.answer.Answer.{Answer}
 
 -- a garbage collection, which keeps more than a run does
 abbrev pub is_gc : Verb → Bool
-is_gc verbs.Add = false
-is_gc verbs.Check = false
-is_gc verbs.Del = false
 is_gc verbs.Gc = true
-is_gc verbs.Status = false
-is_gc verbs.Version = false
-is_gc verbs.NsAdd = false
-is_gc verbs.NsDel = false
-is_gc verbs.Drop = false
-is_gc verbs.Flush = false
+is_gc verb = false
 
 -- the list of the command's network, the command, how many replies it was given, and what is left to do
 pub record Progress : Type 0 where

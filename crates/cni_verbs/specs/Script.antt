@@ -16,7 +16,7 @@ use Rattle.kernel_types.specs.declared.call.Change.TheVariants.{DropLink, Flush}
 use Rattle.kernel_types.specs.declared.object.Table.{Table}
 use Rattle.kernel_types.specs.Replies.{is_fault}
 use Rattle.kernel_types.specs.declared.call.Reply.{Reply}
-use Rattle.kernel_types.specs.declared.call.Reply.TheVariants.{Done, NoNs, NoLink, Taken, Empty, Leased, Gone, Has, Owners, Entry, Fault}
+use Rattle.kernel_types.specs.declared.call.Reply.TheVariants.{Done, NoNs, NoLink, Taken, Empty, Leased, Gone, Has, Entry, Fault}
 use Rattle.cni_verbs.specs.CommandWords.{att_of, mappings_of, add_refusal, del_refusal, netns_refusal, drop_refusal}
 use Rattle.cni_verbs.specs.Questions.{check_questions, status_questions}
 use Rattle.cni_verbs.specs.Sweep.{Gc, Job, Sweep, Work, start_work, step_call, work_after}
@@ -82,25 +82,16 @@ gc_of list c = record { network = c.network; valid = c.valid; kinds = kinds_of l
 
 -- why a reply refuses an ADD. A reply that is no answer to the call counts as a fault
 abbrev pub cause_of : ℕ → ℕ → Reply → Cause
-cause_of set number Done = causes.Fault number
 cause_of set number NoNs = causes.NoNamespace
 cause_of set number NoLink = causes.NoMaster
 cause_of set number (Taken tag) = causes.NameTaken tag
 cause_of set number Empty = causes.PoolEmpty set
-cause_of set number (Leased addr) = causes.Fault number
-cause_of set number (Gone gone) = causes.Fault number
-cause_of set number (Has has) = causes.Fault number
-cause_of set number (Owners owners) = causes.Fault number
-cause_of set number (Entry cached) = causes.Fault number
-cause_of set number Fault = causes.Fault number
+cause_of set number r = causes.Fault number
 
 -- a fault among the deletions is told where nothing was refused before it
 abbrev pub faulted : ℕ → Ending → Ending
-faulted number Added = Refused (causes.Fault number)
-faulted number Yes = Refused (causes.Fault number)
-faulted number (Skipped skip) = Refused (causes.Fault number)
-faulted number Versions = Refused (causes.Fault number)
 faulted number (Refused cause) = Refused cause
+faulted number ending = Refused (causes.Fault number)
 
 -- ---- one reply, the one of this number
 
@@ -146,18 +137,11 @@ at_question number question left r = Over (Refused (causes.Fault number)) []
 
 -- how a change from outside ends
 abbrev pub changed : ℕ → Reply → Ending
-changed number Done = Yes
 changed number NoNs = Refused causes.NoNamespace
-changed number NoLink = Yes
 changed number (Taken tag) = Refused (causes.NameTaken tag)
-changed number Empty = Yes
-changed number (Leased addr) = Yes
-changed number (Gone true) = Yes
 changed number (Gone false) = Refused causes.NothingThere
-changed number (Has has) = Yes
-changed number (Owners owners) = Yes
-changed number (Entry cached) = Yes
 changed number Fault = Refused (causes.Fault number)
+changed number r = Yes
 
 abbrev pub faults_after : ℕ → List ℕ → Bool → List ℕ
 faults_after number faults true = faults ++ number ∷ []
@@ -195,10 +179,7 @@ start_of list verbs.Check c = unless_refused (del_refusal c) (if list.disable_ch
 start_of list verbs.Gc c = unless_old list.version (if list.disable_gc then Over (Skipped skips.Gc) [] else Collecting (start_work (gc_of list c)) [])
 start_of list verbs.Status c = unless_old list.version (asking (status_questions list c))
 start_of list verbs.Version c = Over Versions []
-start_of list verbs.NsAdd c = Over Yes []
-start_of list verbs.NsDel c = Over Yes []
-start_of list verbs.Drop c = Over Yes []
-start_of list verbs.Flush c = Over Yes []
+start_of list verb c = Over Yes []
 
 abbrev pub start_state : NetList → Command → State
 start_state list c = start_of list c.verb c
@@ -224,12 +205,7 @@ outside_of verbs.NsAdd c = unless_refused (netns_refusal c) (Changing (NsChange 
 outside_of verbs.NsDel c = unless_refused (netns_refusal c) (Changing (NsChange c.netns false))
 outside_of verbs.Drop c = unless_refused (drop_refusal c) (Changing (Outside (DropLink (record { ns = c.netns; name = c.ifname }))))
 outside_of verbs.Flush c = flush_by c.table
-outside_of verbs.Add c = Over Yes []
-outside_of verbs.Check c = Over Yes []
-outside_of verbs.Del c = Over Yes []
-outside_of verbs.Gc c = Over Yes []
-outside_of verbs.Status c = Over Yes []
-outside_of verbs.Version c = Over Yes []
+outside_of verb c = Over Yes []
 
 abbrev pub outside_start : Command → State
 outside_start c = outside_of c.verb c
@@ -278,21 +254,12 @@ pub record Finish : Type 0 where
 
 abbrev pub finish_of_work : List Job → List Sweep → List ℕ → Option Finish
 finish_of_work [] [] faults = Some (record { ending = swept faults; given = [] })
-finish_of_work [] (s ∷ sweeps) faults = None
-finish_of_work (j ∷ jobs) sweeps faults = None
+finish_of_work jobs sweeps faults = None
 
 unfoldable pub finish_of : State → Option Finish
-finish_of AtBegin = None
-finish_of (BeforeLeases next left) = None
-finish_of (Leasing next left given) = None
-finish_of (AfterLeases next left given) = None
-finish_of (ReadingCache ending) = None
-finish_of (Deleting next left ending) = None
-finish_of FindingEntry = None
-finish_of (Asking next left) = None
-finish_of (Changing change) = None
 finish_of (Collecting work faults) = finish_of_work work.jobs work.sweeps faults
 finish_of (Over ending given) = Some (record { ending = ending; given = given })
+finish_of s = None
 
 -- the next call, or the end
 pub data Turn : Type 0 where
@@ -322,37 +289,19 @@ script list c rs = turn c (state_after list c rs)
 
 abbrev pub IsWork : List Job → List Sweep → Type 0
 IsWork [] [] = ⊥
-IsWork [] (s ∷ sweeps) = ⊤
-IsWork (j ∷ jobs) sweeps = ⊤
+IsWork jobs sweeps = ⊤
 
 -- a run in this state has a call to make
 abbrev pub IsOpen : State → Type 0
-IsOpen AtBegin = ⊤
-IsOpen (BeforeLeases next left) = ⊤
-IsOpen (Leasing next left given) = ⊤
-IsOpen (AfterLeases next left given) = ⊤
-IsOpen (ReadingCache ending) = ⊤
-IsOpen (Deleting next left ending) = ⊤
-IsOpen FindingEntry = ⊤
-IsOpen (Asking next left) = ⊤
-IsOpen (Changing change) = ⊤
 IsOpen (Collecting work faults) = IsWork work.jobs work.sweeps
 IsOpen (Over ending given) = ⊥
+IsOpen s = ⊤
 
 -- ---- the leases of a run
 
 abbrev pub leased_by : Reply → Option Addr
-leased_by Done = None
-leased_by NoNs = None
-leased_by NoLink = None
-leased_by (Taken tag) = None
-leased_by Empty = None
 leased_by (Leased addr) = Some addr
-leased_by (Gone gone) = None
-leased_by (Has has) = None
-leased_by (Owners owners) = None
-leased_by (Entry cached) = None
-leased_by Fault = None
+leased_by r = None
 
 -- the addresses that a run was leased, in order
 abbrev pub leases_in : List Reply → List Addr

@@ -56,6 +56,11 @@ impl Run {
     /// The run of a command of this list, or of a command of no network, before its first call. A list with more sets
     /// than the 65,536 that a list is read with is refused as for want of memory. A garbage collection isn't a run: it
     /// keeps owners and sweeps.
+    ///
+    /// It copies the list and the command, and keeps the copies until it is dropped. Texts are shared, so that takes
+    /// time and memory in proportion to the ranges, routes and settings of the list, and to the mappings and valid
+    /// attachments of the command. Whatever the verb, it makes besides the calls before the first lease and the kinds
+    /// of a DEL, both in proportion to the list, and room for an address of each range set.
     pub fn start(alloc: Global, list: Option<&NetList>, command: &Command) -> Result<Run, NoMemory>
         requires { is_gc command.now.verb ≡ false }
         ensures { IfOk result (λ run. run ≡ progress (option_copied list.entry) command.now []) }
@@ -135,8 +140,9 @@ impl Run {
         run
     }
 
-    /// Makes what the next call is looked up in, where it isn't made yet. It changes nothing that is seen, whether memory
-    /// lacks or not; without it [`Run::next`] makes the same anew at each call after the leases and at each question.
+    /// Makes what the next call is looked up in, where it isn't made yet. It changes nothing that is seen, whether
+    /// memory lacks or not; without it [`Run::next`] makes the same anew at each call after the leases and at each
+    /// question.
     pub fn prepare(&mut self) -> Result<(), NoMemory>
         ensures { self.new ≡ self.old }
     {
@@ -213,8 +219,8 @@ impl Run {
         self.made += 1;
     }
 
-    /// Whether the run has no call left to make. Takes no memory; quadratic in the addresses, the routes, the mappings and
-    /// the settings where [`Run::prepare`] didn't run or wanted memory, else at once.
+    /// Whether the run has no call left to make. Takes no memory; quadratic in the addresses, the routes, the mappings
+    /// and the settings where [`Run::prepare`] didn't run or wanted memory, else at once.
     pub fn over(&self) -> bool
         ensures { MatchBool result (IsOpen self.now.state → ⊥) (IsOpen self.now.state) }
     {
