@@ -183,22 +183,12 @@ fn work_answer(
         if faults.as_slice().is_empty() {
             Ok(Some(Answer::Yes))
         } else {
-            let faults = copy_numbers(alloc, faults)?;
+            let faults = faults.copy()?;
             refused(alloc, list, command, Cause::Faults(faults))
         }
     } else {
         Ok(None)
     }
-}
-
-fn copy_numbers(alloc: Global, numbers: &Items<u64>) -> Result<Items<u64>, NoMemory>
-    ensures { IfOk result (λ twin. twin ≡ numbers.now) }
-{
-    let mut twin = Items::new(alloc);
-    for number in numbers.as_slice() {
-        twin.push(*number)?;
-    }
-    Ok(twin)
 }
 
 fn is_fault(reply: &Reply) -> bool

@@ -1,6 +1,6 @@
 //! Why a pod file is refused.
 
-ghost use Rattle.std.specs.Prelude.{◌≡◌, IfOk};
+ghost use Rattle.std.specs.Prelude.{◌≡◌, IfOk, IfErr};
 ghost use Rattle.cni_json.specs.Outcome.{TellsAs};
 ghost use Rattle.pod_file.specs.Refusals as paths;
 ghost use Rattle.pod_file.specs.Refusals.{is_want_of_memory, member_path, command_path, key_path};
@@ -35,14 +35,22 @@ impl From<NoMemory> for PodError {
     }
 }
 
+// The refusal of the place whose text was made, or of the want of memory that kept it from being made.
+fn shape(path: Result<Text, NoMemory>) -> PodError
+    ensures made { IfOk path (λ text. result ≡ refusal.Shape text) }
+    ensures not_made { IfErr path (λ _. result ≡ refusal.NoMemory) }
+{
+    match path {
+        Ok(path) => PodError::Shape { path },
+        Err(NoMemory) => PodError::NoMemory,
+    }
+}
+
 /// The refusal of the value at this place.
 pub(crate) fn wrong(alloc: Global, path: &str) -> PodError
     ensures { TellsAs is_want_of_memory result (refusal.Shape path.now) }
 {
-    match Text::of(alloc, path) {
-        Ok(path) => PodError::Shape { path },
-        Err(NoMemory) => PodError::NoMemory,
-    }
+    shape(Text::of(alloc, path))
 }
 
 /// The refusal of a member of the list at this place.
@@ -50,10 +58,7 @@ pub(crate) fn wrong(alloc: Global, path: &str) -> PodError
 pub(crate) fn wrong_member(alloc: Global, list: &str, index: usize) -> PodError
     ensures { TellsAs is_want_of_memory result (refusal.Shape (member_path list.now index)) }
 {
-    match member_text(alloc, list, index) {
-        Ok(path) => PodError::Shape { path },
-        Err(NoMemory) => PodError::NoMemory,
-    }
+    shape(member_text(alloc, list, index))
 }
 
 /// The refusal of a command.
@@ -61,10 +66,7 @@ pub(crate) fn wrong_member(alloc: Global, list: &str, index: usize) -> PodError
 pub(crate) fn wrong_command(alloc: Global, place: CommandPlace) -> PodError
     ensures { TellsAs is_want_of_memory result (refusal.Shape (command_path place)) }
 {
-    match command_text(alloc, place) {
-        Ok(path) => PodError::Shape { path },
-        Err(NoMemory) => PodError::NoMemory,
-    }
+    shape(command_text(alloc, place))
 }
 
 /// The refusal of a command's key.
@@ -72,10 +74,7 @@ pub(crate) fn wrong_command(alloc: Global, place: CommandPlace) -> PodError
 pub(crate) fn wrong_key(alloc: Global, place: CommandPlace, key: &str) -> PodError
     ensures { TellsAs is_want_of_memory result (refusal.Shape (key_path place key.now)) }
 {
-    match key_text(alloc, place, key) {
-        Ok(path) => PodError::Shape { path },
-        Err(NoMemory) => PodError::NoMemory,
-    }
+    shape(key_text(alloc, place, key))
 }
 
 fn member_text(alloc: Global, list: &str, index: usize) -> Result<Text, NoMemory>
