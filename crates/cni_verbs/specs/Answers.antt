@@ -18,6 +18,7 @@ use Rattle.kernel_text.specs.Words.{chain_text, table_text}
 use Rattle.kernel_types.specs.Texts.{attachment_text, tag_text}
 use Rattle.kernel_types.specs.Words.{is_host_ns}
 use Rattle.cni_verbs.specs.CommandWords.{att_of}
+use Rattle.cni_verbs.specs.ErrorKinds.{kind_code, kind_title, message_about, message_of_field}
 use Rattle.cni_verbs.specs.Script.{Finish}
 use Rattle.cni_verbs.specs.Wanted.{result_of_add}
 use Rattle.cni_verbs.specs.declared.answer.Answer.{Answer}
@@ -29,23 +30,28 @@ use Rattle.cni_verbs.specs.declared.answer.Ending.TheVariants.{Added, Yes, Skipp
 use Rattle.cni_verbs.specs.declared.answer.Missed.{Missed}
 use Rattle.cni_verbs.specs.declared.answer.Missed.TheVariants as missed
 use Rattle.cni_verbs.specs.declared.answer.WordFaults.{WordFaults}
+use Rattle.cni_verbs.specs.declared.error_kind.ErrorKind.{ErrorKind}
+use Rattle.cni_verbs.specs.declared.error_kind.ErrorKind.TheVariants as kinds
+
+abbrev pub kind_of : Cause → ErrorKind
+kind_of (BadWords faults) = kinds.InvalidVariables
+kind_of (IpArgument value) = kinds.UnsupportedField
+kind_of BadMapping = kinds.InvalidList
+kind_of NoNamespace = kinds.NamespaceMissing
+kind_of (NameTaken tag) = kinds.NameTaken
+kind_of (PoolEmpty set) = kinds.PoolEmpty
+kind_of NoMaster = kinds.InvalidList
+kind_of (Fault call) = kinds.KernelFault
+kind_of (Faults calls) = kinds.KernelFault
+kind_of (TooOld version) = kinds.IncompatibleVersion
+kind_of Unknown = kinds.ContainerUnknown
+kind_of (NoFreeAddress set) = kinds.NotAvailable
+kind_of (MasterAbsent name) = kinds.NotAvailable
+kind_of NothingThere = kinds.NothingThere
+kind_of (Missing what) = kinds.CheckFailed
 
 abbrev pub code_of : Cause → ℕ
-code_of (BadWords faults) = 4
-code_of (IpArgument value) = 2
-code_of BadMapping = 7
-code_of NoNamespace = 100
-code_of (NameTaken tag) = 101
-code_of (PoolEmpty set) = 102
-code_of NoMaster = 7
-code_of (Fault call) = 103
-code_of (Faults calls) = 103
-code_of (TooOld version) = 1
-code_of Unknown = 3
-code_of (NoFreeAddress set) = 50
-code_of (MasterAbsent name) = 50
-code_of NothingThere = 105
-code_of (Missing what) = 110
+code_of cause = kind_code (kind_of cause)
 
 -- ---- messages
 
@@ -69,21 +75,12 @@ joined_by_comma [] = []
 joined_by_comma (name ∷ names) = name ++ joined_after names
 
 abbrev pub message_of : Cause → List ℕ
-message_of (BadWords faults) = codes "invalid environment variables: " ++ joined_by_comma (variables_of faults)
-message_of (IpArgument value) = codes "unsupported field IP: " ++ compact_text (string value)
-message_of BadMapping = codes "invalid network configuration: portMappings"
-message_of NoNamespace = codes "namespace missing"
-message_of (NameTaken tag) = codes "name taken"
-message_of (PoolEmpty set) = codes "pool empty"
-message_of NoMaster = codes "invalid network configuration: master"
-message_of (Fault call) = codes "kernel fault"
-message_of (Faults calls) = codes "kernel fault"
-message_of (TooOld version) = codes "incompatible CNI version: " ++ version_text version
-message_of Unknown = codes "container unknown"
-message_of (NoFreeAddress set) = codes "not available"
-message_of (MasterAbsent name) = codes "not available"
-message_of NothingThere = codes "nothing there"
-message_of (Missing what) = codes "check failed"
+message_of (BadWords faults) = message_about kinds.InvalidVariables (joined_by_comma (variables_of faults))
+message_of (IpArgument value) = message_of_field (codes "IP") (compact_text (string value))
+message_of BadMapping = message_about kinds.InvalidList (codes "portMappings")
+message_of NoMaster = message_about kinds.InvalidList (codes "master")
+message_of (TooOld version) = message_about kinds.IncompatibleVersion (version_text version)
+message_of cause = kind_title (kind_of cause)
 
 -- ---- details
 

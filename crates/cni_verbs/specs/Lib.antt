@@ -1,6 +1,7 @@
 pub mod Answers
 pub mod Codes
 pub mod CommandWords
+pub mod ErrorKinds
 pub mod Laws
 pub mod Phases
 pub mod Progress

@@ -6,6 +6,7 @@ ghost use Rattle.serde_json.specs.Written.{compact_text};
 ghost use Rattle.cni_verbs.specs.Answers as answers;
 
 use crate::answer::{Cause, WordFaults, verb_text};
+use crate::error_kind::{ErrorKind, message_of_field};
 use crate::missed::missed_text;
 use crate::words::att_of;
 use cni_addr::{Duplicate, Items, NoMemory, Text};
@@ -15,23 +16,22 @@ use pod_file::Command;
 use serde_json::Value;
 use std::alloc::Global;
 
-fn code_of(cause: &Cause) -> u32
-    ensures { result ≡ answers.code_of cause.now }
+fn kind_of(cause: &Cause) -> ErrorKind
+    ensures { result ≡ answers.kind_of cause.now }
 {
     match cause {
-        Cause::BadWords(_) => 4,
-        Cause::IpArgument(_) => 2,
-        Cause::BadMapping => 7,
-        Cause::NoNamespace => 100,
-        Cause::NameTaken(_) => 101,
-        Cause::PoolEmpty(_) => 102,
-        Cause::NoMaster => 7,
-        Cause::Fault(_) | Cause::Faults(_) => 103,
-        Cause::TooOld(_) => 1,
-        Cause::Unknown => 3,
-        Cause::NoFreeAddress(_) | Cause::MasterAbsent(_) => 50,
-        Cause::NothingThere => 105,
-        Cause::Missing(_) => 110,
+        Cause::BadWords(_) => ErrorKind::InvalidVariables,
+        Cause::IpArgument(_) => ErrorKind::UnsupportedField,
+        Cause::BadMapping | Cause::NoMaster => ErrorKind::InvalidList,
+        Cause::NoNamespace => ErrorKind::NamespaceMissing,
+        Cause::NameTaken(_) => ErrorKind::NameTaken,
+        Cause::PoolEmpty(_) => ErrorKind::PoolEmpty,
+        Cause::Fault(_) | Cause::Faults(_) => ErrorKind::KernelFault,
+        Cause::TooOld(_) => ErrorKind::IncompatibleVersion,
+        Cause::Unknown => ErrorKind::ContainerUnknown,
+        Cause::NoFreeAddress(_) | Cause::MasterAbsent(_) => ErrorKind::NotAvailable,
+        Cause::NothingThere => ErrorKind::NothingThere,
+        Cause::Missing(_) => ErrorKind::CheckFailed,
     }
 }
 
@@ -79,20 +79,21 @@ fn push_joined(text: &mut String, names: &[Text]) -> Result<(), NoMemory>
     }
 }
 
-/// The texts with `, ` between them, after a start.
-fn joined(alloc: Global, start: &str, names: &[Text]) -> Result<Text, NoMemory>
-    ensures { IfOk result (λ text. text ≡ start.now ++ answers.joined_by_comma names.now) }
+/// The texts with `, ` between them.
+fn joined(alloc: Global, names: &[Text]) -> Result<Text, NoMemory>
+    ensures { IfOk result (λ text. text ≡ answers.joined_by_comma names.now) }
 {
-    let mut text = String::from_str(alloc, start)?;
+    let mut text = String::new(alloc);
     push_joined(&mut text, names)?;
     Text::of(alloc, text.as_str())
 }
 
 fn words_message(alloc: Global, faults: WordFaults) -> Result<Text, NoMemory>
-    ensures { IfOk result (λ text. text ≡ answers.message_of (Cause.BadWords faults)) }
+    ensures { IfOk result (λ msg. msg ≡ answers.message_of (Cause.BadWords faults)) }
 {
     let names = variables_of(alloc, faults)?;
-    joined(alloc, "invalid environment variables: ", names.as_slice())
+    let names = joined(alloc, names.as_slice())?;
+    ErrorKind::InvalidVariables.message_about(alloc, names.as_str())
 }
 
 /// The text as JSON writes it, in quotes.
@@ -104,41 +105,24 @@ fn quoted(alloc: Global, text: &str) -> Result<String, NoMemory>
 }
 
 fn argument_message(alloc: Global, value: &Text) -> Result<Text, NoMemory>
-    ensures { IfOk result (λ text. text ≡ answers.message_of (Cause.IpArgument value.now)) }
+    ensures { IfOk result (λ msg. msg ≡ answers.message_of (Cause.IpArgument value.now)) }
 {
     let json = quoted(alloc, value.as_str())?;
-    let mut message = String::from_str(alloc, "unsupported field IP: ")?;
-    message.push_str(json.as_str())?;
-    Text::of(alloc, message.as_str())
-}
-
-fn version_message(alloc: Global, version: Version) -> Result<Text, NoMemory>
-    ensures { IfOk result (λ text. text ≡ answers.message_of (Cause.TooOld version)) }
-{
-    let version = version_text(version);
-    Text::of(
-        alloc,
-        format!(in alloc; "incompatible CNI version: {version}")?.as_str(),
-    )
+    message_of_field(alloc, "IP", json.as_str())
 }
 
 fn message_of(alloc: Global, cause: &Cause) -> Result<Text, NoMemory>
-    ensures { IfOk result (λ text. text ≡ answers.message_of cause.now) }
+    ensures { IfOk result (λ msg. msg ≡ answers.message_of cause.now) }
 {
     match cause {
         Cause::BadWords(faults) => words_message(alloc, *faults),
         Cause::IpArgument(value) => argument_message(alloc, value),
-        Cause::BadMapping => Text::of(alloc, "invalid network configuration: portMappings"),
-        Cause::NoNamespace => Text::of(alloc, "namespace missing"),
-        Cause::NameTaken(_) => Text::of(alloc, "name taken"),
-        Cause::PoolEmpty(_) => Text::of(alloc, "pool empty"),
-        Cause::NoMaster => Text::of(alloc, "invalid network configuration: master"),
-        Cause::Fault(_) | Cause::Faults(_) => Text::of(alloc, "kernel fault"),
-        Cause::TooOld(version) => version_message(alloc, *version),
-        Cause::Unknown => Text::of(alloc, "container unknown"),
-        Cause::NoFreeAddress(_) | Cause::MasterAbsent(_) => Text::of(alloc, "not available"),
-        Cause::NothingThere => Text::of(alloc, "nothing there"),
-        Cause::Missing(_) => Text::of(alloc, "check failed"),
+        Cause::BadMapping => ErrorKind::InvalidList.message_about(alloc, "portMappings"),
+        Cause::NoMaster => ErrorKind::InvalidList.message_about(alloc, "master"),
+        Cause::TooOld(version) => {
+            ErrorKind::IncompatibleVersion.message_about(alloc, version_text(*version))
+        }
+        _ => kind_of(cause).message(alloc),
     }
 }
 
@@ -170,7 +154,7 @@ fn calls_text(alloc: Global, numbers: &[u64]) -> Result<Text, NoMemory>
     ensures { IfOk result (λ text. text ≡ answers.joined_by_comma (map answers.call_text numbers.now)) }
 {
     let texts = call_texts(alloc, numbers)?;
-    joined(alloc, "", texts.as_slice())
+    joined(alloc, texts.as_slice())
 }
 
 fn master_text(alloc: Global, name: &Text) -> Result<Text, NoMemory>
@@ -212,7 +196,7 @@ pub fn error_of(
 {
     Ok(CniError {
         version,
-        code: code_of(cause),
+        code: kind_of(cause).code(),
         msg: message_of(alloc, cause)?,
         details: details_of(alloc, command, cause)?,
     })

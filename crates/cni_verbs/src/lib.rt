@@ -2,11 +2,12 @@
 //!
 //! To the book above it promises definitions: what a verb asks of its command's words (`specs/CommandWords.antt`), the
 //! calls of an ADD, the objects that it wants and its result (`specs/Wanted.antt`), the questions of a CHECK and of a
-//! STATUS (`specs/Questions.antt`), the next call or the end as a function of all replies so far (`specs/Script.antt`), and
-//! the errors (`specs/Answers.antt`). A [`Run`] follows the script one reply at a time and keeps no replies: it is seen as
-//! the list, the command and the script's state (`specs/Progress.antt`), its next call and its answer are the script's, and
-//! to take a reply wants no memory. A command of no network runs too: it is one change from outside. A garbage collection
-//! isn't a `Run`.
+//! STATUS (`specs/Questions.antt`), the next call or the end as a function of all replies so far (`specs/Script.antt`),
+//! and the errors (`specs/Answers.antt`), whose codes and titles every error of the program has from here
+//! (`specs/ErrorKinds.antt`). A [`Run`] follows the script one reply at a time and keeps no replies: it is seen as the
+//! list, the command and the script's state (`specs/Progress.antt`), its next call and its answer are the script's, and
+//! to take a reply wants no memory. A command of no network runs too: it is one change from outside. A garbage
+//! collection isn't a `Run`.
 //!
 //! ```text
 //! let mut run = Run::start(alloc, Some(&list), &add)?;
@@ -22,6 +23,7 @@ pub mod answer;
 mod check_counts;
 mod counts;
 mod ending;
+pub mod error_kind;
 pub mod errors;
 mod inquiry;
 pub mod laws;
@@ -38,4 +40,5 @@ pub mod wanted;
 pub mod words;
 
 pub use answer::{Answer, Cause, Ending, Missed, Question, Skip, WordFaults, verb_text};
+pub use error_kind::{ErrorKind, memory_error, message_of_field, plain_error};
 pub use run::Run;

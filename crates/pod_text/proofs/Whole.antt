@@ -8,7 +8,8 @@ use Rattle.cni_result.specs.declared.version.Version.{Version}
 use Rattle.cni_verbs.specs.declared.answer.Answer.{Answer}
 use Rattle.cni_verbs.specs.declared.answer.Answer.TheVariants.{Added, Yes, Skipped, Versions, Refused, OutOfMemory, Stopped}
 use Rattle.pod_file.specs.declared.command.Command.{Command}
-use Rattle.pod_text.specs.Lines.{versions_data, memory_error, put_answer, answer_data}
+use Rattle.cni_verbs.specs.ErrorKinds.{memory_error}
+use Rattle.pod_text.specs.Lines.{versions_data, put_answer, answer_data}
 
 versions_are_whole : (version : Version) → has_float (versions_data version) ≡ false
 unfolding versions_data

@@ -5,10 +5,10 @@ use Rattle.serde_json.specs.Data.{Data, boolean, object, Members, no_members, pu
 use Rattle.cni_json.specs.Json.{line_of}
 use Rattle.cni_result.specs.Members.{text_data, number_data, list_data, ◌▷◌}
 use Rattle.cni_result.specs.Results.{version_data, result_data, error_data}
-use Rattle.cni_result.specs.declared.error.CniError.{CniError}
 use Rattle.cni_result.specs.declared.version.Version.{Version}
 use Rattle.cni_result.specs.declared.version.Version.TheVariants.{V1_0, V1_1}
 use Rattle.cni_verbs.specs.Answers.{verb_text}
+use Rattle.cni_verbs.specs.ErrorKinds.{memory_error}
 use Rattle.cni_verbs.specs.declared.answer.Answer.{Answer}
 use Rattle.cni_verbs.specs.declared.answer.Answer.TheVariants.{Added, Yes, Skipped, Versions, Refused, OutOfMemory, Stopped}
 use Rattle.cni_verbs.specs.declared.answer.Skip.{Skip}
@@ -32,10 +32,6 @@ unfoldable pub versions_data : Version → Data
 versions_data version = object (no_members
     ▷ put (codes "cniVersion") (version_data version)
     ▷ put (codes "supportedVersions") (list_data version_data (V1_0 ∷ V1_1 ∷ [])))
-
--- the error of a command that was refused memory; its code is this project's own
-abbrev pub memory_error : CniError
-memory_error = record { version = V1_1; code = 104; msg = codes "out of memory"; details = [] }
 
 -- what the command was answered
 abbrev pub put_answer : Answer → Members → Members

@@ -1,30 +1,19 @@
 -- The status that a program ends with, by what its commands were answered.
-use Rattle.std.specs.Prelude.{ℕ, Bool, true, false, List, Option, Some, None, if◌then◌else◌}
+use Rattle.std.specs.Prelude.{ℕ, Bool, true, false, List, Option, Some, if◌then◌else◌}
 use Rattle.std.specs.List.{list_any}
 use Rattle.cni_verbs.specs.declared.answer.Answer.{Answer}
-use Rattle.cni_verbs.specs.declared.answer.Answer.TheVariants.{Added, Yes, Skipped, Versions, Refused, OutOfMemory, Stopped}
+use Rattle.cni_verbs.specs.declared.answer.Answer.TheVariants.{Refused, OutOfMemory, Stopped}
 
 -- the command was refused memory
 abbrev pub is_memory : Option Answer → Bool
-is_memory None = false
-is_memory (Some (Added added)) = false
-is_memory (Some Yes) = false
-is_memory (Some (Skipped skip)) = false
-is_memory (Some (Versions version)) = false
-is_memory (Some (Refused error)) = false
 is_memory (Some OutOfMemory) = true
-is_memory (Some (Stopped calls)) = false
+is_memory answer = false
 
 -- the command was refused, or stopped before its end
 abbrev pub is_failure : Option Answer → Bool
-is_failure None = false
-is_failure (Some (Added added)) = false
-is_failure (Some Yes) = false
-is_failure (Some (Skipped skip)) = false
-is_failure (Some (Versions version)) = false
 is_failure (Some (Refused error)) = true
-is_failure (Some OutOfMemory) = false
 is_failure (Some (Stopped calls)) = true
+is_failure answer = false
 
 -- 8 where memory was refused, else 1 where a command failed, else 0
 abbrev pub status_of : List (Option Answer) → ℕ

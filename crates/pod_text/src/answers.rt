@@ -1,16 +1,14 @@
-//! Commands with their answers, as JSON and as lines.
+//! Commands with their answers, as JSON.
 
 ghost use Rattle.std.specs.Prelude.{◌≡◌, false, IfOk, OnOk};
 ghost use Rattle.serde_json.specs.View.{view};
 ghost use Rattle.serde_json.specs.Written.{has_float};
-ghost use Rattle.cni_json.specs.Json.{line_of};
 ghost use Rattle.cni_result.specs.Members.{members_of};
-ghost use Rattle.pod_text.specs.Lines.{skip_text, versions_data, memory_error, put_answer, answer_data};
+ghost use Rattle.pod_text.specs.Lines.{skip_text, versions_data, put_answer, answer_data};
 
-use cni_addr::{NoMemory, Text};
-use cni_json::line;
-use cni_result::{CniError, JsonObject, Version, error_value, to_value};
-use cni_verbs::{Answer, Skip, verb_text};
+use cni_addr::NoMemory;
+use cni_result::{JsonObject, Version, error_value, to_value};
+use cni_verbs::{Answer, Skip, memory_error, verb_text};
 use pod_file::Command;
 use serde_json::Value;
 use std::alloc::Global;
@@ -34,17 +32,6 @@ fn versions_value(alloc: Global, version: Version) -> Result<Value, NoMemory>
     object.put("cniVersion", &version)?;
     object.put_list("supportedVersions", &supported)?;
     Ok(object.into_value())
-}
-
-fn memory_error(alloc: Global) -> Result<CniError, NoMemory>
-    ensures { IfOk result (λ error. error ≡ memory_error) }
-{
-    Ok(CniError {
-        version: Version::V1_1,
-        code: 104,
-        msg: Text::of(alloc, "out of memory")?,
-        details: Text::of(alloc, "")?,
-    })
 }
 
 fn put_answer(object: &mut JsonObject, alloc: Global, answer: &Answer) -> Result<(), NoMemory>
@@ -77,15 +64,4 @@ pub fn answer_value(alloc: Global, command: &Command, answer: &Answer) -> Result
     object.put("n", &command.number)?;
     object.put_text("verb", verb_text(command.verb))?;
     Ok(object.into_value())
-}
-
-/// The command's number and verb with its answer, on a line of its own.
-pub fn answer_line(alloc: Global, command: &Command, answer: &Answer) -> Result<Vec<u8>, NoMemory>
-    ensures { IfOk result (λ text. text.items ≡ line_of (answer_data command.now answer.now)) }
-{
-    let value = answer_value(alloc, command, answer)?;
-    match line(alloc, &value) {
-        Ok(text) => Ok(text),
-        Err(_) => Err(NoMemory),
-    }
 }

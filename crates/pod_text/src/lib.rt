@@ -15,6 +15,6 @@ pub mod answers;
 pub mod parts;
 pub mod statuses;
 
-pub use answers::{answer_line, answer_value, skip_text};
+pub use answers::{answer_value, skip_text};
 pub use parts::text;
 pub use statuses::{answers_status, status};

@@ -6,11 +6,10 @@ ghost use Rattle.kernel_text.specs.Dump.{dump_of};
 ghost use Rattle.pod_workers.specs.World.{host_of};
 ghost use Rattle.pod_text.specs.Lines.{command_line, command_lines, entry_line, trace_from, trace_lines, where_asked, text_of};
 
-use crate::answers::answer_line;
+use crate::answers::answer_value;
 use cni_addr::{Items, NoMemory};
-use cni_json::line;
 use kernel_model::Kernel;
-use kernel_text::{push_dump, trace_value};
+use kernel_text::{push_dump, push_line, trace_value};
 use pod_file::Command;
 use pod_workers::{Book, Entry};
 use std::alloc::Global;
@@ -25,9 +24,8 @@ fn push_command<K: Kernel + Drop>(
 {
     match book.answer(command.number) {
         Some(answer) => {
-            let text = answer_line(alloc, command, answer)?;
-            lines.extend_from_slice(text.as_slice())?;
-            Ok(())
+            let value = answer_value(alloc, command, answer)?;
+            push_line(alloc, &value, lines)
         }
         None => Ok(()),
     }
@@ -80,11 +78,7 @@ fn push_entry(
     ensures { OnOk result (lines.new.items ≡ lines.old.items ++ entry_line number entry.now) }
 {
     let value = trace_value(alloc, number, entry.command, &entry.call, &entry.reply)?;
-    let Ok(text) = line(alloc, &value) else {
-        return Err(NoMemory);
-    };
-    lines.extend_from_slice(text.as_slice())?;
-    Ok(())
+    push_line(alloc, &value, lines)
 }
 
 fn push_entries(alloc: Global, history: &[Entry], lines: &mut Vec<u8>) -> Result<(), NoMemory>

@@ -2,30 +2,33 @@
 use Rattle.std.specs.Prelude.{ℕ, List, [], ◌++◌, codes, decimal, slice_index_or}
 use Rattle.cni_result.specs.declared.error.CniError.{CniError}
 use Rattle.cni_result.specs.declared.version.Version.TheVariants.{V1_1}
+use Rattle.cni_verbs.specs.ErrorKinds.{kind_title, message_about, message_of_field, plain_error, memory_error}
+use Rattle.cni_verbs.specs.declared.error_kind.ErrorKind.{ErrorKind}
+use Rattle.cni_verbs.specs.declared.error_kind.ErrorKind.TheVariants as kinds
 use Rattle.net_conf.specs.declared.error.ConfError.{ConfError}
 use Rattle.net_conf.specs.declared.error.ConfError.TheVariants as conf
 use Rattle.pod_file.specs.declared.error.PodError.{PodError}
 use Rattle.pod_file.specs.declared.error.PodError.TheVariants as pods
-use Rattle.pod_text.specs.Lines.{memory_error}
 use Rattle.pod_workers.specs.declared.plan.PlanError.{PlanError}
 use Rattle.pod_workers.specs.declared.plan.PlanError.TheVariants as plans
 use Rattle.tool_words.specs.declared.words.Words.{Words}
 
-abbrev pub refused : ℕ → List ℕ → CniError
-refused code msg = record { version = V1_1; code = code; msg = msg; details = [] }
-
 abbrev pub not_decoded : CniError
-not_decoded = refused 6 (codes "decoding failed")
+not_decoded = plain_error V1_1 kinds.DecodingFailed (kind_title kinds.DecodingFailed)
+
+-- an error of this kind about this
+abbrev pub error_about : ErrorKind → List ℕ → CniError
+error_about kind what = plain_error V1_1 kind (message_about kind what)
 
 abbrev pub invalid_list : List ℕ → CniError
-invalid_list why = refused 7 (codes "invalid network configuration: " ++ why)
+invalid_list why = error_about kinds.InvalidList why
 
 abbrev pub invalid_pods : List ℕ → CniError
-invalid_pods why = refused 7 (codes "invalid pod file: " ++ why)
+invalid_pods why = error_about kinds.InvalidPodFile why
 
 abbrev pub list_error : ConfError → CniError
-list_error (conf.Version found) = refused 1 (codes "incompatible CNI version: " ++ found)
-list_error (conf.Unsupported key value) = refused 2 (codes "unsupported field " ++ (key ++ (codes ": " ++ value)))
+list_error (conf.Version found) = error_about kinds.IncompatibleVersion found
+list_error (conf.Unsupported key value) = plain_error V1_1 kinds.UnsupportedField (message_of_field key value)
 list_error conf.Decode = not_decoded
 list_error (conf.Invalid why) = invalid_list why
 list_error conf.NoMemory = memory_error

@@ -1,12 +1,12 @@
 //! Why a file or a plan is refused, as an error.
 
 ghost use Rattle.std.specs.Prelude.{◌≡◌, IfOk};
-ghost use Rattle.pod_text.specs.Lines as texts;
 ghost use Rattle.tool_run.specs.Refusals as refusals;
-ghost use Rattle.tool_run.specs.Refusals.{file_at_fault, list_error, plan_error, pods_error, refused};
+ghost use Rattle.tool_run.specs.Refusals.{error_about, file_at_fault, list_error, plan_error, pods_error};
 
-use cni_addr::{NoMemory, Text};
+use cni_addr::NoMemory;
 use cni_result::{CniError, Version};
+use cni_verbs::{ErrorKind, memory_error, message_of_field, plain_error};
 use net_conf::ConfError;
 use pod_file::PodError;
 use pod_workers::PlanError;
@@ -19,16 +19,9 @@ pub(crate) fn list_error(alloc: Global, error: &ConfError) -> Result<CniError, N
 {
     match error {
         ConfError::Version { found } => {
-            let found = found.as_str();
-            let msg = format!(in alloc; "incompatible CNI version: {found}")?;
-            refused(alloc, 1, msg.as_str())
+            error_about(alloc, ErrorKind::IncompatibleVersion, found.as_str())
         }
-        ConfError::Unsupported { key, value } => {
-            let key = key.as_str();
-            let value = value.as_str();
-            let msg = format!(in alloc; "unsupported field {key}: {value}")?;
-            refused(alloc, 2, msg.as_str())
-        }
+        ConfError::Unsupported { key, value } => unsupported(alloc, key.as_str(), value.as_str()),
         ConfError::Decode => not_decoded(alloc),
         ConfError::Invalid { why } => invalid_list(alloc, why.as_str()),
         ConfError::NoMemory => memory_error(alloc),
@@ -78,39 +71,35 @@ pub(crate) fn file_at_fault(words: &Words, error: PlanError) -> &str
     }
 }
 
-fn refused(alloc: Global, code: u32, msg: &str) -> Result<CniError, NoMemory>
-    ensures { IfOk result (λ e. e ≡ refused code msg.now) }
+fn error_about(alloc: Global, kind: ErrorKind, what: &str) -> Result<CniError, NoMemory>
+    ensures { IfOk result (λ e. e ≡ error_about kind what.now) }
 {
-    Ok(CniError {
-        version: Version::V1_1,
-        code,
-        msg: Text::of(alloc, msg)?,
-        details: Text::of(alloc, "")?,
-    })
+    let msg = kind.message_about(alloc, what)?;
+    plain_error(alloc, Version::V1_1, kind, msg)
+}
+
+fn unsupported(alloc: Global, key: &str, value: &str) -> Result<CniError, NoMemory>
+    ensures { IfOk result (λ e. e ≡ list_error (ConfError.Unsupported key.now value.now)) }
+{
+    let msg = message_of_field(alloc, key, value)?;
+    plain_error(alloc, Version::V1_1, ErrorKind::UnsupportedField, msg)
 }
 
 fn not_decoded(alloc: Global) -> Result<CniError, NoMemory>
     ensures { IfOk result (λ e. e ≡ refusals.not_decoded) }
 {
-    refused(alloc, 6, "decoding failed")
-}
-
-fn memory_error(alloc: Global) -> Result<CniError, NoMemory>
-    ensures { IfOk result (λ e. e ≡ texts.memory_error) }
-{
-    refused(alloc, 104, "out of memory")
+    let msg = ErrorKind::DecodingFailed.message(alloc)?;
+    plain_error(alloc, Version::V1_1, ErrorKind::DecodingFailed, msg)
 }
 
 fn invalid_list(alloc: Global, why: &str) -> Result<CniError, NoMemory>
     ensures { IfOk result (λ e. e ≡ refusals.invalid_list why.now) }
 {
-    let msg = format!(in alloc; "invalid network configuration: {why}")?;
-    refused(alloc, 7, msg.as_str())
+    error_about(alloc, ErrorKind::InvalidList, why)
 }
 
 fn invalid_pods(alloc: Global, why: &str) -> Result<CniError, NoMemory>
     ensures { IfOk result (λ e. e ≡ refusals.invalid_pods why.now) }
 {
-    let msg = format!(in alloc; "invalid pod file: {why}")?;
-    refused(alloc, 7, msg.as_str())
+    error_about(alloc, ErrorKind::InvalidPodFile, why)
 }
