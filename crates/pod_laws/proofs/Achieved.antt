@@ -8,8 +8,6 @@ use Rattle.net_conf.specs.declared.first.First.{First}
 use Rattle.net_conf.specs.declared.first.First.TheVariants.{Bridge, Ptp, Macvlan}
 use Rattle.net_conf.specs.declared.list.NetList.{NetList}
 use Rattle.pod_file.specs.declared.command.Command.{Command}
-use Rattle.pod_file.specs.declared.command.Verb.{Verb}
-use Rattle.pod_file.specs.declared.command.Verb.TheVariants as verbs
 use Rattle.kernel_types.specs.Apply.{apply}
 use Rattle.kernel_types.specs.declared.object.Att.{Att}
 use Rattle.kernel_types.specs.declared.object.Host.{Host}
@@ -23,20 +21,19 @@ use Rattle.plan_words.specs.Shapes.{lease_of}
 use Rattle.plan_words.specs.Share.{Share, share_of, no_objects, share_after_call, share_after_calls}
 use Rattle.plan_words.proofs.CallLists.{share_after_calls-append}
 use Rattle.plan_words.proofs.OwnCalls.{share-own, share-begin, share-lease}
-use Rattle.cni_verbs.specs.CommandWords.{att_of, mappings_of, add_refusal, del_refusal}
-use Rattle.cni_verbs.specs.Script.{State, AtBegin, BeforeLeases, Leasing, AfterLeases, ReadingCache, Deleting, FindingEntry, Asking, Changing, Collecting, Over, Calls, before_of, back_of, after_leases, leasing, before_leases, deleting, faulted, at_begin, at_call_before, at_lease, at_call_after, at_cache, at_deletion, advance, unless_refused, start_of, turn, leased_by, leases_in}
+use Rattle.cni_verbs.specs.CommandWords.{att_of, mappings_of}
+use Rattle.cni_verbs.specs.Script.{State, AtBegin, BeforeLeases, Leasing, AfterLeases, ReadingCache, Deleting, FindingEntry, Asking, Changing, Collecting, Over, Calls, before_of, back_of, after_leases, leasing, before_leases, deleting, faulted, at_begin, at_call_before, at_lease, at_call_after, at_cache, at_deletion, advance, turn, leased_by, leases_in}
 use Rattle.cni_verbs.specs.Wanted.{sets_of, calls_before, kinds_of, wanted}
-use Rattle.cni_verbs.specs.declared.answer.Cause.{Cause}
 use Rattle.cni_verbs.specs.declared.answer.Ending.{Ending}
 use Rattle.cni_verbs.specs.declared.answer.Ending.TheVariants.{Added, Yes, Skipped, Versions, Refused}
 use Rattle.pod_workers.specs.World.{entry_of, host_of, host_on, reply_to}
 use Rattle.pod_workers.specs.declared.plan.Entry.{Entry}
 use Rattle.pod_workers.proofs.Planned.{LeftArePlanned}
+use Rattle.pod_workers.proofs.StepsLeft.{host-made}
 use Rattle.pod_laws.specs.Moments.{own_entries}
 use Rattle.pod_laws.proofs.Entries.{replies_in}
-use Rattle.pod_laws.proofs.States.{IsAside, IsNoResult, aside-advance, aside-start}
+use Rattle.pod_laws.proofs.States.{IsAside, IsNoResult, aside-advance, by-start}
 use Rattle.pod_laws.proofs.Runs.{IsRunFact, StartsWith, own-state}
-use Rattle.pod_laws.proofs.Steps.{host-made}
 use Rattle.cni_verbs.proofs.WantedShare.{share_with_leases, makes-wanted}
 
 -- the addresses that these entries leased, in order
@@ -247,17 +244,8 @@ achieved-own list c es st k n faulty call left is was =
     let e = entry_of k n call faulty in
     achieved-next list c (es ++ e ∷ []) (length es + 1) st e.reply (share_of (att_of c) (host_on k e)) tt
 
-achieved-unless : (list : NetList) (c : Command) (o : Option Cause) (st : State) (s : Share) → Achieved list c [] st s → Achieved list c [] (unless_refused o st) s
-achieved-unless list c None st s h = h
-achieved-unless list c (Some cause) st s h = tt
-
-achieved-start_of : (list : NetList) (c : Command) (v : Verb) (s : Share) → Achieved list c [] (start_of list v c) s
-achieved-start_of list c verbs.Add s = achieved-unless list c (add_refusal c) AtBegin s refl
-achieved-start_of list c verbs.Del s = achieved-unless list c (del_refusal c) (ReadingCache Yes) s tt
-achieved-start_of list c v s = achieved-aside list c [] (start_of list v c) s (aside-start list c v tt)
-
 pub achieved-start : StartsWith Achieved
-achieved-start list c s = achieved-start_of list c c.verb s
+achieved-start list c s = by-start (λ st. Achieved list c [] st s) list c c.verb (λ st aside. achieved-aside list c [] st s aside) refl tt
 
 pub achieved-step : IsRunFact Achieved
 achieved-step w n c list call faulty on was =

@@ -1,9 +1,8 @@
 -- At every moment each attachment has only what its last ADD that began asks for.
 use Rattle.std.proofs.Common.{◌≡◌, ◌≢◌, ℕ, ◌+◌, Bool, true, false, List, [], ◌∷◌, ◌++◌, map, length, refl, sym, ◌∙◌, ap, subst, inl, inr, append_assoc, arith}
 use Rattle.std.proofs.lemmas.List.{append-nil, map-append}
-use Rattle.std.proofs.lemmas.Bool.{cases_Bool}
+use Rattle.std.proofs.lemmas.Bool.{cases_Bool, both_ways}
 use Rattle.std.proofs.lemmas.Bool.Decides.{eqb_tells}
-use Rattle.std.specs.List.{list_all}
 use Rattle.cni_addr.specs.declared.address.Addr.{Addr}
 use Rattle.cni_addr.specs.declared.range.RangeSet.{RangeSet}
 use Rattle.net_conf.specs.declared.list.NetList.{NetList}
@@ -18,7 +17,7 @@ use Rattle.kernel_types.specs.declared.call.Kind.{Kind}
 use Rattle.kernel_types.specs.declared.call.Call.{Call}
 use Rattle.kernel_types.specs.declared.call.Call.TheVariants.{Begin, LeaseNext, CacheGet}
 use Rattle.kernel_types.specs.declared.call.Reply.{Reply}
-use Rattle.kernel_types.specs.declared.call.Reply.TheVariants.{Done, NoNs, NoLink, Taken, Empty, Leased, Gone, Has, Owners, Entry as Kept, Fault}
+use Rattle.kernel_types.specs.declared.call.Reply.TheVariants.{Done, Leased}
 use Rattle.plan_words.specs.PlanCalls.{is_plan_call_of, is_call_of}
 use Rattle.plan_words.specs.Shapes.{lease_of}
 use Rattle.plan_words.specs.Share.{Share, share_of, no_objects, share_after_call, share_after_calls}
@@ -37,6 +36,7 @@ use Rattle.pod_workers.proofs.Histories.{after-append, replies_of-own, replies_o
 use Rattle.pod_workers.proofs.Order.{ready_is}
 use Rattle.pod_workers.proofs.Planned.{LeftArePlanned}
 use Rattle.pod_workers.proofs.Sound.{sound_host}
+use Rattle.pod_workers.proofs.Deletable.{done_or_not, leased_or_not}
 use Rattle.pod_laws.specs.AskedFor.{begins, is_begin_of, is_done, AreAskedFor, HasNothingUnasked, NothingIsUnasked}
 use Rattle.pod_laws.specs.Moments.{own_entries}
 use Rattle.pod_laws.proofs.Achieved.{Achieved, achieved-start, achieved-step, begun-none, leased-done, leased-push, leased-same, leased_in, leases-one, leases-push, own-made, with_leases}
@@ -47,13 +47,12 @@ use Rattle.pod_laws.proofs.Fronts.{asked-after_leases, asked-before_leases, aske
 use Rattle.pod_laws.proofs.OfKinds.{still_none}
 use Rattle.pod_laws.proofs.Quiet.{plan-no_lease, lease-no_lease, deletion-no_lease, question-no_lease, outside-no_lease}
 use Rattle.pod_laws.proofs.Removes.{OnlyRemoves, removes-deletion, removes-nothing}
-use Rattle.pod_laws.proofs.States.{LeftFit, asks, head_fits, is_question, question-leaves}
+use Rattle.pod_laws.proofs.States.{LeftFit, is_question, question-leaves, asked-is_question}
 use Rattle.pod_laws.proofs.Runs.{every-run-now, own-state}
 use Rattle.pod_laws.proofs.Steps.{Changes, GoesOn, by-entries, on-entry}
 use Rattle.pod_laws.proofs.Turns.{AsksOrCollects, change-of, removes-changed, turn-of, work-turn}
 use Rattle.pod_laws.proofs.Undoing.{Undoing, IsUnrefused, undone-start, undone-step}
-use Rattle.pod_laws.proofs.Within.{done-or-not, leased-or-not, opening-share}
-use Rattle.pod_laws.proofs.Tests.{clash}
+use Rattle.pod_laws.proofs.Within.{opening-share}
 
 -- ---- a call that leaves or removes what the attachment has
 
@@ -101,16 +100,7 @@ quiet-now w n att faulty call not no_lease d was =
 
 not-done : (r : Reply) → (r ≡ Done → ⊥) → is_done r ≡ false
 not-done Done not = absurd (not refl)
-not-done NoNs not = refl
-not-done NoLink not = refl
-not-done (Taken tag) not = refl
-not-done Empty not = refl
-not-done (Leased addr) not = refl
-not-done (Gone gone) not = refl
-not-done (Has has) not = refl
-not-done (Owners owners) not = refl
-not-done (Kept cached) not = refl
-not-done Fault not = refl
+not-done _ not = refl
 
 not-begins_done : (att : Att) (e : Entry) → is_done e.reply ≡ false → begins att e ≡ false
 not-begins_done att e h = grind (arith, h)
@@ -120,7 +110,7 @@ begin-now w n att netns faulty was =
     let k = host_of w in
     let call = Begin att netns in
     let e = entry_of k n call faulty in
-    elim (done-or-not (reply_to k call faulty)) [
+    elim (done_or_not (reply_to k call faulty)) [
       | inl done ↦ inl (ap (share_of att) (after-append w.plan.pods.opening w.history e) ∙ begun-none att netns k n faulty done)
       | inr not ↦
           quiet-now w n att faulty call (not-begins_done att e (not-done (reply_to k call faulty) not)) (plan-no_lease (reply_to k call faulty) (begin-may att netns k faulty))
@@ -187,7 +177,7 @@ before-now w n c list x xs faulty on own un ach =
     let e = entry_of k n x faulty in
     let es = own_entries n w.history in
     let made = ach.0 in
-    elim (done-or-not (reply_to k x faulty)) [
+    elim (done_or_not (reply_to k x faulty)) [
       | inl done ↦
           let share = own-made att k n x faulty own done ∙ ap (λ u. share_after_call u x) ach.2 ∙ sym (share_after_calls-append no_objects made (x ∷ [])) in
           making-now w n c list x faulty on un (plan-no_begin att att x own) [] (leased-done es e [] done ach.3)
@@ -206,7 +196,7 @@ after-now w n c list x xs given faulty on own un ach =
     let e = entry_of k n x faulty in
     let es = own_entries n w.history in
     let made = ach.0 in
-    elim (done-or-not (reply_to k x faulty)) [
+    elim (done_or_not (reply_to k x faulty)) [
       | inl done ↦
           let share = own-made att k n x faulty own done ∙ ap (λ u. share_after_call u x) ach.3 ∙ sym (share_after_calls-append (with_leases list c.command given) made (x ∷ [])) in
           making-now w n c list x faulty on un (plan-no_begin att att x own) given (leased-done es e given done ach.4)
@@ -225,7 +215,7 @@ lease-now w n c list set sets given faulty on un ach =
     let call = LeaseNext att (length given) set in
     let e = entry_of k n call faulty in
     let es = own_entries n w.history in
-    elim (leased-or-not (reply_to k call faulty)) [
+    elim (leased_or_not (reply_to k call faulty)) [
       | inl leased ↦
           let a = leased.0 in
           let more : map (lease_of att) given ++ lease_of att a ∷ [] ≡ map (lease_of att) (given ++ a ∷ []) = sym (map-append (lease_of att) given (a ∷ [])) in
@@ -263,7 +253,7 @@ own-asked w n c list call faulty (Deleting kind ks ending) sound left fit is un 
 own-asked w n c list call faulty FindingEntry sound left fit is un ach was =
     subst (OwnAsked w n c list faulty) (let e : CacheGet (att_of c.command) ≡ call = cc in e) (λ on. question-now w n (att_of c.command) (CacheGet (att_of c.command)) faulty refl was)
 own-asked w n c list call faulty (Asking q qs) sound left fit is un ach was =
-    subst (OwnAsked w n c list faulty) (let e : q.call ≡ call = cc in e) (λ on. question-now w n (att_of c.command) q.call faulty (head_fits (asks q) (list_all asks qs) fit) was)
+    subst (OwnAsked w n c list faulty) (let e : q.call ≡ call = cc in e) (λ on. question-now w n (att_of c.command) q.call faulty (asked-is_question list q.call fit.0) was)
 own-asked w n c list call faulty (Changing change) sound left fit is un ach was = absurd fit
 own-asked w n c list call faulty (Collecting work faults) sound left fit is un ach was = λ on. aside-now w n c.command (att_of c.command) call faulty sound (work-turn c.command work.jobs work.sweeps faults call fit is) was
 own-asked w n c list call faulty (Over ending given) sound left fit is un ach was = cc
@@ -284,7 +274,7 @@ other-asked w n c list call faulty att on differ own was =
           let place : a.place ≡ n = let s : n + 1 ≡ a.place + 1 = same in omega (arith, s) in
           let by : a.by ≡ c = ready_is w n a.place c a.by on.ready place a.there in
           let att_is : att_of c.command ≡ att = ap (λ (x : Placed). att_of x.command) (sym by) ∙ a.attachment in
-          clash (att_eq (att_of c.command) att) (ap (att_eq (att_of c.command)) (sym att_is) ∙ att_eq-refl (att_of c.command)) differ in
+          both_ways (att_eq (att_of c.command) att) differ (ap (att_eq (att_of c.command)) (sym att_is) ∙ att_eq-refl (att_of c.command)) in
           inr (record {
             place = a.place;
             by = a.by;

@@ -101,17 +101,9 @@ denied-some host all q d = ap (list_all (grants host)) d.are ∙ middle-fails (g
 
 -- ---- lists of tests
 
-and-assoc : (a b d : Bool) → (a && (b && d)) ≡ ((a && b) && d)
-and-assoc true b d = refl
-and-assoc false b d = refl
-
 pub and-true : (b : Bool) → (b && true) ≡ b
 and-true true = refl
 and-true false = refl
-
-pub all-both : {X : Type 0} (p : X → Bool) (xs ys : List X) → list_all p (xs ++ ys) ≡ (list_all p xs && list_all p ys)
-all-both p [] ys = refl
-all-both p (x ∷ xs) ys = ap (λ b. p x && b) (all-both p xs ys) ∙ and-assoc (p x) (list_all p xs) (list_all p ys)
 
 -- ---- entries without a fault
 

@@ -17,7 +17,7 @@ use Rattle.kernel_types.specs.declared.call.Kind.TheVariants as kinds
 use Rattle.kernel_types.specs.declared.call.Call.{Call}
 use Rattle.kernel_types.specs.declared.call.Call.TheVariants.{Begin, LeaseNext, CacheGet}
 use Rattle.kernel_types.specs.declared.call.Reply.{Reply}
-use Rattle.kernel_types.specs.declared.call.Reply.TheVariants.{Done, NoNs, NoLink, Taken, Empty, Leased, Gone, Has, Owners, Entry as Kept, Fault}
+use Rattle.kernel_types.specs.declared.call.Reply.TheVariants.{Done, Leased}
 use Rattle.plan_words.specs.PlanCalls.{is_plan_call_of, is_call_of}
 use Rattle.plan_words.specs.Share.{Share}
 use Rattle.plan_words.proofs.OtherCalls.{call-apart}
@@ -33,12 +33,13 @@ use Rattle.pod_workers.specs.World.{World, entry_of, host_of, reply_to}
 use Rattle.pod_workers.specs.declared.plan.Entry.{Entry}
 use Rattle.pod_workers.proofs.Order.{apart, ready_is}
 use Rattle.pod_workers.proofs.Planned.{LeftArePlanned}
+use Rattle.pod_workers.proofs.Splits.{split_nil}
 use Rattle.pod_laws.specs.AskedFor.{begins, is_begin_of, is_done, last_begun}
 use Rattle.pod_laws.specs.Moments.{own_entries}
 use Rattle.pod_laws.specs.Refused.{is_granted, lets_go_on}
 use Rattle.pod_laws.proofs.Causes.{IsPlanReply, begin-may}
 use Rattle.pod_laws.proofs.Entries.{is_of-own, is_of-other, own_entries-own, own_entries-other, no-entries, replies-own_entries}
-use Rattle.pod_laws.proofs.States.{IsOtherVerb, is_question}
+use Rattle.pod_laws.proofs.States.{IsOtherVerb, is_question, not-both}
 use Rattle.pod_laws.proofs.Runs.{every-run-now, own-state}
 use Rattle.pod_laws.proofs.Steps.{AllOpen, Changes, GoesOn, IsOpenKept, OpenFact, by-open}
 use Rattle.pod_laws.proofs.Turns.{AsksOrCollects, IsTurnOf, change-of, other_att, turn-of}
@@ -104,19 +105,12 @@ not-begins att e h = grind (arith, h)
 
 -- ---- the first call of an ADD is its Begin, and no later one is
 
-del-add : (c : Command) → c.verb ≡ verbs.Add → c.verb ≡ verbs.Del → ⊥
-del-add c a d = cc
-
-no-split : {X : Type 0} (xs ys : List X) (y : X) → [] ≡ xs ++ y ∷ ys → ⊥
-no-split [] ys y h = cc
-no-split (x ∷ xs) ys y h = cc
-
 no-lead : (c : Command) (es : List Entry) (ending : Ending) → c.verb ≡ verbs.Add → es ≡ [] → Leads c es ending → ⊥
 no-lead c es Added verb none h = h
-no-lead c es Yes verb none h = del-add c verb h.verb
+no-lead c es Yes verb none h = not-both c verb h.verb
 no-lead c es (Skipped skip) verb none h = h
 no-lead c es Versions verb none h = h
-no-lead c es (Refused cause) verb none h = let f = h.first in no-split f.granted f.later f.by (sym none ∙ f.are)
+no-lead c es (Refused cause) verb none h = let f = h.first in split_nil f.granted f.later f.by (sym none ∙ f.are)
 
 first-call : (list : NetList) (c : Command) (es : List Entry) (st : State) (s : Share) (call : Call) → c.verb ≡ verbs.Add → es ≡ [] → turn c st ≡ Calls call → Undoing list c es st s → call ≡ Begin (att_of c) c.netns
 unfolding turn
@@ -152,15 +146,7 @@ nil-or-not (x ∷ xs) = inr (λ e. cc)
 granted-done : (r : Reply) → IsPlanReply r → is_granted r ≡ true → is_done r ≡ true
 granted-done Done may h = refl
 granted-done (Leased addr) may h = absurd may
-granted-done NoNs may h = cc
-granted-done NoLink may h = cc
-granted-done (Taken tag) may h = cc
-granted-done Empty may h = cc
-granted-done (Gone gone) may h = cc
-granted-done (Has has) may h = cc
-granted-done (Owners owners) may h = cc
-granted-done (Kept cached) may h = cc
-granted-done Fault may h = cc
+granted-done _ may h = cc
 
 push-passes : {X : Type 0} (p : X → Bool) (xs : List X) (y : X) → list_all p (xs ++ y ∷ []) ≡ true → (list_all p xs ≡ true) × (p y ≡ true)
 push-passes p [] y h = (refl, grind (arith, h))

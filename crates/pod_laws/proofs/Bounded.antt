@@ -3,6 +3,7 @@ use Rattle.std.proofs.Common.{◌≡◌, ◌≢◌, ℕ, ◌+◌, ◌≤◌, Boo
 use Rattle.std.proofs.lemmas.List.{length-append, length-map}
 use Rattle.std.proofs.lemmas.Option.{same_Some, none-some}
 use Rattle.std.proofs.lemmas.Bool.Decides.{eqb_tells}
+use Rattle.std.proofs.lemmas.Bool.{both_ways}
 use Rattle.net_conf.specs.declared.list.NetList.{NetList}
 use Rattle.pod_file.specs.declared.command.Command.{Command}
 use Rattle.kernel_types.specs.declared.object.Host.{Host}
@@ -22,13 +23,13 @@ use Rattle.pod_workers.proofs.Order.{ready_is}
 use Rattle.pod_workers.proofs.Planned.{LeftIsOutside, left-is-outside}
 use Rattle.pod_workers.proofs.Sound.{sound_host}
 use Rattle.pod_workers.proofs.Splits.{split_nil, split_snoc}
-use Rattle.pod_workers.proofs.StepsLeft.{IsNoCollection, entry-falls, none-from}
+use Rattle.pod_workers.proofs.StepsLeft.{IsNoCollection, entry-falls, none-stays}
+use Rattle.pod_workers.proofs.Replies.{true-from}
 use Rattle.pod_laws.specs.Moments.{is_of, own_entries, until_last}
 use Rattle.pod_laws.proofs.Entries.{is_of-own, is_of-other, own_entries-own, own_entries-other, replies_in, replies-own_entries, no-entries, until_last-own, until_last-other}
 use Rattle.pod_laws.proofs.RunFacts.{state_by, state_by-append}
-use Rattle.pod_laws.proofs.Runs.{all-still, own-state}
+use Rattle.pod_laws.proofs.Runs.{own-state, share-kept}
 use Rattle.pod_laws.proofs.Steps.{GoesOn, IsKept, IsKeptOutside, by-entries}
-use Rattle.pod_laws.proofs.Tests.{clash}
 
 -- ---- calls made and calls left
 
@@ -62,7 +63,7 @@ from-other p h n c list x far was = λ most before rest e in_most none split own
     ap (λ es. length es + calls_left most list c.command (state_by list c.command es) (share_of (att_of c.command) (after p.pods.opening (until_last n (h ++ x ∷ []))))) (own_entries-other n h x far)
     ∙ ap (λ l. length (own_entries n h) + calls_left most list c.command (state_by list c.command (own_entries n h)) (share_of (att_of c.command) (after p.pods.opening l))) (until_last-other n h x far) in
     elim (split_snoc h before rest x e split) [
-      | inl t ↦ absurd (clash (is_of n x) (ap (is_of n) t.2 ∙ is_of-own n e own) far)
+      | inl t ↦ absurd (both_ways (is_of n x) far (ap (is_of n) t.2 ∙ is_of-own n e own))
       | inr t ↦ (let earlier = was most before t.0 e in_most none t.2 own first in (omega arith, omega arith))
     ]
 
@@ -83,7 +84,7 @@ from-own w n c list call faulty on was = λ most before rest e in_most none spli
     let next = advance list c.command (length es + 1) state x.reply in
     let st = own-state w n c list call faulty on in
     let fall = entry-falls most list c.command (length es + 1) n state (host_of w) call faulty in_most
-    (record { sound = sound_host w on.legal; allowed = on.allowed }) st.planned (none-from list c.command 0 (start_state list c.command) (replies_in es) none) st.turn_is in
+    (record { sound = sound_host w on.legal; allowed = on.allowed }) st.planned (true-from IsNoCollection list c.command 0 (start_state list c.command) (replies_in es) (none-stays list c.command) none) st.turn_is in
     let longer = length-append es (x ∷ []) in
     let entered : made_and_left w.plan (h ++ x ∷ []) n c.command list most ≡ length (es ++ x ∷ []) + calls_left most list c.command next (share_of att (after opening (h ++ x ∷ []))) =
     ap (λ l. length l + calls_left most list c.command (state_by list c.command l) (share_of att (after opening (until_last n (h ++ x ∷ []))))) (own_entries-own n h x mine)
@@ -101,7 +102,7 @@ from-own w n c list call faulty on was = λ most before rest e in_most none spli
           ∙ ap (λ l. at_first w.plan l x c.command list most) t.1
           ∙ ap (λ y. at_first w.plan before y c.command list most) t.2 in
           (omega arith, omega arith)
-      | inr t ↦ elim (all-still w on.legal n c on.ready.there on.ready.unanswered) [
+      | inr t ↦ elim (share-kept.since w on.legal n c on.ready.there on.ready.unanswered) [
         | inl nothing ↦ absurd (has_reply n h before t.0 e t.2 own nothing)
         | inr still ↦
             let earlier = was most before t.0 e in_most none t.2 own first in

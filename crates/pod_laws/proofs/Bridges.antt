@@ -15,8 +15,6 @@ use Rattle.net_conf.specs.declared.first.First.{First}
 use Rattle.net_conf.specs.declared.first.First.TheVariants.{Bridge, Ptp, Macvlan}
 use Rattle.net_conf.specs.declared.list.NetList.{NetList}
 use Rattle.pod_file.specs.declared.command.Command.{Command}
-use Rattle.pod_file.specs.declared.command.Verb.{Verb}
-use Rattle.pod_file.specs.declared.command.Verb.TheVariants as verbs
 use Rattle.kernel_types.specs.Allowed.{IsAllowed}
 use Rattle.kernel_types.specs.Apply.{apply}
 use Rattle.kernel_types.specs.Apply.Calls.{bridge_or_new, new_bridge, has_bridge_as_master}
@@ -40,10 +38,9 @@ use Rattle.kernel_types.specs.declared.call.Call.TheVariants.{BridgeEnsure, Gate
 use Rattle.kernel_types.specs.declared.call.Reply.{Reply}
 use Rattle.kernel_types.specs.declared.call.Reply.TheVariants.{Done, Taken, Leased, Gone, Fault}
 use Rattle.plan_words.specs.PlanCalls.{is_call_of}
-use Rattle.cni_verbs.specs.CommandWords.{att_of, add_refusal, del_refusal}
-use Rattle.cni_verbs.specs.Script.{State, AtBegin, BeforeLeases, Leasing, AfterLeases, ReadingCache, Deleting, FindingEntry, Asking, Changing, Collecting, Over, Calls, before_of, back_of, after_leases, leasing, before_leases, deleting, at_begin, at_call_before, at_lease, at_call_after, at_cache, at_deletion, advance, unless_refused, start_of, turn}
+use Rattle.cni_verbs.specs.CommandWords.{att_of}
+use Rattle.cni_verbs.specs.Script.{State, AtBegin, BeforeLeases, Leasing, AfterLeases, ReadingCache, Deleting, FindingEntry, Asking, Changing, Collecting, Over, Calls, before_of, back_of, after_leases, leasing, before_leases, deleting, at_begin, at_call_before, at_lease, at_call_after, at_cache, at_deletion, advance, turn}
 use Rattle.cni_verbs.specs.Wanted.{sets_of, calls_before, kinds_of, deletion}
-use Rattle.cni_verbs.specs.declared.answer.Cause.{Cause}
 use Rattle.cni_verbs.specs.declared.answer.Ending.{Ending}
 use Rattle.pod_workers.specs.Legal.{Legal}
 use Rattle.pod_workers.specs.Plans.{Placed, commands_of, list_for}
@@ -53,12 +50,13 @@ use Rattle.pod_workers.specs.declared.plan.Plan.{Plan}
 use Rattle.pod_workers.proofs.Histories.{after-append, replies_of-other}
 use Rattle.pod_workers.proofs.Order.{ready_is}
 use Rattle.pod_workers.proofs.Sound.{sound_host}
+use Rattle.pod_workers.proofs.StepsLeft.{host-made}
 use Rattle.pod_laws.specs.Moments.{is_of, own_entries}
 use Rattle.pod_laws.proofs.Entries.{is_of-own, is_of-other, no-entries, own_entries-own, own_entries-other, replies-own_entries}
-use Rattle.pod_laws.proofs.States.{IsAside, aside-advance, aside-start, is_question}
+use Rattle.pod_laws.proofs.States.{IsAside, aside-advance, is_question, by-start}
 use Rattle.pod_laws.proofs.RunFacts.{state_by, state_by-append}
 use Rattle.pod_laws.proofs.Runs.{own-state}
-use Rattle.pod_laws.proofs.Steps.{AllOpen, Changes, GoesOn, IsOpenKept, OpenFact, by-open, host-made, on-entry}
+use Rattle.pod_laws.proofs.Steps.{AllOpen, Changes, GoesOn, IsOpenKept, OpenFact, by-open, on-entry}
 use Rattle.pod_laws.proofs.Turns.{IsTurnOf, alone-outside, turn-of}
 use Rattle.pod_laws.proofs.Tests.{any-filtered, none-by}
 
@@ -302,20 +300,11 @@ bridge-stands list _ old new stays was = tt
 abbrev RunBridge : OpenFact
 RunBridge p h m d = (list : NetList) → list_for p d.command ≡ Some list → HasBridge list (state_by list d.command (own_entries m h)) (after p.pods.opening h)
 
-bridge-unless : (list : NetList) (o : Option Cause) (st : State) (host : Host) → HasBridge list st host → HasBridge list (unless_refused o st) host
-bridge-unless list None st host h = h
-bridge-unless list (Some cause) st host h = tt
-
-bridge-start_of : (list : NetList) (c : Command) (v : Verb) (host : Host) → HasBridge list (start_of list v c) host
-bridge-start_of list c verbs.Add host = bridge-unless list (add_refusal c) AtBegin host tt
-bridge-start_of list c verbs.Del host = bridge-unless list (del_refusal c) (ReadingCache _) host tt
-bridge-start_of list c v host = bridge-aside list (start_of list v c) host (aside-start list c v tt)
-
 -- a run that has made no call
 bridge-begun : (p : Plan) (h : List Entry) (m : ℕ) (d : Placed) → replies_of m h ≡ [] → RunBridge p h m d
 bridge-begun p h m d none = λ list listed.
     let no_entry : own_entries m h ≡ [] = no-entries (own_entries m h) (sym (replies-own_entries m h) ∙ none) in
-    subst (λ es. HasBridge list (state_by list d.command es) (after p.pods.opening h)) (sym no_entry) (bridge-start_of list d.command d.command.verb (after p.pods.opening h))
+    subst (λ es. HasBridge list (state_by list d.command es) (after p.pods.opening h)) (sym no_entry) (by-start (λ st. HasBridge list st (after p.pods.opening h)) list d.command d.command.verb (λ st aside. bridge-aside list st (after p.pods.opening h) aside) tt tt)
 
 bridge-own : (w : World) (n m : ℕ) (c d : Placed) (list : NetList) (call : Call) (faulty : Bool) → GoesOn w n c list call faulty → m ≡ n → slice_get (commands_of w.plan) m ≡ Some d → AllOpen RunBridge w → RunBridge w.plan (w.history ++ entry_of (host_of w) n call faulty ∷ []) m d
 bridge-own w n m c d list call faulty on here at was = λ other listed.

@@ -17,7 +17,7 @@ use Rattle.kernel_types.specs.declared.object.Host.{Host}
 use Rattle.kernel_types.specs.declared.object.Link.{Link}
 use Rattle.kernel_types.specs.declared.object.Tag.{Tag}
 use Rattle.kernel_types.specs.declared.call.Call.{Call}
-use Rattle.kernel_types.specs.declared.call.Call.TheVariants.{Begin, BridgeEnsure, GatewayEnsure, ForwardEnsure, VethAdd, MacvlanAdd, LinkSet, AddrAdd, RouteAdd, RuleAppend, SettingSet, LeaseNext, CachePut, LinkDel, RuleDel, SettingDel, LeaseDel, CacheDel, HasObj, CacheGet, OwnersOf, PoolFree, NsChange, Outside}
+use Rattle.kernel_types.specs.declared.call.Call.TheVariants.{Begin, BridgeEnsure, GatewayEnsure, ForwardEnsure, VethAdd, MacvlanAdd, LinkSet, AddrAdd, RouteAdd, RuleAppend, SettingSet, LeaseNext, CachePut}
 use Rattle.kernel_types.specs.declared.call.Reply.{Reply}
 use Rattle.kernel_types.specs.declared.call.Reply.TheVariants.{Done, NoNs, NoLink, Taken, Empty, Leased, Gone, Has, Owners, Entry as Kept, Fault}
 use Rattle.plan_words.specs.PlanCalls.{is_plan_call_of}
@@ -81,19 +81,7 @@ plan-reply att host (RuleAppend rule) is = by_test IsPlanStep (list_any (λ r. r
 plan-reply att host (SettingSet s) is =
     by_test IsPlanStep (has_named_ns host s.ns) _ _ (λ _. appended-reply (option_map (λ a. a.tag) (find (is_same_setting s) host.settings)) host _) (λ _. tt)
 plan-reply att host (CachePut own cached) is = by_test IsPlanStep (list_any (λ c. is_own own c.tag) host.cached) _ _ (λ _. tt) (λ _. tt)
-plan-reply att host (Begin a netns) is = cc
-plan-reply att host (LeaseNext a number set) is = cc
-plan-reply att host (LinkDel a) is = cc
-plan-reply att host (RuleDel a) is = cc
-plan-reply att host (SettingDel a) is = cc
-plan-reply att host (LeaseDel a) is = cc
-plan-reply att host (CacheDel a) is = cc
-plan-reply att host (HasObj probe) is = cc
-plan-reply att host (CacheGet a) is = cc
-plan-reply att host (OwnersOf network kind) is = cc
-plan-reply att host (PoolFree network set) is = cc
-plan-reply att host (NsChange name add) is = cc
-plan-reply att host (Outside change) is = cc
+plan-reply att host _ is = cc
 
 -- ---- the replies that a lease may get
 

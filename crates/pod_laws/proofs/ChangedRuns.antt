@@ -3,6 +3,7 @@ use Rattle.std.proofs.Common.{◌≡◌, ◌≢◌, ℕ, ◌+◌, Bool, true, fa
 use Rattle.std.specs.Prelude.{if◌then◌else◌}
 use Rattle.std.proofs.lemmas.Bool.Decides.{eqb_tells}
 use Rattle.std.proofs.lemmas.Option.{none-some}
+use Rattle.std.proofs.lemmas.Bool.{both_ways}
 use Rattle.pod_file.specs.declared.command.Command.{Command}
 use Rattle.pod_file.specs.declared.command.Verb.{Verb}
 use Rattle.pod_file.specs.declared.command.Verb.TheVariants as verbs
@@ -30,7 +31,7 @@ use Rattle.pod_workers.proofs.AnswersDue.{answer_is_due}
 use Rattle.pod_workers.proofs.Order.{ready_is}
 use Rattle.pod_laws.specs.Changed.{ChangesAreAnswered, IsChangedFor, answer_outside_by, change_asked_by, denial, refusal_of_change}
 use Rattle.pod_laws.specs.Moments.{own_entries}
-use Rattle.pod_laws.proofs.CutOff.{uncut}
+use Rattle.pod_laws.specs.Answers.{is_cut_off}
 use Rattle.pod_laws.proofs.Entries.{is_of-other, is_of-own, own_entries-other, own_entries-own, replies-own_entries, replies_in}
 use Rattle.pod_laws.proofs.Steps.{IsKept, IsKeptOutside, by-entries}
 
@@ -176,6 +177,6 @@ changes_are_answered w legal n c a at outside is whole =
     let one = by-entries AllMakeOne (λ p well m d at_m out. tt) one-kept one-changed w legal n c at outside in
     elim (answer_is_due w legal n a c is at) [
       | inl scripts ↦ changed-script w n c a (unlisted w.plan c.command outside) one scripts
-      | inr (inl stopped) ↦ absurd (uncut a whole (inr (_, stopped.0.2)))
-      | inr (inr memory) ↦ absurd (uncut a whole (inl memory))
+      | inr (inl stopped) ↦ absurd (both_ways (is_cut_off a) whole (ap is_cut_off stopped.0.2))
+      | inr (inr memory) ↦ absurd (both_ways (is_cut_off a) whole (ap is_cut_off memory))
     ]

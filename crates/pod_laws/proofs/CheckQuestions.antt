@@ -12,6 +12,8 @@ use Rattle.pod_file.specs.declared.command.Command.{Command}
 use Rattle.std.proofs.Math.Bool.{beq}
 use Rattle.std.specs.Option.{option_eq}
 use Rattle.std.specs.Str.{bytes_eq}
+use Rattle.std.proofs.lemmas.Bool.{and_parts}
+use Rattle.std.proofs.lemmas.List.Folds.{list_all-append}
 use Rattle.kernel_types.specs.Equal.{addr_obj_eq, chain_eq, cidr_eq, key_eq, lease_eq, link_eq, link_kind_eq, mac_eq, proto_eq, route_eq, rule_eq, setting_eq, table_eq, tag_eq, target_eq}
 use Rattle.kernel_types.specs.Words.{is_own}
 use Rattle.kernel_types.proofs.Cases.{tag_eq-own}
@@ -36,7 +38,7 @@ use Rattle.cni_verbs.specs.declared.answer.Missed.TheVariants as missed
 use Rattle.cni_verbs.specs.declared.answer.Question.{Question}
 use Rattle.pod_laws.specs.Checked.{are_in, cached_in, has_bridge_by, has_bridge_of, has_first_bridge, has_objects_of, holds_cached}
 use Rattle.pod_laws.specs.Granted.{grants}
-use Rattle.pod_laws.proofs.Asking.{Each, all-both, and-true, each-append, each-map, tells}
+use Rattle.pod_laws.proofs.Asking.{Each, and-true, each-append, each-map, tells}
 use Rattle.pod_laws.proofs.OwnWanted.{AreOwn, own-wanted}
 use Rattle.pod_laws.proofs.SteadyHosts.{KeepsAsked}
 
@@ -60,12 +62,8 @@ same-own p own w old new same there = sym (any-own p own w new) ∙ ap (list_any
 tag-own : (att : Att) (t u : Tag) → tag_eq t u ≡ true → is_own att u ≡ true → is_own att t ≡ true
 tag-own att t u same own = sym (tag_eq-own att t) ∙ ap (tag_eq t) (sym (is_own-one att u own)) ∙ same
 
-and-last : (a b : Bool) → (a && b) ≡ true → b ≡ true
-and-last true b h = h
-and-last false b h = cc
-
 and-fifth : (a b d e r : Bool) → (a && (b && (d && (e && r)))) ≡ true → r ≡ true
-and-fifth a b d e r h = and-last e r (and-last d (e && r) (and-last b (d && (e && r)) (and-last a (b && (d && (e && r))) h)))
+and-fifth a b d e r h = (and_parts e r (and_parts d (e && r) (and_parts b (d && (e && r)) (and_parts a (b && (d && (e && r))) h).1).1).1).1
 
 link-tag : (a b : Link) → link_eq a b ≡ true → tag_eq a.tag b.tag ≡ true
 link-tag a b h =
@@ -74,7 +72,7 @@ link-tag a b h =
     let second = option_eq key_eq a.peer b.peer && (mac_eq a.mac b.mac && (a.mtu == b.mtu && (beq a.hairpin b.hairpin && third))) in
     let is_second : second ≡ true = and-fifth (bytes_eq a.ns b.ns) (bytes_eq a.name b.name) (link_kind_eq a.kind b.kind) (option_eq bytes_eq a.master b.master) second h in
     let is_third : third ≡ true = and-fifth (option_eq key_eq a.peer b.peer) (mac_eq a.mac b.mac) (a.mtu == b.mtu) (beq a.hairpin b.hairpin) third is_second in
-    and-last (a.tx_qlen == b.tx_qlen) (tag_eq a.tag b.tag) (and-last (beq a.allmulti b.allmulti) last (and-last (beq a.promisc b.promisc) (beq a.allmulti b.allmulti && last) is_third))
+    (and_parts (a.tx_qlen == b.tx_qlen) (tag_eq a.tag b.tag) (and_parts (beq a.allmulti b.allmulti) last (and_parts (beq a.promisc b.promisc) (beq a.allmulti b.allmulti && last) is_third).1).1).1
 
 address-tag : (a b : AddrObj) → addr_obj_eq a b ≡ true → tag_eq a.tag b.tag ≡ true
 address-tag a b h = grind (arith, h)
@@ -89,7 +87,7 @@ rule-tag a b h =
     let second = beq a.not_dst b.not_dst && (option_eq proto_eq a.protocol b.protocol && (ports && (beq a.established b.established && last))) in
     let is_second : second ≡ true = and-fifth (table_eq a.table b.table) (chain_eq a.chain b.chain) (option_eq cidr_eq a.src b.src) (option_eq cidr_eq a.dst b.dst) second h in
     let is_last : last ≡ true = and-fifth (beq a.not_dst b.not_dst) (option_eq proto_eq a.protocol b.protocol) ports (beq a.established b.established) last is_second in
-    and-last (target_eq a.target b.target) (tag_eq a.tag b.tag) is_last
+    (and_parts (target_eq a.target b.target) (tag_eq a.tag b.tag) is_last).1
 
 setting-tag : (a b : Setting) → setting_eq a b ≡ true → tag_eq a.tag b.tag ≡ true
 setting-tag a b h = grind (arith, h)
@@ -97,57 +95,46 @@ setting-tag a b h = grind (arith, h)
 lease-tag : (a b : Lease) → lease_eq a b ≡ true → tag_eq a.tag b.tag ≡ true
 lease-tag a b h = grind (arith, h)
 
-steady-link : (c : Command) (l : Link) → is_own (att_of c) l.tag ≡ true → IsSteadyQuestion c (link_question l)
-steady-link c l own = record {
-  told = refl;
-  what = missed.Link l.ns l.name;
-  lack = refl;
-  stays = λ old new keeps there. same-own (λ y. link_eq y l) (λ y. is_own (att_of c) y.tag) (λ y h. tag-own (att_of c) y.tag l.tag (link-tag y l h) own) old.links new.links (ap (λ (s : Share). s.links) keeps.share) there;
+-- a question for an object of the attachment among the objects of one list of the host
+steady-object : {X : Type 0} (c : Command) (equal : X → X → Bool) (tag : X → Tag) (listed : Host → List X) (q : Question) (x : X) (what : Missed)
+    → ((a b : X) → equal a b ≡ true → tag_eq (tag a) (tag b) ≡ true)
+    → ((old new : Host) → KeepsAsked c old new → filter (λ y. is_own (att_of c) (tag y)) (listed new) ≡ filter (λ y. is_own (att_of c) (tag y)) (listed old))
+    → ((host : Host) → grants host q ≡ list_any (λ y. equal y x) (listed host)) → tells q.call ≡ true → q.lack ≡ Missing what → is_own (att_of c) (tag x) ≡ true → IsSteadyQuestion c q
+steady-object c equal tag listed q x what same_tag keep asks told lack own = record {
+  told = told;
+  what = what;
+  lack = lack;
+  stays = λ old new keeps there.
+      let among = same-own (λ y. equal y x) (λ y. is_own (att_of c) (tag y)) (λ y h. tag-own (att_of c) (tag y) (tag x) (same_tag y x h) own) (listed old) (listed new) (keep old new keeps) in
+      asks new ∙ among (sym (asks old) ∙ there);
 }
+
+steady-link : (c : Command) (l : Link) → is_own (att_of c) l.tag ≡ true → IsSteadyQuestion c (link_question l)
+steady-link c l own =
+    steady-object c link_eq (λ y. y.tag) (λ host. host.links) (link_question l) l (missed.Link l.ns l.name) link-tag (λ old new keeps. ap (λ (s : Share). s.links) keeps.share) (λ host. refl) refl refl own
 
 steady-address : (c : Command) (a : AddrObj) → is_own (att_of c) a.tag ≡ true → IsSteadyQuestion c (address_question a)
-steady-address c a own = record {
-  told = refl;
-  what = missed.Address a.ns a.link a.cidr;
-  lack = refl;
-  stays = λ old new keeps there. same-own (λ y. addr_obj_eq y a) (λ y. is_own (att_of c) y.tag) (λ y h. tag-own (att_of c) y.tag a.tag (address-tag y a h) own) old.addresses new.addresses (ap (λ (s : Share). s.addresses) keeps.share) there;
-}
+steady-address c a own =
+    steady-object c addr_obj_eq (λ y. y.tag) (λ host. host.addresses) (address_question a) a (missed.Address a.ns a.link a.cidr) address-tag (λ old new keeps. ap (λ (s : Share). s.addresses) keeps.share) (λ host. refl) refl refl own
 
 steady-route : (c : Command) (r : RouteObj) → is_own (att_of c) r.tag ≡ true → IsSteadyQuestion c (route_question r)
-steady-route c r own = record {
-  told = refl;
-  what = missed.Route r.ns r.link r.dst;
-  lack = refl;
-  stays = λ old new keeps there. same-own (λ y. route_eq y r) (λ y. is_own (att_of c) y.tag) (λ y h. tag-own (att_of c) y.tag r.tag (route-tag y r h) own) old.routes new.routes (ap (λ (s : Share). s.routes) keeps.share) there;
-}
+steady-route c r own =
+    steady-object c route_eq (λ y. y.tag) (λ host. host.routes) (route_question r) r (missed.Route r.ns r.link r.dst) route-tag (λ old new keeps. ap (λ (s : Share). s.routes) keeps.share) (λ host. refl) refl refl own
 
-steady-setting : (c : Command) (s : Setting) → is_own (att_of c) s.tag ≡ true → IsSteadyQuestion c (setting_question s)
-steady-setting c x own = record {
-  told = refl;
-  what = missed.Setting x.ns x.key;
-  lack = refl;
-  stays = λ old new keeps there. same-own (λ y. setting_eq y x) (λ y. is_own (att_of c) y.tag) (λ y h. tag-own (att_of c) y.tag x.tag (setting-tag y x h) own) old.settings new.settings (ap (λ (s : Share). s.settings) keeps.share) there;
-}
+steady-setting : (c : Command) (x : Setting) → is_own (att_of c) x.tag ≡ true → IsSteadyQuestion c (setting_question x)
+steady-setting c x own =
+    steady-object c setting_eq (λ y. y.tag) (λ host. host.settings) (setting_question x) x (missed.Setting x.ns x.key) setting-tag (λ old new keeps. ap (λ (s : Share). s.settings) keeps.share) (λ host. refl) refl refl own
 
 steady-lease : (c : Command) (l : Lease) → is_own (att_of c) l.tag ≡ true → IsSteadyQuestion c (lease_question l)
-steady-lease c l own = record {
-  told = refl;
-  what = missed.Lease l.addr;
-  lack = refl;
-  stays = λ old new keeps there. same-own (λ y. lease_eq y l) (λ y. is_own (att_of c) y.tag) (λ y h. tag-own (att_of c) y.tag l.tag (lease-tag y l h) own) old.leases new.leases (ap (λ (s : Share). s.leases) keeps.share) there;
-}
+steady-lease c l own =
+    steady-object c lease_eq (λ y. y.tag) (λ host. host.leases) (lease_question l) l (missed.Lease l.addr) lease-tag (λ old new keeps. ap (λ (s : Share). s.leases) keeps.share) (λ host. refl) refl refl own
 
 steady-rules : (c : Command) (number : ℕ) (rules : List Rule) → list_all (λ r. is_own (att_of c) r.tag) rules ≡ true → Each (IsSteadyQuestion c) (rule_questions number rules)
 steady-rules c number [] h = tt
 steady-rules c number (r ∷ rs) h =
     let own : is_own (att_of c) r.tag ≡ true = grind (arith, h) in
     let more : list_all (λ x. is_own (att_of c) x.tag) rs ≡ true = grind (arith, h) in (
-      record {
-        told = refl;
-        what = missed.Rule r.table r.chain number;
-        lack = refl;
-        stays = λ old new keeps there. same-own (λ y. rule_eq y r) (λ y. is_own (att_of c) y.tag) (λ y h. tag-own (att_of c) y.tag r.tag (rule-tag y r h) own) old.rules new.rules (ap (λ (s : Share). s.rules) keeps.share) there;
-      },
+      steady-object c rule_eq (λ y. y.tag) (λ host. host.rules) _ r (missed.Rule r.table r.chain number) rule-tag (λ old new keeps. ap (λ (s : Share). s.rules) keeps.share) (λ host. refl) refl refl own,
       steady-rules c (number + 1) rs more,
     )
 
@@ -186,7 +173,7 @@ steady-questions list c cached =
 
 -- the first list is this, and the second that
 all-parts : {X : Type 0} (p : X → Bool) (xs ys : List X) (a b : Bool) → list_all p xs ≡ a → list_all p ys ≡ b → list_all p (xs ++ ys) ≡ (a && b)
-all-parts p xs ys a b h g = all-both p xs ys ∙ ap (λ t. t && list_all p ys) h ∙ ap (λ t. a && t) g
+all-parts p xs ys a b h g = list_all-append p xs ys ∙ ap (λ t. t && list_all p ys) h ∙ ap (λ t. a && t) g
 
 granted-rules : (host : Host) (number : ℕ) (rules : List Rule) → list_all (grants host) (rule_questions number rules) ≡ are_in rule_eq rules host.rules
 granted-rules host number [] = refl

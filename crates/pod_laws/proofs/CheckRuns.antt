@@ -1,7 +1,7 @@
 -- A CHECK asks for its cached entry and then for each object, and its answer is what the host at its last entry holds.
-use Rattle.std.proofs.Common.{◌≡◌, ℕ, ◌+◌, Bool, true, false, List, [], ◌∷◌, ◌++◌, length, Option, Some, None, refl, sym, ◌∙◌, ap, subst, inl, inr}
+use Rattle.std.proofs.Common.{◌≡◌, ℕ, ◌+◌, Bool, true, false, List, [], ◌∷◌, ◌++◌, length, Option, Some, None, refl, sym, ◌∙◌, ap, subst}
 use Rattle.std.specs.Prelude.{if◌then◌else◌}
-use Rattle.cni_addr.specs.declared.address.Addr.{Addr}
+use Rattle.std.proofs.lemmas.List.{length_push}
 use Rattle.cni_result.specs.declared.cached.Cached.{Cached}
 use Rattle.net_conf.specs.declared.list.NetList.{NetList}
 use Rattle.pod_file.specs.declared.command.Command.{Command}
@@ -13,11 +13,9 @@ use Rattle.kernel_types.proofs.Replies.{IsReplyOf-apply}
 use Rattle.kernel_types.specs.declared.object.Host.{Host}
 use Rattle.kernel_types.specs.declared.call.Call.TheVariants.{CacheGet}
 use Rattle.kernel_types.specs.declared.call.Reply.TheVariants.{Fault}
-use Rattle.cni_verbs.specs.Answers.{answer_by, answer_of}
 use Rattle.cni_verbs.specs.CommandWords.{att_of, del_refusal}
 use Rattle.cni_verbs.specs.Questions.{check_questions}
 use Rattle.cni_verbs.specs.Script.{State, FindingEntry, Asking, Over, Calls, advance, asking, at_entry, at_question, checking, start_of, turn, unless_refused}
-use Rattle.cni_verbs.specs.declared.answer.Answer.{Answer}
 use Rattle.cni_verbs.specs.declared.answer.Cause.{Cause}
 use Rattle.cni_verbs.specs.declared.answer.Cause.TheVariants as causes
 use Rattle.cni_verbs.specs.declared.answer.Ending.{Ending}
@@ -26,13 +24,13 @@ use Rattle.cni_verbs.specs.declared.answer.Question.{Question}
 use Rattle.cni_verbs.specs.declared.answer.Skip.TheVariants as skips
 use Rattle.pod_workers.specs.World.{entry_of, host_of, reply_to}
 use Rattle.pod_workers.specs.declared.plan.Entry.{Entry}
-use Rattle.pod_workers.proofs.PlannedCalls.{length-one}
-use Rattle.pod_laws.specs.Checked.{EndsByEntry, EndsByFault, EndsByHolding, EndsByList, EndsCheck, LacksObject, WasChecked, cached_in, holds_cached}
+use Rattle.pod_laws.specs.Checked.{EndsByEntry, EndsByList, EndsCheck, LacksObject, WasChecked, cached_in, holds_cached}
 use Rattle.pod_laws.specs.Granted.{only_asks}
 use Rattle.pod_laws.specs.Moments.{has_fault, host_at_end, own_entries}
+use Rattle.pod_laws.specs.Answers.{EndsByFault, EndsByTest}
 use Rattle.pod_laws.proofs.Asking.{Each, EndsAsked, HasAsked, IsAsking, asked-all, asked-none, asked-reply, calm-more, denied-some, each-at, each-front, fault-last}
 use Rattle.pod_laws.proofs.CheckQuestions.{IsSteadyQuestion, cached-stays, granted-check, granted-stay, steady-questions}
-use Rattle.pod_laws.proofs.CutOff.{over-by}
+use Rattle.pod_laws.proofs.CutOff.{over-by, answered-by}
 use Rattle.pod_laws.proofs.RunFacts.{HostFact, IsHostFact, StartsOn, each-run}
 use Rattle.pod_laws.proofs.QuestionRuns.{question-entered}
 use Rattle.pod_laws.proofs.Runs.{own-state}
@@ -45,28 +43,30 @@ pub record MayCheck (list : NetList) (c : Command) : Type 0 where
   pub words : del_refusal c ≡ None
   pub enabled : list.disable_check ≡ false
 
-by-words : (list : NetList) (c : Command) (es : List Entry) (host : Host) (ending : Ending) → MayCheck list c → EndsByFault list c es host (has_fault es) ending → EndsCheck list c es host (del_refusal c) ending
+by-words : (list : NetList) (c : Command) (es : List Entry) (host : Host) (ending : Ending) → MayCheck list c → EndsByFault es (has_fault es) ending (EndsByEntry list c host (cached_in host (att_of c)) ending) → EndsCheck list c es host (del_refusal c) ending
 by-words list c es host ending may ends = subst (λ o. EndsCheck list c es host o ending) (sym may.words) (subst (λ b. EndsByList list c es host b ending) (sym may.enabled) ends)
 
 by-fault : (list : NetList) (c : Command) (es : List Entry) (host : Host) (number : ℕ) → MayCheck list c → has_fault es ≡ true → number ≡ length es → EndsCheck list c es host (del_refusal c) (Refused (causes.Fault number))
 by-fault list c es host number may fault is =
-    by-words list c es host (Refused (causes.Fault number)) may (subst (λ b. EndsByFault list c es host b (Refused (causes.Fault number))) (sym fault) (ap (λ k. Refused (causes.Fault k)) is))
+    by-words list c es host (Refused (causes.Fault number)) may
+    (subst (λ b. EndsByFault es b (Refused (causes.Fault number)) (EndsByEntry list c host (cached_in host (att_of c)) (Refused (causes.Fault number)))) (sym fault) (ap (λ k. Refused (causes.Fault k)) is))
 
 by-entry : (list : NetList) (c : Command) (es : List Entry) (host : Host) (ending : Ending) (o : Option Cached) → MayCheck list c → has_fault es ≡ false → cached_in host (att_of c) ≡ o → EndsByEntry list c host o ending → EndsCheck list c es host (del_refusal c) ending
 by-entry list c es host ending o may calm is ends =
-    by-words list c es host ending may (subst (λ b. EndsByFault list c es host b ending) (sym calm) (subst (λ p. EndsByEntry list c host p ending) (sym is) ends))
+    by-words list c es host ending may
+    (subst (λ b. EndsByFault es b ending (EndsByEntry list c host (cached_in host (att_of c)) ending)) (sym calm) (subst (λ p. EndsByEntry list c host p ending) (sym is) ends))
 
 by-asking : (list : NetList) (c : Command) (cached : Cached) (host : Host) (ending : Ending) → EndsAsked host (check_questions list c cached) ending → EndsByEntry list c host (Some cached) ending
 by-asking list c cached host Yes ends =
     let holds : holds_cached list c cached host ≡ true = sym (granted-check list c cached host) ∙ ends in
-    subst (λ b. EndsByHolding list c cached host b Yes) (sym holds) refl
+    subst (λ b. EndsByTest b Yes (LacksObject list c cached host Yes)) (sym holds) refl
 by-asking list c cached host (Refused cause) ends =
     let q = ends.0 in
     let d = ends.1 in
     let lacks : holds_cached list c cached host ≡ false = sym (granted-check list c cached host) ∙ denied-some host (check_questions list c cached) q d in
     let steady : IsSteadyQuestion c q = each-at (IsSteadyQuestion c) d.past q d.left (subst (Each (IsSteadyQuestion c)) d.are (steady-questions list c cached)) in
     let lack : LacksObject list c cached host (Refused cause) = record { question = q; first = d; what = steady.what; lack = steady.lack; ending_is = ap Refused (sym ends.2 ∙ steady.lack) } in
-    subst (λ b. EndsByHolding list c cached host b (Refused cause)) (sym lacks) lack
+    subst (λ b. EndsByTest b (Refused cause) (LacksObject list c cached host (Refused cause))) (sym lacks) lack
 by-asking list c cached host Added ends = absurd ends
 by-asking list c cached host (Skipped skip) ends = absurd ends
 by-asking list c cached host Versions ends = absurd ends
@@ -119,7 +119,7 @@ check-start list c host = λ verb. check-start_of list c host c.verb verb
 -- ---- one entry, in a host that it leaves
 
 check-fault : (list : NetList) (c : Command) (es : List Entry) (e : Entry) (host : Host) → MayCheck list c → e.reply ≡ Fault → EndsCheck list c (es ++ e ∷ []) host (del_refusal c) (Refused (causes.Fault (length es + 1)))
-check-fault list c es e host may is = by-fault list c (es ++ e ∷ []) host (length es + 1) may (fault-last es e (ap is_fault is)) (sym (length-one es e))
+check-fault list c es e host may is = by-fault list c (es ++ e ∷ []) host (length es + 1) may (fault-last es e (ap is_fault is)) (sym (length_push es e))
 
 -- the cached entry is there, or isn't
 check-found : (list : NetList) (c : Command) (es : List Entry) (host : Host) (o : Option Cached) → MayCheck list c → has_fault es ≡ false → cached_in host (att_of c) ≡ o → CheckAt list c es (checking list c o) host
@@ -176,20 +176,10 @@ check-step w n c list call faulty old on keeps was = λ verb.
 
 -- ---- the answer
 
-abbrev IsCheckOf : NetList → Command → List Entry → Host → Answer → Type 0
-IsCheckOf list c es host a = (ending : Ending) × (a ≡ answer_by list c ending []) × EndsCheck list c es host (del_refusal c) ending
-
-check-over : (list : NetList) (c : Command) (es : List Entry) (host : Host) (a : Answer) (ending : Ending) (given : List Addr) → CheckAt list c es (Over ending given) host → a ≡ answer_of list c (record { ending = ending; given = given }) → IsCheckOf list c es host a
-unfolding answer_of
-check-over list c es host a ending given at is = (ending, is ∙ ap (answer_by list c ending) at.0, at.1)
-
 pub was_checked : WasChecked
 was_checked w legal n c list a at listed verb is whole =
     let es = own_entries n w.history in
     let host = host_at_end w n in
-    let over = over-by w legal n c list a at listed is whole in
     let last = each-run KeepsAsked AsksCheck asked-kept check-start check-step w legal n c list at listed verb in
-    elim over.state_is [
-      | inl ends ↦ check-over list c.command es host a over.ending over.given (subst (λ st. CheckAt list c.command es st host) ends last) over.answer_is
-      | inr swept ↦ absurd (subst (λ st. CheckAt list c.command es st host) swept.collecting last)
-    ]
+    answered-by list c.command _ a (λ st. CheckAt list c.command es st host) (EndsCheck list c.command es host (del_refusal c.command)) (λ ending given ends. ends) (λ work faults none. none)
+    (over-by w legal n c list a at listed is whole) last

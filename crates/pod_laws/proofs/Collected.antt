@@ -36,7 +36,6 @@ use Rattle.pod_laws.specs.Collected.{CollectionsAreAnswered, CollectionsAreBound
 use Rattle.pod_laws.specs.Moments.{has_fault, host_at_end, host_at_start, own_entries}
 use Rattle.pod_laws.proofs.AloneRuns.{IsRunFrom, StandsTogether, alone-end, alone-start, stands_together}
 use Rattle.pod_laws.proofs.CollectedRuns.{no-faults, some-faults, to-host, to-replies, to-run}
-use Rattle.pod_laws.proofs.CutOff.{cut-off}
 use Rattle.pod_laws.proofs.Due.{IsOver, IsSwept, answer-due, over-calls}
 use Rattle.pod_laws.proofs.Entries.{replies_in}
 use Rattle.pod_laws.proofs.OfAnswers.{Says, says}
@@ -177,7 +176,7 @@ answered-by w n c list a listed gc t over V1_1 false version disabled =
 pub collections_are_answered : CollectionsAreAnswered
 collections_are_answered w legal n c list a at listed gc is = elim (answer-due w legal n c list a at listed is) [
   | inl over ↦ answered-by w n c list a listed gc (stands_together w legal n c at (ap is_exclusive_verb gc)) over list.version list.disable_gc refl refl
-  | inr cut ↦ inr (inr (inr (inr (cut-off a cut))))
+  | inr cut ↦ inr (inr (inr (inr cut)))
 ]
 
 pub collections_are_bounded : CollectionsAreBounded

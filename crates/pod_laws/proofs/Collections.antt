@@ -20,7 +20,7 @@ use Rattle.kernel_types.specs.Touch.{TouchesOwnAlone}
 use Rattle.kernel_types.specs.Words.{is_own}
 use Rattle.kernel_types.proofs.EveryCall.{Touches-apply}
 use Rattle.kernel_types.proofs.Isolation.{KeepsWhere-TouchesOwn, KeepsWhere-nothing}
-use Rattle.kernel_types.proofs.ListLemmas.{list_all-filter, list_all-kept, list_all-map}
+use Rattle.kernel_types.proofs.ListLemmas.{list_all-kept, list_all-map}
 use Rattle.kernel_types.specs.declared.object.Att.{Att}
 use Rattle.kernel_types.specs.declared.object.Host.{Host}
 use Rattle.kernel_types.specs.declared.object.Tag.{Tag}
@@ -39,7 +39,7 @@ use Rattle.cni_verbs.specs.declared.answer.Ending.TheVariants.{Skipped}
 use Rattle.cni_verbs.specs.declared.answer.Skip.TheVariants as skips
 use Rattle.pod_file.specs.Commands.{is_of_network}
 use Rattle.gc_sweep.specs.Keep.{stays}
-use Rattle.gc_sweep.proofs.Owners.{is_stale, own_goes}
+use Rattle.gc_sweep.proofs.Owners.{is_stale, own_goes, list_all-firsts}
 use Rattle.pod_workers.specs.Plans.{Placed, commands_of}
 use Rattle.pod_workers.specs.World.{World, after, entry_of, host_of, host_on, reply_to}
 use Rattle.pod_workers.specs.declared.plan.Entry.{Entry}
@@ -73,13 +73,6 @@ owners-in : (network : List ℕ) (ts : List Tag) → list_all (is_in network) (f
 owners-in network [] = refl
 owners-in network (t ∷ ts) = owners-cons network t (filter_map (owner_in network) ts) (owners-in network ts)
 
-all-firsts : (p : Att → Bool) (xs : List Att) → list_all p xs ≡ true → list_all p (firsts att_eq xs) ≡ true
-all-firsts p [] h = refl
-all-firsts p (x ∷ xs) h =
-    let rest : list_all p xs ≡ true = grind (arith, h) in
-    let others = list_all-filter p (λ y. not (att_eq x y)) (firsts att_eq xs) (all-firsts p xs rest) in
-    grind (arith, h, others)
-
 -- ---- the owners that are left to a collection are stale
 
 abbrev AllStale : Command → List Job → Type 0
@@ -94,7 +87,7 @@ swept-stale : (list : NetList) (c : Command) (s : Sweep) (sweeps : List Sweep) (
 swept-stale list c s sweeps k true = refl
 swept-stale list c s sweeps k false =
     jobs-stale list c s (firsts att_eq (filter_map (owner_in c.network) (tags_of k s.kind)))
-    (all-firsts (is_in c.network) (filter_map (owner_in c.network) (tags_of k s.kind)) (owners-in c.network (tags_of k s.kind)))
+    (list_all-firsts (is_in c.network) (filter_map (owner_in c.network) (tags_of k s.kind)) (owners-in c.network (tags_of k s.kind)))
 
 stale-step : (c : Command) (att : Att) (more : List Step) (jobs : List Job) → is_stale c.network c.valid att ≡ true → AllStale c jobs → AllStale c (after_step att more jobs)
 stale-step c att [] jobs stale h = h

@@ -38,7 +38,7 @@ use Rattle.pod_laws.specs.Deleted.{DeletesOwnAlone, EachDeletionIsOwn}
 use Rattle.pod_laws.specs.Moments.{own_entries}
 use Rattle.pod_laws.proofs.Removes.{deletes-deletion}
 use Rattle.pod_laws.proofs.Runs.{every-run-now, own-state}
-use Rattle.pod_laws.proofs.States.{IsOtherVerb}
+use Rattle.pod_laws.proofs.States.{IsOtherVerb, not-both}
 use Rattle.pod_laws.proofs.Steps.{Changes, GoesOn, by-entries, on-entry}
 use Rattle.pod_laws.proofs.Turns.{change-of}
 use Rattle.pod_laws.proofs.Undoing.{Undoing, undone-start, undone-step}
@@ -67,19 +67,16 @@ deletes-nothing att k = record { removes = RemovesOwn-nothing att k; repeated = 
 deletes-kind : (att : Att) (k : Host) (kind : Kind) → IsSound k → DeletesOwnAlone att k (apply k (deletion att kind)).0
 deletes-kind att k kind sound = record { removes = RemovesOwn-apply k (deletion att kind) att sound (deletes-deletion att kind); repeated = deletion-none att k kind }
 
--- a DEL reads its entry or deletes
-not-add : (c : Command) → c.verb ≡ verbs.Add → c.verb ≡ verbs.Del → ⊥
-not-add c a d = cc
-
 abbrev DeletesBy : Command → Host → Call → Type 0
 DeletesBy c k call = DeletesOwnAlone (att_of c) k (apply k call).0
 
+-- a DEL reads its entry or deletes
 turn-deletes : (list : NetList) (c : Command) (es : List Entry) (st : State) (s : Share) (k : Host) (call : Call) → c.verb ≡ verbs.Del → IsSound k → turn c st ≡ Calls call → Undoing list c es st s → DeletesBy c k call
 unfolding turn
-turn-deletes list c es AtBegin s k call verb sound is was = absurd (not-add c was.verb verb)
-turn-deletes list c es (BeforeLeases x xs) s k call verb sound is was = absurd (not-add c was.verb verb)
-turn-deletes list c es (Leasing set sets given) s k call verb sound is was = absurd (not-add c was.verb verb)
-turn-deletes list c es (AfterLeases x xs given) s k call verb sound is was = absurd (not-add c was.verb verb)
+turn-deletes list c es AtBegin s k call verb sound is was = absurd (not-both c was.verb verb)
+turn-deletes list c es (BeforeLeases x xs) s k call verb sound is was = absurd (not-both c was.verb verb)
+turn-deletes list c es (Leasing set sets given) s k call verb sound is was = absurd (not-both c was.verb verb)
+turn-deletes list c es (AfterLeases x xs given) s k call verb sound is was = absurd (not-both c was.verb verb)
 turn-deletes list c es (ReadingCache ending) s k call verb sound is was = subst (DeletesBy c k) (let e : CacheGet (att_of c) ≡ call = cc in e) (deletes-nothing (att_of c) k)
 turn-deletes list c es (Deleting kind ks ending) s k call verb sound is was = subst (DeletesBy c k) (let e : deletion (att_of c) kind ≡ call = cc in e) (deletes-kind (att_of c) k kind sound)
 turn-deletes list c es (Over ending given) s k call verb sound is was = cc

@@ -1,5 +1,5 @@
 -- An answer is what the command's script came to, or it was stopped or refused memory.
-use Rattle.std.proofs.Common.{◌≡◌, ℕ, List, [], ◌∷◌, length, Some, refl, slice_get, sym, ◌∙◌, ap, subst, inl, inr, ◌⊎◌}
+use Rattle.std.proofs.Common.{◌≡◌, ℕ, List, [], ◌∷◌, Some, refl, slice_get, sym, ◌∙◌, ap, subst, inl, inr, ◌⊎◌, true}
 use Rattle.net_conf.specs.declared.list.NetList.{NetList}
 use Rattle.kernel_types.specs.declared.call.Call.{Call}
 use Rattle.pod_file.specs.declared.command.Command.{Command}
@@ -8,7 +8,6 @@ use Rattle.cni_verbs.specs.Progress.{turn_by, answer_by}
 use Rattle.cni_verbs.specs.Script.{State, AtBegin, BeforeLeases, Leasing, AfterLeases, ReadingCache, Deleting, FindingEntry, Asking, Changing, Collecting, Over, Calls, Finishes, Finish, turn, turn_of_work, finish_of_work, state_after, swept}
 use Rattle.cni_verbs.specs.Sweep.{Job, Sweep, Work}
 use Rattle.cni_verbs.specs.declared.answer.Answer.{Answer}
-use Rattle.cni_verbs.specs.declared.answer.Answer.TheVariants.{OutOfMemory, Stopped}
 use Rattle.cni_verbs.specs.declared.answer.Ending.{Ending}
 use Rattle.cni_addr.specs.declared.address.Addr.{Addr}
 use Rattle.pod_workers.specs.Facts.{IsScripts}
@@ -17,6 +16,7 @@ use Rattle.pod_workers.specs.Plans.{Placed, commands_of, list_for}
 use Rattle.pod_workers.specs.World.{World, own_replies}
 use Rattle.pod_workers.proofs.AnswersDue.{answer_is_due}
 use Rattle.pod_laws.specs.Moments.{own_entries}
+use Rattle.pod_laws.specs.Answers.{is_cut_off}
 use Rattle.pod_laws.proofs.Entries.{replies-own_entries}
 use Rattle.pod_laws.proofs.RunFacts.{state_by}
 
@@ -34,10 +34,6 @@ pub record IsOver (list : NetList) (c : Command) (st : State) (a : Answer) : Typ
   pub given : List Addr
   pub state_is : (st ≡ Over ending given) ⊎ IsSwept st ending
   pub answer_is : a ≡ answer_of list c (record { ending = ending; given = given })
-
--- the book gave it without the script
-abbrev pub IsCutOff : Answer → Type 0
-IsCutOff a = (a ≡ OutOfMemory) ⊎ ((made : ℕ) × (a ≡ Stopped made))
 
 -- ---- by the run's state
 
@@ -73,11 +69,11 @@ by-scripts w n c list a listed due =
     record { ending = finish.ending; given = finish.given; state_is = turn-over c.command (state_after list c.command rs) finish turn_is; answer_is = due.2 ∙ ap (λ p. answer_by p c.command finish) listed }
 
 pub answer-due : (w : World) → Legal w → (n : ℕ) (c : Placed) (list : NetList) (a : Answer) → slice_get (commands_of w.plan) n ≡ Some c → list_for w.plan c.command ≡ Some list → slice_get w.answers n ≡ Some (Some a)
-    → IsOver list c.command (state_by list c.command (own_entries n w.history)) a ⊎ IsCutOff a
+    → IsOver list c.command (state_by list c.command (own_entries n w.history)) a ⊎ (is_cut_off a ≡ true)
 answer-due w legal n c list a at listed is = elim (answer_is_due w legal n a c is at) [
   | inl scripts ↦ inl (subst (λ rs. IsOver list c.command (state_after list c.command rs) a) (replies-own_entries n w.history) (by-scripts w n c list a listed scripts))
-  | inr (inl stopped) ↦ inr (inr (length (own_replies w n), stopped.0.2))
-  | inr (inr memory) ↦ inr (inl memory)
+  | inr (inl stopped) ↦ inr (ap is_cut_off stopped.0.2)
+  | inr (inr memory) ↦ inr (ap is_cut_off memory)
 ]
 
 -- a run that is over makes no call

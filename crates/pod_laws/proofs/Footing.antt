@@ -5,6 +5,7 @@ use Rattle.std.specs.List.{list_any, list_all}
 use Rattle.std.specs.Option.{option_map, option_or}
 use Rattle.std.specs.Str.{bytes_eq}
 use Rattle.std.specs.Cmp.Lexicographic.{nat_list_eq_equiv}
+use Rattle.std.proofs.lemmas.Bool.{both_ways}
 use Rattle.cni_addr.specs.Codes.{family_eq}
 use Rattle.cni_addr.specs.declared.address.Addr.{Addr}
 use Rattle.cni_addr.specs.declared.address.Family.TheVariants as families
@@ -43,7 +44,7 @@ use Rattle.kernel_types.specs.declared.call.Reply.TheVariants.{Done, NoLink, Tak
 use Rattle.plan_words.specs.PlanCalls.{is_plan_call_of}
 use Rattle.plan_words.specs.Shapes.{host_end, inner_end, macvlan_link, address_on, route_on, addresses_on, routes_on, masquerade_rules, forward_for, forward_calls}
 use Rattle.plan_words.specs.Share.{Share, share_of, share_after_call, share_after_calls}
-use Rattle.plan_words.proofs.KeyLists.{list_all-append, list_all-every, list_all-map, list_all-flat, list_all-each_key_once}
+use Rattle.plan_words.proofs.KeyLists.{list_all-append, list_all-every, list_all-map, list_all-flat, list_all-each_key_once, list_all-if}
 use Rattle.host_local.specs.Conf.{routes_of}
 use Rattle.host_local.specs.Results.{ip_of}
 use Rattle.bridge_ptp.specs.Bridge.{gateways, gateway_calls}
@@ -55,7 +56,7 @@ use Rattle.portmap.specs.Portmap.{portmap_rules}
 use Rattle.firewall_tuning.specs.Firewall.{firewall_rules}
 use Rattle.firewall_tuning.specs.Tuning.{tuning_settings, sets_any, link_set_calls}
 use Rattle.cni_verbs.specs.Wanted.{share_before, calls_before, calls_after, chained_calls, all_chained_calls, chained_result, back_calls, given_by_list, first_plugin_result, cached_of, untuned}
-use Rattle.pod_laws.proofs.Tests.{clash, any-filtered}
+use Rattle.pod_laws.proofs.Tests.{any-filtered}
 
 -- ---- what a call stands on
 
@@ -91,23 +92,23 @@ no_link-macvlan att host (BridgeEnsure name mtu promisc) is lies bridge got = ab
 no_link-macvlan att host (GatewayEnsure name cidr) is lies bridge got =
     absurd (by_test NeverNoLink (has_host_bridge host name) _ _
     (λ _. by_test NeverNoLink (list_any (λ a. is_host_ns a.ns && bytes_eq a.link name && addr_eq a.cidr.addr cidr.addr) host.addresses) _ _ (λ _ e. cc) (λ _ e. cc))
-    (λ not e. clash (has_host_bridge host name) bridge not) got)
+    (λ not e. both_ways (has_host_bridge host name) not bridge) got)
 no_link-macvlan att host (ForwardEnsure family) is lies bridge got =
     absurd (by_test NeverNoLink (list_any (λ s. is_host_ns s.ns && bytes_eq s.key (forward_key family)) host.settings) _ _ (λ _ e. cc) (λ _ e. cc) got)
 no_link-macvlan att host (VethAdd h i) is lies bridge got =
     absurd (by_test NeverNoLink (has_named_ns host i.ns) _ _
     (λ _. by_test NeverNoLink (has_bridge_as_master host h.master) _ _
     (λ _. appended-found (option_map (λ l. l.tag) (option_or (link_at host i.ns i.name) (link_at host h.ns h.name))) host _)
-    (λ not e. clash (has_bridge_as_master host h.master) bridge not))
+    (λ not e. both_ways (has_bridge_as_master host h.master) not bridge))
     (λ _ e. cc) got)
 no_link-macvlan att host (LinkSet own key mac mtu tx_qlen promisc allmulti) is lies bridge got =
-    absurd (by_test NeverNoLink (list_any (is_own_at own key) host.links) _ _ (λ _ e. cc) (λ not e. clash (list_any (is_own_at own key) host.links) lies not) got)
+    absurd (by_test NeverNoLink (list_any (is_own_at own key) host.links) _ _ (λ _ e. cc) (λ not e. both_ways (list_any (is_own_at own key) host.links) not lies) got)
 no_link-macvlan att host (AddrAdd obj) is lies bridge got =
     absurd (by_test NeverNoLink (has_link_of host obj.ns obj.link obj.tag) _ _
-    (λ _. appended-found (option_map (λ a. a.tag) (find (is_same_addr obj) host.addresses)) host _) (λ not e. clash (has_link_of host obj.ns obj.link obj.tag) lies not) got)
+    (λ _. appended-found (option_map (λ a. a.tag) (find (is_same_addr obj) host.addresses)) host _) (λ not e. both_ways (has_link_of host obj.ns obj.link obj.tag) not lies) got)
 no_link-macvlan att host (RouteAdd obj) is lies bridge got =
     absurd (by_test NeverNoLink (has_link_of host obj.ns obj.link obj.tag) _ _
-    (λ _. appended-found (option_map (λ a. a.tag) (find (is_same_route obj) host.routes)) host _) (λ not e. clash (has_link_of host obj.ns obj.link obj.tag) lies not) got)
+    (λ _. appended-found (option_map (λ a. a.tag) (find (is_same_route obj) host.routes)) host _) (λ not e. both_ways (has_link_of host obj.ns obj.link obj.tag) not lies) got)
 no_link-macvlan att host (RuleAppend rule) is lies bridge got = absurd (by_test NeverNoLink (list_any (λ r. rule_eq r rule) host.rules) _ _ (λ _ e. cc) (λ _ e. cc) got)
 no_link-macvlan att host (SettingSet s) is lies bridge got =
     absurd (by_test NeverNoLink (has_named_ns host s.ns) _ _ (λ _. appended-found (option_map (λ a. a.tag) (find (is_same_setting s) host.settings)) host _) (λ _ e. cc) got)
@@ -167,16 +168,6 @@ lies-host att host _ h = refl
 abbrev AllLie : List Link → List Call → Type 0
 AllLie links calls = list_all (lies_on links) calls ≡ true
 
-lie-append : (links : List Link) (xs ys : List Call) → AllLie links xs → AllLie links ys → AllLie links (xs ++ ys)
-lie-append links xs ys h g = list_all-append (lies_on links) xs ys h g
-
-lie-every : {X : Type 0} (links : List Link) (f : X → Call) → ((x : X) → lies_on links (f x) ≡ true) → (xs : List X) → AllLie links (map f xs)
-lie-every links f w xs = list_all-every (lies_on links) f w xs
-
-lie-if : (links : List Link) (b : Bool) (xs : List Call) → AllLie links xs → AllLie links (if b then xs else [])
-lie-if links true xs h = h
-lie-if links false xs h = refl
-
 -- the container's end
 abbrev HasInner : Att → List ℕ → List Link → Type 0
 HasInner att netns links = list_any (is_link_of netns att.ifname (Own att)) links ≡ true
@@ -197,12 +188,12 @@ lie-forward : (links : List Link) (given : List Given) → AllLie links (forward
 lie-forward links given =
     let v4 = list_any (λ g. family_eq g.address.addr.family families.V4) given in
     let v6 = list_any (λ g. family_eq g.address.addr.family families.V6) given in
-    lie-append links (forward_for families.V4 given) (forward_for families.V6 given) (lie-if links v4 (ForwardEnsure families.V4 ∷ []) refl) (lie-if links v6 (ForwardEnsure families.V6 ∷ []) refl)
+    list_all-append (lies_on links) (forward_for families.V4 given) (forward_for families.V6 given) (list_all-if (lies_on links) v4 (ForwardEnsure families.V4 ∷ []) refl) (list_all-if (lies_on links) v6 (ForwardEnsure families.V6 ∷ []) refl)
 
 lie-gateways : (links : List Link) (conf : BridgeConf) (given : List Given) → AllLie links (gateway_calls conf given)
 lie-gateways links conf given =
-    lie-if links conf.is_gateway (map (GatewayEnsure conf.bridge) (gateways given) ++ forward_calls given)
-    (lie-append links (map (GatewayEnsure conf.bridge) (gateways given)) (forward_calls given) (lie-every links (GatewayEnsure conf.bridge) (λ g. refl) (gateways given)) (lie-forward links given))
+    list_all-if (lies_on links) conf.is_gateway (map (GatewayEnsure conf.bridge) (gateways given) ++ forward_calls given)
+    (list_all-append (lies_on links) (map (GatewayEnsure conf.bridge) (gateways given)) (forward_calls given) (list_all-every (lies_on links) (GatewayEnsure conf.bridge) (λ g. refl) (gateways given)) (lie-forward links given))
 
 link-there : (ns name : List ℕ) (tag : Tag) (l : Link) → l.ns ≡ ns → l.name ≡ name → l.tag ≡ tag → is_link_of ns name tag l ≡ true
 link-there ns name tag l a b t =
@@ -249,35 +240,35 @@ lie-after (Bridge conf) att netns given =
     let there = inner-there (Bridge conf) att netns in
     let entries = bridge_routes conf.is_default_gateway (routes_of conf.ipam) (map ip_of given) in
     let rules = masquerade_rules conf.ip_masq att given in
-    lie-append links (map AddrAdd (addresses_on att netns given)) (map RouteAdd (routes_on att netns given entries) ++ (gateway_calls conf given ++ map RuleAppend rules)) (lie-addresses links att netns given there)
-    (lie-append links (map RouteAdd (routes_on att netns given entries)) (gateway_calls conf given ++ map RuleAppend rules) (lie-routes links att netns given entries there)
-    (lie-append links (gateway_calls conf given) (map RuleAppend rules) (lie-gateways links conf given) (lie-every links RuleAppend (λ r. refl) rules)))
+    list_all-append (lies_on links) (map AddrAdd (addresses_on att netns given)) (map RouteAdd (routes_on att netns given entries) ++ (gateway_calls conf given ++ map RuleAppend rules)) (lie-addresses links att netns given there)
+    (list_all-append (lies_on links) (map RouteAdd (routes_on att netns given entries)) (gateway_calls conf given ++ map RuleAppend rules) (lie-routes links att netns given entries there)
+    (list_all-append (lies_on links) (gateway_calls conf given) (map RuleAppend rules) (lie-gateways links conf given) (list_all-every (lies_on links) RuleAppend (λ r. refl) rules)))
 lie-after (Ptp conf) att netns given =
     let links = (share_before (Ptp conf) att netns).links in
     let rules = masquerade_rules conf.ip_masq att given in
-    lie-append links (map call_for (ptp_objects conf att netns given)) (forward_calls given ++ map RuleAppend rules)
+    list_all-append (lies_on links) (map call_for (ptp_objects conf att netns given)) (forward_calls given ++ map RuleAppend rules)
     (list_all-map (lies_on links) call_for (object_lies links) (lies-call_for links) (ptp_objects conf att netns given) (lie-objects links conf att netns given (inner-there (Ptp conf) att netns) (host-there conf att netns)))
-    (lie-append links (forward_calls given) (map RuleAppend rules) (lie-forward links given) (lie-every links RuleAppend (λ r. refl) rules))
+    (list_all-append (lies_on links) (forward_calls given) (map RuleAppend rules) (lie-forward links given) (list_all-every (lies_on links) RuleAppend (λ r. refl) rules))
 lie-after (Macvlan conf) att netns given =
     let links = (share_before (Macvlan conf) att netns).links in
     let there = inner-there (Macvlan conf) att netns in
-    lie-append links (map AddrAdd (addresses_on att netns given)) (map RouteAdd (routes_on att netns given (routes_of conf.ipam))) (lie-addresses links att netns given there) (lie-routes links att netns given (routes_of conf.ipam) there)
+    list_all-append (lies_on links) (map AddrAdd (addresses_on att netns given)) (map RouteAdd (routes_on att netns given (routes_of conf.ipam))) (lie-addresses links att netns given there) (lie-routes links att netns given (routes_of conf.ipam) there)
 
 -- an own link at the place is an own link of that tag
 own-at : (att : Att) (ns name : List ℕ) (links : List Link) → list_any (is_link_of ns name (Own att)) links ≡ true → list_any (is_own_at att (record { ns = ns; name = name })) links ≡ true
 own-at att ns name links h = list_any-weaker (is_link_of ns name (Own att)) (is_own_at att (record { ns = ns; name = name })) (λ l t. let e = tag_eq-own att l.tag in grind (arith, t, e)) links h
 
 lie-chained : (c : Chained) (att : Att) (netns : List ℕ) (mappings : List PortMapping) (ips : List IpEntry) (links : List Link) → HasInner att netns links → AllLie links (chained_calls c att netns mappings ips)
-lie-chained (Portmap conf) att netns mappings ips links there = lie-every links RuleAppend (λ r. refl) (portmap_rules conf att mappings ips)
-lie-chained (Firewall conf) att netns mappings ips links there = lie-every links RuleAppend (λ r. refl) (firewall_rules att ips)
+lie-chained (Portmap conf) att netns mappings ips links there = list_all-every (lies_on links) RuleAppend (λ r. refl) (portmap_rules conf att mappings ips)
+lie-chained (Firewall conf) att netns mappings ips links there = list_all-every (lies_on links) RuleAppend (λ r. refl) (firewall_rules att ips)
 lie-chained (Tuning conf) att netns mappings ips links there =
-    lie-append links (map SettingSet (tuning_settings conf att netns)) (link_set_calls conf att netns) (lie-every links SettingSet (λ s. refl) (tuning_settings conf att netns))
-    (lie-if links (sets_any conf) (LinkSet att (record { ns = netns; name = att.ifname }) conf.mac conf.mtu conf.tx_qlen conf.promisc conf.allmulti ∷ []) (let own = own-at att netns att.ifname links there in grind (arith, own)))
+    list_all-append (lies_on links) (map SettingSet (tuning_settings conf att netns)) (link_set_calls conf att netns) (list_all-every (lies_on links) SettingSet (λ s. refl) (tuning_settings conf att netns))
+    (list_all-if (lies_on links) (sets_any conf) (LinkSet att (record { ns = netns; name = att.ifname }) conf.mac conf.mtu conf.tx_qlen conf.promisc conf.allmulti ∷ []) (let own = own-at att netns att.ifname links there in grind (arith, own)))
 
 lie-all_chained : (cs : List Chained) (att : Att) (netns : List ℕ) (mappings : List PortMapping) (prev : AddResult) (links : List Link) → HasInner att netns links → AllLie links (all_chained_calls cs att netns mappings prev)
 lie-all_chained [] att netns mappings prev links there = refl
 lie-all_chained (c ∷ cs) att netns mappings prev links there =
-    lie-append links (chained_calls c att netns mappings prev.ips) (all_chained_calls cs att netns mappings (chained_result c prev)) (lie-chained c att netns mappings prev.ips links there)
+    list_all-append (lies_on links) (chained_calls c att netns mappings prev.ips) (all_chained_calls cs att netns mappings (chained_result c prev)) (lie-chained c att netns mappings prev.ips links there)
     (lie-all_chained cs att netns mappings (chained_result c prev) links there)
 
 -- each call after the leases lies on the links that were made before them
@@ -285,8 +276,8 @@ pub lie-back : (list : NetList) (att : Att) (netns : List ℕ) (mappings : List 
 lie-back list att netns mappings addrs =
     let links = untuned list att netns in
     let chain = all_chained_calls list.chained att netns mappings (first_plugin_result list att netns addrs) in
-    lie-append links (calls_after list.first att netns (given_by_list list addrs)) (chain ++ CachePut att (cached_of list att netns mappings addrs) ∷ []) (lie-after list.first att netns (given_by_list list addrs))
-    (lie-append links chain (CachePut att (cached_of list att netns mappings addrs) ∷ []) (lie-all_chained list.chained att netns mappings (first_plugin_result list att netns addrs) links (inner-there list.first att netns)) refl)
+    list_all-append (lies_on links) (calls_after list.first att netns (given_by_list list addrs)) (chain ++ CachePut att (cached_of list att netns mappings addrs) ∷ []) (lie-after list.first att netns (given_by_list list addrs))
+    (list_all-append (lies_on links) chain (CachePut att (cached_of list att netns mappings addrs) ∷ []) (lie-all_chained list.chained att netns mappings (first_plugin_result list att netns addrs) links (inner-there list.first att netns)) refl)
 
 -- those before them lie on none
 pub lie-before : (first : First) (att : Att) (netns : List ℕ) (links : List Link) → list_all (lies_on links) (calls_before first att netns) ≡ true

@@ -1,7 +1,8 @@
 -- What the calls so far have made is a front of what all of them make.
 use Rattle.std.proofs.Common.{◌≡◌, ℕ, Bool, true, false, List, [], ◌∷◌, ◌++◌, map, refl, sym, ◌∙◌, ap, subst, inl, inr, append_assoc}
 use Rattle.std.proofs.lemmas.List.{append-nil}
-use Rattle.std.specs.Prelude.{filter, ◌&&◌, if◌then◌else◌}
+use Rattle.std.proofs.lemmas.Bool.{and_parts}
+use Rattle.std.specs.Prelude.{filter, if◌then◌else◌}
 use Rattle.std.specs.List.{list_all}
 use Rattle.cni_addr.specs.declared.address.Addr.{Addr}
 use Rattle.net_conf.specs.declared.first.First.{First}
@@ -15,7 +16,7 @@ use Rattle.kernel_types.specs.declared.object.Att.{Att}
 use Rattle.kernel_types.specs.declared.object.Host.{Host}
 use Rattle.kernel_types.specs.declared.object.Tag.TheVariants.{Own}
 use Rattle.kernel_types.specs.declared.call.Call.{Call}
-use Rattle.kernel_types.specs.declared.call.Call.TheVariants.{Begin, BridgeEnsure, GatewayEnsure, ForwardEnsure, VethAdd, MacvlanAdd, LinkSet, AddrAdd, RouteAdd, RuleAppend, SettingSet, LeaseNext, CachePut, LinkDel, RuleDel, SettingDel, LeaseDel, CacheDel, HasObj, CacheGet, OwnersOf, PoolFree, NsChange, Outside}
+use Rattle.kernel_types.specs.declared.call.Call.TheVariants.{VethAdd, MacvlanAdd, LinkSet, AddrAdd, RouteAdd, RuleAppend, SettingSet, CachePut}
 use Rattle.plan_words.specs.Share.{Share, share_of, no_objects, share_after_call, share_after_calls}
 use Rattle.plan_words.proofs.CallLists.{share_after_calls-append}
 use Rattle.cni_verbs.specs.CommandWords.{att_of, mappings_of}
@@ -27,10 +28,6 @@ use Rattle.pod_laws.proofs.Removes.{OnlyRemoves}
 use Rattle.cni_verbs.proofs.WantedShare.{made-before, makes-wanted}
 
 -- ---- lists
-
-both-pass : (a b : Bool) → (a && b) ≡ true → (a ≡ true) × (b ≡ true)
-both-pass true b h = (refl, h)
-both-pass false b h = cc
 
 -- the list begins with the other
 abbrev pub BeginsWith : {X : Type 0} → List X → List X → Type 0
@@ -124,27 +121,7 @@ links-call : (s t : Share) (call : Call) → s.links ≡ t.links → (share_afte
 links-call s t (VethAdd h i) e = ap (λ l. l ++ h ∷ i ∷ []) e
 links-call s t (MacvlanAdd x) e = ap (λ l. l ++ x ∷ []) e
 links-call s t (LinkSet a b d f g i j) e = ap (map (set_link a b d f g i j)) e
-links-call s t (AddrAdd a) e = e
-links-call s t (RouteAdd a) e = e
-links-call s t (RuleAppend a) e = e
-links-call s t (SettingSet a) e = e
-links-call s t (CachePut a b) e = e
-links-call s t (BridgeEnsure a b d) e = e
-links-call s t (GatewayEnsure a b) e = e
-links-call s t (ForwardEnsure a) e = e
-links-call s t (Begin a b) e = e
-links-call s t (LeaseNext a b d) e = e
-links-call s t (LinkDel a) e = e
-links-call s t (RuleDel a) e = e
-links-call s t (SettingDel a) e = e
-links-call s t (LeaseDel a) e = e
-links-call s t (CacheDel a) e = e
-links-call s t (HasObj a) e = e
-links-call s t (CacheGet a) e = e
-links-call s t (OwnersOf a b) e = e
-links-call s t (PoolFree a b) e = e
-links-call s t (NsChange a b) e = e
-links-call s t (Outside a) e = e
+links-call s t _ e = e
 
 pub links-calls : (s t : Share) (calls : List Call) → s.links ≡ t.links → (share_after_calls s calls).links ≡ (share_after_calls t calls).links
 links-calls s t [] e = e
@@ -194,12 +171,12 @@ asked-leasing list c given = asked-after_leases list c given [] (back_of list c 
 
 tail-passes : {X : Type 0} (p : X → Bool) (xs ys : List X) → list_all p (xs ++ ys) ≡ true → list_all p ys ≡ true
 tail-passes p [] ys h = h
-tail-passes p (x ∷ xs) ys h = tail-passes p xs ys (both-pass (p x) (list_all p (xs ++ ys)) h).1
+tail-passes p (x ∷ xs) ys h = tail-passes p xs ys (and_parts (p x) (list_all p (xs ++ ys)) h).1
 
 links-appended_all : (s : Share) (calls : List Call) → list_all appends_links calls ≡ true → BeginsWith (share_after_calls s calls).links s.links
 links-appended_all s [] h = begins-same s.links
 links-appended_all s (x ∷ xs) h =
-    let both = both-pass (appends_links x) (list_all appends_links xs) h in
+    let both = and_parts (appends_links x) (list_all appends_links xs) h in
     begins-on s.links (share_after_call s x).links (share_after_calls (share_after_call s x) xs).links (links-appended s x both.0) (links-appended_all (share_after_call s x) xs both.1)
 
 before-appends : (first : First) (att : Att) (netns : List ℕ) → list_all appends_links (calls_before first att netns) ≡ true

@@ -1,5 +1,5 @@
 -- What an ADD is leased: a candidate of each of its sets, and no address twice.
-use Rattle.std.proofs.Common.{◌≡◌, ℕ, ◌+◌, Bool, true, false, List, [], ◌∷◌, ◌++◌, map, length, Option, Some, None, refl, sym, ◌∙◌, ap, subst, inl, inr, append_assoc, arith}
+use Rattle.std.proofs.Common.{◌≡◌, ℕ, ◌+◌, Bool, true, false, List, [], ◌∷◌, ◌++◌, map, length, refl, sym, ◌∙◌, ap, subst, inl, inr, append_assoc, arith}
 use Rattle.std.proofs.lemmas.Bool.{cases_Bool}
 use Rattle.std.proofs.lemmas.List.{append-nil}
 use Rattle.std.specs.Prelude.{◌&&◌}
@@ -12,8 +12,6 @@ use Rattle.host_local.specs.Laws.{AreCandidates}
 use Rattle.ip_pool.specs.NextAddress.{is_candidate}
 use Rattle.net_conf.specs.declared.list.NetList.{NetList}
 use Rattle.pod_file.specs.declared.command.Command.{Command}
-use Rattle.pod_file.specs.declared.command.Verb.{Verb}
-use Rattle.pod_file.specs.declared.command.Verb.TheVariants as verbs
 use Rattle.kernel_types.specs.Equal.{addr_eq}
 use Rattle.kernel_types.specs.Lists.{distinct}
 use Rattle.kernel_types.specs.Sound.{IsSound}
@@ -30,10 +28,9 @@ use Rattle.kernel_types.specs.declared.call.Reply.{Reply}
 use Rattle.kernel_types.specs.declared.call.Reply.TheVariants.{Done, Leased, Gone, Fault}
 use Rattle.plan_words.specs.Shapes.{lease_of}
 use Rattle.plan_words.specs.Share.{Share, share_of}
-use Rattle.cni_verbs.specs.CommandWords.{att_of, add_refusal, del_refusal}
-use Rattle.cni_verbs.specs.Script.{State, AtBegin, BeforeLeases, Leasing, AfterLeases, ReadingCache, Deleting, FindingEntry, Asking, Changing, Collecting, Over, Calls, before_of, back_of, after_leases, leasing, before_leases, deleting, faulted, at_begin, at_call_before, at_lease, at_call_after, at_cache, at_deletion, advance, unless_refused, start_of, turn}
+use Rattle.cni_verbs.specs.CommandWords.{att_of}
+use Rattle.cni_verbs.specs.Script.{State, AtBegin, BeforeLeases, Leasing, AfterLeases, ReadingCache, Deleting, FindingEntry, Asking, Changing, Collecting, Over, Calls, before_of, back_of, after_leases, leasing, before_leases, deleting, faulted, at_begin, at_call_before, at_lease, at_call_after, at_cache, at_deletion, advance, turn}
 use Rattle.cni_verbs.specs.Wanted.{sets_of, kinds_of}
-use Rattle.cni_verbs.specs.declared.answer.Cause.{Cause}
 use Rattle.cni_verbs.specs.declared.answer.Ending.{Ending}
 use Rattle.cni_verbs.specs.declared.answer.Ending.TheVariants.{Added, Yes, Skipped, Versions, Refused}
 use Rattle.pod_workers.specs.Legal.{Legal}
@@ -43,7 +40,7 @@ use Rattle.pod_workers.specs.declared.plan.Plan.{Plan}
 use Rattle.pod_workers.proofs.Histories.{after-append}
 use Rattle.pod_laws.specs.Moments.{host_at_end, is_of, own_entries, until_last}
 use Rattle.pod_laws.proofs.Entries.{until_last-own, until_last-other}
-use Rattle.pod_laws.proofs.States.{IsAside, IsNoResult, aside-advance, aside-start}
+use Rattle.pod_laws.proofs.States.{IsAside, IsNoResult, aside-advance, by-start}
 use Rattle.pod_laws.proofs.Runs.{IsRunFact, StartsWith, own-state}
 use Rattle.pod_laws.proofs.Steps.{by-entries, sound-changed, sound-entered}
 
@@ -189,17 +186,8 @@ run-own list c es st k n faulty call is was =
     let e = entry_of k n call faulty in
     leased-next list c (es ++ e ∷ []) (length es + 1) st e.reply (share_of (att_of c) (host_on k e)) tt
 
-run-unless : (list : NetList) (c : Command) (o : Option Cause) (st : State) (s : Share) → LeasedRun list c [] st s → LeasedRun list c [] (unless_refused o st) s
-run-unless list c None st s h = h
-run-unless list c (Some cause) st s h = tt
-
-run-start : (list : NetList) (c : Command) (v : Verb) (s : Share) → LeasedRun list c [] (start_of list v c) s
-run-start list c verbs.Add s = run-unless list c (add_refusal c) AtBegin s tt
-run-start list c verbs.Del s = run-unless list c (del_refusal c) (ReadingCache Yes) s tt
-run-start list c v s = leased-aside list c [] (start_of list v c) s (aside-start list c v tt)
-
 pub leased-start : StartsWith LeasedRun
-leased-start list c s = run-start list c c.verb s
+leased-start list c s = by-start (λ st. LeasedRun list c [] st s) list c c.verb (λ st aside. leased-aside list c [] st s aside) tt tt
 
 pub leased-step : IsRunFact LeasedRun
 leased-step w n c list call faulty on was =

@@ -1,6 +1,7 @@
 -- What answers say, from what holds of the runs that came to them.
 use Rattle.std.proofs.Common.{◌≡◌, ℕ, Bool, true, false, List, [], ◌∷◌, ◌++◌, Option, Some, None, slice_get, refl, sym, ◌∙◌, ap, subst, inl, inr, ◌⊎◌, arith}
 use Rattle.std.proofs.lemmas.Option.{none-some}
+use Rattle.std.proofs.lemmas.Bool.{both_ways}
 use Rattle.std.specs.Prelude.{if◌then◌else◌}
 use Rattle.std.specs.List.{list_all}
 use Rattle.cni_addr.specs.declared.address.Addr.{Addr}
@@ -33,33 +34,20 @@ use Rattle.pod_workers.specs.World.{World, own_replies}
 use Rattle.pod_workers.specs.declared.plan.Entry.{Entry}
 use Rattle.host_local.specs.Laws.{AreCandidates}
 use Rattle.pod_laws.specs.Added.{WasAdded, HasMade}
-use Rattle.pod_laws.specs.Deleted.{WasDeleted, HasDeleted, IsUndeletedByWords, IsUndeletedByFault, WasNotDeleted, AnswersOfDel, IsAnswerOfDel, CalmIsDeleted, IsYesOrCutOff}
+use Rattle.pod_laws.specs.Deleted.{WasDeleted, HasDeleted, IsUndeletedByWords, IsUndeletedByFault, WasNotDeleted, AnswersOfDel, IsAnswerOfDel, CalmIsDeleted}
 use Rattle.pod_laws.specs.Moments.{has_fault, host_at_end, own_entries}
-use Rattle.pod_laws.specs.Refused.{is_granted, lets_go_on, IsCause, no_namespace, name_taken, pool_empty, no_master, fault, IsResultOrCutOff, UnrefusedIsAdded, WasRefused, IsRefusedFor, AnswersOfAdd, IsAnswerOfAdd, BeginLeavesTheHost}
+use Rattle.pod_laws.specs.Refused.{is_granted, lets_go_on, IsCause, no_namespace, name_taken, pool_empty, no_master, fault, UnrefusedIsAdded, WasRefused, IsRefusedFor, AnswersOfAdd, IsAnswerOfAdd, BeginLeavesTheHost}
+use Rattle.pod_laws.specs.Answers.{is_cut_off}
 use Rattle.pod_laws.proofs.Achieved.{Achieved, IsAddedWith, achieved-end, achieved-start, achieved-step}
-use Rattle.pod_laws.proofs.Due.{IsCutOff, IsSwept, answer-due}
+use Rattle.pod_laws.proofs.Due.{IsSwept, answer-due}
 use Rattle.pod_laws.proofs.Entries.{replies-own_entries}
 use Rattle.pod_laws.proofs.LeasedRuns.{IsOverLeased, LeasedRun, leased-end, leased-start, leased-step, leases-distinct, sound-at_end}
-use Rattle.pod_laws.proofs.States.{IsNoResult, IsOtherVerb, swept-no_result}
+use Rattle.pod_laws.proofs.States.{IsNoResult, IsOtherVerb, swept-no_result, not-both}
 use Rattle.pod_laws.proofs.Runs.{every-run, listed-command}
 use Rattle.pod_laws.proofs.Undoing.{Undoing, Ends, undone-end, undone-start, undone-step}
-use Rattle.pod_laws.proofs.Tests.{clash, middle-passes}
+use Rattle.pod_laws.proofs.Tests.{middle-passes}
 
 -- ---- answers by endings
-
--- an answer that no ending makes
-abbrev IsByBook : Answer → Type 0
-IsByBook (answers.Added r) = ⊥
-IsByBook answers.Yes = ⊥
-IsByBook (answers.Skipped skip) = ⊥
-IsByBook (answers.Versions version) = ⊥
-IsByBook (answers.Refused error) = ⊥
-IsByBook answers.OutOfMemory = Unit {0}
-IsByBook (answers.Stopped made) = Unit {0}
-
-by-book : (a : Answer) → IsCutOff a → IsByBook a
-by-book a (inl memory) = subst IsByBook (sym memory) tt
-by-book a (inr stopped) = subst IsByBook (sym stopped.1) tt
 
 -- what the ending of a run says of its answer
 abbrev pub Says : NetList → Command → List Addr → Ending → Answer → Type 0
@@ -103,7 +91,7 @@ undone-over list c es st ending given s (inl is) h = subst (λ u. Undoing list c
 undone-over list c es st ending given s (inr swept) h = undone-end c es ending s (subst (λ u. Undoing list c es u s) swept.collecting h) (swept-ending st ending swept)
 
 ended : (w : World) → Legal w → (n : ℕ) (c : Placed) (list : NetList) (a : Answer) → slice_get (commands_of w.plan) n ≡ Some c → list_for w.plan c.command ≡ Some list → slice_get w.answers n ≡ Some (Some a)
-    → IsEnded w n c.command list a ⊎ IsByBook a
+    → IsEnded w n c.command list a ⊎ (is_cut_off a ≡ true)
 ended w legal n c list a at listed is =
     let es = own_entries n w.history in
     let s = share_of (att_of c.command) (host_at_end w n) in
@@ -116,7 +104,7 @@ ended w legal n c list a at listed is =
         leased = leased-over list c.command es _ over.ending over.given s over.state_is (every-run LeasedRun leased-start leased-step w legal n c list at listed);
         ends = undone-over list c.command es _ over.ending over.given s over.state_is (every-run Undoing undone-start undone-step w legal n c list at listed);
       })
-      | inr cut ↦ inr (by-book a cut)
+      | inr cut ↦ inr cut
     ]
 
 -- ---- ADD
@@ -144,11 +132,8 @@ pub was_added : WasAdded
 was_added w legal n c list r at listed is =
     elim (ended w legal n c list (answers.Added r) at listed is) [
       | inl e ↦ added-by w n c.command list r e.ending e.given e.says e.achieved e.leased (sound-at_end w legal n) e.ends
-      | inr book ↦ absurd book
+      | inr cut ↦ absurd (both_ways (is_cut_off (answers.Added r)) refl cut)
     ]
-
-not-both : (c : Command) → c.verb ≡ verbs.Add → c.verb ≡ verbs.Del → ⊥
-not-both c a d = cc
 
 abbrev IsRefusedWith : NetList → Command → List Entry → Share → CniError → Type 0
 IsRefusedWith list c es s error = (cause : Cause) × (error ≡ error_of list.version c cause) × IsRefusedFor c es s cause
@@ -169,31 +154,22 @@ pub was_refused : WasRefused
 was_refused w legal n c list error at listed verb is =
     elim (ended w legal n c list (answers.Refused error) at listed is) [
       | inl e ↦ refused-by c.command list (own_entries n w.history) (share_of (att_of c.command) (host_at_end w n)) error e.ending e.given verb e.says e.ends
-      | inr book ↦ absurd book
+      | inr cut ↦ absurd (both_ways (is_cut_off (answers.Refused error)) refl cut)
     ]
 
 answer-add : (c : Command) (list : NetList) (es : List Entry) (s : Share) (a : Answer) (ending : Ending) (given : List Addr) → c.verb ≡ verbs.Add → Says list c given ending a → Ends c es ending s → IsAnswerOfAdd a
-answer-add c list es s a Added given verb says ends = subst IsAnswerOfAdd (sym says) tt
+answer-add c list es s a Added given verb says ends = inl (inl (_, says))
 answer-add c list es s a Yes given verb says ends = elim ends [ inl del ↦ absurd (not-both c verb del.verb) | inr other ↦ absurd (subst IsOtherVerb verb other) ]
 answer-add c list es s a (Skipped skip) given verb says ends = absurd (subst IsOtherVerb verb ends)
 answer-add c list es s a Versions given verb says ends = absurd (subst IsOtherVerb verb ends)
-answer-add c list es s a (Refused cause) given verb says ends = subst IsAnswerOfAdd (sym says) tt
-
-book-add : (a : Answer) → IsByBook a → IsAnswerOfAdd a
-book-add answers.OutOfMemory h = tt
-book-add (answers.Stopped made) h = tt
-book-add (answers.Added r) h = absurd h
-book-add answers.Yes h = absurd h
-book-add (answers.Skipped skip) h = absurd h
-book-add (answers.Versions version) h = absurd h
-book-add (answers.Refused error) h = absurd h
+answer-add c list es s a (Refused cause) given verb says ends = inr (_, says)
 
 pub answers_of_add : AnswersOfAdd
 answers_of_add w legal n c a at verb is =
     let has_list = listed-command w legal n c at (inl verb) in
     elim (ended w legal n c has_list.0 a at has_list.1 is) [
       | inl e ↦ answer-add c.command has_list.0 (own_entries n w.history) (share_of (att_of c.command) (host_at_end w n)) a e.ending e.given verb e.says e.ends
-      | inr book ↦ book-add a book
+      | inr cut ↦ inl (inr cut)
     ]
 
 same-either : {X : Type 0} (b : Bool) (x : X) → (if b then x else x) ≡ x
@@ -217,7 +193,7 @@ was_deleted w legal n c at verb is =
     let has_list = listed-command w legal n c at (inr verb) in
     elim (ended w legal n c has_list.0 answers.Yes at has_list.1 is) [
       | inl e ↦ deleted-by c.command has_list.0 (own_entries n w.history) (share_of (att_of c.command) (host_at_end w n)) e.ending e.given verb e.says e.ends
-      | inr book ↦ absurd book
+      | inr cut ↦ absurd (both_ways (is_cut_off answers.Yes) refl cut)
     ]
 
 abbrev IsUndeletedWith : NetList → Command → List Entry → CniError → Type 0
@@ -239,31 +215,22 @@ pub was_not_deleted : WasNotDeleted
 was_not_deleted w legal n c list error at listed verb is =
     elim (ended w legal n c list (answers.Refused error) at listed is) [
       | inl e ↦ undeleted-by c.command list (own_entries n w.history) (share_of (att_of c.command) (host_at_end w n)) error e.ending e.given verb e.says e.ends
-      | inr book ↦ absurd book
+      | inr cut ↦ absurd (both_ways (is_cut_off (answers.Refused error)) refl cut)
     ]
 
 answer-del : (c : Command) (list : NetList) (es : List Entry) (s : Share) (a : Answer) (ending : Ending) (given : List Addr) → c.verb ≡ verbs.Del → Says list c given ending a → Ends c es ending s → IsAnswerOfDel a
 answer-del c list es s a Added given verb says ends = absurd (not-both c ends.verb verb)
-answer-del c list es s a Yes given verb says ends = subst IsAnswerOfDel (sym says) tt
+answer-del c list es s a Yes given verb says ends = inl (inl says)
 answer-del c list es s a (Skipped skip) given verb says ends = absurd (subst IsOtherVerb verb ends)
 answer-del c list es s a Versions given verb says ends = absurd (subst IsOtherVerb verb ends)
-answer-del c list es s a (Refused cause) given verb says ends = subst IsAnswerOfDel (sym says) tt
-
-book-del : (a : Answer) → IsByBook a → IsAnswerOfDel a
-book-del answers.OutOfMemory h = tt
-book-del (answers.Stopped made) h = tt
-book-del (answers.Added r) h = absurd h
-book-del answers.Yes h = absurd h
-book-del (answers.Skipped skip) h = absurd h
-book-del (answers.Versions version) h = absurd h
-book-del (answers.Refused error) h = absurd h
+answer-del c list es s a (Refused cause) given verb says ends = inr (_, says)
 
 pub answers_of_del : AnswersOfDel
 answers_of_del w legal n c a at verb is =
     let has_list = listed-command w legal n c at (inr verb) in
     elim (ended w legal n c has_list.0 a at has_list.1 is) [
       | inl e ↦ answer-del c.command has_list.0 (own_entries n w.history) (share_of (att_of c.command) (host_at_end w n)) a e.ending e.given verb e.says e.ends
-      | inr book ↦ book-del a book
+      | inr cut ↦ inl (inr cut)
     ]
 
 -- ---- where nothing refuses
@@ -281,44 +248,30 @@ cause-refuses _ _ _ _ (fault number call) = refl
 unrefused : (c : Command) (es : List Entry) (s : Share) (cause : Cause) → add_refusal c ≡ None → list_all lets_go_on es ≡ true → IsRefusedFor c es s cause → ⊥
 unrefused c es s cause words go_on (inl r) = some-none (add_refusal c) cause r.words words
 unrefused c es s cause words go_on (inr (inl r)) =
-    clash (lets_go_on r.by) (middle-passes lets_go_on [] r.by [] (ap (list_all lets_go_on) (sym r.alone) ∙ go_on)) (cause-refuses 1 r.by.call r.by.reply cause r.decides)
+    both_ways (lets_go_on r.by) (cause-refuses 1 r.by.call r.by.reply cause r.decides) (middle-passes lets_go_on [] r.by [] (ap (list_all lets_go_on) (sym r.alone) ∙ go_on))
 unrefused c es s cause words go_on (inr (inr r)) =
     let f = r.first in
-    clash (lets_go_on f.by) (middle-passes lets_go_on f.granted f.by f.later (ap (list_all lets_go_on) (sym f.are) ∙ go_on)) f.refuses
-
-result-or-cut_off : (a : Answer) → IsAnswerOfAdd a → ((error : CniError) → a ≡ answers.Refused error → ⊥) → IsResultOrCutOff a
-result-or-cut_off (answers.Added r) h not = tt
-result-or-cut_off answers.Yes h not = absurd h
-result-or-cut_off (answers.Skipped skip) h not = absurd h
-result-or-cut_off (answers.Versions version) h not = absurd h
-result-or-cut_off (answers.Refused error) h not = absurd (not error refl)
-result-or-cut_off answers.OutOfMemory h not = tt
-result-or-cut_off (answers.Stopped made) h not = tt
+    both_ways (lets_go_on f.by) f.refuses (middle-passes lets_go_on f.granted f.by f.later (ap (list_all lets_go_on) (sym f.are) ∙ go_on))
 
 pub unrefused_is_added : UnrefusedIsAdded
 unrefused_is_added w legal n c a at verb words go_on is =
     let has_list = listed-command w legal n c at (inl verb) in
-    result-or-cut_off a (answers_of_add w legal n c a at verb is)
-    (λ error e. let r = was_refused w legal n c has_list.0 error at has_list.1 verb (is ∙ ap (λ x. Some (Some x)) e) in unrefused c.command (own_entries n w.history) _ r.0 words go_on r.2)
+    elim (answers_of_add w legal n c a at verb is) [
+      | inl good ↦ good
+      | inr refused ↦ absurd (let r = was_refused w legal n c has_list.0 refused.0 at has_list.1 verb (is ∙ ap (λ x. Some (Some x)) refused.1) in unrefused c.command (own_entries n w.history) _ r.0 words go_on r.2)
+    ]
 
 faulted-last : (es calm : List Entry) (by : Entry) → es ≡ calm ++ by ∷ [] → by.reply ≡ Fault → has_fault es ≡ true
 faulted-last es calm by are reply = ap has_fault are ∙ list_any-append_right (λ e. is_fault e.reply) calm (by ∷ []) (let f : is_fault by.reply ≡ true = ap is_fault reply in grind (arith, f))
 
 undeleted : (c : Command) (es : List Entry) (cause : Cause) → del_refusal c ≡ None → has_fault es ≡ false → IsUndeletedByWords c es cause ⊎ IsUndeletedByFault c es cause → ⊥
 undeleted c es cause words calm (inl r) = some-none (del_refusal c) cause r.words words
-undeleted c es cause words calm (inr r) = clash (has_fault es) (faulted-last es r.calm r.by r.are r.fault) calm
-
-yes-or-cut_off : (a : Answer) → IsAnswerOfDel a → ((error : CniError) → a ≡ answers.Refused error → ⊥) → IsYesOrCutOff a
-yes-or-cut_off (answers.Added r) h not = absurd h
-yes-or-cut_off answers.Yes h not = tt
-yes-or-cut_off (answers.Skipped skip) h not = absurd h
-yes-or-cut_off (answers.Versions version) h not = absurd h
-yes-or-cut_off (answers.Refused error) h not = absurd (not error refl)
-yes-or-cut_off answers.OutOfMemory h not = tt
-yes-or-cut_off (answers.Stopped made) h not = tt
+undeleted c es cause words calm (inr r) = both_ways (has_fault es) calm (faulted-last es r.calm r.by r.are r.fault)
 
 pub calm_is_deleted : CalmIsDeleted
 calm_is_deleted w legal n c a at verb words calm is =
     let has_list = listed-command w legal n c at (inr verb) in
-    yes-or-cut_off a (answers_of_del w legal n c a at verb is)
-    (λ error e. let r = was_not_deleted w legal n c has_list.0 error at has_list.1 verb (is ∙ ap (λ x. Some (Some x)) e) in undeleted c.command (own_entries n w.history) r.0 words calm r.2)
+    elim (answers_of_del w legal n c a at verb is) [
+      | inl good ↦ good
+      | inr refused ↦ absurd (let r = was_not_deleted w legal n c has_list.0 refused.0 at has_list.1 verb (is ∙ ap (λ x. Some (Some x)) refused.1) in undeleted c.command (own_entries n w.history) r.0 words calm r.2)
+    ]

@@ -2,6 +2,8 @@
 use Rattle.std.proofs.Common.{◌≡◌, ℕ, Bool, true, false, List, [], ◌∷◌, ◌++◌, map, Option, Some, None, refl, sym, ◌∙◌, ap, inl, inr, arith}
 use Rattle.std.specs.Prelude.{filter, ◌||◌, if◌then◌else◌}
 use Rattle.std.specs.List.{list_any, list_all}
+use Rattle.std.proofs.lemmas.Bool.{or_from}
+use Rattle.pod_workers.proofs.Splits.{split_nil}
 use Rattle.cni_addr.specs.Codes.{family_eq}
 use Rattle.cni_addr.specs.declared.address.Addr.{Addr}
 use Rattle.cni_addr.specs.declared.address.Family.TheVariants as families
@@ -26,11 +28,11 @@ use Rattle.kernel_types.specs.declared.call.Given.{Given}
 use Rattle.kernel_types.specs.declared.call.Kind.{Kind}
 use Rattle.kernel_types.specs.declared.call.Kind.TheVariants as kinds
 use Rattle.kernel_types.specs.declared.call.Call.{Call}
-use Rattle.kernel_types.specs.declared.call.Call.TheVariants.{Begin, BridgeEnsure, GatewayEnsure, ForwardEnsure, VethAdd, MacvlanAdd, LinkSet, AddrAdd, RouteAdd, RuleAppend, SettingSet, LeaseNext, CachePut, LinkDel, RuleDel, SettingDel, LeaseDel, CacheDel, HasObj, CacheGet, OwnersOf, PoolFree, NsChange, Outside}
+use Rattle.kernel_types.specs.declared.call.Call.TheVariants.{GatewayEnsure, ForwardEnsure, VethAdd, MacvlanAdd, LinkSet, AddrAdd, RouteAdd, RuleAppend, SettingSet, CachePut}
 use Rattle.plan_words.specs.Shapes.{addresses_on, routes_on, masquerade_rules, forward_calls, forward_for}
 use Rattle.plan_words.specs.Share.{Share, share_of, no_objects, share_after_call}
 use Rattle.plan_words.proofs.Deletions.{empty_none}
-use Rattle.plan_words.proofs.KeyLists.{filter-none, list_all-append, list_all-every}
+use Rattle.plan_words.proofs.KeyLists.{filter-none, list_all-append, list_all-every, list_all-if}
 use Rattle.host_local.specs.Conf.{ipam_of, range_sets_of, routes_of}
 use Rattle.host_local.specs.Results.{ip_of}
 use Rattle.bridge_ptp.specs.Bridge.{gateways, gateway_calls, rule_kinds, lease_kinds}
@@ -89,25 +91,7 @@ call_fits ks (MacvlanAdd link) = has kinds.Links ks
 call_fits ks (RuleAppend rule) = has kinds.Rules ks
 call_fits ks (SettingSet setting) = has kinds.Settings ks
 call_fits ks (CachePut att cached) = has kinds.Cached ks
-call_fits ks (LinkSet att key mac mtu tx_qlen promisc allmulti) = true
-call_fits ks (AddrAdd obj) = true
-call_fits ks (RouteAdd obj) = true
-call_fits ks (BridgeEnsure name mtu promisc) = true
-call_fits ks (GatewayEnsure bridge cidr) = true
-call_fits ks (ForwardEnsure family) = true
-call_fits ks (Begin att netns) = true
-call_fits ks (LeaseNext att number set) = true
-call_fits ks (LinkDel att) = true
-call_fits ks (RuleDel att) = true
-call_fits ks (SettingDel att) = true
-call_fits ks (LeaseDel att) = true
-call_fits ks (CacheDel att) = true
-call_fits ks (HasObj probe) = true
-call_fits ks (CacheGet att) = true
-call_fits ks (OwnersOf network kind) = true
-call_fits ks (PoolFree network set) = true
-call_fits ks (NsChange name add) = true
-call_fits ks (Outside change) = true
+call_fits ks _ = true
 
 pub there-or-not : {A : Type 0} (b : Bool) → b ≡ true → b ≡ false → A
 there-or-not b h g = absurd (let e : true ≡ false = sym h ∙ g in cc)
@@ -121,40 +105,15 @@ IsWithin-call ks s (SettingSet r) fits w = record { links = w.links; rules = w.r
 IsWithin-call ks s (CachePut a r) fits w = record { links = w.links; rules = w.rules; settings = w.settings; leases = w.leases; cached = λ g. there-or-not (has kinds.Cached ks) fits g }
 IsWithin-call ks s (AddrAdd o) fits w = record { links = w.links; rules = w.rules; settings = w.settings; leases = w.leases; cached = w.cached }
 IsWithin-call ks s (RouteAdd o) fits w = record { links = w.links; rules = w.rules; settings = w.settings; leases = w.leases; cached = w.cached }
-IsWithin-call ks s (BridgeEnsure a b d) fits w = w
-IsWithin-call ks s (GatewayEnsure a b) fits w = w
-IsWithin-call ks s (ForwardEnsure a) fits w = w
-IsWithin-call ks s (Begin a b) fits w = w
-IsWithin-call ks s (LeaseNext a b d) fits w = w
-IsWithin-call ks s (LinkDel a) fits w = w
-IsWithin-call ks s (RuleDel a) fits w = w
-IsWithin-call ks s (SettingDel a) fits w = w
-IsWithin-call ks s (LeaseDel a) fits w = w
-IsWithin-call ks s (CacheDel a) fits w = w
-IsWithin-call ks s (HasObj a) fits w = w
-IsWithin-call ks s (CacheGet a) fits w = w
-IsWithin-call ks s (OwnersOf a b) fits w = w
-IsWithin-call ks s (PoolFree a b) fits w = w
-IsWithin-call ks s (NsChange a b) fits w = w
-IsWithin-call ks s (Outside a) fits w = w
+IsWithin-call ks s _ fits w = w
 
 -- ---- the calls of each plugin are of its kinds
 
 abbrev AllFit : List Kind → List Call → Type 0
 AllFit ks calls = list_all (call_fits ks) calls ≡ true
 
-fit-append : (ks : List Kind) (xs ys : List Call) → AllFit ks xs → AllFit ks ys → AllFit ks (xs ++ ys)
-fit-append ks xs ys h g = list_all-append (call_fits ks) xs ys h g
-
-fit-every : {X : Type 0} (ks : List Kind) (f : X → Call) → ((x : X) → call_fits ks (f x) ≡ true) → (xs : List X) → AllFit ks (map f xs)
-fit-every ks f w xs = list_all-every (call_fits ks) f w xs
-
-fit-if : (ks : List Kind) (b : Bool) (xs : List Call) → AllFit ks xs → AllFit ks (if b then xs else [])
-fit-if ks true xs h = h
-fit-if ks false xs h = refl
-
 fit-rules : (ks : List Kind) → has kinds.Rules ks ≡ true → (rules : List Rule) → AllFit ks (map RuleAppend rules)
-fit-rules ks h rules = fit-every ks RuleAppend (λ r. h) rules
+fit-rules ks h rules = list_all-every (call_fits ks) RuleAppend (λ r. h) rules
 
 fit-masquerades : (ks : List Kind) (b : Bool) (rules : List Rule) → (b ≡ true → has kinds.Rules ks ≡ true) → AllFit ks (map RuleAppend (if b then rules else []))
 fit-masquerades ks true rules h = fit-rules ks (h refl) rules
@@ -164,12 +123,12 @@ fit-forward : (ks : List Kind) (given : List Given) → AllFit ks (forward_calls
 fit-forward ks given =
     let v4 = list_any (λ g. family_eq g.address.addr.family families.V4) given in
     let v6 = list_any (λ g. family_eq g.address.addr.family families.V6) given in
-    fit-append ks (forward_for families.V4 given) (forward_for families.V6 given) (fit-if ks v4 (ForwardEnsure families.V4 ∷ []) refl) (fit-if ks v6 (ForwardEnsure families.V6 ∷ []) refl)
+    list_all-append (call_fits ks) (forward_for families.V4 given) (forward_for families.V6 given) (list_all-if (call_fits ks) v4 (ForwardEnsure families.V4 ∷ []) refl) (list_all-if (call_fits ks) v6 (ForwardEnsure families.V6 ∷ []) refl)
 
 fit-gateways : (ks : List Kind) (conf : BridgeConf) (given : List Given) → AllFit ks (gateway_calls conf given)
 fit-gateways ks conf given =
-    fit-if ks conf.is_gateway (map (GatewayEnsure conf.bridge) (gateways given) ++ forward_calls given)
-    (fit-append ks (map (GatewayEnsure conf.bridge) (gateways given)) (forward_calls given) (fit-every ks (GatewayEnsure conf.bridge) (λ g. refl) (gateways given)) (fit-forward ks given))
+    list_all-if (call_fits ks) conf.is_gateway (map (GatewayEnsure conf.bridge) (gateways given) ++ forward_calls given)
+    (list_all-append (call_fits ks) (map (GatewayEnsure conf.bridge) (gateways given)) (forward_calls given) (list_all-every (call_fits ks) (GatewayEnsure conf.bridge) (λ g. refl) (gateways given)) (fit-forward ks given))
 
 fit-call_for : (ks : List Kind) (x : AddressOrRoute) → call_fits ks (call_for x) ≡ true
 fit-call_for ks (Address obj) = refl
@@ -188,30 +147,30 @@ fit-after : (ks : List Kind) (first : First) (att : Att) (netns : List ℕ) (giv
 fit-after ks (Bridge conf) att netns given among =
     let routes = routes_on att netns given (bridge_routes conf.is_default_gateway (routes_of conf.ipam) (map ip_of given)) in
     let rules = masquerade_rules conf.ip_masq att given in
-    fit-append ks (map AddrAdd (addresses_on att netns given)) (map RouteAdd routes ++ (gateway_calls conf given ++ map RuleAppend rules)) (fit-every ks AddrAdd (λ x. refl) (addresses_on att netns given))
-    (fit-append ks (map RouteAdd routes) (gateway_calls conf given ++ map RuleAppend rules) (fit-every ks RouteAdd (λ x. refl) routes)
-    (fit-append ks (gateway_calls conf given) (map RuleAppend rules) (fit-gateways ks conf given)
+    list_all-append (call_fits ks) (map AddrAdd (addresses_on att netns given)) (map RouteAdd routes ++ (gateway_calls conf given ++ map RuleAppend rules)) (list_all-every (call_fits ks) AddrAdd (λ x. refl) (addresses_on att netns given))
+    (list_all-append (call_fits ks) (map RouteAdd routes) (gateway_calls conf given ++ map RuleAppend rules) (list_all-every (call_fits ks) RouteAdd (λ x. refl) routes)
+    (list_all-append (call_fits ks) (gateway_calls conf given) (map RuleAppend rules) (fit-gateways ks conf given)
     (fit-masquerades ks conf.ip_masq _ (λ h. among kinds.Rules (masqueraded conf.ip_masq (lease_kinds conf.ipam) h)))))
 fit-after ks (Ptp conf) att netns given among =
     let rules = masquerade_rules conf.ip_masq att given in
-    fit-append ks (map call_for (ptp_objects conf att netns given)) (forward_calls given ++ map RuleAppend rules) (fit-every ks call_for (fit-call_for ks) (ptp_objects conf att netns given))
-    (fit-append ks (forward_calls given) (map RuleAppend rules) (fit-forward ks given)
+    list_all-append (call_fits ks) (map call_for (ptp_objects conf att netns given)) (forward_calls given ++ map RuleAppend rules) (list_all-every (call_fits ks) call_for (fit-call_for ks) (ptp_objects conf att netns given))
+    (list_all-append (call_fits ks) (forward_calls given) (map RuleAppend rules) (fit-forward ks given)
     (fit-masquerades ks conf.ip_masq _ (λ h. among kinds.Rules (masqueraded conf.ip_masq (kinds.Leases ∷ []) h))))
 fit-after ks (Macvlan conf) att netns given among =
     let routes = routes_on att netns given (routes_of conf.ipam) in
-    fit-append ks (map AddrAdd (addresses_on att netns given)) (map RouteAdd routes) (fit-every ks AddrAdd (λ x. refl) (addresses_on att netns given)) (fit-every ks RouteAdd (λ x. refl) routes)
+    list_all-append (call_fits ks) (map AddrAdd (addresses_on att netns given)) (map RouteAdd routes) (list_all-every (call_fits ks) AddrAdd (λ x. refl) (addresses_on att netns given)) (list_all-every (call_fits ks) RouteAdd (λ x. refl) routes)
 
 fit-chained : (ks : List Kind) (c : Chained) (att : Att) (netns : List ℕ) (mappings : List PortMapping) (ips : List IpEntry) → Among (chained_kinds c) ks → AllFit ks (chained_calls c att netns mappings ips)
 fit-chained ks (Portmap conf) att netns mappings ips among = fit-rules ks (among kinds.Rules refl) _
 fit-chained ks (Firewall conf) att netns mappings ips among = fit-rules ks (among kinds.Rules refl) _
 fit-chained ks (Tuning conf) att netns mappings ips among =
-    fit-append ks (map SettingSet (tuning_settings conf att netns)) (link_set_calls conf att netns) (fit-every ks SettingSet (λ x. among kinds.Settings refl) (tuning_settings conf att netns))
-    (fit-if ks (sets_any conf) (LinkSet att (record { ns = netns; name = att.ifname }) conf.mac conf.mtu conf.tx_qlen conf.promisc conf.allmulti ∷ []) refl)
+    list_all-append (call_fits ks) (map SettingSet (tuning_settings conf att netns)) (link_set_calls conf att netns) (list_all-every (call_fits ks) SettingSet (λ x. among kinds.Settings refl) (tuning_settings conf att netns))
+    (list_all-if (call_fits ks) (sets_any conf) (LinkSet att (record { ns = netns; name = att.ifname }) conf.mac conf.mtu conf.tx_qlen conf.promisc conf.allmulti ∷ []) refl)
 
 fit-all_chained : (ks : List Kind) (cs : List Chained) (att : Att) (netns : List ℕ) (mappings : List PortMapping) (prev : AddResult) → Among (chained_kinds_reversed cs) ks → AllFit ks (all_chained_calls cs att netns mappings prev)
 fit-all_chained ks [] att netns mappings prev among = refl
 fit-all_chained ks (c ∷ cs) att netns mappings prev among =
-    fit-append ks (chained_calls c att netns mappings prev.ips) (all_chained_calls cs att netns mappings (chained_result c prev))
+    list_all-append (call_fits ks) (chained_calls c att netns mappings prev.ips) (all_chained_calls cs att netns mappings (chained_result c prev))
     (fit-chained ks c att netns mappings prev.ips (λ k h. among k (has-right k (chained_kinds_reversed cs) (chained_kinds c) h)))
     (fit-all_chained ks cs att netns mappings (chained_result c prev) (λ k h. among k (has-left k (chained_kinds_reversed cs) (chained_kinds c) h)))
 
@@ -225,19 +184,15 @@ fit-list_back list att netns mappings addrs =
     let ks = kinds_of list in
     let chain = all_chained_calls list.chained att netns mappings (first_plugin_result list att netns addrs) in
     let put : AllFit ks (CachePut att (cached_of list att netns mappings addrs) ∷ []) = let h = cached-among list in grind (arith, h) in
-    fit-append ks (calls_after list.first att netns (given_by_list list addrs)) (chain ++ CachePut att (cached_of list att netns mappings addrs) ∷ [])
+    list_all-append (call_fits ks) (calls_after list.first att netns (given_by_list list addrs)) (chain ++ CachePut att (cached_of list att netns mappings addrs) ∷ [])
     (fit-after ks list.first att netns (given_by_list list addrs) (first-among list))
-    (fit-append ks chain (CachePut att (cached_of list att netns mappings addrs) ∷ [])
+    (list_all-append (call_fits ks) chain (CachePut att (cached_of list att netns mappings addrs) ∷ [])
     (fit-all_chained ks list.chained att netns mappings (first_plugin_result list att netns addrs) (chained-among list)) put)
 
 -- ---- a list that leases names the kind of leases
 
-nil_split : {X : Type 0} (past left : List X) (x : X) → [] ≡ past ++ x ∷ left → ⊥
-nil_split [] left x e = cc
-nil_split (p ∷ ps) left x e = cc
-
 leases-lease_kinds : (o : Option HostLocalConf) (past left : List RangeSet) (next : RangeSet) → range_sets_of o ≡ past ++ next ∷ left → has kinds.Leases (lease_kinds o) ≡ true
-leases-lease_kinds None past left next e = absurd (nil_split past left next e)
+leases-lease_kinds None past left next e = absurd (split_nil past left next e)
 leases-lease_kinds (Some ipam) past left next e = refl
 
 behind-rules : (b : Bool) (rest : List Kind) → has kinds.Leases rest ≡ true → has kinds.Leases (kinds.Links ∷ (rule_kinds b ++ rest)) ≡ true
@@ -260,15 +215,12 @@ none_head a b h = grind (arith, h)
 none_tail : (a b : Bool) → (a || b) ≡ false → b ≡ false
 none_tail a b h = grind (arith, h)
 
-none_both : (a b : Bool) → a ≡ false → b ≡ false → (a || b) ≡ false
-none_both a b h g = grind (arith, h, g)
-
 none_of : {X : Type 0} (p gone : X → Bool) (old new : List X) → DropsOnly gone old new → list_any p old ≡ false → list_any p new ≡ false
 none_of p gone [] new d h = ap (list_any p) d
 none_of p gone (x ∷ old) [] d h = refl
 none_of p gone (x ∷ old) (y ∷ new) d h =
     elim d [
-      | inl same ↦ none_both (p y) (list_any p new) (ap p (sym same.0) ∙ none_head (p x) (list_any p old) h) (none_of p gone old new same.1 (none_tail (p x) (list_any p old) h))
+      | inl same ↦ or_from (p y) (list_any p new) (ap p (sym same.0) ∙ none_head (p x) (list_any p old) h) (none_of p gone old new same.1 (none_tail (p x) (list_any p old) h))
       | inr drop ↦ none_of p gone old (y ∷ new) drop.1 (none_tail (p x) (list_any p old) h)
     ]
 

@@ -1,6 +1,6 @@
 -- A CHECK and a STATUS only ask.
 use Rattle.std.proofs.Common.{◌≡◌, ℕ, ◌+◌, Bool, true, List, [], ◌∷◌, ◌++◌, Some, slice_get, refl, sym, ◌∙◌, ap, subst, inl, inr}
-use Rattle.std.specs.List.{list_all}
+use Rattle.std.proofs.lemmas.Bool.{both_ways}
 use Rattle.net_conf.specs.declared.list.NetList.{NetList}
 use Rattle.pod_file.specs.declared.command.Command.{Command}
 use Rattle.pod_file.specs.declared.command.Verb.{Verb}
@@ -20,10 +20,9 @@ use Rattle.pod_workers.proofs.Order.{ready_is}
 use Rattle.pod_workers.proofs.Splits.{split_nil, split_snoc}
 use Rattle.pod_laws.specs.Granted.{EachQuestionLeavesTheHost, only_asks}
 use Rattle.pod_laws.proofs.Runs.{IsRunFact, StartsWith, every-run-now, own-state}
-use Rattle.pod_laws.proofs.States.{IsAside, IsOtherVerb, LeftFit, aside-advance, aside-start, asks, head_fits, is_question, question-leaves}
+use Rattle.pod_laws.proofs.States.{IsAside, IsOtherVerb, LeftFit, aside-advance, aside-start, is_question, question-leaves, asked-is_question}
 use Rattle.pod_laws.proofs.Steps.{Changes, GoesOn, by-entries, on-entry}
 use Rattle.pod_laws.proofs.Turns.{change-of}
-use Rattle.pod_laws.proofs.Tests.{clash}
 use Rattle.pod_laws.proofs.Entries.{same-place}
 
 -- ---- its calls
@@ -45,8 +44,8 @@ other-verb _ is = tt
 asking-turn : (list : NetList) (c : Command) (st : State) (call : Call) → only_asks c.verb ≡ true → IsAside st → LeftFit list c st → turn c st ≡ Calls call → is_question call ≡ true
 unfolding turn
 asking-turn list c FindingEntry call only aside fit is = ap is_question (let e : call ≡ CacheGet (att_of c) = cc in e)
-asking-turn list c (Asking q qs) call only aside fit is = ap is_question (let e : call ≡ q.call = cc in e) ∙ head_fits (asks q) (list_all asks qs) fit
-asking-turn list c (Collecting work faults) call only aside fit is = absurd (clash (only_asks c.verb) only (ap only_asks fit))
+asking-turn list c (Asking q qs) call only aside fit is = ap is_question (let e : call ≡ q.call = cc in e) ∙ asked-is_question list q.call fit.0
+asking-turn list c (Collecting work faults) call only aside fit is = absurd (both_ways (only_asks c.verb) (ap only_asks fit) only)
 asking-turn list c (Changing change) call only aside fit is = absurd fit
 asking-turn list c (Over ending given) call only aside fit is = cc
 asking-turn list c _ call only aside fit is = absurd aside
@@ -93,7 +92,7 @@ leave-changed w n c call faulty on was = λ m d before later e at only number is
     elim (split_snoc w.history before later x e is) [
       | inl t ↦
           let same : d ≡ c = ready_is w n m c d on.ready (same-place n m e x number t.2 refl) at in
-          absurd (clash (is_of_network c.command.verb) (ap (λ (y : Placed). is_of_network y.command.verb) (sym same) ∙ of-network d.command.verb only) (change-of w n c call faulty on).verb_is)
+          absurd (both_ways (is_of_network c.command.verb) (change-of w n c call faulty on).verb_is (ap (λ (y : Placed). is_of_network y.command.verb) (sym same) ∙ of-network d.command.verb only))
       | inr t ↦ was m d before t.0 e at only number t.2
     ]
 

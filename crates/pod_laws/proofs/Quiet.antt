@@ -41,16 +41,7 @@ plan-no_lease (Kept cached) may = refl
 
 pub lease-no_lease : (r : Reply) → ((a : Addr) → r ≡ Leased a → ⊥) → leases_in (r ∷ []) ≡ []
 lease-no_lease (Leased addr) not = absurd (not addr refl)
-lease-no_lease Done not = refl
-lease-no_lease NoNs not = refl
-lease-no_lease NoLink not = refl
-lease-no_lease (Taken tag) not = refl
-lease-no_lease Fault not = refl
-lease-no_lease Empty not = refl
-lease-no_lease (Gone gone) not = refl
-lease-no_lease (Has has) not = refl
-lease-no_lease (Owners owners) not = refl
-lease-no_lease (Kept cached) not = refl
+lease-no_lease _ not = refl
 
 question-quiet : (k : Host) (call : Call) → is_question call ≡ true → leases_in ((apply k call).1 ∷ []) ≡ []
 question-quiet k (HasObj probe) is = refl

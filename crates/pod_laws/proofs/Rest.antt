@@ -1,6 +1,7 @@
 -- Each entry leaves what was made outside, and removes nothing that is shared.
-use Rattle.std.proofs.Common.{◌≡◌, ℕ, ◌+◌, Bool, true, false, not, List, [], ◌∷◌, ◌++◌, refl, sym, ◌∙◌, ap, subst, inl, inr, arith}
+use Rattle.std.proofs.Common.{◌≡◌, ℕ, ◌+◌, Bool, true, false, not, List, [], ◌∷◌, ◌++◌, refl, sym, ◌∙◌, ap, subst, inl, inr, arith, ◌⊎◌}
 use Rattle.std.proofs.lemmas.List.{append-nil}
+use Rattle.std.proofs.lemmas.Bool.{both_ways}
 use Rattle.std.specs.Prelude.{filter}
 use Rattle.net_conf.specs.declared.list.NetList.{NetList}
 use Rattle.kernel_types.specs.Allowed.{IsAllowed}
@@ -14,6 +15,10 @@ use Rattle.kernel_types.proofs.Isolation.{KeepsUnowned-Touches, KeepsWhere-nothi
 use Rattle.kernel_types.specs.declared.object.Host.{Host}
 use Rattle.kernel_types.specs.declared.object.Tag.{Tag}
 use Rattle.kernel_types.specs.declared.object.Tag.TheVariants as tags
+use Rattle.kernel_types.specs.declared.object.Link.{Link}
+use Rattle.kernel_types.specs.declared.object.AddrObj.{AddrObj}
+use Rattle.kernel_types.specs.declared.object.Setting.{Setting}
+use Rattle.kernel_types.specs.declared.object.NsObj.{NsObj}
 use Rattle.kernel_types.specs.declared.call.Call.{Call}
 use Rattle.kernel_types.specs.declared.call.Call.TheVariants.{BridgeEnsure, GatewayEnsure, ForwardEnsure, NsChange, Outside}
 use Rattle.plan_words.proofs.KeyLists.{filter-push_dropped, filter-push_kept, filter-within}
@@ -30,7 +35,6 @@ use Rattle.pod_laws.specs.Apart.{is_outside, GrowsAtEnd, KeepsShared, KeepsTheRe
 use Rattle.pod_laws.proofs.Bridges.{turn-inside}
 use Rattle.pod_laws.proofs.Steps.{Changes, GoesOn, by-entries, on-entry}
 use Rattle.pod_laws.proofs.Turns.{change-of, turn-of}
-use Rattle.pod_laws.proofs.Tests.{clash}
 
 -- ---- what is unowned is the same
 
@@ -90,59 +94,27 @@ rest-nothing host = record { outside = KeepsWhere-nothing is_outside host; share
 shared-nothing : (host : Host) → KeepsShared host host
 shared-nothing host = shared-same host host (KeepsWhere-nothing is_base host)
 
+-- nothing is added, or one object of this tag
+shared-adds : {X : Type 0} (tag : X → Tag) (t : Tag) (put : X → Host) (old new : Host) → (new ≡ old) ⊎ ((x : X) × (tag x ≡ t) × (new ≡ put x)) → ((x : X) → tag x ≡ t → KeepsShared old (put x)) → KeepsShared old new
+shared-adds tag t put old new adds keeps = elim adds [ inl e ↦ subst (KeepsShared old) (sym e) (shared-nothing old) | inr more ↦ subst (KeepsShared old) (sym more.2) (keeps more.0 more.1) ]
+
 shared-bridge : (old new : Host) → AddsBridge old new → KeepsShared old new
-shared-bridge old new adds = elim adds [
-  | inl e ↦ subst (KeepsShared old) (sym e) (shared-nothing old)
-  | inr more ↦
-      let s = shared-nothing old in
-      subst (KeepsShared old) (sym more.2)
-      (record {
-        namespaces = s.namespaces;
-        links = (more.0 ∷ [], filter-push_kept (λ l. is_base l.tag) old.links more.0 (ap is_base more.1));
-        addresses = s.addresses;
-        routes = s.routes;
-        rules = s.rules;
-        settings = s.settings;
-        leases = s.leases;
-        cached = s.cached;
-      })
-]
+shared-bridge old new adds =
+    let s = shared-nothing old in
+    shared-adds (λ (x : Link). x.tag) tags.Base (λ (x : Link). record old { links = old.links ++ x ∷ [] }) old new adds
+    (λ x is. record { namespaces = s.namespaces; links = (x ∷ [], filter-push_kept (λ y. is_base y.tag) old.links x (ap is_base is)); addresses = s.addresses; routes = s.routes; rules = s.rules; settings = s.settings; leases = s.leases; cached = s.cached })
 
 shared-address : (old new : Host) → AddsAddress old new → KeepsShared old new
-shared-address old new adds = elim adds [
-  | inl e ↦ subst (KeepsShared old) (sym e) (shared-nothing old)
-  | inr more ↦
-      let s = shared-nothing old in
-      subst (KeepsShared old) (sym more.2)
-      (record {
-        namespaces = s.namespaces;
-        links = s.links;
-        addresses = (more.0 ∷ [], filter-push_kept (λ a. is_base a.tag) old.addresses more.0 (ap is_base more.1));
-        routes = s.routes;
-        rules = s.rules;
-        settings = s.settings;
-        leases = s.leases;
-        cached = s.cached;
-      })
-]
+shared-address old new adds =
+    let s = shared-nothing old in
+    shared-adds (λ (x : AddrObj). x.tag) tags.Base (λ (x : AddrObj). record old { addresses = old.addresses ++ x ∷ [] }) old new adds
+    (λ x is. record { namespaces = s.namespaces; links = s.links; addresses = (x ∷ [], filter-push_kept (λ y. is_base y.tag) old.addresses x (ap is_base is)); routes = s.routes; rules = s.rules; settings = s.settings; leases = s.leases; cached = s.cached })
 
 shared-setting : (old new : Host) → AddsSetting old new → KeepsShared old new
-shared-setting old new adds = elim adds [
-  | inl e ↦ subst (KeepsShared old) (sym e) (shared-nothing old)
-  | inr more ↦
-      let s = shared-nothing old in
-      subst (KeepsShared old) (sym more.2)
-      (record {
-        namespaces = s.namespaces;
-        links = s.links;
-        addresses = s.addresses;
-        routes = s.routes;
-        rules = s.rules;
-        settings = (more.0 ∷ [], filter-push_kept (λ x. is_base x.tag) old.settings more.0 (ap is_base more.1));
-        leases = s.leases;
-        cached = s.cached;
-      })
-]
+shared-setting old new adds =
+    let s = shared-nothing old in
+    shared-adds (λ (x : Setting). x.tag) tags.Base (λ (x : Setting). record old { settings = old.settings ++ x ∷ [] }) old new adds
+    (λ x is. record { namespaces = s.namespaces; links = s.links; addresses = s.addresses; routes = s.routes; rules = s.rules; settings = (x ∷ [], filter-push_kept (λ y. is_base y.tag) old.settings x (ap is_base is)); leases = s.leases; cached = s.cached })
 
 -- ---- each call
 
@@ -172,22 +144,10 @@ shared-unshared : (old new : Host) → RemovesUnshared old new → KeepsShared o
 shared-unshared old new d = shared-same old new (KeepsWhere-RemovesUnshared is_base old new unshared-base d)
 
 shared-namespace : (old new : Host) → AddsNamespace old new → KeepsShared old new
-shared-namespace old new adds = elim adds [
-  | inl e ↦ subst (KeepsShared old) (sym e) (shared-nothing old)
-  | inr more ↦
-      let s = shared-nothing old in
-      subst (KeepsShared old) (sym more.2)
-      (record {
-        namespaces = same-list _ _ (filter-push_dropped (λ n. is_base n.tag) old.namespaces more.0 (ap is_base more.1));
-        links = s.links;
-        addresses = s.addresses;
-        routes = s.routes;
-        rules = s.rules;
-        settings = s.settings;
-        leases = s.leases;
-        cached = s.cached;
-      })
-]
+shared-namespace old new adds =
+    let s = shared-nothing old in
+    shared-adds (λ (x : NsObj). x.tag) tags.Outside (λ (x : NsObj). record old { namespaces = old.namespaces ++ x ∷ [] }) old new adds
+    (λ x is. record { namespaces = same-list _ _ (filter-push_dropped (λ y. is_base y.tag) old.namespaces x (ap is_base is)); links = s.links; addresses = s.addresses; routes = s.routes; rules = s.rules; settings = s.settings; leases = s.leases; cached = s.cached })
 
 shared-outside : (host : Host) (call : Call) → IsSound host → IsAllowed host call → is_from_outside call ≡ true → KeepsShared host (apply host call).0
 shared-outside host (NsChange name true) sound allowed is = shared-namespace host (apply host (NsChange name true)).0 (Touches-apply host (NsChange name true) sound allowed)
@@ -230,7 +190,7 @@ keep-changed w n c call faulty on was =
       outside = λ m d at number verb.
           let place : m ≡ n = let a : n + 1 ≡ m + 1 = number in omega (arith, a) in
           let same : d ≡ c = ready_is w n m c d on.ready place at in
-          absurd (clash (is_of_network c.command.verb) (ap (λ (z : Placed). is_of_network z.command.verb) (sym same) ∙ verb) change.verb_is);
+          absurd (both_ways (is_of_network c.command.verb) change.verb_is (ap (λ (z : Placed). is_of_network z.command.verb) (sym same) ∙ verb));
       shared = shared;
     }) was
 

@@ -2,6 +2,7 @@
 use Rattle.std.proofs.Common.{◌≡◌, ◌≢◌, ℕ, ◌+◌, Bool, true, false, List, [], ◌∷◌, ◌++◌, length, Option, Some, None, slice_get, refl, sym, ◌∙◌, ap, subst, inl, inr, ◌⊎◌, arith}
 use Rattle.std.specs.Prelude.{◌||◌, is_some, not}
 use Rattle.std.proofs.lemmas.Bool.Decides.{eqb_tells}
+use Rattle.std.proofs.lemmas.Bool.{cases_Bool}
 use Rattle.net_conf.specs.declared.list.NetList.{NetList}
 use Rattle.pod_file.specs.declared.command.Command.{Command}
 use Rattle.pod_file.specs.declared.command.Verb.TheVariants as verbs
@@ -12,64 +13,77 @@ use Rattle.cni_verbs.specs.CommandWords.{att_of}
 use Rattle.cni_verbs.specs.Script.{State, Calls, turn, advance, start_state, state_after}
 use Rattle.pod_workers.specs.Legal.{Legal}
 use Rattle.pod_file.specs.Commands.{is_of_network}
+use Rattle.pod_file.specs.Rounds.{is_exclusive_verb}
 use Rattle.pod_workers.specs.Plans.{Placed, commands_of, list_for}
 use Rattle.pod_workers.specs.World.{World, after, host_on, host_of, replies_of, entry_of}
 use Rattle.pod_workers.specs.declared.plan.Entry.{Entry}
 use Rattle.pod_workers.proofs.Histories.{replies_of-other, after-append}
-use Rattle.pod_workers.proofs.Order.{apart}
+use Rattle.pod_workers.proofs.Order.{apart, alone_apart}
 use Rattle.pod_workers.proofs.Planned.{LeftArePlanned, left-are-planned}
 use Rattle.pod_workers.proofs.Sound.{fine, list_all-at}
 use Rattle.pod_laws.specs.Moments.{own_entries, until_last, host_at_end}
 use Rattle.pod_laws.proofs.Entries.{is_of-own, is_of-other, replies_in, replies-own_entries, until_last-own, until_last-other}
 use Rattle.pod_laws.proofs.RunFacts.{HostFact, IsHostFact, IsKeptBetween, Keeping, each-run, each-run-now, state_by}
 use Rattle.pod_laws.proofs.States.{LeftFit, left-fit}
-use Rattle.pod_laws.proofs.Steps.{AllOpen, GoesOn, IsOpenKept, OpenFact, by-open}
+use Rattle.pod_laws.proofs.Steps.{GoesOn, IsOpenKept, OpenFact, by-open}
 use Rattle.pod_laws.proofs.Turns.{alone-collecting, alone-outside, other-entered, other_att}
 
--- ---- a run's share between its entries
+-- ---- what a host keeps for a run between its entries
 
--- where a command isn't answered, its share is the one after its last entry
-abbrev pub IsStill : OpenFact
-IsStill p h m d = (replies_of m h ≡ []) ⊎ (share_of (att_of d.command) (after p.pods.opening h) ≡ share_of (att_of d.command) (after p.pods.opening (until_last m h)))
+-- it is kept where nothing happens, and where a call of another command leaves the attachment's share, and neither stands alone
+pub record IsKeptBeside (R : Keeping) : Type 0 where
+  pub same : (c : Command) (host : Host) → R c host host
+  pub beside : (w : World) (n : ℕ) (c : Placed) (list : NetList) (call : Call) (faulty : Bool) (d : Command) (old : Host) → GoesOn w n c list call faulty → is_exclusive_verb d.verb ≡ false
+      → share_of (att_of d) (host_on (host_of w) (entry_of (host_of w) n call faulty)) ≡ share_of (att_of d) (host_of w) → R d old (host_of w) → R d old (host_on (host_of w) (entry_of (host_of w) n call faulty))
 
-still-own : (w : World) (n m : ℕ) (d : Placed) (call : Call) (faulty : Bool) → m ≡ n → IsStill w.plan (w.history ++ entry_of (host_of w) n call faulty ∷ []) m d
-still-own w n m d call faulty same =
+-- where a command isn't answered, it is kept since its last entry
+abbrev Since : Keeping → OpenFact
+Since R p h m d = (replies_of m h ≡ []) ⊎ R d.command (after p.pods.opening (until_last m h)) (after p.pods.opening h)
+
+since-own : (R : Keeping) → IsKeptBeside R → (w : World) (n m : ℕ) (d : Placed) (call : Call) (faulty : Bool) → m ≡ n → Since R w.plan (w.history ++ entry_of (host_of w) n call faulty ∷ []) m d
+since-own R kept w n m d call faulty same =
     let e = entry_of (host_of w) n call faulty in
-    inr (ap (λ h. share_of (att_of d.command) (after w.plan.pods.opening h)) (sym (until_last-own m w.history e (is_of-own m e (ap (λ j. j + 1) (sym same))))))
+    let h = w.history ++ e ∷ [] in
+    inr (subst (λ l. R d.command (after w.plan.pods.opening l) (after w.plan.pods.opening h)) (sym (until_last-own m w.history e (is_of-own m e (ap (λ j. j + 1) (sym same))))) (kept.same d.command (after w.plan.pods.opening h)))
 
-still-other : (w : World) (n m : ℕ) (c d : Placed) (list : NetList) (call : Call) (faulty : Bool) → GoesOn w n c list call faulty → m ≢ n → slice_get (commands_of w.plan) m ≡ Some d → slice_get w.answers m ≡ Some None → IsStill w.plan w.history m d
-    → IsStill w.plan (w.history ++ entry_of (host_of w) n call faulty ∷ []) m d
-still-other w n m c d list call faulty on differs at is_open still =
+since-other : (R : Keeping) → IsKeptBeside R → (w : World) (n m : ℕ) (c d : Placed) (list : NetList) (call : Call) (faulty : Bool) → GoesOn w n c list call faulty → m ≢ n → slice_get (commands_of w.plan) m ≡ Some d → slice_get w.answers m ≡ Some None
+    → Since R w.plan w.history m d → Since R w.plan (w.history ++ entry_of (host_of w) n call faulty ∷ []) m d
+since-other R kept w n m c d list call faulty on differs at is_open since =
     let e = entry_of (host_of w) n call faulty in
     let opening = w.plan.pods.opening in
+    let last = after opening (until_last m w.history) in
     let far : e.command ≢ m + 1 = λ same. differs (let s : n + 1 ≡ m + 1 = same in omega (arith, s)) in
     let mine = replies_of-other m w.history e far in
-    elim (apart w on.legal m n d c on.ready differs at is_open) [
-      | inl none ↦ inl (mine ∙ none)
-      | inr other ↦ elim still [
+    elim (cases_Bool (is_exclusive_verb d.command.verb)) [
+      | inl exclusive ↦ inl (mine ∙ alone_apart w on.legal m n d c on.ready differs at is_open (inr exclusive))
+      | inr beside ↦ elim (apart w on.legal m n d c on.ready differs at is_open) [
         | inl none ↦ inl (mine ∙ none)
-        | inr same ↦ elim (other-entered w n c list call faulty (att_of d.command) on (other_att (att_of c.command) (att_of d.command) (λ q. other (sym q)))) [
-          | inl gc ↦ inl (mine ∙ alone-collecting w n m c d list call faulty on gc differs at is_open)
-          | inr kept ↦
-              inr (ap (share_of (att_of d.command)) (after-append opening w.history e) ∙ kept ∙ same
-              ∙ ap (λ h. share_of (att_of d.command) (after opening h)) (sym (until_last-other m w.history e (is_of-other m e far))))
+        | inr other ↦ elim since [
+          | inl none ↦ inl (mine ∙ none)
+          | inr was ↦ elim (other-entered w n c list call faulty (att_of d.command) on (other_att (att_of c.command) (att_of d.command) (λ q. other (sym q)))) [
+            | inl gc ↦ inl (mine ∙ alone-collecting w n m c d list call faulty on gc differs at is_open)
+            | inr share ↦
+                let now : R d.command last (host_on (host_of w) e) = kept.beside w n c list call faulty d.command last on beside share was in
+                inr (subst (λ l. R d.command (after opening l) (after opening (w.history ++ e ∷ []))) (sym (until_last-other m w.history e (is_of-other m e far)))
+                (subst (R d.command last) (sym (after-append opening w.history e)) now))
+          ]
         ]
       ]
     ]
 
-still-kept : IsOpenKept IsStill
-still-kept w n c call faulty goes still = λ m d at is_open.
+since-kept : (R : Keeping) → IsKeptBeside R → IsOpenKept (Since R)
+since-kept R kept w n c call faulty goes since = λ m d at is_open.
     let e = entry_of (host_of w) n call faulty in
     elim (eqb_tells m n) [
-      | inl t ↦ still-own w n m d call faulty t.1
+      | inl t ↦ since-own R kept w n m d call faulty t.1
       | inr f ↦ elim goes [
-        | inl on ↦ still-other w n m c d on.0 call faulty on.1 f.1 at is_open (still m d at is_open)
+        | inl on ↦ since-other R kept w n m c d on.0 call faulty on.1 f.1 at is_open (since m d at is_open)
         | inr on ↦ inl (replies_of-other m w.history e (λ same. f.1 (let s : n + 1 ≡ m + 1 = same in omega (arith, s))) ∙ alone-outside w n m c d call faulty on f.1 at is_open)
       ]
     ]
 
-pub all-still : (w : World) → Legal w → AllOpen IsStill w
-all-still w legal = by-open IsStill (λ p m d. inl refl) still-kept w legal
+pub kept-between : (R : Keeping) → IsKeptBeside R → IsKeptBetween R
+kept-between R kept = record { same = kept.same; since = λ w legal. by-open (Since R) (λ p m d. inl refl) (since-kept R kept) w legal }
 
 -- ---- what holds of every run
 
@@ -104,11 +118,11 @@ own-state w n c list call faulty on = record {
 }
 
 -- the host keeps what the command's attachment has
-abbrev SameShare : Keeping
+abbrev pub SameShare : Keeping
 SameShare c old new = share_of (att_of c) new ≡ share_of (att_of c) old
 
-share-kept : IsKeptBetween SameShare
-share-kept = record { same = λ c host. refl; since = all-still }
+pub share-kept : IsKeptBetween SameShare
+share-kept = kept-between SameShare (record { same = λ c host. refl; beside = λ w n c list call faulty d old on alone share was. share ∙ was })
 
 abbrev of_share : RunFact → HostFact
 of_share F list c es st host = F list c es st (share_of (att_of c) host)

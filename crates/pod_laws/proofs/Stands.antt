@@ -49,12 +49,13 @@ use Rattle.cni_verbs.specs.Wanted.{calls_before, calls_after, chained_calls, all
 use Rattle.pod_workers.specs.Plans.{Placed}
 use Rattle.pod_workers.specs.World.{World, host_of}
 use Rattle.pod_workers.specs.declared.plan.Entry.{Entry}
+use Rattle.pod_workers.proofs.Splits.{split_nil}
 use Rattle.pod_laws.specs.Moments.{own_entries}
 use Rattle.pod_laws.proofs.Achieved.{Achieved, achieved-start, achieved-step, with_leases}
 use Rattle.pod_laws.proofs.Bridges.{BridgeIn, BridgeComes, HasBridge, bridge_of, ensures_bridge, all-bridges}
 use Rattle.pod_laws.proofs.Footing.{IsMacvlan, bridge_for, lies_on, lies-calls, lies-host, lie-back, lie-before, no_link-macvlan}
 use Rattle.pod_laws.proofs.Fronts.{untuned-links}
-use Rattle.pod_laws.proofs.States.{LeftFit, asks, head_fits, is_question}
+use Rattle.pod_laws.proofs.States.{LeftFit, is_question, asked-is_question}
 use Rattle.pod_laws.proofs.RunFacts.{state_by}
 use Rattle.pod_laws.proofs.Runs.{every-run-now, own-state}
 use Rattle.pod_laws.proofs.Steps.{GoesOn}
@@ -142,21 +143,17 @@ bridged-back list att netns mappings addrs =
 
 -- ---- one of a list
 
-no_more : {X : Type 0} (ms xs : List X) (x : X) → [] ≡ ms ++ x ∷ xs → ⊥
-no_more [] xs x e = cc
-no_more (m ∷ ms) xs x e = cc
-
 tails : {X : Type 0} (x y : X) (xs ys : List X) → x ∷ xs ≡ y ∷ ys → xs ≡ ys
 tails x y xs ys e = cc
 
 one-or-none : {X : Type 0} (a b x : X) (made xs : List X) → a ∷ b ∷ [] ≡ made ++ x ∷ xs → (x ≡ a) ⊎ ((x ≡ b) × (xs ≡ []))
 one-or-none a b x [] xs e = inl cc
 one-or-none a b x (m ∷ []) xs e = inr (cc, cc)
-one-or-none a b x (m ∷ k ∷ ms) xs e = absurd (no_more ms xs x (tails b k [] (ms ++ x ∷ xs) (tails a m (b ∷ []) (k ∷ (ms ++ x ∷ xs)) e)))
+one-or-none a b x (m ∷ k ∷ ms) xs e = absurd (split_nil ms xs x (tails b k [] (ms ++ x ∷ xs) (tails a m (b ∷ []) (k ∷ (ms ++ x ∷ xs)) e)))
 
 only-one : {X : Type 0} (a x : X) (made xs : List X) → a ∷ [] ≡ made ++ x ∷ xs → x ≡ a
 only-one a x [] xs e = cc
-only-one a x (m ∷ ms) xs e = absurd (no_more ms xs x (tails a m [] (ms ++ x ∷ xs) e))
+only-one a x (m ∷ ms) xs e = absurd (split_nil ms xs x (tails a m [] (ms ++ x ∷ xs) e))
 
 -- ---- the bridge of a call before the leases
 
@@ -237,7 +234,7 @@ footed-turn list c es (AfterLeases x xs given) host call fit is ach bridge = sub
 footed-turn list c es (ReadingCache ending) host call fit is ach bridge = subst (FootedIfPlan (att_of c) host) (let e : CacheGet (att_of c) ≡ call = cc in e) (λ own. cc)
 footed-turn list c es (Deleting kind ks ending) host call fit is ach bridge = subst (FootedIfPlan (att_of c) host) (let e : deletion (att_of c) kind ≡ call = cc in e) (footed-deletion (att_of c) (att_of c) host kind)
 footed-turn list c es FindingEntry host call fit is ach bridge = subst (FootedIfPlan (att_of c) host) (let e : CacheGet (att_of c) ≡ call = cc in e) (λ own. cc)
-footed-turn list c es (Asking q qs) host call fit is ach bridge = footed-aside (att_of c) host c call (inl (subst (λ j. is_question j ≡ true) (let e : q.call ≡ call = cc in e) (head_fits (asks q) (list_all asks qs) fit)))
+footed-turn list c es (Asking q qs) host call fit is ach bridge = footed-aside (att_of c) host c call (inl (subst (λ j. is_question j ≡ true) (let e : q.call ≡ call = cc in e) (asked-is_question list q.call fit.0)))
 footed-turn list c es (Changing change) host call fit is ach bridge = absurd fit
 footed-turn list c es (Collecting work faults) host call fit is ach bridge = footed-aside (att_of c) host c call (work-turn c work.jobs work.sweeps faults call fit is)
 footed-turn list c es (Over ending given) host call fit is ach bridge = cc

@@ -1,8 +1,9 @@
 -- A STATUS asks of one host, and its answer is what that host has to give.
-use Rattle.std.proofs.Common.{◌≡◌, ℕ, ◌+◌, Bool, true, false, List, [], ◌∷◌, ◌++◌, length, refl, sym, ◌∙◌, ap, subst, inl, inr}
+use Rattle.std.proofs.Common.{◌≡◌, ℕ, ◌+◌, Bool, true, false, List, [], ◌∷◌, ◌++◌, length, refl, sym, ◌∙◌, ap, subst}
 use Rattle.std.specs.Prelude.{◌&&◌}
 use Rattle.std.specs.List.{list_all}
-use Rattle.cni_addr.specs.declared.address.Addr.{Addr}
+use Rattle.std.proofs.lemmas.List.Folds.{list_all-append}
+use Rattle.std.proofs.lemmas.List.{length_push}
 use Rattle.cni_addr.specs.declared.range.RangeSet.{RangeSet}
 use Rattle.cni_result.specs.declared.version.Version.{Version}
 use Rattle.cni_result.specs.declared.version.Version.TheVariants.{V1_0, V1_1}
@@ -19,23 +20,22 @@ use Rattle.kernel_types.specs.Apply.Calls.{leased_addresses}
 use Rattle.kernel_types.specs.Replies.{is_fault}
 use Rattle.kernel_types.proofs.Replies.{IsReplyOf-apply}
 use Rattle.kernel_types.specs.declared.object.Host.{Host}
-use Rattle.cni_verbs.specs.Answers.{answer_by, answer_of, code_of}
+use Rattle.cni_verbs.specs.Answers.{code_of}
 use Rattle.cni_verbs.specs.Questions.{master_questions, pool_questions, status_questions}
 use Rattle.cni_verbs.specs.Script.{State, Asking, Over, Calls, advance, asking, at_question, start_of, turn, unless_old}
 use Rattle.cni_verbs.specs.Wanted.{sets_of}
-use Rattle.cni_verbs.specs.declared.answer.Answer.{Answer}
 use Rattle.cni_verbs.specs.declared.answer.Cause.TheVariants as causes
 use Rattle.cni_verbs.specs.declared.answer.Ending.{Ending}
 use Rattle.cni_verbs.specs.declared.answer.Ending.TheVariants.{Added, Yes, Skipped, Versions, Refused}
 use Rattle.cni_verbs.specs.declared.answer.Question.{Question}
 use Rattle.pod_workers.specs.World.{entry_of, host_of, reply_to}
 use Rattle.pod_workers.specs.declared.plan.Entry.{Entry}
-use Rattle.pod_workers.proofs.PlannedCalls.{length-one}
-use Rattle.pod_laws.specs.Available.{EndsByFault, EndsByService, EndsStatus, LacksService, WasAvailable, has_master_of, is_available}
+use Rattle.pod_laws.specs.Available.{EndsStatus, LacksService, WasAvailable, has_master_of, is_available}
 use Rattle.pod_laws.specs.Granted.{grants, only_asks}
 use Rattle.pod_laws.specs.Moments.{has_fault, host_at_end, own_entries}
-use Rattle.pod_laws.proofs.Asking.{Each, EndsAsked, HasAsked, IsAsking, all-both, and-true, asked-all, asked-none, asked-reply, calm-more, denied-some, each-append, each-at, fault-last, tells}
-use Rattle.pod_laws.proofs.CutOff.{over-by}
+use Rattle.pod_laws.specs.Answers.{EndsByFault, EndsByTest}
+use Rattle.pod_laws.proofs.Asking.{Each, EndsAsked, HasAsked, IsAsking, and-true, asked-all, asked-none, asked-reply, calm-more, denied-some, each-append, each-at, fault-last, tells}
+use Rattle.pod_laws.proofs.CutOff.{over-by, answered-by}
 use Rattle.pod_laws.proofs.RunFacts.{HostFact, IsHostFact, StartsOn, each-run}
 use Rattle.pod_laws.proofs.QuestionRuns.{question-entered}
 use Rattle.pod_laws.proofs.Runs.{own-state}
@@ -73,7 +73,7 @@ granted-master host (Macvlan conf) = and-true _
 granted-status : (list : NetList) (c : Command) (host : Host) → list_all (grants host) (status_questions list c) ≡ is_available list c host
 unfolding status_questions
 granted-status list c host =
-    all-both (grants host) (pool_questions c.network 0 (sets_of list)) (master_questions list.first)
+    list_all-append (grants host) (pool_questions c.network 0 (sets_of list)) (master_questions list.first)
     ∙ ap (λ b. b && list_all (grants host) (master_questions list.first)) (granted-pools host c.network 0 (sets_of list))
     ∙ ap (λ b. list_all (λ set. has_free_of set (leased_addresses host c.network)) (sets_of list) && b) (granted-master host list.first)
 
@@ -93,14 +93,15 @@ StatusAt list c es _ host = ⊥
 status-ends : (list : NetList) (c : Command) (es : List Entry) (host : Host) (ending : Ending) → list.version ≡ V1_1 → has_fault es ≡ false → EndsAsked host (status_questions list c) ending → EndsStatus list c es host list.version ending
 status-ends list c es host Yes version calm ends =
     let available : is_available list c host ≡ true = sym (granted-status list c host) ∙ ends in
-    subst (λ v. EndsStatus list c es host v Yes) (sym version) (subst (λ b. EndsByFault list c es host b Yes) (sym calm) (subst (λ b. EndsByService list c host b Yes) (sym available) refl))
+    subst (λ v. EndsStatus list c es host v Yes) (sym version)
+    (subst (λ b. EndsByFault es b Yes (EndsByTest (is_available list c host) Yes (LacksService list c host Yes))) (sym calm) (subst (λ b. EndsByTest b Yes (LacksService list c host Yes)) (sym available) refl))
 status-ends list c es host (Refused cause) version calm ends =
     let lacks : is_available list c host ≡ false = sym (granted-status list c host) ∙ denied-some host (status_questions list c) ends.0 ends.1 in
     let d = ends.1 in
     let of_service : IsServiceQuestion ends.0 = each-at IsServiceQuestion d.past ends.0 d.left (subst (Each IsServiceQuestion) d.are (service-questions list c)) in
     let lack : LacksService list c host (Refused cause) = record { question = ends.0; first = d; code = of_service.1; ending_is = ap Refused (sym ends.2) } in
     subst (λ v. EndsStatus list c es host v (Refused cause)) (sym version)
-    (subst (λ b. EndsByFault list c es host b (Refused cause)) (sym calm) (subst (λ b. EndsByService list c host b (Refused cause)) (sym lacks) lack))
+    (subst (λ b. EndsByFault es b (Refused cause) (EndsByTest (is_available list c host) (Refused cause) (LacksService list c host (Refused cause)))) (sym calm) (subst (λ b. EndsByTest b (Refused cause) (LacksService list c host (Refused cause))) (sym lacks) lack))
 status-ends list c es host Added version calm ends = absurd ends
 status-ends list c es host (Skipped skip) version calm ends = absurd ends
 status-ends list c es host Versions version calm ends = absurd ends
@@ -112,8 +113,9 @@ status-asked list c es host _ version calm a = absurd a
 
 status-fault : (list : NetList) (c : Command) (es : List Entry) (host : Host) (number : ℕ) → list.version ≡ V1_1 → has_fault es ≡ true → number ≡ length es → EndsStatus list c es host list.version (Refused (causes.Fault number))
 status-fault list c es host number version fault is =
-    subst (λ v. EndsStatus list c es host v (Refused (causes.Fault number))) (sym version)
-    (subst (λ b. EndsByFault list c es host b (Refused (causes.Fault number))) (sym fault) (ap (λ k. Refused (causes.Fault k)) is))
+    let ending = Refused (causes.Fault number) in
+    subst (λ v. EndsStatus list c es host v ending) (sym version)
+    (subst (λ b. EndsByFault es b ending (EndsByTest (is_available list c host) ending (LacksService list c host ending))) (sym fault) (ap (λ k. Refused (causes.Fault k)) is))
 
 status-old : (list : NetList) (c : Command) (host : Host) (v : Version) → list.version ≡ v → StatusAt list c [] (unless_old v (asking (status_questions list c))) host
 status-old list c host V1_0 is = (refl, subst (λ v. EndsStatus list c [] host v (Refused (causes.TooOld V1_0))) (sym is) (refl, refl))
@@ -134,7 +136,7 @@ status-reply : (list : NetList) (c : Command) (es : List Entry) (e : Entry) (q :
     → StatusAt list c (es ++ e ∷ []) (at_question (length es + 1) q qs e.reply) host
 status-reply list c es e q qs host true is a =
     subst (λ r. StatusAt list c (es ++ e ∷ []) (at_question (length es + 1) q qs r) host) (sym is)
-    (refl, status-fault list c (es ++ e ∷ []) host (length es + 1) a.version (fault-last es e (ap is_fault is)) (sym (length-one es e)))
+    (refl, status-fault list c (es ++ e ∷ []) host (length es + 1) a.version (fault-last es e (ap is_fault is)) (sym (length_push es e)))
 status-reply list c es e q qs host false is a =
     let d = a.asked in
     let of_service : IsServiceQuestion q = each-at IsServiceQuestion d.past q qs (subst (Each IsServiceQuestion) d.are (service-questions list c)) in
@@ -160,20 +162,10 @@ status-step w n c list call faulty old on keeps was = λ verb.
 
 -- ---- the answer
 
-abbrev IsStatusOf : NetList → Command → List Entry → Host → Answer → Type 0
-IsStatusOf list c es host a = (ending : Ending) × (a ≡ answer_by list c ending []) × EndsStatus list c es host list.version ending
-
-status-over : (list : NetList) (c : Command) (es : List Entry) (host : Host) (a : Answer) (ending : Ending) (given : List Addr) → StatusAt list c es (Over ending given) host → a ≡ answer_of list c (record { ending = ending; given = given }) → IsStatusOf list c es host a
-unfolding answer_of
-status-over list c es host a ending given at is = (ending, is ∙ ap (answer_by list c ending) at.0, at.1)
-
 pub was_available : WasAvailable
 was_available w legal n c list a at listed verb is whole =
     let es = own_entries n w.history in
     let host = host_at_end w n in
-    let over = over-by w legal n c list a at listed is whole in
     let last = each-run KeepsAsked AsksStatus asked-kept status-start status-step w legal n c list at listed verb in
-    elim over.state_is [
-      | inl ends ↦ status-over list c.command es host a over.ending over.given (subst (λ st. StatusAt list c.command es st host) ends last) over.answer_is
-      | inr swept ↦ absurd (subst (λ st. StatusAt list c.command es st host) swept.collecting last)
-    ]
+    answered-by list c.command _ a (λ st. StatusAt list c.command es st host) (EndsStatus list c.command es host list.version) (λ ending given ends. ends) (λ work faults none. none)
+    (over-by w legal n c list a at listed is whole) last

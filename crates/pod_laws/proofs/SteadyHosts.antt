@@ -1,9 +1,8 @@
 -- What a command asks of a host stays between its entries: its attachment's share, each bridge, and all where it stands alone.
-use Rattle.std.proofs.Common.{◌≡◌, ◌≢◌, ℕ, ◌+◌, Bool, true, false, not, List, [], ◌∷◌, ◌++◌, Some, None, slice_get, refl, sym, ◌∙◌, ap, subst, inl, inr, ◌⊎◌, arith}
+use Rattle.std.proofs.Common.{◌≡◌, ℕ, Bool, true, false, not, List, [], ◌∷◌, refl, ◌∙◌, ap, inl, inr, arith}
 use Rattle.std.specs.Prelude.{◌&&◌}
 use Rattle.std.specs.List.{list_any}
-use Rattle.std.proofs.lemmas.Bool.{cases_Bool}
-use Rattle.std.proofs.lemmas.Bool.Decides.{eqb_tells}
+use Rattle.std.proofs.lemmas.Bool.{both_ways}
 use Rattle.cni_addr.specs.declared.mac.Mac.{Mac}
 use Rattle.net_conf.specs.declared.list.NetList.{NetList}
 use Rattle.pod_file.specs.Rounds.{is_exclusive_verb}
@@ -25,20 +24,16 @@ use Rattle.kernel_types.specs.declared.call.Call.{Call}
 use Rattle.kernel_types.specs.declared.call.Call.TheVariants.{BridgeEnsure, GatewayEnsure, ForwardEnsure}
 use Rattle.plan_words.specs.Share.{share_of}
 use Rattle.cni_verbs.specs.CommandWords.{att_of}
-use Rattle.pod_workers.specs.Legal.{Legal}
-use Rattle.pod_workers.specs.Plans.{Placed, commands_of}
-use Rattle.pod_workers.specs.World.{World, after, entry_of, host_of, host_on, replies_of}
-use Rattle.pod_workers.proofs.Histories.{after-append, replies_of-other}
-use Rattle.pod_workers.proofs.Order.{alone_apart, apart}
+use Rattle.pod_workers.specs.Plans.{Placed}
+use Rattle.pod_workers.specs.World.{World, entry_of, host_of, host_on}
 use Rattle.pod_workers.proofs.Sound.{sound_host}
 use Rattle.pod_laws.specs.Checked.{has_bridge_at}
-use Rattle.pod_laws.specs.Moments.{until_last}
 use Rattle.pod_laws.proofs.Bridges.{turn-inside, own_kind}
-use Rattle.pod_laws.proofs.Entries.{is_of-own, is_of-other, until_last-own, until_last-other}
 use Rattle.pod_laws.proofs.RunFacts.{IsKeptBetween}
-use Rattle.pod_laws.proofs.Steps.{AllOpen, GoesOn, IsOpenKept, OpenFact, by-open, on-entry}
-use Rattle.pod_laws.proofs.Turns.{alone-collecting, alone-outside, other-entered, other_att, turn-of}
-use Rattle.pod_laws.proofs.Tests.{any-filtered, none-by, clash}
+use Rattle.pod_laws.proofs.Steps.{GoesOn, on-entry}
+use Rattle.pod_laws.proofs.Turns.{turn-of}
+use Rattle.pod_laws.proofs.Tests.{any-filtered, none-by}
+use Rattle.pod_laws.proofs.Runs.{kept-between}
 
 -- ---- a bridge of the host stays, with its MAC address
 
@@ -100,64 +95,15 @@ pub record KeepsAsked (c : Command) (old new : Host) : Type 0 where
 pub keeps-same : (c : Command) (host : Host) → KeepsAsked c host host
 keeps-same c host = record { share = refl; bridges = λ name mac there. there; alone = λ exclusive. refl }
 
--- where a command isn't answered, the host keeps what it asks since its last entry
-abbrev pub IsSteady : OpenFact
-IsSteady p h m d = (replies_of m h ≡ []) ⊎ KeepsAsked d.command (after p.pods.opening (until_last m h)) (after p.pods.opening h)
-
-steady-own : (w : World) (n m : ℕ) (d : Placed) (call : Call) (faulty : Bool) → m ≡ n → IsSteady w.plan (w.history ++ entry_of (host_of w) n call faulty ∷ []) m d
-steady-own w n m d call faulty same =
-    let e = entry_of (host_of w) n call faulty in
-    let h = w.history ++ e ∷ [] in
-    inr (subst (λ l. KeepsAsked d.command (after w.plan.pods.opening l) (after w.plan.pods.opening h)) (sym (until_last-own m w.history e (is_of-own m e (ap (λ j. j + 1) (sym same))))) (keeps-same d.command (after w.plan.pods.opening h)))
-
 -- an entry of another command, where neither stands alone
 keeps-on : (w : World) (n : ℕ) (c : Placed) (list : NetList) (call : Call) (faulty : Bool) (d : Command) (old : Host) → GoesOn w n c list call faulty → is_exclusive_verb d.verb ≡ false
     → share_of (att_of d) (host_on (host_of w) (entry_of (host_of w) n call faulty)) ≡ share_of (att_of d) (host_of w) → KeepsAsked d old (host_of w) → KeepsAsked d old (host_on (host_of w) (entry_of (host_of w) n call faulty))
 keeps-on w n c list call faulty d old on beside kept was = record {
   share = kept ∙ was.share;
   bridges = λ name mac there. bridges-entered w n c list call faulty on name mac (was.bridges name mac there);
-  alone = λ exclusive. absurd (clash (is_exclusive_verb d.verb) exclusive beside);
+  alone = λ exclusive. absurd (both_ways (is_exclusive_verb d.verb) beside exclusive);
 }
-
-steady-other : (w : World) (n m : ℕ) (c d : Placed) (list : NetList) (call : Call) (faulty : Bool) → GoesOn w n c list call faulty → m ≢ n → slice_get (commands_of w.plan) m ≡ Some d → slice_get w.answers m ≡ Some None → IsSteady w.plan w.history m d
-    → IsSteady w.plan (w.history ++ entry_of (host_of w) n call faulty ∷ []) m d
-steady-other w n m c d list call faulty on differs at is_open still =
-    let e = entry_of (host_of w) n call faulty in
-    let opening = w.plan.pods.opening in
-    let far : e.command ≢ m + 1 = λ same. differs (let s : n + 1 ≡ m + 1 = same in omega (arith, s)) in
-    let mine = replies_of-other m w.history e far in
-    let P : Host → Host → Type 0 = λ old new. KeepsAsked d.command old new in
-    elim (cases_Bool (is_exclusive_verb d.command.verb)) [
-      | inl exclusive ↦ inl (mine ∙ alone_apart w on.legal m n d c on.ready differs at is_open (inr exclusive))
-      | inr beside ↦ elim (apart w on.legal m n d c on.ready differs at is_open) [
-        | inl none ↦ inl (mine ∙ none)
-        | inr other ↦ elim still [
-          | inl none ↦ inl (mine ∙ none)
-          | inr was ↦ elim (other-entered w n c list call faulty (att_of d.command) on (other_att (att_of c.command) (att_of d.command) (λ q. other (sym q)))) [
-            | inl gc ↦ inl (mine ∙ alone-collecting w n m c d list call faulty on gc differs at is_open)
-            | inr kept ↦
-                let now : P (after opening (until_last m w.history)) (host_on (host_of w) e) = keeps-on w n c list call faulty d.command (after opening (until_last m w.history)) on beside kept was in
-                inr (subst (λ l. P (after opening l) (after opening (w.history ++ e ∷ []))) (sym (until_last-other m w.history e (is_of-other m e far)))
-                (subst (P (after opening (until_last m w.history))) (sym (after-append opening w.history e)) now))
-          ]
-        ]
-      ]
-    ]
-
-steady-kept : IsOpenKept IsSteady
-steady-kept w n c call faulty goes still = λ m d at is_open.
-    let e = entry_of (host_of w) n call faulty in
-    elim (eqb_tells m n) [
-      | inl t ↦ steady-own w n m d call faulty t.1
-      | inr f ↦ elim goes [
-        | inl on ↦ steady-other w n m c d on.0 call faulty on.1 f.1 at is_open (still m d at is_open)
-        | inr on ↦ inl (replies_of-other m w.history e (λ same. f.1 (let s : n + 1 ≡ m + 1 = same in omega (arith, s))) ∙ alone-outside w n m c d call faulty on f.1 at is_open)
-      ]
-    ]
-
-pub all-steady : (w : World) → Legal w → AllOpen IsSteady w
-all-steady w legal = by-open IsSteady (λ p m d. inl refl) steady-kept w legal
 
 -- what a command asks is kept between its entries
 pub asked-kept : IsKeptBetween KeepsAsked
-asked-kept = record { same = keeps-same; since = all-steady }
+asked-kept = kept-between KeepsAsked (record { same = keeps-same; beside = keeps-on })

@@ -1,6 +1,5 @@
 -- What holds of every legal history, and of every command that is not answered, because each entry keeps it.
 use Rattle.std.proofs.Common.{◌≡◌, ℕ, Bool, true, false, List, [], ◌∷◌, ◌++◌, Option, Some, None, slice_get, slice_set, refl, sym, ◌∙◌, ap, subst, inl, inr, ◌⊎◌}
-use Rattle.std.specs.Prelude.{if◌then◌else◌}
 use Rattle.std.proofs.lemmas.Option.{same_Some, none-some, slice_get_within}
 use Rattle.std.proofs.lemmas.Bool.Decides.{eqb_tells}
 use Rattle.net_conf.specs.declared.list.NetList.{NetList}
@@ -9,7 +8,6 @@ use Rattle.kernel_types.specs.Allowed.{IsAllowed}
 use Rattle.kernel_types.specs.Apply.{apply}
 use Rattle.kernel_types.specs.Sound.{IsSound}
 use Rattle.kernel_types.proofs.EveryCall.{IsSound-apply}
-use Rattle.kernel_types.proofs.Replies.{IsReplyOf-apply}
 use Rattle.kernel_types.specs.declared.object.Host.{Host}
 use Rattle.kernel_types.specs.declared.call.Call.{Call}
 use Rattle.kernel_types.specs.declared.call.Reply.{Reply}
@@ -26,6 +24,7 @@ use Rattle.pod_workers.specs.declared.plan.Next.TheVariants as next
 use Rattle.pod_workers.specs.declared.plan.Plan.{Plan}
 use Rattle.pod_workers.proofs.Histories.{slice_get-set_same, slice_get-set_other}
 use Rattle.pod_workers.proofs.Sound.{next-is-call, allowed_next, sound_host}
+use Rattle.pod_workers.proofs.StepsLeft.{host-made}
 
 -- ---- a step that makes an entry
 
@@ -117,9 +116,6 @@ by-open Q start keep _ (refused_memory v w n c legal ready is) = subst (AllOpen 
 by-open Q start keep _ (turns v w legal less over is) = subst (AllOpen Q) (sym is) (by-open Q start keep v legal)
 
 -- ---- the host after an entry
-
-pub host-made : (k : Host) (n : ℕ) (call : Call) → host_on k (entry_of k n call false) ≡ (apply k call).0
-host-made k n call = ap (λ b. if b then k else (apply k call).0) (IsReplyOf-apply k call).no_fault
 
 -- what holds of the host as it is and after the call holds after the entry
 pub on-entry : (P : Host → Type 0) (k : Host) (n : ℕ) (call : Call) (faulty : Bool) → P k → (faulty ≡ false → P (apply k call).0) → P (host_on k (entry_of k n call faulty))

@@ -3,10 +3,6 @@ use Rattle.std.proofs.Common.{◌≡◌, Bool, true, false, List, [], ◌∷◌,
 use Rattle.std.specs.Prelude.{filter}
 use Rattle.std.specs.List.{list_all, list_any}
 
--- a test that passes and fails
-pub clash : (b : Bool) → b ≡ true → b ≡ false → ⊥
-clash b h g = cc
-
 -- what passes among some passes among all
 pub any-filtered : {X : Type 0} (p q : X → Bool) (xs : List X) → list_any p (filter q xs) ≡ true → list_any p xs ≡ true
 any-filtered p q [] h = h

@@ -2,6 +2,7 @@
 use Rattle.std.proofs.Common.{◌≡◌, ℕ, Bool, true, false, not, List, [], ◌∷◌, ◌++◌, map, refl, sym, ◌∙◌, ap, subst, inl, inr, ◌⊎◌, arith}
 use Rattle.std.specs.Prelude.{◌||◌, if◌then◌else◌}
 use Rattle.std.specs.List.{list_any}
+use Rattle.std.proofs.lemmas.Bool.{not-true}
 use Rattle.cni_addr.specs.Codes.{family_eq}
 use Rattle.cni_addr.specs.declared.address.Addr.{Addr}
 use Rattle.cni_addr.specs.declared.address.Family.TheVariants as families
@@ -66,10 +67,6 @@ links-none s [] h = refl
 links-none s (x ∷ xs) h = links-none (share_after_call s x) xs (grind (arith, h)) ∙ links-same s x (grind (arith, h))
 
 -- ---- at most one
-
-not-true : (b : Bool) → not b ≡ true → b ≡ false
-not-true true h = cc
-not-true false h = refl
 
 none-right : (xs ys : List Call) → NoneChange (xs ++ ys) → NoneChange ys
 none-right [] ys h = h

@@ -1,6 +1,5 @@
 -- What a run calls: its attachment, a question, or for a garbage collection; and what the world outside calls.
 use Rattle.std.proofs.Common.{◌≡◌, ◌≢◌, ℕ, ◌+◌, Bool, true, false, List, [], ◌∷◌, length, Option, Some, None, slice_get, refl, ap, subst, inl, inr, ◌⊎◌, arith}
-use Rattle.std.specs.List.{list_all}
 use Rattle.std.proofs.lemmas.Bool.{cases_Bool}
 use Rattle.std.proofs.lemmas.Slice.Eq.{bytes_eq-Decides}
 use Rattle.net_conf.specs.declared.list.NetList.{NetList}
@@ -24,18 +23,18 @@ use Rattle.plan_words.specs.PlanCalls.{is_call_of}
 use Rattle.plan_words.specs.Share.{share_of}
 use Rattle.plan_words.proofs.OtherCalls.{share-other, call-plan}
 use Rattle.cni_verbs.specs.CommandWords.{att_of, netns_refusal, drop_refusal}
-use Rattle.cni_verbs.specs.Script.{State, AtBegin, BeforeLeases, Leasing, AfterLeases, ReadingCache, Deleting, FindingEntry, Asking, Changing, Collecting, Over, Calls, turn, turn_of_work, unless_refused, flush_by, outside_of, outside_start, outside_advance, outside_from}
+use Rattle.cni_verbs.specs.Script.{State, AtBegin, BeforeLeases, Leasing, AfterLeases, ReadingCache, Deleting, FindingEntry, Asking, Changing, Collecting, Over, Calls, turn, turn_of_work, flush_by, outside_of, outside_start, outside_advance, outside_from}
 use Rattle.cni_verbs.specs.Sweep.{Job, Step, AskCached, Delete, Sweep, step_call}
 use Rattle.cni_verbs.specs.Wanted.{deletion}
-use Rattle.cni_verbs.specs.declared.answer.Cause.{Cause}
 use Rattle.pod_file.specs.Commands.{is_of_network}
 use Rattle.pod_workers.specs.Plans.{Placed, commands_of}
 use Rattle.pod_workers.specs.World.{World, host_on, host_of, own_replies, entry_of}
 use Rattle.pod_workers.proofs.Order.{alone_apart}
 use Rattle.pod_workers.proofs.Planned.{LeftArePlanned, left-are-planned}
 use Rattle.pod_workers.proofs.Sound.{sound_host}
+use Rattle.pod_workers.proofs.Replies.{by-unless}
 use Rattle.pod_laws.proofs.Removes.{OnlyRemoves, removes-nothing, removes-outside}
-use Rattle.pod_laws.proofs.States.{LeftFit, asks, head_fits, is_question, left-fit, question-leaves}
+use Rattle.pod_laws.proofs.States.{LeftFit, is_question, left-fit, question-leaves, asked-is_question}
 use Rattle.pod_laws.proofs.Steps.{Changes, GoesOn, on-entry}
 
 -- ---- what a run calls
@@ -80,7 +79,7 @@ own-turn list c (AfterLeases x xs given) call left fit is = subst (IsTurnOf c) (
 own-turn list c (ReadingCache ending) call left fit is = subst (IsTurnOf c) (let e : CacheGet (att_of c) ≡ call = cc in e) (inl (att_eq-refl (att_of c)))
 own-turn list c (Deleting kind ks ending) call left fit is = subst (IsTurnOf c) (let e : deletion (att_of c) kind ≡ call = cc in e) (inl (own-deletion (att_of c) kind))
 own-turn list c FindingEntry call left fit is = subst (IsTurnOf c) (let e : CacheGet (att_of c) ≡ call = cc in e) (inl (att_eq-refl (att_of c)))
-own-turn list c (Asking q qs) call left fit is = subst (IsTurnOf c) (let e : q.call ≡ call = cc in e) (inr (inl (head_fits (asks q) (list_all asks qs) fit)))
+own-turn list c (Asking q qs) call left fit is = subst (IsTurnOf c) (let e : q.call ≡ call = cc in e) (inr (inl (asked-is_question list q.call fit.0)))
 own-turn list c (Changing change) call left fit is = absurd fit
 own-turn list c (Collecting work faults) call left fit is = inr (work-turn c work.jobs work.sweeps faults call fit is)
 own-turn list c (Over ending given) call left fit is = cc
@@ -99,18 +98,14 @@ FitsOutside c (Changing change) = IsFromOutside c change
 FitsOutside c (Over ending given) = Unit {0}
 FitsOutside c _ = ⊥
 
-outside-unless : (c : Command) (o : Option Cause) (call : Call) → IsFromOutside c call → FitsOutside c (unless_refused o (Changing call))
-outside-unless c None call h = h
-outside-unless c (Some cause) call h = tt
-
 outside-flush : (c : Command) (o : Option Table) → c.verb ≡ verbs.Flush → FitsOutside c (flush_by o)
 outside-flush c None is = tt
 outside-flush c (Some table) is = record { call_is = refl; verb_is = ap is_of_network is }
 
 outside-begun : (c : Command) (v : Verb) → c.verb ≡ v → FitsOutside c (outside_of v c)
-outside-begun c verbs.NsAdd is = outside-unless c (netns_refusal c) (NsChange c.netns true) (record { call_is = refl; verb_is = ap is_of_network is })
-outside-begun c verbs.NsDel is = outside-unless c (netns_refusal c) (NsChange c.netns false) (record { call_is = refl; verb_is = ap is_of_network is })
-outside-begun c verbs.Drop is = outside-unless c (drop_refusal c) (Outside (DropLink (record { ns = c.netns; name = c.ifname }))) (record { call_is = refl; verb_is = ap is_of_network is })
+outside-begun c verbs.NsAdd is = by-unless (FitsOutside c) (netns_refusal c) (Changing (NsChange c.netns true)) (λ cause. tt) (λ none. record { call_is = refl; verb_is = ap is_of_network is })
+outside-begun c verbs.NsDel is = by-unless (FitsOutside c) (netns_refusal c) (Changing (NsChange c.netns false)) (λ cause. tt) (λ none. record { call_is = refl; verb_is = ap is_of_network is })
+outside-begun c verbs.Drop is = by-unless (FitsOutside c) (drop_refusal c) (Changing (Outside (DropLink (record { ns = c.netns; name = c.ifname })))) (λ cause. tt) (λ none. record { call_is = refl; verb_is = ap is_of_network is })
 outside-begun c verbs.Flush is = outside-flush c c.table is
 outside-begun c _ is = tt
 

@@ -13,7 +13,7 @@ use Rattle.kernel_types.specs.Apply.Calls.{without_link}
 use Rattle.kernel_types.specs.Replies.{is_fault}
 use Rattle.kernel_types.specs.Sound.{IsSound}
 use Rattle.kernel_types.specs.Words.{is_own}
-use Rattle.kernel_types.proofs.ListLemmas.{list_all-push, list_any-append_right}
+use Rattle.kernel_types.proofs.ListLemmas.{list_all-push}
 use Rattle.kernel_types.specs.declared.object.Att.{Att}
 use Rattle.kernel_types.specs.declared.object.Host.{Host}
 use Rattle.kernel_types.specs.declared.object.Link.{Link}
@@ -36,6 +36,7 @@ use Rattle.pod_workers.specs.World.{entry_of, host_of, host_on, reply_to}
 use Rattle.pod_workers.specs.declared.plan.Entry.{Entry}
 use Rattle.pod_workers.proofs.Planned.{LeftArePlanned}
 use Rattle.pod_workers.proofs.Sound.{sound_host}
+use Rattle.pod_workers.proofs.StepsLeft.{host-made}
 use Rattle.pod_laws.specs.Deleted.{HasDeleted, IsUndeletedByWords, IsUndeletedByFault}
 use Rattle.pod_laws.specs.Moments.{has_fault, own_entries}
 use Rattle.pod_laws.specs.Refused.{is_granted, lets_go_on, FirstRefusal, IsRefusedFor}
@@ -46,8 +47,9 @@ use Rattle.pod_laws.proofs.Removes.{removes-deletion}
 use Rattle.pod_laws.proofs.Stands.{no_link-now}
 use Rattle.pod_laws.proofs.States.{IsAside, IsNoResult, IsOtherVerb, aside-advance, aside-start}
 use Rattle.pod_laws.proofs.Runs.{IsRunFact, StartsWith, own-state}
-use Rattle.pod_laws.proofs.Steps.{host-made, on-entry, sound-entered}
+use Rattle.pod_laws.proofs.Steps.{on-entry, sound-entered}
 use Rattle.pod_laws.proofs.Within.{within-entered}
+use Rattle.pod_laws.proofs.Asking.{calm-more, fault-last}
 
 -- ---- what led to a state
 
@@ -173,19 +175,12 @@ refusing-more c es e cause h =
 
 -- ---- deletions
 
-no_fault-more : (es : List Entry) (e : Entry) → has_fault es ≡ false → is_fault e.reply ≡ false → has_fault (es ++ e ∷ []) ≡ false
-no_fault-more [] e h g = grind (arith, g)
-no_fault-more (x ∷ xs) e h g = grind (arith, no_fault-more xs e, h, g)
-
 leads-more : (c : Command) (es : List Entry) (e : Entry) (ending : Ending) → Leads c es ending → is_fault e.reply ≡ false → Leads c (es ++ e ∷ []) ending
 leads-more c es e Added h g = h
 leads-more c es e (Skipped skip) h g = h
 leads-more c es e Versions h g = h
-leads-more c es e Yes h g = record { verb = h.verb; words = h.words; calm = no_fault-more es e h.calm g }
+leads-more c es e Yes h g = record { verb = h.verb; words = h.words; calm = calm-more es e h.calm g }
 leads-more c es e (Refused cause) h g = refusing-more c es e cause h
-
-fault-there : (es : List Entry) (e : Entry) → is_fault e.reply ≡ true → has_fault (es ++ e ∷ []) ≡ true
-fault-there es e h = list_any-append_right (λ x. is_fault x.reply) es (e ∷ []) (grind (arith, h))
 
 ends-faulted : (c : Command) (es : List Entry) (e : Entry) (ending : Ending) (s : Share) → Leads c es ending → e.reply ≡ Fault → Ends c (es ++ e ∷ []) (faulted (length es + 1) ending) s
 unfolding refusing-more
@@ -195,7 +190,7 @@ ends-faulted c es e Versions s h is = absurd h
 ends-faulted c es e Yes s h is = inr (inl (record { verb = h.verb; why = inr (record { words = h.words; calm = es; by = e; are = refl; no_fault = h.calm; fault = is; number = refl }) }))
 ends-faulted c es e (Refused cause) s h is =
     let more = refusing-more c es e cause h in
-    inl (record { verb = h.verb; why = inr (inr (record { words = h.words; first = more.first; begun = more.begun; undone = inr (fault-there h.first.later e (ap is_fault is)) })) })
+    inl (record { verb = h.verb; why = inr (inr (record { words = h.words; first = more.first; begun = more.begun; undone = inr (fault-last h.first.later e (ap is_fault is)) })) })
 
 ends-gone : (c : Command) (es : List Entry) (ending : Ending) (s : Share) → Leads c es ending → s ≡ no_objects → Ends c es ending s
 ends-gone c es Added s h none = absurd h

@@ -1,5 +1,5 @@
 -- What is left to a run before its first call, by its verb.
-use Rattle.std.proofs.Common.{◌≡◌, ◌≢◌, ℕ, suc, ◌+◌, ◌*◌, ◌≤◌, Bool, true, false, List, [], ◌∷◌, ◌++◌, map, length, Option, Some, None, slice_get, refl, sym, ap, subst, arith}
+use Rattle.std.proofs.Common.{◌≡◌, ◌≢◌, ℕ, suc, ◌+◌, ◌*◌, ◌≤◌, false, List, [], ◌∷◌, ◌++◌, map, length, Option, Some, None, slice_get, refl, sym, ap, subst, arith}
 use Rattle.std.specs.Prelude.{if◌then◌else◌}
 use Rattle.std.proofs.lemmas.List.{length-append, length-map}
 use Rattle.cni_addr.specs.declared.address.Addr.{Addr}
@@ -7,8 +7,6 @@ use Rattle.cni_addr.specs.declared.mac.Mac.{Mac}
 use Rattle.cni_addr.specs.declared.range.RangeSet.{RangeSet}
 use Rattle.cni_result.specs.declared.cached.Cached.{Cached}
 use Rattle.cni_result.specs.declared.result.Interface.{Interface}
-use Rattle.cni_result.specs.declared.version.Version.{Version}
-use Rattle.cni_result.specs.declared.version.Version.TheVariants.{V1_0, V1_1}
 use Rattle.net_conf.specs.declared.first.First.{First}
 use Rattle.net_conf.specs.declared.first.First.TheVariants.{Bridge, Ptp, Macvlan}
 use Rattle.net_conf.specs.declared.list.NetList.{NetList}
@@ -24,9 +22,8 @@ use Rattle.kernel_types.specs.declared.object.Rule.{Rule}
 use Rattle.plan_words.specs.Share.{Share, share_of}
 use Rattle.cni_verbs.specs.CommandWords.{add_refusal, att_of, del_refusal}
 use Rattle.cni_verbs.specs.Questions.{address_question, bridge_by_mac, bridge_questions, cached_share, check_questions, first_interface, lease_question, link_question, master_questions, pool_questions, route_question, rule_questions, setting_question, share_questions, status_questions}
-use Rattle.cni_verbs.specs.Script.{State, AtBegin, ReadingCache, FindingEntry, Over, advance, asking, at_entry, checking, start_of, start_state, unless_old, unless_refused}
+use Rattle.cni_verbs.specs.Script.{State, AtBegin, ReadingCache, FindingEntry, Over, advance, asking, at_entry, checking, start_of, start_state}
 use Rattle.cni_verbs.specs.Wanted.{chained_kinds_reversed, first_kinds, kinds_of, sets_of}
-use Rattle.cni_verbs.specs.declared.answer.Cause.{Cause}
 use Rattle.cni_verbs.specs.declared.answer.Ending.{Ending}
 use Rattle.cni_verbs.specs.declared.answer.Ending.TheVariants.{Yes, Skipped, Refused}
 use Rattle.cni_verbs.specs.declared.answer.Question.{Question}
@@ -38,6 +35,7 @@ use Rattle.pod_workers.specs.World.{World, after, own_replies}
 use Rattle.pod_workers.specs.declared.plan.Entry.{Entry}
 use Rattle.pod_workers.proofs.MostCalls.{adds_in_most_calls}
 use Rattle.pod_workers.proofs.StepsLeft.{IsNoCollection}
+use Rattle.pod_workers.proofs.Replies.{by-either, by-unless, by-unless_old}
 use Rattle.pod_laws.specs.Bounded.{EachAddHasMost, EachChangeIsOneCall, EachRunIsBounded, IsFirst, asked_of, had_after}
 use Rattle.pod_laws.proofs.Bounded.{made-below, made-within, one-call}
 
@@ -119,13 +117,8 @@ pub record StartsIn (most : ℕ) (list : NetList) (c : Command) (s : State) (bou
   pub none : IsNoCollection s
   pub few : (had : Share) → calls_left most list c s had ≤ bound had
 
-start-unless : (most : ℕ) (list : NetList) (c : Command) (o : Option Cause) (s : State) (bound : Share → ℕ) → StartsIn most list c s bound → StartsIn most list c (unless_refused o s) bound
-start-unless most list c None s bound starts = starts
-start-unless most list c (Some cause) s bound starts = record { none = tt; few = λ had. omega arith }
-
-start-unless_old : (most : ℕ) (list : NetList) (c : Command) (v : Version) (s : State) (bound : Share → ℕ) → StartsIn most list c s bound → StartsIn most list c (unless_old v s) bound
-start-unless_old most list c V1_0 s bound starts = record { none = tt; few = λ had. omega arith }
-start-unless_old most list c V1_1 s bound starts = starts
+start-over : (most : ℕ) (list : NetList) (c : Command) (bound : Share → ℕ) (ending : Ending) → StartsIn most list c (Over ending []) bound
+start-over most list c bound ending = record { none = tt; few = λ had. omega arith }
 
 start-asking : (most : ℕ) (list : NetList) (c : Command) (questions : List Question) → StartsIn most list c (asking questions) (λ had. length questions)
 start-asking most list c [] = record { none = tt; few = λ had. omega arith }
@@ -136,22 +129,25 @@ abbrev Starts : ℕ → NetList → Command → Verb → (Share → ℕ) → Typ
 Starts most list c verb bound = StartsIn most list c (start_of list verb c) bound
 
 start-add : (most : ℕ) (list : NetList) (c : Command) → Starts most list c verbs.Add (λ had. 2 * most + length (kinds_of list) + 1)
-start-add most list c = start-unless most list c (add_refusal c) AtBegin (λ had. 2 * most + length (kinds_of list) + 1) (record { none = tt; few = λ had. omega arith })
+start-add most list c =
+    let bound : Share → ℕ = λ had. 2 * most + length (kinds_of list) + 1 in
+    by-unless (λ s. StartsIn most list c s bound) (add_refusal c) AtBegin (λ cause. start-over most list c bound (Refused cause)) (λ none. record { none = tt; few = λ had. omega arith })
 
 start-del : (most : ℕ) (list : NetList) (c : Command) → Starts most list c verbs.Del (λ had. length (kinds_of list) + 1 + deletions_of had)
-start-del most list c = start-unless most list c (del_refusal c) (ReadingCache Yes) (λ had. length (kinds_of list) + 1 + deletions_of had) (record { none = tt; few = λ had. omega arith })
+start-del most list c =
+    let bound : Share → ℕ = λ had. length (kinds_of list) + 1 + deletions_of had in
+    by-unless (λ s. StartsIn most list c s bound) (del_refusal c) (ReadingCache Yes) (λ cause. start-over most list c bound (Refused cause)) (λ none. record { none = tt; few = λ had. omega arith })
 
 start-status : (most : ℕ) (list : NetList) (c : Command) → Starts most list c verbs.Status (λ had. length (status_questions list c))
-start-status most list c = start-unless_old most list c list.version (asking (status_questions list c)) (λ had. length (status_questions list c)) (start-asking most list c (status_questions list c))
-
-start-nothing : (most : ℕ) (list : NetList) (c : Command) → StartsIn most list c (Over Yes []) (λ had. 0)
-start-nothing most list c = record { none = tt; few = λ had. omega arith }
+start-status most list c =
+    let bound : Share → ℕ = λ had. length (status_questions list c) in
+    by-unless_old (λ s. StartsIn most list c s bound) list.version (asking (status_questions list c)) (λ cause. start-over most list c bound (Refused cause)) (start-asking most list c (status_questions list c))
 
 start-outside : (most : ℕ) (list : NetList) (c : Command) (verb : Verb) → is_of_network verb ≡ false → Starts most list c verb (λ had. 0)
-start-outside most list c verbs.NsAdd is = start-nothing most list c
-start-outside most list c verbs.NsDel is = start-nothing most list c
-start-outside most list c verbs.Drop is = start-nothing most list c
-start-outside most list c verbs.Flush is = start-nothing most list c
+start-outside most list c verbs.NsAdd is = start-over most list c (λ had. 0) Yes
+start-outside most list c verbs.NsDel is = start-over most list c (λ had. 0) Yes
+start-outside most list c verbs.Drop is = start-over most list c (λ had. 0) Yes
+start-outside most list c verbs.Flush is = start-over most list c (λ had. 0) Yes
 start-outside most list c _ is = cc
 
 -- ---- a command by its verb
@@ -178,17 +174,11 @@ over-asks : (list : NetList) (c : Command) (ending : Ending) (given : List Addr)
 unfolding advance
 over-asks list c ending given r bound = record { none = tt; few = λ had. omega arith }
 
-asks-if : (list : NetList) (c : Command) (b : Bool) (s t : State) (r : Reply) (bound : ℕ) → AsksIn list c s r bound → AsksIn list c t r bound → AsksIn list c (if b then s else t) r bound
-asks-if list c true s t r bound h g = h
-asks-if list c false s t r bound h g = g
-
-asks-unless : (list : NetList) (c : Command) (o : Option Cause) (s : State) (r : Reply) (bound : ℕ) → AsksIn list c s r bound → AsksIn list c (unless_refused o s) r bound
-asks-unless list c None s r bound h = h
-asks-unless list c (Some cause) s r bound h = over-asks list c (Refused cause) [] r bound
-
 check-asks : (list : NetList) (c : Command) (r : Reply) (bound : ℕ) → AsksIn list c FindingEntry r bound → AsksIn list c (start_of list verbs.Check c) r bound
 check-asks list c r bound h =
-    asks-unless list c (del_refusal c) _ r bound (asks-if list c list.disable_check (Over (Skipped skips.Check) []) FindingEntry r bound (over-asks list c (Skipped skips.Check) [] r bound) h)
+    let over : (ending : Ending) → AsksIn list c (Over ending []) r bound = λ ending. over-asks list c ending [] r bound in
+    by-unless (λ s. AsksIn list c s r bound) (del_refusal c) (if list.disable_check then Over (Skipped skips.Check) [] else FindingEntry) (λ cause. over (Refused cause))
+    (λ none. by-either (λ s. AsksIn list c s r bound) list.disable_check (Over (Skipped skips.Check) []) FindingEntry (over (Skipped skips.Check)) h)
 
 left-asking : (list : NetList) (c : Command) (questions : List Question) (had : Share) → calls_left (most_calls list c) list c (asking questions) had ≤ length questions
 left-asking list c [] had = omega arith

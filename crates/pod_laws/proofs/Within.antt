@@ -1,11 +1,9 @@
 -- An attachment never has objects of a kind that its list's plugins don't name.
-use Rattle.std.proofs.Common.{◌≡◌, ℕ, Bool, true, false, List, [], ◌∷◌, ◌++◌, length, Option, Some, None, refl, sym, ◌∙◌, ap, subst, inl, inr, ◌⊎◌}
-use Rattle.std.proofs.lemmas.Bool.{cases_Bool}
-use Rattle.std.proofs.lemmas.Option.{same_Some, none-some}
-use Rattle.std.specs.Prelude.{filter, find, if◌then◌else◌}
+use Rattle.std.proofs.Common.{◌≡◌, ℕ, Bool, true, false, List, [], ◌∷◌, ◌++◌, length, Some, refl, sym, ◌∙◌, ap, subst, inl, inr}
+use Rattle.std.proofs.lemmas.Bool.{cases_Bool, and_parts}
+use Rattle.std.proofs.lemmas.Option.{same_Some}
+use Rattle.std.specs.Prelude.{filter}
 use Rattle.std.specs.List.{list_all}
-use Rattle.std.specs.Str.{bytes_eq}
-use Rattle.cni_addr.specs.declared.address.Addr.{Addr}
 use Rattle.cni_addr.specs.declared.range.RangeSet.{RangeSet}
 use Rattle.net_conf.specs.declared.list.NetList.{NetList}
 use Rattle.pod_file.specs.declared.command.Command.{Command}
@@ -22,8 +20,6 @@ use Rattle.kernel_types.specs.declared.call.Kind.{Kind}
 use Rattle.kernel_types.specs.declared.call.Kind.TheVariants as kinds
 use Rattle.kernel_types.specs.declared.call.Call.{Call}
 use Rattle.kernel_types.specs.declared.call.Call.TheVariants.{Begin, LeaseNext, CacheGet}
-use Rattle.kernel_types.specs.declared.call.Reply.{Reply}
-use Rattle.kernel_types.specs.declared.call.Reply.TheVariants.{Done, NoNs, NoLink, Taken, Empty, Leased, Gone, Has, Owners, Entry as Kept, Fault}
 use Rattle.plan_words.specs.PlanCalls.{is_plan_call_of}
 use Rattle.plan_words.specs.Share.{share_of, no_objects}
 use Rattle.plan_words.proofs.Deletions.{filter_never}
@@ -36,60 +32,35 @@ use Rattle.cni_verbs.specs.Wanted.{kinds_of, deletion}
 use Rattle.pod_file.specs.WellFormed.{IsOpening}
 use Rattle.pod_workers.specs.Legal.{Legal}
 use Rattle.pod_file.specs.Commands.{is_of_network}
-use Rattle.pod_workers.specs.Plans.{Placed, IsWellFormed, list_for}
+use Rattle.pod_workers.specs.Plans.{Placed, IsWellFormed, list_for, list_named}
 use Rattle.pod_workers.specs.World.{World, after, entry_of, host_of, host_on, own_replies}
 use Rattle.pod_workers.specs.declared.plan.Entry.{Entry}
 use Rattle.pod_workers.specs.declared.plan.Plan.{Plan}
 use Rattle.pod_workers.proofs.Histories.{after-append}
 use Rattle.pod_workers.proofs.Planned.{LeftArePlanned, left-are-planned}
-use Rattle.pod_workers.proofs.Sound.{sound_host}
+use Rattle.pod_workers.proofs.Sound.{sound_host, if-listed}
+use Rattle.pod_workers.proofs.Deletable.{done_or_not, leased_or_not}
 use Rattle.pod_laws.proofs.OfKinds.{has, call_fits, IsWithin, IsWithin-nothing, IsWithin-call, IsWithin-removes, leases-kinds_of, there-or-not}
 use Rattle.pod_laws.proofs.Removes.{removes-deletion}
-use Rattle.pod_laws.proofs.States.{LeftFit, asks, head_fits, is_question, left-fit, question-leaves}
+use Rattle.pod_laws.proofs.States.{LeftFit, is_question, left-fit, question-leaves, asked-is_question}
 use Rattle.pod_laws.proofs.Steps.{Changes, GoesOn, by-entries, on-entry}
 use Rattle.pod_laws.proofs.Turns.{AsksOrCollects, removes-changed, turn-of, work-turn}
 
 -- ---- what a run's own call makes stays within its list's kinds
-
-pub done-or-not : (r : Reply) → (r ≡ Done) ⊎ (r ≡ Done → ⊥)
-done-or-not Done = inl refl
-done-or-not NoNs = inr (λ e. cc)
-done-or-not NoLink = inr (λ e. cc)
-done-or-not (Taken tag) = inr (λ e. cc)
-done-or-not Empty = inr (λ e. cc)
-done-or-not (Leased addr) = inr (λ e. cc)
-done-or-not (Gone gone) = inr (λ e. cc)
-done-or-not (Has has) = inr (λ e. cc)
-done-or-not (Owners owners) = inr (λ e. cc)
-done-or-not (Kept cached) = inr (λ e. cc)
-done-or-not Fault = inr (λ e. cc)
-
-pub leased-or-not : (r : Reply) → ((a : Addr) × (r ≡ Leased a)) ⊎ ((a : Addr) → r ≡ Leased a → ⊥)
-leased-or-not (Leased addr) = inl (addr, refl)
-leased-or-not Done = inr (λ a e. cc)
-leased-or-not NoNs = inr (λ a e. cc)
-leased-or-not NoLink = inr (λ a e. cc)
-leased-or-not (Taken tag) = inr (λ a e. cc)
-leased-or-not Empty = inr (λ a e. cc)
-leased-or-not (Gone gone) = inr (λ a e. cc)
-leased-or-not (Has has) = inr (λ a e. cc)
-leased-or-not (Owners owners) = inr (λ a e. cc)
-leased-or-not (Kept cached) = inr (λ a e. cc)
-leased-or-not Fault = inr (λ a e. cc)
 
 abbrev AfterCall : Att → Host → List Kind → Call → Type 0
 AfterCall att k ks call = IsWithin ks (share_of att (apply k call).0)
 
 within-plan : (att : Att) (k : Host) (ks : List Kind) (call : Call) → is_plan_call_of att call ≡ true → call_fits ks call ≡ true → IsWithin ks (share_of att k) → AfterCall att k ks call
 within-plan att k ks call own fits w =
-    elim (done-or-not (apply k call).1) [
+    elim (done_or_not (apply k call).1) [
       | inl done ↦ subst (IsWithin ks) (sym (share-own att k call own done)) (IsWithin-call ks (share_of att k) call fits w)
       | inr not ↦ subst (λ h. IsWithin ks (share_of att h)) (sym (refused-same att k call own not)) w
     ]
 
 within-lease : (att : Att) (k : Host) (ks : List Kind) (number : ℕ) (set : RangeSet) → has kinds.Leases ks ≡ true → IsWithin ks (share_of att k) → AfterCall att k ks (LeaseNext att number set)
 within-lease att k ks number set there w =
-    elim (leased-or-not (apply k (LeaseNext att number set)).1) [
+    elim (leased_or_not (apply k (LeaseNext att number set)).1) [
       | inl leased ↦
           subst (IsWithin ks) (sym (share-lease att k number set leased.0 leased.1))
           (record { links = w.links; rules = w.rules; settings = w.settings; leases = λ g. there-or-not (has kinds.Leases ks) there g; cached = w.cached })
@@ -108,41 +79,33 @@ unfolding turn
 within-turn list c AtBegin k call left fit sound is w = subst (AfterCall (att_of c) k (kinds_of list)) (let e : Begin (att_of c) c.netns ≡ call = cc in e) w
 within-turn list c (BeforeLeases x xs) k call left fit sound is w =
     subst (AfterCall (att_of c) k (kinds_of list)) (let e : x ≡ call = cc in e)
-    (within-plan (att_of c) k (kinds_of list) x left.0.0.0 (head_fits (call_fits (kinds_of list) x) (list_all (call_fits (kinds_of list)) xs) fit) w)
+    (within-plan (att_of c) k (kinds_of list) x left.0.0.0 (and_parts (call_fits (kinds_of list) x) (list_all (call_fits (kinds_of list)) xs) fit).0 w)
 within-turn list c (Leasing set sets given) k call left fit sound is w =
     subst (AfterCall (att_of c) k (kinds_of list)) (let e : LeaseNext (att_of c) (length given) set ≡ call = cc in e)
     (within-lease (att_of c) k (kinds_of list) (length given) set (leases-kinds_of list left.0.0 sets set left.0.1) w)
 within-turn list c (AfterLeases x xs given) k call left fit sound is w =
     subst (AfterCall (att_of c) k (kinds_of list)) (let e : x ≡ call = cc in e)
-    (within-plan (att_of c) k (kinds_of list) x left.0.0 (head_fits (call_fits (kinds_of list) x) (list_all (call_fits (kinds_of list)) xs) fit) w)
+    (within-plan (att_of c) k (kinds_of list) x left.0.0 (and_parts (call_fits (kinds_of list) x) (list_all (call_fits (kinds_of list)) xs) fit).0 w)
 within-turn list c (ReadingCache ending) k call left fit sound is w = subst (AfterCall (att_of c) k (kinds_of list)) (let e : CacheGet (att_of c) ≡ call = cc in e) w
 within-turn list c (Deleting kind ks ending) k call left fit sound is w =
     subst (AfterCall (att_of c) k (kinds_of list)) (let e : deletion (att_of c) kind ≡ call = cc in e)
     (IsWithin-removes (att_of c) (kinds_of list) k (apply k (deletion (att_of c) kind)).0 (removes-deletion (att_of c) k kind sound) w)
 within-turn list c FindingEntry k call left fit sound is w = subst (AfterCall (att_of c) k (kinds_of list)) (let e : CacheGet (att_of c) ≡ call = cc in e) w
 within-turn list c (Asking q qs) k call left fit sound is w =
-    within-aside (att_of c) c k (kinds_of list) call sound (inl (subst (λ j. is_question j ≡ true) (let e : q.call ≡ call = cc in e) (head_fits (asks q) (list_all asks qs) fit))) w
+    within-aside (att_of c) c k (kinds_of list) call sound (inl (subst (λ j. is_question j ≡ true) (let e : q.call ≡ call = cc in e) (asked-is_question list q.call fit.0))) w
 within-turn list c (Changing change) k call left fit sound is w = absurd fit
 within-turn list c (Collecting work faults) k call left fit sound is w = within-aside (att_of c) c k (kinds_of list) call sound (work-turn c work.jobs work.sweeps faults call fit is) w
 within-turn list c (Over ending given) k call left fit sound is w = cc
 
 -- ---- every history
 
--- the list of a network
-abbrev list_of : Plan → List ℕ → Option NetList
-list_of p network = find (λ l. bytes_eq l.name network) p.lists
-
 -- each attachment of a list's network has objects of the list's kinds alone
 abbrev AllWithin : Plan → List Entry → Type 0
-AllWithin p h = (att : Att) (list : NetList) → list_of p att.network ≡ Some list → IsWithin (kinds_of list) (share_of att (after p.pods.opening h))
+AllWithin p h = (att : Att) (list : NetList) → list_named p.lists att.network ≡ Some list → IsWithin (kinds_of list) (share_of att (after p.pods.opening h))
 
-if-listed : (b : Bool) (o : Option NetList) (list : NetList) → (if b then o else None) ≡ Some list → o ≡ Some list
-if-listed true o list is = is
-if-listed false o list is = absurd (none-some list is)
-
-list_of-listed : (p : Plan) (c : Command) (list : NetList) → list_for p c ≡ Some list → list_of p c.network ≡ Some list
+list_named-listed : (p : Plan) (c : Command) (list : NetList) → list_for p c ≡ Some list → list_named p.lists c.network ≡ Some list
 unfolding list_for
-list_of-listed p c list is = if-listed (is_of_network c.verb) (list_of p c.network) list is
+list_named-listed p c list is = if-listed (is_of_network c.verb) (list_named p.lists c.network) list is
 
 outside-unowned : (att : Att) (t : Tag) → tag_eq t tags.Outside ≡ true → is_own att t ≡ false
 outside-unowned att tags.Outside h = refl
@@ -184,12 +147,12 @@ within-other w n c list call faulty att ks on apart was =
 within-kept : (w : World) (n : ℕ) (c : Placed) (list : NetList) (call : Call) (faulty : Bool) → GoesOn w n c list call faulty → AllWithin w.plan w.history → AllWithin w.plan (w.history ++ entry_of (host_of w) n call faulty ∷ [])
 within-kept w n c list call faulty on was = λ att other listed.
     let e = entry_of (host_of w) n call faulty in
-    let found : list_of w.plan (att_of c.command).network ≡ Some list = list_of-listed w.plan c.command list on.listed in
+    let found : list_named w.plan.lists (att_of c.command).network ≡ Some list = list_named-listed w.plan c.command list on.listed in
     subst (λ k. IsWithin (kinds_of other) (share_of att k)) (sym (after-append w.plan.pods.opening w.history e))
     (elim (cases_Bool (att_eq (att_of c.command) att)) [
       | inl same ↦
           let atts : att_of c.command ≡ att = att_eq-same (att_of c.command) att same in
-          let lists : list ≡ other = same_Some list other (sym found ∙ ap (λ (a : Att). list_of w.plan a.network) atts ∙ listed) in
+          let lists : list ≡ other = same_Some list other (sym found ∙ ap (λ (a : Att). list_named w.plan.lists a.network) atts ∙ listed) in
           let mine = within-mine w n c list call faulty on (was (att_of c.command) list found) in
           subst (λ a. IsWithin (kinds_of other) (share_of a (host_on (host_of w) e))) atts (subst (λ l. IsWithin (kinds_of l) (share_of (att_of c.command) (host_on (host_of w) e))) lists mine)
       | inr apart ↦ within-other w n c list call faulty att (kinds_of other) on apart (was att other listed)
@@ -207,4 +170,4 @@ all-within w legal = by-entries AllWithin within-start within-kept within-change
 -- so it is after one entry more
 pub within-entered : (w : World) (n : ℕ) (c : Placed) (list : NetList) (call : Call) (faulty : Bool) → GoesOn w n c list call faulty
     → IsWithin (kinds_of list) (share_of (att_of c.command) (host_on (host_of w) (entry_of (host_of w) n call faulty)))
-within-entered w n c list call faulty on = within-mine w n c list call faulty on (all-within w on.legal (att_of c.command) list (list_of-listed w.plan c.command list on.listed))
+within-entered w n c list call faulty on = within-mine w n c list call faulty on (all-within w on.legal (att_of c.command) list (list_named-listed w.plan c.command list on.listed))

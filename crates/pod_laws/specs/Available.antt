@@ -1,5 +1,5 @@
 -- What a STATUS is answered (CNI specification, section 3, "Status").
-use Rattle.std.specs.Prelude.{◌≡◌, ℕ, ◌&&◌, Bool, true, false, List, [], length, Some, slice_get}
+use Rattle.std.specs.Prelude.{◌≡◌, ℕ, ◌&&◌, Bool, true, false, List, [], Some, slice_get}
 use Rattle.std.specs.List.{list_any, list_all}
 use Rattle.cni_result.specs.declared.version.Version.{Version}
 use Rattle.cni_result.specs.declared.version.Version.TheVariants.{V1_0, V1_1}
@@ -9,7 +9,7 @@ use Rattle.cni_verbs.specs.Wanted.{sets_of}
 use Rattle.cni_verbs.specs.declared.answer.Answer.{Answer}
 use Rattle.cni_verbs.specs.declared.answer.Cause.TheVariants as causes
 use Rattle.cni_verbs.specs.declared.answer.Ending.{Ending}
-use Rattle.cni_verbs.specs.declared.answer.Ending.TheVariants.{Yes, Refused}
+use Rattle.cni_verbs.specs.declared.answer.Ending.TheVariants.{Refused}
 use Rattle.cni_verbs.specs.declared.answer.Question.{Question}
 use Rattle.ip_pool.specs.Pool.{has_free_of}
 use Rattle.kernel_types.specs.Apply.Calls.{is_free_master, leased_addresses}
@@ -23,9 +23,9 @@ use Rattle.pod_workers.specs.Legal.{Legal}
 use Rattle.pod_workers.specs.Plans.{Placed, commands_of, list_for}
 use Rattle.pod_workers.specs.World.{World}
 use Rattle.pod_workers.specs.declared.plan.Entry.{Entry}
-use Rattle.pod_laws.specs.Changed.{is_cut_off}
 use Rattle.pod_laws.specs.Granted.{IsFirstDenied}
 use Rattle.pod_laws.specs.Moments.{has_fault, host_at_end, own_entries}
+use Rattle.pod_laws.specs.Answers.{is_cut_off, EndsByFault, EndsByTest}
 
 -- the master of `macvlan` is a link of the host that no attachment owns
 abbrev pub has_master_of : Host → First → Bool
@@ -44,19 +44,10 @@ pub record LacksService (list : NetList) (c : Command) (host : Host) (ending : E
   pub code : code_of question.lack ≡ 50
   pub ending_is : ending ≡ Refused question.lack
 
-abbrev pub EndsByService : NetList → Command → Host → Bool → Ending → Type 0
-EndsByService list c host true ending = ending ≡ Yes
-EndsByService list c host false ending = LacksService list c host ending
-
--- a fault is its last entry (code 103)
-abbrev pub EndsByFault : NetList → Command → List Entry → Host → Bool → Ending → Type 0
-EndsByFault list c entries host true ending = ending ≡ Refused (causes.Fault (length entries))
-EndsByFault list c entries host false ending = EndsByService list c host (is_available list c host) ending
-
 -- how a STATUS ends: a list of an older version has no such verb (code 1), and else by a fault, or by what the host has to give
 abbrev pub EndsStatus : NetList → Command → List Entry → Host → Version → Ending → Type 0
 EndsStatus list c entries host V1_0 ending = (entries ≡ []) × (ending ≡ Refused (causes.TooOld V1_0))
-EndsStatus list c entries host V1_1 ending = EndsByFault list c entries host (has_fault entries) ending
+EndsStatus list c entries host V1_1 ending = EndsByFault entries (has_fault entries) ending (EndsByTest (is_available list c host) ending (LacksService list c host ending))
 
 -- with the host at its last entry, which is the one at its first: it stands alone in its round
 abbrev pub WasAvailable : Type 0

@@ -1,5 +1,5 @@
 -- What a VERSION is answered (CNI specification, section 3, "Version"), and what a change of the world outside is.
-use Rattle.std.specs.Prelude.{◌≡◌, ℕ, Bool, true, false, List, [], ◌∷◌, Option, Some, None, slice_get, option_map}
+use Rattle.std.specs.Prelude.{◌≡◌, ℕ, true, false, List, [], ◌∷◌, Option, Some, None, slice_get, option_map}
 use Rattle.cni_result.specs.declared.version.Version.TheVariants.{V1_1}
 use Rattle.cni_verbs.specs.Answers.{error_of}
 use Rattle.cni_verbs.specs.CommandWords.{netns_refusal, drop_refusal}
@@ -22,16 +22,7 @@ use Rattle.pod_workers.specs.Plans.{Placed, commands_of, list_for}
 use Rattle.pod_workers.specs.World.{World}
 use Rattle.pod_workers.specs.declared.plan.Entry.{Entry}
 use Rattle.pod_laws.specs.Moments.{own_entries}
-
--- the book gave the answer without the script: memory was refused, or the command was stopped
-abbrev pub is_cut_off : Answer → Bool
-is_cut_off (answers.Added r) = false
-is_cut_off answers.Yes = false
-is_cut_off (answers.Skipped verb) = false
-is_cut_off (answers.Versions version) = false
-is_cut_off (answers.Refused error) = false
-is_cut_off answers.OutOfMemory = true
-is_cut_off (answers.Stopped calls) = true
+use Rattle.pod_laws.specs.Answers.{is_cut_off}
 
 -- ---- VERSION
 

@@ -1,5 +1,5 @@
 -- What a CHECK is answered (CNI specification, section 3, "Checking attachment").
-use Rattle.std.specs.Prelude.{◌≡◌, ℕ, ◌&&◌, Bool, true, false, List, [], ◌∷◌, length, find, Option, Some, None, option_map, slice_get}
+use Rattle.std.specs.Prelude.{◌≡◌, ℕ, ◌&&◌, Bool, true, false, List, [], ◌∷◌, find, Option, Some, None, option_map, slice_get}
 use Rattle.std.specs.List.{list_any, list_all}
 use Rattle.cni_addr.specs.declared.mac.Mac.{Mac}
 use Rattle.cni_result.specs.declared.cached.Cached.{Cached}
@@ -11,7 +11,7 @@ use Rattle.cni_verbs.specs.declared.answer.Answer.{Answer}
 use Rattle.cni_verbs.specs.declared.answer.Cause.{Cause}
 use Rattle.cni_verbs.specs.declared.answer.Cause.TheVariants as causes
 use Rattle.cni_verbs.specs.declared.answer.Ending.{Ending}
-use Rattle.cni_verbs.specs.declared.answer.Ending.TheVariants.{Yes, Skipped, Refused}
+use Rattle.cni_verbs.specs.declared.answer.Ending.TheVariants.{Skipped, Refused}
 use Rattle.cni_verbs.specs.declared.answer.Missed.{Missed}
 use Rattle.cni_verbs.specs.declared.answer.Question.{Question}
 use Rattle.cni_verbs.specs.declared.answer.Skip.TheVariants as skips
@@ -29,9 +29,9 @@ use Rattle.pod_workers.specs.Legal.{Legal}
 use Rattle.pod_workers.specs.Plans.{Placed, commands_of, list_for}
 use Rattle.pod_workers.specs.World.{World}
 use Rattle.pod_workers.specs.declared.plan.Entry.{Entry}
-use Rattle.pod_laws.specs.Changed.{is_cut_off}
 use Rattle.pod_laws.specs.Granted.{IsFirstDenied}
 use Rattle.pod_laws.specs.Moments.{has_fault, host_at_end, own_entries}
+use Rattle.pod_laws.specs.Answers.{is_cut_off, EndsByFault, EndsByTest}
 
 -- ---- what the host holds
 
@@ -81,24 +81,15 @@ pub record LacksObject (list : NetList) (c : Command) (cached : Cached) (host : 
   pub lack : question.lack ≡ causes.Missing what
   pub ending_is : ending ≡ Refused (causes.Missing what)
 
-abbrev pub EndsByHolding : NetList → Command → Cached → Host → Bool → Ending → Type 0
-EndsByHolding list c cached host true ending = ending ≡ Yes
-EndsByHolding list c cached host false ending = LacksObject list c cached host ending
-
 -- with no cached entry the attachment is unknown (code 3)
 abbrev pub EndsByEntry : NetList → Command → Host → Option Cached → Ending → Type 0
 EndsByEntry list c host None ending = ending ≡ Refused causes.Unknown
-EndsByEntry list c host (Some cached) ending = EndsByHolding list c cached host (holds_cached list c cached host) ending
-
--- a fault is its last entry (code 103)
-abbrev pub EndsByFault : NetList → Command → List Entry → Host → Bool → Ending → Type 0
-EndsByFault list c entries host true ending = ending ≡ Refused (causes.Fault (length entries))
-EndsByFault list c entries host false ending = EndsByEntry list c host (cached_in host (att_of c)) ending
+EndsByEntry list c host (Some cached) ending = EndsByTest (holds_cached list c cached host) ending (LacksObject list c cached host ending)
 
 -- the list may disable it (`disableCheck`)
 abbrev pub EndsByList : NetList → Command → List Entry → Host → Bool → Ending → Type 0
 EndsByList list c entries host true ending = (entries ≡ []) × (ending ≡ Skipped skips.Check)
-EndsByList list c entries host false ending = EndsByFault list c entries host (has_fault entries) ending
+EndsByList list c entries host false ending = EndsByFault entries (has_fault entries) ending (EndsByEntry list c host (cached_in host (att_of c)) ending)
 
 -- how a CHECK ends: by its words, by the list, by a fault, and else by what the host holds
 abbrev pub EndsCheck : NetList → Command → List Entry → Host → Option Cause → Ending → Type 0

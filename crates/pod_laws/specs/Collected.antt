@@ -18,8 +18,8 @@ use Rattle.pod_workers.specs.Legal.{Legal}
 use Rattle.pod_workers.specs.Plans.{Placed, commands_of, list_for}
 use Rattle.pod_workers.specs.World.{World}
 use Rattle.pod_workers.specs.declared.plan.Entry.{Entry}
-use Rattle.pod_laws.specs.Changed.{is_cut_off}
 use Rattle.pod_laws.specs.Moments.{has_fault, host_at_end, host_at_start, own_entries}
+use Rattle.pod_laws.specs.Answers.{is_cut_off}
 
 abbrev pub made_of : Entry → Made
 made_of e = record { call = e.call; reply = e.reply }

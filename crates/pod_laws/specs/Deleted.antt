@@ -1,5 +1,5 @@
 -- What a DEL leaves (CNI specification, section 3, "Deleting an attachment").
-use Rattle.std.specs.Prelude.{◌≡◌, ℕ, ◌+◌, ◌⊎◌, false, List, [], ◌∷◌, ◌++◌, length, Some, None, slice_get}
+use Rattle.std.specs.Prelude.{◌≡◌, ℕ, ◌+◌, ◌⊎◌, false, List, [], ◌∷◌, ◌++◌, length, Some, None, slice_get, true}
 use Rattle.cni_result.specs.declared.error.CniError.{CniError}
 use Rattle.cni_verbs.specs.Answers.{error_of}
 use Rattle.cni_verbs.specs.CommandWords.{att_of, del_refusal}
@@ -20,6 +20,7 @@ use Rattle.pod_workers.specs.Plans.{Placed, commands_of, list_for}
 use Rattle.pod_workers.specs.World.{World, after}
 use Rattle.pod_workers.specs.declared.plan.Entry.{Entry}
 use Rattle.pod_laws.specs.Moments.{has_fault, host_at_end, own_entries}
+use Rattle.pod_laws.specs.Answers.{IsRefusal, is_cut_off}
 
 -- its words were good and no entry was a fault, and nothing of the attachment is left at its last entry
 pub record HasDeleted (c : Command) (entries : List Entry) (objects : Share) : Type 0 where
@@ -54,30 +55,18 @@ WasNotDeleted = (w : World) → Legal w → (n : ℕ) (c : Placed) (list : NetLi
     → slice_get (commands_of w.plan) n ≡ Some c → list_for w.plan c.command ≡ Some list → c.command.verb ≡ verbs.Del → slice_get w.answers n ≡ Some (Some (answers.Refused error))
     → (cause : Cause) × (error ≡ error_of list.version c.command cause) × (IsUndeletedByWords c.command (own_entries n w.history) cause ⊎ IsUndeletedByFault c.command (own_entries n w.history) cause)
 
--- a DEL is answered Yes, a refusal, want of memory, or that it was stopped
+-- a DEL is answered Yes or a refusal, unless memory was refused or it was stopped
+abbrev pub IsYesOrCutOff : Answer → Type 0
+IsYesOrCutOff a = (a ≡ answers.Yes) ⊎ (is_cut_off a ≡ true)
+
 abbrev pub IsAnswerOfDel : Answer → Type 0
-IsAnswerOfDel (answers.Added r) = ⊥
-IsAnswerOfDel answers.Yes = Unit {0}
-IsAnswerOfDel (answers.Skipped verb) = ⊥
-IsAnswerOfDel (answers.Versions version) = ⊥
-IsAnswerOfDel (answers.Refused error) = Unit {0}
-IsAnswerOfDel answers.OutOfMemory = Unit {0}
-IsAnswerOfDel (answers.Stopped calls) = Unit {0}
+IsAnswerOfDel a = IsYesOrCutOff a ⊎ IsRefusal a
 
 abbrev pub AnswersOfDel : Type 0
 AnswersOfDel = (w : World) → Legal w → (n : ℕ) (c : Placed) (a : Answer)
     → slice_get (commands_of w.plan) n ≡ Some c → c.command.verb ≡ verbs.Del → slice_get w.answers n ≡ Some (Some a) → IsAnswerOfDel a
 
--- a DEL with good words and no fault is answered Yes, unless memory was refused or it was stopped
-abbrev pub IsYesOrCutOff : Answer → Type 0
-IsYesOrCutOff (answers.Added r) = ⊥
-IsYesOrCutOff answers.Yes = Unit {0}
-IsYesOrCutOff (answers.Skipped verb) = ⊥
-IsYesOrCutOff (answers.Versions version) = ⊥
-IsYesOrCutOff (answers.Refused error) = ⊥
-IsYesOrCutOff answers.OutOfMemory = Unit {0}
-IsYesOrCutOff (answers.Stopped calls) = Unit {0}
-
+-- one with good words and no fault is answered Yes
 abbrev pub CalmIsDeleted : Type 0
 CalmIsDeleted = (w : World) → Legal w → (n : ℕ) (c : Placed) (a : Answer)
     → slice_get (commands_of w.plan) n ≡ Some c → c.command.verb ≡ verbs.Del → del_refusal c.command ≡ None → has_fault (own_entries n w.history) ≡ false → slice_get w.answers n ≡ Some (Some a) → IsYesOrCutOff a

@@ -1,4 +1,5 @@
 pub mod Added
+pub mod Answers
 pub mod Apart
 pub mod AskedFor
 pub mod Available

@@ -3,6 +3,7 @@ use Rattle.std.specs.Prelude.{◌≡◌, ◌≢◌, ℕ, ◌+◌, ◌⊎◌, Boo
 use Rattle.std.specs.List.{list_all}
 use Rattle.cni_addr.specs.declared.range.RangeSet.{RangeSet}
 use Rattle.cni_result.specs.declared.error.CniError.{CniError}
+use Rattle.cni_result.specs.declared.result.AddResult.{AddResult}
 use Rattle.cni_verbs.specs.Answers.{error_of}
 use Rattle.cni_verbs.specs.CommandWords.{add_refusal, att_of}
 use Rattle.cni_verbs.specs.declared.answer.Answer.{Answer}
@@ -26,6 +27,7 @@ use Rattle.pod_workers.specs.Plans.{Placed, commands_of, list_for}
 use Rattle.pod_workers.specs.World.{World, host_on}
 use Rattle.pod_workers.specs.declared.plan.Entry.{Entry}
 use Rattle.pod_laws.specs.Moments.{has_fault, host_at_end, own_entries}
+use Rattle.pod_laws.specs.Answers.{IsRefusal, is_cut_off}
 
 -- ---- the first refusal
 
@@ -101,31 +103,19 @@ BeginLeavesTheHost = (host : Host) (att : Att) (netns : List ℕ) (n : ℕ) (rep
 
 -- ---- all answers
 
--- An ADD is answered a result, a refusal, want of memory, or that it was stopped. So one that was neither refused memory
--- nor stopped is refused exactly where its words or an entry refuse it.
+-- An ADD is answered a result or a refusal, unless memory was refused or it was stopped. So one that was neither refused
+-- memory nor stopped is refused exactly where its words or an entry refuse it.
+abbrev pub IsResultOrCutOff : Answer → Type 0
+IsResultOrCutOff a = ((result : AddResult) × (a ≡ answers.Added result)) ⊎ (is_cut_off a ≡ true)
+
 abbrev pub IsAnswerOfAdd : Answer → Type 0
-IsAnswerOfAdd (answers.Added r) = Unit {0}
-IsAnswerOfAdd answers.Yes = ⊥
-IsAnswerOfAdd (answers.Skipped verb) = ⊥
-IsAnswerOfAdd (answers.Versions version) = ⊥
-IsAnswerOfAdd (answers.Refused error) = Unit {0}
-IsAnswerOfAdd answers.OutOfMemory = Unit {0}
-IsAnswerOfAdd (answers.Stopped calls) = Unit {0}
+IsAnswerOfAdd a = IsResultOrCutOff a ⊎ IsRefusal a
 
 abbrev pub AnswersOfAdd : Type 0
 AnswersOfAdd = (w : World) → Legal w → (n : ℕ) (c : Placed) (a : Answer)
     → slice_get (commands_of w.plan) n ≡ Some c → c.command.verb ≡ verbs.Add → slice_get w.answers n ≡ Some (Some a) → IsAnswerOfAdd a
 
--- an ADD with good words and no refusing entry is answered a result, unless memory was refused or it was stopped
-abbrev pub IsResultOrCutOff : Answer → Type 0
-IsResultOrCutOff (answers.Added r) = Unit {0}
-IsResultOrCutOff answers.Yes = ⊥
-IsResultOrCutOff (answers.Skipped verb) = ⊥
-IsResultOrCutOff (answers.Versions version) = ⊥
-IsResultOrCutOff (answers.Refused error) = ⊥
-IsResultOrCutOff answers.OutOfMemory = Unit {0}
-IsResultOrCutOff (answers.Stopped calls) = Unit {0}
-
+-- one with good words and no refusing entry is answered a result
 abbrev pub UnrefusedIsAdded : Type 0
 UnrefusedIsAdded = (w : World) → Legal w → (n : ℕ) (c : Placed) (a : Answer)
     → slice_get (commands_of w.plan) n ≡ Some c → c.command.verb ≡ verbs.Add → add_refusal c.command ≡ None → list_all lets_go_on (own_entries n w.history) ≡ true → slice_get w.answers n ≡ Some (Some a) → IsResultOrCutOff a

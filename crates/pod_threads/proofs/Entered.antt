@@ -1,7 +1,7 @@
 -- A step under the lock goes on from the book that went in, and is counted.
 use Rattle.std.proofs.Common.{◌≡◌, ℕ, ◌+◌, Result, Ok, Err, IfOk, length, Some, slice_get, sym, ◌∙◌, ap, arith}
+use Rattle.std.proofs.lemmas.List.{length_push}
 use Rattle.cni_addr.specs.declared.memory.NoMemory.{NoMemory}
-use Rattle.pod_workers.proofs.Histories.{length-append_one}
 use Rattle.pod_workers.proofs.RoundDone.{IsStepped, extends_trans, step_extends}
 use Rattle.pod_workers.specs.Extends.{Extends}
 use Rattle.pod_workers.specs.Plans.{Placed, commands_of}
@@ -22,7 +22,7 @@ EndsAs r v number = IfOk r (λ end. (n : ℕ) (c : Placed) → number ≡ n + 1 
 
 done_entries : (v : World) (n : ℕ) (x : Next) → length (done v n x).history ≡ length v.history + entries_by (end_of x)
 done_entries v n (next.Answer a) = omega arith
-done_entries v n (next.Call call faulty) = length-append_one v.history (entry_of (host_of v) n call faulty)
+done_entries v n (next.Call call faulty) = length_push v.history (entry_of (host_of v) n call faulty)
 
 step_entries : (r : Result StepEnd NoMemory) (v w : World) (number : ℕ) → IsReadyNumber v number → IsStepped r v w number → EndsAs r v number → length w.history ≡ length v.history + made_by r
 step_entries (Ok end) v w number ready is ends =

@@ -1,9 +1,10 @@
 -- Each answer of a legal world is its script's, a stop, or want of memory.
 use Rattle.std.proofs.Common.{◌≡◌, ◌≢◌, ℕ, ◌+◌, ◌-◌, ◌≤◌, ◌==◌, Bool, true, false, List, [], ◌∷◌, ◌++◌, length, Option, Some, None, slice_get, slice_set, refl, sym, ◌∙◌, ap, subst, inl, inr, ◌⊎◌, arith}
-use Rattle.std.specs.Prelude.{if◌then◌else◌, ◌||◌, ◌&&◌}
-use Rattle.std.proofs.lemmas.List.{append_assoc}
+use Rattle.std.specs.Prelude.{if◌then◌else◌, ◌||◌}
+use Rattle.std.proofs.lemmas.List.{append_assoc, length_push}
 use Rattle.std.proofs.lemmas.Option.{same_Some, none-some, slice_get_within}
 use Rattle.std.proofs.lemmas.Bool.Decides.{eqb_tells, nat_tests}
+use Rattle.std.proofs.lemmas.Bool.{and_parts, eqb-true}
 use Rattle.cni_verbs.specs.Progress.{turn_by, answer_by}
 use Rattle.cni_verbs.specs.Script.{Turn, Calls, Finishes, Finish}
 use Rattle.cni_verbs.specs.declared.answer.Answer.{Answer}
@@ -11,7 +12,7 @@ use Rattle.cni_verbs.specs.declared.answer.Answer.TheVariants.{OutOfMemory, Stop
 use Rattle.kernel_types.specs.declared.call.Call.{Call}
 use Rattle.net_conf.specs.declared.list.NetList.{NetList}
 use Rattle.pod_file.specs.declared.command.Command.{Command}
-use Rattle.pod_workers.specs.Facts.{EachFollows, EntryIsInRound, IsScripts, IsStopped, AnswerIsDue}
+use Rattle.pod_workers.specs.Facts.{EachFollows, EntryIsInRound, IsScripts, IsStopped, AnswerIsDue, IsDue}
 use Rattle.pod_workers.specs.Legal.{Legal, begins, steps, refused_memory, turns}
 use Rattle.pod_workers.specs.Plans.{Placed, commands_of, list_for}
 use Rattle.pod_workers.specs.World.{World, IsReady, own_replies, host_of, is_faulty, is_stop, is_cut, is_cut_at, is_in_round, last_entry, done, answered, with_entry, entry_of, next_of, next_by}
@@ -20,16 +21,9 @@ use Rattle.pod_workers.specs.declared.plan.Entry.{Entry}
 use Rattle.pod_workers.specs.declared.plan.Next.{Next}
 use Rattle.pod_workers.specs.declared.plan.Next.TheVariants as next
 use Rattle.pod_workers.proofs.Facts.{each_follows, keeps_stop}
-use Rattle.pod_workers.proofs.Histories.{slice_get-set_same, slice_get-set_other, replies_of-other, last_entry-splits, length-append_one}
+use Rattle.pod_workers.proofs.Histories.{slice_get-set_same, slice_get-set_other, replies_of-other, last_entry-splits}
 
 -- ---- a cut
-
-and-true : (a b : Bool) → (a && b) ≡ true → (a ≡ true) × (b ≡ true)
-and-true true b h = (refl, h)
-and-true false b h = absurd cc
-
-same_number : (a b : ℕ) → (a == b) ≡ true → a ≡ b
-same_number a b is = grind (arith, nat_tests)
 
 -- a cut world's last entry is the one that `stop_at` names, and it is of the current round
 pub cut_stands : (w : World) (stop : Option ℕ) (last : Option Entry) → EachFollows w.plan w.history → last_entry w.history ≡ last → is_cut_at stop w last ≡ true
@@ -37,7 +31,7 @@ pub cut_stands : (w : World) (stop : Option ℕ) (last : Option Entry) → EachF
 cut_stands w None last each is cut = absurd (let t : false ≡ true = cut in cc)
 cut_stands w (Some number) None each is cut = absurd (let t : false ≡ true = cut in cc)
 cut_stands w (Some number) (Some e) each is cut =
-    let both = and-true (length w.history == number) (is_in_round w.round (slice_get (commands_of w.plan) (e.command - 1))) cut in
+    let both = and_parts (length w.history == number) (is_in_round w.round (slice_get (commands_of w.plan) (e.command - 1))) cut in
     let split = last_entry-splits w.history e is in
     let follows = each split.0 [] e split.1 in
     let own = follows.number in
@@ -50,9 +44,9 @@ cut_stands w (Some number) (Some e) each is cut =
       follows.place,
       follows.by,
       split.1,
-      sym (ap length split.1 ∙ length-append_one split.0 e) ∙ same_number (length w.history) number both.0,
+      sym (ap length split.1 ∙ length_push split.0 e) ∙ eqb-true (length w.history) number both.0,
       record { number = follows.number; there = follows.there },
-      same_number follows.by.round w.round here,
+      eqb-true follows.by.round w.round here,
     )
 
 pub stands-append : (p : Plan) (h : List Entry) (x : Entry) (stop : Option ℕ) (round : ℕ) → EntryIsInRound p h stop round → EntryIsInRound p (h ++ x ∷ []) stop round
@@ -104,8 +98,8 @@ due_now v n c a legal ready is =
       )
     ]
 
-abbrev IsDue : World → ℕ → Placed → Answer → Type 0
-IsDue w n c a = IsScripts w n c a ⊎ (IsStopped w n c a ⊎ (a ≡ OutOfMemory))
+pub at_own_stop : (o : Option ℕ) (made : ℕ) → o ≡ Some made → is_stop o made ≡ true
+at_own_stop o made is = ap (λ (s : Option ℕ). is_stop s made) is ∙ grind (arith, nat_tests)
 
 due_answered : (v : World) (n : ℕ) (c : Placed) (b : Answer) → AnswerIsDue v → IsReady v n c → IsDue v n c b → AnswerIsDue (answered v n b)
 due_answered v n c b due ready why = λ m a d at there. elim (eqb_tells m n) [

@@ -4,6 +4,7 @@ use Rattle.std.specs.Prelude.{filter, find, not}
 use Rattle.std.specs.List.{cons_option, filter_map, list_any}
 use Rattle.std.proofs.lemmas.List.{length-map}
 use Rattle.std.proofs.lemmas.Option.{same_Some, none-some}
+use Rattle.net_conf.specs.Sets.{one_if}
 use Rattle.kernel_types.specs.Apply.{apply}
 use Rattle.kernel_types.specs.Apply.Calls.{goes_with, owner_in, tags_of, without_link}
 use Rattle.kernel_types.specs.Equal.{att_eq}
@@ -28,7 +29,6 @@ use Rattle.cni_verbs.specs.Script.{call_of_work}
 use Rattle.cni_verbs.specs.Sweep.{Gc, Job, AskCached, Delete, Step, Sweep, after_step, is_valid, job_of, step_call, work_after}
 use Rattle.cni_verbs.specs.Wanted.{deletion}
 use Rattle.pod_workers.specs.CallsLeft.{collection_left, jobs_left, objects_in, sweeps_left}
-use Rattle.pod_workers.proofs.Deletable.{one_if}
 
 -- ---- no more owners than objects
 

@@ -5,6 +5,7 @@ use Rattle.std.specs.List.{list_any}
 use Rattle.std.proofs.lemmas.Bool.{cases_Bool}
 use Rattle.std.proofs.lemmas.List.{length-append}
 use Rattle.std.proofs.lemmas.Slice.Eq.{bytes_eq-Decides}
+use Rattle.net_conf.specs.Sets.{one_if}
 use Rattle.cni_addr.specs.declared.address.Addr.{Addr}
 use Rattle.cni_addr.specs.declared.mac.Mac.{Mac}
 use Rattle.cni_addr.specs.declared.range.RangeSet.{RangeSet}
@@ -27,11 +28,11 @@ use Rattle.kernel_types.specs.declared.object.LinkKind.{LinkKind}
 use Rattle.kernel_types.specs.declared.object.LinkKind.TheVariants as link_kinds
 use Rattle.kernel_types.specs.declared.object.Host.{Host}
 use Rattle.kernel_types.specs.declared.call.Call.{Call}
-use Rattle.kernel_types.specs.declared.call.Call.TheVariants.{Begin, BridgeEnsure, GatewayEnsure, ForwardEnsure, VethAdd, MacvlanAdd, LinkSet, AddrAdd, RouteAdd, RuleAppend, SettingSet, LeaseNext, CachePut, LinkDel, RuleDel, SettingDel, LeaseDel, CacheDel, HasObj, CacheGet, OwnersOf, PoolFree, NsChange, Outside}
+use Rattle.kernel_types.specs.declared.call.Call.TheVariants.{Begin, BridgeEnsure, GatewayEnsure, ForwardEnsure, VethAdd, MacvlanAdd, LinkSet, AddrAdd, RouteAdd, RuleAppend, SettingSet, LeaseNext, CachePut}
 use Rattle.kernel_types.specs.declared.call.Kind.{Kind}
 use Rattle.kernel_types.specs.declared.call.Kind.TheVariants as kinds
 use Rattle.kernel_types.specs.declared.call.Reply.{Reply}
-use Rattle.kernel_types.specs.declared.call.Reply.TheVariants.{Done, NoNs, NoLink, Taken, Empty, Leased, Gone, Has, Owners, Entry, Fault}
+use Rattle.kernel_types.specs.declared.call.Reply.TheVariants.{Done, Leased, Gone}
 use Rattle.plan_words.specs.PlanCalls.{is_plan_call_of}
 use Rattle.plan_words.specs.Shapes.{lease_of}
 use Rattle.plan_words.specs.Share.{Share, share_of, share_after_call}
@@ -54,10 +55,6 @@ count-map : {X : Type 0} (q : X → Bool) (f : X → X) → ((x : X) → q (f x)
 count-map q f same [] = refl
 count-map q f same (x ∷ xs) = grind (arith, same x, count-map q f same xs)
 
-abbrev pub one_if : Bool → ℕ
-one_if true = 1
-one_if false = 0
-
 count-without_first : {X : Type 0} (own : X → Bool) (xs : List X) → length (filter own (without_first own xs)) + one_if (list_any own xs) ≤ length (filter own xs)
 count-without_first own [] = omega arith
 count-without_first own (x ∷ xs) = grind (arith, count-without_first own xs)
@@ -78,31 +75,13 @@ any-found p q (x ∷ xs) y is h = grind (arith, is, h, any-found p q xs y)
 
 -- ---- a call that makes objects
 
-done_or_not : (r : Reply) → (r ≡ Done) ⊎ (r ≡ Done → ⊥)
+pub done_or_not : (r : Reply) → (r ≡ Done) ⊎ (r ≡ Done → ⊥)
 done_or_not Done = inl refl
-done_or_not NoNs = inr (λ is. cc)
-done_or_not NoLink = inr (λ is. cc)
-done_or_not (Taken tag) = inr (λ is. cc)
-done_or_not Empty = inr (λ is. cc)
-done_or_not (Leased addr) = inr (λ is. cc)
-done_or_not (Gone gone) = inr (λ is. cc)
-done_or_not (Has has) = inr (λ is. cc)
-done_or_not (Owners owners) = inr (λ is. cc)
-done_or_not (Entry cached) = inr (λ is. cc)
-done_or_not Fault = inr (λ is. cc)
+done_or_not _ = inr (λ is. cc)
 
-leased_or_not : (r : Reply) → ((a : Addr) × (r ≡ Leased a)) ⊎ ((a : Addr) → r ≡ Leased a → ⊥)
+pub leased_or_not : (r : Reply) → ((a : Addr) × (r ≡ Leased a)) ⊎ ((a : Addr) → r ≡ Leased a → ⊥)
 leased_or_not (Leased addr) = inl (addr, refl)
-leased_or_not Done = inr (λ a is. cc)
-leased_or_not NoNs = inr (λ a is. cc)
-leased_or_not NoLink = inr (λ a is. cc)
-leased_or_not (Taken tag) = inr (λ a is. cc)
-leased_or_not Empty = inr (λ a is. cc)
-leased_or_not (Gone gone) = inr (λ a is. cc)
-leased_or_not (Has has) = inr (λ a is. cc)
-leased_or_not (Owners owners) = inr (λ a is. cc)
-leased_or_not (Entry cached) = inr (λ a is. cc)
-leased_or_not Fault = inr (λ a is. cc)
+leased_or_not _ = inr (λ a is. cc)
 
 set-inner : (att : Att) (key : LinkKey) (mac : Option Mac) (mtu tx_qlen : Option ℕ) (promisc allmulti : Bool) (l : Link) → not (is_host_ns (set_link att key mac mtu tx_qlen promisc allmulti l).ns) ≡ not (is_host_ns l.ns)
 set-inner att key mac mtu tx_qlen promisc allmulti l =
@@ -125,19 +104,7 @@ after_call-more att host (RouteAdd obj) s is allowed = omega arith
 after_call-more att host (RuleAppend rule) s is allowed = let c = length-append s.rules (rule ∷ []) in omega arith
 after_call-more att host (SettingSet setting) s is allowed = let c = length-append s.settings (setting ∷ []) in omega arith
 after_call-more att host (CachePut own cached) s is allowed = let c = length-append s.cached (record { cached = cached; tag = tags.Own own } ∷ []) in omega arith
-after_call-more att host (Begin a n) s is allowed = cc
-after_call-more att host (LeaseNext a n set) s is allowed = cc
-after_call-more att host (LinkDel a) s is allowed = cc
-after_call-more att host (RuleDel a) s is allowed = cc
-after_call-more att host (SettingDel a) s is allowed = cc
-after_call-more att host (LeaseDel a) s is allowed = cc
-after_call-more att host (CacheDel a) s is allowed = cc
-after_call-more att host (HasObj p) s is allowed = cc
-after_call-more att host (CacheGet a) s is allowed = cc
-after_call-more att host (OwnersOf n k) s is allowed = cc
-after_call-more att host (PoolFree n set) s is allowed = cc
-after_call-more att host (NsChange n b) s is allowed = cc
-after_call-more att host (Outside c) s is allowed = cc
+after_call-more att host _ s is allowed = cc
 
 abbrev AtMostOneMore : Att → Host → Host → Type 0
 AtMostOneMore att old new = deletions_of (share_of att new) ≤ deletions_of (share_of att old) + 1

@@ -1,9 +1,9 @@
 -- Each entry of a legal world follows, entries stand in their order, and stops are kept.
 use Rattle.std.proofs.Common.{◌≡◌, ◌≢◌, ℕ, ◌+◌, ◌-◌, ◌<◌, ◌≤◌, ◌==◌, Bool, true, false, List, [], ◌∷◌, ◌++◌, length, Option, Some, None, slice_get, refl, sym, ◌∙◌, ap, subst, inl, inr, arith}
 use Rattle.std.specs.Prelude.{if◌then◌else◌, ◌||◌, ◌&&◌}
-use Rattle.std.proofs.lemmas.List.{append_assoc}
+use Rattle.std.proofs.lemmas.List.{append_assoc, length_push}
 use Rattle.std.proofs.lemmas.Option.{same_Some, none-some}
-use Rattle.std.proofs.lemmas.Bool.{cases_lt}
+use Rattle.std.proofs.lemmas.Bool.{cases_lt, or_parts}
 use Rattle.std.proofs.lemmas.Bool.Decides.{eqb_tells, nat_tests}
 use Rattle.cni_verbs.specs.Progress.{turn_by}
 use Rattle.cni_verbs.specs.Script.{Turn, Calls, Finishes}
@@ -20,16 +20,12 @@ use Rattle.pod_workers.specs.declared.plan.Plan.{Plan}
 use Rattle.pod_workers.specs.declared.plan.Entry.{Entry}
 use Rattle.pod_workers.specs.declared.plan.Next.{Next}
 use Rattle.pod_workers.specs.declared.plan.Next.TheVariants as next
-use Rattle.pod_workers.proofs.Histories.{replies_of-own, replies_of-other, has_reply, last_entry-append, length-append_one}
+use Rattle.pod_workers.proofs.Histories.{replies_of-own, replies_of-other, has_reply, last_entry-append}
 use Rattle.pod_workers.proofs.Order.{IsInOrder, in_order, not_both, other_number}
 use Rattle.pod_workers.proofs.Sound.{allowed_next}
 use Rattle.pod_workers.proofs.Splits.{split_nil, split_snoc, two_snoc}
 
 -- ---- a step that makes a call
-
-or-false : (a b : Bool) → (a || b) ≡ false → (a ≡ false) × (b ≡ false)
-or-false true b is = absurd cc
-or-false false b is = (refl, is)
 
 going_by : (a : Answer) (c : Command) (made : ℕ) (k call : Call) (faulty b : Bool) → (if b then next.Answer a else next.Call k (is_faulty c made)) ≡ next.Call call faulty
     → (Calls k ≡ Calls call) × (is_faulty c made ≡ faulty) × (b ≡ false)
@@ -47,7 +43,7 @@ pub goes_by : (list : Option NetList) (c : Command) (made : ℕ) (cut : Bool) (t
 goes_by list c made cut (Finishes finish) call faulty is = absurd cc
 goes_by list c made cut (Calls k) call faulty is =
     let g = going_by (Stopped made) c made k call faulty (is_stop c.stop made || cut) is in
-    let neither = or-false (is_stop c.stop made) cut g.2 in
+    let neither = or_parts (is_stop c.stop made) cut g.2 in
     record { call_is = g.0; fault_is = g.1; no_stop = neither.0; no_cut = neither.1 }
 
 -- the same of a command of a world
@@ -148,7 +144,7 @@ in_round-false round number d is same = absurd (grind (arith, nat_tests))
 cut_at_last : (w : World) (before : List Entry) (e : Entry) (m : ℕ) (d : Placed) → w.history ≡ before ++ e ∷ [] → IsEntryOf w.plan e m d → w.plan.stop_at ≡ Some (length before + 1)
     → is_cut w ≡ false → d.round ≢ w.round
 cut_at_last w before e m d at of_e stop no_cut = λ same.
-    let number : length w.history ≡ length before + 1 = ap length at ∙ length-append_one before e in
+    let number : length w.history ≡ length before + 1 = ap length at ∙ length_push before e in
     let last : last_entry w.history ≡ Some e = ap last_entry at ∙ last_entry-append before e in
     let own = of_e.number in
     let place : e.command - 1 ≡ m = omega arith in
@@ -230,7 +226,7 @@ stop_done v n c (next.Call call faulty) keeps ready is = λ m most d at stop.
           let same : c ≡ d = same_Some c d (sym ready.there ∙ ap (slice_get (commands_of v.plan)) (sym t.1) ∙ at) in
           let less = below_stop c.command.stop (length (own_replies v n)) most (goes_in v n c.command call faulty is).no_stop (ap (λ (q : Placed). q.command.stop) same ∙ stop) in
           let grown : length (replies_of m (v.history ++ e ∷ [])) ≡ length (own_replies v n) + 1 =
-          ap (λ j. length (replies_of j (v.history ++ e ∷ []))) t.1 ∙ ap length (replies_of-own n v.history e refl) ∙ length-append_one (own_replies v n) e.reply in
+          ap (λ j. length (replies_of j (v.history ++ e ∷ []))) t.1 ∙ ap length (replies_of-own n v.history e refl) ∙ length_push (own_replies v n) e.reply in
           omega arith
       | inr f ↦ rw (replies_of-other m v.history e (other_number e n m refl f.1)) (keeps m most d at stop)
     ]

@@ -18,6 +18,7 @@ use Rattle.kernel_types.specs.declared.call.Kind.{Kind}
 use Rattle.kernel_types.specs.declared.call.Reply.{Reply}
 use Rattle.kernel_types.specs.declared.call.Reply.TheVariants.{Done, Leased, Gone, Has, Entry, Fault}
 use Rattle.net_conf.specs.declared.list.NetList.{NetList}
+use Rattle.net_conf.specs.Sets.{one_if}
 use Rattle.pod_file.specs.declared.command.Command.{Command}
 use Rattle.plan_words.specs.PlanCalls.{is_plan_call_of}
 use Rattle.plan_words.specs.Share.{Share, share_of}
@@ -28,7 +29,7 @@ use Rattle.cni_verbs.specs.Wanted.{deletion, kinds_of, sets_of}
 use Rattle.cni_verbs.specs.declared.answer.Ending.{Ending}
 use Rattle.cni_verbs.specs.declared.answer.Question.{Question}
 use Rattle.pod_workers.specs.CallsLeft.{AddsInAtMost, calls_left, deletions_of, making, most_after, questions_by}
-use Rattle.pod_workers.proofs.Deletable.{begin-none, call-more, deletion-falls, lease-more, one_if}
+use Rattle.pod_workers.proofs.Deletable.{begin-none, call-more, deletion-falls, lease-more}
 use Rattle.pod_workers.proofs.MostCalls.{back-within, most-splits}
 
 -- ---- where work is left

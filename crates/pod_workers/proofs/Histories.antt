@@ -1,6 +1,5 @@
 -- Histories with one entry more, and answers with one that is written.
 use Rattle.std.proofs.Common.{◌≡◌, ◌≢◌, ℕ, zero, suc, ◌+◌, ◌<◌, ◌≤◌, List, [], ◌∷◌, ◌++◌, length, Some, slice_get, slice_set, refl, sym, ◌∙◌, ap, inl, inr, ◌⊎◌, arith}
-use Rattle.std.proofs.lemmas.List.{length_push}
 use Rattle.std.proofs.lemmas.Option.{same_Some, none-some}
 use Rattle.std.proofs.lemmas.Bool.Decides.{eqb_tells}
 use Rattle.kernel_types.specs.declared.object.Host.{Host}
@@ -52,9 +51,6 @@ length-replies_of n (x ∷ xs) =
 pub after-append : (host : Host) (es : List Entry) (e : Entry) → after host (es ++ e ∷ []) ≡ host_on (after host es) e
 after-append host [] e = refl
 after-append host (x ∷ xs) e = after-append (host_on host x) xs e
-
-pub length-append_one : {X : Type 0} (xs : List X) (x : X) → length (xs ++ x ∷ []) ≡ length xs + 1
-length-append_one xs x = length_push xs x
 
 -- ---- parts of a history
 

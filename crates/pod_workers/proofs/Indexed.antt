@@ -6,10 +6,10 @@ use Rattle.std.proofs.lemmas.Bool.{false≢true}
 use Rattle.std.proofs.lemmas.Slice.Eq.{bytes_eq-Decides}
 use Rattle.std.specs.Str.{bytes_eq}
 use Rattle.pod_file.specs.declared.command.Command.{Command}
-use Rattle.pod_workers.specs.Index.{AreBefore, IsIndex, IsLatest, IsOf, IsPlaced, NoneOf, nth_of}
-use Rattle.pod_workers.specs.Plans.{Placed, in_round, placed_from}
+use Rattle.pod_workers.specs.Index.{AreBefore, IsIndex, IsLatest, IsPlaced, NoneOf, nth_of}
+use Rattle.pod_workers.specs.Plans.{Placed, in_round, placed_from, IsOf}
 use Rattle.pod_workers.specs.declared.index.Place.{Place}
-use Rattle.pod_workers.proofs.Elements.{slice_get-left, slice_get-last, at_snoc}
+use Rattle.pod_workers.proofs.Elements.{slice_get-last, at_snoc, slice_get-left}
 use Rattle.pod_workers.proofs.Rounds.{placed-fits, placed_from-more, rounds-before}
 
 -- ---- one more command

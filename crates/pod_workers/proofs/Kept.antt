@@ -1,7 +1,7 @@
 -- Each change of a step keeps what a book keeps.
 use Rattle.std.proofs.Common.{◌≡◌, ℕ, ◌+◌, ◌-◌, ◌<◌, ◌≤◌, ◌^◌, Bool, true, false, List, [], ◌∷◌, ◌++◌, length, Option, Some, None, slice_get, slice_set, refl, sym, ◌∙◌, ap, subst, arith, inl, inr}
 use Rattle.std.specs.Prelude.{if◌then◌else◌, ◌||◌, nat_le, IsSome}
-use Rattle.std.proofs.lemmas.List.{length-set}
+use Rattle.std.proofs.lemmas.List.{length-set, length_push}
 use Rattle.std.proofs.lemmas.Option.{same_Some, none-some, slice_get_within}
 use Rattle.std.proofs.lemmas.Bool.{false≢true}
 use Rattle.std.proofs.lemmas.Bool.Decides.{eqb_tells, leb_tells}
@@ -16,22 +16,21 @@ use Rattle.net_conf.specs.declared.list.NetList.{NetList}
 use Rattle.pod_file.specs.declared.command.Command.{Command}
 use Rattle.pod_workers.specs.Index.{command_in, is_cut_by}
 use Rattle.pod_workers.specs.Legal.{Legal, steps, refused_memory}
-use Rattle.pod_workers.specs.Plans.{Placed, commands_of, list_for, list_in}
+use Rattle.pod_workers.specs.Plans.{Placed, commands_of, list_for}
 use Rattle.pod_workers.specs.Slots.{Fits, IsDone, IsKept, IsWithin, MayBeMade, MayCarryOn, entry_by, next_in, opened, opened_by, slot_after}
 use Rattle.pod_workers.specs.World.{World, IsReady, IsReadyNumber, answered, done, end_of, entry_of, host_of, host_on, is_cut, is_faulty, is_stop, next_by, next_of, own_replies, reply_to, stepped, with_entry}
 use Rattle.pod_workers.specs.declared.index.Place.{Place}
 use Rattle.pod_workers.specs.declared.plan.Entry.{Entry}
 use Rattle.pod_workers.specs.declared.plan.Next.{Next}
 use Rattle.pod_workers.specs.declared.plan.Next.TheVariants as next
-use Rattle.pod_workers.specs.declared.plan.Plan.{Plan}
 use Rattle.pod_workers.specs.declared.plan.StepEnd.{StepEnd}
 use Rattle.pod_workers.specs.declared.plan.StepEnd.TheVariants as ends
 use Rattle.pod_workers.specs.declared.slots.Slot.{Slot}
 use Rattle.pod_workers.specs.declared.slots.Outcome.{Outcome}
 use Rattle.pod_workers.specs.declared.slots.Outcome.TheVariants as outcome
-use Rattle.pod_workers.proofs.Histories.{slice_get-set_same, slice_get-set_other, replies_of-own, replies_of-other, after-append, length-replies_of, length-append_one}
+use Rattle.pod_workers.proofs.Histories.{slice_get-set_same, slice_get-set_other, replies_of-own, replies_of-other, after-append, length-replies_of}
 use Rattle.pod_workers.proofs.ReadyByIndex.{cut-is}
-use Rattle.pod_workers.proofs.Sound.{allowed_next, fine}
+use Rattle.pod_workers.proofs.Sound.{allowed_next, fine, list_for-found}
 use Rattle.pod_workers.proofs.WellFormedPlans.{are_numbered}
 
 -- ---- a run and its replies
@@ -44,7 +43,7 @@ state_from-append list c made s (x ∷ xs) r =
     state_from-append list c (made + 1) (advance list c (made + 1) s x) xs r
     ∙ ap (λ k. advance list c k (state_from list c (made + 1) (advance list c (made + 1) s x) xs) r) (omega arith)
 
-outside_from-append : (made : ℕ) (s : State) (rs : List Reply) (r : Reply) → outside_from made s (rs ++ r ∷ []) ≡ outside_advance (made + length rs + 1) (outside_from made s rs) r
+pub outside_from-append : (made : ℕ) (s : State) (rs : List Reply) (r : Reply) → outside_from made s (rs ++ r ∷ []) ≡ outside_advance (made + length rs + 1) (outside_from made s rs) r
 outside_from-append made s [] r = ap (λ k. outside_advance k s r) (omega arith)
 outside_from-append made s (x ∷ xs) r =
     outside_from-append (made + 1) (outside_advance (made + 1) s x) xs r ∙ ap (λ k. outside_advance k (outside_from (made + 1) (outside_advance (made + 1) s x) xs) r) (omega arith)
@@ -53,11 +52,11 @@ outside_from-append made s (x ∷ xs) r =
 progress-append : (list : Option NetList) (c : Command) (rs : List Reply) (r : Reply) → progress list c (rs ++ r ∷ []) ≡ advanced (progress list c rs) r
 progress-append None c rs r =
     let state_is = outside_from-append 0 (outside_start c) rs r ∙ ap (λ k. outside_advance k (outside_from 0 (outside_start c) rs) r) (omega arith) in
-    ap (λ m. record { list = None; command = c; made = m; state = outside_from 0 (outside_start c) (rs ++ r ∷ []) }) (length-append_one rs r)
+    ap (λ m. record { list = None; command = c; made = m; state = outside_from 0 (outside_start c) (rs ++ r ∷ []) }) (length_push rs r)
     ∙ ap (λ s. record { list = None; command = c; made = length rs + 1; state = s }) state_is
 progress-append (Some list) c rs r =
     let state_is = state_from-append list c 0 (start_state list c) rs r ∙ ap (λ k. advance list c k (state_from list c 0 (start_state list c) rs) r) (omega arith) in
-    ap (λ m. record { list = Some list; command = c; made = m; state = state_from list c 0 (start_state list c) (rs ++ r ∷ []) }) (length-append_one rs r)
+    ap (λ m. record { list = Some list; command = c; made = m; state = state_from list c 0 (start_state list c) (rs ++ r ∷ []) }) (length_push rs r)
     ∙ ap (λ s. record { list = Some list; command = c; made = length rs + 1; state = s }) state_is
 
 turn-of : (list : Option NetList) (c : Command) (rs : List Reply) → turn c (progress list c rs).state ≡ turn_by list c rs
@@ -81,10 +80,6 @@ pub within-fits : (list : Option NetList) (c : Command) (rs : List Reply) (s : O
 within-fits list c rs None fits = subst (λ (q : List Reply). IsWithin c.stop (length q)) (sym fits) (none-made c.stop)
 within-fits list c rs (Some s) fits = subst (IsWithin c.stop) fits.0 fits.2
 
-found-list : (p : Plan) (c : Command) → list_in p.lists c ≡ list_for p c
-unfolding list_for
-found-list p c = refl
-
 -- ---- one step
 
 -- a command of a book that may step, with its run
@@ -103,7 +98,7 @@ here host slots places before w n c s kept ready slot =
     record {
       kept = kept;
       ready = ready;
-      run = ap (λ l. opened l c.command s) (found-list w.plan c.command) ∙ opened-is (list_for w.plan c.command) c.command (own_replies w n) s fits;
+      run = ap (λ l. opened l c.command s) (list_for-found w.plan c.command) ∙ opened-is (list_for w.plan c.command) c.command (own_replies w n) s fits;
       within = within-fits (list_for w.plan c.command) c.command (own_replies w n) s fits;
       number = are_numbered w.plan (fine w kept.legal).plan.pods n c ready.there;
     }
@@ -226,7 +221,7 @@ went-by host host' slots places before w n c h' t (next.Call call faulty) kept r
     let made : with_entry w e ≡ stepped w n c.command = ap (with_entry w) same_entry ∙ sym (ap (done w n) is) in
     let legal : Legal (with_entry w e) = steps w (with_entry w e) n c kept.legal ready made in
     let goes = not-stopped list c.command (length rs) (is_cut w) (turn_by list c.command rs) call faulty is in
-    let more = length-append_one rs e.reply in
+    let more = length_push rs e.reply in
     let fits : Fits list c.command (rs ++ e.reply ∷ []) (Some (slot_after (slot_at list c.command rs) e.reply)) =
     (sym more, sym (progress-append list c.command rs e.reply), within-more c.command.stop (length rs) goes) in
     let still = call_keeps host slots places before w n c e (slot_after (slot_at list c.command rs) e.reply) kept ready legal number fits in
@@ -287,33 +282,33 @@ pub record IsFound (host : Host) (slots : List (Option Slot)) (places : List Pla
   pub of_is : of ≡ command.command
   pub number_is : number ≡ n + 1
 
-pub found : (host : Host) (slots : List (Option Slot)) (places : List Place) (before : ℕ) (w v : World) (number n : ℕ) (p : Place) (s : Option Slot) (of : Command) → IsKept host slots places before w → w ≡ v
-    → IsReadyNumber v number → n ≡ number - 1 → slice_get places n ≡ Some p → command_in w.plan.pods.rounds p ≡ Some of → slice_get slots n ≡ Some s
-    → IsFound host slots places before w number n s of
-found host slots places before w v number n p s of kept same ready place at_n command slot =
+-- by what the code reads: places and rounds that are the book's
+pub found : {host : Host} {slots : List (Option Slot)} {places seen : List Place} {before : ℕ} {w v : World} {number : ℕ} {p : Place} {s : Option Slot} {rounds : List (List Command)} {of : Command}
+    → IsKept host slots places before w → w ≡ v → IsReadyNumber v number → seen ≡ places → slice_get seen (number - 1) ≡ Some p → rounds ≡ w.plan.pods.rounds → command_in rounds p ≡ Some of → slice_get slots (number - 1) ≡ Some s
+    → IsFound host slots places before w number (number - 1) s of
+found {host} {slots} {places} {seen} {before} {w} {v} {number} {p} {s} {rounds} {of} kept same ready seen_is at_n rounds_is command slot =
+    let n = number - 1 in
     let r = subst (λ u. IsReadyNumber u number) (sym same) ready in
     let is = r.2 in
     let same_n : r.0 ≡ n = omega arith in
     let now : IsReady w n r.1 = subst (λ k. IsReady w k r.1) same_n r.3 in
-    let placed = kept.index.each n r.1 p now.there at_n in
+    let placed = kept.index.each n r.1 p now.there (ap (λ ps. slice_get ps n) (sym seen_is) ∙ at_n) in
     record {
       command = r.1;
       here = here host slots places before w n r.1 s kept now slot;
-      of_is = same_Some of r.1.command (sym command ∙ placed.command);
+      of_is = same_Some of r.1.command (sym command ∙ ap (λ rs. command_in rs p) rounds_is ∙ placed.command);
       number_is = omega arith;
     }
+
+-- whether the round is stopped, by the history and the places that the code reads
+pub cut-by : (stop : Option ℕ) (round : ℕ) {h k : List Entry} {places seen : List Place} {cut : Bool} → cut ≡ is_cut_by stop h seen round → h ≡ k → seen ≡ places → cut ≡ is_cut_by stop k places round
+cut-by stop round {h} {k} {places} {seen} {cut} is h_is seen_is = is ∙ ap (λ l. is_cut_by stop l seen round) h_is ∙ ap (λ ps. is_cut_by stop k ps round) seen_is
 
 pub found-may : (host : Host) (slots : List (Option Slot)) (places : List Place) (before : ℕ) (w : World) (number n : ℕ) (s : Option Slot) (of : Command) (cut : Bool) → IsFound host slots places before w number n s of
     → cut ≡ is_cut_by w.plan.stop_at w.history places w.round → (cut ≡ true → length w.history < 2 ^ 32) → MayCarryOn host w.history of cut (opened_by w.plan.lists of s)
 found-may host slots places before w number n s of cut f cut_is small =
     subst (λ k. MayCarryOn host w.history k cut (opened_by w.plan.lists k s)) (sym f.of_is)
     (may-carry-on host slots places before w n f.command s cut f.here (cut-is w places cut f.here.kept.index cut_is) small)
-
-pub found-within : (host : Host) (slots : List (Option Slot)) (places : List Place) (before : ℕ) (w : World) (number n : ℕ) (s : Option Slot) (of : Command) → IsFound host slots places before w number n s of
-    → (n < length w.answers) × (n < length slots)
-found-within host slots places before w number n s of f =
-    let within : n < length (commands_of w.plan) = slice_get_within (commands_of w.plan) n f.command f.here.ready.there in
-    (rw f.here.kept.answers_long within, rw f.here.kept.slots_long within)
 
 pub found-went : (host host' : Host) (slots : List (Option Slot)) (places : List Place) (before : ℕ) (w : World) (number n : ℕ) (s : Option Slot) (of : Command) (cut : Bool) (h' : List Entry) (o : Outcome) (t : Slot)
     → IsFound host slots places before w number n s of → cut ≡ is_cut_by w.plan.stop_at w.history places w.round

@@ -24,6 +24,7 @@ pub mod PlannedCalls
 pub mod Positions
 pub mod Reached
 pub mod ReadyByIndex
+pub mod Replies
 pub mod RoundDone
 pub mod Rounds
 pub mod RoundsAscend

@@ -3,7 +3,7 @@ use Rattle.std.proofs.Common.{◌≡◌, ℕ, zero, suc, ◌+◌, ◌<◌, ◌�
 use Rattle.std.proofs.lemmas.List.{append-nil, append_assoc}
 use Rattle.std.proofs.lemmas.Option.{same_Some, slice_get_within}
 use Rattle.std.proofs.lemmas.Bool.{cases_lt}
-use Rattle.std.proofs.lemmas.Bool.Decides.{eqb_tells, nat_tests}
+use Rattle.std.proofs.lemmas.Bool.Decides.{eqb_tells}
 use Rattle.cni_verbs.specs.Progress.{turn_by, answer_by}
 use Rattle.cni_verbs.specs.Script.{Turn, Calls, Finishes, Finish}
 use Rattle.cni_verbs.specs.declared.answer.Answer.{Answer}
@@ -17,7 +17,7 @@ use Rattle.pod_workers.specs.Plans.{Placed, commands_of, list_for}
 use Rattle.pod_workers.specs.World.{World, replies_of, own_replies, reply_to, after, is_faulty, is_stop}
 use Rattle.pod_workers.specs.declared.plan.Plan.{Plan}
 use Rattle.pod_workers.specs.declared.plan.Entry.{Entry}
-use Rattle.pod_workers.proofs.AnswersDue.{answer_is_due}
+use Rattle.pod_workers.proofs.AnswersDue.{answer_is_due, at_own_stop}
 use Rattle.pod_workers.proofs.Facts.{each_follows, two_entries, one_command, uncut_at}
 use Rattle.pod_workers.proofs.Histories.{replies_of-append, has_reply, same_entry}
 use Rattle.pod_workers.proofs.Order.{in_order, compared}
@@ -120,15 +120,12 @@ replies_before w legal order before rest e n m c of_e less at =
     let here : replies_of m (e ∷ rest) ≡ [] = elim (eqb_tells e.command (m + 1)) [ inl t ↦ absurd (let same = t.1 in omega arith) | inr other ↦ rw other.0 none ] in
     ap (replies_of m) at ∙ replies_of-append m before (e ∷ rest) ∙ ap (λ l. replies_of m before ++ l) here ∙ append-nil (replies_of m before)
 
-is_stop-own : (o : Option ℕ) (made : ℕ) → o ≡ Some made → is_stop o made ≡ true
-is_stop-own o made is = ap (λ (s : Option ℕ). is_stop s made) is ∙ grind (arith, nat_tests)
-
 finished_at_end : (w : World) → IsDoneInFileOrder w → (n : ℕ) (c : Placed) → slice_get (commands_of w.plan) n ≡ Some c → IsFinished w.plan w.history n c
 finished_at_end w is n c at =
     let a = all_answered w (in_order w is.legal) is.ended n c at in
     elim (answer_is_due w is.legal n a.0 c a.1 at) [
       | inl scripts ↦ inl (scripts.0, scripts.1)
-      | inr (inl stopped) ↦ elim stopped.1 [ inl own ↦ inr (inl (is_stop-own c.command.stop (length (own_replies w n)) own)) | inr cut ↦ inr (inr cut) ]
+      | inr (inl stopped) ↦ elim stopped.1 [ inl own ↦ inr (inl (at_own_stop c.command.stop (length (own_replies w n)) own)) | inr cut ↦ inr (inr cut) ]
       | inr (inr lacking) ↦ absurd (is.had_memory n (a.1 ∙ ap (λ (x : Answer). Some (Some x)) lacking))
     ]
 
@@ -161,7 +158,7 @@ finished_before w is before rest e n m c d at of_e less at_m =
         | inl none ↦ absurd (has_reply n w.history before rest e at of_e.number none)
         | inr over ↦ elim over.2 [
           | inl scripts ↦ inl (scripts.0, ap (turn_by (list_for w.plan d.command) d.command) (sym own) ∙ scripts.1)
-          | inr (inl stopped) ↦ inr (inl (ap (λ (rs : List Reply). is_stop d.command.stop (length rs)) (sym own) ∙ is_stop-own d.command.stop (length (own_replies w m)) stopped.1))
+          | inr (inl stopped) ↦ inr (inl (ap (λ (rs : List Reply). is_stop d.command.stop (length rs)) (sym own) ∙ at_own_stop d.command.stop (length (own_replies w m)) stopped.1))
           | inr (inr lacking) ↦ absurd (is.had_memory m (over.1 ∙ ap (λ (x : Answer). Some (Some x)) lacking))
         ]
       ]

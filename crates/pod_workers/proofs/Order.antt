@@ -67,7 +67,7 @@ pub before_ready : (w : World) (m n : ℕ) (d c : Placed) → IsInOrder w → Is
     → d.round ≡ c.round → d.command.container ≡ c.command.container → IsAnswered w m
 before_ready w m n d c order ready less at round container =
     elim (open_or_answered w m d order at) [
-      | inl is_open ↦ absurd (ready.first m d None less at is_open (round ∙ ready.current, container, refl))
+      | inl is_open ↦ absurd (ready.first m d None less at is_open ((round ∙ ready.current, container), refl))
       | inr a ↦ a
     ]
 

@@ -1,6 +1,6 @@
 -- The calls of an ADD after its Begin are planned: each is of its attachment or of what all share, and its links have the shapes that a kernel takes.
-use Rattle.std.proofs.Common.{◌≡◌, ℕ, ◌+◌, Bool, true, false, not, List, [], ◌∷◌, ◌++◌, map, length, Option, Some, None, refl, arith}
-use Rattle.std.proofs.lemmas.List.{length_push}
+use Rattle.std.proofs.Common.{◌≡◌, ℕ, Bool, true, false, not, List, [], ◌∷◌, ◌++◌, map, Option, Some, None, refl, arith}
+use Rattle.std.proofs.lemmas.Bool.{and_parts, not-true}
 use Rattle.std.specs.Prelude.{if◌then◌else◌, ◌&&◌}
 use Rattle.std.specs.List.{list_any, list_all}
 use Rattle.std.specs.Cmp.Lexicographic.{nat_list_eq_equiv}
@@ -68,22 +68,15 @@ planned-append : (att : Att) (xs ys : List Call) → AllPlanned att xs → AllPl
 planned-append att [] ys h g = g
 planned-append att (x ∷ xs) ys h g = (h.0, planned-append att xs ys h.1 g)
 
-and-both : (a b : Bool) → (a && b) ≡ true → (a ≡ true) × (b ≡ true)
-and-both true b h = (refl, h)
-and-both false b h = cc
-
 planned-map : {X : Type 0} (att : Att) (f : X → Call) (q : X → Bool) → ((x : X) → q x ≡ true → IsPlanned att (f x)) → (xs : List X) → list_all q xs ≡ true → AllPlanned att (map f xs)
 planned-map att f q w [] h = tt
 planned-map att f q w (x ∷ xs) h =
-    let both = and-both (q x) (list_all q xs) h in
+    let both = and_parts (q x) (list_all q xs) h in
     (w x both.0, planned-map att f q w xs both.1)
 
 list_all-true : {X : Type 0} (xs : List X) → list_all (λ x. true) xs ≡ true
 list_all-true [] = refl
 list_all-true (x ∷ xs) = list_all-true xs
-
-pub length-one : {X : Type 0} (xs : List X) (x : X) → length (xs ++ x ∷ []) ≡ length xs + 1
-length-one xs x = length_push xs x
 
 planned-if : (att : Att) (b : Bool) (xs : List Call) → AllPlanned att xs → AllPlanned att (if b then xs else [])
 planned-if att true xs h = h
@@ -154,14 +147,10 @@ planned-after (Macvlan c) att netns gs =
 
 -- ---- the chained plugins
 
-not-false : (b : Bool) → not b ≡ true → b ≡ false
-not-false true h = cc
-not-false false h = refl
-
 planned-settings : (att : Att) (netns : List ℕ) (conf : TuningConf) → is_host_ns netns ≡ false → AllPlanned att (map SettingSet (tuning_settings conf att netns))
 planned-settings att netns conf place =
     planned-map att (λ x. SettingSet x) (λ x. is_own att x.tag && not (is_host_ns x.ns))
-    (λ x h. let both = and-both (is_own att x.tag) (not (is_host_ns x.ns)) h in (both.0, not-false (is_host_ns x.ns) both.1))
+    (λ x h. let both = and_parts (is_own att x.tag) (not (is_host_ns x.ns)) h in (both.0, not-true (is_host_ns x.ns) both.1))
     (tuning_settings conf att netns)
     (list_all-each_key_once (λ x. is_own att x.tag && not (is_host_ns x.ns)) is_same_setting (map (setting_of att netns) conf.sysctl)
     (list_all-every (λ x. is_own att x.tag && not (is_host_ns x.ns)) (setting_of att netns) (λ s. grind (arith, att_eq-refl att, place)) conf.sysctl))

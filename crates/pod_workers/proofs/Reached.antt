@@ -2,6 +2,7 @@
 use Rattle.std.proofs.Common.{◌≡◌, ◌≢◌, ℕ, zero, suc, ◌+◌, ◌<◌, ◌≤◌, List, [], ◌∷◌, ◌++◌, length, Option, Some, None, slice_get, slice_set, refl, sym, ◌∙◌, ap, subst, inl, inr, ◌⊎◌, arith}
 use Rattle.std.proofs.lemmas.Option.{same_Some, none-some, slice_get_within}
 use Rattle.std.proofs.lemmas.Bool.Decides.{eqb_tells}
+use Rattle.std.proofs.lemmas.List.{length_push}
 use Rattle.cni_verbs.specs.declared.answer.Answer.{Answer}
 use Rattle.pod_workers.specs.Facts.{IsEntryOf, IsUntouched, AreOfOneContainer, IsLegalByClauses}
 use Rattle.pod_workers.specs.Legal.{Legal, IsBegun, begins}
@@ -9,7 +10,7 @@ use Rattle.pod_workers.specs.Plans.{Placed, commands_of}
 use Rattle.pod_workers.specs.World.{World, IsAnswered, own_replies, replies_of, answered, with_entry, next_round}
 use Rattle.pod_workers.specs.declared.plan.Entry.{Entry}
 use Rattle.pod_workers.proofs.Facts.{one_command}
-use Rattle.pod_workers.proofs.Histories.{slice_get-set_same, slice_get-set_other, has_reply, length-append_one, set-back, entry_or_none, empty_or_last}
+use Rattle.pod_workers.proofs.Histories.{slice_get-set_same, slice_get-set_other, has_reply, set-back, entry_or_none, empty_or_last}
 use Rattle.pod_workers.proofs.Order.{not_both, answered_or_open, same_or_other}
 use Rattle.pod_workers.proofs.RoundsAscend.{command_at}
 use Rattle.pod_workers.proofs.Splits.{split_snoc}
@@ -265,7 +266,7 @@ back_entry w before e n c k none split of_e current =
     record {
       before = v;
       clauses = clauses_before_entry v e n c k' may;
-      less = let longer = ap length split ∙ length-append_one before e in omega arith;
+      less = let longer = ap length split ∙ length_push before e in omega arith;
       forth = λ legal. subst Legal is (legal_entered v e n c k' may legal);
     }
 

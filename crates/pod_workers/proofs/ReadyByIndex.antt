@@ -1,30 +1,19 @@
 -- Who may step, by the index.
-use Rattle.std.proofs.Common.{◌≡◌, ◌≢◌, ℕ, suc, ◌+◌, ◌-◌, ◌<◌, ◌⊎◌, ◌==◌, Bool, true, false, List, [], ◌∷◌, length, get_or, Option, Some, None, slice_get, refl, sym, ◌∙◌, ap, subst, arith, inl, inr}
+use Rattle.std.proofs.Common.{◌≡◌, ◌≢◌, ℕ, suc, ◌+◌, ◌-◌, ◌<◌, ◌==◌, Bool, true, false, List, [], ◌∷◌, length, get_or, Option, Some, None, slice_get, refl, sym, ◌∙◌, ap, subst, arith, inl, inr}
 use Rattle.std.specs.Prelude.{MatchBool, ◌&&◌}
-use Rattle.std.proofs.lemmas.Bool.{false≢true, cases_lt}
-use Rattle.std.proofs.lemmas.Bool.Decides.{eqb_tells}
+use Rattle.std.proofs.lemmas.Bool.{false≢true, and_parts, eqb-true, eq-eqb}
 use Rattle.std.proofs.lemmas.Option.{same_Some, none-some, slice_get-get_or, slice_get_within}
 use Rattle.cni_verbs.specs.declared.answer.Answer.{Answer}
 use Rattle.kernel_types.specs.declared.object.Host.{Host}
 use Rattle.pod_file.specs.declared.command.Command.{Command}
-use Rattle.pod_workers.specs.Index.{IsIndex, IsLatest, IsOf, IsPlaced, is_answered, is_cut_after, is_cut_by, is_open, is_place_in, lets_through, may_step_by}
-use Rattle.pod_workers.specs.Plans.{Placed, commands_of}
+use Rattle.pod_workers.specs.Index.{IsIndex, IsLatest, IsPlaced, is_answered, is_cut_after, is_cut_by, is_open, is_place_in, lets_through, may_step_by}
+use Rattle.pod_workers.specs.Plans.{Placed, commands_of, IsOf}
 use Rattle.pod_workers.specs.Slots.{IsKept}
 use Rattle.pod_workers.specs.World.{World, Blocks, IsAnswered, IsReady, IsReadyNumber, is_cut, is_cut_at, is_in_round, last_entry}
 use Rattle.pod_workers.specs.declared.index.Place.{Place}
 use Rattle.pod_workers.specs.declared.plan.Entry.{Entry}
 use Rattle.pod_workers.specs.declared.slots.Slot.{Slot}
-use Rattle.pod_workers.proofs.Order.{IsInOrder, in_order, not_both}
-
-both-true : (a b : Bool) → (a && b) ≡ true → (a ≡ true) × (b ≡ true)
-both-true true b h = (refl, h)
-both-true false b h = absurd (false≢true h)
-
-same-number : (a b : ℕ) → (a == b) ≡ true → a ≡ b
-same-number a b h = elim (eqb_tells a b) [ inl t ↦ t.1 | inr f ↦ absurd (false≢true (sym f.0 ∙ h)) ]
-
-number-same : (a b : ℕ) → a ≡ b → (a == b) ≡ true
-number-same a b h = elim (eqb_tells a b) [ inl t ↦ t.0 | inr f ↦ absurd (f.1 h) ]
+use Rattle.pod_workers.proofs.Order.{IsInOrder, in_order, not_both, compared}
 
 is-open : (o : Option (Option Answer)) → is_open o ≡ true → o ≡ Some None
 is-open None h = absurd (false≢true h)
@@ -41,24 +30,18 @@ answered-is None h some = absurd (some refl)
 answered-is (Some None) h some = absurd (h None refl refl)
 answered-is (Some (Some a)) h some = refl
 
-unequal : (a b : ℕ) → a ≢ b → (a < b) ⊎ ((b < a) ⊎ (a ≡ b))
-unequal a b other = elim (cases_lt a b) [ inl less ↦ inl less | inr more ↦ inr (inl (omega arith)) ]
-
-three : (a b : ℕ) → (a < b) ⊎ ((b < a) ⊎ (a ≡ b))
-three a b = elim (eqb_tells a b) [ inl t ↦ inr (inr t.1) | inr f ↦ unequal a b f.1 ]
-
 -- ---- a command that the index lets through is the first of its container
 
 clear-by : (w : World) (n : ℕ) (c : Placed) (previous : Option ℕ) → IsInOrder w → n < length w.answers → c.round ≡ w.round → IsLatest (commands_of w.plan) n c.round c.command.container previous
     → lets_through w.answers previous ≡ true
     → (m : ℕ) (d : Placed) (o : Option Answer) → m < n → slice_get (commands_of w.plan) m ≡ Some d → slice_get w.answers m ≡ Some o → ¬ Blocks d o w.round c.command.container
-clear-by w n c None order within current latest through m d o less at_m answer blocks = latest m d (omega arith) less at_m (blocks.0 ∙ sym current, blocks.1)
+clear-by w n c None order within current latest through m d o less at_m answer blocks = latest m d (omega arith) less at_m (blocks.0.0 ∙ sym current, blocks.0.1)
 clear-by w n c (Some k) order within current latest through m d o less at_m answer blocks =
     let a = is-answered (slice_get w.answers k) through in
-    let of_ : IsOf d c.round c.command.container = (blocks.0 ∙ sym current, blocks.1) in
+    let of_ : IsOf d c.round c.command.container = (blocks.0.0 ∙ sym current, blocks.0.1) in
     let x = latest.1.0 in
-    let open_m : slice_get w.answers m ≡ Some None = answer ∙ ap Some blocks.2 in
-    elim (three m k) [
+    let open_m : slice_get w.answers m ≡ Some None = answer ∙ ap Some blocks.1 in
+    elim (compared m k) [
       | inl before ↦
           elim (order.first m k d x before at_m latest.1.1 (of_.0 ∙ sym latest.1.2.0) (of_.1 ∙ sym latest.1.2.1)) [
             | inl untouched ↦ not_both w k a untouched.no_answer
@@ -76,7 +59,7 @@ through-by w n c (Some k) within ready latest =
     let less = latest.0 in
     let short : k < length w.answers = omega arith in
     answered-is (slice_get w.answers k)
-    (λ x is none. ready.first k latest.1.0 x less latest.1.1 is (latest.1.2.0 ∙ ready.current, latest.1.2.1, none))
+    (λ x is none. ready.first k latest.1.0 x less latest.1.1 is ((latest.1.2.0 ∙ ready.current, latest.1.2.1), none))
     (λ none. none-some _ (sym none ∙ slice_get-get_or w.answers k None short))
 
 -- ---- both ways
@@ -84,9 +67,9 @@ through-by w n c (Some k) within ready latest =
 ready-where : (w : World) (n : ℕ) (c : Placed) (p : Place) → IsInOrder w → n < length w.answers → slice_get (commands_of w.plan) n ≡ Some c → IsPlaced w.plan.pods.rounds (commands_of w.plan) n c p
     → may_step_by p w.answers w.round n ≡ true → IsReady w n c
 ready-where w n c p order within at_n placed passes =
-    let a = both-true (p.round == w.round) _ passes in
-    let b = both-true (is_open (slice_get w.answers n)) _ a.1 in
-    let current : c.round ≡ w.round = placed.round_is ∙ same-number p.round w.round a.0 in
+    let a = and_parts (p.round == w.round) _ passes in
+    let b = and_parts (is_open (slice_get w.answers n)) _ a.1 in
+    let current : c.round ≡ w.round = placed.round_is ∙ eqb-true p.round w.round a.0 in
     record {
       there = at_n;
       current = current;
@@ -96,7 +79,7 @@ ready-where w n c p order within at_n placed passes =
 
 where-ready : (w : World) (n : ℕ) (c : Placed) (p : Place) → n < length w.answers → IsPlaced w.plan.pods.rounds (commands_of w.plan) n c p → IsReady w n c → may_step_by p w.answers w.round n ≡ true
 where-ready w n c p within placed ready =
-    let here : (p.round == w.round) ≡ true = number-same p.round w.round (sym placed.round_is ∙ ready.current) in
+    let here : (p.round == w.round) ≡ true = eq-eqb p.round w.round (sym placed.round_is ∙ ready.current) in
     let unanswered : is_open (slice_get w.answers n) ≡ true = ap is_open ready.unanswered in
     let through = through-by w n c p.previous within ready placed.previous in
     rw (here, unanswered) through

@@ -1,11 +1,11 @@
 -- A round's commands are stepped to their answers one after another, and the next round is current.
-use Rattle.std.proofs.Common.{◌≡◌, ◌≢◌, ℕ, zero, suc, ◌+◌, ◌-◌, ◌<◌, ◌≤◌, List, [], ◌∷◌, ◌++◌, length, map, take, Option, Some, None, Result, Ok, Err, OnOk, OnErr, slice_get, get_or, refl, sym, ◌∙◌, ap, subst, arith, inl, inr}
+use Rattle.std.proofs.Common.{◌≡◌, ◌≢◌, ℕ, zero, suc, ◌+◌, ◌-◌, ◌<◌, ◌≤◌, List, [], ◌∷◌, ◌++◌, length, map, take, Option, Some, None, Result, Ok, Err, OnOk, OnErr, slice_get, refl, sym, ◌∙◌, ap, subst, arith, inl, inr}
 use Rattle.std.specs.List.{All}
 use Rattle.std.proofs.lemmas.List.{append-nil, append_assoc, length-append, length-map}
 use Rattle.std.proofs.lemmas.List.Elements.{All-append, All-cons, All-nil}
 use Rattle.std.proofs.lemmas.Bool.{cases_lt}
 use Rattle.std.proofs.lemmas.Bool.Decides.{eqb_tells}
-use Rattle.std.proofs.lemmas.Option.{same_Some, none-some, slice_get_within, slice_get_read}
+use Rattle.std.proofs.lemmas.Option.{same_Some, none-some, slice_get_within}
 use Rattle.cni_addr.specs.declared.memory.NoMemory.{NoMemory}
 use Rattle.cni_verbs.specs.declared.answer.Answer.{Answer}
 use Rattle.cni_verbs.specs.declared.answer.Answer.TheVariants.{OutOfMemory}
@@ -28,7 +28,7 @@ use Rattle.pod_workers.proofs.FileOrder.{file_order_answered, file_order_next_ro
 use Rattle.pod_workers.proofs.Histories.{slice_get-set_other}
 use Rattle.pod_workers.proofs.Order.{in_order, not_both, open_or_answered}
 use Rattle.pod_workers.proofs.Rounds.{placed-fits, placed_from-more, placed_from-front, round-of, rounds-before}
-use Rattle.pod_workers.proofs.Elements.{slice_get-left, slice_get-right}
+use Rattle.pod_workers.proofs.Elements.{slice_get-right, slice_get-left}
 use Rattle.pod_workers.proofs.Sound.{fine}
 use Rattle.pod_workers.proofs.WellFormedPlans.{few_commands}
 
@@ -176,7 +176,7 @@ answered-then w number n c legal below not is at_n current = elim (open_or_answe
           there = at_n;
           current = current;
           unanswered = unanswered;
-          first = λ m d o less at_m answer blocks. not_both w m (below m d (omega arith) at_m blocks.0) (answer ∙ ap Some blocks.2);
+          first = λ m d o less at_m answer blocks. not_both w m (below m d (omega arith) at_m blocks.0.0) (answer ∙ ap Some blocks.1);
         },
       ))
   | inr a ↦ a
@@ -224,9 +224,8 @@ turned-keeps host slots places before w cs kept is over =
 
 -- ---- where the code reads a round
 
-pub round-there : (rounds xs : List (List Command)) (round : ℕ) (cs d : List Command) → xs ≡ rounds → round < length rounds → d ≡ get_or xs round d → cs ≡ d → slice_get rounds round ≡ Some cs
-round-there rounds xs round cs d xs_is within d_is cs_is =
-    slice_get_read rounds (length rounds) round cs refl within (cs_is ∙ d_is ∙ ap (λ ys. get_or ys round d) xs_is ∙ ap (get_or rounds round) (sym cs_is))
+pub round-there : (round : ℕ) {rounds seen : List (List Command)} {cs : List Command} → seen ≡ rounds → slice_get seen round ≡ Some cs → slice_get rounds round ≡ Some cs
+round-there round {rounds} {seen} {cs} same is = ap (λ rs. slice_get rs round) (sym same) ∙ is
 
 pub round-fits : (host : Host) (slots : List (Option Slot)) (places : List Place) (before : ℕ) (w : World) (cs : List Command) → IsKept host slots places before w → slice_get w.plan.pods.rounds w.round ≡ Some cs
     → (before + length cs ≤ 65536) × (w.round < 65536)

@@ -6,6 +6,7 @@ use Rattle.pod_workers.specs.Plans.{Placed, commands_of, placed_from, in_round}
 use Rattle.pod_workers.specs.World.{World, IsAnswered}
 use Rattle.pod_workers.specs.declared.plan.Plan.{Plan}
 use Rattle.pod_workers.proofs.Order.{IsInOrder}
+use Rattle.pod_workers.proofs.Rounds.{round-of}
 
 -- the command at a place is of this round's commands, or of those after them
 here_or_later : (round : ℕ) (cs : List Command) (later : List Placed) (n : ℕ) (c : Placed) → slice_get (map (in_round round) cs ++ later) n ≡ Some c
@@ -17,17 +18,10 @@ here_or_later round (x ∷ xs) later (suc n) c at = elim (here_or_later round xs
   | inr t ↦ let place = t.1 in inr (t.0, omega arith, t.2)
 ]
 
-round_within : (round : ℕ) (rounds : List (List Command)) (n : ℕ) (c : Placed) → slice_get (placed_from round rounds) n ≡ Some c → (round ≤ c.round) × (c.round < round + length rounds)
-round_within round [] n c at = absurd (none-some c at)
-round_within round (cs ∷ rounds) n c at = elim (here_or_later round cs (placed_from (round + 1) rounds) n c at) [
-  | inl t ↦ let same = t.0 in (omega arith, omega arith)
-  | inr t ↦ let rest = round_within (round + 1) rounds t.0 c t.2 in (omega arith, omega arith)
-]
-
 rounds_ascend_from : (round : ℕ) (rounds : List (List Command)) (m n : ℕ) (d c : Placed) → m < n → slice_get (placed_from round rounds) m ≡ Some d → slice_get (placed_from round rounds) n ≡ Some c → d.round ≤ c.round
 rounds_ascend_from round [] m n d c less at_m at_n = absurd (none-some d at_m)
 rounds_ascend_from round (cs ∷ rounds) m n d c less at_m at_n = elim (here_or_later round cs (placed_from (round + 1) rounds) m d at_m) [
-  | inl first ↦ let same = first.0 in let low = (round_within round (cs ∷ rounds) n c at_n).0 in omega arith
+  | inl first ↦ let same = first.0 in let low = (round-of round (cs ∷ rounds) n c at_n).0 in omega arith
   | inr first ↦ elim (here_or_later round cs (placed_from (round + 1) rounds) n c at_n) [
     | inl second ↦ absurd (let place = first.1 in let within = second.1 in omega arith)
     | inr second ↦ rounds_ascend_from (round + 1) rounds first.0 second.0 d c (let one = first.1 in let two = second.1 in omega arith) first.2 second.2
@@ -40,7 +34,7 @@ rounds_ascend p m n d c less at_m at_n = rounds_ascend_from 0 p.pods.rounds m n 
 
 pub round_is_of_plan : (p : Plan) (n : ℕ) (c : Placed) → slice_get (commands_of p) n ≡ Some c → c.round < length p.pods.rounds
 unfolding commands_of
-round_is_of_plan p n c at = let within = (round_within 0 p.pods.rounds n c at).1 in omega arith
+round_is_of_plan p n c at = let within = (round-of 0 p.pods.rounds n c at).1 in omega arith
 
 -- once every round is over, every command is answered
 pub all_answered : (w : World) → IsInOrder w → length w.plan.pods.rounds ≤ w.round → (n : ℕ) (c : Placed) → slice_get (commands_of w.plan) n ≡ Some c → IsAnswered w n

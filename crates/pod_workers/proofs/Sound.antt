@@ -47,8 +47,7 @@ use Rattle.pod_workers.specs.Lasts.{AreLastsOfSets, IsLastOfSet}
 use Rattle.pod_workers.specs.Legal.{Legal, IsBegun, begins, steps, refused_memory, turns}
 use Rattle.pod_file.specs.Commands.{is_of_network}
 use Rattle.pod_workers.specs.Plans.{Placed, IsWellFormed, list_for, list_in, list_named}
-use Rattle.pod_workers.specs.World.{World, IsReady, after, host_on, host_of, own_replies, next_by, next_of, is_cut, is_faulty, entry_of, done}
-use Rattle.pod_workers.specs.declared.plan.Entry.{Entry}
+use Rattle.pod_workers.specs.World.{World, IsReady, after, host_of, own_replies, next_by, next_of, is_cut, is_faulty, entry_of, done}
 use Rattle.pod_workers.specs.declared.plan.Next.{Next}
 use Rattle.pod_workers.specs.declared.plan.Next.TheVariants as next
 use Rattle.pod_workers.specs.declared.plan.Plan.{Plan}
@@ -56,6 +55,7 @@ use Rattle.pod_workers.proofs.Asked.{IsQuestionOf, slice_get-middle}
 use Rattle.pod_workers.proofs.Planned.{IsOutside, IsRest, LeftArePlanned, LeftIsOutside, left-are-planned, left-is-outside}
 use Rattle.pod_workers.proofs.PlannedCalls.{IsPlanned}
 use Rattle.pod_workers.proofs.WellFormedPlans.{has_pools_apart, pools_apart}
+use Rattle.pod_workers.proofs.Histories.{after-append}
 
 -- ---- lists
 
@@ -83,7 +83,7 @@ moved-one p network number a x true is h g =
     record {
       list = g.list;
       set = g.set;
-      found = ap (λ n. find (λ l. bytes_eq l.name n) p.lists) same.0 ∙ g.found;
+      found = ap (λ n. list_named p.lists n) same.0 ∙ g.found;
       there = ap (slice_get (sets_of g.list)) same.1 ∙ g.there;
       fits = g.fits;
     }
@@ -108,7 +108,7 @@ last-with p host network number a false h g = each-push p host.lasts _ h g
 
 -- a lease moves the last of its pool to a candidate of its set
 lasts-lease : (p : Plan) (host : Host) (att : Att) (number : ℕ) (set : RangeSet) (list : NetList) (o : Option Addr)
-    → find (λ l. bytes_eq l.name att.network) p.lists ≡ Some list → slice_get (sets_of list) number ≡ Some set
+    → list_named p.lists att.network ≡ Some list → slice_get (sets_of list) number ≡ Some set
     → ((a : Addr) → o ≡ Some a → is_candidate set a ≡ true) → AreLastsOfSets p host.lasts → AreLastsOfSets p (lease_taken host att number o).0.lasts
 lasts-lease p host att number set list None found at fits h = h
 lasts-lease p host att number set list (Some a) found at fits h =
@@ -203,13 +203,13 @@ deletion-well p att host kinds.Cached sound lasts = stays-well p host (CacheDel 
 -- ---- a lease may be made
 
 last-fits : (p : Plan) (network : List ℕ) (number : ℕ) (set : RangeSet) (list : NetList) (lasts : List Last) (o : Option Last) → find (is_of_pool network number) lasts ≡ o
-    → find (λ l. bytes_eq l.name network) p.lists ≡ Some list → slice_get (sets_of list) number ≡ Some set → AreLastsOfSets p lasts
+    → list_named p.lists network ≡ Some list → slice_get (sets_of list) number ≡ Some set → AreLastsOfSets p lasts
     → is_candidate_or_none set (option_map (λ l. l.addr) o) ≡ true
 last-fits p network number set list lasts None is found at h = refl
 last-fits p network number set list lasts (Some x) is found at h =
     let same = same-pool network number x (passes-find (is_of_pool network number) lasts x is) in
     let last = each-found p (is_of_pool network number) lasts x h is in
-    let same_list : last.list ≡ list = same_Some last.list list (sym last.found ∙ ap (λ n. find (λ l. bytes_eq l.name n) p.lists) same.0 ∙ found) in
+    let same_list : last.list ≡ list = same_Some last.list list (sym last.found ∙ ap (λ n. list_named p.lists n) same.0 ∙ found) in
     let same_set : last.set ≡ set = same_Some last.set set (sym last.there ∙ ap (λ l. slice_get (sets_of l) x.set) same_list ∙ ap (slice_get (sets_of list)) same.1 ∙ at) in
     subst (λ (t : RangeSet). is_candidate t x.addr ≡ true) same_set last.fits
 
@@ -217,7 +217,7 @@ leased-by : (host : Host) (att : Att) (number : ℕ) (set : RangeSet) (o : Optio
 leased-by host att number set o a is = ap (λ q. (lease_taken host att number q).1) is
 
 lease-well : (p : Plan) (host : Host) (att : Att) (number : ℕ) (set : RangeSet) (list : NetList) → IsWellFormed p → AreLastsOfSets p host.lasts
-    → find (λ l. bytes_eq l.name att.network) p.lists ≡ Some list → slice_get (sets_of list) number ≡ Some set → GoesWell p host (LeaseNext att number set)
+    → list_named p.lists att.network ≡ Some list → slice_get (sets_of list) number ≡ Some set → GoesWell p host (LeaseNext att number set)
 lease-well p host att number set list well lasts found at =
     let apart : has_pools_apart list ≡ true = passes-list_all has_pools_apart (λ l. bytes_eq l.name att.network) p.lists list (pools_apart p well) found in (
       (
@@ -286,15 +286,15 @@ outside-well p host c (Over ending given) call sound lasts left is = cc
 outside-well p host c _ call sound lasts left is = absurd left
 
 -- the list of a command is the one of its network
-listed : (b : Bool) (o : Option NetList) (list : NetList) → (if b then o else None) ≡ Some list → o ≡ Some list
-listed true o list is = is
-listed false o list is = absurd (none-some list is)
+pub if-listed : (b : Bool) (o : Option NetList) (list : NetList) → (if b then o else None) ≡ Some list → o ≡ Some list
+if-listed true o list is = is
+if-listed false o list is = absurd (none-some list is)
 
 by-list : (p : Plan) (host : Host) (c : Command) (rs : List Reply) (o : Option NetList) (call : Call) → IsWellFormed p → IsSound host → AreLastsOfSets p host.lasts
     → list_in p.lists c ≡ o → turn_by o c rs ≡ Calls call → GoesWell p host call
 by-list p host c rs None call well sound lasts found is = outside-well p host c (outside_after c rs) call sound lasts (left-is-outside c rs) is
 by-list p host c rs (Some list) call well sound lasts found is =
-    turn-well p host list c (state_after list c rs) call well sound lasts (listed (is_of_network c.verb) (list_named p.lists c.network) list found) (left-are-planned list c rs) is
+    turn-well p host list c (state_after list c rs) call well sound lasts (if-listed (is_of_network c.verb) (list_named p.lists c.network) list found) (left-are-planned list c rs) is
 
 call-by : (a : Answer) (c : Command) (made : ℕ) (k call : Call) (faulty b : Bool) → (if b then next.Answer a else next.Call k (is_faulty c made)) ≡ next.Call call faulty → (Calls k ≡ Calls call) × (is_faulty c made ≡ faulty)
 call-by a c made k call faulty true is = absurd cc
@@ -312,7 +312,7 @@ pub record IsFine (w : World) : Type 0 where
   pub sound : IsSound (host_of w)
   pub lasts : AreLastsOfSets w.plan (host_of w).lasts
 
-list_for-found : (p : Plan) (c : Command) → list_in p.lists c ≡ list_for p c
+pub list_for-found : (p : Plan) (c : Command) → list_in p.lists c ≡ list_for p c
 unfolding list_for
 list_for-found p c = refl
 
@@ -320,10 +320,6 @@ next-well : (w : World) (c : Command) (rs : List Reply) (call : Call) (faulty : 
 next-well w c rs call faulty fine is =
     let t = next-is-call (list_for w.plan c) c (length rs) (is_cut w) (turn_by (list_for w.plan c) c rs) call faulty is in
     by-list w.plan (host_of w) c rs (list_for w.plan c) call fine.plan fine.sound fine.lasts (list_for-found w.plan c) t.0
-
-after-entry : (host : Host) (es : List Entry) (e : Entry) → after host (es ++ e ∷ []) ≡ host_on (after host es) e
-after-entry host [] e = refl
-after-entry host (x ∷ xs) e = after-entry (host_on host x) xs e
 
 either-fine : (p : Plan) (b : Bool) (old new : Host) → IsSound old → AreLastsOfSets p old.lasts → IsSound new → AreLastsOfSets p new.lasts → IsSound (if b then old else new) × AreLastsOfSets p (if b then old else new).lasts
 either-fine p true old new a b d e = (a, b)
@@ -335,7 +331,7 @@ fine-done w n c (next.Call call faulty) fine is =
     let well = next-well w c (own_replies w n) call faulty fine is in
     let e = entry_of (host_of w) n call faulty in
     let both = either-fine w.plan (is_fault e.reply) (host_of w) (apply (host_of w) call).0 fine.sound fine.lasts (IsSound-apply (host_of w) call fine.sound well.0) well.1 in
-    let grown = after-entry w.plan.pods.opening w.history e in
+    let grown = after-append w.plan.pods.opening w.history e in
     record { plan = fine.plan; sound = subst IsSound (sym grown) both.0; lasts = subst (λ (h : Host). AreLastsOfSets w.plan h.lasts) (sym grown) both.1 }
 
 fine-begun : (w : World) → IsBegun w → IsFine w

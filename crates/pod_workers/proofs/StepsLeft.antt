@@ -5,16 +5,14 @@ use Rattle.std.proofs.lemmas.Option.{slice_get_within}
 use Rattle.cni_addr.specs.declared.address.Addr.{Addr}
 use Rattle.cni_addr.specs.declared.memory.NoMemory.{NoMemory}
 use Rattle.cni_addr.specs.declared.range.RangeSet.{RangeSet}
-use Rattle.cni_result.specs.declared.cached.Cached.{Cached}
 use Rattle.cni_verbs.specs.CommandWords.{att_of}
 use Rattle.cni_verbs.specs.Progress.{turn_by}
 use Rattle.cni_verbs.specs.Questions.{check_questions}
-use Rattle.cni_verbs.specs.Script.{State, AtBegin, BeforeLeases, Leasing, AfterLeases, ReadingCache, Deleting, FindingEntry, Asking, Changing, Collecting, Over, Calls, turn, turn_of_work, call_of_work, gc_of, advance, start_state, state_from, state_after, outside_advance, outside_from, outside_start, outside_after, at_begin, at_call_before, at_lease, at_call_after, at_cache, at_deletion, at_entry, at_question, checking, after_leases, leasing, before_leases, deleting, asking, back_of, before_of}
+use Rattle.cni_verbs.specs.Script.{State, AtBegin, BeforeLeases, Leasing, AfterLeases, ReadingCache, Deleting, FindingEntry, Asking, Changing, Collecting, Over, Calls, turn, turn_of_work, call_of_work, gc_of, advance, start_state, state_after, outside_advance, outside_start, outside_after, after_leases, leasing, before_leases, asking, back_of, before_of}
 use Rattle.cni_verbs.specs.Sweep.{Gc, Job, Sweep, Work, work_after}
-use Rattle.cni_verbs.specs.Wanted.{kinds_of, sets_of}
+use Rattle.cni_verbs.specs.Wanted.{sets_of}
 use Rattle.cni_verbs.specs.declared.answer.Answer.{Answer}
 use Rattle.cni_verbs.specs.declared.answer.Answer.TheVariants.{OutOfMemory}
-use Rattle.cni_verbs.specs.declared.answer.Ending.{Ending}
 use Rattle.cni_verbs.specs.declared.answer.Question.{Question}
 use Rattle.kernel_types.specs.Allowed.{IsAllowed}
 use Rattle.kernel_types.specs.Apply.{apply}
@@ -22,9 +20,8 @@ use Rattle.kernel_types.specs.Sound.{IsSound}
 use Rattle.kernel_types.proofs.Replies.{IsReplyOf-apply}
 use Rattle.kernel_types.specs.declared.object.Host.{Host}
 use Rattle.kernel_types.specs.declared.call.Call.{Call}
-use Rattle.kernel_types.specs.declared.call.Kind.{Kind}
 use Rattle.kernel_types.specs.declared.call.Reply.{Reply}
-use Rattle.kernel_types.specs.declared.call.Reply.TheVariants.{Done, Leased, Gone, Has, Entry, Fault}
+use Rattle.kernel_types.specs.declared.call.Reply.TheVariants.{Fault}
 use Rattle.net_conf.specs.declared.list.NetList.{NetList}
 use Rattle.pod_file.specs.declared.command.Command.{Command}
 use Rattle.plan_words.specs.Share.{share_of}
@@ -42,6 +39,8 @@ use Rattle.pod_workers.proofs.MostCalls.{adds_in_most_calls}
 use Rattle.pod_workers.proofs.Planned.{LeftArePlanned, LeftIsOutside, left-are-planned, left-is-outside}
 use Rattle.pod_workers.proofs.RoundDone.{IsStepped}
 use Rattle.pod_workers.proofs.Sound.{allowed_next, next-is-call, sound_host}
+use Rattle.pod_workers.proofs.Kept.{outside_from-append, state_from-append}
+use Rattle.pod_workers.proofs.Replies.{StaysTrue, true-advance}
 
 -- ---- a collection
 
@@ -66,89 +65,28 @@ none-before_leases : (list : NetList) (c : Command) (left : List Call) → IsNoC
 none-before_leases list c [] = none-leasing list c (sets_of list) []
 none-before_leases list c (x ∷ xs) = tt
 
-none-deleting : (kinds : List Kind) (ending : Ending) → IsNoCollection (deleting kinds ending)
-none-deleting [] ending = tt
-none-deleting (x ∷ xs) ending = tt
-
 none-asking : (questions : List Question) → IsNoCollection (asking questions)
 none-asking [] = tt
 none-asking (x ∷ xs) = tt
 
-none-at_begin : (list : NetList) (c : Command) (number : ℕ) (r : Reply) → IsNoCollection (at_begin list c number r)
-none-at_begin list c number Done = none-before_leases list c (before_of list c)
-none-at_begin list c number _ = tt
-
-none-at_call_before : (list : NetList) (c : Command) (number : ℕ) (left : List Call) (r : Reply) → IsNoCollection (at_call_before list c number left r)
-none-at_call_before list c number left Done = none-before_leases list c left
-none-at_call_before list c number left _ = tt
-
-none-at_lease : (list : NetList) (c : Command) (number : ℕ) (left : List RangeSet) (given : List Addr) (r : Reply) → IsNoCollection (at_lease list c number left given r)
-none-at_lease list c number left given (Leased addr) = none-leasing list c left (given ++ addr ∷ [])
-none-at_lease list c number left given _ = tt
-
-none-at_call_after : (number : ℕ) (left : List Call) (given : List Addr) (r : Reply) → IsNoCollection (at_call_after number left given r)
-none-at_call_after number left given Done = none-after_leases left given
-none-at_call_after number left given _ = tt
-
-none-at_cache : (list : NetList) (number : ℕ) (ending : Ending) (r : Reply) → IsNoCollection (at_cache list number ending r)
-none-at_cache list number ending Fault = tt
-none-at_cache list number ending _ = none-deleting (kinds_of list) ending
-
-none-gone : (number : ℕ) (kind : Kind) (left : List Kind) (ending : Ending) (b : Bool) → IsNoCollection (at_deletion number kind left ending (Gone b))
-none-gone number kind left ending true = tt
-none-gone number kind left ending false = none-deleting left ending
-
-none-at_deletion : (number : ℕ) (kind : Kind) (left : List Kind) (ending : Ending) (r : Reply) → IsNoCollection (at_deletion number kind left ending r)
-none-at_deletion number kind left ending (Gone b) = none-gone number kind left ending b
-none-at_deletion number kind left ending _ = tt
-
-none-checking : (list : NetList) (c : Command) (o : Option Cached) → IsNoCollection (checking list c o)
-none-checking list c None = tt
-none-checking list c (Some cached) = none-asking (check_questions list c cached)
-
-none-at_entry : (list : NetList) (c : Command) (number : ℕ) (r : Reply) → IsNoCollection (at_entry list c number r)
-none-at_entry list c number (Entry cached) = none-checking list c cached
-none-at_entry list c number _ = tt
-
-none-has : (number : ℕ) (question : Question) (left : List Question) (b : Bool) → IsNoCollection (at_question number question left (Has b))
-none-has number question left true = none-asking left
-none-has number question left false = tt
-
-none-at_question : (number : ℕ) (question : Question) (left : List Question) (r : Reply) → IsNoCollection (at_question number question left r)
-none-at_question number question left (Has b) = none-has number question left b
-none-at_question number question left _ = tt
-
 -- no other run becomes a collection
-none-advance : (list : NetList) (c : Command) (number : ℕ) (s : State) (r : Reply) → IsNoCollection s → IsNoCollection (advance list c number s r)
-unfolding advance
-none-advance list c number AtBegin r none = none-at_begin list c number r
-none-advance list c number (BeforeLeases next left) r none = none-at_call_before list c number left r
-none-advance list c number (Leasing next left given) r none = none-at_lease list c number left given r
-none-advance list c number (AfterLeases next left given) r none = none-at_call_after number left given r
-none-advance list c number (ReadingCache ending) r none = none-at_cache list number ending r
-none-advance list c number (Deleting next left ending) r none = none-at_deletion number next left ending r
-none-advance list c number FindingEntry r none = none-at_entry list c number r
-none-advance list c number (Asking next left) r none = none-at_question number next left r
-none-advance list c number (Changing change) r none = tt
-none-advance list c number (Collecting work faults) r none = absurd none
-none-advance list c number (Over ending given) r none = tt
-
-pub none-from : (list : NetList) (c : Command) (made : ℕ) (s : State) (rs : List Reply) → IsNoCollection s → IsNoCollection (state_from list c made s rs)
-none-from list c made s [] none = none
-none-from list c made s (r ∷ rs) none = none-from list c (made + 1) (advance list c (made + 1) s r) rs (none-advance list c (made + 1) s r none)
+pub none-stays : (list : NetList) (c : Command) → StaysTrue list c IsNoCollection
+none-stays list c = record {
+  over = λ ending given. tt;
+  caches = λ ending. tt;
+  deletes = λ kind left ending. tt;
+  begun = λ none. none-before_leases list c (before_of list c);
+  before = λ next left none. none-before_leases list c left;
+  leased = λ next left given addr none. none-leasing list c left (given ++ addr ∷ []);
+  after = λ next left given none. none-after_leases left given;
+  finds = λ cached. none-asking (check_questions list c cached);
+  asks = λ next left none. none-asking left;
+  collects = λ work next faults more none. none;
+}
 
 no-work : (s : State) (host : Host) → IsNoCollection s → collecting s host ≡ 0
-no-work AtBegin host none = refl
-no-work (BeforeLeases next left) host none = refl
-no-work (Leasing next left given) host none = refl
-no-work (AfterLeases next left given) host none = refl
-no-work (ReadingCache ending) host none = refl
-no-work (Deleting next left ending) host none = refl
-no-work FindingEntry host none = refl
-no-work (Asking next left) host none = refl
-no-work (Changing change) host none = refl
 no-work (Collecting work faults) host none = absurd none
-no-work (Over ending given) host none = refl
+no-work _ host none = refl
 
 -- ---- a run's calls
 
@@ -163,18 +101,6 @@ left_of None c rs host = outside_left (outside_after c rs)
 left_of (Some list) c rs host = calls_left (most_calls list c) list c (state_after list c rs) (share_of (att_of c) host) + collecting (state_after list c rs) host
 
 -- ---- one entry
-
-state_from-append : (list : NetList) (c : Command) (made : ℕ) (s : State) (rs : List Reply) (r : Reply) → state_from list c made s (rs ++ r ∷ []) ≡ advance list c (made + length rs + 1) (state_from list c made s rs) r
-state_from-append list c made s [] r = let e : made + 1 ≡ made + 0 + 1 = omega arith in ap (λ k. advance list c k s r) e
-state_from-append list c made s (x ∷ xs) r =
-    let e : made + 1 + length xs + 1 ≡ made + length (x ∷ xs) + 1 = omega arith in
-    state_from-append list c (made + 1) (advance list c (made + 1) s x) xs r ∙ ap (λ k. advance list c k (state_from list c (made + 1) (advance list c (made + 1) s x) xs) r) e
-
-outside_from-append : (made : ℕ) (s : State) (rs : List Reply) (r : Reply) → outside_from made s (rs ++ r ∷ []) ≡ outside_advance (made + length rs + 1) (outside_from made s rs) r
-outside_from-append made s [] r = let e : made + 1 ≡ made + 0 + 1 = omega arith in ap (λ k. outside_advance k s r) e
-outside_from-append made s (x ∷ xs) r =
-    let e : made + 1 + length xs + 1 ≡ made + length (x ∷ xs) + 1 = omega arith in
-    outside_from-append (made + 1) (outside_advance (made + 1) s x) xs r ∙ ap (λ k. outside_advance k (outside_from (made + 1) (outside_advance (made + 1) s x) xs) r) e
 
 own-next : (list : NetList) (c : Command) (s : State) → LeftArePlanned list c s → IsNoCollection s → IsOwnNext c s
 own-next list c AtBegin planned none = tt
@@ -231,7 +157,7 @@ state-falls list c number n (Collecting work faults) host call faulty may planne
 state-falls list c number n s host call faulty may planned is =
     let r = reply_to host call faulty in
     let fall = entry-falls (most_calls list c) list c number n s host call faulty (adds_in_most_calls list c) may planned tt is in
-    let none = no-work (advance list c number s r) (host_on host (entry_of host n call faulty)) (none-advance list c number s r tt) in
+    let none = no-work (advance list c number s r) (host_on host (entry_of host n call faulty)) (true-advance IsNoCollection list c number s r (none-stays list c) tt) in
     omega arith
 
 outside-falls : (number : ℕ) (c : Command) (s : State) (r : Reply) (call : Call) → LeftIsOutside s → turn c s ≡ Calls call → outside_left (outside_advance number s r) < outside_left s

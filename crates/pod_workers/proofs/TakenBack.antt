@@ -1,22 +1,22 @@
 -- Of a world that meets the clauses, an answer, an entry or a round is taken back.
 use Rattle.std.proofs.Common.{◌≡◌, ◌≢◌, ℕ, ◌+◌, ◌-◌, ◌<◌, ◌≤◌, ◌==◌, Bool, true, false, List, [], ◌∷◌, ◌++◌, length, Option, Some, None, slice_get, slice_set, refl, sym, ◌∙◌, ap, subst, inl, inr, ◌⊎◌, arith}
 use Rattle.std.specs.Prelude.{if◌then◌else◌, ◌||◌, ◌&&◌}
-use Rattle.std.proofs.lemmas.List.{append_assoc, length-set}
+use Rattle.std.proofs.lemmas.List.{append_assoc, length-set, length_push}
 use Rattle.std.proofs.lemmas.Option.{same_Some, none-some, slice_get_within}
-use Rattle.std.proofs.lemmas.Bool.{cases_Bool}
+use Rattle.std.proofs.lemmas.Bool.{cases_Bool, or_right}
 use Rattle.std.proofs.lemmas.Bool.Decides.{eqb_tells, nat_tests}
 use Rattle.cni_verbs.specs.declared.answer.Answer.{Answer}
-use Rattle.cni_verbs.specs.declared.answer.Answer.TheVariants.{OutOfMemory, Stopped}
-use Rattle.pod_workers.specs.Facts.{Follows, IsEntryOf, EachTwo, EntryIsInRound, IsUntouched, AreOfOneContainer, IsScripts, IsStopOf, IsStopped, IsDone, IsLegalByClauses}
+use Rattle.cni_verbs.specs.declared.answer.Answer.TheVariants.{Stopped}
+use Rattle.pod_workers.specs.Facts.{Follows, IsEntryOf, EachTwo, EntryIsInRound, IsUntouched, AreOfOneContainer, IsScripts, IsStopOf, IsDone, IsLegalByClauses, IsDue}
 use Rattle.pod_workers.specs.Legal.{Legal, steps, refused_memory, turns}
 use Rattle.pod_workers.specs.Plans.{Placed, commands_of, list_for}
 use Rattle.pod_workers.specs.World.{World, IsReady, IsAnswered, own_replies, host_of, is_faulty, is_stop, is_cut, is_cut_at, is_in_round, last_entry, answered, with_entry, entry_of, next_of, next_by, next_round, done}
 use Rattle.pod_workers.specs.declared.plan.Plan.{Plan}
 use Rattle.pod_workers.specs.declared.plan.Entry.{Entry}
 use Rattle.pod_workers.specs.declared.plan.Next.TheVariants as next
-use Rattle.pod_workers.proofs.AnswersDue.{cut_stands}
+use Rattle.pod_workers.proofs.AnswersDue.{cut_stands, at_own_stop}
 use Rattle.pod_workers.proofs.Facts.{one_command, uncut_at}
-use Rattle.pod_workers.proofs.Histories.{slice_get-set_same, slice_get-set_other, replies_of-own, replies_of-other, has_reply, last_entry-append, length-append_one, same_entry}
+use Rattle.pod_workers.proofs.Histories.{slice_get-set_same, slice_get-set_other, replies_of-own, replies_of-other, has_reply, last_entry-append, same_entry}
 use Rattle.pod_workers.proofs.Order.{not_both, other_number}
 use Rattle.pod_workers.proofs.Splits.{split_snoc}
 
@@ -89,22 +89,18 @@ ready_before_answer v n c a k may = record {
   there = may.there;
   current = may.current;
   unanswered = may.is_open;
-  first = λ m d o less at is blocks. elim (k.containers.first m n d c less at may.there (blocks.0 ∙ sym may.current, blocks.1)) [
+  first = λ m d o less at is blocks. elim (k.containers.first m n d c less at may.there (blocks.0.0 ∙ sym may.current, blocks.0.1)) [
     | inl u ↦ untouched-other v n n a may.is_open u refl
-    | inr given ↦ not_both v m (answered-back v n m a (λ same. omega arith) given) (is ∙ ap Some blocks.2)
+    | inr given ↦ not_both v m (answered-back v n m a (λ same. omega arith) given) (is ∙ ap Some blocks.1)
   ];
 }
-
-or-true : (a b : Bool) → b ≡ true → (a || b) ≡ true
-or-true true b is = refl
-or-true false b is = is
 
 -- where the entry that `stop_at` names is of the current round, it is the last one
 is_cut_now : (w : World) (stop : Option ℕ) → IsLegalByClauses w → w.plan.stop_at ≡ stop → EntryIsInRound w.plan w.history stop w.round → is_cut_at stop w (last_entry w.history) ≡ true
 is_cut_now w None k named is = absurd is
 is_cut_now w (Some number) k named (before, [], e, n, c, split, long, of_e, round) =
     let last : last_entry w.history ≡ Some e = ap last_entry split ∙ last_entry-append before e in
-    let numbered : length w.history ≡ number = ap length split ∙ length-append_one before e ∙ long in
+    let numbered : length w.history ≡ number = ap length split ∙ length_push before e ∙ long in
     let own = of_e.number in
     let place : e.command - 1 ≡ n = omega arith in
     let there : slice_get (commands_of w.plan) (e.command - 1) ≡ Some c = ap (slice_get (commands_of w.plan)) place ∙ of_e.there in
@@ -126,9 +122,6 @@ stops_now v n c a is stops =
     ∙ ap (λ (b : Bool). if b then next.Answer (Stopped made) else next.Call is.0 (is_faulty c.command made)) stops
     ∙ ap next.Answer (sym is.2)
 
-at_own_stop : (o : Option ℕ) (made : ℕ) → o ≡ Some made → is_stop o made ≡ true
-at_own_stop o made is = ap (λ (s : Option ℕ). is_stop s made) is ∙ grind (arith, nat_tests)
-
 legal_by_step : (v : World) (n : ℕ) (c : Placed) (a : Answer) → Legal v → IsReady v n c → next_of v c.command (own_replies v n) ≡ next.Answer a → Legal (answered v n a)
 legal_by_step v n c a legal ready is = steps v (answered v n a) n c legal ready (ap (done v n) (sym is))
 
@@ -141,7 +134,7 @@ legal_answered v n c a k may legal =
       | inr (inl stopped) ↦ legal_by_step v n c a legal ready
           (stops_now v n c a stopped.0 (elim stopped.1 [
             | inl own ↦ ap (λ (b : Bool). b || is_cut v) (at_own_stop c.command.stop made own)
-            | inr cut ↦ or-true (is_stop c.command.stop made) (is_cut v)
+            | inr cut ↦ or_right (is_stop c.command.stop made) (is_cut v)
                 (is_cut_now v v.plan.stop_at (clauses_before_answer v n c a k may) refl (subst (EntryIsInRound v.plan v.history v.plan.stop_at) may.current cut))
           ]))
       | inr (inr lacking) ↦ refused_memory v (answered v n a) n c legal ready (ap (answered v n) lacking)
@@ -182,9 +175,6 @@ cut-back p h e n c (Some number) round of_e is = elim (split_snoc h is.0 is.1 e 
   | inr t ↦ inl (is.0, t.0, is.2, is.3, is.4, t.2, is.6, is.7, is.8)
 ]
 
-abbrev IsDue : World → ℕ → Placed → Answer → Type 0
-IsDue w n c a = IsScripts w n c a ⊎ (IsStopped w n c a ⊎ (a ≡ OutOfMemory))
-
 due-back : (v : World) (e : Entry) (n m : ℕ) (c d : Placed) (a : Answer) → MayEnter v e n c → m ≢ n → slice_get (commands_of v.plan) m ≡ Some d → slice_get v.answers m ≡ Some (Some a) → IsDue (with_entry v e) m d a → IsDue v m d a
 due-back v e n m c d a may other at given (inl scripts) = inl (let own = replies-back v e n m may.of_entry.number other in rw (← own) scripts)
 due-back v e n m c d a may other at given (inr (inr lacking)) = inr (inr lacking)
@@ -213,7 +203,7 @@ done-back v e n m d own other is =
 
 stop-back : (v : World) (e : Entry) (m most : ℕ) → length (own_replies (with_entry v e) m) ≤ most → length (own_replies v m) ≤ most
 stop-back v e m most less = elim (eqb_tells e.command (m + 1)) [
-  | inl t ↦ let longer = ap length (replies_of-own m v.history e t.1) ∙ length-append_one (own_replies v m) e.reply in omega arith
+  | inl t ↦ let longer = ap length (replies_of-own m v.history e t.1) ∙ length_push (own_replies v m) e.reply in omega arith
   | inr f ↦ let same = ap length (replies_of-other m v.history e f.1) in omega arith
 ]
 
@@ -256,9 +246,9 @@ legal_entered v e n c k may legal =
       there = follows.there;
       current = round;
       unanswered = ap (slice_get v.answers) (sym same.0) ∙ may.is_open;
-      first = λ m d o less at is blocks. elim (k.containers.first m follows.place d follows.by less at follows.there (blocks.0 ∙ sym round, blocks.1)) [
+      first = λ m d o less at is blocks. elim (k.containers.first m follows.place d follows.by less at follows.there (blocks.0.0 ∙ sym round, blocks.0.1)) [
         | inl u ↦ entered_has_reply v e follows.place follows.number u.no_reply
-        | inr given ↦ not_both v m given (is ∙ ap Some blocks.2)
+        | inr given ↦ not_both v m given (is ∙ ap Some blocks.1)
       ];
     } in
     let no_cut : is_cut v ≡ false = elim (cases_Bool (is_cut v)) [

@@ -5,7 +5,7 @@ use Rattle.std.proofs.lemmas.Bool.{false≢true}
 use Rattle.std.proofs.lemmas.Option.{same_Some, none-some}
 use Rattle.cni_verbs.proofs.CallsOrOver.{calls_or_over}
 use Rattle.cni_verbs.specs.Progress.{answer_by}
-use Rattle.cni_verbs.specs.Script.{IsOpen, State, Over, Turn, Calls, Finishes, Finish, turn, next_call, finish_of}
+use Rattle.cni_verbs.specs.Script.{IsOpen, State, Turn, Calls, Finishes, Finish, turn, next_call, finish_of}
 use Rattle.cni_verbs.specs.declared.answer.Answer.{Answer}
 use Rattle.cni_verbs.specs.declared.answer.Answer.TheVariants.{Stopped}
 use Rattle.kernel_types.specs.Allowed.{IsAllowed}

@@ -7,7 +7,7 @@ use Rattle.kernel_types.specs.Allowed.{IsAllowed}
 use Rattle.kernel_types.specs.declared.call.Call.{Call}
 use Rattle.pod_workers.specs.Extends.{KeepsAnswers}
 use Rattle.pod_workers.specs.Legal.{Legal}
-use Rattle.pod_workers.specs.Plans.{Placed, IsWellFormed, commands_of, list_for}
+use Rattle.pod_workers.specs.Plans.{Placed, IsWellFormed, commands_of, list_for, IsOf}
 use Rattle.cni_verbs.specs.Progress.{turn_by, answer_by}
 use Rattle.pod_workers.specs.World.{World, after, replies_of, own_replies, reply_to, is_faulty, is_stop, next_of, stepped, with_entry, IsAnswered, IsReady}
 use Rattle.pod_workers.specs.declared.plan.Plan.{Plan}
@@ -100,7 +100,7 @@ pub record GoesByRounds (w : World) : Type 0 where
 
 -- in one round
 abbrev pub AreOfOneContainer : Placed → Placed → Type 0
-AreOfOneContainer d c = (d.round ≡ c.round) × (d.command.container ≡ c.command.container)
+AreOfOneContainer d c = IsOf d c.round c.command.container
 
 -- In each container of a round one command goes after another (CNI specification, section 3, "Lifecycle & Ordering"): one that
 -- has a call or an answer finds each earlier one answered, one that has a call finds it done, and entries stand in file order.
@@ -120,9 +120,11 @@ pub record Stops (w : World) : Type 0 where
 -- ---- answers
 
 -- a command's answer is its script's, a stop, or want of memory
+abbrev pub IsDue : World → ℕ → Placed → Answer → Type 0
+IsDue w n c a = IsScripts w n c a ⊎ (IsStopped w n c a ⊎ (a ≡ OutOfMemory))
+
 abbrev pub AnswerIsDue : World → Type 0
-AnswerIsDue w = (n : ℕ) (a : Answer) (c : Placed) → slice_get w.answers n ≡ Some (Some a) → slice_get (commands_of w.plan) n ≡ Some c
-    → IsScripts w n c a ⊎ (IsStopped w n c a ⊎ (a ≡ OutOfMemory))
+AnswerIsDue w = (n : ℕ) (a : Answer) (c : Placed) → slice_get w.answers n ≡ Some (Some a) → slice_get (commands_of w.plan) n ≡ Some c → IsDue w n c a
 
 abbrev pub EveryAnswerIsDue : Type 0
 EveryAnswerIsDue = (w : World) → Legal w → AnswerIsDue w

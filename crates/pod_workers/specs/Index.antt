@@ -2,13 +2,9 @@
 use Rattle.std.specs.Prelude.{◌≡◌, ℕ, ◌+◌, ◌-◌, ◌<◌, ◌≤◌, ◌==◌, ◌&&◌, Bool, true, false, List, Option, Some, None, length, slice_get}
 use Rattle.cni_verbs.specs.declared.answer.Answer.{Answer}
 use Rattle.pod_file.specs.declared.command.Command.{Command}
-use Rattle.pod_workers.specs.Plans.{Placed}
+use Rattle.pod_workers.specs.Plans.{Placed, IsOf}
 use Rattle.pod_workers.specs.declared.index.Place.{Place}
 use Rattle.pod_workers.specs.declared.plan.Entry.{Entry}
-
--- the command is of this round and container
-abbrev pub IsOf : Placed → ℕ → List ℕ → Type 0
-IsOf c round container = (c.round ≡ round) × (c.command.container ≡ container)
 
 -- no command at a place from `start` on and before `end` is of this round and container
 abbrev pub NoneOf : List Placed → ℕ → ℕ → ℕ → List ℕ → Type 0

@@ -17,6 +17,10 @@ pub record Placed : Type 0 where
   pub command : Command
   pub round : ℕ
 
+-- the command is of this round and container
+abbrev pub IsOf : Placed → ℕ → List ℕ → Type 0
+IsOf c round container = (c.round ≡ round) × (c.command.container ≡ container)
+
 abbrev pub in_round : ℕ → Command → Placed
 in_round round c = record { command = c; round = round }
 

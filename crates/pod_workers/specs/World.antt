@@ -13,7 +13,7 @@ use Rattle.kernel_types.specs.declared.call.Reply.{Reply}
 use Rattle.kernel_types.specs.declared.call.Reply.TheVariants.{Fault}
 use Rattle.net_conf.specs.declared.list.NetList.{NetList}
 use Rattle.pod_file.specs.declared.command.Command.{Command}
-use Rattle.pod_workers.specs.Plans.{Placed, commands_of, list_for}
+use Rattle.pod_workers.specs.Plans.{Placed, commands_of, list_for, IsOf}
 use Rattle.pod_workers.specs.declared.plan.Plan.{Plan}
 use Rattle.pod_workers.specs.declared.plan.Entry.{Entry}
 use Rattle.pod_workers.specs.declared.plan.Next.{Next}
@@ -125,7 +125,7 @@ AllNone {T} xs = (n : ℕ) (o : Option T) → slice_get xs n ≡ Some o → o �
 
 -- a command of this round and container that has no answer (CNI specification, section 3, "Lifecycle & Ordering")
 abbrev pub Blocks : Placed → Option Answer → ℕ → List ℕ → Type 0
-Blocks d o round container = (d.round ≡ round) × (d.command.container ≡ container) × (o ≡ None)
+Blocks d o round container = IsOf d round container × (o ≡ None)
 
 -- the command at place n is of the current round and has no answer, and each earlier one of its container in the round has one
 pub record MayStep (commands : List Placed) (answers : List (Option Answer)) (round n : ℕ) (c : Placed) : Type 0 where

@@ -11,7 +11,7 @@ ghost use Rattle.pod_workers.specs.Plans.{IsWellFormed, Placed, commands_of};
 ghost use Rattle.pod_workers.specs.Slots.{AreNumbersOf};
 ghost use Rattle.pod_workers.specs.World.{IsReadyNumber, IsRoundOver, answer_at, answer_in, answered, begun, end_of, host_of, next_of, next_round, own_replies, stepped};
 
-use crate::index::{Place, command_at, index_of, may_step, place_at};
+use crate::index::{Place, command_at, index_of, may_step, place_at, round_at};
 use crate::plan::{Entry, Plan, StepEnd};
 use crate::slots::{Outcome, Slot, blanks, carry_on, put_at, take_at};
 use cni_addr::NoMemory;
@@ -211,7 +211,7 @@ impl<K: Kernel + Drop> Book<K> {
         requires { self.now.round < length self.now.plan.pods.rounds }
         ensures { AreNumbersOf self.now result.0 result.1 }
     {
-        let commands = self.plan.pods.rounds.as_slice()[self.round as usize].as_slice();
+        let commands = round_at(self.plan.pods.rounds.as_slice(), self.round);
         let first = self.before as u32 + 1;
         (first, first + commands.len() as u32)
     }
@@ -222,7 +222,7 @@ impl<K: Kernel + Drop> Book<K> {
         requires over { IsRoundOver self.old }
         ensures { self.new ≡ next_round self.old }
     {
-        let commands = self.plan.pods.rounds.as_slice()[self.round as usize].as_slice();
+        let commands = round_at(self.plan.pods.rounds.as_slice(), self.round);
         self.before += commands.len();
         self.round += 1;
     }

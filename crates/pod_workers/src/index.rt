@@ -63,6 +63,14 @@ pub(crate) fn place_at(places: &[Place], n: usize) -> Place
     places[n]
 }
 
+/// The commands of this round, from 0.
+pub(crate) fn round_at(rounds: &[Items<Command>], round: u32) -> &[Command]
+    requires { round < length rounds.now }
+    ensures { slice_get rounds.now round ≡ Some result.now }
+{
+    rounds[round as usize].as_slice()
+}
+
 /// The command of this place.
 pub fn command_at(rounds: &[Items<Command>], place: Place) -> &Command
     requires { IsSome (command_in rounds.now place) }
