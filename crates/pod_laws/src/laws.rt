@@ -23,9 +23,9 @@ pub fn an_added_attachment_is_made()
     ensures { WasAdded }
 {}
 
-/// An ADD is refused by its words, with no call made, or by its first entry that is not granted, which decides the code and
-/// its details. Where that is Begin it is the only entry. Else nothing of the attachment is left at the last entry, unless
-/// a later entry is a fault.
+/// An ADD is refused by its words, with no call made, or by its first entry that is not granted, which decides the code
+/// and its details. Where that is Begin it is the only entry. Else nothing of the attachment is left at the last entry,
+/// unless a later entry is a fault.
 pub fn a_refused_attachment_is_undone()
     ensures { WasRefused }
 {}
@@ -57,8 +57,8 @@ pub fn a_deletion_fails_by_words_or_fault()
     ensures { WasNotDeleted }
 {}
 
-/// A DEL is answered without an error or with a refusal, unless memory was refused or it was stopped. Its namespace is not
-/// asked for.
+/// A DEL is answered without an error or with a refusal, unless memory was refused or it was stopped. Its namespace is
+/// not asked for.
 pub fn every_del_is_answered()
     ensures { AnswersOfDel }
 {}
@@ -68,18 +68,19 @@ pub fn a_calm_del_is_answered_without_error()
     ensures { CalmIsDeleted }
 {}
 
-/// Each entry of a DEL removes own objects alone, and leaves the host where there are none: a DEL that is repeated changes
-/// nothing.
+/// Each entry of a DEL removes own objects alone, and leaves the host where there are none: a DEL that is repeated
+/// changes nothing.
 pub fn a_deletion_removes_own_objects()
     ensures { EachDeletionIsOwn }
 {}
 
 // ---- GC
 
-/// A GC is refused with no call made where its list is older than the verb (code 1), and skipped so where its list disables
-/// it. Else, unless memory was refused or it was stopped, it is answered without an error where it met no fault: then the host
-/// right after its last entry is the one right before its first without the objects of stale attachments. Where it met faults,
-/// its error (code 103) names them all, and each such object that is left had a faulty call.
+/// A GC is refused with no call made where its list is older than the verb (code 1), and skipped so where its list
+/// disables it. Else, unless memory was refused or it was stopped, it is answered without an error where it met no
+/// fault: then the host right after its last entry is the one right before its first without the objects of stale
+/// attachments. Where it met faults, its error (code 103) names them all, and each such object that is left had a
+/// faulty call.
 pub fn every_collection_is_answered()
     ensures { CollectionsAreAnswered }
 {}
@@ -89,45 +90,47 @@ pub fn every_collection_is_bounded()
     ensures { CollectionsAreBounded }
 {}
 
-/// A GC makes at most six calls; for each stale attachment that owned an object at its start seven more than its list has kinds,
-/// counted plugin by plugin; and one for each object that is not kept.
+/// A GC makes at most six calls; for each stale attachment that owned an object at its start seven more than its list
+/// has kinds, counted plugin by plugin; and one for each object that is not kept.
 pub fn a_collection_makes_few_calls()
     ensures { CollectionsAreShort }
 {}
 
-/// A GC that is answered without an error leaves what a GC of the round before it, with the same network and valid list, was to
-/// keep of the host before it, whatever that one came to once it had made a call.
+/// A GC that is answered without an error leaves what a GC of the round before it, with the same network and valid
+/// list, was to keep of the host before it, whatever that one came to once it had made a call.
 pub fn a_second_collection_finishes_the_first()
     ensures { CollectionsInARowKeep }
 {}
 
 // ---- every moment
 
-/// At every moment an attachment has nothing, or all that it has is asked for by one ADD: the last one of the attachment
-/// whose Begin was done, with the addresses that it was leased so far.
+/// At every moment an attachment has nothing, or all that it has is asked for by one ADD: the last one of the
+/// attachment whose Begin was done, with the addresses that it was leased so far.
 pub fn nothing_is_unasked()
     ensures { NothingIsUnasked }
 {}
 
-/// Where a list has `tuning` at most once, as every list that is read, each link that an ADD asks for is a wanted one, or
-/// the container's end as it was before `tuning`.
+/// Where a list has `tuning` at most once, as every list that is read, each link that an ADD asks for is a wanted one,
+/// or the container's end as it was before `tuning`.
 pub fn each_link_is_wanted()
     ensures { EachLinkIsWanted }
 {}
 
-/// Each entry of an ADD, a DEL, a CHECK or a STATUS leaves the objects of every other attachment as they are, list by list.
+/// Each entry of an ADD, a DEL, a CHECK or a STATUS leaves the objects of every other attachment as they are, list by
+/// list.
 pub fn each_entry_leaves_others()
     ensures { EachEntryLeavesOthers }
 {}
 
-/// Each entry of a GC leaves as it is, list by list, all but the objects of the attachments of its network that its valid list
-/// doesn't name.
+/// Each entry of a GC leaves as it is, list by list, all but the objects of the attachments of its network that its
+/// valid list doesn't name.
 pub fn each_collection_takes_the_stale_alone()
     ensures { EachCollectionTakesTheStaleAlone }
 {}
 
-/// No entry removes what attachments share, and each entry of a verb of the CNI specification leaves what was made outside as
-/// it is, list by list. What was made outside goes only by the world outside: a namespace that goes, or a link of one.
+/// No entry removes what attachments share, and each entry of a verb of the CNI specification leaves what was made
+/// outside as it is, list by list. What was made outside goes only by the world outside: a namespace that goes, or a
+/// link of one.
 pub fn each_entry_keeps_the_rest()
     ensures { EachEntryKeepsTheRest }
 {}
@@ -139,10 +142,10 @@ pub fn each_last_is_a_candidate()
 
 // ---- how many calls
 
-/// A run makes a bounded number of calls, whatever others do meanwhile. With p a bound on the calls of an ADD that isn't
-/// refused, whatever addresses it is leased, and c the kinds of its list's plugins, an ADD makes at most 2p + c + 2; a DEL
-/// c + 2 and one an object of its attachment at its first call, a pair of links as one, with what lies on them; a CHECK 2
-/// and one an object of its cached share; a STATUS 1 and one a range set; a VERSION none.
+/// A run makes a bounded number of calls, whatever others do meanwhile. With p a bound on the calls of an ADD that
+/// isn't refused, whatever addresses it is leased, and c the kinds of its list's plugins, an ADD makes at most
+/// 2p + c + 2; a DEL c + 2 and one an object of its attachment at its first call, a pair of links as one, with what
+/// lies on them; a CHECK 2 and one an object of its cached share; a STATUS 1 and one a range set; a VERSION none.
 #[tactic(auto, using(crate::proofs::VerbBounds::run_is_bounded))]
 pub fn each_run_is_bounded()
     ensures { EachRunIsBounded }
@@ -167,10 +170,11 @@ pub fn each_version_is_the_lists()
     ensures { VersionsAreTheLists }
 {}
 
-/// NSADD, NSDEL, DROP and FLUSH are refused by their words (code 4), with no call made, or make the one change that they ask
-/// for, whose reply decides: the namespace isn't there (code 100), a namespace of the name is (code 101), the call was a
-/// fault (code 103), or what was to be taken away isn't there (code 105); any other reply is answered Yes. A FLUSH that names
-/// no table makes no call and is answered Yes. So it is unless memory was refused or the command was stopped.
+/// NSADD, NSDEL, DROP and FLUSH are refused by their words (code 4), with no call made, or make the one change that
+/// they ask for, whose reply decides: the namespace isn't there (code 100), a namespace of the name is (code 101), the
+/// call was a fault (code 103), or what was to be taken away isn't there (code 105); any other reply is answered Yes. A
+/// FLUSH that names no table makes no call and is answered Yes. So it is unless memory was refused or the command was
+/// stopped.
 pub fn each_change_is_answered_by_its_reply()
     ensures { ChangesAreAnswered }
 {}
@@ -182,19 +186,19 @@ pub fn each_question_leaves_the_host()
     ensures { EachQuestionLeavesTheHost }
 {}
 
-/// A STATUS is answered without an error where each range set of its list has a free address in the host at its entries and
-/// the master of `macvlan` is there. Else it is refused for the first that isn't available (code 50): the range sets in order,
-/// and then the master. A list older than 1.1.0 refuses it (code 1), and a fault does (code 103). So it is unless memory was
-/// refused or it was stopped.
+/// A STATUS is answered without an error where each range set of its list has a free address in the host at its entries
+/// and the master of `macvlan` is there. Else it is refused for the first that isn't available (code 50): the range
+/// sets in order, and then the master. A list older than 1.1.0 refuses it (code 1), and a fault does (code 103). So it
+/// is unless memory was refused or it was stopped.
 pub fn a_status_tells_what_is_available()
     ensures { WasAvailable }
 {}
 
-/// A CHECK is answered without an error where its attachment has a cached entry, and the host at its last entry holds all that
-/// the cached result says that there is. With no cached entry the attachment is unknown (code 3); else the first object that
-/// isn't there is named (code 110): the bridge, links, addresses, routes, rules, settings and leases. Bad words refuse it
-/// (code 4), a list may skip it, and a fault ends it (code 103). So it is unless memory was refused or it was stopped,
-/// whatever other commands did between its entries.
+/// A CHECK is answered without an error where its attachment has a cached entry, and the host at its last entry holds
+/// all that the cached result says that there is. With no cached entry the attachment is unknown (code 3); else the
+/// first object that isn't there is named (code 110): the bridge, links, addresses, routes, rules, settings and leases.
+/// Bad words refuse it (code 4), a list may skip it, and a fault ends it (code 103). So it is unless memory was refused
+/// or it was stopped, whatever other commands did between its entries.
 pub fn a_check_tells_what_the_host_holds()
     ensures { WasChecked }
 {}

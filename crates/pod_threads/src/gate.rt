@@ -1,10 +1,10 @@
 //! Where a worker may be held.
 
-/// Is passed by a worker before each step, outside the lock. A gate that waits for a step of another worker shows in a test
-/// that both are at work; one that returns at once holds nobody.
+/// Is passed by a worker before each step, outside the lock. A gate that waits for a step of another worker shows in a
+/// test that both are at work; one that returns at once holds nobody.
 pub trait Gate: Sync {
-    /// The command of this number is to be stepped, after so many steps of this worker for it; from the greatest number on
-    /// they are not counted.
+    /// The command of this number is to be stepped, after so many steps of this worker for it; from the greatest number
+    /// on they are not counted.
     fn pass(&self, command: u32, calls: u32);
 }
 

@@ -16,8 +16,8 @@ pub(crate) struct Owned {
     pub worker: usize,
 }
 
-/// The commands of the current round that have no answer, in file order. The round's containers are numbered from 0 by first
-/// occurrence, and the commands of one all go to the worker of its number modulo the number of workers.
+/// The commands of the current round that have no answer, in file order. The round's containers are numbered from 0 by
+/// first occurrence, and the commands of one all go to the worker of its number modulo the number of workers.
 pub(crate) fn share_out<K: Kernel + Drop>(
     alloc: Global,
     book: &Book<K>,

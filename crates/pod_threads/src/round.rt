@@ -19,8 +19,9 @@ use std::sync::{Mutex, Wait};
 use std::thread;
 use std::thread::Threads;
 
-/// The book after a round, and for each worker how many entries it made. The first worker's count has besides the round's
-/// entries that no worker made: those that stood before, and those of commands that were left to be done at the end.
+/// The book after a round, and for each worker how many entries it made. The first worker's count has besides the
+/// round's entries that no worker made: those that stood before, and those of commands that were left to be done at the
+/// end.
 #[derive(Drop)]
 pub struct Rounded<K: Kernel> {
     pub book: Book<K>,
@@ -29,9 +30,9 @@ pub struct Rounded<K: Kernel> {
 
 /// Does the current round by so many workers, each in a thread of its own where there is one to be had.
 ///
-/// A worker steps the commands of its containers in file order, each to its answer, and passes the gate before each step.
-/// What is left open when all workers are done is stepped here in file order. An error is want of memory alone, before any
-/// worker is started. A gate that holds a worker for ever holds this call for ever.
+/// A worker steps the commands of its containers in file order, each to its answer, and passes the gate before each
+/// step. What is left open when all workers are done is stepped here in file order. An error is want of memory alone,
+/// before any worker is started. A gate that holds a worker for ever holds this call for ever.
 pub fn round_threads<K: Kernel + Send + Drop, R: Threads + Wait + Sync, G: Gate>(
     rt: &R,
     alloc: Global,

@@ -25,8 +25,8 @@ impl Origin for Brand {
     ghost from = { nowhere };
 }
 
-/// The book, which goes on from the one that went in, and a ledger of the entries made since. Whoever takes the lock finds
-/// this true, and has to leave it so.
+/// The book, which goes on from the one that went in, and a ledger of the entries made since. Whoever takes the lock
+/// finds this true, and has to leave it so.
 #[derive(Drop)]
 pub struct Shared<J: Origin, L: Ledger, K: Kernel + Drop> {
     book: Book<K>,

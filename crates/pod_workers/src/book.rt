@@ -48,8 +48,8 @@ impl<K: Kernel> Model for Book<K> {
 }
 
 impl<K: Kernel + Drop> Book<K> {
-    /// A book of the plan, with nothing done yet. It makes room for every command's answer and looks up where each command
-    /// stands; where memory is refused for that, plan and kernel are let go.
+    /// A book of the plan, with nothing done yet. It makes room for every command's answer and looks up where each
+    /// command stands; where memory is refused for that, plan and kernel are let go.
     pub fn begin(alloc: Global, plan: Plan, kernel: K) -> Result<Book<K>, NoMemory>
         requires well_formed { IsWellFormed plan }
         requires opening { K.host kernel ≡ plan.pods.opening }
@@ -119,8 +119,8 @@ impl<K: Kernel + Drop> Book<K> {
         self.plan.pods.rounds.as_slice().len() <= self.round as usize
     }
 
-    /// Whether the command of this number, from 1, may step: it is of the current round and has no answer, and the command
-    /// before it of its container in the round has one. A number that is no command's may not.
+    /// Whether the command of this number, from 1, may step: it is of the current round and has no answer, and the
+    /// command before it of its container in the round has one. A number that is no command's may not.
     pub fn ready(&self, command: u32) -> bool
         ensures { MatchBool result (IsReadyNumber self.now command) (IsReadyNumber self.now command → ⊥) }
     {
@@ -176,10 +176,10 @@ impl<K: Kernel + Drop> Book<K> {
     }
 
     /// Steps each command of the current round to its answer, in file order, and makes the next round current. It ends,
-    /// since a step gives an answer or enters a call, and each run has so many calls at most: an ADD two a call of its plan,
-    /// one a kind of its plugins' objects, and two; a DEL one a kind, one an object of its attachment, and two; a CHECK and a
-    /// STATUS one a question, and one; a change from outside one; a GC six, and for each object of the host eight and one a
-    /// kind.
+    /// since a step gives an answer or enters a call, and each run has so many calls at most: an ADD two a call of its
+    /// plan, one a kind of its plugins' objects, and two; a DEL one a kind, one an object of its attachment, and two; a
+    /// CHECK and a STATUS one a question, and one; a change from outside one; a GC six, and for each object of the host
+    /// eight and one a kind.
     pub fn round_alone(&mut self)
         requires { self.old.round < length self.old.plan.pods.rounds }
         ensures rounds { Rounds self.old self.new }

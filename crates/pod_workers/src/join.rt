@@ -16,8 +16,8 @@ use net_conf::NetList;
 use pod_file::{Command, Pods};
 
 impl Plan {
-    /// The plan of these lists and this pod file. Refused are, in this order, the first list that has the name of an earlier
-    /// one, and the first command of a network that no list has.
+    /// The plan of these lists and this pod file. Refused are, in this order, the first list that has the name of an
+    /// earlier one, and the first command of a network that no list has.
     pub fn join(lists: Items<NetList>, pods: Pods, stop_at: Option<u32>) -> Result<Plan, PlanError>
         requires few_lists { length lists ≤ 64 }
         requires few_commands { length (commands_of (record { lists = lists; pods = pods; stop_at = stop_at })) ≤ 65536 }

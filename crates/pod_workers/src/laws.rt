@@ -23,8 +23,8 @@ pub fn every_call_may_be_made()
     ensures { EveryCallMayBeMade }
 {}
 
-/// Each entry has the call of its command's script and the kernel's reply in the host there, or a fault that the command
-/// lists.
+/// Each entry has the call of its command's script and the kernel's reply in the host there, or a fault that the
+/// command lists.
 #[tactic(auto, using(crate::proofs::Facts::each_follows))]
 pub fn every_entry_follows()
     ensures { EveryEntryFollows }
@@ -61,8 +61,8 @@ pub fn each_answer_is_given()
     ensures { EachAnswerIsGiven }
 {}
 
-/// A world that allowed steps reach meets each clause of what a legal history is: its entries, rounds, containers, stops
-/// and answers.
+/// A world that allowed steps reach meets each clause of what a legal history is: its entries, rounds, containers,
+/// stops and answers.
 pub fn legal_worlds_meet_each_clause()
     ensures { LegalWorldsMeetEachClause }
 {}
