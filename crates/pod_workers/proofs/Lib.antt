@@ -31,6 +31,7 @@ pub mod RoundsAscend
 pub mod Sound
 pub mod Splits
 pub mod StepsLeft
+pub mod Stopped
 pub mod TakenBack
 pub mod Turns
 pub mod WellFormedPlans

@@ -129,6 +129,15 @@ AnswerIsDue w = (n : ℕ) (a : Answer) (c : Placed) → slice_get w.answers n �
 abbrev pub EveryAnswerIsDue : Type 0
 EveryAnswerIsDue = (w : World) → Legal w → AnswerIsDue w
 
+-- no more than the number of the entry that stops a round
+abbrev pub IsWithinStop : Plan → ℕ → Type 0
+IsWithinStop p made = (number : ℕ) × (p.stop_at ≡ Some number) × (made ≤ number)
+
+-- a stopped command is answered how many calls it made: its own `stop`, or no more than that number
+abbrev pub EachStopIsCounted : Type 0
+EachStopIsCounted = (w : World) → Legal w → (n made : ℕ) (c : Placed) → slice_get (commands_of w.plan) n ≡ Some c → slice_get w.answers n ≡ Some (Some (Stopped made))
+    → (made ≡ length (own_replies w n)) × ((c.command.stop ≡ Some made) ⊎ IsWithinStop w.plan made)
+
 -- ---- moments
 
 -- a legal world of the same plan with this history, whose answers stand later

@@ -1,6 +1,6 @@
 //! Laws over every legal history, each carried by a function that does nothing.
 
-ghost use Rattle.pod_workers.specs.Facts.{EachAnswerIsGiven, EachCommandIsOpenAfterItsEntry, EachEntryIsMade, EachFront, EachWorldOfTheClausesIsLegal, EveryAnswerIsDue, EveryEntryFollows, LegalWorldsMeetEachClause};
+ghost use Rattle.pod_workers.specs.Facts.{EachAnswerIsGiven, EachCommandIsOpenAfterItsEntry, EachEntryIsMade, EachFront, EachStopIsCounted, EachWorldOfTheClausesIsLegal, EveryAnswerIsDue, EveryEntryFollows, LegalWorldsMeetEachClause};
 ghost use Rattle.pod_workers.specs.Laws.{EveryCallMayBeMade, EveryHostIsSound, NoAddressIsLeasedTwice};
 ghost use Rattle.pod_workers.specs.Order.{FileOrderIsKept, OneOutcome};
 
@@ -34,6 +34,13 @@ pub fn every_entry_follows()
 #[tactic(auto, using(crate::proofs::AnswersDue::answer_is_due))]
 pub fn every_answer_is_due()
     ensures { EveryAnswerIsDue }
+{}
+
+/// A stopped command is answered how many calls it made: as many as its own `stop`, or no more than the number of the
+/// entry with which its round was stopped.
+#[tactic(auto, using(crate::proofs::Stopped::each_stop_is_counted))]
+pub fn each_stop_is_counted()
+    ensures { EachStopIsCounted }
 {}
 
 /// Each front of a history is the history of a legal world whose answers stand later, so what is true of every legal
