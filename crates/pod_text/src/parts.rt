@@ -115,7 +115,7 @@ fn push_host<K: Kernel + Drop>(
     if !asked {
         return Ok(());
     }
-    let host = book.host(alloc)?;
+    let host = book.host()?;
     push_dump(alloc, &host, lines)
 }
 

@@ -99,10 +99,10 @@ impl<K: Kernel + Drop> Book<K> {
     }
 
     /// A copy of the host.
-    pub fn host(&self, alloc: Global) -> Result<Host, NoMemory>
+    pub fn host(&self) -> Result<Host, NoMemory>
         ensures { IfOk result (λ host. host ≡ host_of self.now) }
     {
-        self.kernel.host(alloc)
+        self.kernel.host(*self.history.allocator())
     }
 
     /// The current round, from 0.
