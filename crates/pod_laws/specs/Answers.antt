@@ -10,13 +10,9 @@ use Rattle.pod_workers.specs.declared.plan.Entry.{Entry}
 
 -- the book gave the answer without the script: memory was refused, or the command was stopped
 abbrev pub is_cut_off : Answer → Bool
-is_cut_off (answers.Added r) = false
-is_cut_off answers.Yes = false
-is_cut_off (answers.Skipped verb) = false
-is_cut_off (answers.Versions version) = false
-is_cut_off (answers.Refused error) = false
 is_cut_off answers.OutOfMemory = true
 is_cut_off (answers.Stopped calls) = true
+is_cut_off answer = false
 
 abbrev pub IsRefusal : Answer → Type 0
 IsRefusal a = (error : CniError) × (a ≡ answers.Refused error)

@@ -21,16 +21,12 @@ use Rattle.pod_workers.specs.declared.plan.Plan.{Plan}
 
 -- a garbage collection and the world outside may take from any attachment; each other verb changes its own at most
 abbrev pub leaves_others : Verb → Bool
-leaves_others verbs.Add = true
-leaves_others verbs.Check = true
-leaves_others verbs.Del = true
 leaves_others verbs.Gc = false
-leaves_others verbs.Status = true
-leaves_others verbs.Version = true
 leaves_others verbs.NsAdd = false
 leaves_others verbs.NsDel = false
 leaves_others verbs.Drop = false
 leaves_others verbs.Flush = false
+leaves_others verb = true
 
 -- each entry of an ADD, a DEL, a CHECK or a STATUS leaves the objects of every other attachment, from the start of its run
 abbrev pub EachEntryLeavesOthers : Type 0

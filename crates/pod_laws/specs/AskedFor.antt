@@ -10,9 +10,9 @@ use Rattle.kernel_types.specs.Equal.{att_eq}
 use Rattle.kernel_types.specs.declared.object.Att.{Att}
 use Rattle.kernel_types.specs.declared.object.Link.{Link}
 use Rattle.kernel_types.specs.declared.call.Call.{Call}
-use Rattle.kernel_types.specs.declared.call.Call.TheVariants.{Begin, BridgeEnsure, GatewayEnsure, ForwardEnsure, VethAdd, MacvlanAdd, LinkSet, AddrAdd, RouteAdd, RuleAppend, SettingSet, LeaseNext, CachePut, LinkDel, RuleDel, SettingDel, LeaseDel, CacheDel, HasObj, CacheGet, OwnersOf, PoolFree, NsChange, Outside}
+use Rattle.kernel_types.specs.declared.call.Call.TheVariants.{Begin}
 use Rattle.kernel_types.specs.declared.call.Reply.{Reply}
-use Rattle.kernel_types.specs.declared.call.Reply.TheVariants.{Done, NoNs, NoLink, Taken, Empty, Leased, Gone, Has, Owners, Entry as Kept, Fault}
+use Rattle.kernel_types.specs.declared.call.Reply.TheVariants.{Done}
 use Rattle.net_conf.specs.declared.chained.Chained.{Chained}
 use Rattle.net_conf.specs.declared.chained.Chained.TheVariants.{Portmap, Firewall, Tuning}
 use Rattle.net_conf.specs.declared.list.NetList.{NetList}
@@ -40,42 +40,11 @@ AreAmong (x ∷ xs) all = IsAmong x all × AreAmong xs all
 
 abbrev pub is_begin_of : Att → Call → Bool
 is_begin_of att (Begin a netns) = att_eq a att
-is_begin_of att (BridgeEnsure name mtu promisc) = false
-is_begin_of att (GatewayEnsure bridge cidr) = false
-is_begin_of att (ForwardEnsure family) = false
-is_begin_of att (VethAdd host_end inner_end) = false
-is_begin_of att (MacvlanAdd link) = false
-is_begin_of att (LinkSet a key mac mtu tx_qlen promisc allmulti) = false
-is_begin_of att (AddrAdd obj) = false
-is_begin_of att (RouteAdd obj) = false
-is_begin_of att (RuleAppend rule) = false
-is_begin_of att (SettingSet setting) = false
-is_begin_of att (LeaseNext a number set) = false
-is_begin_of att (CachePut a cached) = false
-is_begin_of att (LinkDel a) = false
-is_begin_of att (RuleDel a) = false
-is_begin_of att (SettingDel a) = false
-is_begin_of att (LeaseDel a) = false
-is_begin_of att (CacheDel a) = false
-is_begin_of att (HasObj probe) = false
-is_begin_of att (CacheGet a) = false
-is_begin_of att (OwnersOf network kind) = false
-is_begin_of att (PoolFree network set) = false
-is_begin_of att (NsChange name add) = false
-is_begin_of att (Outside change) = false
+is_begin_of att call = false
 
 abbrev pub is_done : Reply → Bool
 is_done Done = true
-is_done NoNs = false
-is_done NoLink = false
-is_done (Taken tag) = false
-is_done Empty = false
-is_done (Leased addr) = false
-is_done (Gone gone) = false
-is_done (Has has) = false
-is_done (Owners owners) = false
-is_done (Kept cached) = false
-is_done Fault = false
+is_done reply = false
 
 -- a Begin for the attachment that was done
 abbrev pub begins : Att → Entry → Bool

@@ -11,7 +11,7 @@ use Rattle.kernel_types.specs.declared.call.Call.{Call}
 use Rattle.kernel_types.specs.declared.call.Call.TheVariants.{NsChange, Outside}
 use Rattle.kernel_types.specs.declared.call.Change.TheVariants.{DropLink, Flush}
 use Rattle.kernel_types.specs.declared.call.Reply.{Reply}
-use Rattle.kernel_types.specs.declared.call.Reply.TheVariants.{Done, NoNs, NoLink, Taken, Empty, Leased, Gone, Has, Owners, Entry as Kept, Fault}
+use Rattle.kernel_types.specs.declared.call.Reply.TheVariants.{NoNs, Taken, Gone, Fault}
 use Rattle.net_conf.specs.declared.list.NetList.{NetList}
 use Rattle.pod_file.specs.declared.command.Command.{Command}
 use Rattle.pod_file.specs.declared.command.Verb.{Verb}
@@ -39,13 +39,7 @@ abbrev pub refusal_of_change : Verb → Command → Option Cause
 refusal_of_change verbs.NsAdd c = netns_refusal c
 refusal_of_change verbs.NsDel c = netns_refusal c
 refusal_of_change verbs.Drop c = drop_refusal c
-refusal_of_change verbs.Flush c = None
-refusal_of_change verbs.Add c = None
-refusal_of_change verbs.Check c = None
-refusal_of_change verbs.Del c = None
-refusal_of_change verbs.Gc c = None
-refusal_of_change verbs.Status c = None
-refusal_of_change verbs.Version c = None
+refusal_of_change verb c = None
 
 -- the change that the command asks for: a namespace comes or goes, a link of one goes, or the rules of a table do
 abbrev pub change_asked_by : Verb → Command → Option Call
@@ -53,12 +47,7 @@ change_asked_by verbs.NsAdd c = Some (NsChange c.netns true)
 change_asked_by verbs.NsDel c = Some (NsChange c.netns false)
 change_asked_by verbs.Drop c = Some (Outside (DropLink (record { ns = c.netns; name = c.ifname })))
 change_asked_by verbs.Flush c = option_map (λ table. Outside (Flush table)) c.table
-change_asked_by verbs.Add c = None
-change_asked_by verbs.Check c = None
-change_asked_by verbs.Del c = None
-change_asked_by verbs.Gc c = None
-change_asked_by verbs.Status c = None
-change_asked_by verbs.Version c = None
+change_asked_by verb c = None
 
 -- why a reply refuses a change, if it does: codes 100, 101, 103 and 105
 abbrev pub denial : Reply → Option Cause
@@ -66,14 +55,7 @@ denial NoNs = Some causes.NoNamespace
 denial (Taken tag) = Some (causes.NameTaken tag)
 denial Fault = Some (causes.Fault 1)
 denial (Gone false) = Some causes.NothingThere
-denial (Gone true) = None
-denial Done = None
-denial NoLink = None
-denial Empty = None
-denial (Leased addr) = None
-denial (Has has) = None
-denial (Owners owners) = None
-denial (Kept cached) = None
+denial reply = None
 
 -- Yes, or refused; there is no list, so an error is of the newest version
 abbrev pub answer_outside_by : Command → Option Cause → Answer

@@ -5,7 +5,7 @@ use Rattle.cni_verbs.specs.declared.answer.Question.{Question}
 use Rattle.kernel_types.specs.Apply.{apply}
 use Rattle.kernel_types.specs.declared.object.Host.{Host}
 use Rattle.kernel_types.specs.declared.call.Reply.{Reply}
-use Rattle.kernel_types.specs.declared.call.Reply.TheVariants.{Done, NoNs, NoLink, Taken, Empty, Leased, Gone, Has, Owners, Entry as Kept, Fault}
+use Rattle.kernel_types.specs.declared.call.Reply.TheVariants.{Has}
 use Rattle.pod_file.specs.declared.command.Verb.{Verb}
 use Rattle.pod_file.specs.declared.command.Verb.TheVariants as verbs
 use Rattle.pod_workers.specs.Legal.{Legal}
@@ -15,16 +15,7 @@ use Rattle.pod_workers.specs.declared.plan.Entry.{Entry}
 
 abbrev pub is_yes : Reply → Bool
 is_yes (Has has) = has
-is_yes Done = false
-is_yes NoNs = false
-is_yes NoLink = false
-is_yes (Taken tag) = false
-is_yes Empty = false
-is_yes (Leased addr) = false
-is_yes (Gone gone) = false
-is_yes (Owners owners) = false
-is_yes (Kept cached) = false
-is_yes Fault = false
+is_yes reply = false
 
 -- the kernel with this host says yes to the question
 abbrev pub grants : Host → Question → Bool
@@ -42,16 +33,10 @@ pub record IsFirstDenied (host : Host) (questions : List Question) (question : Q
 
 -- the verbs that ask, and make and take nothing
 abbrev pub only_asks : Verb → Bool
-only_asks verbs.Add = false
 only_asks verbs.Check = true
-only_asks verbs.Del = false
-only_asks verbs.Gc = false
 only_asks verbs.Status = true
 only_asks verbs.Version = true
-only_asks verbs.NsAdd = false
-only_asks verbs.NsDel = false
-only_asks verbs.Drop = false
-only_asks verbs.Flush = false
+only_asks verb = false
 
 -- each entry of a CHECK or a STATUS leaves the whole host
 abbrev pub EachQuestionLeavesTheHost : Type 0

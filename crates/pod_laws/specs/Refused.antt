@@ -17,7 +17,7 @@ use Rattle.kernel_types.specs.declared.object.Tag.{Tag}
 use Rattle.kernel_types.specs.declared.call.Call.{Call}
 use Rattle.kernel_types.specs.declared.call.Call.TheVariants.{Begin, LeaseNext, MacvlanAdd}
 use Rattle.kernel_types.specs.declared.call.Reply.{Reply}
-use Rattle.kernel_types.specs.declared.call.Reply.TheVariants.{Done, NoNs, NoLink, Taken, Empty, Leased, Gone, Has, Owners, Entry as Kept, Fault}
+use Rattle.kernel_types.specs.declared.call.Reply.TheVariants.{Done, NoNs, NoLink, Taken, Empty, Leased, Fault}
 use Rattle.net_conf.specs.declared.list.NetList.{NetList}
 use Rattle.plan_words.specs.Share.{Share, share_of, no_objects}
 use Rattle.pod_file.specs.declared.command.Command.{Command}
@@ -35,15 +35,7 @@ use Rattle.pod_laws.specs.Answers.{IsRefusal, is_cut_off}
 abbrev pub is_granted : Reply → Bool
 is_granted Done = true
 is_granted (Leased addr) = true
-is_granted NoNs = false
-is_granted NoLink = false
-is_granted (Taken tag) = false
-is_granted Empty = false
-is_granted (Gone gone) = false
-is_granted (Has has) = false
-is_granted (Owners owners) = false
-is_granted (Kept cached) = false
-is_granted Fault = false
+is_granted reply = false
 
 abbrev pub lets_go_on : Entry → Bool
 lets_go_on e = is_granted e.reply
