@@ -10,6 +10,7 @@ A row has the files that lie where the program runs, the words, and what is expe
     answers     the lines of the commands, which come first
     calls       by command number: how many calls it made, or their kinds in order (the words ask for a trace)
     replies     by command number: the replies to its calls, in order (the words ask for a trace)
+    leased      the addresses that the results have, in any order; the answers write each as `<LEASED>`
     dump        the lines of the dump, or the kinds of its objects where they are single words
     later       instead of what is printed: the file is read, so a refusal is one that comes after reading
 
@@ -29,6 +30,7 @@ import tempfile
 
 HERE = pathlib.Path(__file__).resolve().parent
 LATER = re.compile(r"invalid pod file: no network for command \d+")
+LEASED = re.compile(r'(?<="ips":\[{"address":")([^"]*)')
 
 
 def mac(digest):
@@ -120,6 +122,11 @@ def differences(row, status, out):
     read = [json.loads(line) for line in lines]
     answers = [line for line, value in zip(lines, read) if "verb" in value]
     dump = [line for line, value in zip(lines, read) if "kind" in value]
+    if "leased" in row:
+        got = sorted(address for line in answers for address in LEASED.findall(line))
+        if got != sorted(row["leased"]):
+            yield f"leased: {got}"
+        answers = [LEASED.sub("<LEASED>", line) for line in answers]
     for key, got in (("stdout", lines), ("answers", answers)):
         if key in row and got != [expanded(line) for line in row[key]]:
             yield f"{key}: {json.dumps(got)}"

@@ -4,17 +4,18 @@
 //! cnitool [--threads N] [--stop-at N] [--trace] [--dump] PODS [LIST]..
 //! ```
 //!
-//! What it does is `tool_run`'s [`run_alone`]; here are its words, its files and its output. It ends with the status of
-//! that call. Where the system doesn't give the words, nothing is written, and the status is 6 for want of memory and 7
-//! else, as for a word that isn't UTF-8.
+//! What it does is `tool_run`'s [`run`], with a gate that holds no thread; here are its words, its files and its output.
+//! It ends with the status of that call. Where the system doesn't give the words, nothing is written, and the status is 6
+//! for want of memory and 7 else, as for a word that isn't UTF-8.
 #![tactic(auto)]
 
 use cni_addr::{Items, NoMemory, Text};
 use cni_io::{RealFiles, RealSink};
+use pod_threads::OpenGate;
 use std::env;
 use std::io::ErrorKind;
 use std::process::ExitCode;
-use tool_run::run_alone;
+use tool_run::run;
 
 /// Why there are no words.
 #[derive(Clone, Copy)]
@@ -45,7 +46,14 @@ fn main(rt: HostRuntime) -> ExitCode {
     };
     let mut files = RealFiles::new(&rt);
     let mut sink = RealSink::new(rt.stdout());
-    let outcome = run_alone(rt.alloc(), words.as_slice(), &mut files, &mut sink);
+    let outcome = run(
+        &rt,
+        rt.alloc(),
+        words.as_slice(),
+        &mut files,
+        &mut sink,
+        &OpenGate,
+    );
     ExitCode::from(outcome.status)
 }
 

@@ -1,10 +1,12 @@
 -- How a run ends, cause by cause, and what follows of its status and its book.
 use Rattle.std.proofs.Common.{◌≡◌, ◌∙◌, ◌≤◌, ℕ, List, [], ◌∷◌, refl, sym, ap, subst, arith, inl, inr, Bool, true, false, cond, Option, Some, None, Ok, Err, IfSome, IsSomeAnd}
 use Rattle.std.specs.List.{list_any}
+use Rattle.std.proofs.lemmas.Option.{same_Some}
 use Rattle.cni_io.specs.Faults.{Rose}
 use Rattle.cni_io.specs.Files.{StoredFiles}
 use Rattle.cni_verbs.specs.declared.answer.Answer.{Answer}
 use Rattle.pod_text.specs.Statuses.{is_failure, is_memory, status_of}
+use Rattle.pod_workers.specs.Order.{IsInFileOrder}
 use Rattle.pod_workers.specs.World.{World}
 use Rattle.pod_workers.specs.declared.plan.Plan.{Plan}
 use Rattle.tool_words.specs.Words.{words_of}
@@ -12,22 +14,11 @@ use Rattle.tool_words.specs.declared.words.Words.{Words}
 use Rattle.tool_run.specs.Causes.{WhereTold}
 use Rattle.tool_run.specs.Ends.{Reported, Reports, Settles}
 use Rattle.tool_run.specs.Lines.{usage_line}
-use Rattle.tool_run.specs.Statuses.{ComesTo, Completes, IsCarriedOut, IsDue, IsOneOf, IsTextOf, IsUnreadOf, Wrote, WroteFront}
+use Rattle.tool_run.specs.Statuses.{ComesTo, Completes, HasCauses, IsCarriedOut, IsDue, IsOneOf, IsTextOf, IsUnreadOf, Sides, Wrote, WroteFront}
 use Rattle.tool_run.specs.Verdict.{Verdict, carry, line, plan_of, usage, verdict_if, verdict_of, verdict_on}
-use Rattle.tool_run.specs.declared.run.Due.{Due}
-use Rattle.tool_run.specs.declared.run.Due.TheVariants as due
-use Rattle.tool_run.specs.declared.run.Outcome.{Outcome}
-
--- words, files and the count of their faults, and a sink before and after with the count of its faults
-pub record Sides : Type 0 where
-  pub words : List (List ℕ)
-  pub files : Option StoredFiles
-  pub reads_before : ℕ
-  pub reads_now : ℕ
-  pub old : Option (List ℕ)
-  pub new : Option (List ℕ)
-  pub writes_before : ℕ
-  pub writes_now : ℕ
+use Rattle.tool_run.specs.declared.settle.Due.{Due}
+use Rattle.tool_run.specs.declared.settle.Due.TheVariants as due
+use Rattle.tool_run.specs.declared.top.Outcome.{Outcome}
 
 abbrev pub Printed : List ℕ
 Printed = 0 ∷ 1 ∷ 8 ∷ []
@@ -91,16 +82,16 @@ of_text_due r o b bytes some carried text reports = elim reports [
   | inr g ↦ of_sink bytes g.0 g.1 (subst (λ (x : Option World). IfSome x (IsCarriedOut r.words r.files)) (sym some) carried) (subst (DueAt r bytes) (sym some) text) g.2
 ]
 
-pub ended : (r : Sides) (d : Due) (o : Outcome) → Settles r.words r.files r.reads_before r.reads_now d → Reported r.old r.new r.writes_before r.writes_now d o → Ended r o.status o.book
-ended r due.Usage o none rep =
+pub ended : (keeps : ℕ → Type 0) (r : Sides) (d : Due) (o : Outcome) → Settles keeps r.words r.files r.reads_before r.reads_now d → Reported r.old r.new r.writes_before r.writes_now d o → Ended r o.status o.book
+ended keeps r due.Usage o none rep =
     of_line_due r o usage_line 2 rep.0 (inl (none, refl)) (λ status wrote. of_usage status rep.0 none wrote) rep.1
-ended r (due.Line text) o settles rep =
+ended keeps r (due.Line text) o settles rep =
     let comes = comes_to_line r.words r.files settles.0 text.items settles.1 settles.2 in
     of_line_due r o text.items 3 rep.0 (inr (inl comes)) (λ status wrote. of_line text.items status rep.0 settles.0 settles.1 comes wrote) rep.1
-ended r (due.Unread text) o settles rep =
+ended keeps r (due.Unread text) o settles rep =
     let unread : IsUnreadOf r.words r.reads_before r.reads_now text.items = record { by = settles.0; words_are = settles.1; unread = settles.2 } in
     of_line_due r o text.items 4 rep.0 (inr (inr unread)) (λ status wrote. of_read text.items status rep.0 unread wrote) rep.1
-ended r (due.Text book text) o settles rep =
+ended keeps r (due.Text book text) o settles rep =
     let w = settles.0 in
     let told = settles.2.0 in
     let made = settles.2.1 in
@@ -110,9 +101,8 @@ ended r (due.Text book text) o settles rep =
       plan = comes_to_plan r.words r.files w book.plan settles.1 told;
       over = made.1;
       legal = made.2;
-      in_file_order = made.3;
     }) (record { by = w; words_are = settles.1; text = made.4 }) rep.1
-ended r due.NoMemory o settles rep = of_memory rep.1 rep.0 rep.2
+ended keeps r due.NoMemory o settles rep = of_memory rep.1 rep.0 rep.2
 
 -- ---- what follows
 
@@ -241,3 +231,41 @@ no_book_clause r status book (of_read bytes st none unread wrote) h = none
 no_book_clause r status book (of_text b bytes one st some carried text wrote) h = let m = middle status h in other status status one refl m.0 (omega arith)
 no_book_clause r status book (of_sink bytes st rose carried is_due front) h = let m = middle status h in absurd (omega arith)
 no_book_clause r status book (of_memory st none same) h = none
+
+pub causes : (r : Sides) (status : ℕ) (book : Option World) → Ended r status book → HasCauses r status book
+causes r status book how = record {
+  only = only r status book how;
+  text = text_clause r status book how;
+  usage = usage_clause r status book how;
+  usage_only = usage_only r status book how;
+  refused = line_clause r status book how;
+  read = read_clause r status book how;
+  sink = sink_clause r status book how;
+  memory = memory_clause r status book how;
+  complete = complete r status book how;
+  carried = book_clause r status book how;
+  no_book = no_book_clause r status book how;
+}
+
+-- ---- the order of a book that one thread made
+
+abbrev IsOrdered : Option World → Type 0
+IsOrdered book = IfSome book IsInFileOrder
+
+without_book : (o : Outcome) → o.book ≡ None → IsOrdered o.book
+without_book o none = subst IsOrdered (sym none) tt
+
+pub ordered : (keeps : ℕ → Type 0) (r : Sides) (d : Due) (o : Outcome) → Settles keeps r.words r.files r.reads_before r.reads_now d → Reported r.old r.new r.writes_before r.writes_now d o
+    → (by : Words) → words_of r.words ≡ Some by → keeps by.threads → IsOrdered o.book
+ordered keeps r due.Usage o settles rep by is kept = without_book o rep.0
+ordered keeps r (due.Line text) o settles rep by is kept = without_book o rep.0
+ordered keeps r (due.Unread text) o settles rep by is kept = without_book o rep.0
+ordered keeps r (due.Text book text) o settles rep by is kept =
+    let same = same_Some by settles.0 (sym is ∙ settles.1) in
+    subst IsOrdered (sym rep.0) (settles.2.1.3 (subst (λ (w : Words). keeps w.threads) same kept))
+ordered keeps r due.NoMemory o settles rep by is kept = without_book o rep.0
+
+-- a book has words that are taken
+pub ordered_always : (r : Sides) (status : ℕ) (book : Option World) → HasCauses r status book → ((by : Words) → words_of r.words ≡ Some by → IsOrdered book) → IsOrdered book
+ordered_always r status None causes order = tt
+ordered_always r status (Some book) causes order = let carried = causes.carried in order carried.by carried.words_are

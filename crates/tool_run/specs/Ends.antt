@@ -13,9 +13,9 @@ use Rattle.tool_run.specs.Causes.{IsUnread, WhereTold}
 use Rattle.tool_run.specs.Lines.{usage_line}
 use Rattle.tool_run.specs.Statuses.{Wrote, WroteFront}
 use Rattle.tool_run.specs.Verdict.{plan_of}
-use Rattle.tool_run.specs.declared.run.Due.{Due}
-use Rattle.tool_run.specs.declared.run.Due.TheVariants.{Usage, Line, Unread, Text, NoMemory}
-use Rattle.tool_run.specs.declared.run.Outcome.{Outcome}
+use Rattle.tool_run.specs.declared.settle.Due.{Due}
+use Rattle.tool_run.specs.declared.settle.Due.TheVariants.{Usage, Line, Unread, Text, NoMemory}
+use Rattle.tool_run.specs.declared.top.Outcome.{Outcome}
 
 -- The bytes were written and this is the status; or it is 5, the sink's count rose, and a front of them was written.
 abbrev pub Reports : Option (List ℕ) → Option (List ℕ) → ℕ → ℕ → List ℕ → ℕ → ℕ → Type 0
@@ -31,29 +31,29 @@ Reported old new before now (Text book bytes) outcome =
     (outcome.book ≡ Some book) × Reports old new before now bytes.items (status_of book.answers) outcome.status
 Reported old new before now NoMemory outcome = (outcome.book ≡ None) × (outcome.status ≡ 6) × (new ≡ old)
 
--- the text of the plan's book, whose commands went in file order and every round of which is over, or memory ran out
-abbrev pub SettlesPlan : Words → Plan → Due → Type 0
-SettlesPlan words plan Usage = ⊥
-SettlesPlan words plan (Line line) = ⊥
-SettlesPlan words plan (Unread line) = ⊥
-SettlesPlan words plan (Text book bytes) =
-    (book.plan ≡ plan) × (length plan.pods.rounds ≤ book.round) × Legal book × IsInFileOrder book × (bytes.items ≡ text_of book words.trace words.dump)
-SettlesPlan words plan NoMemory = ⊤
+-- the text of the plan's book, every round of which is over, or memory ran out; where so many threads keep the file's order, its commands went in it
+abbrev pub SettlesPlan : (keeps : ℕ → Type 0) → Words → Plan → Due → Type 0
+SettlesPlan keeps words plan Usage = ⊥
+SettlesPlan keeps words plan (Line line) = ⊥
+SettlesPlan keeps words plan (Unread line) = ⊥
+SettlesPlan keeps words plan (Text book bytes) =
+    (book.plan ≡ plan) × (length plan.pods.rounds ≤ book.round) × Legal book × (keeps words.threads → IsInFileOrder book) × (bytes.items ≡ text_of book words.trace words.dump)
+SettlesPlan keeps words plan NoMemory = ⊤
 
-abbrev pub SettlesFor : Words → Option StoredFiles → ℕ → ℕ → Due → Type 0
-SettlesFor words files before now Usage = ⊥
-SettlesFor words files before now (Line line) = WhereTold files (λ stored. plan_of stored words ≡ Err line.items)
-SettlesFor words files before now (Unread line) = IsUnread (words.pods ∷ words.lists) before now line.items
-SettlesFor words files before now (Text book bytes) =
-    WhereTold files (λ stored. plan_of stored words ≡ Ok book.plan) × SettlesPlan words book.plan (Text book bytes)
-SettlesFor words files before now NoMemory = ⊤
+abbrev pub SettlesFor : (keeps : ℕ → Type 0) → Words → Option StoredFiles → ℕ → ℕ → Due → Type 0
+SettlesFor keeps words files before now Usage = ⊥
+SettlesFor keeps words files before now (Line line) = WhereTold files (λ stored. plan_of stored words ≡ Err line.items)
+SettlesFor keeps words files before now (Unread line) = IsUnread (words.pods ∷ words.lists) before now line.items
+SettlesFor keeps words files before now (Text book bytes) =
+    WhereTold files (λ stored. plan_of stored words ≡ Ok book.plan) × SettlesPlan keeps words book.plan (Text book bytes)
+SettlesFor keeps words files before now NoMemory = ⊤
 
-abbrev pub SettlesWith : List (List ℕ) → Option StoredFiles → ℕ → ℕ → Due → Type 0
-SettlesWith words files before now due = (w : Words) × (words_of words ≡ Some w) × SettlesFor w files before now due
+abbrev pub SettlesWith : (keeps : ℕ → Type 0) → List (List ℕ) → Option StoredFiles → ℕ → ℕ → Due → Type 0
+SettlesWith keeps words files before now due = (w : Words) × (words_of words ≡ Some w) × SettlesFor keeps w files before now due
 
-abbrev pub Settles : List (List ℕ) → Option StoredFiles → ℕ → ℕ → Due → Type 0
-Settles words files before now Usage = words_of words ≡ None
-Settles words files before now (Line line) = SettlesWith words files before now (Line line)
-Settles words files before now (Unread line) = SettlesWith words files before now (Unread line)
-Settles words files before now (Text book bytes) = SettlesWith words files before now (Text book bytes)
-Settles words files before now NoMemory = ⊤
+abbrev pub Settles : (keeps : ℕ → Type 0) → List (List ℕ) → Option StoredFiles → ℕ → ℕ → Due → Type 0
+Settles keeps words files before now Usage = words_of words ≡ None
+Settles keeps words files before now (Line line) = SettlesWith keeps words files before now (Line line)
+Settles keeps words files before now (Unread line) = SettlesWith keeps words files before now (Unread line)
+Settles keeps words files before now (Text book bytes) = SettlesWith keeps words files before now (Text book bytes)
+Settles keeps words files before now NoMemory = ⊤

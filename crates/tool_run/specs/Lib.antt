@@ -2,5 +2,6 @@ pub mod Causes
 pub mod Ends
 pub mod Lines
 pub mod Refusals
+pub mod Rounds
 pub mod Statuses
 pub mod Verdict

@@ -1,10 +1,11 @@
 -- What was written, with which status, and why.
-use Rattle.std.specs.Prelude.{◌≡◌, ◌≤◌, ◌⊎◌, ℕ, List, [], ◌∷◌, length, take, Option, Some, None}
+use Rattle.std.specs.Prelude.{◌≡◌, ◌≤◌, ◌⊎◌, ℕ, List, [], ◌∷◌, length, take, Option, Some, None, IfSome, IsSomeAnd}
 use Rattle.std.specs.Io.KnownBytes.{append_known}
+use Rattle.cni_io.specs.Faults.{Rose}
 use Rattle.cni_io.specs.Files.{StoredFiles}
 use Rattle.pod_text.specs.Lines.{text_of}
+use Rattle.pod_text.specs.Statuses.{status_of}
 use Rattle.pod_workers.specs.Legal.{Legal}
-use Rattle.pod_workers.specs.Order.{IsInFileOrder}
 use Rattle.pod_workers.specs.World.{World}
 use Rattle.tool_words.specs.Words.{words_of}
 use Rattle.tool_words.specs.declared.words.Words.{Words}
@@ -29,14 +30,13 @@ WroteFront old new bytes = (n : ℕ) × (new ≡ append_known old (take n bytes)
 abbrev pub ComesTo : List (List ℕ) → Option StoredFiles → Verdict → Type 0
 ComesTo words files verdict = WhereTold files (λ stored. verdict_of words stored ≡ verdict)
 
--- a legal book of the plan that the words and the files come to, whose commands went in file order, with every round over
+-- a legal book of the plan that the words and the files come to, with every round over
 pub record IsCarriedOut (words : List (List ℕ)) (files : Option StoredFiles) (book : World) : Type 0 where
   pub by : Words
   pub words_are : words_of words ≡ Some by
   pub plan : ComesTo words files (carry book.plan by.trace by.dump)
   pub over : length book.plan.pods.rounds ≤ book.round
   pub legal : Legal book
-  pub in_file_order : IsInFileOrder book
 
 -- the whole text of the book, with the trace and the dump that the words ask for
 pub record IsTextOf (words : List (List ℕ)) (book : World) (bytes : List ℕ) : Type 0 where
@@ -64,3 +64,32 @@ abbrev pub Completes : Verdict → ℕ → Type 0
 Completes usage status = IsOneOf status (2 ∷ 6 ∷ [])
 Completes (line bytes) status = IsOneOf status (3 ∷ 6 ∷ [])
 Completes (carry plan trace dump) status = IsOneOf status (0 ∷ 1 ∷ 6 ∷ 8 ∷ [])
+
+-- words, files and the count of their faults before and now, the sink's bytes and the count of its faults before and now
+pub record Sides : Type 0 where
+  pub words : List (List ℕ)
+  pub files : Option StoredFiles
+  pub reads_before : ℕ
+  pub reads_now : ℕ
+  pub old : Option (List ℕ)
+  pub new : Option (List ℕ)
+  pub writes_before : ℕ
+  pub writes_now : ℕ
+
+-- the status of a run and its book, each with its cause
+pub record HasCauses (r : Sides) (status : ℕ) (book : Option World) : Type 0 where
+  pub only : IsOneOf status (0 ∷ 1 ∷ 2 ∷ 3 ∷ 4 ∷ 5 ∷ 6 ∷ 8 ∷ [])
+  pub text : IsOneOf status (0 ∷ 1 ∷ 8 ∷ []) → IsSomeAnd book (λ b. (status ≡ status_of b.answers) × ((bytes : List ℕ) × IsTextOf r.words b bytes × Wrote r.old r.new bytes))
+  pub usage : status ≡ 2 → (words_of r.words ≡ None) × Wrote r.old r.new usage_line
+  pub usage_only : words_of r.words ≡ None → IsOneOf status (2 ∷ 5 ∷ 6 ∷ [])
+  pub refused : status ≡ 3 → (bytes : List ℕ) × ComesTo r.words r.files (line bytes) × Wrote r.old r.new bytes
+  pub read : status ≡ 4 → (bytes : List ℕ) × IsUnreadOf r.words r.reads_before r.reads_now bytes × Wrote r.old r.new bytes
+  pub sink : status ≡ 5 → Rose r.writes_before r.writes_now × ((bytes : List ℕ) × IsDue r.words r.files r.reads_before r.reads_now book bytes × WroteFront r.old r.new bytes)
+  pub memory : status ≡ 6 → r.new ≡ r.old
+  pub complete : (stored : StoredFiles) → r.files ≡ Some stored → (Rose r.reads_before r.reads_now → ⊥) → (Rose r.writes_before r.writes_now → ⊥) → Completes (verdict_of r.words stored) status
+  pub carried : IfSome book (IsCarriedOut r.words r.files)
+  pub no_book : IsOneOf status (2 ∷ 3 ∷ 4 ∷ []) → book ≡ None
+
+-- the words are taken, and ask for one thread
+abbrev pub AskForOneThread : List (List ℕ) → Type 0
+AskForOneThread words = (by : Words) × (words_of words ≡ Some by) × (by.threads ≡ 1)

@@ -1,16 +1,18 @@
 //! The top call of the program `cnitool`: words, files, a plan that is carried out on the modelled kernel, and the text.
 //!
-//! What it promises above: [`run_alone`] has one clause for each exit status (`specs/Statuses.antt`): its cause, and
-//! at 6, want of memory, that nothing was written. Where files and sink tell their bytes, what is written is the text of a
-//! legal book of exactly the plan that the definition `verdict_of` (`specs/Verdict.antt`) makes of the words and the
-//! files, or the one line that it gives in place of a plan. Where no read and no write failed, nothing but want of memory
-//! takes the place of that.
+//! What it promises above: [`run`] by several threads, if it returns, and [`run_alone`] by one give each exit status its
+//! cause (`HasCauses`, `specs/Statuses.antt`), and at 6, want of memory, nothing was written. Where files and sink tell
+//! their bytes, what is written is the text of a legal book of exactly the plan that the definition `verdict_of`
+//! (`specs/Verdict.antt`) makes of the words and the files, or the one line that it gives in place of a plan. Where no
+//! read and no write failed, nothing but want of memory takes the place of that. Where one thread makes the rounds, the
+//! book's commands go in the order of the file.
 //!
 //! ```text
-//! // words: pods.json net.json
-//! let outcome = run_alone(alloc, words, &mut files, &mut sink);
+//! // words: --threads 4 pods.json net.json
+//! let outcome = run(&rt, alloc, words, &mut files, &mut sink, &OpenGate);
 //! outcome.status            // 0, and {"n":1,"ok":true,"verb":"DEL"} was written
 //! // without net.json: status 3, and {"error":"missing","file":"net.json"}
+//! run_alone(alloc, words, &mut files, &mut sink)    // the same on this thread alone
 //! ```
 #![tactic(auto)]
 
@@ -19,8 +21,10 @@ mod laws;
 mod lines;
 mod plan;
 mod refusals;
-pub mod run;
+mod rounds;
+mod settle;
 #[cfg(test)]
 mod tests;
+pub mod top;
 
-pub use run::{Outcome, run_alone};
+pub use top::{Outcome, run, run_alone};

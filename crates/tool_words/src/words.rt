@@ -13,8 +13,7 @@ const MOST_LISTS: usize = 64;
 /// What the words say.
 #[derive(Drop)]
 pub struct Words {
-    /// The number that `--threads` gives, 1 to 16, and 1 where it gives none. Every round runs on one thread, so no
-    /// caller reads it yet.
+    /// How many threads are to make a round: the number that `--threads` gives, 1 to 16, and 1 where it gives none.
     pub threads: u8,
     /// The number, from 1, of the history's entry after which the rest of its round is stopped.
     pub stop_at: Option<u32>,

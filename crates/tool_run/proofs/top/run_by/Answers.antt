@@ -1,0 +1,25 @@
+use Rattle.tool_run.specs.Rounds.{KeepsFileOrder}
+use Rattle.tool_run.specs.Statuses.{Sides}
+use Rattle.tool_run.proofs.Ended.{causes, ended, ordered}
+use Rattle.tool_run.proofs.top.run_by.Goals as goal
+
+pub returns : goal.returns
+returns g c =
+    let sides : Sides = record {
+      words = c.args.words.now;
+      files = g.F.Files.files c.args.files.now;
+      reads_before = g.F.Files.faults c.args.files.now;
+      reads_now = g.F.Files.faults c.settle-due.new.files;
+      old = g.S.Sink.written c.args.sink.now;
+      new = g.S.Sink.written c.report.new.sink;
+      writes_before = g.S.Sink.faults c.args.sink.now;
+      writes_now = g.S.Sink.faults c.report.new.sink;
+    } in
+    let keeps = KeepsFileOrder g.M.Fn c.args.make.now in
+    let due = c.settle-due.result in
+    let outcome = c.report.result in
+    record {
+      causes = causes sides outcome.status outcome.book (ended keeps sides due outcome c.settle-due.ensures.settles c.report.ensures);
+      order = ordered keeps sides due outcome c.settle-due.ensures.settles c.report.ensures;
+      keeps = c.settle-due.ensures.keeps;
+    }
