@@ -1,7 +1,7 @@
 -- What a verb asks of its command's words, before its first call (CNI specification, section 2, "Parameters"; error codes of section 5).
 use Rattle.std.specs.Prelude.{ℕ, Bool, true, false, not, ◌&&◌, ◌||◌, ◌==◌, nat_lt, List, [], ◌∷◌, length, find, filter_map, codes, Option, Some, None, option_map, is_some, if◌then◌else◌}
 use Rattle.std.specs.List.{list_any, list_all, slice_split}
-use Rattle.std.specs.Str.{bytes_eq}
+use Rattle.std.specs.Str.{byte, bytes_eq}
 use Rattle.cni_addr.specs.AddrText.{addr_of_text}
 use Rattle.cni_addr.specs.declared.address.Addr.{Addr}
 use Rattle.cni_result.specs.declared.cached.PortMapping.{PortMapping}
@@ -25,6 +25,12 @@ att_of c = record { network = c.network; container = c.container; ifname = c.ifn
 
 -- ---- arguments: `K=V` pairs joined by `;`
 
+abbrev pub equals_sign : ℕ
+equals_sign = byte "="
+
+abbrev pub semicolon : ℕ
+semicolon = byte ";"
+
 -- key and value, neither with `=` and the key not empty
 abbrev pub pair_of : List (List ℕ) → Option (List ℕ × List ℕ)
 pair_of [] = None
@@ -33,15 +39,15 @@ pair_of (k ∷ v ∷ []) = if length k == 0 then None else Some (k, v)
 pair_of (k ∷ v ∷ w ∷ more) = None
 
 unfoldable pub argument_of : List ℕ → Option (List ℕ × List ℕ)
-argument_of piece = pair_of (slice_split (λ b. b == 61) piece)
+argument_of piece = pair_of (slice_split (λ b. b == equals_sign) piece)
 
 unfoldable pub are_arguments : List ℕ → Bool
-are_arguments text = length text == 0 || list_all (λ piece. is_some (argument_of piece)) (slice_split (λ b. b == 59) text)
+are_arguments text = length text == 0 || list_all (λ piece. is_some (argument_of piece)) (slice_split (λ b. b == semicolon) text)
 
 -- the value of the first argument of this key
 unfoldable pub value_of_argument : List ℕ → List ℕ → Option (List ℕ)
 value_of_argument key text =
-    option_map (λ pair. pair.1) (find (λ pair. bytes_eq pair.0 key) (filter_map argument_of (slice_split (λ b. b == 59) text)))
+    option_map (λ pair. pair.1) (find (λ pair. bytes_eq pair.0 key) (filter_map argument_of (slice_split (λ b. b == semicolon) text)))
 
 -- ---- port mappings (the `portMappings` capability)
 

@@ -225,8 +225,8 @@ pub(crate) fn after_outside(phase: &mut Phase, number: u64, reply: Reply)
 
 // ---- every phase
 
-/// The phase after a reply, where so many calls were made before it. A leased address is put to the given ones, and what
-/// the phase held is handed on.
+/// The phase after a reply, where so many calls were made before it. A leased address is put to the given ones, and
+/// what the phase held is handed on.
 pub(crate) fn after(
     phase: &mut Phase,
     calls: usize,

@@ -71,7 +71,8 @@ fn lease_text(alloc: Global, addr: &Addr) -> Result<Text, NoMemory>
     Text::of(alloc, format!(in alloc; "lease {address}")?.as_str())
 }
 
-/// What was missed: an object by its key, a rule by its place. The host's namespace is written `-`. The spelling is this project's own.
+/// What was missed: an object by its key, a rule by its place. The host's namespace is written `-`. The spelling is
+/// this project's own.
 pub(crate) fn missed_text(alloc: Global, missed: &Missed) -> Result<Text, NoMemory>
     ensures { IfOk result (λ text. text ≡ answers.missed_text missed.now) }
 {

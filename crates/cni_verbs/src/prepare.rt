@@ -28,8 +28,8 @@ fn prepare_inquiry(
     Ok(())
 }
 
-/// Makes the calls after the leases or the questions, where the phase asks for them and they aren't made. The phase means
-/// the same, whether memory lacks or not.
+/// Makes the calls after the leases or the questions, where the phase asks for them and they aren't made. The phase
+/// means the same, whether memory lacks or not.
 pub(crate) fn prepare_phase(
     alloc: Global,
     list: &NetList,

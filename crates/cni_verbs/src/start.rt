@@ -70,8 +70,8 @@ fn first_of_status(list: &NetList) -> Phase
     }
 }
 
-/// The phase of a run of this list that was given no reply. Words outside their grammar end an ADD, a CHECK or a DEL before
-/// its first call, and so does a list that is older than STATUS or disables CHECK.
+/// The phase of a run of this list that was given no reply. Words outside their grammar end an ADD, a CHECK or a DEL
+/// before its first call, and so does a list that is older than STATUS or disables CHECK.
 pub(crate) fn first_phase(
     alloc: Global,
     list: &NetList,

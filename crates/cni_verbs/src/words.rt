@@ -28,13 +28,13 @@ pub(crate) fn att_of(command: &Command) -> Result<Att, NoMemory>
 // ---- arguments
 
 fn has_equals_sign(text: &str) -> bool
-    ensures { result ≡ list_any (λ b. b == 61) text.now }
+    ensures { result ≡ list_any (λ b. b == words.equals_sign) text.now }
 {
     text.bytes().any(|byte| byte == b'=')
 }
 
 fn is_pair(key: &str, value: &str) -> bool
-    ensures { result ≡ (not (length key.now == 0) && not (list_any (λ b. b == 61) value.now)) }
+    ensures { result ≡ (not (length key.now == 0) && not (list_any (λ b. b == words.equals_sign) value.now)) }
 {
     !key.is_empty() && !has_equals_sign(value)
 }
@@ -61,7 +61,7 @@ fn is_argument(piece: &str) -> bool
 }
 
 fn all_arguments(text: &str) -> bool
-    ensures { result ≡ list_all (λ piece. is_some (words.argument_of piece)) (slice_split (λ b. b == 59) text.now) }
+    ensures { result ≡ list_all (λ piece. is_some (words.argument_of piece)) (slice_split (λ b. b == words.semicolon) text.now) }
 {
     text.split(';').all(|piece| is_argument(piece))
 }

@@ -1,5 +1,5 @@
-//! Laws of collections that are alone with a host. Each function does nothing: its contract is the law, and a proof above
-//! gets it by calling the function.
+//! Laws of collections that are alone with a host. Each function does nothing: its contract is the law, and a proof
+//! above gets it by calling the function.
 
 ghost use Rattle.gc_sweep.specs.Bound.{GcBound};
 ghost use Rattle.gc_sweep.specs.Sweep.{YesKeeps, AlwaysBounded, OverExcused, FaultsNamed};

@@ -1,14 +1,15 @@
 //! Garbage collection of a network, a call at a time, and what it leaves.
 //!
-//! A [`GcRun`] follows the script of a collection (`specs/Sweep.antt` and `specs/Script.antt` of the crate `cni_verbs`): a
-//! deletion for each owner of a cached entry that the valid list doesn't name, then, kind by kind, what such owners still
-//! have. A fault ends the part that it stands in and never the collection, and the answer names each.
+//! A [`GcRun`] follows the script of a collection (`specs/Sweep.antt` and `specs/Script.antt` of the crate
+//! `cni_verbs`): a deletion for each owner of a cached entry that the valid list doesn't name, then, kind by kind,
+//! what such owners still have. A fault ends the part that it stands in and never the collection, and the answer
+//! names each.
 //!
-//! To the book above it promises that a run is seen as the list, the command and the script's state (`specs/Progress.antt`
-//! of `cni_verbs`), that its next call and its answer are the script's, and that memory is wanted for a fault's number
-//! alone. The [`laws`] say what any such run does to a sound host (`specs/Sweep.antt`): what is kept stays as it is, what is
-//! left over had a faulty call, and without a fault exactly what is kept is left (`keep` in `specs/Keep.antt`), within a
-//! bound on the calls (`specs/Bound.antt`).
+//! To the book above it promises that a run is seen as the list, the command and the script's state
+//! (`specs/Progress.antt` of `cni_verbs`), that its next call and its answer are the script's, and that memory is
+//! wanted for a fault's number alone. The [`laws`] say what any such run does to a sound host (`specs/Sweep.antt`):
+//! what is kept stays as it is, what is left over had a faulty call, and without a fault exactly what is kept is left
+//! (`keep` in `specs/Keep.antt`), within a bound on the calls (`specs/Bound.antt`).
 //!
 //! ```text
 //! let mut run = GcRun::start(alloc, &list, &gc)?;

@@ -4,7 +4,8 @@
 //! [`ListKernel`](kernel_model::ListKernel) and compares the replies as they are printed. So the equations of the calls
 //! are held against replies that were worked out by hand.
 //!
-//! What it promises: [`is_allowed`] tells exactly the calls that may be made in a host, so no row makes another one.
+//! What it promises: [`is_allowed`] tells exactly the calls that may be made in a host, so no row makes another one, and
+//! [`the_mac_of_abc`] is a derived hardware address worked out.
 //!
 //! A worked example, of rows on a host that has the device `ens1` alone. A container stands for its attachment to the
 //! network `pods` by `eth0`:
@@ -31,5 +32,7 @@ mod table;
 mod tests;
 #[cfg(test)]
 mod words;
+pub mod worked;
 
 pub use allowed::is_allowed;
+pub use worked::the_mac_of_abc;

@@ -1,8 +1,9 @@
 //! What a program prints of a book, and the status that it ends with.
 //!
-//! What it promises above: [`text`] is `text_of` of the book (`specs/Lines.antt`): a line for each command that has an
-//! answer, in file order, then the history and the host's objects where they are asked for. [`status`] is `status_of` of
-//! the answers (`specs/Statuses.antt`). Each line is one JSON object with its keys in byte order, ended by a line feed.
+//! What it promises above: [`text`] is `text_of` of the book (`specs/Lines.antt`): a line for each command that has
+//! an answer, in file order, then the history and the host's objects where they are asked for. [`status`] is
+//! `status_of` of the answers (`specs/Statuses.antt`). Each line is one JSON object with its keys in byte order,
+//! ended by a line feed.
 //!
 //! ```text
 //! text(alloc, &book, true, false)? // {"n":1,"ok":true,"verb":"DEL"}

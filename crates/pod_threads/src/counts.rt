@@ -1,6 +1,6 @@
 //! How many entries a round has.
 
-ghost use Rattle.std.specs.Prelude.{◌≡◌, ◌+◌, ◌<◌, ◌^◌, Some, length, slice_get, sum};
+ghost use Rattle.std.specs.Prelude.{◌≡◌, ◌+◌, ◌<◌, ◌^◌, Some, length, sum};
 ghost use Rattle.std.specs.List.{count_by};
 ghost use Rattle.pod_threads.specs.Counted.{entries_of_round, is_numbered_in};
 
@@ -8,21 +8,13 @@ use kernel_model::Kernel;
 use pod_file::Command;
 use pod_workers::{Book, Entry};
 
-/// The commands of the current round.
-pub(crate) fn current_round<K: Kernel + Drop>(book: &Book<K>) -> &[Command]
-    requires { book.now.round < length book.now.plan.pods.rounds }
-    ensures { slice_get book.now.plan.pods.rounds book.now.round ≡ Some result.now }
-{
-    book.plan().pods.rounds.as_slice()[book.round() as usize].as_slice()
-}
-
 /// How many entries of the history are of commands of the current round.
 pub(crate) fn entries_of_current<K: Kernel + Drop>(book: &Book<K>) -> usize
     requires { book.now.round < length book.now.plan.pods.rounds }
     ensures { result ≡ entries_of_round book.now.plan book.now.round book.now.history }
 {
     book.is_legal();
-    entries_of(current_round(book), book.history())
+    entries_of(book.current_round(), book.history())
 }
 
 fn entries_of(commands: &[Command], history: &[Entry]) -> usize

@@ -2,7 +2,6 @@
 
 ghost use Rattle.std.specs.Prelude.{◌<◌, length};
 
-use crate::counts::current_round;
 use cni_addr::{Duplicate, Text};
 use kernel_model::Kernel;
 use pod_workers::Book;
@@ -28,7 +27,7 @@ pub(crate) fn share_out<K: Kernel + Drop>(
 {
     let mut containers: HashMap<Text, usize> = HashMap::new(alloc);
     let mut owned = Vec::new(alloc);
-    for command in current_round(book) {
+    for command in book.current_round() {
         let place = place_of(&mut containers, &command.container)?;
         if book.answer(command.number).is_none() {
             let worker = place % workers as usize;

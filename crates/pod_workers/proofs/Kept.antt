@@ -17,7 +17,7 @@ use Rattle.pod_file.specs.declared.command.Command.{Command}
 use Rattle.pod_workers.specs.Index.{command_in, is_cut_by}
 use Rattle.pod_workers.specs.Legal.{Legal, steps, refused_memory}
 use Rattle.pod_workers.specs.Plans.{Placed, commands_of, list_for}
-use Rattle.pod_workers.specs.Slots.{Fits, IsDone, IsKept, IsWithin, MayBeMade, MayCarryOn, entry_by, next_in, opened, opened_by, slot_after}
+use Rattle.pod_workers.specs.Slots.{Fits, CarriesOn, IsKept, IsWithin, MayBeMade, MayCarryOn, entry_by, next_in, opened, opened_by, slot_after}
 use Rattle.pod_workers.specs.World.{World, IsReady, IsReadyNumber, answered, done, end_of, entry_of, host_of, host_on, is_cut, is_faulty, is_stop, next_by, next_of, own_replies, reply_to, stepped, with_entry}
 use Rattle.pod_workers.specs.declared.index.Place.{Place}
 use Rattle.pod_workers.specs.declared.plan.Entry.{Entry}
@@ -208,9 +208,9 @@ world_with w h answers = record { plan = w.plan; history = h; answers = answers;
 
 went-by : (host host' : Host) (slots : List (Option Slot)) (places : List Place) (before : ℕ) (w : World) (n : ℕ) (c : Placed) (h' : List Entry) (t : Slot) (x : Next)
     → IsKept host slots places before w → IsReady w n c → c.command.number ≡ n + 1 → next_of w c.command (own_replies w n) ≡ x
-    → IsDone host host' w.history h' c.command (slot_at (list_for w.plan c.command) c.command (own_replies w n)) x (outcome.Went t)
+    → CarriesOn host host' w.history h' c.command (slot_at (list_for w.plan c.command) c.command (own_replies w n)) x (outcome.Went t)
     → IsLeft host' (slice_set slots n (Some t)) places before w (world_with w h' w.answers) n c.command ends.Went
-unfolding IsDone
+unfolding CarriesOn
 went-by host host' slots places before w n c h' t (next.Answer a) kept ready number is d = absurd d
 went-by host host' slots places before w n c h' t (next.Call call faulty) kept ready number is d =
     let rs = own_replies w n in
@@ -233,9 +233,9 @@ went-by host host' slots places before w n c h' t (next.Call call faulty) kept r
 
 over-by : (host host' : Host) (slots : List (Option Slot)) (places : List Place) (before : ℕ) (w : World) (n : ℕ) (c : Placed) (h' : List Entry) (b : Answer) (x : Next)
     → IsKept host slots places before w → IsReady w n c → next_of w c.command (own_replies w n) ≡ x
-    → IsDone host host' w.history h' c.command (slot_at (list_for w.plan c.command) c.command (own_replies w n)) x (outcome.Over b)
+    → CarriesOn host host' w.history h' c.command (slot_at (list_for w.plan c.command) c.command (own_replies w n)) x (outcome.Over b)
     → IsLeft host' (slice_set slots n None) places before w (world_with w h' (slice_set w.answers n (Some b))) n c.command ends.Over
-unfolding IsDone
+unfolding CarriesOn
 over-by host host' slots places before w n c h' b (next.Call call faulty) kept ready is d = absurd d
 over-by host host' slots places before w n c h' b (next.Answer a) kept ready is d =
     let made : answered w n b ≡ stepped w n c.command = ap (answered w n) d.0 ∙ sym (ap (done w n) is) in
@@ -247,21 +247,21 @@ over-by host host' slots places before w n c h' b (next.Answer a) kept ready is 
     }
 
 done-at : (host host' : Host) (w : World) (n : ℕ) (c : Command) (s : Slot) (cut : Bool) (h' : List Entry) (o : Outcome) → s ≡ slot_at (list_for w.plan c) c (own_replies w n) → cut ≡ is_cut w
-    → IsDone host host' w.history h' c s (next_in c cut s) o → IsDone host host' w.history h' c (slot_at (list_for w.plan c) c (own_replies w n)) (next_of w c (own_replies w n)) o
+    → CarriesOn host host' w.history h' c s (next_in c cut s) o → CarriesOn host host' w.history h' c (slot_at (list_for w.plan c) c (own_replies w n)) (next_of w c (own_replies w n)) o
 done-at host host' w n c s cut h' o run cut_is d =
-    subst (λ x. IsDone host host' w.history h' c (slot_at (list_for w.plan c) c (own_replies w n)) x o) (next-here w n c s cut run cut_is)
-    (subst (λ t. IsDone host host' w.history h' c t (next_in c cut s) o) run d)
+    subst (λ x. CarriesOn host host' w.history h' c (slot_at (list_for w.plan c) c (own_replies w n)) x o) (next-here w n c s cut run cut_is)
+    (subst (λ t. CarriesOn host host' w.history h' c t (next_in c cut s) o) run d)
 
 pub went-here : (host host' : Host) (slots : List (Option Slot)) (places : List Place) (before : ℕ) (w : World) (n : ℕ) (c : Placed) (s : Option Slot) (cut : Bool) (h' : List Entry) (t : Slot)
     → IsHere host slots places before w n c s → cut ≡ is_cut w
-    → IsDone host host' w.history h' c.command (opened_by w.plan.lists c.command s) (next_in c.command cut (opened_by w.plan.lists c.command s)) (outcome.Went t)
+    → CarriesOn host host' w.history h' c.command (opened_by w.plan.lists c.command s) (next_in c.command cut (opened_by w.plan.lists c.command s)) (outcome.Went t)
     → IsLeft host' (slice_set slots n (Some t)) places before w (world_with w h' w.answers) n c.command ends.Went
 went-here host host' slots places before w n c s cut h' t h cut_is d =
     went-by host host' slots places before w n c h' t _ h.kept h.ready h.number refl (done-at host host' w n c.command (opened_by w.plan.lists c.command s) cut h' (outcome.Went t) h.run cut_is d)
 
 pub over-here : (host host' : Host) (slots : List (Option Slot)) (places : List Place) (before : ℕ) (w : World) (n : ℕ) (c : Placed) (s : Option Slot) (cut : Bool) (h' : List Entry) (b : Answer)
     → IsHere host slots places before w n c s → cut ≡ is_cut w
-    → IsDone host host' w.history h' c.command (opened_by w.plan.lists c.command s) (next_in c.command cut (opened_by w.plan.lists c.command s)) (outcome.Over b)
+    → CarriesOn host host' w.history h' c.command (opened_by w.plan.lists c.command s) (next_in c.command cut (opened_by w.plan.lists c.command s)) (outcome.Over b)
     → IsLeft host' (slice_set slots n None) places before w (world_with w h' (slice_set w.answers n (Some b))) n c.command ends.Over
 over-here host host' slots places before w n c s cut h' b h cut_is d =
     over-by host host' slots places before w n c h' b _ h.kept h.ready refl (done-at host host' w n c.command (opened_by w.plan.lists c.command s) cut h' (outcome.Over b) h.run cut_is d)
@@ -312,20 +312,20 @@ found-may host slots places before w number n s of cut f cut_is small =
 
 pub found-went : (host host' : Host) (slots : List (Option Slot)) (places : List Place) (before : ℕ) (w : World) (number n : ℕ) (s : Option Slot) (of : Command) (cut : Bool) (h' : List Entry) (o : Outcome) (t : Slot)
     → IsFound host slots places before w number n s of → cut ≡ is_cut_by w.plan.stop_at w.history places w.round
-    → IsDone host host' w.history h' of (opened_by w.plan.lists of s) (next_in of cut (opened_by w.plan.lists of s)) o → o ≡ outcome.Went t
+    → CarriesOn host host' w.history h' of (opened_by w.plan.lists of s) (next_in of cut (opened_by w.plan.lists of s)) o → o ≡ outcome.Went t
     → (c : Placed) × (slice_get (commands_of w.plan) n ≡ Some c) × IsLeft host' (slice_set slots n (Some t)) places before w (world_with w h' w.answers) n c.command ends.Went
 found-went host host' slots places before w number n s of cut h' o t f cut_is d o_is =
-    let e = subst (λ k. IsDone host host' w.history h' k (opened_by w.plan.lists k s) (next_in k cut (opened_by w.plan.lists k s)) o) f.of_is d in
-    let g = subst (IsDone host host' w.history h' f.command.command (opened_by w.plan.lists f.command.command s) (next_in f.command.command cut (opened_by w.plan.lists f.command.command s))) o_is e in
+    let e = subst (λ k. CarriesOn host host' w.history h' k (opened_by w.plan.lists k s) (next_in k cut (opened_by w.plan.lists k s)) o) f.of_is d in
+    let g = subst (CarriesOn host host' w.history h' f.command.command (opened_by w.plan.lists f.command.command s) (next_in f.command.command cut (opened_by w.plan.lists f.command.command s))) o_is e in
     (f.command, f.here.ready.there, went-here host host' slots places before w n f.command s cut h' t f.here (cut-is w places cut f.here.kept.index cut_is) g)
 
 pub found-over : (host host' : Host) (slots : List (Option Slot)) (places : List Place) (before : ℕ) (w : World) (number n : ℕ) (s : Option Slot) (of : Command) (cut : Bool) (h' : List Entry) (o : Outcome) (b : Answer)
     → IsFound host slots places before w number n s of → cut ≡ is_cut_by w.plan.stop_at w.history places w.round
-    → IsDone host host' w.history h' of (opened_by w.plan.lists of s) (next_in of cut (opened_by w.plan.lists of s)) o → o ≡ outcome.Over b
+    → CarriesOn host host' w.history h' of (opened_by w.plan.lists of s) (next_in of cut (opened_by w.plan.lists of s)) o → o ≡ outcome.Over b
     → (c : Placed) × (slice_get (commands_of w.plan) n ≡ Some c) × IsLeft host' (slice_set slots n None) places before w (world_with w h' (slice_set w.answers n (Some b))) n c.command ends.Over
 found-over host host' slots places before w number n s of cut h' o b f cut_is d o_is =
-    let e = subst (λ k. IsDone host host' w.history h' k (opened_by w.plan.lists k s) (next_in k cut (opened_by w.plan.lists k s)) o) f.of_is d in
-    let g = subst (IsDone host host' w.history h' f.command.command (opened_by w.plan.lists f.command.command s) (next_in f.command.command cut (opened_by w.plan.lists f.command.command s))) o_is e in
+    let e = subst (λ k. CarriesOn host host' w.history h' k (opened_by w.plan.lists k s) (next_in k cut (opened_by w.plan.lists k s)) o) f.of_is d in
+    let g = subst (CarriesOn host host' w.history h' f.command.command (opened_by w.plan.lists f.command.command s) (next_in f.command.command cut (opened_by w.plan.lists f.command.command s))) o_is e in
     (f.command, f.here.ready.there, over-here host host' slots places before w n f.command s cut h' b f.here (cut-is w places cut f.here.kept.index cut_is) g)
 
 pub found-refused : (host host' : Host) (slots : List (Option Slot)) (places : List Place) (before : ℕ) (w : World) (number n : ℕ) (s : Option Slot) (of : Command) (h' : List Entry) → IsFound host slots places before w number n s of

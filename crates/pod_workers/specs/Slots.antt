@@ -75,11 +75,11 @@ abbrev pub entry_by : Host → Command → Call → Bool → Entry
 entry_by host c call faulty = record { command = c.number; call = call; reply = reply_to host call faulty }
 
 -- from the first host and history to the second this was done, for this run
-unfoldable pub IsDone : Host → Host → List Entry → List Entry → Command → Slot → Next → Outcome → Type 0
-IsDone host host' h h' c s (next.Answer a) (outcome.Over b) = (b ≡ a) × (host' ≡ host) × (h' ≡ h)
-IsDone host host' h h' c s (next.Answer a) (outcome.Went t) = ⊥
-IsDone host host' h h' c s (next.Call call faulty) (outcome.Over b) = ⊥
-IsDone host host' h h' c s (next.Call call faulty) (outcome.Went t) =
+unfoldable pub CarriesOn : Host → Host → List Entry → List Entry → Command → Slot → Next → Outcome → Type 0
+CarriesOn host host' h h' c s (next.Answer a) (outcome.Over b) = (b ≡ a) × (host' ≡ host) × (h' ≡ h)
+CarriesOn host host' h h' c s (next.Answer a) (outcome.Went t) = ⊥
+CarriesOn host host' h h' c s (next.Call call faulty) (outcome.Over b) = ⊥
+CarriesOn host host' h h' c s (next.Call call faulty) (outcome.Went t) =
     (t ≡ slot_after s (reply_to host call faulty)) × (host' ≡ host_on host (entry_by host c call faulty)) × (h' ≡ h ++ entry_by host c call faulty ∷ [])
 
 -- ---- a book

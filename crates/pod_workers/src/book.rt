@@ -18,6 +18,7 @@ use cni_addr::NoMemory;
 use cni_verbs::Answer;
 use kernel_model::Kernel;
 use kernel_types::Host;
+use pod_file::Command;
 use std::alloc::Global;
 use std::marker::Model;
 
@@ -75,6 +76,14 @@ impl<K: Kernel + Drop> Book<K> {
         ensures { result.now ≡ self.now.plan }
     {
         &self.plan
+    }
+
+    /// The commands of the current round, in file order. Takes no memory.
+    pub fn current_round(&self) -> &[Command]
+        requires { self.now.round < length self.now.plan.pods.rounds }
+        ensures { slice_get self.now.plan.pods.rounds self.now.round ≡ Some result.now }
+    {
+        round_at(self.plan.pods.rounds.as_slice(), self.round)
     }
 
     /// The calls that were made and their replies, oldest first.

@@ -7,7 +7,7 @@
 //! worlds.
 //!
 //! ```text
-//! let plan = Plan::join(lists, pods, None)?;           // or the first refusal: a repeated name, a network
+//! let plan = Plan::join(lists, pods, None)?;           // or the first refusal: a repeated name, or a missing network
 //! let mut book = Book::begin(alloc, plan, kernel)?;    // nothing done, round 0
 //! while !book.ended() {
 //!     book.round_alone();                              // each command of the round to its answer, in file order

@@ -5,7 +5,7 @@ ghost use Rattle.std.specs.List.{list_any};
 ghost use Rattle.cni_verbs.specs.Script.{IsOpen};
 ghost use Rattle.kernel_types.specs.Allowed.{IsAllowed};
 ghost use Rattle.kernel_types.specs.Replies.{holds_text_or_list, is_fault};
-ghost use Rattle.pod_workers.specs.Slots.{IsCountable, IsDone, IsWithin, MayCarryOn, host_after, next_in, opened_by, slot_after};
+ghost use Rattle.pod_workers.specs.Slots.{IsCountable, CarriesOn, IsWithin, MayCarryOn, host_after, next_in, opened_by, slot_after};
 ghost use Rattle.pod_workers.specs.Tasks.{IsListed};
 ghost use Rattle.pod_workers.specs.World.{host_on, is_stop, reply_to};
 
@@ -72,7 +72,7 @@ pub fn carry_on<K: Kernel>(
 ) -> Result<Outcome, NoMemory>
     requires may { MayCarryOn (K.host kernel.old) history.old.items command.now cut (opened_by lists.now command.now slot) }
     requires listed { IsListed lists.now command.now }
-    ensures ok { IfOk result (λ outcome. IsDone (K.host kernel.old) (K.host kernel.new) history.old.items history.new.items command.now (opened_by lists.now command.now slot) (next_in command.now cut (opened_by lists.now command.now slot)) outcome) }
+    ensures ok { IfOk result (λ outcome. CarriesOn (K.host kernel.old) (K.host kernel.new) history.old.items history.new.items command.now (opened_by lists.now command.now slot) (next_in command.now cut (opened_by lists.now command.now slot)) outcome) }
     ensures err { OnErr result ((K.host kernel.new ≡ K.host kernel.old) × (history.new.items ≡ history.old.items)) }
 {
     let slot = open(*history.allocator(), lists, command, slot)?;
@@ -108,7 +108,7 @@ fn act<K: Kernel>(
     mut slot: Slot,
 ) -> Result<Outcome, NoMemory>
     requires { MayCarryOn (K.host kernel.old) history.old.items command.now cut slot }
-    ensures ok { IfOk result (λ outcome. IsDone (K.host kernel.old) (K.host kernel.new) history.old.items history.new.items command.now slot (next_in command.now cut slot) outcome) }
+    ensures ok { IfOk result (λ outcome. CarriesOn (K.host kernel.old) (K.host kernel.new) history.old.items history.new.items command.now slot (next_in command.now cut slot) outcome) }
     ensures err { OnErr result ((K.host kernel.new ≡ K.host kernel.old) × (history.new.items ≡ history.old.items)) }
 {
     match look(&mut slot, command, cut) {

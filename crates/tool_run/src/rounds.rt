@@ -11,8 +11,8 @@ use std::alloc::Global;
 use std::sync::Wait;
 use std::thread::Threads;
 
-/// The book with its current round made by so many threads. One thread is the calling one, which passes no gate, and so is
-/// the one that makes the round where memory is refused for several.
+/// The book with its current round made by so many threads. One thread is the calling one, which passes no gate, and
+/// so is the one that makes the round where memory is refused for several.
 pub(crate) fn make_round<R: Threads + Wait + Sync, G: Gate>(
     rt: &R,
     alloc: Global,

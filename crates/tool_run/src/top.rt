@@ -26,9 +26,9 @@ use std::thread::Threads;
 /// How a run ended.
 #[derive(Drop)]
 pub struct Outcome {
-    /// The exit status: 0 where every command is answered with success, 1 where one was refused or stopped, 8 where one
-    /// ran out of memory; 2 for words that aren't taken, 3 for a file or plan that is refused, 4 for a read that failed,
-    /// 5 for a write that failed, 6 where memory ran out outside a command.
+    /// The exit status: 0 where every command is answered with success, 1 where one was refused or stopped, 8 where
+    /// one ran out of memory; 2 for words that aren't taken, 3 for a file or plan that is refused, 4 for a read that
+    /// failed, 5 for a write that failed, 6 where memory ran out outside a command.
     pub status: u8,
     /// The plan that was carried out, with what it came to.
     pub book: Option<Book<ListKernel>>,
