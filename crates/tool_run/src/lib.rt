@@ -16,6 +16,8 @@
 //! ```
 #![tactic(auto)]
 
+#[cfg(test)]
+mod alone_tests;
 mod carry;
 mod laws;
 mod lines;
@@ -25,6 +27,8 @@ mod rounds;
 mod settle;
 #[cfg(test)]
 mod tests;
+#[cfg(test)]
+mod thread_tests;
 pub mod top;
 
 pub use top::{Outcome, run, run_alone};

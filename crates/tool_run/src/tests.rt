@@ -15,8 +15,11 @@ use std::mem::size_of;
 use std::test::Fail;
 use tool_words::Words;
 
-const LIST: &str =
+pub(crate) const LIST: &str =
     "{\"cniVersion\":\"1.1.0\",\"name\":\"pods\",\"plugins\":[{\"type\":\"bridge\",\"ipam\":{\"type\":\"host-local\",\"subnet\":\"10.88.0.0/16\"}}]}";
+
+pub(crate) const ONE: &str = "{\"opening\":{\"namespaces\":[\"/ns/a\"]},\"rounds\":[[\
+{\"verb\":\"ADD\",\"network\":\"pods\",\"container\":\"c1\",\"netns\":\"/ns/a\"}]]}";
 
 const APART: &str = "{\"opening\":{\"namespaces\":[\"/ns/a\",\"/ns/b\"]},\"rounds\":[[\
 {\"verb\":\"ADD\",\"network\":\"pods\",\"container\":\"c1\",\"netns\":\"/ns/a\"},\
@@ -26,7 +29,8 @@ const TOGETHER: &str = "{\"opening\":{\"namespaces\":[\"/ns/a\"]},\"rounds\":[[\
 {\"verb\":\"ADD\",\"network\":\"pods\",\"container\":\"c1\",\"netns\":\"/ns/a\"},\
 {\"verb\":\"ADD\",\"network\":\"pods\",\"container\":\"c2\",\"netns\":\"/ns/a\"}]]}";
 
-fn add(alloc: Global, files: &mut MemFiles, name: &str, text: &str) -> Result<(), Fail> {
+/// Stores a file.
+pub(crate) fn add(alloc: Global, files: &mut MemFiles, name: &str, text: &str) -> Result<(), Fail> {
     let mut bytes = Vec::new(alloc);
     bytes.extend_from_slice(text.as_bytes())?;
     let Ok(name) = Text1::of(alloc, name) else {
@@ -54,7 +58,7 @@ fn words(alloc: Global) -> Result<Words, NoMemory>
 }
 
 /// The book of these pods as it is begun.
-fn book_of(alloc: Global, pods: &str) -> Result<Book<ListKernel>, Fail> {
+pub(crate) fn book_of(alloc: Global, pods: &str) -> Result<Book<ListKernel>, Fail> {
     let mut files = MemFiles::new(alloc, Vec::new(alloc));
     add(alloc, &mut files, "pods.json", pods)?;
     add(alloc, &mut files, "net.json", LIST)?;
