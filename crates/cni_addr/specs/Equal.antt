@@ -3,7 +3,7 @@ use Rattle.std.specs.Prelude.{Bool, ◌&&◌, ◌==◌}
 use Rattle.std.specs.Cmp.Lexicographic.{pointwise}
 use Rattle.cni_addr.specs.declared.mac.Mac.{Mac}
 use Rattle.cni_addr.specs.Codes.{family_eq}
-use Rattle.cni_addr.specs.Value.{AddrValue, CidrValue, RangeValue}
+use Rattle.cni_addr.specs.Value.{AddrValue, CidrValue}
 
 abbrev pub addr_eq : AddrValue → AddrValue → Bool
 addr_eq a b = family_eq a.family b.family && a.bits == b.bits
@@ -13,6 +13,3 @@ cidr_eq a b = addr_eq a.addr b.addr && a.prefix == b.prefix
 
 abbrev pub mac_eq : Mac → Mac → Bool
 mac_eq a b = pointwise (λ x y. x == y) a.bytes b.bytes
-
-abbrev pub range_eq : RangeValue → RangeValue → Bool
-range_eq a b = cidr_eq a.subnet b.subnet && (addr_eq a.start b.start && (addr_eq a.end b.end && addr_eq a.gateway b.gateway))
