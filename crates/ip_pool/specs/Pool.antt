@@ -8,6 +8,7 @@ use Rattle.cni_addr.specs.declared.range.Range.{Range}
 use Rattle.cni_addr.specs.declared.range.RangeSet.{RangeSet}
 use Rattle.cni_addr.specs.Codes.{family_eq}
 use Rattle.cni_addr.specs.Equal.{addr_eq}
+use Rattle.ip_pool.specs.NextAddress.{is_taken}
 
 -- so many addresses from this one on
 abbrev pub run_of : Family → ℕ → ℕ → List Addr
@@ -33,7 +34,7 @@ after_last_first (Some last) addrs = after_first (addr_eq last) addrs ++ take (p
 
 -- it is not among the taken ones
 abbrev pub is_free : List Addr → Addr → Bool
-is_free taken addr = not (list_any (λ a. addr_eq a addr) taken)
+is_free taken addr = not (is_taken taken addr)
 
 -- the first candidate that is free, tried from the last one on
 abbrev pub pick_of : RangeSet → Option Addr → List Addr → Option Addr

@@ -17,10 +17,8 @@
 #![tactic(auto)]
 
 ghost use Rattle.std.specs.Prelude.{◌≡◌, List, true, MatchBool};
-ghost use Rattle.std.specs.List.{list_any};
-ghost use Rattle.cni_addr.specs.Equal.{addr_eq};
 ghost use Rattle.cni_addr.specs.declared.address.Addr.{Addr};
-ghost use Rattle.ip_pool.specs.NextAddress.{is_candidate_or_none, HasFree, IsExhausted, IsPick};
+ghost use Rattle.ip_pool.specs.NextAddress.{is_candidate_or_none, is_taken, HasFree, IsExhausted, IsPick};
 ghost use Rattle.ip_pool.specs.Pool.{pick_of, has_free_of, are_apart};
 
 mod candidates;
@@ -39,7 +37,7 @@ pub trait Taken {
 
     /// Whether the address is taken: whether it is in the list.
     fn has(&self, addr: &Addr) -> bool
-        ensures { result ≡ list_any (λ a. addr_eq a addr.now) (taken self.now) };
+        ensures { result ≡ is_taken (taken self.now) addr.now };
 }
 
 /// A list of addresses means itself. A question takes a step an address.
