@@ -7,23 +7,23 @@ use Rattle.std.proofs.lemmas.List.{drop_all}
 use Rattle.cni_addr.specs.declared.address.Addr.{Addr}
 use Rattle.cni_addr.specs.declared.range.Range.{Range}
 use Rattle.cni_addr.specs.declared.range.RangeSet.{RangeSet}
-use Rattle.ip_pool.specs.NextAddress.{is_in, is_candidate}
+use Rattle.ip_pool.specs.NextAddress.{is_between, is_in, is_candidate}
 use Rattle.kernel_types.specs.declared.call.Given.{Given}
 use Rattle.host_local.specs.Laws.{CandidatesAreGiven}
-use Rattle.host_local.specs.Leases.{range_contains, given_by, given_in, given_of}
+use Rattle.host_local.specs.Leases.{given_by, given_in, given_of}
 
 found-step : {X : Type 0} (b : Bool) (x : X) (o : Option X) → (b ≡ false → (y : X) × (o ≡ Some y)) → (y : X) × (cond b (Some x) o ≡ Some y)
 found-step true x o h = (x, refl)
 found-step false x o h = h refl
 
-range_contains-is_in : (a : Addr) (r : Range) → is_in a r ≡ true → range_contains a r ≡ true
-range_contains-is_in a r h = grind (arith, nat_tests, h)
+is_in-is_between : (a : Addr) (r : Range) → is_in a r ≡ true → is_between a r ≡ true
+is_in-is_between a r h = grind (arith, h)
 
-range-found : (a : Addr) (rs : List Range) → list_any (is_in a) rs ≡ true → (r : Range) × (find (range_contains a) rs ≡ Some r)
+range-found : (a : Addr) (rs : List Range) → list_any (is_in a) rs ≡ true → (r : Range) × (find (is_between a) rs ≡ Some r)
 range-found a [] h = absurd (grind (arith, h))
 range-found a (r ∷ rs) h =
-    found-step (range_contains a r) r (find (range_contains a) rs)
-    (λ no_r. range-found a rs (grind (arith, h, no_r, range_contains-is_in a r)))
+    found-step (is_between a r) r (find (is_between a) rs)
+    (λ no_r. range-found a rs (grind (arith, h, no_r, is_in-is_between a r)))
 
 -- what a candidate is given
 pub given_in-candidate : (set : RangeSet) (a : Addr) → is_candidate set a ≡ true → (g : Given) × (given_in set a ≡ g ∷ [])

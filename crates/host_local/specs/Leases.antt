@@ -1,9 +1,9 @@
 -- The leases of an attachment, and what a leased address means by its range (the `host-local` plugin).
-use Rattle.std.specs.Prelude.{ℕ, ◌+◌, Bool, ◌&&◌, nat_le, List, [], ◌∷◌, ◌++◌, find, Option, option_map, option_to_list}
-use Rattle.cni_addr.specs.Codes.{family_eq}
+use Rattle.std.specs.Prelude.{ℕ, ◌+◌, List, [], ◌∷◌, ◌++◌, find, Option, option_map, option_to_list}
 use Rattle.cni_addr.specs.declared.address.Addr.{Addr}
 use Rattle.cni_addr.specs.declared.range.Range.{Range}
 use Rattle.cni_addr.specs.declared.range.RangeSet.{RangeSet}
+use Rattle.ip_pool.specs.NextAddress.{is_between}
 use Rattle.kernel_types.specs.declared.object.Att.{Att}
 use Rattle.kernel_types.specs.declared.call.Call.{Call}
 use Rattle.kernel_types.specs.declared.call.Call.TheVariants.{LeaseNext}
@@ -17,17 +17,13 @@ lease_calls_from att number (set ∷ sets) = LeaseNext att number set ∷ lease_
 abbrev pub lease_calls_of : List RangeSet → Att → List Call
 lease_calls_of sets att = lease_calls_from att 0 sets
 
--- between the range's start and end
-abbrev pub range_contains : Addr → Range → Bool
-range_contains addr r = family_eq addr.family r.start.family && (nat_le r.start.bits addr.bits && nat_le addr.bits r.end.bits)
-
 -- the address with its subnet's prefix, and its range's gateway and subnet
 abbrev pub given_by : Addr → Range → Given
 given_by addr r = record { address = record { addr = addr; prefix = r.subnet.prefix }; gateway = r.gateway; subnet = r.subnet }
 
 -- by the first range of the set that holds it; there is one where the address is a candidate
 abbrev pub given_by_set : RangeSet → Addr → Option Given
-given_by_set set addr = option_map (given_by addr) (find (range_contains addr) set.ranges)
+given_by_set set addr = option_map (given_by addr) (find (is_between addr) set.ranges)
 
 abbrev pub given_in : RangeSet → Addr → List Given
 given_in set addr = option_to_list (given_by_set set addr)

@@ -2,12 +2,13 @@
 
 ghost use Rattle.std.specs.Prelude.{◌≡◌, ◌+◌, ◌∷◌, [], ◌≤◌, ◌<◌, true, find, length, option_to_list, slice_get, Some, IfOk};
 ghost use Rattle.std.specs.Option.{option_copied};
-ghost use Rattle.ip_pool.specs.NextAddress.{is_candidate};
+ghost use Rattle.ip_pool.specs.NextAddress.{is_between, is_candidate};
 ghost use Rattle.cni_addr.specs.declared.range.RangeSet.{RangeSet};
 ghost use Rattle.kernel_types.specs.declared.call.Kind.TheVariants.{Leases};
 ghost use Rattle.host_local.specs.Leases as leases;
 
 use cni_addr::{Addr, Cidr, Duplicate, Items, NoMemory, Range, RangeSet};
+use ip_pool::is_between;
 use kernel_types::{Att, Call, Given, Kind};
 use net_conf::HostLocalConf;
 use std::alloc::Global;
@@ -30,18 +31,10 @@ pub fn lease_calls(alloc: Global, conf: &HostLocalConf, att: &Att) -> Result<Ite
     Ok(calls)
 }
 
-fn is_between(range: &Range, addr: &Addr) -> bool
-    ensures { result ≡ leases.range_contains addr.now range.now }
-{
-    addr.family == range.start.family
-        && range.start.bits <= addr.bits
-        && addr.bits <= range.end.bits
-}
-
 fn range_with<'a>(ranges: &'a [Range], addr: &Addr) -> Option<&'a Range>
-    ensures { option_copied result ≡ find (leases.range_contains addr.now) ranges.now }
+    ensures { option_copied result ≡ find (is_between addr.now) ranges.now }
 {
-    ranges.iter().find(|range| is_between(range, addr))
+    ranges.iter().find(|range| is_between(addr, range))
 }
 
 fn given_by(addr: &Addr, range: &Range) -> Given

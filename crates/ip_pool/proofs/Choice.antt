@@ -8,8 +8,8 @@ use Rattle.cni_addr.specs.declared.address.Addr.{Addr}
 use Rattle.cni_addr.specs.declared.range.Range.{Range}
 use Rattle.cni_addr.specs.declared.range.RangeSet.{RangeSet}
 use Rattle.cni_addr.specs.Equal.{addr_eq}
-use Rattle.ip_pool.specs.Laws.{are_distinct, is_between}
-use Rattle.ip_pool.specs.NextAddress.{is_in, is_candidate, is_candidate_or_none, is_below, is_passed, is_taken, range_place, HasFree, IsNextAddress, IsExhausted, IsPick}
+use Rattle.ip_pool.specs.Laws.{are_distinct}
+use Rattle.ip_pool.specs.NextAddress.{is_between, is_in, is_candidate, is_candidate_or_none, is_below, is_passed, is_taken, range_place, HasFree, IsNextAddress, IsExhausted, IsPick}
 use Rattle.ip_pool.specs.Pool.{candidates_of, after_last_first, is_free, pick_of, has_free_of, is_apart, are_apart}
 use Rattle.ip_pool.proofs.Addresses.{same-address, addr_eq-itself}
 use Rattle.ip_pool.proofs.InOrder.{in_order, find-none, find-passes, find-member, find-in_order, member-passes}

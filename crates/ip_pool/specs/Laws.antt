@@ -1,12 +1,11 @@
 -- Laws of the candidates and of the choice among them.
-use Rattle.std.specs.Prelude.{◌≡◌, ◌↔◌, Bool, true, false, not, ◌&&◌, nat_lt, List, [], ◌∷◌, Option, Some, None}
+use Rattle.std.specs.Prelude.{◌≡◌, ◌↔◌, Bool, true, false, not, ◌&&◌, List, [], ◌∷◌, Option, Some, None}
 use Rattle.std.specs.List.{list_any}
 use Rattle.cni_addr.specs.declared.address.Addr.{Addr}
 use Rattle.cni_addr.specs.declared.range.Range.{Range}
 use Rattle.cni_addr.specs.declared.range.RangeSet.{RangeSet}
-use Rattle.cni_addr.specs.Codes.{family_eq}
 use Rattle.cni_addr.specs.Equal.{addr_eq}
-use Rattle.ip_pool.specs.NextAddress.{is_candidate, is_candidate_or_none, is_taken, IsExhausted, IsPick}
+use Rattle.ip_pool.specs.NextAddress.{is_between, is_candidate, is_candidate_or_none, is_taken, IsExhausted, IsPick}
 use Rattle.ip_pool.specs.Pool.{candidates_of, pick_of, has_free_of, is_apart, are_apart}
 
 -- an address is listed exactly where it is a candidate
@@ -21,10 +20,6 @@ are_distinct (a ∷ rest) = not (list_any (addr_eq a) rest) && are_distinct rest
 -- ranges that lie apart give each candidate once
 abbrev pub CandidatesAreDistinct : Type 0
 CandidatesAreDistinct = (set : RangeSet) → are_apart set.ranges ≡ true → are_distinct (candidates_of set) ≡ true
-
--- from start to end, the gateway too
-abbrev pub is_between : Addr → Range → Bool
-is_between a r = family_eq a.family r.start.family && (not (nat_lt a.bits r.start.bits) && not (nat_lt r.end.bits a.bits))
 
 -- ranges lie apart exactly where no address is between start and end of both
 abbrev pub ApartSharesNone : Type 0

@@ -1,5 +1,5 @@
 -- The next address as a relation, in the words of who configures a pool (the `host-local` plugin leases round robin).
-use Rattle.std.specs.Prelude.{◌≡◌, ℕ, Bool, true, false, if◌then◌else◌, not, ◌&&◌, ◌||◌, ◌==◌, nat_lt, List, Option, Some, None}
+use Rattle.std.specs.Prelude.{◌≡◌, ℕ, Bool, true, false, if◌then◌else◌, not, ◌&&◌, ◌||◌, ◌==◌, nat_lt, nat_le, List, Option, Some, None}
 use Rattle.std.specs.List.{list_any, position_or_len}
 use Rattle.cni_addr.specs.declared.address.Addr.{Addr}
 use Rattle.cni_addr.specs.declared.range.Range.{Range}
@@ -7,9 +7,13 @@ use Rattle.cni_addr.specs.declared.range.RangeSet.{RangeSet}
 use Rattle.cni_addr.specs.Codes.{family_eq}
 use Rattle.cni_addr.specs.Equal.{addr_eq}
 
+-- from start to end, the gateway too
+abbrev pub is_between : Addr → Range → Bool
+is_between a r = family_eq a.family r.start.family && (nat_le r.start.bits a.bits && nat_le a.bits r.end.bits)
+
 -- between start and end, and not the gateway
 abbrev pub is_in : Addr → Range → Bool
-is_in a r = family_eq a.family r.start.family && (not (nat_lt a.bits r.start.bits) && (not (nat_lt r.end.bits a.bits) && not (addr_eq a r.gateway)))
+is_in a r = is_between a r && not (addr_eq a r.gateway)
 
 -- one of the set's ranges has it
 abbrev pub is_candidate : RangeSet → Addr → Bool

@@ -2,20 +2,25 @@
 
 ghost use Rattle.std.specs.Prelude.{◌≡◌};
 ghost use Rattle.std.specs.List.{list_all, position};
-ghost use Rattle.ip_pool.specs.NextAddress.{is_in, is_candidate};
+ghost use Rattle.ip_pool.specs.NextAddress.{is_between, is_in, is_candidate};
 ghost use Rattle.ip_pool.specs.Pool.{is_apart, are_apart};
 
 use cni_addr::{Addr, Range, RangeSet};
 
-/// Whether the address is a candidate of the range: of its family, not below its start, not above its end, and not
-/// its gateway.
+/// Whether the address is of the range's family, not below its start and not above its end. The gateway may be.
+pub fn is_between(addr: &Addr, range: &Range) -> bool
+    ensures { result ≡ is_between addr.now range.now }
+{
+    addr.family == range.start.family
+        && range.start.bits <= addr.bits
+        && addr.bits <= range.end.bits
+}
+
+/// Whether the address is a candidate of the range: between its start and its end, and not its gateway.
 pub fn is_in_range(addr: &Addr, range: &Range) -> bool
     ensures { result ≡ is_in addr.now range.now }
 {
-    addr.family == range.start.family
-        && addr.bits >= range.start.bits
-        && addr.bits <= range.end.bits
-        && *addr != range.gateway
+    is_between(addr, range) && *addr != range.gateway
 }
 
 /// Whether the address is a candidate of the set, that is of one of its ranges. Takes a step a range.

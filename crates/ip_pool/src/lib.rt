@@ -27,7 +27,7 @@ pub mod laws;
 #[cfg(test)]
 mod tests;
 
-pub use candidates::{are_apart, contains_candidate, is_apart, is_in_range};
+pub use candidates::{are_apart, contains_candidate, is_apart, is_between, is_in_range};
 use cni_addr::{Addr, Items, RangeSet};
 use free::{first_free, first_free_after};
 

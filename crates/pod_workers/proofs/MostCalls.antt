@@ -22,8 +22,9 @@ use Rattle.bridge_ptp.specs.Results.{at_interface, bridge_routes, default_unless
 use Rattle.firewall_tuning.specs.Firewall.{forward_of}
 use Rattle.firewall_tuning.specs.Tuning.{link_set_calls, setting_of, sets_any, tuning_settings}
 use Rattle.host_local.specs.Conf.{ipam_of, routes_of}
-use Rattle.host_local.specs.Leases.{given_by, given_in, given_of, lease_calls_from, lease_calls_of, range_contains}
+use Rattle.host_local.specs.Leases.{given_by, given_in, given_of, lease_calls_from, lease_calls_of}
 use Rattle.host_local.specs.Results.{ip_of, ipam_result_of}
+use Rattle.ip_pool.specs.NextAddress.{is_between}
 use Rattle.kernel_types.specs.Apply.Calls.{is_same_addr, is_same_route, is_same_setting}
 use Rattle.kernel_types.specs.Equal.{addr_eq, rule_eq}
 use Rattle.kernel_types.specs.declared.object.Att.{Att}
@@ -87,7 +88,7 @@ length-given [] addrs = omega arith
 length-given (set ∷ sets) [] = omega arith
 length-given (set ∷ sets) (addr ∷ addrs) =
     let rest = length-given sets addrs in
-    let one = length-given_in (find (range_contains addr) set.ranges) addr in
+    let one = length-given_in (find (is_between addr) set.ranges) addr in
     let both = length-append (given_in set addr) (given_of sets addrs) in
     omega arith
 
