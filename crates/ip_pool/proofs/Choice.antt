@@ -8,7 +8,7 @@ use Rattle.cni_addr.specs.declared.address.Addr.{Addr}
 use Rattle.cni_addr.specs.declared.range.Range.{Range}
 use Rattle.cni_addr.specs.declared.range.RangeSet.{RangeSet}
 use Rattle.cni_addr.specs.Equal.{addr_eq}
-use Rattle.ip_pool.specs.Laws.{are_distinct}
+use Rattle.cni_addr.specs.Lists.{distinct}
 use Rattle.ip_pool.specs.NextAddress.{is_between, is_in, is_candidate, is_candidate_or_none, is_below, is_passed, is_taken, range_place, HasFree, IsNextAddress, IsExhausted, IsPick}
 use Rattle.ip_pool.specs.Pool.{candidates_of, after_last_first, is_free, pick_of, has_free_of, is_apart, are_apart}
 use Rattle.ip_pool.proofs.Addresses.{same-address, addr_eq-itself}
@@ -196,11 +196,11 @@ next-one set last taken (Some a) (Some b) one other =
 
 -- ---- each candidate once
 
-distinct-in_order : (R : Addr → Addr → Bool) (xs : List Addr) → ((a : Addr) → R a a ≡ false) → in_order R xs ≡ true → are_distinct xs ≡ true
+distinct-in_order : (R : Addr → Addr → Bool) (xs : List Addr) → ((a : Addr) → R a a ≡ false) → in_order R xs ≡ true → distinct addr_eq xs ≡ true
 distinct-in_order R [] itself order = refl
 distinct-in_order R (x ∷ xs) itself order =
     let once : list_any (addr_eq x) xs ≡ false = once-step (list_any (addr_eq x) xs) refl in
-    let rest : are_distinct xs ≡ true = distinct-in_order R xs itself (grind arith) in
+    let rest : distinct addr_eq xs ≡ true = distinct-in_order R xs itself (grind arith) in
     grind arith
   where
     once-step : (b : Bool) → list_any (addr_eq x) xs ≡ b → list_any (addr_eq x) xs ≡ false
@@ -210,7 +210,7 @@ distinct-in_order R (x ∷ xs) itself order =
         let none = itself x in
         cc
 
-pub candidates-distinct : (set : RangeSet) → are_apart set.ranges ≡ true → are_distinct (candidates_of set) ≡ true
+pub candidates-distinct : (set : RangeSet) → are_apart set.ranges ≡ true → distinct addr_eq (candidates_of set) ≡ true
 candidates-distinct set apart =
     distinct-in_order (below_in set.ranges) (candidates_of set) (λ a. below_in-itself set.ranges a) (candidates-ascend set.ranges apart)
   where

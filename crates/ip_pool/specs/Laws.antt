@@ -1,10 +1,11 @@
 -- Laws of the candidates and of the choice among them.
-use Rattle.std.specs.Prelude.{◌≡◌, ◌↔◌, Bool, true, false, not, ◌&&◌, List, [], ◌∷◌, Option, Some, None}
+use Rattle.std.specs.Prelude.{◌≡◌, ◌↔◌, true, false, List, Option, Some, None}
 use Rattle.std.specs.List.{list_any}
 use Rattle.cni_addr.specs.declared.address.Addr.{Addr}
 use Rattle.cni_addr.specs.declared.range.Range.{Range}
 use Rattle.cni_addr.specs.declared.range.RangeSet.{RangeSet}
 use Rattle.cni_addr.specs.Equal.{addr_eq}
+use Rattle.cni_addr.specs.Lists.{distinct}
 use Rattle.ip_pool.specs.NextAddress.{is_between, is_candidate, is_candidate_or_none, is_taken, IsExhausted, IsPick}
 use Rattle.ip_pool.specs.Pool.{candidates_of, pick_of, has_free_of, is_apart, are_apart}
 
@@ -12,14 +13,9 @@ use Rattle.ip_pool.specs.Pool.{candidates_of, pick_of, has_free_of, is_apart, ar
 abbrev pub CandidatesAreListed : Type 0
 CandidatesAreListed = (set : RangeSet) (a : Addr) → list_any (addr_eq a) (candidates_of set) ≡ is_candidate set a
 
--- no address stands twice
-abbrev pub are_distinct : List Addr → Bool
-are_distinct [] = true
-are_distinct (a ∷ rest) = not (list_any (addr_eq a) rest) && are_distinct rest
-
 -- ranges that lie apart give each candidate once
 abbrev pub CandidatesAreDistinct : Type 0
-CandidatesAreDistinct = (set : RangeSet) → are_apart set.ranges ≡ true → are_distinct (candidates_of set) ≡ true
+CandidatesAreDistinct = (set : RangeSet) → are_apart set.ranges ≡ true → distinct addr_eq (candidates_of set) ≡ true
 
 -- ranges lie apart exactly where no address is between start and end of both
 abbrev pub ApartSharesNone : Type 0

@@ -3,8 +3,8 @@ use Rattle.std.proofs.Common.{◌≡◌, ℕ, true, false, not, List, [], ◌∷
 use Rattle.std.specs.Prelude.{map, is_none}
 use Rattle.std.specs.List.{list_any, list_all}
 use Rattle.std.specs.Str.{bytes_eq}
+use Rattle.cni_addr.specs.Lists.{distinct}
 use Rattle.kernel_types.specs.Equal.{tag_eq}
-use Rattle.kernel_types.specs.Lists.{distinct}
 use Rattle.kernel_types.specs.Words.{is_host_ns, is_veth}
 use Rattle.kernel_types.specs.Sound.{IsSound, link_fits_tag, peer_fits, is_shared_kind}
 use Rattle.kernel_types.specs.Opening.{opening_of, opening_with, outside_namespace, AreNamespaceNames, AreOutsideLinks, is_outside_link}

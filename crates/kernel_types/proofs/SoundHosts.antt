@@ -5,8 +5,8 @@ use Rattle.std.specs.List.{list_any, list_all, Contains, slice_index_or}
 use Rattle.std.specs.Str.{bytes_eq}
 use Rattle.std.specs.Cmp.Lexicographic.{nat_list_eq_equiv}
 use Rattle.std.proofs.lemmas.Slice.Eq.{bytes_eq-Decides}
+use Rattle.cni_addr.specs.Lists.{distinct}
 use Rattle.kernel_types.specs.Equal.{addr_eq, tag_eq}
-use Rattle.kernel_types.specs.Lists.{distinct}
 use Rattle.kernel_types.specs.Words.{is_host_or_ns, is_owned, is_at, is_peer_at, is_link_of}
 use Rattle.kernel_types.specs.Apply.Calls.{goes_with}
 use Rattle.kernel_types.specs.Sound.{IsSound, AreInPlaces, NoNamespaceOwned, NoAddressTwice, is_link_or_peer, address_fits_tag, peer_fits, peers_back, setting_fits_tag}

@@ -4,8 +4,8 @@ use Rattle.std.specs.Prelude.{find, ◌&&◌, ◌||◌}
 use Rattle.std.specs.List.{list_any, list_all}
 use Rattle.std.specs.Cmp.Lexicographic.{nat_list_eq_equiv}
 use Rattle.std.proofs.lemmas.Slice.Eq.{bytes_eq-Decides}
+use Rattle.cni_addr.specs.Lists.{distinct}
 use Rattle.kernel_types.specs.Equal.{tag_eq}
-use Rattle.kernel_types.specs.Lists.{distinct}
 use Rattle.kernel_types.specs.Words.{is_host_ns, is_own, is_at, is_peer_at, is_bridge, is_link_of}
 use Rattle.kernel_types.specs.Apply.Calls.{without_links, goes_with, without_link, link_del_of}
 use Rattle.kernel_types.specs.Sound.{IsSound, AreAddresses, AreRoutes, peer_fits, peers_back, address_fits_tag, is_bridge_at, link_fits_tag, is_owned_kind}

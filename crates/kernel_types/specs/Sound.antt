@@ -1,8 +1,8 @@
 -- What holds of every host: keys are distinct, and tags, places and peers fit.
 use Rattle.std.specs.Prelude.{◌≡◌, ℕ, Bool, true, false, not, ◌&&◌, ◌||◌, List, Option, Some, None}
 use Rattle.std.specs.List.{list_any, list_all}
-use Rattle.kernel_types.specs.Lists.{distinct}
 use Rattle.std.specs.Str.{bytes_eq}
+use Rattle.cni_addr.specs.Lists.{distinct}
 use Rattle.kernel_types.specs.Equal.{addr_eq, rule_eq, tag_eq}
 use Rattle.kernel_types.specs.Words.{is_host_ns, is_host_or_ns, is_owned, is_bridge, is_veth, is_at, is_peer_at, is_link_of}
 use Rattle.kernel_types.specs.Apply.Calls.{is_same_addr, is_same_route, is_same_setting, is_of_pool, leased_addresses}

@@ -6,6 +6,7 @@ use Rattle.std.specs.Prelude.{◌&&◌}
 use Rattle.std.specs.List.{list_any}
 use Rattle.std.specs.Str.{bytes_eq}
 use Rattle.std.specs.Cmp.Lexicographic.{nat_list_eq_equiv}
+use Rattle.cni_addr.specs.Lists.{distinct}
 use Rattle.cni_addr.specs.declared.address.Addr.{Addr}
 use Rattle.cni_addr.specs.declared.range.RangeSet.{RangeSet}
 use Rattle.host_local.specs.Laws.{AreCandidates}
@@ -13,7 +14,6 @@ use Rattle.ip_pool.specs.NextAddress.{is_candidate}
 use Rattle.net_conf.specs.declared.list.NetList.{NetList}
 use Rattle.pod_file.specs.declared.command.Command.{Command}
 use Rattle.kernel_types.specs.Equal.{addr_eq}
-use Rattle.kernel_types.specs.Lists.{distinct}
 use Rattle.kernel_types.specs.Sound.{IsSound}
 use Rattle.kernel_types.specs.Words.{is_own}
 use Rattle.kernel_types.proofs.LeasedAddress.{leased-candidate}

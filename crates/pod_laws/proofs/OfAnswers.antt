@@ -4,6 +4,7 @@ use Rattle.std.proofs.lemmas.Option.{none-some}
 use Rattle.std.proofs.lemmas.Bool.{both_ways}
 use Rattle.std.specs.Prelude.{if◌then◌else◌}
 use Rattle.std.specs.List.{list_all}
+use Rattle.cni_addr.specs.Lists.{distinct}
 use Rattle.cni_addr.specs.declared.address.Addr.{Addr}
 use Rattle.cni_result.specs.declared.error.CniError.{CniError}
 use Rattle.cni_result.specs.declared.result.AddResult.{AddResult}
@@ -11,7 +12,6 @@ use Rattle.net_conf.specs.declared.list.NetList.{NetList}
 use Rattle.pod_file.specs.declared.command.Command.{Command}
 use Rattle.pod_file.specs.declared.command.Verb.TheVariants as verbs
 use Rattle.kernel_types.specs.Equal.{addr_eq}
-use Rattle.kernel_types.specs.Lists.{distinct}
 use Rattle.kernel_types.specs.Replies.{is_fault}
 use Rattle.kernel_types.specs.Sound.{IsSound}
 use Rattle.kernel_types.proofs.ListLemmas.{list_any-append_right}

@@ -2,13 +2,13 @@
 use Rattle.std.specs.Prelude.{◌≡◌, ℕ, true, Some, None, slice_get}
 use Rattle.std.specs.List.{list_all}
 use Rattle.cni_addr.specs.Equal.{addr_eq}
+use Rattle.cni_addr.specs.Lists.{distinct}
 use Rattle.cni_result.specs.declared.result.AddResult.{AddResult}
 use Rattle.cni_verbs.specs.CommandWords.{add_refusal, att_of, mappings_of}
 use Rattle.cni_verbs.specs.Script.{leases_in}
 use Rattle.cni_verbs.specs.Wanted.{result_of_add, sets_of, wanted}
 use Rattle.cni_verbs.specs.declared.answer.Answer.TheVariants as answers
 use Rattle.host_local.specs.Laws.{AreCandidates}
-use Rattle.kernel_types.specs.Lists.{distinct}
 use Rattle.net_conf.specs.declared.list.NetList.{NetList}
 use Rattle.plan_words.specs.Share.{share_of}
 use Rattle.pod_file.specs.declared.command.Command.{Command}

@@ -2,7 +2,7 @@
 use Rattle.std.specs.Prelude.{◌≡◌, ℕ, ◌+◌, true, not, ◌||◌, List, [], ◌∷◌, ◌++◌, map, find, is_some, Option, None, if◌then◌else◌}
 use Rattle.std.specs.List.{All, list_all}
 use Rattle.std.specs.Str.{bytes_eq}
-use Rattle.kernel_types.specs.Lists.{distinct}
+use Rattle.cni_addr.specs.Lists.{distinct}
 use Rattle.net_conf.specs.WellFormed.{IsWellFormedList}
 use Rattle.net_conf.specs.declared.list.NetList.{NetList}
 use Rattle.pod_file.specs.Commands.{is_of_network}
