@@ -34,7 +34,8 @@ pub fn contains_candidate(set: &RangeSet, addr: &Addr) -> bool
 }
 
 /// Whether no address is between start and end of both ranges. The gateways do not matter, and a range whose start
-/// is above its end has no address. [`laws::apart_shares_none`](crate::laws::apart_shares_none) says it of all addresses.
+/// is above its end has no address. [`laws::apart_shares_none`](crate::laws::apart_shares_none) says it of all
+/// addresses.
 pub fn is_apart(range: &Range, other: &Range) -> bool
     ensures { result ≡ is_apart range.now other.now }
 {

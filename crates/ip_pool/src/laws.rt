@@ -14,7 +14,8 @@ pub fn candidates_are_distinct()
     ensures { CandidatesAreDistinct }
 {}
 
-/// [`is_apart`](crate::is_apart) means that: two ranges lie apart exactly where no address is between start and end of both.
+/// [`is_apart`](crate::is_apart) means that: two ranges lie apart exactly where no address is between start and end
+/// of both.
 pub fn apart_shares_none()
     ensures { ApartSharesNone }
 {}

@@ -148,6 +148,24 @@ impl Replay {
         })
     }
 
+    fn pick(&self, rt: &impl Abort) -> Option<Addr> {
+        pick_in(rt, &self.set, self.last, &self.taken)
+    }
+
+    /// This address is leased next.
+    fn give(&mut self, rt: &impl Abort, given: Addr, name: &str) -> Result<(), NoMemory> {
+        assert_eq!(rt; self.pick(rt), Some(given), "in {name}");
+        self.last = Some(given);
+        self.taken.push(given)
+    }
+
+    /// An address is leased next, and is given back.
+    fn try_next(&mut self, rt: &impl Abort, name: &str) {
+        let picked = self.pick(rt);
+        assert!(rt; picked.is_some(), "in {name}");
+        self.last = picked;
+    }
+
     fn step(
         &mut self,
         rt: &impl Abort,
@@ -155,40 +173,19 @@ impl Replay {
         step: Step,
         name: &str,
     ) -> Result<(), NoMemory> {
+        let base = self.base;
         match step {
-            Step::Last(offset) => self.last = Some(address_at(self.base, offset)),
-            Step::Taken(offset) => self.taken.push(address_at(self.base, offset))?,
-            Step::Gave(offset) => {
-                let given = address_at(self.base, offset);
-                assert_eq!(rt;
-                    pick_in(rt, &self.set, self.last, &self.taken),
-                    Some(given),
-                    "in {name}"
-                );
-                self.last = Some(given);
-                self.taken.push(given)?;
-            }
+            Step::Last(offset) => self.last = Some(address_at(base, offset)),
+            Step::Taken(offset) => self.taken.push(address_at(base, offset))?,
+            Step::Gave(offset) => self.give(rt, address_at(base, offset), name)?,
             Step::Freed(offset) => {
-                self.taken = without(alloc, &self.taken, &address_at(self.base, offset))?;
+                self.taken = without(alloc, &self.taken, &address_at(base, offset))?;
             }
-            Step::Tried => {
-                let picked = pick_in(rt, &self.set, self.last, &self.taken);
-                assert!(rt; picked.is_some(), "in {name}");
-                self.last = picked;
-            }
-            Step::Full => {
-                assert_eq!(rt;
-                    pick_in(rt, &self.set, self.last, &self.taken),
-                    None,
-                    "in {name}"
-                );
-            }
+            Step::Tried => self.try_next(rt, name),
+            Step::Full => assert_eq!(rt; self.pick(rt), None, "in {name}"),
             Step::Ends(offset) => {
-                assert_eq!(rt;
-                    self.last,
-                    Some(address_at(self.base, offset)),
-                    "at the end of {name}"
-                );
+                let last = Some(address_at(base, offset));
+                assert_eq!(rt; self.last, last, "at the end of {name}");
             }
         }
         Ok(())
