@@ -1,6 +1,7 @@
 -- The choice by a search in order is the choice by the relation.
 use Rattle.std.proofs.Common.{◌≡◌, ◌↔◌, ℕ, ◌+◌, Bool, true, false, not, ◌&&◌, ◌||◌, ◌==◌, nat_lt, cond, max, Option, Some, None, List, [], ◌∷◌, take, drop, MatchBool, refl, ap, sym, ◌∙◌, arith}
 use Rattle.std.specs.List.{list_any, list_all, position_or_len}
+use Rattle.std.proofs.lemmas.Bool.{not-false, not-true}
 use Rattle.std.proofs.lemmas.Bool.Decides.{nat_tests}
 use Rattle.std.proofs.lemmas.List.{take-append-drop}
 use Rattle.std.proofs.lemmas.List.Folds.{list_any-append}
@@ -37,15 +38,9 @@ pub picked-candidate : (set : RangeSet) (last : Option Addr) (taken : List Addr)
 picked-candidate set last taken a found =
     sym (is_tried set last a) ∙ find-member (is_free taken) (after_last_first last (candidates_of set)) a found
 
-not_false : (b : Bool) → not b ≡ true → b ≡ false
-not_false b h = grind arith
-
-not_true : (b : Bool) → not b ≡ false → b ≡ true
-not_true b h = grind arith
-
 pub picked-free : (set : RangeSet) (last : Option Addr) (taken : List Addr) (a : Addr) → pick_of set last taken ≡ Some a → is_taken taken a ≡ false
 picked-free set last taken a found =
-    not_false (is_taken taken a) (find-passes (is_free taken) (after_last_first last (candidates_of set)) a found)
+    not-true (is_taken taken a) (find-passes (is_free taken) (after_last_first last (candidates_of set)) a found)
 
 not_itself : (set : RangeSet) (last : Option Addr) (a b : Addr) (same : Bool) → addr_eq b a ≡ same → is_passed set last a b ≡ true → addr_eq b a ≡ false
 not_itself set last a b false is passed = is
@@ -57,7 +52,7 @@ not_itself set last a b true is passed =
 
 passed-taken : (set : RangeSet) (last : Option Addr) (taken : List Addr) (a b : Addr) → are_apart set.ranges ≡ true → is_candidate_or_none set last ≡ true → pick_of set last taken ≡ Some a → is_candidate set b ≡ true → is_passed set last a b ≡ true → is_taken taken b ≡ true
 passed-taken set last taken a b apart known found inside passed =
-    not_true (is_taken taken b) (find-in_order (is_free taken) (never_passes set last) (after_last_first last (candidates_of set)) a b (tried-in_order set last apart known) found (is_tried set last b ∙ inside) (not_itself set last a b (addr_eq b a) refl passed) (ap not passed))
+    not-false (is_taken taken b) (find-in_order (is_free taken) (never_passes set last) (after_last_first last (candidates_of set)) a b (tried-in_order set last apart known) found (is_tried set last b ∙ inside) (not_itself set last a b (addr_eq b a) refl passed) (ap not passed))
 
 -- ---- none is left
 
@@ -100,7 +95,7 @@ free-in_list taken [] some = absurd (no_item some)
 free-in_list taken (x ∷ xs) some = free-in_list_step taken x xs (is_free taken x) refl some (free-in_list taken xs)
   where
     free-in_list_step : (taken : List Addr) (x : Addr) (xs : List Addr) (b : Bool) → is_free taken x ≡ b → (b || list_any (is_free taken) xs) ≡ true → (list_any (is_free taken) xs ≡ true → (a : Addr) × (list_any (addr_eq a) xs ≡ true) × (is_taken taken a ≡ false)) → (a : Addr) × (list_any (addr_eq a) (x ∷ xs) ≡ true) × (is_taken taken a ≡ false)
-    free-in_list_step taken x xs true is some next = (x, grind (arith, addr_eq-itself x), not_false (is_taken taken x) is)
+    free-in_list_step taken x xs true is some next = (x, grind (arith, addr_eq-itself x), not-true (is_taken taken x) is)
     free-in_list_step taken x xs false is some next =
         let later = next some in
         (later.0, grind (arith, later.1), later.2)

@@ -1,8 +1,8 @@
 -- Searches over lists that are joined, and lists that are gone round.
-use Rattle.std.proofs.Common.{◌≡◌, ℕ, suc, ◌+◌, ◌-◌, ◌<◌, ◌||◌, Bool, true, false, not, cond, nat_lt, Option, Some, None, List, [], ◌∷◌, ◌++◌, length, get_or, take, drop, find, refl, ap, ◌∙◌, arith}
+use Rattle.std.proofs.Common.{◌≡◌, ℕ, suc, ◌+◌, ◌<◌, ◌||◌, Bool, true, false, not, cond, nat_lt, Option, Some, None, List, [], ◌∷◌, ◌++◌, length, get_or, take, drop, find, refl, ap, ◌∙◌, arith}
 use Rattle.std.specs.List.{flat_map, list_any, after_first, position_or_len, position}
 use Rattle.std.specs.Option.{option_or, is_some}
-use Rattle.std.proofs.lemmas.List.{drop_more, drop_all, take_all, length-drop}
+use Rattle.std.proofs.lemmas.List.{drop_more, drop_all, take_all}
 use Rattle.std.proofs.lemmas.List.Folds.{find-append}
 use Rattle.std.proofs.lemmas.Bool.Decides.{nat_tests}
 
@@ -80,12 +80,6 @@ list_any-no_position p xs missed = list_any-length p xs (place-none _ _ missed)
     list_any-length : {X : Type 0} (p : X → Bool) (xs : List X) → nat_lt (position_or_len p xs) (length xs) ≡ false → list_any p xs ≡ false
     list_any-length p [] h = refl
     list_any-length p (x ∷ xs) h = grind (arith, nat_tests, list_any-length p xs)
-
--- a slice to the end
-pub take-rest : {X : Type 0} (n : ℕ) (xs : List X) → take (length xs - n) (drop n xs) ≡ drop n xs
-take-rest n xs =
-    let size = length-drop n xs in
-    take_all (length xs - n) (drop n xs) (omega arith)
 
 -- something is found where something passes
 pub is_some-find : {X : Type 0} (p : X → Bool) (xs : List X) → is_some (find p xs) ≡ list_any p xs

@@ -1,7 +1,7 @@
 use Rattle.std.proofs.Common.{◌+◌, take, find, ap, sym, ◌∙◌}
+use Rattle.std.proofs.lemmas.List.{take_rest}
 use Rattle.ip_pool.specs.Pool.{is_free}
 use Rattle.ip_pool.specs.WayRound.{way_round}
-use Rattle.ip_pool.proofs.Lists.{take-rest}
 use Rattle.ip_pool.proofs.WayRound.{way_round-is, no_way_round, last-below_end}
 use Rattle.ip_pool.proofs.free.first_free_after.Goals as goal
 
@@ -16,7 +16,7 @@ returns-in-Some g c =
     let place = c.in-Some.place in
     let range = c.index-ranges-place.result in
     let last = c.args.last.now in
-    c.first_free_round.ensures ∙ ap (λ later. find p (way_round range (take place ranges) later last.bits)) (take-rest (place + 1) ranges) ∙ ap (find p) (way_round-is last ranges place range (sym c.place_of.ensures ∙ c.in-Some.is) c.index-ranges-place.is)
+    c.first_free_round.ensures ∙ ap (λ later. find p (way_round range (take place ranges) later last.bits)) (take_rest ranges (place + 1)) ∙ ap (find p) (way_round-is last ranges place range (sym c.place_of.ensures ∙ c.in-Some.is) c.index-ranges-place.is)
 
 pub returns-in-None : goal.returns-in-None
 returns-in-None g c =
