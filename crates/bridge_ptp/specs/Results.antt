@@ -5,6 +5,7 @@ use Rattle.cni_addr.specs.Codes.{family_eq}
 use Rattle.cni_addr.specs.Equal.{cidr_eq}
 use Rattle.cni_addr.specs.declared.address.Family.{Family}
 use Rattle.cni_addr.specs.declared.address.Family.TheVariants.{V4, V6}
+use Rattle.cni_result.specs.Versions.{mtu_since_1_1}
 use Rattle.cni_result.specs.declared.version.Version.{Version}
 use Rattle.cni_result.specs.declared.result.Interface.{Interface}
 use Rattle.cni_result.specs.declared.result.IpEntry.{IpEntry}
@@ -16,7 +17,6 @@ use Rattle.net_conf.specs.declared.first.PtpConf.{PtpConf}
 use Rattle.kernel_types.specs.Names.{host_name_of, host_mac_of, inner_mac_of, link_mac_of}
 use Rattle.kernel_types.specs.declared.object.Att.{Att}
 use Rattle.plan_words.specs.Shapes.{default_route}
-use Rattle.plan_words.specs.Versions.{mtu_since_1_1}
 
 -- ---- interfaces
 

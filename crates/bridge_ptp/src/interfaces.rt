@@ -4,9 +4,8 @@ ghost use Rattle.std.specs.Prelude.{◌≡◌, ◌++◌, map, IfOk, OnOk};
 ghost use Rattle.bridge_ptp.specs.Results as results;
 
 use cni_addr::{Duplicate, Items, NoMemory, Text};
-use cni_result::{AddResult, Dns, Interface, IpEntry, RouteEntry, Version};
+use cni_result::{AddResult, Dns, Interface, IpEntry, RouteEntry, Version, mtu_since_1_1};
 use kernel_types::{Att, link_mac};
-use plan_words::mtu_since_1_1;
 use std::alloc::Global;
 
 /// A bridge of the host.

@@ -19,7 +19,8 @@ use Rattle.cni_result.specs.Fields.{needed, optional, as_it_is, in_32_bits}
 use Rattle.cni_result.specs.Laws.{HasMtuOf, IsInterfaceOf, IsIpEntry, IsRouteEntry}
 use Rattle.cni_result.specs.Members.{text_data, number_data, ◌▷◌, put_if}
 use Rattle.cni_result.specs.Reading.{text_at, text_if_at, cidr_at, addr_if_at, mac_if_at, number_if_at, mtu_if_at, interface_at, ip_at, route_at}
-use Rattle.cni_result.specs.Results.{mac_data, addr_data, cidr_data, mtu_at, interface_data, ip_data, route_data}
+use Rattle.cni_result.specs.Results.{mac_data, addr_data, cidr_data, interface_data, ip_data, route_data}
+use Rattle.cni_result.specs.Versions.{mtu_since_1_1}
 use Rattle.cni_result.specs.declared.result.Interface.{Interface}
 use Rattle.cni_result.specs.declared.result.IpEntry.{IpEntry}
 use Rattle.cni_result.specs.declared.result.RouteEntry.{RouteEntry}
@@ -50,7 +51,7 @@ abbrev up_to_mac : Interface → Members
 up_to_mac i = no_members ▷ put_if mac_data (codes "mac") i.mac
 
 abbrev up_to_mtu : Version → Interface → Members
-up_to_mtu version i = up_to_mac i ▷ put_if number_data (codes "mtu") (mtu_at version i.mtu)
+up_to_mtu version i = up_to_mac i ▷ put_if number_data (codes "mtu") (mtu_since_1_1 version i.mtu)
 
 abbrev up_to_name : Version → Interface → Members
 up_to_name version i = up_to_mtu version i ▷ put (codes "name") (text_data i.name)
@@ -67,7 +68,7 @@ mac_again version i kept =
     ap (λ g. optional (codes "interfaces") mac_of_text (field_of as_str g))
     (at_other_if text_data (codes "mac") (codes "sandbox") i.sandbox (up_to_name version i) refl
     ∙ at_other (codes "mac") (codes "name") (text_data i.name) (up_to_mtu version i) refl
-    ∙ at_other_if number_data (codes "mac") (codes "mtu") (mtu_at version i.mtu) (up_to_mac i) refl
+    ∙ at_other_if number_data (codes "mac") (codes "mtu") (mtu_since_1_1 version i.mtu) (up_to_mac i) refl
     ∙ at_key_if mac_data (codes "mac") i.mac no_members refl)
     ∙ optional_again (codes "interfaces") mac_of_text mac_text i.mac (mac_if_read i.mac kept)
 
@@ -77,7 +78,7 @@ sandbox_again version i =
     ap (λ g. optional (codes "interfaces") as_it_is (field_of as_str g))
     (at_key_if text_data (codes "sandbox") i.sandbox (up_to_name version i)
     (at_other (codes "sandbox") (codes "name") (text_data i.name) (up_to_mtu version i) refl
-    ∙ at_other_if number_data (codes "sandbox") (codes "mtu") (mtu_at version i.mtu) (up_to_mac i) refl
+    ∙ at_other_if number_data (codes "sandbox") (codes "mtu") (mtu_since_1_1 version i.mtu) (up_to_mac i) refl
     ∙ at_other_if mac_data (codes "sandbox") (codes "mac") i.mac no_members refl))
     ∙ optional_again (codes "interfaces") as_it_is (λ t. t) i.sandbox (text_if_read i.sandbox)
 

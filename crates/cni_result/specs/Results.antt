@@ -1,5 +1,5 @@
 -- Results and errors as JSON (CNI specification 1.1.0, section 5).
-use Rattle.std.specs.Prelude.{ℕ, List, codes, Option, None}
+use Rattle.std.specs.Prelude.{ℕ, List, codes}
 use Rattle.serde_json.specs.Data.{Data, object, Members, no_members, put}
 use Rattle.cni_addr.specs.AddrText.{addr_text}
 use Rattle.cni_addr.specs.CidrText.{cidr_text}
@@ -7,6 +7,7 @@ use Rattle.cni_addr.specs.MacText.{mac_text}
 use Rattle.cni_addr.specs.Value.{AddrValue, CidrValue}
 use Rattle.cni_addr.specs.declared.mac.Mac.{Mac}
 use Rattle.cni_result.specs.Members.{text_data, number_data, list_data, ◌▷◌, put_if, put_text_unless_empty, put_list_unless_empty, put_object_unless_empty}
+use Rattle.cni_result.specs.Versions.{mtu_since_1_1}
 use Rattle.cni_result.specs.declared.error.CniError.{CniError}
 use Rattle.cni_result.specs.declared.result.AddResult.{AddResult}
 use Rattle.cni_result.specs.declared.result.Dns.{Dns}
@@ -33,16 +34,11 @@ cidr_data c = text_data (cidr_text c)
 abbrev pub mac_data : Mac → Data
 mac_data m = text_data (mac_text m)
 
--- `mtu` came to results with 1.1.0
-abbrev pub mtu_at : Version → Option ℕ → Option ℕ
-mtu_at V1_0 mtu = None
-mtu_at V1_1 mtu = mtu
-
 -- an entry of `interfaces`
 unfoldable pub interface_data : Version → Interface → Data
 interface_data version i = object (no_members
     ▷ put_if mac_data (codes "mac") i.mac
-    ▷ put_if number_data (codes "mtu") (mtu_at version i.mtu)
+    ▷ put_if number_data (codes "mtu") (mtu_since_1_1 version i.mtu)
     ▷ put (codes "name") (text_data i.name)
     ▷ put_if text_data (codes "sandbox") i.sandbox)
 

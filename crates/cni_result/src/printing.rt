@@ -8,13 +8,13 @@ ghost use Rattle.cni_json.specs.Json.{line_of};
 ghost use Rattle.cni_result.specs.Laws.{IsReadable};
 ghost use Rattle.cni_result.specs.Mappings.{proto_text, proto_data, mapping_data};
 ghost use Rattle.cni_result.specs.Reading.{result_of_bytes};
-ghost use Rattle.cni_result.specs.Results.{version_text, version_data, addr_data, cidr_data, mac_data, mtu_at, interface_data, ip_data, route_data, dns_members, result_members, result_data, error_data};
+ghost use Rattle.cni_result.specs.Results.{version_text, version_data, addr_data, cidr_data, mac_data, interface_data, ip_data, route_data, dns_members, result_members, result_data, error_data};
 
 use crate::cached::{PortMapping, Proto};
 use crate::error::CniError;
 use crate::members::{JsonObject, ToJson};
 use crate::result::{AddResult, Dns, Interface, IpEntry, RouteEntry};
-use crate::version::Version;
+use crate::version::{Version, mtu_since_1_1};
 use cni_addr::{Addr, Cidr, Mac, NoMemory, write_addr, write_cidr, write_mac};
 use cni_json::{LineNoMemory, line};
 use serde_json::Value;
@@ -62,16 +62,6 @@ impl ToJson for Mac {
     }
 }
 
-// `mtu` came to results with 1.1.0.
-fn mtu_at(version: Version, mtu: Option<u32>) -> Option<u32>
-    ensures { result ≡ mtu_at version mtu }
-{
-    match version {
-        Version::V1_0 => None,
-        Version::V1_1 => mtu,
-    }
-}
-
 #[tactic(auto, unfolding(crate::specs::Results::interface_data))]
 fn interface_value(
     alloc: Global,
@@ -82,7 +72,7 @@ fn interface_value(
 {
     let mut object = JsonObject::new(alloc);
     object.put_if("mac", &interface.mac)?;
-    object.put_if("mtu", &mtu_at(version, interface.mtu))?;
+    object.put_if("mtu", &mtu_since_1_1(version, interface.mtu))?;
     object.put("name", &interface.name)?;
     object.put_if("sandbox", &interface.sandbox)?;
     Ok(object.into_value())

@@ -1,4 +1,7 @@
-//! Versions of the specification.
+//! Versions of the specification, and what a result tells by them.
+
+ghost use Rattle.std.specs.Prelude.{◌≡◌};
+ghost use Rattle.cni_result.specs.Versions.{mtu_since_1_1};
 
 /// A version of the CNI specification that a network list may have (`cniVersion`).
 #[derive(Clone, Copy, Debug)]
@@ -25,4 +28,14 @@ impl Eq for Version {
     ghost use Rattle.cni_result.specs.Codes.{version_code};
 
     ghost laws = { on_equiv version_code nat_eq_equiv };
+}
+
+/// The MTU of an interface, in bytes, which a result tells since version 1.1.0 (CNI specification, section 5).
+pub fn mtu_since_1_1(version: Version, mtu: Option<u32>) -> Option<u32>
+    ensures { result ≡ mtu_since_1_1 version mtu }
+{
+    match version {
+        Version::V1_0 => None,
+        Version::V1_1 => mtu,
+    }
 }

@@ -1,6 +1,7 @@
 -- The plan and the result of the `tuning` plugin: kernel settings of the container's namespace, and values of its link.
 use Rattle.std.specs.Prelude.{ℕ, Bool, ◌||◌, List, [], ◌∷◌, ◌++◌, map, is_some, if◌then◌else◌}
 use Rattle.std.specs.Option.{option_or}
+use Rattle.cni_result.specs.Versions.{mtu_since_1_1}
 use Rattle.cni_result.specs.declared.version.Version.{Version}
 use Rattle.cni_result.specs.declared.result.Interface.{Interface}
 use Rattle.cni_result.specs.declared.result.AddResult.{AddResult}
@@ -17,7 +18,6 @@ use Rattle.kernel_types.specs.declared.call.Kind.{Kind}
 use Rattle.kernel_types.specs.declared.call.Kind.TheVariants.{Settings}
 use Rattle.plan_words.specs.Keys.{each_key_once}
 use Rattle.plan_words.specs.Shapes.{inner_key}
-use Rattle.plan_words.specs.Versions.{mtu_since_1_1}
 
 -- ---- settings
 

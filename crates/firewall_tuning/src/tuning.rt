@@ -6,10 +6,10 @@ ghost use Rattle.plan_words.specs.Keys.{each_key_once};
 ghost use Rattle.firewall_tuning.specs.Tuning as plan;
 
 use cni_addr::{Duplicate, Items, NoMemory, Text};
-use cni_result::{AddResult, Interface, Version};
+use cni_result::{AddResult, Interface, Version, mtu_since_1_1};
 use kernel_types::{Att, Call, Kind, Setting, Tag};
 use net_conf::{Sysctl, TuningConf};
-use plan_words::{ask_all, inner_key, mtu_since_1_1, push_unless_there};
+use plan_words::{ask_all, inner_key, push_unless_there};
 use std::alloc::Global;
 
 // ---- settings

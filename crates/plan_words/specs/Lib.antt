@@ -4,4 +4,3 @@ pub mod Rows
 pub mod RuleKeys
 pub mod Shapes
 pub mod Share
-pub mod Versions

@@ -15,7 +15,6 @@ pub mod counts;
 pub mod families;
 pub mod rows;
 pub mod shapes;
-pub mod versions;
 
 pub use asked::{Asked, ask_all, push_unless_there};
 pub use counts::{count_addresses, count_forward_calls, count_masquerade_rules, count_routes};
@@ -25,4 +24,3 @@ pub use shapes::{
     address_on, addresses_on, ask_forward, default_route, host_end, inner_end, inner_key, lease_of,
     macvlan_link, masquerade_rules, route_by, route_on, routes_on, rule_for_all,
 };
-pub use versions::mtu_since_1_1;

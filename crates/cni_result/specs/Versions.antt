@@ -1,4 +1,4 @@
--- What a result tells by its version (CNI specification, section 5, ADD Success).
+-- What depends on the version of a result (CNI specification, section 5, ADD Success).
 use Rattle.std.specs.Prelude.{ℕ, Option, None}
 use Rattle.cni_result.specs.declared.version.Version.{Version}
 use Rattle.cni_result.specs.declared.version.Version.TheVariants.{V1_0, V1_1}
