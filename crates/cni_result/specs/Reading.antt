@@ -1,8 +1,7 @@
 -- Results as they are read (CNI specification 1.1.0, section 5). A member that is null is as an absent one, and unnamed
 -- members are passed over.
-use Rattle.std.specs.Prelude.{ℕ, List, [], codes, length, Bool, true, nat_lt, if◌then◌else◌, Option, Some, None, Result, Ok, Err, ⊤}
+use Rattle.std.specs.Prelude.{ℕ, List, [], codes, length, Bool, true, nat_lt, if◌then◌else◌, Option, Some, None, Result, Ok, Err, ok_or, ⊤}
 use Rattle.std.specs.List.{list_all}
-use Rattle.std.specs.Str.{bytes_eq}
 use Rattle.serde_json.specs.Data.{Data, null, boolean, number, string, array, object}
 use Rattle.cni_addr.specs.AddrText.{addr_of_text}
 use Rattle.cni_addr.specs.CidrText.{cidr_of_text}
@@ -19,6 +18,7 @@ use Rattle.cni_json.specs.declared.reading.ReadEnd.TheVariants as reading
 use Rattle.cni_result.specs.Dns.{dns_of_object}
 use Rattle.cni_result.specs.Fields.{needed, optional, list_of, as_it_is, in_32_bits}
 use Rattle.cni_result.specs.Refusals.{invalid}
+use Rattle.cni_result.specs.Versions.{version_named}
 use Rattle.cni_result.specs.declared.dns.DnsError.{DnsError}
 use Rattle.cni_result.specs.declared.dns.DnsError.TheVariants as ends
 use Rattle.cni_result.specs.declared.refusal.ResultError.{ResultError}
@@ -34,16 +34,10 @@ use Rattle.cni_result.specs.declared.version.Version.TheVariants.{V1_0, V1_1}
 -- ---- the version
 
 -- the version that `cniVersion` names
-abbrev pub version_named : List ℕ → Result Version ResultError
-version_named text =
-    if bytes_eq text (codes "1.0.0") then Ok V1_0
-    else if bytes_eq text (codes "1.1.0") then Ok V1_1
-    else Err (refusal.Version text)
-
 abbrev pub version_of : Field (List ℕ) → Result Version ResultError
 version_of Absent = Err (refusal.Version [])
 version_of WrongKind = Err (refusal.Version [])
-version_of (Here text) = version_named text
+version_of (Here text) = ok_or (version_named text) (refusal.Version text)
 
 unfoldable pub version_at : Data → Result Version ResultError
 version_at d = version_of (text_field (codes "cniVersion") d)

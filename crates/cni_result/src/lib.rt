@@ -33,4 +33,4 @@ pub use printing::{error_value, proto_text, result_line, to_value, version_text}
 pub use reading::read_result;
 pub use refusal::ResultError;
 pub use result::{AddResult, Dns, Interface, IpEntry, RouteEntry};
-pub use version::{Version, mtu_since_1_1};
+pub use version::{Version, mtu_since_1_1, version_named};

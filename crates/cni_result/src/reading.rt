@@ -11,7 +11,7 @@ use crate::dns::{DnsError, read_dns};
 use crate::entries::{interfaces, ips, routes};
 use crate::refusal::{ResultError, invalid, version_refused};
 use crate::result::{AddResult, Dns, IpEntry};
-use crate::version::Version;
+use crate::version::{Version, version_named};
 use cni_json::{Field, ReadEnd, Value, field_str, read};
 use std::alloc::Global;
 
@@ -77,9 +77,10 @@ fn version(alloc: Global, top: &Value) -> Result<Version, ResultError>
 {
     match field_str(top, "cniVersion") {
         Field::Absent | Field::WrongKind => Err(version_refused(alloc, "")),
-        Field::Here("1.0.0") => Ok(Version::V1_0),
-        Field::Here("1.1.0") => Ok(Version::V1_1),
-        Field::Here(found) => Err(version_refused(alloc, found)),
+        Field::Here(found) => match version_named(found) {
+            Some(version) => Ok(version),
+            None => Err(version_refused(alloc, found)),
+        },
     }
 }
 

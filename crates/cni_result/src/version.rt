@@ -1,7 +1,7 @@
-//! Versions of the specification, and what a result tells by them.
+//! Versions of the specification, by their texts, and what a result tells by its version.
 
 ghost use Rattle.std.specs.Prelude.{◌≡◌};
-ghost use Rattle.cni_result.specs.Versions.{mtu_since_1_1};
+ghost use Rattle.cni_result.specs.Versions.{version_named, mtu_since_1_1};
 
 /// A version of the CNI specification that a network list may have (`cniVersion`).
 #[derive(Clone, Copy, Debug)]
@@ -28,6 +28,17 @@ impl Eq for Version {
     ghost use Rattle.cni_result.specs.Codes.{version_code};
 
     ghost laws = { on_equiv version_code nat_eq_equiv };
+}
+
+/// The version that a text names as `cniVersion`. Takes no memory.
+pub fn version_named(text: &str) -> Option<Version>
+    ensures { result ≡ version_named text.now }
+{
+    match text {
+        "1.0.0" => Some(Version::V1_0),
+        "1.1.0" => Some(Version::V1_1),
+        _ => None,
+    }
 }
 
 /// The MTU of an interface, in bytes, which a result tells since version 1.1.0 (CNI specification, section 5).

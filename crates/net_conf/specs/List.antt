@@ -1,5 +1,5 @@
 -- A network list, part by part in the order of its refusals (CNI specification 1.1.0, section 1).
-use Rattle.std.specs.Prelude.{ℕ, List, [], codes, Bool, true, false, if◌then◌else◌, Result, Ok, Err, Option, Some, None, ⊤}
+use Rattle.std.specs.Prelude.{ℕ, List, [], codes, Bool, true, false, if◌then◌else◌, Result, Ok, Err, ok_or, Option, Some, None, ⊤}
 use Rattle.std.specs.Str.{bytes_eq}
 use Rattle.serde_json.specs.Data.{Data, null, boolean, number, string, object}
 use Rattle.serde_json.specs.Find.{get}
@@ -10,8 +10,8 @@ use Rattle.cni_json.specs.declared.fields.Field.{Field}
 use Rattle.cni_json.specs.declared.fields.Field.TheVariants.{Absent, WrongKind, Here}
 use Rattle.cni_json.specs.declared.reading.ReadEnd.{ReadEnd}
 use Rattle.cni_json.specs.declared.reading.ReadEnd.TheVariants as ends
+use Rattle.cni_result.specs.Versions.{version_named}
 use Rattle.cni_result.specs.declared.version.Version.{Version}
-use Rattle.cni_result.specs.declared.version.Version.TheVariants.{V1_0, V1_1}
 use Rattle.net_conf.specs.Names.{is_network_name}
 use Rattle.net_conf.specs.Outside.{supported}
 use Rattle.net_conf.specs.Plugins.{chain_at}
@@ -32,16 +32,10 @@ abbrev pub list_object : Data → Result ⊤ ConfError
 list_object (object ms) = Ok tt
 list_object d = invalid (codes "list")
 
-abbrev pub version_named : List ℕ → Result Version ConfError
-version_named text =
-    if bytes_eq text (codes "1.0.0") then Ok V1_0
-    else if bytes_eq text (codes "1.1.0") then Ok V1_1
-    else Err (refusal.Version text)
-
 abbrev pub version_of : Field (List ℕ) → Result Version ConfError
 version_of WrongKind = invalid (codes "cniVersion")
 version_of Absent = Err (refusal.Version [])
-version_of (Here text) = version_named text
+version_of (Here text) = ok_or (version_named text) (refusal.Version text)
 
 -- the version that the plugins are asked in
 unfoldable pub version_at : Data → Result Version ConfError

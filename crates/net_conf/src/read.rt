@@ -14,7 +14,7 @@ use crate::outside::{Accepted, supported};
 use crate::plugins::plugin_chain;
 use cni_addr::Text;
 use cni_json::{Field, ReadEnd, Value, field_str};
-use cni_result::Version;
+use cni_result::{Version, version_named};
 use std::alloc::Global;
 
 /// The network list that the bytes spell (CNI specification 1.1.0, section 1), or the first refusal in the order of its
@@ -71,9 +71,10 @@ fn version(alloc: Global, top: &Value) -> Result<Version, ConfError>
     match field_str(top, "cniVersion") {
         Field::WrongKind => Err(invalid(alloc, "cniVersion")),
         Field::Absent => Err(version_refused(alloc, "")),
-        Field::Here("1.0.0") => Ok(Version::V1_0),
-        Field::Here("1.1.0") => Ok(Version::V1_1),
-        Field::Here(found) => Err(version_refused(alloc, found)),
+        Field::Here(found) => match version_named(found) {
+            Some(version) => Ok(version),
+            None => Err(version_refused(alloc, found)),
+        },
     }
 }
 
