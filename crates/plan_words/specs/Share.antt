@@ -13,7 +13,7 @@ use Rattle.kernel_types.specs.declared.object.CachedObj.{CachedObj}
 use Rattle.kernel_types.specs.declared.object.Host.{Host}
 use Rattle.kernel_types.specs.declared.object.Tag.TheVariants.{Own}
 use Rattle.kernel_types.specs.declared.call.Call.{Call}
-use Rattle.kernel_types.specs.declared.call.Call.TheVariants.{Begin, BridgeEnsure, GatewayEnsure, ForwardEnsure, VethAdd, MacvlanAdd, LinkSet, AddrAdd, RouteAdd, RuleAppend, SettingSet, LeaseNext, CachePut, LinkDel, RuleDel, SettingDel, LeaseDel, CacheDel, HasObj, CacheGet, OwnersOf, PoolFree, NsChange, Outside}
+use Rattle.kernel_types.specs.declared.call.Call.TheVariants.{VethAdd, MacvlanAdd, LinkSet, AddrAdd, RouteAdd, RuleAppend, SettingSet, CachePut}
 
 -- objects of one attachment, list by list
 pub record Share : Type 0 where
@@ -62,22 +62,7 @@ share_after_call s (RouteAdd obj) = record s { routes = s.routes ++ obj ∷ [] }
 share_after_call s (RuleAppend rule) = record s { rules = s.rules ++ rule ∷ [] }
 share_after_call s (SettingSet setting) = record s { settings = s.settings ++ setting ∷ [] }
 share_after_call s (CachePut att cached) = record s { cached = s.cached ++ record { cached = cached; tag = Own att } ∷ [] }
-share_after_call s (Begin att netns) = s
-share_after_call s (BridgeEnsure name mtu promisc) = s
-share_after_call s (GatewayEnsure bridge cidr) = s
-share_after_call s (ForwardEnsure family) = s
-share_after_call s (LeaseNext att number set) = s
-share_after_call s (LinkDel att) = s
-share_after_call s (RuleDel att) = s
-share_after_call s (SettingDel att) = s
-share_after_call s (LeaseDel att) = s
-share_after_call s (CacheDel att) = s
-share_after_call s (HasObj probe) = s
-share_after_call s (CacheGet att) = s
-share_after_call s (OwnersOf network kind) = s
-share_after_call s (PoolFree network set) = s
-share_after_call s (NsChange name add) = s
-share_after_call s (Outside change) = s
+share_after_call s call = s
 
 abbrev pub share_after_calls : Share → List Call → Share
 share_after_calls s [] = s
