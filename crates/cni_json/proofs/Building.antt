@@ -1,24 +1,20 @@
 -- Objects that are built member by member from whole numbers have whole numbers alone.
-use Rattle.std.proofs.Common.{◌≡◌, ℕ, List, Bool, false, ◌||◌, Ordering, Less, Equal, Greater, nat_cmp}
-use Rattle.std.proofs.lemmas.Bool.{or_parts}
+use Rattle.std.proofs.Common.{◌≡◌, ℕ, List, false, Ordering, Less, Equal, Greater, nat_cmp}
+use Rattle.std.proofs.lemmas.Bool.{or_parts, or_from}
 use Rattle.std.specs.Cmp.Lexicographic.{slice_cmp}
 use Rattle.std.specs.Ordering.{match_ordering}
 use Rattle.serde_json.specs.Data.{Data, Members, no_members, member, put}
 use Rattle.serde_json.specs.Written.{has_float, members_have_float}
 
--- neither of two tests holds
-pub neither : (a b : Bool) → a ≡ false → b ≡ false → (a || b) ≡ false
-neither a b first second = rw (first, second)
-
 no_float-put_at : (o : Ordering) (k l : List ℕ) (d e : Data) (ms : Members) → has_float d ≡ false → has_float e ≡ false → members_have_float ms ≡ false → members_have_float (put k d ms) ≡ false
     → members_have_float (match_ordering o (member k d (member l e ms)) (member l d ms) (member l e (put k d ms))) ≡ false
-no_float-put_at Less k l d e ms new first rest later = neither _ _ new (neither _ _ first rest)
-no_float-put_at Equal k l d e ms new first rest later = neither _ _ new rest
-no_float-put_at Greater k l d e ms new first rest later = neither _ _ first later
+no_float-put_at Less k l d e ms new first rest later = or_from _ _ new (or_from _ _ first rest)
+no_float-put_at Equal k l d e ms new first rest later = or_from _ _ new rest
+no_float-put_at Greater k l d e ms new first rest later = or_from _ _ first later
 
 -- members with whole numbers, and one more
 pub members_have_float-put : (k : List ℕ) (d : Data) (ms : Members) → has_float d ≡ false → members_have_float ms ≡ false → members_have_float (put k d ms) ≡ false
-members_have_float-put k d no_members new h = neither _ _ new h
+members_have_float-put k d no_members new h = or_from _ _ new h
 members_have_float-put k d (member l e ms) new h =
     let parts = or_parts (has_float e) _ h in
     no_float-put_at (slice_cmp nat_cmp k l) k l d e ms new parts.0 parts.1 (members_have_float-put k d ms new parts.1)

@@ -1,5 +1,6 @@
 -- A line of well-formed data is read again as the data. The tokens of the line are those of the data's outline, and the outline converts back.
 use Rattle.std.proofs.Common.{◌≡◌, ℕ, suc, ◌≤◌, max, pos, negsuc, List, [], ◌∷◌, ◌++◌, Bool, true, false, Option, Some, option_map, option_and_then, Ok, Greater, nat_cmp, IsUtf8, refl, sym, ap, ap₂, ◌∙◌, subst, arith, append-nil, decimal}
+use Rattle.std.proofs.lemmas.Bool.{or_from}
 use Rattle.std.proofs.lemmas.Cmp.{nat_list_cmp_total}
 use Rattle.std.proofs.lemmas.Fmt.{IsAscii-decimal}
 use Rattle.std.proofs.lemmas.Str.{IsUtf8-append, IsUtf8-from_ascii}
@@ -24,7 +25,6 @@ use Rattle.serde_json.proofs.Texts.{print-outline}
 use Rattle.cni_json.specs.Json.{json_of, line_of}
 use Rattle.cni_json.specs.WellFormed.{EverywhereInItems, EverywhereInMembers, keys, AreAscending, Has64Bits, IsProper, IsWellFormed}
 use Rattle.cni_json.proofs.Ascending.{IsBelow}
-use Rattle.cni_json.proofs.Building.{neither}
 use Rattle.cni_json.proofs.LineFeed.{json_of-line_feed}
 use Rattle.cni_json.proofs.ReadingLemmas.{json_of-whole}
 
@@ -65,11 +65,11 @@ mutual
 
   items_have_float-well_formed : (ds : Items) → EverywhereInItems IsProper ds → items_have_float ds ≡ false
   items_have_float-well_formed no_items h = refl
-  items_have_float-well_formed (item d ds) h = neither _ _ (has_float-well_formed d h.0) (items_have_float-well_formed ds h.1)
+  items_have_float-well_formed (item d ds) h = or_from _ _ (has_float-well_formed d h.0) (items_have_float-well_formed ds h.1)
 
   members_have_float-well_formed : (ms : Members) → EverywhereInMembers IsProper ms → members_have_float ms ≡ false
   members_have_float-well_formed no_members h = refl
-  members_have_float-well_formed (member k d ms) h = neither _ _ (has_float-well_formed d h.0) (members_have_float-well_formed ms h.1)
+  members_have_float-well_formed (member k d ms) h = or_from _ _ (has_float-well_formed d h.0) (members_have_float-well_formed ms h.1)
 
 -- ---- the outline
 

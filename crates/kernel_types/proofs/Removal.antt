@@ -3,6 +3,7 @@ use Rattle.std.proofs.Common.{◌≡◌, ℕ, Bool, true, false, not, List, [], 
 use Rattle.std.specs.Prelude.{filter, find, ◌&&◌, ◌||◌}
 use Rattle.std.specs.List.{list_any}
 use Rattle.std.specs.Str.{bytes_eq}
+use Rattle.std.proofs.lemmas.Bool.{and_parts}
 use Rattle.std.proofs.lemmas.Slice.Eq.{bytes_eq-Decides}
 use Rattle.std.specs.Cmp.Lexicographic.{nat_list_eq_equiv}
 use Rattle.kernel_types.specs.declared.call.Reply.TheVariants.{Gone}
@@ -81,17 +82,13 @@ on_kept gone p at links w some stays =
     list_any-kept p (λ l. not (gone l)) links some
     (list_any-none (λ l. p l && not (not (gone l))) (λ l. gone l && at l) (λ l h. grind (arith, h, w l)) links (grind (arith, stays)))
 
-first_part : (a b : Bool) → (a && b) ≡ true → a ≡ true
-first_part true b h = refl
-first_part false b h = h
-
 address_fits_tag-kept : (gone : Link → Bool) (links : List Link) (a : AddrObj) (t : Tag) → address_fits_tag links a t ≡ true → not (list_any (λ l. gone l && is_at a.ns a.link l) links) ≡ true → address_fits_tag (filter (λ l. not (gone l)) links) a t ≡ true
 address_fits_tag-kept gone links a Outside h stays = h
 address_fits_tag-kept gone links a Base h stays =
-    let kept = on_kept gone (is_bridge_at a.ns a.link) (is_at a.ns a.link) links (λ l. first_part (is_at a.ns a.link l) (is_bridge l.kind)) (grind (arith, h)) stays in
+    let kept = on_kept gone (is_bridge_at a.ns a.link) (is_at a.ns a.link) links (λ l h. (and_parts (is_at a.ns a.link l) (is_bridge l.kind) h).0) (grind (arith, h)) stays in
     grind (arith, h, kept)
 address_fits_tag-kept gone links a (Own att) h stays =
-    on_kept gone (is_link_of a.ns a.link (Own att)) (is_at a.ns a.link) links (λ l. first_part (is_at a.ns a.link l) (tag_eq l.tag (Own att))) h stays
+    on_kept gone (is_link_of a.ns a.link (Own att)) (is_at a.ns a.link) links (λ l h. (and_parts (is_at a.ns a.link l) (tag_eq l.tag (Own att)) h).0) h stays
 
 pub AreAddresses-without : (gone : Link → Bool) (links : List Link) (addresses : List AddrObj) → AreAddresses links addresses
     → AreAddresses (filter (λ l. not (gone l)) links) (filter (λ a. not (list_any (λ l. gone l && is_at a.ns a.link l) links)) addresses)
@@ -105,7 +102,7 @@ pub AreRoutes-without : (gone : Link → Bool) (links : List Link) (routes : Lis
 AreRoutes-without gone links routes sound = record {
   keys = distinct-filter (λ a b. is_same_route b a) (λ r. not (list_any (λ l. gone l && is_at r.ns r.link l) links)) routes sound.keys;
   lie = list_all-kept (λ r. list_any (is_link_of r.ns r.link r.tag) links) (λ r. list_any (is_link_of r.ns r.link r.tag) (filter (λ l. not (gone l)) links)) (λ r. not (list_any (λ l. gone l && is_at r.ns r.link l) links))
-      (λ r h stays. on_kept gone (is_link_of r.ns r.link r.tag) (is_at r.ns r.link) links (λ l. first_part (is_at r.ns r.link l) (tag_eq l.tag r.tag)) h stays) routes sound.lie;
+      (λ r h stays. on_kept gone (is_link_of r.ns r.link r.tag) (is_at r.ns r.link) links (λ l h. (and_parts (is_at r.ns r.link l) (tag_eq l.tag r.tag) h).0) h stays) routes sound.lie;
 }
 
 pub IsSound-without_links : (q : List ℕ → List ℕ → Bool) (host : Host) → IsSound host → IsSound (without_links (goes_by q) host)

@@ -2,6 +2,7 @@
 use Rattle.std.proofs.Common.{◌≡◌, ℕ, Bool, true, false, not, cond, List, [], ◌∷◌, Option, Some, None, refl, subst, arith}
 use Rattle.std.specs.Prelude.{find, ◌&&◌, ◌||◌}
 use Rattle.std.specs.List.{list_any, list_all}
+use Rattle.std.proofs.lemmas.Bool.{and_parts}
 use Rattle.std.specs.Cmp.Lexicographic.{nat_list_eq_equiv}
 use Rattle.std.proofs.lemmas.Slice.Eq.{bytes_eq-Decides}
 use Rattle.cni_addr.specs.Lists.{distinct}
@@ -105,14 +106,6 @@ one_place ns name a b h g =
 host_at : (ns name : List ℕ) (l : Link) → is_at ns name l ≡ true → is_host_ns ns ≡ true → is_host_ns l.ns ≡ true
 host_at ns name l h host = let e : l.ns ≡ ns = (bytes_eq-Decides l.ns ns).0 (grind (arith, h)) in rw e host
 
-first_true : (a b : Bool) → (a && b) ≡ true → a ≡ true
-first_true true b h = refl
-first_true false b h = h
-
-second_true : (a b : Bool) → (a && b) ≡ true → b ≡ true
-second_true true b h = h
-second_true false b h = cc
-
 keeps_or_owns : (g o : Bool) → (g ≡ true → o ≡ true) → (not g || o) ≡ true
 keeps_or_owns true o h = h refl
 keeps_or_owns false o h = refl
@@ -134,7 +127,7 @@ on_gone mine respects gone links ns name t keys may lies goes =
     from_one (λ x. is_link_of ns name t x && (gone x && is_at ns name x)) (λ m. not (gone m) || may_go mine m) (mine t)
     (λ x a w. let same : mine x.tag ≡ mine t = respects x.tag t (grind (arith, a)) in grind (arith, a, w, same))
     links
-    (both_at (λ a b. is_at b.ns b.name a) (is_link_of ns name t) (λ l. gone l && is_at ns name l) (is_at ns name) (λ x. first_true (is_at ns name x) (tag_eq x.tag t)) (λ x. second_true (gone x) (is_at ns name x)) (one_place ns name) links keys lies goes)
+    (both_at (λ a b. is_at b.ns b.name a) (is_link_of ns name t) (λ l. gone l && is_at ns name l) (is_at ns name) (λ x h. (and_parts (is_at ns name x) (tag_eq x.tag t) h).0) (λ x h. (and_parts (gone x) (is_at ns name x) h).1) (one_place ns name) links keys lies goes)
     may
 
 address_gone : (mine : Tag → Bool) → RespectsTags mine → (gone : Link → Bool) (links : List Link) → distinct (λ a b. is_at b.ns b.name a) links ≡ true → list_all (λ m. not (gone m) || may_go mine m) links ≡ true
@@ -142,9 +135,9 @@ address_gone : (mine : Tag → Bool) → RespectsTags mine → (gone : Link → 
 address_gone mine respects gone links keys may a Outside lies goes = cc
 address_gone mine respects gone links keys may a Base lies goes =
     from_one (λ x. is_bridge_at a.ns a.link x && (gone x && is_at a.ns a.link x)) (λ m. not (gone m) || may_go mine m) (mine Base)
-    (λ x h w. let here : is_host_ns x.ns ≡ true = host_at a.ns a.link x (grind (arith, h)) (first_true (is_host_ns a.ns) (list_any (is_bridge_at a.ns a.link) links) lies) in grind (arith, h, w, here))
+    (λ x h w. let here : is_host_ns x.ns ≡ true = host_at a.ns a.link x (grind (arith, h)) (and_parts (is_host_ns a.ns) (list_any (is_bridge_at a.ns a.link) links) lies).0 in grind (arith, h, w, here))
     links
-    (both_at (λ x y. is_at y.ns y.name x) (is_bridge_at a.ns a.link) (λ l. gone l && is_at a.ns a.link l) (is_at a.ns a.link) (λ x. first_true (is_at a.ns a.link x) (is_bridge x.kind)) (λ x. second_true (gone x) (is_at a.ns a.link x)) (one_place a.ns a.link) links keys (second_true (is_host_ns a.ns) (list_any (is_bridge_at a.ns a.link) links) lies) goes)
+    (both_at (λ x y. is_at y.ns y.name x) (is_bridge_at a.ns a.link) (λ l. gone l && is_at a.ns a.link l) (is_at a.ns a.link) (λ x h. (and_parts (is_at a.ns a.link x) (is_bridge x.kind) h).0) (λ x h. (and_parts (gone x) (is_at a.ns a.link x) h).1) (one_place a.ns a.link) links keys (and_parts (is_host_ns a.ns) (list_any (is_bridge_at a.ns a.link) links) lies).1 goes)
     may
 address_gone mine respects gone links keys may a (Own b) lies goes = on_gone mine respects gone links a.ns a.link (Own b) keys may lies goes
 

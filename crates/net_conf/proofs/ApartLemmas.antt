@@ -3,7 +3,7 @@ use Rattle.std.proofs.Common.{◌≡◌, ◌≢◌, ℕ, zero, suc, ◌<◌, ◌
 use Rattle.std.specs.Prelude.{◌&&◌, ◌||◌, ◌==◌, nat_lt, nat_le, min, max}
 use Rattle.std.specs.List.{list_all}
 use Rattle.std.specs.List.Sorted.{IsNonDecreasingBy}
-use Rattle.std.proofs.lemmas.Bool.{cases_eq, cases_Bool, and_parts}
+use Rattle.std.proofs.lemmas.Bool.{cases_eq, cases_Bool, and_parts, or_from, or_right}
 use Rattle.std.proofs.lemmas.Bool.Decides.{nat_tests}
 use Rattle.std.proofs.lemmas.List.Edits.{Swapped, swapped_from_swap, length-swap}
 use Rattle.std.proofs.lemmas.List.Sorted.{IsPermutation-keeps, IsPermutation-sym, All-permutation, length_permutation}
@@ -21,21 +21,12 @@ below_all a b c d less = let fact : min a b < max c d = omega arith in grind (ar
 meet : (a b c d : ℕ) → c ≤ a → c ≤ d → d ≤ a → d ≤ b → nat_lt (min a b) (max c d) ≡ false
 meet a b c d p q r s = let fact : max c d ≤ min a b = omega arith in grind (arith, nat_tests, fact)
 
-or_true : (b c : Bool) → c ≡ true → (b || c) ≡ true
-or_true true c is = refl
-or_true false c is = is
-
 -- a range that starts after the end of another has none of its addresses
 apart-after : (r s : Range) → r.end.bits < s.start.bits → is_apart r s ≡ true
-apart-after r s less = or_true (not (family_eq r.start.family s.start.family)) _ (below_all r.end.bits s.end.bits r.start.bits s.start.bits less)
+apart-after r s less = or_right (not (family_eq r.start.family s.start.family)) _ (below_all r.end.bits s.end.bits r.start.bits s.start.bits less)
 
 same_family : (f g h : Family) → family_eq f h ≡ true → family_eq g h ≡ true → not (family_eq f g) ≡ false
 same_family f g h p q = grind (arith, nat_tests, p, q)
-
-or_false : (b c : Bool) → b ≡ false → c ≡ false → (b || c) ≡ false
-or_false false false p q = refl
-or_false true c p q = cc
-or_false false true p q = cc
 
 -- a range of the family that starts within another has one of its addresses
 not_apart-within : (f : Family) (r s : Range) → has_address_of f r ≡ true → has_address_of f s ≡ true → r.start.bits ≤ s.start.bits → s.start.bits ≤ r.end.bits → is_apart r s ≡ false
@@ -44,7 +35,7 @@ not_apart-within f r s p q order within =
     let two = and_parts (family_eq s.start.family f) (nat_le s.start.bits s.end.bits) q in
     let first : r.start.bits ≤ r.end.bits = grind (arith, nat_tests, one.1) in
     let second : s.start.bits ≤ s.end.bits = grind (arith, nat_tests, two.1) in
-    or_false (not (family_eq r.start.family s.start.family)) _ (same_family r.start.family s.start.family f one.0 two.0)
+    or_from (not (family_eq r.start.family s.start.family)) _ (same_family r.start.family s.start.family f one.0 two.0)
     (meet r.end.bits s.end.bits r.start.bits s.start.bits first order within second)
 
 -- ---- ranges in order

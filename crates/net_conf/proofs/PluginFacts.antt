@@ -1,9 +1,9 @@
 -- What the plugins of a list keep that is read.
-use Rattle.std.proofs.Common.{◌≡◌, ℕ, ◌&&◌, ◌||◌, Bool, true, false, List, [], ◌∷◌, ◌++◌, codes, Option, Some, None, Ok, nat_eq, refl, sym, subst}
+use Rattle.std.proofs.Common.{◌≡◌, ℕ, ◌&&◌, true, false, List, [], ◌∷◌, ◌++◌, codes, Option, Some, None, Ok, nat_eq, refl, sym, subst}
 use Rattle.std.specs.Prelude.{All, map, if◌then◌else◌}
 use Rattle.std.specs.List.{AllByRecursion, IsDistinct, list_any}
 use Rattle.std.specs.Str.{chars}
-use Rattle.std.proofs.lemmas.Bool.{or_parts}
+use Rattle.std.proofs.lemmas.Bool.{or_parts, or_right}
 use Rattle.std.proofs.lemmas.List.Elements.{All-nil, All-cons, All-append}
 use Rattle.serde_json.specs.Data.{Data, null, boolean, number, string, array, object, Items, no_items, item}
 use Rattle.serde_json.specs.Find.{get, as_array}
@@ -129,16 +129,12 @@ master_at-ok d name is = master_of-ok (text_field (codes "master") d) name is
 abbrev IsRole : GatewayRole → Type 0
 IsRole role = role.is_default_gateway ≡ true → role.is_gateway ≡ true
 
-default_too : (gateway default : Bool) → default ≡ true → (gateway || default) ≡ true
-default_too true default is = refl
-default_too false default is = is
-
 gateway_role_at-ok : (d : Data) (role : GatewayRole) → gateway_role_at d ≡ Ok role → IsRole role
 unfolding gateway_role_at
 gateway_role_at-ok d role is =
     let gateway = goes (flag_at (codes "isGateway") false d) _ role is in
     let default = goes (flag_at (codes "isDefaultGateway") false d) _ role gateway.rest in
-    subst IsRole (ok_same default.rest) (default_too gateway.value default.value)
+    subst IsRole (ok_same default.rest) (or_right gateway.value default.value)
 
 abbrev IsOneMode : BridgeModes → Type 0
 IsOneMode modes = (modes.hairpin && modes.promisc) ≡ false

@@ -1,7 +1,8 @@
 -- Calls of a plan append a share where each is the attachment's, and where they add it to every share.
-use Rattle.std.proofs.Common.{◌≡◌, ℕ, Bool, true, false, ap, List, [], ◌∷◌, ◌++◌, map, refl, ◌∙◌, arith}
-use Rattle.std.specs.Prelude.{flat_map, ◌&&◌, if◌then◌else◌}
+use Rattle.std.proofs.Common.{◌≡◌, ℕ, Bool, true, ap, List, [], ◌∷◌, ◌++◌, map, refl, ◌∙◌, arith}
+use Rattle.std.specs.Prelude.{flat_map, if◌then◌else◌}
 use Rattle.std.specs.List.{list_any, list_all}
+use Rattle.std.proofs.lemmas.Bool.{and_parts}
 use Rattle.cni_addr.specs.Codes.{family_eq}
 use Rattle.cni_addr.specs.declared.address.Family.TheVariants.{V4, V6}
 use Rattle.cni_result.specs.declared.result.RouteEntry.{RouteEntry}
@@ -28,15 +29,11 @@ use Rattle.plan_words.proofs.OwnCalls.{share-own}
 
 -- ---- from the calls to the host
 
-both_of : (a b : Bool) → (a && b) ≡ true → (a ≡ true) × (b ≡ true)
-both_of true b h = (refl, h)
-both_of false b h = cc
-
 -- what calls of the attachment that are all done make of its share
 pub share-applied : (att : Att) (host : Host) (calls : List Call) → list_all (is_plan_call_of att) calls ≡ true → AllDone host calls → share_of att (applied host calls) ≡ share_after_calls (share_of att host) calls
 share-applied att host [] own done = refl
 share-applied att host (c ∷ cs) own done =
-    let both = both_of (is_plan_call_of att c) (list_all (is_plan_call_of att) cs) own in
+    let both = and_parts (is_plan_call_of att c) (list_all (is_plan_call_of att) cs) own in
     share-applied att (apply host c).0 cs both.1 done.1 ∙ ap (λ s. share_after_calls s cs) (share-own att host c both.0 done.0)
 
 -- calls of the attachment that add this share to every share append it in every host

@@ -2,6 +2,7 @@
 use Rattle.std.proofs.Common.{◌≡◌, ℕ, Bool, true, false, cond, List, [], ◌∷◌, Option, Some, None, refl, arith}
 use Rattle.std.specs.Prelude.{filter, find, ◌||◌}
 use Rattle.std.specs.List.{list_any, list_all}
+use Rattle.std.proofs.lemmas.Bool.{true≢false, both_ways}
 use Rattle.kernel_types.specs.Lists.{without_first}
 use Rattle.kernel_types.specs.Words.{is_own, is_link_of}
 use Rattle.kernel_types.specs.Apply.Calls.{without_link}
@@ -19,12 +20,6 @@ use Rattle.plan_words.specs.Share.{share_of}
 use Rattle.plan_words.proofs.KeyLists.{filter-none}
 
 -- ---- deletions
-
-true_or_false : true ≡ false → ⊥
-true_or_false h = cc
-
-differ : (b : Bool) → b ≡ true → b ≡ false → ⊥
-differ b h g = cc
 
 by_bool : {C : Type 0} (b : Bool) → (b ≡ true → C) → (b ≡ false → C) → C
 by_bool true h g = h refl
@@ -46,7 +41,7 @@ gone-none p xs h = let none = same_gone (list_any p xs) false h in (without_firs
 
 pub gone-links : (att : Att) (host : Host) (o : Option Link) → find (λ l. is_own att l.tag) host.links ≡ o → (without_link host o).1 ≡ Gone false → ((without_link host o).0 ≡ host) × ((share_of att host).links ≡ [])
 gone-links att host None is h = (refl, filter-none (λ l. is_own att l.tag) host.links (list_any-find_none (λ l. is_own att l.tag) host.links is))
-gone-links att host (Some link) is h = absurd (true_or_false (same_gone true false h))
+gone-links att host (Some link) is h = absurd (true≢false (same_gone true false h))
 
 -- ---- where there is no link of the attachment, no_objects lies on one
 
@@ -60,12 +55,12 @@ none_weaker att ns name (l ∷ ls) h = grind (arith, none_weaker att ns name ls)
 
 addr_lies : (att : Att) (links : List Link) (a : AddrObj) → list_any (λ l. is_own att l.tag) links ≡ false → address_fits_tag links a a.tag ≡ true → is_own att a.tag ≡ false
 addr_lies att links a none lies = by_bool (is_own att a.tag)
-    (λ own. let lie : list_any (is_link_of a.ns a.link (Own att)) links ≡ true = rw (is_own-one att a.tag own) at lies in absurd (differ (list_any (is_link_of a.ns a.link (Own att)) links) lie (none_weaker att a.ns a.link links none)))
+    (λ own. let lie : list_any (is_link_of a.ns a.link (Own att)) links ≡ true = rw (is_own-one att a.tag own) at lies in absurd (both_ways (list_any (is_link_of a.ns a.link (Own att)) links) (none_weaker att a.ns a.link links none) lie))
     (λ f. f)
 
 route_lies : (att : Att) (links : List Link) (r : RouteObj) → list_any (λ l. is_own att l.tag) links ≡ false → list_any (is_link_of r.ns r.link r.tag) links ≡ true → is_own att r.tag ≡ false
 route_lies att links r none lies = by_bool (is_own att r.tag)
-    (λ own. let lie : list_any (is_link_of r.ns r.link (Own att)) links ≡ true = rw (is_own-one att r.tag own) at lies in absurd (differ (list_any (is_link_of r.ns r.link (Own att)) links) lie (none_weaker att r.ns r.link links none)))
+    (λ own. let lie : list_any (is_link_of r.ns r.link (Own att)) links ≡ true = rw (is_own-one att r.tag own) at lies in absurd (both_ways (list_any (is_link_of r.ns r.link (Own att)) links) (none_weaker att r.ns r.link links none) lie))
     (λ f. f)
 
 pub filter_never : {X : Type 0} (p q : X → Bool) → ((x : X) → q x ≡ true → p x ≡ false) → (xs : List X) → list_all q xs ≡ true → filter p xs ≡ []

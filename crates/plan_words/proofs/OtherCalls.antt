@@ -1,6 +1,6 @@
 -- A call of one attachment leaves the share of every other.
-use Rattle.std.proofs.Common.{◌≡◌, Bool, true, false, refl, ◌∙◌, ap}
-use Rattle.std.specs.Prelude.{◌&&◌}
+use Rattle.std.proofs.Common.{◌≡◌, true, false, refl, ◌∙◌, ap}
+use Rattle.std.proofs.lemmas.Bool.{and_parts}
 use Rattle.kernel_types.specs.Allowed.{IsAllowed}
 use Rattle.kernel_types.specs.Apply.{apply}
 use Rattle.kernel_types.specs.Equal.{att_eq}
@@ -20,10 +20,6 @@ use Rattle.plan_words.specs.Share.{share_of}
 pub share-KeepsPart : (att : Att) (old new : Host) → KeepsPart att old new → share_of att new ≡ share_of att old
 share-KeepsPart att old new keeps = rw (keeps.links, keeps.addresses, keeps.routes, keeps.rules, keeps.settings, keeps.leases, keeps.cached) refl
 
-first_of : (a b : Bool) → (a && b) ≡ true → a ≡ true
-first_of true b h = refl
-first_of false b h = cc
-
 -- a call of this attachment names no other, and the world outside doesn't make it
 pub record IsApart (other : Att) (call : Call) : Type 0 where
   pub inside : is_from_outside call ≡ false
@@ -37,7 +33,7 @@ call-apart att other (Begin a netns) differ is = record { inside = refl; unnamed
 call-apart att other (BridgeEnsure name mtu promisc) differ is = record { inside = refl; unnamed = refl }
 call-apart att other (GatewayEnsure bridge cidr) differ is = record { inside = refl; unnamed = refl }
 call-apart att other (ForwardEnsure family) differ is = record { inside = refl; unnamed = refl }
-call-apart att other (VethAdd h i) differ is = record { inside = refl; unnamed = own_apart att other differ h.tag (first_of (is_own att h.tag) (is_own att i.tag) is) }
+call-apart att other (VethAdd h i) differ is = record { inside = refl; unnamed = own_apart att other differ h.tag (and_parts (is_own att h.tag) (is_own att i.tag) is).0 }
 call-apart att other (MacvlanAdd link) differ is = record { inside = refl; unnamed = own_apart att other differ link.tag is }
 call-apart att other (LinkSet a key mac mtu tx_qlen promisc allmulti) differ is = record { inside = refl; unnamed = apart_att att other a differ is }
 call-apart att other (AddrAdd obj) differ is = record { inside = refl; unnamed = own_apart att other differ obj.tag is }

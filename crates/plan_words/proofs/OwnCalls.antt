@@ -1,9 +1,10 @@
 -- What an attachment's own calls make of its share: a call of a plan that was done what `share_after_call` says, a Begin
 -- that was done had nothing to find, and a lease stands at the end.
 use Rattle.std.proofs.Common.{◌≡◌, ℕ, Bool, true, false, List, [], ◌∷◌, ◌++◌, Option, Some, None, refl, ◌∙◌, ap, arith}
-use Rattle.std.specs.Prelude.{find, if◌then◌else◌, ◌&&◌}
+use Rattle.std.specs.Prelude.{find, if◌then◌else◌}
 use Rattle.std.specs.List.{list_any}
 use Rattle.std.specs.Option.{option_map, option_or}
+use Rattle.std.proofs.lemmas.Bool.{and_parts}
 use Rattle.cni_addr.specs.declared.address.Addr.{Addr}
 use Rattle.cni_addr.specs.declared.address.Cidr.{Cidr}
 use Rattle.cni_addr.specs.declared.address.Family.{Family}
@@ -170,20 +171,12 @@ share-lease att host number set addr = own-lease_taken att host number (pick_of 
 
 -- ---- all calls of a plugin
 
-first_of : (a b : Bool) → (a && b) ≡ true → a ≡ true
-first_of true b h = refl
-first_of false b h = cc
-
-second_of : (a b : Bool) → (a && b) ≡ true → b ≡ true
-second_of true b h = h
-second_of false b h = cc
-
 -- an attachment's own call that was done makes of its share what `share_after_call` says
 pub share-own : (att : Att) (host : Host) (call : Call) → is_plan_call_of att call ≡ true → Grows att (share_after_call (share_of att host) call) (apply host call)
 share-own att host (BridgeEnsure name mtu promisc) is = own-bridge_or_new att host (find (is_host_link name) host.links) (new_bridge name mtu promisc) refl
 share-own att host (GatewayEnsure bridge cidr) is = own-gateway att host bridge cidr
 share-own att host (ForwardEnsure family) is = own-forward att host family
-share-own att host (VethAdd h i) is = own-veth att host h i (first_of _ _ is) (second_of _ _ is)
+share-own att host (VethAdd h i) is = let both = and_parts (is_own att h.tag) (is_own att i.tag) is in own-veth att host h i both.0 both.1
 share-own att host (MacvlanAdd link) is = own-macvlan att host link is
 share-own att host (LinkSet own key mac mtu tx_qlen promisc allmulti) is = own-link_set att own host key mac mtu tx_qlen promisc allmulti
 share-own att host (AddrAdd obj) is = own-addr att host obj is
