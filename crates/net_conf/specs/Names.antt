@@ -2,11 +2,11 @@
 use Rattle.std.specs.Prelude.{◌==◌, ◌&&◌, ◌||◌, ℕ, List, length, codes, Bool, not, nat_le, slice_index}
 use Rattle.std.specs.List.{list_all}
 use Rattle.std.specs.Char.{is_ascii_alphanumeric, is_whitespace}
-use Rattle.std.specs.Str.{bytes_eq, chars}
+use Rattle.std.specs.Str.{byte, bytes_eq, chars}
 
 -- a letter or digit of ASCII, `_`, `.` or `-`
 abbrev pub is_name_byte : ℕ → Bool
-is_name_byte byte = is_ascii_alphanumeric byte || (byte == 95 || (byte == 46 || byte == 45))
+is_name_byte b = is_ascii_alphanumeric b || (b == byte "_" || (b == byte "." || b == byte "-"))
 
 -- a letter or digit, and then letters, digits, `_`, `.` and `-` (CNI specification 1.1.0, section 1, `name`)
 unfoldable pub is_network_name : List ℕ → Bool
@@ -18,7 +18,7 @@ is_container_id text = is_network_name text
 
 -- neither `/` nor `:` nor white space
 abbrev pub is_interface_char : ℕ → Bool
-is_interface_char c = not (c == 47) && (not (c == 58) && not (is_whitespace c))
+is_interface_char c = not (c == byte "/") && (not (c == byte ":") && not (is_whitespace c))
 
 -- 1 to 15 bytes
 abbrev pub is_short : List ℕ → Bool
