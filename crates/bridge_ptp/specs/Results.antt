@@ -61,7 +61,8 @@ bridge_routes is_default_gateway routes ips =
 
 -- ---- the results
 
--- the address plugin's result with these interfaces, its addresses on the one of this index, and these routes and name servers
+-- the address plugin's result with these interfaces, its addresses on the one of this index, and these routes and name
+-- servers
 abbrev pub completed : AddResult → List Interface → ℕ → List RouteEntry → Dns → AddResult
 completed ipam interfaces index routes dns =
     record { version = ipam.version; interfaces = interfaces; ips = map (at_interface index) ipam.ips; routes = routes; dns = dns }

@@ -1,7 +1,7 @@
 //! The plugins `bridge` and `ptp`: a veth pair between a container and the host.
 //!
-//! To the verbs each promises four lists as values: the calls before an address is leased, the calls after it, the
-//! result, and the kinds of objects that DEL takes back. They are those of `specs/Bridge.antt`, `specs/Ptp.antt` and
+//! To the verbs each promises four values: the calls before an address is leased, the calls after it, the result, and
+//! the kinds of objects that DEL takes back. They are those of `specs/Bridge.antt`, `specs/Ptp.antt` and
 //! `specs/Results.antt`.
 //!
 //! ```text

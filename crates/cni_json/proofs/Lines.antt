@@ -1,4 +1,5 @@
--- A line of well-formed data is read again as the data. The tokens of the line are those of the data's outline, and the outline converts back.
+-- A line of well-formed data is read again as the data. The tokens of the line are those of the data's outline, and the
+-- outline converts back.
 use Rattle.std.proofs.Common.{◌≡◌, ℕ, suc, ◌≤◌, max, pos, negsuc, List, [], ◌∷◌, ◌++◌, Bool, true, false, Option, Some, option_map, option_and_then, Ok, Greater, nat_cmp, IsUtf8, refl, sym, ap, ap₂, ◌∙◌, subst, arith, append-nil, decimal}
 use Rattle.std.proofs.lemmas.Bool.{or_from}
 use Rattle.std.proofs.lemmas.Cmp.{nat_list_cmp_total}

@@ -1,4 +1,5 @@
-//! What the runtime keeps of an attachment for DEL, CHECK and GC (CNI specification 1.1.0, section 3, "Cached results").
+//! What the runtime keeps of an attachment for DEL, CHECK and GC (CNI specification 1.1.0, section 3, "Cached
+//! results").
 
 use crate::result::AddResult;
 use cni_addr::{Addr, Duplicate, Items, NoMemory, Text};

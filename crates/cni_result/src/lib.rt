@@ -2,11 +2,12 @@
 //!
 //! What it promises above: the types carry every field that the runtime's verbs speak of, each is compared by its
 //! fields, and a copy equals what was copied. `to_value` and `error_value` are the specification's JSON, `read_result`
-//! is exact with its first refusal, and a result that was printed is read again as the same result.
+//! is exact with its first refusal, and a result that was printed is read again as the same result. `read_dns` reads
+//! the `dns` of a result and that of a plugin's object, `version_named` the text of `cniVersion`.
 //!
 //! ```text
 //! let added = read_result(alloc, b"{\"cniVersion\":\"1.0.0\",\"ips\":[{\"address\":\"10.0.0.2/8\"}]}")?;
-//! result_line(alloc, &added)? // {"cniVersion":"1.0.0","interfaces":[],"ips":[{"address":"10.0.0.2/8"}]} and a line feed
+//! result_line(alloc, &added)? // {"cniVersion":"1.0.0","interfaces":[],"ips":[{"address":"10.0.0.2/8"}]}
 //! ```
 #![tactic(auto)]
 

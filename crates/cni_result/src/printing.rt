@@ -153,8 +153,8 @@ pub fn to_value(alloc: Global, added: &AddResult) -> Result<Value, NoMemory>
     Ok(result_object(alloc, added)?.into_value())
 }
 
-/// The result on a line of its own, as a plugin prints it. [`read_result`](crate::read_result) reads it again as the same
-/// result, if there is no `mtu` before 1.1.0 and each address is on an interface of the list or on none.
+/// The result on a line of its own, as a plugin prints it. [`read_result`](crate::read_result) reads it again as the
+/// same result, if there is no `mtu` before 1.1.0 and each address is on an interface of the list or on none.
 pub fn result_line(alloc: Global, added: &AddResult) -> Result<Vec<u8>, NoMemory>
     ensures text { IfOk result (λ text. text.items ≡ line_of (result_data added.now)) }
     ensures again { IfOk result (λ text. IsReadable added.now → result_of_bytes text.items ≡ Ok added.now) }

@@ -5,9 +5,9 @@
 //! those of `specs/Firewall.antt` and `specs/Tuning.antt`.
 //!
 //! ```text
-//! firewall_calls(alloc, &att, &prev)?       // two RuleAppend an address
+//! firewall_calls(alloc, &att, &prev)?       // two RuleAppend for each address
 //! tuning_calls(alloc, &conf, &att, &netns)? // SettingSet for each sysctl, LinkSet where the link is changed
-//! firewall_count(given.as_slice())          // how many they are, without memory
+//! firewall_count(given.as_slice())          // how many calls firewall makes, without memory
 //! ```
 #![tactic(auto)]
 

@@ -3,7 +3,8 @@
 //!
 //! What it promises above: each call gives what a definition says, one equation a case. `push_dump` appends `dump_of`
 //! of `specs/Dump.antt`: the lines of the host's nine lists, in the order of [`Host`](kernel_types::Host). Members that
-//! are absent are left out, and keys stand in byte order. `trace_value` gives `trace_data` of `specs/Replies.antt`.
+//! are absent are left out, and keys stand in byte order. `trace_value` gives `trace_data` of `specs/Replies.antt`, and
+//! `push_line` appends any value as a line of its own.
 //!
 //! ```text
 //! tag_text(alloc, &tag)?              // "outside", "base" or "pods/c1/eth0"

@@ -25,8 +25,8 @@ pub fn an_opening_is_sound(names: &Items<Text>)
     ensures { IsSound (opening_of names.now) }
 {}
 
-/// So is one that has, besides, devices and bridges made outside, in the host or in these namespaces, each at a place of
-/// its own.
+/// So is one that has, besides, devices and bridges made outside, in the host or in these namespaces, each at a place
+/// of its own.
 pub fn an_opening_with_links_is_sound(names: &Items<Text>, links: &Items<Link>)
     requires names { AreNamespaceNames names.now }
     requires links { AreOutsideLinks names.now links.now }
@@ -120,7 +120,8 @@ pub fn a_leased_address_was_free(
     ensures last { last_leased (lease_next_of host.now att.now number set.now).0 att.now.network number ≡ Some address.now }
 {}
 
-/// The address that LeaseNext replies is the next after the pool's last one: every candidate on the way to it is leased.
+/// The address that LeaseNext replies is the next after the pool's last one: every candidate on the way to it is
+/// leased.
 pub fn a_leased_address_is_the_next(
     host: &Host,
     att: &Att,

@@ -1,8 +1,8 @@
 //! Network lists: the configuration of a network, as an engine wrote it.
 //!
 //! What it promises above: [`read_list`] gives exactly the network list that the definition `list_of` of the bytes is
-//! (`specs/List.antt`), or its first refusal in the stated order, for every byte string; and a list that is read is well
-//! formed ([`network_list_laws`]). Each line of the definition has one function here, one file a plugin.
+//! (`specs/List.antt`), or its first refusal in the stated order, for every byte string; and a list that is read is
+//! well formed ([`network_list_laws`]). Each line of the definition has one function here, one file a plugin.
 //!
 //! ```text
 //! let list = read_list(alloc, b"{\"cniVersion\":\"1.1.0\",\"name\":\"pods\",\"plugins\":[{\"type\":\"bridge\"}]}")?;

@@ -22,8 +22,8 @@ pub fn flag(alloc: Global, object: &Value, key: &str, default: bool) -> Result<b
     }
 }
 
-/// Whether a link may have an MTU of so many bytes: from the least of IPv4 (RFC 791, section 3.2) to the greatest length
-/// of a packet.
+/// Whether a link may have an MTU of so many bytes: from the least of IPv4 (RFC 791, section 3.2) to the greatest
+/// length of a packet.
 pub fn is_mtu(number: u64) -> bool
     ensures { result ≡ members.is_mtu number }
 {
