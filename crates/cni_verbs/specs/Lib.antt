@@ -6,6 +6,7 @@ pub mod Laws
 pub mod Phases
 pub mod Progress
 pub mod Questions
+pub mod Replies
 pub mod Script
 pub mod Sweep
 pub mod Wanted

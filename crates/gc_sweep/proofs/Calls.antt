@@ -11,7 +11,6 @@ use Rattle.kernel_types.specs.Equal.{att_eq}
 use Rattle.kernel_types.specs.Lists.{firsts, without_first}
 use Rattle.kernel_types.specs.Words.{is_own}
 use Rattle.kernel_types.specs.Apply.Calls.{tags_of, owner_in}
-use Rattle.kernel_types.specs.Replies.{is_fault}
 use Rattle.kernel_types.specs.Sound.{IsSound}
 use Rattle.kernel_types.specs.declared.object.Att.{Att}
 use Rattle.kernel_types.specs.declared.object.Tag.{Tag}
@@ -36,12 +35,13 @@ use Rattle.kernel_types.proofs.ListLemmas.{distinct-filter, list_all-filter}
 use Rattle.kernel_types.proofs.TouchRemoval.{list_all-both}
 use Rattle.net_conf.specs.declared.list.NetList.{NetList}
 use Rattle.pod_file.specs.declared.command.ValidAtt.{ValidAtt}
+use Rattle.cni_verbs.specs.Replies.{host_after, reply_to}
 use Rattle.cni_verbs.specs.Script.{call_of_work, gc_of}
 use Rattle.cni_verbs.specs.Sweep.{Gc, Step, AskCached, Delete, Sweep, Job, is_valid, step_call, job_of, after_step, work_after}
 use Rattle.cni_verbs.specs.Wanted.{deletion, kinds_of, first_kinds, chained_kinds_reversed}
 use Rattle.gc_sweep.specs.Bound.{stale_owners, all_tags, objects_by, kinds_over_plugins, GcBound}
 use Rattle.gc_sweep.specs.Keep.{goes, IsWithin}
-use Rattle.gc_sweep.specs.Trace.{Made, host_by, reply_by, host_on}
+use Rattle.gc_sweep.specs.Trace.{Made, host_on}
 use Rattle.gc_sweep.proofs.Covered.{WorkKept, Next, work_step, work_start}
 use Rattle.gc_sweep.proofs.Deletions.{deletes}
 use Rattle.gc_sweep.proofs.Kept.{tags_within}
@@ -133,10 +133,10 @@ jobs_weight-after att [] js = omega arith
 jobs_weight-after att (s ∷ more) js = omega arith
 
 abbrev pub Falls : Gc → ℕ → (Tag → Bool) → List Job → List Sweep → Host → Call → Reply → Type 0
-Falls gc m p js ss k call r = weight m p (work_after gc js ss r).jobs (work_after gc js ss r).sweeps (host_by (is_fault r) k call) < weight m p js ss k
+Falls gc m p js ss k call r = weight m p (work_after gc js ss r).jobs (work_after gc js ss r).sweeps (host_after k call r) < weight m p js ss k
 
 ask_falls : (gc : Gc) (m : ℕ) (p : Tag → Bool) (s : Sweep) (ss : List Sweep) (k : Host) (faulty : Bool) → length (stale_owners gc.network gc.valid (tags_of k s.kind)) ≤ m
-    → Falls gc m p [] (s ∷ ss) k (OwnersOf gc.network s.kind) (reply_by faulty k (OwnersOf gc.network s.kind))
+    → Falls gc m p [] (s ∷ ss) k (OwnersOf gc.network s.kind) (reply_to k (OwnersOf gc.network s.kind) faulty)
 ask_falls gc m p s ss k true few = omega arith
 ask_falls gc m p s ss k false few =
     let owners = stale_owners gc.network gc.valid (tags_of k s.kind) in
@@ -153,7 +153,7 @@ drop_falls gc m p att d more js ss k w sound false is =
     subst P (sym ((deletes att d k sound).none is)) (omega arith)
 
 step_falls : (gc : Gc) (m : ℕ) (p : Tag → Bool) (att : Att) (step : Step) (more : List Step) (js : List Job) (ss : List Sweep) (k : Host) (faulty : Bool) → ((t : Tag) → is_own att t ≡ true → p t ≡ true) → IsSound k
-    → Falls gc m p (record { att = att; step = step; more = more } ∷ js) ss k (step_call att step) (reply_by faulty k (step_call att step))
+    → Falls gc m p (record { att = att; step = step; more = more } ∷ js) ss k (step_call att step) (reply_to k (step_call att step) faulty)
 step_falls gc m p att step more js ss k true w sound = omega arith
 step_falls gc m p att AskCached more js ss k false w sound = let left = jobs_weight-after att more js in omega arith
 step_falls gc m p att (Delete d) more js ss k false w sound =
@@ -166,12 +166,12 @@ AllPass p [] = Unit {0}
 AllPass p (j ∷ js) = ((t : Tag) → is_own j.att t ≡ true → p t ≡ true) × AllPass p js
 
 pub work_falls : (gc : Gc) (m : ℕ) (p : Tag → Bool) (js : List Job) (ss : List Sweep) (k : Host) (call : Call) (faulty : Bool) → call_of_work gc.network js ss ≡ Some call → IsSound k → AllPass p js
-    → ((kind : Kind) → length (stale_owners gc.network gc.valid (tags_of k kind)) ≤ m) → Falls gc m p js ss k call (reply_by faulty k call)
+    → ((kind : Kind) → length (stale_owners gc.network gc.valid (tags_of k kind)) ≤ m) → Falls gc m p js ss k call (reply_to k call faulty)
 work_falls gc m p [] [] k call faulty is sound w few = absurd (none-some call is)
 work_falls gc m p [] (s ∷ ss) k call faulty is sound w few =
-    subst (λ c. Falls gc m p [] (s ∷ ss) k c (reply_by faulty k c)) (same_Some (OwnersOf gc.network s.kind) call is) (ask_falls gc m p s ss k faulty (few s.kind))
+    subst (λ c. Falls gc m p [] (s ∷ ss) k c (reply_to k c faulty)) (same_Some (OwnersOf gc.network s.kind) call is) (ask_falls gc m p s ss k faulty (few s.kind))
 work_falls gc m p (j ∷ js) ss k call faulty is sound w few =
-    subst (λ c. Falls gc m p (j ∷ js) ss k c (reply_by faulty k c)) (same_Some (step_call j.att j.step) call is) (step_falls gc m p j.att j.step j.more js ss k faulty w.0 sound)
+    subst (λ c. Falls gc m p (j ∷ js) ss k c (reply_to k c faulty)) (same_Some (step_call j.att j.step) call is) (step_falls gc m p j.att j.step j.more js ss k faulty w.0 sound)
 
 pub stale_pass : (gc : Gc) (js : List Job) → list_all (λ (j : Job). is_stale gc.network gc.valid j.att) js ≡ true → AllPass (goes gc.network gc.valid) js
 stale_pass gc [] h = tt

@@ -18,13 +18,13 @@ use Rattle.kernel_types.specs.declared.call.Reply.{Reply}
 use Rattle.kernel_types.specs.declared.call.Reply.TheVariants.{Gone, Fault}
 use Rattle.kernel_types.proofs.ListLemmas.{list_all-weaker, list_any-map, list_all-map}
 use Rattle.kernel_types.proofs.TouchRemoval.{list_all-both}
+use Rattle.cni_verbs.specs.Replies.{host_after, reply_to}
 use Rattle.cni_verbs.specs.Script.{call_of_work}
 use Rattle.cni_verbs.specs.Sweep.{Gc, Step, AskCached, Delete, Sweep, Job, step_call, job_of, after_step, work_after, all_sweeps}
 use Rattle.cni_verbs.specs.Wanted.{deletion}
 use Rattle.gc_sweep.specs.Keep.{stays, goes}
-use Rattle.gc_sweep.specs.Trace.{Made, host_by, reply_by, is_about, blames, is_blamed}
+use Rattle.gc_sweep.specs.Trace.{Made, is_about, blames, is_blamed}
 use Rattle.kernel_types.specs.Codes.{kind_eq}
-use Rattle.kernel_types.specs.Replies.{is_fault}
 use Rattle.gc_sweep.specs.Sweep.{is_excused}
 use Rattle.gc_sweep.proofs.Lists.{list_all-sublist, list_any-snoc, list_all-none}
 use Rattle.gc_sweep.specs.Bound.{stale_owners}
@@ -122,7 +122,7 @@ pub record WorkKept (gc : Gc) (h : Host) (es : List Made) (js : List Job) (ss : 
 
 -- after a call with this reply
 abbrev pub Next : Gc → Host → List Made → List Job → List Sweep → Host → Call → Reply → Type 0
-Next gc h es js ss k call r = WorkKept gc h (es ++ record { call = call; reply = r } ∷ []) (work_after gc js ss r).jobs (work_after gc js ss r).sweeps (host_by (is_fault r) k call)
+Next gc h es js ss k call r = WorkKept gc h (es ++ record { call = call; reply = r } ∷ []) (work_after gc js ss r).jobs (work_after gc js ss r).sweeps (host_after k call r)
 
 -- ---- asking for owners
 
@@ -256,7 +256,7 @@ drop_by gc h es att d more js ss k v true is = drop_gone gc h es att d more js s
 drop_by gc h es att d more js ss k v false is = drop_empty gc h es att d more js ss k v is
 
 step_by : (gc : Gc) (h : Host) (es : List Made) (att : Att) (step : Step) (more : List Step) (js : List Job) (ss : List Sweep) (k : Host) (faulty : Bool) → WorkKept gc h es (job att step more ∷ js) ss k
-    → Next gc h es (job att step more ∷ js) ss k (step_call att step) (reply_by faulty k (step_call att step))
+    → Next gc h es (job att step more ∷ js) ss k (step_call att step) (reply_to k (step_call att step) faulty)
 step_by gc h es att AskCached more js ss k true v = look_fault gc h es att more js ss k v
 step_by gc h es att AskCached more js ss k false v = look_entry gc h es att more js ss k v
 step_by gc h es att (Delete d) more js ss k true v = drop_fault gc h es att d more js ss k v
@@ -266,7 +266,7 @@ step_by gc h es att (Delete d) more js ss k false v =
 
 -- ---- any call
 
-pub work_step : (gc : Gc) (h : Host) (es : List Made) (js : List Job) (ss : List Sweep) (k : Host) (call : Call) (faulty : Bool) → call_of_work gc.network js ss ≡ Some call → WorkKept gc h es js ss k → Next gc h es js ss k call (reply_by faulty k call)
+pub work_step : (gc : Gc) (h : Host) (es : List Made) (js : List Job) (ss : List Sweep) (k : Host) (call : Call) (faulty : Bool) → call_of_work gc.network js ss ≡ Some call → WorkKept gc h es js ss k → Next gc h es js ss k call (reply_to k call faulty)
 work_step gc h es [] [] k call faulty is v = absurd (none-some call is)
 work_step gc h es [] (s ∷ ss) k call true is v =
     let P : Call → Type 0 = λ c. Next gc h es [] (s ∷ ss) k c Fault in
@@ -275,7 +275,7 @@ work_step gc h es [] (s ∷ ss) k call false is v =
     let P : Call → Type 0 = λ c. Next gc h es [] (s ∷ ss) k c (apply k c).1 in
     subst P (same_Some (OwnersOf gc.network s.kind) call is) (ask_owners gc h es s ss k v)
 work_step gc h es (j ∷ js) ss k call faulty is v =
-    let P : Call → Type 0 = λ c. Next gc h es (j ∷ js) ss k c (reply_by faulty k c) in
+    let P : Call → Type 0 = λ c. Next gc h es (j ∷ js) ss k c (reply_to k c faulty) in
     subst P (same_Some (step_call j.att j.step) call is) (step_by gc h es j.att j.step j.more js ss k faulty v)
 
 all_true : {X : Type 0} (p : X → Bool) → ((x : X) → p x ≡ true) → (xs : List X) → list_all p xs ≡ true

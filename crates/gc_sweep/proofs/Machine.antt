@@ -4,9 +4,10 @@ use Rattle.kernel_types.specs.Replies.{is_fault}
 use Rattle.kernel_types.specs.declared.object.Host.{Host}
 use Rattle.kernel_types.specs.declared.call.Reply.{Reply}
 use Rattle.std.proofs.Common.{Bool, Some}
+use Rattle.cni_verbs.specs.Replies.{reply_to}
 use Rattle.cni_verbs.specs.Script.{call_of_work, faults_after}
 use Rattle.cni_verbs.specs.Sweep.{Gc, Work, start_work, work_after}
-use Rattle.gc_sweep.specs.Trace.{Made, reply_by, host_on}
+use Rattle.gc_sweep.specs.Trace.{Made, host_on}
 
 -- the work that is left, the calls that were made, and the numbers of those that were faulty
 pub record Point : Type 0 where
@@ -32,4 +33,4 @@ point_from gc p (e ∷ es) = point_from gc (point_after gc p e.reply) es
 abbrev pub IsTrail : Gc → Point → Host → List Made → Type 0
 IsTrail gc p host [] = Unit {0}
 IsTrail gc p host (e ∷ es) =
-    (call_of_work gc.network p.work.jobs p.work.sweeps ≡ Some e.call) × ((faulty : Bool) × (e.reply ≡ reply_by faulty host e.call)) × IsTrail gc (point_after gc p e.reply) (host_on host e) es
+    (call_of_work gc.network p.work.jobs p.work.sweeps ≡ Some e.call) × ((faulty : Bool) × (e.reply ≡ reply_to host e.call faulty)) × IsTrail gc (point_after gc p e.reply) (host_on host e) es

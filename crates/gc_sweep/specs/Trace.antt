@@ -1,7 +1,6 @@
 -- What a collection that is alone with a host has done.
-use Rattle.std.specs.Prelude.{◌≡◌, ℕ, ◌+◌, Bool, true, false, ◌&&◌, List, [], ◌∷◌, map, Some}
+use Rattle.std.specs.Prelude.{◌≡◌, ℕ, ◌+◌, Bool, false, ◌&&◌, List, [], ◌∷◌, map, Some}
 use Rattle.std.specs.List.{list_any}
-use Rattle.kernel_types.specs.Apply.{apply}
 use Rattle.kernel_types.specs.Codes.{kind_eq}
 use Rattle.kernel_types.specs.Replies.{is_fault}
 use Rattle.kernel_types.specs.Words.{is_own}
@@ -12,9 +11,9 @@ use Rattle.kernel_types.specs.declared.call.Call.TheVariants.{LinkDel, RuleDel, 
 use Rattle.kernel_types.specs.declared.call.Kind.{Kind}
 use Rattle.kernel_types.specs.declared.call.Kind.TheVariants.{Links, Rules, Settings, Leases, Cached}
 use Rattle.kernel_types.specs.declared.call.Reply.{Reply}
-use Rattle.kernel_types.specs.declared.call.Reply.TheVariants.{Fault}
 use Rattle.net_conf.specs.declared.list.NetList.{NetList}
 use Rattle.pod_file.specs.declared.command.Command.{Command}
+use Rattle.cni_verbs.specs.Replies.{host_after, reply_to}
 use Rattle.cni_verbs.specs.Script.{State, start_state, advance, next_call, state_after, finish_of}
 use Rattle.cni_verbs.specs.declared.answer.Ending.{Ending}
 
@@ -23,18 +22,9 @@ pub record Made : Type 0 where
   pub call : Call
   pub reply : Reply
 
--- a faulty call is not made
-abbrev pub host_by : Bool → Host → Call → Host
-host_by true host call = host
-host_by false host call = (apply host call).0
-
-abbrev pub reply_by : Bool → Host → Call → Reply
-reply_by true host call = Fault
-reply_by false host call = (apply host call).1
-
 -- the host after an entry
 abbrev pub host_on : Host → Made → Host
-host_on host e = host_by (is_fault e.reply) host e.call
+host_on host e = host_after host e.call e.reply
 
 abbrev pub host_from : Host → List Made → Host
 host_from host [] = host
@@ -44,7 +34,7 @@ host_from host (e ∷ es) = host_from (host_on host e) es
 abbrev pub IsRunFrom : NetList → Command → ℕ → State → Host → List Made → Type 0
 IsRunFrom list c made s host [] = Unit {0}
 IsRunFrom list c made s host (e ∷ es) =
-    (next_call c s ≡ Some e.call) × ((faulty : Bool) × (e.reply ≡ reply_by faulty host e.call)) × IsRunFrom list c (made + 1) (advance list c (made + 1) s e.reply) (host_on host e) es
+    (next_call c s ≡ Some e.call) × ((faulty : Bool) × (e.reply ≡ reply_to host e.call faulty)) × IsRunFrom list c (made + 1) (advance list c (made + 1) s e.reply) (host_on host e) es
 
 abbrev pub IsRun : NetList → Command → Host → List Made → Type 0
 IsRun list c host es = IsRunFrom list c 0 (start_state list c) host es

@@ -1,9 +1,8 @@
 -- The entries of a command that stands alone are a run in the words of a collection.
-use Rattle.std.proofs.Common.{◌≡◌, ℕ, ◌+◌, Bool, true, false, List, [], ◌∷◌, Some, refl, sym, ◌∙◌, ap, subst, inl, inr}
+use Rattle.std.proofs.Common.{◌≡◌, ℕ, ◌+◌, Bool, true, false, List, [], ◌∷◌, Some, refl, sym, ◌∙◌, ap, inl, inr}
 use Rattle.std.specs.Prelude.{◌||◌, if◌then◌else◌}
 use Rattle.net_conf.specs.declared.list.NetList.{NetList}
 use Rattle.pod_file.specs.declared.command.Command.{Command}
-use Rattle.kernel_types.specs.Apply.{apply}
 use Rattle.kernel_types.specs.Replies.{is_fault}
 use Rattle.kernel_types.specs.declared.object.Host.{Host}
 use Rattle.kernel_types.specs.declared.call.Call.{Call}
@@ -11,7 +10,7 @@ use Rattle.cni_verbs.proofs.CallsOrOver.{calls_or_over}
 use Rattle.cni_verbs.specs.Script.{State, Calls, Finishes, advance, next_call, turn}
 use Rattle.gc_sweep.specs.Sweep.{fault_numbers}
 use Rattle.gc_sweep.specs.Trace as trace
-use Rattle.pod_workers.specs.World.{after, host_on, reply_to}
+use Rattle.pod_workers.specs.World.{after, host_on}
 use Rattle.pod_workers.specs.declared.plan.Entry.{Entry}
 use Rattle.pod_laws.specs.Collected.{made_in}
 use Rattle.pod_laws.specs.Moments.{has_fault}
@@ -28,25 +27,17 @@ next-turn c st call is = elim (calls_or_over c st) [
 
 -- ---- hosts and replies
 
-host-by : (b : Bool) (host : Host) (call : Call) → (if b then host else (apply host call).0) ≡ trace.host_by b host call
-host-by true host call = refl
-host-by false host call = refl
-
-reply-by : (faulty : Bool) (host : Host) (call : Call) → reply_to host call faulty ≡ trace.reply_by faulty host call
-reply-by true host call = refl
-reply-by false host call = refl
-
 pub to-run : (list : NetList) (c : Command) (made : ℕ) (st : State) (host : Host) (es : List Entry) → IsRunFrom list c made st host es → trace.IsRunFrom list c made st host (made_in es)
 to-run list c made st host [] run = tt
 to-run list c made st host (e ∷ es) run = (
   next-turn c st e.call run.0,
-  (run.1.0, run.1.1 ∙ reply-by run.1.0 host e.call),
-  subst (λ k. trace.IsRunFrom list c (made + 1) (advance list c (made + 1) st e.reply) k (made_in es)) (host-by (is_fault e.reply) host e.call) (to-run list c (made + 1) (advance list c (made + 1) st e.reply) (host_on host e) es run.2),
+  run.1,
+  to-run list c (made + 1) (advance list c (made + 1) st e.reply) (host_on host e) es run.2,
 )
 
 pub to-host : (host : Host) (es : List Entry) → trace.host_from host (made_in es) ≡ after host es
 to-host host [] = refl
-to-host host (e ∷ es) = ap (λ k. trace.host_from k (made_in es)) (sym (host-by (is_fault e.reply) host e.call)) ∙ to-host (host_on host e) es
+to-host host (e ∷ es) = to-host (host_on host e) es
 
 pub to-replies : (es : List Entry) → trace.replies (made_in es) ≡ replies_in es
 to-replies [] = refl

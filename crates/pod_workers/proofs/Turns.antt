@@ -5,6 +5,7 @@ use Rattle.std.proofs.lemmas.Bool.{false≢true}
 use Rattle.std.proofs.lemmas.Option.{same_Some, none-some}
 use Rattle.cni_verbs.proofs.CallsOrOver.{calls_or_over}
 use Rattle.cni_verbs.specs.Progress.{answer_by}
+use Rattle.cni_verbs.specs.Replies.{host_after, reply_to}
 use Rattle.cni_verbs.specs.Script.{IsOpen, State, Turn, Calls, Finishes, Finish, turn, next_call, finish_of}
 use Rattle.cni_verbs.specs.declared.answer.Answer.{Answer}
 use Rattle.cni_verbs.specs.declared.answer.Answer.TheVariants.{Stopped}
@@ -17,8 +18,8 @@ use Rattle.kernel_types.specs.declared.object.Host.{Host}
 use Rattle.kernel_types.proofs.Replies.{IsReplyOf-apply}
 use Rattle.net_conf.specs.declared.list.NetList.{NetList}
 use Rattle.pod_file.specs.declared.command.Command.{Command}
-use Rattle.pod_workers.specs.Slots.{CarriesOn, MayBeMade, entry_by, host_after, next_in, slot_after}
-use Rattle.pod_workers.specs.World.{host_on, is_faulty, is_stop, next_by, reply_to}
+use Rattle.pod_workers.specs.Slots.{CarriesOn, MayBeMade, entry_by, next_in, slot_after}
+use Rattle.pod_workers.specs.World.{host_on, is_faulty, is_stop, next_by}
 use Rattle.pod_workers.specs.declared.plan.Next.{Next}
 use Rattle.pod_workers.specs.declared.plan.Next.TheVariants as next
 use Rattle.pod_workers.specs.declared.plan.Entry.{Entry}
@@ -126,13 +127,16 @@ may-call host x call faulty may is = let P : Next → Type 0 = MayBeMade host in
 
 -- ---- the host after a call
 
-pub call-host : (host host' : Host) (command : ℕ) (call : Call) (faulty : Bool) → host' ≡ host_after host call faulty → host' ≡ host_on host (record { command = command; call = call; reply = reply_to host call faulty })
-call-host host host' command call true is = is
-call-host host host' command call false is = is ∙ sym (ap (λ b. if b then host else (apply host call).0) (IsReplyOf-apply host call).no_fault)
+pub called-host : (host host' : Host) (call : Call) (reply : Reply) → (host', reply) ≡ apply host call → is_fault reply ≡ false → host' ≡ host_after host call reply
+called-host host host' call reply is never = ap (λ (s : Host × Reply). s.0) is ∙ sym (ap (λ b. if b then host else (apply host call).0) never)
+
+left-by : {host host' : Host} (b : Bool) → host' ≡ host → (if b then host else host') ≡ host
+left-by true left = refl
+left-by false left = left
 
 -- a reply that can't be copied, or be taken by a run, for want of memory left the host
-pub refused-hand : (host host' : Host) (call : Call) (faulty : Bool) (reply : Reply) → host' ≡ host_after host call faulty → reply ≡ reply_to host call faulty
+pub refused-hand : (host host' : Host) (call : Call) (faulty : Bool) (reply : Reply) → host' ≡ host_after host call reply → reply ≡ reply_to host call faulty
     → (holds_text_or_list reply ≡ true) ⊎ (is_fault reply ≡ true) → host' ≡ host
-refused-hand host host' call true reply is replied why = is
-refused-hand host host' call false reply is replied (inl holds) = is ∙ (IsReplyOf-apply host call).leaves (ap holds_text_or_list (sym replied) ∙ holds)
-refused-hand host host' call false reply is replied (inr fault) = absurd (false≢true (sym (IsReplyOf-apply host call).no_fault ∙ ap is_fault (sym replied) ∙ fault))
+refused-hand host host' call faulty reply is replied (inr fault) = is ∙ ap (λ b. if b then host else (apply host call).0) fault
+refused-hand host host' call true reply is replied (inl holds) = is ∙ ap (host_after host call) replied
+refused-hand host host' call false reply is replied (inl holds) = is ∙ left-by (is_fault reply) ((IsReplyOf-apply host call).leaves (ap holds_text_or_list (sym replied) ∙ holds))

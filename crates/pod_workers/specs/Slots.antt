@@ -1,9 +1,8 @@
 -- What the runs of a book stand for, and what a book keeps.
-use Rattle.std.specs.Prelude.{◌≡◌, ℕ, ◌+◌, ◌<◌, ◌≤◌, ◌^◌, Bool, true, false, List, [], ◌∷◌, ◌++◌, length, take, Option, Some, None, slice_get, if◌then◌else◌}
+use Rattle.std.specs.Prelude.{◌≡◌, ℕ, ◌+◌, ◌<◌, ◌≤◌, ◌^◌, Bool, true, false, List, [], ◌∷◌, ◌++◌, length, take, Option, Some, None, slice_get}
 use Rattle.cni_verbs.specs.Progress.{progress, advanced}
 use Rattle.cni_verbs.specs.Script.{turn}
 use Rattle.kernel_types.specs.Allowed.{IsAllowed}
-use Rattle.kernel_types.specs.Apply.{apply}
 use Rattle.kernel_types.specs.declared.call.Call.{Call}
 use Rattle.kernel_types.specs.declared.call.Reply.{Reply}
 use Rattle.kernel_types.specs.declared.object.Host.{Host}
@@ -66,10 +65,6 @@ pub record MayCarryOn (host : Host) (h : List Entry) (c : Command) (cut : Bool) 
   pub few : s.made ≤ length h
   pub countable : IsCountable c cut s.made
   pub allowed : MayBeMade host (next_in c cut s)
-
--- the host after a call, which a fault leaves
-abbrev pub host_after : Host → Call → Bool → Host
-host_after host call faulty = if faulty then host else (apply host call).0
 
 abbrev pub entry_by : Host → Command → Call → Bool → Entry
 entry_by host c call faulty = record { command = c.number; call = call; reply = reply_to host call faulty }

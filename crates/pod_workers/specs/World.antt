@@ -2,15 +2,14 @@
 use Rattle.std.specs.Prelude.{◌≡◌, ℕ, ◌+◌, ◌-◌, ◌<◌, ◌==◌, Bool, false, ◌||◌, ◌&&◌, List, [], ◌∷◌, ◌++◌, length, map, Option, Some, None, slice_get, slice_set, nat_le, if◌then◌else◌}
 use Rattle.std.specs.List.{list_any}
 use Rattle.cni_verbs.specs.Progress.{turn_by, answer_by}
+use Rattle.cni_verbs.specs.Replies.{host_after}
+pub use Rattle.cni_verbs.specs.Replies.{reply_to}
 use Rattle.cni_verbs.specs.Script.{Turn, Calls, Finishes}
 use Rattle.cni_verbs.specs.declared.answer.Answer.{Answer}
 use Rattle.cni_verbs.specs.declared.answer.Answer.TheVariants.{Stopped}
-use Rattle.kernel_types.specs.Apply.{apply}
-use Rattle.kernel_types.specs.Replies.{is_fault}
 use Rattle.kernel_types.specs.declared.object.Host.{Host}
 use Rattle.kernel_types.specs.declared.call.Call.{Call}
 use Rattle.kernel_types.specs.declared.call.Reply.{Reply}
-use Rattle.kernel_types.specs.declared.call.Reply.TheVariants.{Fault}
 use Rattle.net_conf.specs.declared.list.NetList.{NetList}
 use Rattle.pod_file.specs.declared.command.Command.{Command}
 use Rattle.pod_workers.specs.Plans.{Placed, commands_of, list_for, IsOf}
@@ -35,9 +34,9 @@ abbrev pub replies_of : ℕ → List Entry → List Reply
 replies_of n [] = []
 replies_of n (e ∷ es) = if e.command == n + 1 then e.reply ∷ replies_of n es else replies_of n es
 
--- the host after a call that was given this reply; a fault leaves it
+-- the host after an entry
 abbrev pub host_on : Host → Entry → Host
-host_on host e = if is_fault e.reply then host else (apply host e.call).0
+host_on host e = host_after host e.call e.reply
 
 -- the host after these entries
 abbrev pub after : Host → List Entry → Host
@@ -51,10 +50,6 @@ abbrev pub own_replies : World → ℕ → List Reply
 own_replies w n = replies_of n w.history
 
 -- ---- a step
-
--- the reply to a call: the kernel's, or the listed fault
-abbrev pub reply_to : Host → Call → Bool → Reply
-reply_to host call faulty = if faulty then Fault else (apply host call).1
 
 -- the call after so many is listed as a fault
 abbrev pub is_faulty : Command → ℕ → Bool

@@ -2,12 +2,13 @@
 
 ghost use Rattle.std.specs.Prelude.{◌≡◌, ◌+◌, ◌<◌, ◌≤◌, ◌==◌, ◌^◌, ◌⊎◌, [], ◌∷◌, ◌++◌, ◌||◌, None, Some, IfOk, IsTrue, OnErr, OnOk, length, replicate, true, false, slice_get, slice_set};
 ghost use Rattle.std.specs.List.{list_any};
+ghost use Rattle.cni_verbs.specs.Replies.{host_after, reply_to};
 ghost use Rattle.cni_verbs.specs.Script.{IsOpen};
 ghost use Rattle.kernel_types.specs.Allowed.{IsAllowed};
 ghost use Rattle.kernel_types.specs.Replies.{holds_text_or_list, is_fault};
-ghost use Rattle.pod_workers.specs.Slots.{IsCountable, CarriesOn, IsWithin, MayCarryOn, host_after, next_in, opened_by, slot_after};
+ghost use Rattle.pod_workers.specs.Slots.{IsCountable, CarriesOn, IsWithin, MayCarryOn, next_in, opened_by, slot_after};
 ghost use Rattle.pod_workers.specs.Tasks.{IsListed};
-ghost use Rattle.pod_workers.specs.World.{host_on, is_stop, reply_to};
+ghost use Rattle.pod_workers.specs.World.{host_on, is_stop};
 
 use crate::join::list_of;
 use crate::plan::{Entry, Next};
@@ -261,7 +262,7 @@ fn replied<K: Kernel>(
 ) -> Result<Reply, NoMemory>
     requires { faulty ≡ false → IsAllowed (K.host kernel.old) call.now }
     ensures reply { IfOk result (λ reply. reply ≡ reply_to (K.host kernel.old) call.now faulty) }
-    ensures host { IfOk result (λ reply. K.host kernel.new ≡ host_after (K.host kernel.old) call.now faulty) }
+    ensures host { IfOk result (λ reply. K.host kernel.new ≡ host_after (K.host kernel.old) call.now reply) }
     ensures err { OnErr result (K.host kernel.new ≡ K.host kernel.old) }
 {
     if faulty {

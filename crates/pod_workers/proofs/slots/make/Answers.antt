@@ -1,6 +1,7 @@
 use Rattle.std.proofs.Common.{[], ◌∷◌, ◌++◌, ◌∙◌, ap}
+use Rattle.cni_verbs.specs.Replies.{host_after}
 use Rattle.pod_workers.specs.Slots.{slot_after}
-use Rattle.pod_workers.proofs.Turns.{call-host, refused-hand}
+use Rattle.pod_workers.proofs.Turns.{refused-hand}
 use Rattle.pod_workers.proofs.slots.make.Goals as goal
 
 pub returns-in-Err-hand-clause-err : goal.returns-in-Err-hand-clause-err
@@ -10,7 +11,7 @@ pub returns-in-Ok-hand-clause-slot : goal.returns-in-Ok-hand-clause-slot
 returns-in-Ok-hand-clause-slot g c = c.in-Ok-hand.ensures.slot ∙ ap (slot_after c.args.slot.now) c.in-Ok.ensures.reply
 
 pub returns-in-Ok-hand-clause-host : goal.returns-in-Ok-hand-clause-host
-returns-in-Ok-hand-clause-host g c = call-host (g.K.Kernel.host c.args.kernel.now) (g.K.Kernel.host c.replied.new.kernel) c.args.command c.args.call c.args.faulty c.in-Ok.ensures.host
+returns-in-Ok-hand-clause-host g c = c.in-Ok.ensures.host ∙ ap (host_after (g.K.Kernel.host c.args.kernel.now) c.args.call) c.in-Ok.ensures.reply
 
 pub returns-in-Ok-hand-clause-history : goal.returns-in-Ok-hand-clause-history
 returns-in-Ok-hand-clause-history g c =
