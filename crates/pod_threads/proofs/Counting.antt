@@ -1,17 +1,15 @@
 -- Entries of a round are counted.
-use Rattle.std.proofs.Common.{◌≡◌, ℕ, ◌+◌, ◌-◌, ◌≤◌, ◌==◌, ◌&&◌, Bool, true, not, cond, List, [], ◌∷◌, ◌++◌, length, Some, slice_get, refl, sym, ◌∙◌, ap, subst, arith, inl, inr}
+use Rattle.std.proofs.Common.{◌≡◌, ℕ, ◌+◌, ◌-◌, ◌≤◌, Bool, cond, List, [], ◌∷◌, ◌++◌, length, refl, sym, ◌∙◌, ap, subst, arith}
 use Rattle.std.specs.List.{All, count_by}
-use Rattle.std.proofs.lemmas.Bool.Decides.{eqb_tells}
 use Rattle.std.proofs.lemmas.List.{length-append}
 use Rattle.std.proofs.lemmas.List.Elements.{All-head, All-tail}
 use Rattle.std.proofs.lemmas.List.Sums.{sum_by-append}
 use Rattle.pod_workers.proofs.RoundDone.{extends_trans}
-use Rattle.pod_workers.specs.Extends.{Extends, IsOfRound, Rounds}
-use Rattle.pod_workers.specs.Plans.{Placed, commands_of}
-use Rattle.pod_workers.specs.World.{World, is_in_round}
+use Rattle.pod_workers.specs.Extends.{Extends, IsOfRound, Rounds, is_of_round}
+use Rattle.pod_workers.specs.World.{World}
 use Rattle.pod_workers.specs.declared.plan.Entry.{Entry}
 use Rattle.pod_workers.specs.declared.plan.Plan.{Plan}
-use Rattle.pod_threads.specs.Counted.{entries_of_round, is_of_round}
+use Rattle.pod_threads.specs.Counted.{entries_of_round}
 
 -- ---- counts of a list
 
@@ -26,24 +24,10 @@ count-same p q same (x ∷ xs) = count-cons p x xs ∙ ap (λ b. cond b 1 0 + co
 
 -- ---- entries of a round
 
-same-is-in : (round : ℕ) (c : Placed) → c.round ≡ round → is_in_round round (Some c) ≡ true
-same-is-in round c is = elim (eqb_tells c.round round) [ inl t ↦ t.0 | inr f ↦ absurd (f.1 is) ]
-
-of-round : (p : Plan) (round : ℕ) (e : Entry) → IsOfRound p round e → is_of_round p round e ≡ true
-of-round p round e is =
-    let P : ℕ → Type 0 = λ k. (not (k == 0) && is_in_round round (slice_get (commands_of p) (k - 1))) ≡ true in
-    let place : is.n + 1 - 1 ≡ is.n = omega arith in
-    subst P (sym is.number_is) (elim (eqb_tells (is.n + 1) 0) [
-      | inl t ↦ absurd (let none = t.1 in omega arith)
-      | inr f ↦
-          ap (λ b. not b && is_in_round round (slice_get (commands_of p) (is.n + 1 - 1))) f.0
-          ∙ ap (λ k. is_in_round round (slice_get (commands_of p) k)) place ∙ ap (is_in_round round) is.there ∙ same-is-in round is.placed is.round_is
-    ])
-
 count-all : (p : Plan) (round : ℕ) (es : List Entry) → All (IsOfRound p round) es → entries_of_round p round es ≡ length es
 count-all p round [] all = refl
 count-all p round (e ∷ es) all =
-    count-cons (is_of_round p round) e es ∙ ap (λ b. cond b 1 0 + count_by (is_of_round p round) es) (of-round p round e (All-head (IsOfRound p round) e es all))
+    count-cons (is_of_round p round) e es ∙ ap (λ b. cond b 1 0 + count_by (is_of_round p round) es) (All-head (IsOfRound p round) e es all)
     ∙ ap (λ k. 1 + k) (count-all p round es (All-tail (IsOfRound p round) e es all)) ∙ (omega arith)
 
 count-append : (p : Plan) (round : ℕ) (g h : List Entry) → entries_of_round p round (g ++ h) ≡ entries_of_round p round g + entries_of_round p round h

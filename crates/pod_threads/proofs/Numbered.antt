@@ -9,13 +9,14 @@ use Rattle.pod_workers.proofs.Elements.{slice_get-left, slice_get-right}
 use Rattle.pod_workers.proofs.Rounds.{round-of, rounds-before}
 use Rattle.pod_workers.proofs.Sound.{fine}
 use Rattle.pod_workers.proofs.WellFormedPlans.{AreNumbered, are_numbered}
+use Rattle.pod_workers.specs.Extends.{is_of_round}
 use Rattle.pod_workers.specs.Legal.{Legal}
 use Rattle.pod_workers.specs.Plans.{Placed, commands_of, in_round, placed_from}
 use Rattle.pod_workers.specs.World.{World, is_in_round}
 use Rattle.pod_workers.specs.declared.plan.Entry.{Entry}
 use Rattle.pod_workers.specs.declared.plan.Plan.{Plan}
 use Rattle.pod_threads.proofs.Counting.{count-same}
-use Rattle.pod_threads.specs.Counted.{entries_of_round, is_numbered_from, is_numbered_in, is_of_round}
+use Rattle.pod_threads.specs.Counted.{entries_of_round, is_numbered_from, is_numbered_in}
 use Rattle.std.specs.List.{count_by}
 
 -- ---- the list of all commands, at a round

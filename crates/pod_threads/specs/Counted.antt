@@ -1,15 +1,10 @@
 -- Which entries count for a round.
-use Rattle.std.specs.Prelude.{ℕ, ◌-◌, ◌==◌, ◌&&◌, Bool, false, not, List, Option, Some, None, length, nat_le, nat_lt, slice_get}
+use Rattle.std.specs.Prelude.{ℕ, ◌-◌, ◌&&◌, Bool, false, List, Option, Some, None, length, nat_le, nat_lt, slice_get}
 use Rattle.std.specs.List.{count_by}
 use Rattle.pod_file.specs.declared.command.Command.{Command}
-use Rattle.pod_workers.specs.Plans.{commands_of}
-use Rattle.pod_workers.specs.World.{is_in_round}
+use Rattle.pod_workers.specs.Extends.{is_of_round}
 use Rattle.pod_workers.specs.declared.plan.Entry.{Entry}
 use Rattle.pod_workers.specs.declared.plan.Plan.{Plan}
-
--- the entry is of a command of this round; commands are numbered from 1
-abbrev pub is_of_round : Plan → ℕ → Entry → Bool
-is_of_round p round e = not (e.command == 0) && is_in_round round (slice_get (commands_of p) (e.command - 1))
 
 -- how many entries are of commands of this round
 abbrev pub entries_of_round : Plan → ℕ → List Entry → ℕ

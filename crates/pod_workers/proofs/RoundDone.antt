@@ -1,5 +1,5 @@
 -- A round's commands are stepped to their answers one after another, and the next round is current.
-use Rattle.std.proofs.Common.{◌≡◌, ◌≢◌, ℕ, zero, suc, ◌+◌, ◌-◌, ◌<◌, ◌≤◌, List, [], ◌∷◌, ◌++◌, length, map, take, Option, Some, None, Result, Ok, Err, OnOk, OnErr, slice_get, refl, sym, ◌∙◌, ap, subst, arith, inl, inr}
+use Rattle.std.proofs.Common.{◌≡◌, ◌≢◌, ℕ, zero, suc, ◌+◌, ◌-◌, ◌<◌, ◌≤◌, ◌==◌, ◌&&◌, true, not, List, [], ◌∷◌, ◌++◌, length, map, take, Option, Some, None, Result, Ok, Err, OnOk, OnErr, slice_get, refl, sym, ◌∙◌, ap, subst, arith, inl, inr}
 use Rattle.std.specs.List.{All}
 use Rattle.std.proofs.lemmas.List.{append-nil, append_assoc, length-append, length-map}
 use Rattle.std.proofs.lemmas.List.Elements.{All-append, All-cons, All-nil}
@@ -16,7 +16,7 @@ use Rattle.pod_workers.specs.Legal.{Legal, turns}
 use Rattle.pod_workers.specs.Order.{EarlierAreAnswered, IsInFileOrder}
 use Rattle.pod_workers.specs.Plans.{Placed, commands_of, in_round, placed_from}
 use Rattle.pod_workers.specs.Slots.{AreNumbersOf, IsKept}
-use Rattle.pod_workers.specs.World.{World, IsAnswered, IsReady, IsReadyNumber, IsRoundOver, answered, done, entry_of, host_of, next_of, next_round, own_replies, stepped}
+use Rattle.pod_workers.specs.World.{World, IsAnswered, IsReady, IsReadyNumber, IsRoundOver, answered, done, entry_of, host_of, is_in_round, next_of, next_round, own_replies, stepped}
 use Rattle.pod_workers.specs.declared.index.Place.{Place}
 use Rattle.pod_workers.specs.declared.plan.Entry.{Entry}
 use Rattle.pod_workers.specs.declared.plan.Next.{Next}
@@ -76,11 +76,25 @@ answered_extends w n c a ready = record {
   others = λ m d at_m far. slice_get-set_other w.answers n m (Some a) (elsewhere w n m c d ready at_m far);
 }
 
+same-is-in : (round : ℕ) (c : Placed) → c.round ≡ round → is_in_round round (Some c) ≡ true
+same-is-in round c is = elim (eqb_tells c.round round) [ inl t ↦ t.0 | inr f ↦ absurd (f.1 is) ]
+
+of-round : (p : Plan) (round n : ℕ) (c : Placed) (e : Entry) → e.command ≡ n + 1 → slice_get (commands_of p) n ≡ Some c → c.round ≡ round → IsOfRound p round e
+of-round p round n c e number_is there round_is =
+    let P : ℕ → Type 0 = λ k. (not (k == 0) && is_in_round round (slice_get (commands_of p) (k - 1))) ≡ true in
+    let place : n + 1 - 1 ≡ n = omega arith in
+    subst P (sym number_is) (elim (eqb_tells (n + 1) 0) [
+      | inl t ↦ absurd (let none = t.1 in omega arith)
+      | inr f ↦
+          ap (λ b. not b && is_in_round round (slice_get (commands_of p) (n + 1 - 1))) f.0
+          ∙ ap (λ k. is_in_round round (slice_get (commands_of p) k)) place ∙ ap (is_in_round round) there ∙ same-is-in round c round_is
+    ])
+
 done_extends : (w : World) (n : ℕ) (c : Placed) (x : Next) → IsReady w n c → Extends w (done w n x)
 done_extends w n c (next.Answer a) ready = answered_extends w n c a ready
 done_extends w n c (next.Call call faulty) ready =
     let e = entry_of (host_of w) n call faulty in
-    let mine : IsOfRound w.plan w.round e = record { n = n; placed = c; number_is = refl; there = ready.there; round_is = ready.current } in
+    let mine : IsOfRound w.plan w.round e = of-round w.plan w.round n c e refl ready.there ready.current in
     record {
       plan_is = refl;
       round_is = refl;

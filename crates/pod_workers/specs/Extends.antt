@@ -1,20 +1,19 @@
 -- One world goes on from another.
-use Rattle.std.specs.Prelude.{◌≡◌, ℕ, ◌+◌, List, ◌++◌, Option, Some, slice_get}
+use Rattle.std.specs.Prelude.{◌≡◌, ℕ, ◌-◌, ◌==◌, ◌&&◌, Bool, true, not, List, ◌++◌, Option, Some, slice_get}
 use Rattle.std.specs.List.{All}
 use Rattle.cni_verbs.specs.declared.answer.Answer.{Answer}
 use Rattle.pod_workers.specs.Legal.{Legal}
 use Rattle.pod_workers.specs.Plans.{Placed, commands_of}
-use Rattle.pod_workers.specs.World.{World, IsRoundOver, next_round}
+use Rattle.pod_workers.specs.World.{World, IsRoundOver, is_in_round, next_round}
 use Rattle.pod_workers.specs.declared.plan.Entry.{Entry}
 use Rattle.pod_workers.specs.declared.plan.Plan.{Plan}
 
--- the entry is of a command of this round
-pub record IsOfRound (p : Plan) (round : ℕ) (e : Entry) : Type 0 where
-  pub n : ℕ
-  pub placed : Placed
-  pub number_is : e.command ≡ n + 1
-  pub there : slice_get (commands_of p) n ≡ Some placed
-  pub round_is : placed.round ≡ round
+-- the entry is of a command of this round; commands are numbered from 1
+abbrev pub is_of_round : Plan → ℕ → Entry → Bool
+is_of_round p round e = not (e.command == 0) && is_in_round round (slice_get (commands_of p) (e.command - 1))
+
+abbrev pub IsOfRound : Plan → ℕ → Entry → Type 0
+IsOfRound p round e = is_of_round p round e ≡ true
 
 -- what is new, behind what was there, is of this round
 abbrev pub GrowsInRound : Plan → ℕ → List Entry → List Entry → Type 0

@@ -266,13 +266,13 @@ fn is_cut(stop_at: Option<u32>, history: &[Entry], places: &[Place], round: u32)
         Some(number) => match history.last() {
             None => false,
             Some(entry) => {
-                history.len() == number as usize && is_of_round(places, entry.command, round)
+                history.len() == number as usize && is_place_in(places, entry.command, round)
             }
         },
     }
 }
 
-fn is_of_round(places: &[Place], command: u32, round: u32) -> bool
+fn is_place_in(places: &[Place], command: u32, round: u32) -> bool
     ensures { result ≡ is_place_in round (slice_get places.now (command - 1)) }
 {
     match places.get(command.saturating_sub(1) as usize) {
