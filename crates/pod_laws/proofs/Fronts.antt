@@ -10,6 +10,7 @@ use Rattle.net_conf.specs.declared.first.First.TheVariants.{Bridge, Ptp, Macvlan
 use Rattle.net_conf.specs.declared.list.NetList.{NetList}
 use Rattle.pod_file.specs.declared.command.Command.{Command}
 use Rattle.kernel_types.specs.Apply.Calls.{set_link}
+use Rattle.kernel_types.specs.Lists.{IsAmong}
 use Rattle.kernel_types.specs.Touch.{DropsOnly}
 use Rattle.kernel_types.specs.Words.{is_own}
 use Rattle.kernel_types.specs.declared.object.Att.{Att}
@@ -22,7 +23,7 @@ use Rattle.plan_words.proofs.CallLists.{share_after_calls-append}
 use Rattle.cni_verbs.specs.CommandWords.{att_of, mappings_of}
 use Rattle.cni_verbs.specs.Script.{before_of, back_of}
 use Rattle.cni_verbs.specs.Wanted.{calls_before, share_before, untuned}
-use Rattle.pod_laws.specs.AskedFor.{IsAmong, AreAmong, links_after_part, AreLinksOf, AreAskedFor}
+use Rattle.pod_laws.specs.AskedFor.{AreAmong, links_after_part, AreLinksOf, AreAskedFor}
 use Rattle.pod_laws.proofs.Achieved.{with_leases, wanted_by, no_leases}
 use Rattle.pod_laws.proofs.Removes.{OnlyRemoves}
 use Rattle.cni_verbs.proofs.WantedShare.{made-before, makes-wanted}

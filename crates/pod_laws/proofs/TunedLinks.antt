@@ -16,6 +16,7 @@ use Rattle.net_conf.specs.declared.chained.Chained.{Chained}
 use Rattle.net_conf.specs.declared.chained.Chained.TheVariants.{Portmap, Firewall, Tuning}
 use Rattle.net_conf.specs.declared.list.NetList.{NetList}
 use Rattle.kernel_types.proofs.ListLemmas.{list_any-append_none}
+use Rattle.kernel_types.specs.Lists.{IsAmong}
 use Rattle.kernel_types.specs.declared.object.Att.{Att}
 use Rattle.kernel_types.specs.declared.call.Call.{Call}
 use Rattle.kernel_types.specs.declared.call.Call.TheVariants.{GatewayEnsure, ForwardEnsure, VethAdd, MacvlanAdd, LinkSet, AddrAdd, RouteAdd, RuleAppend, SettingSet, CachePut}
@@ -35,7 +36,7 @@ use Rattle.firewall_tuning.specs.Firewall.{firewall_rules}
 use Rattle.firewall_tuning.specs.Tuning.{tuning_settings, sets_any, link_set_calls}
 use Rattle.cni_verbs.specs.CommandWords.{att_of, mappings_of}
 use Rattle.cni_verbs.specs.Wanted.{calls_after, chained_calls, all_chained_calls, chained_result, back_calls, given_by_list, first_plugin_result, cached_of, untuned, wanted}
-use Rattle.pod_laws.specs.AskedFor.{IsAmong, AreAmong, links_after_part, is_tuning, tunes_once, EachLinkIsWanted}
+use Rattle.pod_laws.specs.AskedFor.{AreAmong, links_after_part, is_tuning, tunes_once, EachLinkIsWanted}
 use Rattle.pod_laws.proofs.Achieved.{with_leases}
 use Rattle.pod_laws.proofs.Fronts.{links-calls, untuned-links}
 use Rattle.cni_verbs.proofs.WantedShare.{makes-wanted}

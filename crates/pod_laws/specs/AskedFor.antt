@@ -7,6 +7,7 @@ use Rattle.cni_verbs.specs.CommandWords.{att_of, mappings_of}
 use Rattle.cni_verbs.specs.Script.{leases_in}
 use Rattle.cni_verbs.specs.Wanted.{back_calls, untuned, wanted}
 use Rattle.kernel_types.specs.Equal.{att_eq}
+use Rattle.kernel_types.specs.Lists.{IsAmong}
 use Rattle.kernel_types.specs.declared.object.Att.{Att}
 use Rattle.kernel_types.specs.declared.object.Link.{Link}
 use Rattle.kernel_types.specs.declared.call.Call.{Call}
@@ -26,10 +27,6 @@ use Rattle.pod_workers.specs.declared.plan.Entry.{Entry}
 use Rattle.pod_workers.specs.declared.plan.Plan.{Plan}
 
 -- ---- lists
-
-abbrev pub IsAmong : {X : Type 0} → X → List X → Type 0
-IsAmong x [] = ⊥
-IsAmong x (y ∷ ys) = (x ≡ y) ⊎ IsAmong x ys
 
 -- each of the first list is in the second
 abbrev pub AreAmong : {X : Type 0} → List X → List X → Type 0

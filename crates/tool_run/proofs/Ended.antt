@@ -5,6 +5,7 @@ use Rattle.std.proofs.lemmas.Option.{same_Some}
 use Rattle.cni_io.specs.Faults.{Rose}
 use Rattle.cni_io.specs.Files.{StoredFiles}
 use Rattle.cni_verbs.specs.declared.answer.Answer.{Answer}
+use Rattle.kernel_types.specs.Lists.{IsAmong}
 use Rattle.pod_text.specs.Statuses.{is_failure, is_memory, status_of}
 use Rattle.pod_workers.specs.Order.{IsInFileOrder}
 use Rattle.pod_workers.specs.World.{World}
@@ -14,7 +15,7 @@ use Rattle.tool_words.specs.declared.words.Words.{Words}
 use Rattle.tool_run.specs.Causes.{WhereTold}
 use Rattle.tool_run.specs.Ends.{Reported, Reports, Settles}
 use Rattle.tool_run.specs.Lines.{usage_line}
-use Rattle.tool_run.specs.Statuses.{ComesTo, Completes, HasCauses, IsCarriedOut, IsDue, IsOneOf, IsTextOf, IsUnreadOf, Sides, Wrote, WroteFront}
+use Rattle.tool_run.specs.Statuses.{ComesTo, Completes, HasCauses, IsCarriedOut, IsDue, IsTextOf, IsUnreadOf, Sides, Wrote, WroteFront}
 use Rattle.tool_run.specs.Verdict.{Verdict, carry, line, plan_of, usage, verdict_if, verdict_of, verdict_on}
 use Rattle.tool_run.specs.declared.settle.Due.{Due}
 use Rattle.tool_run.specs.declared.settle.Due.TheVariants as due
@@ -27,7 +28,7 @@ pub data Ended (r : Sides) (status : ℕ) (book : Option World) : Type 0 where
   of_usage : status ≡ 2 → book ≡ None → words_of r.words ≡ None → Wrote r.old r.new usage_line → Ended r status book
   of_line : (bytes : List ℕ) → status ≡ 3 → book ≡ None → (w : Words) → words_of r.words ≡ Some w → ComesTo r.words r.files (line bytes) → Wrote r.old r.new bytes → Ended r status book
   of_read : (bytes : List ℕ) → status ≡ 4 → book ≡ None → IsUnreadOf r.words r.reads_before r.reads_now bytes → Wrote r.old r.new bytes → Ended r status book
-  of_text : (b : World) (bytes : List ℕ) → IsOneOf status Printed → status ≡ status_of b.answers → book ≡ Some b → IsCarriedOut r.words r.files b → IsTextOf r.words b bytes
+  of_text : (b : World) (bytes : List ℕ) → IsAmong status Printed → status ≡ status_of b.answers → book ≡ Some b → IsCarriedOut r.words r.files b → IsTextOf r.words b bytes
       → Wrote r.old r.new bytes → Ended r status book
   of_sink : (bytes : List ℕ) → status ≡ 5 → Rose r.writes_before r.writes_now → IfSome book (IsCarriedOut r.words r.files) → IsDue r.words r.files r.reads_before r.reads_now book bytes
       → WroteFront r.old r.new bytes → Ended r status book
@@ -35,16 +36,16 @@ pub data Ended (r : Sides) (status : ℕ) (book : Option World) : Type 0 where
 
 -- ---- statuses of a text
 
-status_is : (answers : List (Option Answer)) → IsOneOf (status_of answers) Printed
+status_is : (answers : List (Option Answer)) → IsAmong (status_of answers) Printed
 status_is answers = go (list_any is_memory answers) (list_any is_failure answers)
   where
-    go : (m f : Bool) → IsOneOf (cond m 8 (cond f 1 0)) Printed
+    go : (m f : Bool) → IsAmong (cond m 8 (cond f 1 0)) Printed
     go true f = inr (inr (inl refl))
     go false true = inr (inl refl)
     go false false = inl refl
 
 -- a status of a text is none of those from 2 to 7
-not_printed : (status n : ℕ) → IsOneOf status Printed → status ≡ n → 2 ≤ n → n ≤ 7 → ⊥
+not_printed : (status n : ℕ) → IsAmong status Printed → status ≡ n → 2 ≤ n → n ≤ 7 → ⊥
 not_printed status n (inl zero_is) is least most = omega arith
 not_printed status n (inr (inl one_is)) is least most = omega arith
 not_printed status n (inr (inr (inl eight_is))) is least most = omega arith
@@ -78,7 +79,7 @@ of_line_due r o bytes status none is_due wrote reports = elim reports [
 of_text_due : (r : Sides) (o : Outcome) (b : World) (bytes : List ℕ) → o.book ≡ Some b → IsCarriedOut r.words r.files b → IsTextOf r.words b bytes
     → Reports r.old r.new r.writes_before r.writes_now bytes (status_of b.answers) o.status → Ended r o.status o.book
 of_text_due r o b bytes some carried text reports = elim reports [
-  | inl w ↦ of_text b bytes (subst (λ n. IsOneOf n Printed) (sym w.0) (status_is b.answers)) w.0 some carried text w.1
+  | inl w ↦ of_text b bytes (subst (λ n. IsAmong n Printed) (sym w.0) (status_is b.answers)) w.0 some carried text w.1
   | inr g ↦ of_sink bytes g.0 g.1 (subst (λ (x : Option World). IfSome x (IsCarriedOut r.words r.files)) (sym some) carried) (subst (DueAt r bytes) (sym some) text) g.2
 ]
 
@@ -106,13 +107,13 @@ ended keeps r due.NoMemory o settles rep = of_memory rep.1 rep.0 rep.2
 
 -- ---- what follows
 
-printed_is_one : (status : ℕ) → IsOneOf status Printed → IsOneOf status (0 ∷ 1 ∷ 2 ∷ 3 ∷ 4 ∷ 5 ∷ 6 ∷ 8 ∷ [])
+printed_is_one : (status : ℕ) → IsAmong status Printed → IsAmong status (0 ∷ 1 ∷ 2 ∷ 3 ∷ 4 ∷ 5 ∷ 6 ∷ 8 ∷ [])
 printed_is_one status (inl a) = inl a
 printed_is_one status (inr (inl b)) = inr (inl b)
 printed_is_one status (inr (inr (inl c))) = inr (inr (inr (inr (inr (inr (inr (inl c)))))))
 printed_is_one status (inr (inr (inr h))) = absurd h
 
-pub only : (r : Sides) (status : ℕ) (book : Option World) → Ended r status book → IsOneOf status (0 ∷ 1 ∷ 2 ∷ 3 ∷ 4 ∷ 5 ∷ 6 ∷ 8 ∷ [])
+pub only : (r : Sides) (status : ℕ) (book : Option World) → Ended r status book → IsAmong status (0 ∷ 1 ∷ 2 ∷ 3 ∷ 4 ∷ 5 ∷ 6 ∷ 8 ∷ [])
 only r status book (of_usage st none words wrote) = inr (inr (inl st))
 only r status book (of_line bytes st none w words comes wrote) = inr (inr (inr (inl st)))
 only r status book (of_read bytes st none unread wrote) = inr (inr (inr (inr (inl st))))
@@ -121,13 +122,13 @@ only r status book (of_sink bytes st rose carried is_due front) = inr (inr (inr 
 only r status book (of_memory st none same) = inr (inr (inr (inr (inr (inr (inl st))))))
 
 -- a status between 2 and 7 is no text's
-other : {X : Type 0} (status n : ℕ) → IsOneOf status Printed → status ≡ n → 2 ≤ n → n ≤ 7 → X
+other : {X : Type 0} (status n : ℕ) → IsAmong status Printed → status ≡ n → 2 ≤ n → n ≤ 7 → X
 other status n one st least most = absurd (not_printed status n one st least most)
 
 abbrev IsText : Sides → ℕ → Option World → Type 0
 IsText r status book = IsSomeAnd book (λ b. (status ≡ status_of b.answers) × ((bytes : List ℕ) × IsTextOf r.words b bytes × Wrote r.old r.new bytes))
 
-pub text_clause : (r : Sides) (status : ℕ) (book : Option World) → Ended r status book → IsOneOf status Printed → IsText r status book
+pub text_clause : (r : Sides) (status : ℕ) (book : Option World) → Ended r status book → IsAmong status Printed → IsText r status book
 text_clause r status book (of_usage st none words wrote) h = other status 2 h st (omega arith) (omega arith)
 text_clause r status book (of_line bytes st none w words comes wrote) h = other status 3 h st (omega arith) (omega arith)
 text_clause r status book (of_read bytes st none unread wrote) h = other status 4 h st (omega arith) (omega arith)
@@ -147,7 +148,7 @@ usage_clause r status book (of_memory st none same) h = absurd (omega arith)
 two_ways : {X : Type 0} (words : List (List ℕ)) (w : Words) → words_of words ≡ None → words_of words ≡ Some w → X
 two_ways words w none some = let bad : None ≡ Some w = sym none ∙ some in cc
 
-pub usage_only : (r : Sides) (status : ℕ) (book : Option World) → Ended r status book → words_of r.words ≡ None → IsOneOf status (2 ∷ 5 ∷ 6 ∷ [])
+pub usage_only : (r : Sides) (status : ℕ) (book : Option World) → Ended r status book → words_of r.words ≡ None → IsAmong status (2 ∷ 5 ∷ 6 ∷ [])
 usage_only r status book (of_usage st none words wrote) h = inl st
 usage_only r status book (of_line bytes st none w words comes wrote) h = two_ways r.words w h words
 usage_only r status book (of_read bytes st none unread wrote) h = two_ways r.words unread.by h unread.words_are
@@ -190,7 +191,7 @@ memory_clause r status book (of_memory st none same) h = same
 usage_verdict : (words : List (List ℕ)) (stored : StoredFiles) → words_of words ≡ None → usage ≡ verdict_of words stored
 usage_verdict words stored none = sym (ap (λ (o : Option Words). verdict_if o stored) none)
 
-printed_completes : (status : ℕ) → IsOneOf status Printed → IsOneOf status (0 ∷ 1 ∷ 6 ∷ 8 ∷ [])
+printed_completes : (status : ℕ) → IsAmong status Printed → IsAmong status (0 ∷ 1 ∷ 6 ∷ 8 ∷ [])
 printed_completes status (inl a) = inl a
 printed_completes status (inr (inl b)) = inr (inl b)
 printed_completes status (inr (inr (inl c))) = inr (inr (inr (inl c)))
@@ -218,13 +219,13 @@ book_clause r status book (of_sink bytes st rose carried is_due front) = carried
 book_clause r status book (of_memory st none same) = no_book r book none
 
 -- one of 2, 3 and 4
-middle : (status : ℕ) → IsOneOf status (2 ∷ 3 ∷ 4 ∷ []) → (2 ≤ status) × (status ≤ 4)
+middle : (status : ℕ) → IsAmong status (2 ∷ 3 ∷ 4 ∷ []) → (2 ≤ status) × (status ≤ 4)
 middle status (inl a) = (omega arith, omega arith)
 middle status (inr (inl b)) = (omega arith, omega arith)
 middle status (inr (inr (inl c))) = (omega arith, omega arith)
 middle status (inr (inr (inr h))) = absurd h
 
-pub no_book_clause : (r : Sides) (status : ℕ) (book : Option World) → Ended r status book → IsOneOf status (2 ∷ 3 ∷ 4 ∷ []) → book ≡ None
+pub no_book_clause : (r : Sides) (status : ℕ) (book : Option World) → Ended r status book → IsAmong status (2 ∷ 3 ∷ 4 ∷ []) → book ≡ None
 no_book_clause r status book (of_usage st none words wrote) h = none
 no_book_clause r status book (of_line bytes st none w words comes wrote) h = none
 no_book_clause r status book (of_read bytes st none unread wrote) h = none

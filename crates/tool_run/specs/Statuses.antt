@@ -3,6 +3,7 @@ use Rattle.std.specs.Prelude.{◌≡◌, ◌≤◌, ◌⊎◌, ℕ, List, [], �
 use Rattle.std.specs.Io.KnownBytes.{append_known}
 use Rattle.cni_io.specs.Faults.{Rose}
 use Rattle.cni_io.specs.Files.{StoredFiles}
+use Rattle.kernel_types.specs.Lists.{IsAmong}
 use Rattle.pod_text.specs.Lines.{text_of}
 use Rattle.pod_text.specs.Statuses.{status_of}
 use Rattle.pod_workers.specs.Legal.{Legal}
@@ -12,11 +13,6 @@ use Rattle.tool_words.specs.declared.words.Words.{Words}
 use Rattle.tool_run.specs.Causes.{IsUnread, WhereTold}
 use Rattle.tool_run.specs.Lines.{usage_line}
 use Rattle.tool_run.specs.Verdict.{Verdict, usage, line, carry, verdict_of}
-
--- one of these statuses
-abbrev pub IsOneOf : ℕ → List ℕ → Type 0
-IsOneOf n [] = ⊥
-IsOneOf n (m ∷ ms) = (n ≡ m) ⊎ IsOneOf n ms
 
 -- exactly these bytes were appended, where the sink tells
 abbrev pub Wrote : Option (List ℕ) → Option (List ℕ) → List ℕ → Type 0
@@ -61,9 +57,9 @@ IsDue words files before now (Some book) bytes = IsTextOf words book bytes
 
 -- the statuses of a verdict, want of memory aside
 abbrev pub Completes : Verdict → ℕ → Type 0
-Completes usage status = IsOneOf status (2 ∷ 6 ∷ [])
-Completes (line bytes) status = IsOneOf status (3 ∷ 6 ∷ [])
-Completes (carry plan trace dump) status = IsOneOf status (0 ∷ 1 ∷ 6 ∷ 8 ∷ [])
+Completes usage status = IsAmong status (2 ∷ 6 ∷ [])
+Completes (line bytes) status = IsAmong status (3 ∷ 6 ∷ [])
+Completes (carry plan trace dump) status = IsAmong status (0 ∷ 1 ∷ 6 ∷ 8 ∷ [])
 
 -- words, files and the count of their faults before and now, the sink's bytes and the count of its faults before and now
 pub record Sides : Type 0 where
@@ -78,17 +74,17 @@ pub record Sides : Type 0 where
 
 -- the status of a run and its book, each with its cause
 pub record HasCauses (r : Sides) (status : ℕ) (book : Option World) : Type 0 where
-  pub only : IsOneOf status (0 ∷ 1 ∷ 2 ∷ 3 ∷ 4 ∷ 5 ∷ 6 ∷ 8 ∷ [])
-  pub text : IsOneOf status (0 ∷ 1 ∷ 8 ∷ []) → IsSomeAnd book (λ b. (status ≡ status_of b.answers) × ((bytes : List ℕ) × IsTextOf r.words b bytes × Wrote r.old r.new bytes))
+  pub only : IsAmong status (0 ∷ 1 ∷ 2 ∷ 3 ∷ 4 ∷ 5 ∷ 6 ∷ 8 ∷ [])
+  pub text : IsAmong status (0 ∷ 1 ∷ 8 ∷ []) → IsSomeAnd book (λ b. (status ≡ status_of b.answers) × ((bytes : List ℕ) × IsTextOf r.words b bytes × Wrote r.old r.new bytes))
   pub usage : status ≡ 2 → (words_of r.words ≡ None) × Wrote r.old r.new usage_line
-  pub usage_only : words_of r.words ≡ None → IsOneOf status (2 ∷ 5 ∷ 6 ∷ [])
+  pub usage_only : words_of r.words ≡ None → IsAmong status (2 ∷ 5 ∷ 6 ∷ [])
   pub refused : status ≡ 3 → (bytes : List ℕ) × ComesTo r.words r.files (line bytes) × Wrote r.old r.new bytes
   pub read : status ≡ 4 → (bytes : List ℕ) × IsUnreadOf r.words r.reads_before r.reads_now bytes × Wrote r.old r.new bytes
   pub sink : status ≡ 5 → Rose r.writes_before r.writes_now × ((bytes : List ℕ) × IsDue r.words r.files r.reads_before r.reads_now book bytes × WroteFront r.old r.new bytes)
   pub memory : status ≡ 6 → r.new ≡ r.old
   pub complete : (stored : StoredFiles) → r.files ≡ Some stored → (Rose r.reads_before r.reads_now → ⊥) → (Rose r.writes_before r.writes_now → ⊥) → Completes (verdict_of r.words stored) status
   pub carried : IfSome book (IsCarriedOut r.words r.files)
-  pub no_book : IsOneOf status (2 ∷ 3 ∷ 4 ∷ []) → book ≡ None
+  pub no_book : IsAmong status (2 ∷ 3 ∷ 4 ∷ []) → book ≡ None
 
 -- the words are taken, and ask for one thread
 abbrev pub AskForOneThread : List (List ℕ) → Type 0
