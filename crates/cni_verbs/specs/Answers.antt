@@ -136,15 +136,15 @@ error_of version c cause = record { version = version; code = code_of cause; msg
 
 -- ---- answers
 
-abbrev pub answer_by : NetList → Command → Ending → List Addr → Answer
-answer_by list c Added given = answers.Added (result_of_add list (att_of c) c.netns given)
-answer_by list c Yes given = answers.Yes
-answer_by list c (Skipped skip) given = answers.Skipped skip
-answer_by list c Versions given = answers.Versions list.version
-answer_by list c (Refused cause) given = answers.Refused (error_of list.version c cause)
+abbrev pub answer_of_ending : NetList → Command → Ending → List Addr → Answer
+answer_of_ending list c Added given = answers.Added (result_of_add list (att_of c) c.netns given)
+answer_of_ending list c Yes given = answers.Yes
+answer_of_ending list c (Skipped skip) given = answers.Skipped skip
+answer_of_ending list c Versions given = answers.Versions list.version
+answer_of_ending list c (Refused cause) given = answers.Refused (error_of list.version c cause)
 
 unfoldable pub answer_of : NetList → Command → Finish → Answer
-answer_of list c finish = answer_by list c finish.ending finish.given
+answer_of list c finish = answer_of_ending list c finish.ending finish.given
 
 -- a change from outside has no list; its errors are of the newest version
 abbrev pub outside_by : Command → Ending → Answer

@@ -4,7 +4,7 @@ ghost use Rattle.std.specs.Prelude.{◌≡◌, ℕ, List, Some, None, drop, ⊤,
 ghost use Rattle.std.specs.Option.{option_copied};
 ghost use Rattle.kernel_types.specs.declared.call.Call.{Call};
 ghost use Rattle.cni_verbs.specs.Script.{back_of, finish_of};
-ghost use Rattle.cni_verbs.specs.Answers.{answer_by, error_of, outside_by};
+ghost use Rattle.cni_verbs.specs.Answers.{answer_of_ending, error_of, outside_by};
 ghost use Rattle.cni_verbs.specs.Progress as progress;
 ghost use Rattle.cni_verbs.specs.Phases.{IsKept, IsReady, denied, questions_left, state_in, state_outside};
 
@@ -42,7 +42,7 @@ fn ended(
     ending: &Ending,
     given: &[Addr],
 ) -> Result<Answer, NoMemory>
-    ensures { IfOk result (λ answer. answer ≡ answer_by list.now command.now ending.now given.now) }
+    ensures { IfOk result (λ answer. answer ≡ answer_of_ending list.now command.now ending.now given.now) }
 {
     match ending {
         Ending::Added => {

@@ -13,7 +13,7 @@ use Rattle.kernel_types.specs.declared.call.Reply.TheVariants.{Done, NoNs, NoLin
 use Rattle.pod_file.specs.declared.command.ValidAtt.{ValidAtt}
 use Rattle.cni_verbs.specs.Script.{call_of_work}
 use Rattle.cni_verbs.specs.Sweep.{Gc, Step, Delete, Sweep, Job, Work, step_call, is_valid, job_of, after_step, first_sweep, work_after}
-use Rattle.gc_sweep.specs.View.{whole, jobs_at, jobs_left, sweeps_after, sweep_of, IsPlace, work_of, step_done, owner_done, has_job, has_no_work, move_by, moved, stage_after, asked}
+use Rattle.gc_sweep.specs.View.{steps_of, jobs_at, jobs_left, sweeps_after, sweep_of, IsPlace, work_of, step_done, owner_done, has_job, has_no_work, move_by, moved, stage_after, asked}
 use Rattle.gc_sweep.specs.declared.place.Move.{Move}
 use Rattle.gc_sweep.specs.declared.place.Place.{Place}
 use Rattle.gc_sweep.specs.declared.place.Stage.{Stage}
@@ -26,11 +26,11 @@ kind_step [] i k h = absurd (none-some k h)
 kind_step (x ∷ ks) zero k h = ap (λ y. Some (Delete y)) (same_Some x k h)
 kind_step (x ∷ ks) (suc i) k h = kind_step ks i k h
 
-later_step : (ks : List Kind) (step : ℕ) (s : Step) → 0 < step → slice_get (map Delete ks) (step - 1) ≡ Some s → slice_get (whole (first_sweep ks)) step ≡ Some s
+later_step : (ks : List Kind) (step : ℕ) (s : Step) → 0 < step → slice_get (map Delete ks) (step - 1) ≡ Some s → slice_get (steps_of (first_sweep ks)) step ≡ Some s
 later_step ks zero s lt h = absurd (omega arith)
 later_step ks (suc n) s lt h = let e : suc n - 1 ≡ n = omega arith in subst (λ i. slice_get (map Delete ks) i ≡ Some s) e h
 
-pub first_kind : (ks : List Kind) (step : ℕ) (k : Kind) → 0 < step → slice_get ks (step - 1) ≡ Some k → slice_get (whole (first_sweep ks)) step ≡ Some (Delete k)
+pub first_kind : (ks : List Kind) (step : ℕ) (k : Kind) → 0 < step → slice_get ks (step - 1) ≡ Some k → slice_get (steps_of (first_sweep ks)) step ≡ Some (Delete k)
 first_kind ks step k lt h = later_step ks step (Delete k) lt (kind_step ks (step - 1) k h)
 
 -- ---- the owner at hand
@@ -48,35 +48,35 @@ fresh s [] = refl
 fresh s (a ∷ more) = refl
 
 -- the jobs where an owner and a step are at hand
-jobs_here : (s : Sweep) (step : ℕ) (a : Att) (more : List Att) (x : Step) → drop step (whole s) ≡ x ∷ drop (step + 1) (whole s)
-    → jobs_at s step (a ∷ more) ≡ record { att = a; step = x; more = drop (step + 1) (whole s) } ∷ map (job_of s) more
+jobs_here : (s : Sweep) (step : ℕ) (a : Att) (more : List Att) (x : Step) → drop step (steps_of s) ≡ x ∷ drop (step + 1) (steps_of s)
+    → jobs_at s step (a ∷ more) ≡ record { att = a; step = x; more = drop (step + 1) (steps_of s) } ∷ map (job_of s) more
 jobs_here s step a more x h = ap (λ l. after_step a l (map (job_of s) more)) h
 
-pub done_next : (s : Sweep) (step at : ℕ) (owners : List Att) → at < length owners → step < length (whole s) → jobs_at s (step + 1) (drop at owners) ≡ step_done (jobs_at s step (drop at owners))
+pub done_next : (s : Sweep) (step at : ℕ) (owners : List Att) → at < length owners → step < length (steps_of s) → jobs_at s (step + 1) (drop at owners) ≡ step_done (jobs_at s step (drop at owners))
 done_next s step at owners here within =
     let o = drop_here owners at here in
-    let x = drop_here (whole s) step within in
+    let x = drop_here (steps_of s) step within in
     rw o.1 (sym (ap step_done (jobs_here s step o.0 (drop (at + 1) owners) x.0 x.1)))
 
-pub done_last : (s : Sweep) (step at : ℕ) (owners : List Att) → at < length owners → step < length (whole s) → length (whole s) ≤ step + 1 → jobs_at s 0 (drop (at + 1) owners) ≡ step_done (jobs_at s step (drop at owners))
+pub done_last : (s : Sweep) (step at : ℕ) (owners : List Att) → at < length owners → step < length (steps_of s) → length (steps_of s) ≤ step + 1 → jobs_at s 0 (drop (at + 1) owners) ≡ step_done (jobs_at s step (drop at owners))
 done_last s step at owners here within last =
     let o = drop_here owners at here in
-    let x = drop_here (whole s) step within in
-    let none : drop (step + 1) (whole s) ≡ [] = drop_of_length-le (whole s) last in
+    let x = drop_here (steps_of s) step within in
+    let none : drop (step + 1) (steps_of s) ≡ [] = drop_of_length-le (steps_of s) last in
     rw o.1 (fresh s (drop (at + 1) owners) ∙ ap (λ l. after_step o.0 l (map (job_of s) (drop (at + 1) owners))) (sym none) ∙ sym (ap step_done (jobs_here s step o.0 (drop (at + 1) owners) x.0 x.1)))
 
-pub done_owner : (s : Sweep) (step at : ℕ) (owners : List Att) → at < length owners → step < length (whole s) → jobs_at s 0 (drop (at + 1) owners) ≡ owner_done (jobs_at s step (drop at owners))
+pub done_owner : (s : Sweep) (step at : ℕ) (owners : List Att) → at < length owners → step < length (steps_of s) → jobs_at s 0 (drop (at + 1) owners) ≡ owner_done (jobs_at s step (drop at owners))
 done_owner s step at owners here within =
     let o = drop_here owners at here in
-    let x = drop_here (whole s) step within in
+    let x = drop_here (steps_of s) step within in
     rw o.1 (fresh s (drop (at + 1) owners) ∙ sym (ap owner_done (jobs_here s step o.0 (drop (at + 1) owners) x.0 x.1)))
 
 -- the call of the owner and step at hand
-pub next_here : (network : List ℕ) (s : Sweep) (step at : ℕ) (owners : List Att) (sweeps : List Sweep) (a : Att) (x : Step) → slice_get owners at ≡ Some a → slice_get (whole s) step ≡ Some x → at < length owners → step < length (whole s)
+pub next_here : (network : List ℕ) (s : Sweep) (step at : ℕ) (owners : List Att) (sweeps : List Sweep) (a : Att) (x : Step) → slice_get owners at ≡ Some a → slice_get (steps_of s) step ≡ Some x → at < length owners → step < length (steps_of s)
     → call_of_work network (jobs_at s step (drop at owners)) sweeps ≡ Some (step_call a x)
 next_here network s step at owners sweeps a x is_a is_x here within =
     let o = drop_here owners at here in
-    let y = drop_here (whole s) step within in
+    let y = drop_here (steps_of s) step within in
     let same_a : o.0 ≡ a = same_Some o.0 a (sym o.2 ∙ is_a) in
     let same_x : y.0 ≡ x = same_Some y.0 x (sym y.2 ∙ is_x) in
     rw o.1 (ap (λ l. call_of_work network l sweeps) (jobs_here s step o.0 (drop (at + 1) owners) y.0 y.1) ∙ ap Some (ap (λ z. step_call z y.0) same_a ∙ ap (step_call a) same_x))
@@ -121,11 +121,11 @@ worked_moved gc (j ∷ jobs) sweeps (Owners owners) = refl
 worked_moved gc (j ∷ jobs) sweeps (Entry cached) = refl
 worked_moved gc (j ∷ jobs) sweeps Fault = refl
 
-pub has_job_left : (s : Sweep) (step at : ℕ) (owners : List Att) → step < length (whole s) → has_job (jobs_at s step (drop at owners)) ≡ nat_lt at (length owners)
+pub has_job_left : (s : Sweep) (step at : ℕ) (owners : List Att) → step < length (steps_of s) → has_job (jobs_at s step (drop at owners)) ≡ nat_lt at (length owners)
 has_job_left s step at owners within = elim (cases_lt at (length owners)) [
   | inl here ↦
       let o = drop_here owners at here in
-      let x = drop_here (whole s) step within in
+      let x = drop_here (steps_of s) step within in
       let yes : nat_lt at (length owners) ≡ true = grind (arith, nat_tests, here) in
       rw (o.1, yes) (ap has_job (jobs_here s step o.0 (drop (at + 1) owners) x.0 x.1))
   | inr past ↦

@@ -63,19 +63,19 @@ abbrev pub step_of : Task → Step
 step_of tasks.AskCached = AskCached
 step_of (tasks.Delete kind) = Delete kind
 
-abbrev pub whole : Sweep → List Step
-whole s = s.step ∷ s.more
+abbrev pub steps_of : Sweep → List Step
+steps_of s = s.step ∷ s.more
 
 -- the first of these owners is at this step, the others are still to be begun
 abbrev pub jobs_at : Sweep → ℕ → List Att → List Job
 jobs_at s step [] = []
-jobs_at s step (a ∷ more) = after_step a (drop step (whole s)) (map (job_of s) more)
+jobs_at s step (a ∷ more) = after_step a (drop step (steps_of s)) (map (job_of s) more)
 
 abbrev pub jobs_left : List Kind → Place → List Job
 jobs_left ks p = jobs_at (sweep_of ks p.stage) p.step (drop p.at p.owners.items)
 
 abbrev pub IsPlace : List Kind → Place → Type 0
-IsPlace ks p = p.step < length (whole (sweep_of ks p.stage))
+IsPlace ks p = p.step < length (steps_of (sweep_of ks p.stage))
 
 abbrev pub work_of : List Kind → Place → Work
 work_of ks p = record { jobs = jobs_left ks p; sweeps = sweeps_after ks p.stage }

@@ -4,7 +4,7 @@ ghost use Rattle.std.specs.Prelude.{◌≡◌, ◌<◌, ◌+◌, not, true, List
 ghost use Rattle.kernel_types.specs.declared.call.Kind.{Kind};
 ghost use Rattle.cni_verbs.specs.Script.{call_of_work};
 ghost use Rattle.cni_verbs.specs.Sweep.{first_sweep, all_sweeps, is_valid, step_call};
-ghost use Rattle.gc_sweep.specs.View.{stage_after, sweep_of, sweeps_after, whole, jobs_left, IsPlace, work_of, move_by, step_done, owner_done, asked, moved, step_of, has_no_work};
+ghost use Rattle.gc_sweep.specs.View.{stage_after, sweep_of, sweeps_after, steps_of, jobs_left, IsPlace, work_of, move_by, step_done, owner_done, asked, moved, step_of, has_no_work};
 ghost use Rattle.gc_sweep.specs.declared.place.Move.TheVariants.{SkipSweep};
 
 use cni_addr::{Duplicate, Items, NoMemory, Text};
@@ -94,8 +94,8 @@ fn kind_at(kinds: &[Kind], i: usize) -> Kind
 }
 
 fn first_task(kinds: &[Kind], step: usize) -> Task
-    requires { step < length (whole (first_sweep kinds.now)) }
-    ensures { slice_get (whole (first_sweep kinds.now)) step ≡ Some (step_of result) }
+    requires { step < length (steps_of (first_sweep kinds.now)) }
+    ensures { slice_get (steps_of (first_sweep kinds.now)) step ≡ Some (step_of result) }
 {
     if step == 0 {
         Task::AskCached
@@ -106,8 +106,8 @@ fn first_task(kinds: &[Kind], step: usize) -> Task
 
 /// The step with this number of an owner of this sweep.
 fn task_at(kinds: &[Kind], stage: Stage, step: usize) -> Task
-    requires { step < length (whole (sweep_of kinds.now stage)) }
-    ensures { slice_get (whole (sweep_of kinds.now stage)) step ≡ Some (step_of result) }
+    requires { step < length (steps_of (sweep_of kinds.now stage)) }
+    ensures { slice_get (steps_of (sweep_of kinds.now stage)) step ≡ Some (step_of result) }
 {
     match stage {
         Stage::Start | Stage::First => first_task(kinds, step),
@@ -197,8 +197,8 @@ fn drop_valid(owners: &mut Vec<Att>, valid: &[ValidAtt])
 }
 
 fn is_last(kinds: &[Kind], stage: Stage, step: usize) -> bool
-    requires { step < length (whole (sweep_of kinds.now stage)) }
-    ensures { result ≡ nat_le (length (whole (sweep_of kinds.now stage))) (step + 1) }
+    requires { step < length (steps_of (sweep_of kinds.now stage)) }
+    ensures { result ≡ nat_le (length (steps_of (sweep_of kinds.now stage))) (step + 1) }
 {
     match stage {
         Stage::Start | Stage::First => step >= kinds.len(),

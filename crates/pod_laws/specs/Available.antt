@@ -3,7 +3,7 @@ use Rattle.std.specs.Prelude.{◌≡◌, ℕ, ◌&&◌, Bool, true, false, List,
 use Rattle.std.specs.List.{list_any, list_all}
 use Rattle.cni_result.specs.declared.version.Version.{Version}
 use Rattle.cni_result.specs.declared.version.Version.TheVariants.{V1_0, V1_1}
-use Rattle.cni_verbs.specs.Answers.{answer_by, code_of}
+use Rattle.cni_verbs.specs.Answers.{answer_of_ending, code_of}
 use Rattle.cni_verbs.specs.Questions.{status_questions}
 use Rattle.cni_verbs.specs.Wanted.{sets_of}
 use Rattle.cni_verbs.specs.declared.answer.Answer.{Answer}
@@ -53,4 +53,4 @@ EndsStatus list c entries host V1_1 ending = EndsByFault entries (has_fault entr
 abbrev pub WasAvailable : Type 0
 WasAvailable = (w : World) → Legal w → (n : ℕ) (c : Placed) (list : NetList) (a : Answer)
     → slice_get (commands_of w.plan) n ≡ Some c → list_for w.plan c.command ≡ Some list → c.command.verb ≡ verbs.Status → slice_get w.answers n ≡ Some (Some a) → is_cut_off a ≡ false
-    → (ending : Ending) × (a ≡ answer_by list c.command ending []) × EndsStatus list c.command (own_entries n w.history) (host_at_end w n) list.version ending
+    → (ending : Ending) × (a ≡ answer_of_ending list c.command ending []) × EndsStatus list c.command (own_entries n w.history) (host_at_end w n) list.version ending

@@ -4,7 +4,7 @@ use Rattle.std.specs.List.{list_any, list_all}
 use Rattle.cni_addr.specs.declared.mac.Mac.{Mac}
 use Rattle.cni_result.specs.declared.cached.Cached.{Cached}
 use Rattle.cni_result.specs.declared.result.Interface.{Interface}
-use Rattle.cni_verbs.specs.Answers.{answer_by}
+use Rattle.cni_verbs.specs.Answers.{answer_of_ending}
 use Rattle.cni_verbs.specs.CommandWords.{att_of, del_refusal}
 use Rattle.cni_verbs.specs.Questions.{cached_share, check_questions}
 use Rattle.cni_verbs.specs.declared.answer.Answer.{Answer}
@@ -100,4 +100,4 @@ EndsCheck list c entries host None ending = EndsByList list c entries host list.
 abbrev pub WasChecked : Type 0
 WasChecked = (w : World) → Legal w → (n : ℕ) (c : Placed) (list : NetList) (a : Answer)
     → slice_get (commands_of w.plan) n ≡ Some c → list_for w.plan c.command ≡ Some list → c.command.verb ≡ verbs.Check → slice_get w.answers n ≡ Some (Some a) → is_cut_off a ≡ false
-    → (ending : Ending) × (a ≡ answer_by list c.command ending []) × EndsCheck list c.command (own_entries n w.history) (host_at_end w n) (del_refusal c.command) ending
+    → (ending : Ending) × (a ≡ answer_of_ending list c.command ending []) × EndsCheck list c.command (own_entries n w.history) (host_at_end w n) (del_refusal c.command) ending

@@ -2,7 +2,7 @@
 use Rattle.std.proofs.Common.{◌≡◌, ℕ, ◌+◌, ◌≤◌, ◌⊎◌, List, [], ◌∷◌, ◌++◌, length, Option, Some, None, slice_get, refl, sym, ◌∙◌, ap, subst, arith, inl, inr}
 use Rattle.std.proofs.lemmas.List.{append-nil, append_assoc, length_push}
 use Rattle.cni_addr.specs.declared.address.Addr.{Addr}
-use Rattle.cni_verbs.specs.Answers.{answer_by as ended_by, answer_of, answer_outside, outside_by}
+use Rattle.cni_verbs.specs.Answers.{answer_of, answer_of_ending, answer_outside, outside_by}
 use Rattle.cni_verbs.specs.Progress.{answer_by}
 use Rattle.cni_verbs.specs.Script.{Finish}
 use Rattle.cni_verbs.specs.declared.answer.Answer.TheVariants.{OutOfMemory, Stopped}
@@ -20,7 +20,7 @@ use Rattle.pod_workers.proofs.Histories.{entry_or_none, length-replies_of, repli
 
 -- ---- no script ends with a stop
 
-ending-never : (list : NetList) (c : Command) (ending : Ending) (given : List Addr) (made : ℕ) → ended_by list c ending given ≡ Stopped made → ⊥
+ending-never : (list : NetList) (c : Command) (ending : Ending) (given : List Addr) (made : ℕ) → answer_of_ending list c ending given ≡ Stopped made → ⊥
 ending-never list c Added given made is = cc
 ending-never list c Yes given made is = cc
 ending-never list c (Skipped skip) given made is = cc
