@@ -33,7 +33,7 @@ pub struct Rounded<K: Kernel> {
 /// A worker steps the commands of its containers in file order, each to its answer, and passes the gate before each
 /// step. What is left open when all workers are done is stepped here in file order. An error is want of memory alone,
 /// before any worker is started. A gate that holds a worker for ever holds this call for ever.
-pub fn round_threads<K: Kernel + Send + Drop, R: Threads + Wait + Sync, G: Gate>(
+pub fn round_threads<R: Threads + Wait + Sync, K: Kernel + Send + Drop, G: Gate>(
     rt: &R,
     alloc: Global,
     book: Book<K>,
@@ -48,15 +48,15 @@ pub fn round_threads<K: Kernel + Send + Drop, R: Threads + Wait + Sync, G: Gate>
     ensures counts { IfOk result (λ r. sum r.counts ≡ entries_of_round book.plan book.round r.book.history) }
     ensures err { IfErr result (λ b. b ≡ book) }
 {
-    round_as::<Brand, Brand, K, R, G>(rt, alloc, book, n, gate, Blank::new(n as u64))
+    round_as::<Brand, Brand, R, K, G>(rt, alloc, book, n, gate, Blank::new(n as u64))
 }
 
 /// The same, with the world of the book that went in and the ledger named.
 fn round_as<
     J: Origin + Send + Sync,
     L: Ledger + Send + Sync,
-    K: Kernel + Send + Drop,
     R: Threads + Wait + Sync,
+    K: Kernel + Send + Drop,
     G: Gate,
 >(
     rt: &R,

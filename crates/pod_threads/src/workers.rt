@@ -21,7 +21,7 @@ pub(crate) struct Worker<L: Ledger> {
 }
 
 /// Steps the commands that are this worker's, each to its answer.
-pub(crate) fn work<J: Origin, L: Ledger, K: Kernel + Drop, R: Wait, G: Gate>(
+pub(crate) fn work<J: Origin, L: Ledger, R: Wait, K: Kernel + Drop, G: Gate>(
     rt: &R,
     shared: &Mutex<Shared<J, L, K>>,
     worker: &mut Worker<L>,
@@ -37,7 +37,7 @@ pub(crate) fn work<J: Origin, L: Ledger, K: Kernel + Drop, R: Wait, G: Gate>(
 }
 
 /// Steps a command until it is answered. The gate is passed before each step, and not after the last.
-fn run_command<J: Origin, L: Ledger, K: Kernel + Drop, R: Wait, G: Gate>(
+fn run_command<J: Origin, L: Ledger, R: Wait, K: Kernel + Drop, G: Gate>(
     rt: &R,
     shared: &Mutex<Shared<J, L, K>>,
     worker: &mut Worker<L>,
@@ -56,7 +56,7 @@ fn run_command<J: Origin, L: Ledger, K: Kernel + Drop, R: Wait, G: Gate>(
 }
 
 /// One step, under the lock. The lock is left at the end.
-fn step<J: Origin, L: Ledger, K: Kernel + Drop, R: Wait>(
+fn step<J: Origin, L: Ledger, R: Wait, K: Kernel + Drop>(
     rt: &R,
     shared: &Mutex<Shared<J, L, K>>,
     worker: &mut Worker<L>,
