@@ -6,9 +6,8 @@ use Rattle.std.specs.List.{list_any, list_all, filter_map, cons_option}
 use Rattle.std.specs.Str.{bytes_eq}
 use Rattle.std.proofs.lemmas.Option.{same_Some, none-some}
 use Rattle.std.proofs.lemmas.List.Folds.{list_all-append}
-use Rattle.cni_addr.specs.Lists.{distinct}
+use Rattle.cni_addr.specs.Lists.{distinct, firsts, without_first}
 use Rattle.kernel_types.specs.Equal.{att_eq}
-use Rattle.kernel_types.specs.Lists.{firsts, without_first}
 use Rattle.kernel_types.specs.Words.{is_own}
 use Rattle.kernel_types.specs.Apply.Calls.{tags_of, owner_in}
 use Rattle.kernel_types.specs.Sound.{IsSound}

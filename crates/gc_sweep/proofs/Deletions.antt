@@ -2,7 +2,7 @@
 use Rattle.std.proofs.Common.{◌≡◌, ◌<◌, Bool, true, false, not, ap, List, [], ◌∷◌, Option, Some, None, length, map, refl, sym, ◌∙◌, arith}
 use Rattle.std.specs.Prelude.{filter, find, ◌&&◌}
 use Rattle.std.specs.List.{list_any}
-use Rattle.kernel_types.specs.Lists.{without_first}
+use Rattle.cni_addr.specs.Lists.{without_first}
 use Rattle.kernel_types.specs.Words.{is_own, is_at}
 use Rattle.kernel_types.specs.Apply.{apply}
 use Rattle.kernel_types.specs.Apply.Calls.{tags_of, without_link, goes_with, without_links}

@@ -2,7 +2,7 @@
 use Rattle.std.proofs.Common.{◌≡◌, ◌<◌, ◌≤◌, Bool, true, false, not, cond, ap, List, [], ◌∷◌, ◌++◌, length, refl, ◌∙◌, inl, inr, arith}
 use Rattle.std.specs.Prelude.{filter, map, ◌||◌, if◌then◌else◌}
 use Rattle.std.specs.List.{list_any, list_all}
-use Rattle.kernel_types.specs.Lists.{without_first}
+use Rattle.cni_addr.specs.Lists.{without_first}
 use Rattle.gc_sweep.specs.Keep.{IsSublist}
 
 -- ---- sublists

@@ -4,7 +4,7 @@ use Rattle.std.specs.Prelude.{filter, map, ◌&&◌, ◌||◌}
 use Rattle.std.specs.List.{list_any, list_all, filter_map, cons_option}
 use Rattle.std.specs.Str.{bytes_eq}
 use Rattle.kernel_types.specs.Equal.{att_eq}
-use Rattle.kernel_types.specs.Lists.{firsts}
+use Rattle.cni_addr.specs.Lists.{firsts}
 use Rattle.kernel_types.specs.Words.{is_own}
 use Rattle.kernel_types.specs.Apply.Calls.{owner_in}
 use Rattle.kernel_types.specs.Sound.{is_of_network}

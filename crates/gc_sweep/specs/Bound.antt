@@ -1,7 +1,7 @@
 -- How many calls a garbage collection can make.
 use Rattle.std.specs.Prelude.{◌≡◌, ℕ, ◌+◌, ◌*◌, ◌≤◌, Bool, true, not, List, ◌++◌, map, filter, filter_map, length}
 use Rattle.kernel_types.specs.Equal.{att_eq}
-use Rattle.kernel_types.specs.Lists.{firsts}
+use Rattle.cni_addr.specs.Lists.{firsts}
 use Rattle.kernel_types.specs.Apply.Calls.{owner_in}
 use Rattle.kernel_types.specs.Sound.{IsSound}
 use Rattle.kernel_types.specs.declared.object.Att.{Att}

@@ -6,7 +6,7 @@ use Rattle.std.specs.List.{list_any, filter_map}
 use Rattle.std.proofs.lemmas.Slice.Eq.{bytes_eq-Decides}
 use Rattle.std.proofs.lemmas.List.Elements.{filter-append, filter_map-append}
 use Rattle.kernel_types.specs.Equal.{att_eq}
-use Rattle.kernel_types.specs.Lists.{firsts}
+use Rattle.cni_addr.specs.Lists.{firsts}
 use Rattle.kernel_types.specs.Apply.Calls.{owner_in}
 use Rattle.kernel_types.specs.declared.object.Att.{Att}
 use Rattle.kernel_types.specs.declared.object.Tag.{Tag}

@@ -4,7 +4,7 @@ ghost use Rattle.std.specs.Prelude.{◌≡◌, List, [], ◌∷◌, ◌++◌, ma
 ghost use Rattle.std.specs.List.{list_any, filter_map};
 ghost use Rattle.std.specs.Option.{option_copied};
 ghost use Rattle.kernel_types.specs.Equal.{att_eq};
-ghost use Rattle.kernel_types.specs.Lists.{firsts};
+ghost use Rattle.cni_addr.specs.Lists.{firsts};
 ghost use Rattle.kernel_types.specs.Apply.Calls.{owner_in};
 ghost use Rattle.kernel_types.specs.declared.object.Tag.{Tag};
 ghost use Rattle.kernel_types.specs.declared.object.Att.{Att};

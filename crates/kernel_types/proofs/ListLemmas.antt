@@ -3,8 +3,7 @@ use Rattle.std.proofs.Common.{◌≡◌, ℕ, suc, ◌+◌, Bool, true, false, n
 use Rattle.std.specs.Prelude.{filter, find, map, remove, ◌&&◌, ◌||◌, if◌then◌else◌, nat_lt, position}
 use Rattle.std.specs.List.{list_any, list_all, position_or_len}
 use Rattle.std.proofs.lemmas.Bool.Decides.{nat_tests}
-use Rattle.cni_addr.specs.Lists.{distinct}
-use Rattle.kernel_types.specs.Lists.{without_first}
+use Rattle.cni_addr.specs.Lists.{distinct, without_first}
 
 -- ---- the first that passes
 

@@ -4,7 +4,6 @@ pub mod Codes
 pub mod Equal
 pub mod GivenAddress
 pub mod Isolation
-pub mod Lists
 pub mod Names
 pub mod Opening
 pub mod Replies

@@ -3,7 +3,7 @@ use Rattle.std.proofs.Common.{◌≡◌, ℕ, Bool, true, false, cond, List, [],
 use Rattle.std.specs.Prelude.{filter, find, ◌||◌}
 use Rattle.std.specs.List.{list_any, list_all}
 use Rattle.std.proofs.lemmas.Bool.{true≢false, both_ways}
-use Rattle.kernel_types.specs.Lists.{without_first}
+use Rattle.cni_addr.specs.Lists.{without_first}
 use Rattle.kernel_types.specs.Words.{is_own, is_link_of}
 use Rattle.kernel_types.specs.Apply.Calls.{without_link}
 use Rattle.kernel_types.specs.Sound.{IsSound, address_fits_tag}

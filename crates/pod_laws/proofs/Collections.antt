@@ -14,7 +14,7 @@ use Rattle.kernel_types.specs.Apply.{apply}
 use Rattle.kernel_types.specs.Apply.Calls.{owner_in, tags_of}
 use Rattle.kernel_types.specs.Equal.{att_eq}
 use Rattle.kernel_types.specs.Isolation.{KeepsWhere}
-use Rattle.kernel_types.specs.Lists.{firsts}
+use Rattle.cni_addr.specs.Lists.{firsts}
 use Rattle.kernel_types.specs.Sound.{IsSound}
 use Rattle.kernel_types.specs.Touch.{TouchesOwnAlone}
 use Rattle.kernel_types.specs.Words.{is_own}

@@ -10,7 +10,7 @@ use Rattle.net_conf.specs.declared.first.First.TheVariants.{Bridge, Ptp, Macvlan
 use Rattle.net_conf.specs.declared.list.NetList.{NetList}
 use Rattle.pod_file.specs.declared.command.Command.{Command}
 use Rattle.kernel_types.specs.Apply.Calls.{set_link}
-use Rattle.kernel_types.specs.Lists.{IsAmong}
+use Rattle.cni_addr.specs.Lists.{IsAmong}
 use Rattle.kernel_types.specs.Touch.{DropsOnly}
 use Rattle.kernel_types.specs.Words.{is_own}
 use Rattle.kernel_types.specs.declared.object.Att.{Att}

@@ -8,7 +8,7 @@ use Rattle.net_conf.specs.Sets.{one_if}
 use Rattle.kernel_types.specs.Apply.{apply}
 use Rattle.kernel_types.specs.Apply.Calls.{goes_with, owner_in, tags_of, without_link}
 use Rattle.kernel_types.specs.Equal.{att_eq}
-use Rattle.kernel_types.specs.Lists.{firsts, without_first}
+use Rattle.cni_addr.specs.Lists.{firsts, without_first}
 use Rattle.kernel_types.specs.Words.{is_own}
 use Rattle.kernel_types.proofs.Removal.{goes_with-itself}
 use Rattle.kernel_types.specs.declared.object.Att.{Att}

@@ -12,7 +12,7 @@ use Rattle.cni_addr.specs.declared.range.RangeSet.{RangeSet}
 use Rattle.kernel_types.specs.Allowed.{IsAllowed}
 use Rattle.kernel_types.specs.Apply.{apply}
 use Rattle.kernel_types.specs.Apply.Calls.{goes_with, is_own_at, set_link, with_values, without_link}
-use Rattle.kernel_types.specs.Lists.{without_first}
+use Rattle.cni_addr.specs.Lists.{without_first}
 use Rattle.kernel_types.specs.Sound.{IsSound, link_fits_tag, peer_fits, peers_back, is_owned_kind}
 use Rattle.kernel_types.specs.Words.{is_own, is_host_ns, is_peer_at, is_veth}
 use Rattle.kernel_types.proofs.Cases.{by_test}

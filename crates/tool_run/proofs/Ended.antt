@@ -5,7 +5,7 @@ use Rattle.std.proofs.lemmas.Option.{same_Some}
 use Rattle.cni_io.specs.Faults.{Rose}
 use Rattle.cni_io.specs.Files.{StoredFiles}
 use Rattle.cni_verbs.specs.declared.answer.Answer.{Answer}
-use Rattle.kernel_types.specs.Lists.{IsAmong}
+use Rattle.cni_addr.specs.Lists.{IsAmong}
 use Rattle.pod_text.specs.Statuses.{is_failure, is_memory, status_of}
 use Rattle.pod_workers.specs.Order.{IsInFileOrder}
 use Rattle.pod_workers.specs.World.{World}

@@ -3,7 +3,7 @@ use Rattle.std.specs.Prelude.{◌≡◌, ◌≤◌, ◌⊎◌, ℕ, List, [], �
 use Rattle.std.specs.Io.KnownBytes.{append_known}
 use Rattle.cni_io.specs.Faults.{Rose}
 use Rattle.cni_io.specs.Files.{StoredFiles}
-use Rattle.kernel_types.specs.Lists.{IsAmong}
+use Rattle.cni_addr.specs.Lists.{IsAmong}
 use Rattle.pod_text.specs.Lines.{text_of}
 use Rattle.pod_text.specs.Statuses.{status_of}
 use Rattle.pod_workers.specs.Legal.{Legal}

@@ -1,7 +1,7 @@
 use Rattle.std.proofs.Common.{◌≡◌, ◌∙◌, sym, ap, rules, Some, None}
 use Rattle.std.specs.List.{filter_map}
 use Rattle.kernel_types.specs.Equal.{att_eq}
-use Rattle.kernel_types.specs.Lists.{firsts}
+use Rattle.cni_addr.specs.Lists.{firsts}
 use Rattle.kernel_types.specs.Apply.Calls.{owner_in}
 use Rattle.kernel_model.proofs.EachOnce.{owners-more, owners-same}
 use Rattle.kernel_model.proofs.owners.add_owner_in.Goals as goal
