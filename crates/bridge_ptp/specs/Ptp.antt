@@ -12,7 +12,7 @@ use Rattle.kernel_types.specs.declared.call.Given.{Given}
 use Rattle.kernel_types.specs.declared.call.Kind.{Kind}
 use Rattle.kernel_types.specs.declared.call.Call.{Call}
 use Rattle.kernel_types.specs.declared.call.Call.TheVariants.{VethAdd, AddrAdd, RouteAdd, RuleAppend}
-use Rattle.plan_words.specs.Keys.{each_key_once}
+use Rattle.cni_addr.specs.Lists.{each_key_once}
 use Rattle.plan_words.specs.Shapes.{host_end, inner_end, address_on, route_by, route_on, masquerade_rules, forward_calls}
 use Rattle.plan_words.specs.Share.{Share, no_objects}
 use Rattle.bridge_ptp.specs.Bridge.{interface_kinds}

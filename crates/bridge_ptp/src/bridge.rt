@@ -4,7 +4,7 @@ ghost use Rattle.std.specs.Prelude.{◌≡◌, ◌++◌, ◌∷◌, [], map, Som
 ghost use Rattle.std.specs.List.{list_any};
 ghost use Rattle.cni_addr.specs.Equal.{addr_eq, cidr_eq};
 ghost use Rattle.kernel_types.specs.declared.call.Call.TheVariants.{GatewayEnsure};
-ghost use Rattle.plan_words.specs.Keys.{push_unless_there};
+ghost use Rattle.cni_addr.specs.Lists.{push_unless_there};
 ghost use Rattle.bridge_ptp.specs.Bridge as plan;
 ghost use Rattle.bridge_ptp.specs.Results as results;
 

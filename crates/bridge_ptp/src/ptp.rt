@@ -4,7 +4,7 @@ ghost use Rattle.std.specs.Prelude.{◌≡◌, [], map, flat_map, fold, None, If
 ghost use Rattle.cni_addr.specs.Network as network;
 ghost use Rattle.kernel_types.specs.Names.{host_name_of};
 ghost use Rattle.kernel_types.specs.declared.object.Tag.TheVariants as tags;
-ghost use Rattle.plan_words.specs.Keys.{each_key_once, push_unless_there};
+ghost use Rattle.cni_addr.specs.Lists.{each_key_once, push_unless_there};
 ghost use Rattle.plan_words.specs.Shapes as shapes;
 ghost use Rattle.bridge_ptp.specs.Ptp as plan;
 ghost use Rattle.bridge_ptp.specs.Results as results;

@@ -1,5 +1,5 @@
 -- Words on lists that std lacks.
-use Rattle.std.specs.Prelude.{◌≡◌, ◌⊎◌, Bool, true, not, ◌&&◌, List, [], ◌∷◌, filter, if◌then◌else◌}
+use Rattle.std.specs.Prelude.{◌≡◌, ◌⊎◌, Bool, true, not, ◌&&◌, List, [], ◌∷◌, ◌++◌, fold, if◌then◌else◌}
 use Rattle.std.specs.List.{list_any}
 
 -- the element is in the list
@@ -12,12 +12,17 @@ abbrev pub without_first : {X : Type 0} → (X → Bool) → List X → List X
 without_first p [] = []
 without_first p (x ∷ xs) = if p x then xs else x ∷ without_first p xs
 
--- each element once, at its first place
-abbrev pub firsts : {X : Type 0} → (X → X → Bool) → List X → List X
-firsts eq [] = []
-firsts eq (x ∷ xs) = x ∷ filter (λ y. not (eq x y)) (firsts eq xs)
+-- ---- elements that are the same by a test, such as those with one key
 
--- no element is the same, by the test, as a later one
+-- no element is the same as a later one
 abbrev pub distinct : {X : Type 0} → (X → X → Bool) → List X → Bool
 distinct same [] = true
 distinct same (x ∷ xs) = not (list_any (same x) xs) && distinct same xs
+
+-- x at the end, unless the same is there
+abbrev pub push_unless_there : {X : Type 0} → (X → X → Bool) → List X → X → List X
+push_unless_there same xs x = if list_any (same x) xs then xs else xs ++ x ∷ []
+
+-- each once, at its first place
+abbrev pub each_key_once : {X : Type 0} → (X → X → Bool) → List X → List X
+each_key_once same xs = fold (push_unless_there same) [] xs

@@ -16,7 +16,7 @@ use Rattle.kernel_types.proofs.Cases.{att_eq-refl}
 use Rattle.kernel_types.specs.declared.object.Att.{Att}
 use Rattle.kernel_types.specs.declared.object.Rule.{Rule}
 use Rattle.kernel_types.specs.declared.call.Given.{Given}
-use Rattle.plan_words.specs.Keys.{each_key_once}
+use Rattle.cni_addr.specs.Lists.{each_key_once}
 use Rattle.plan_words.specs.Rows.{present, spread}
 use Rattle.plan_words.proofs.CountLemmas.{whole-same}
 use Rattle.plan_words.proofs.RowLemmas.{length-spread, spread-none, spread-some, count-more, each_key_once-map}

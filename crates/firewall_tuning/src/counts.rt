@@ -6,7 +6,7 @@ ghost use Rattle.std.specs.Str.{bytes_eq};
 ghost use Rattle.cni_result.specs.declared.result.IpEntry.{IpEntry};
 ghost use Rattle.net_conf.specs.declared.chained.Sysctl.{Sysctl};
 ghost use Rattle.kernel_types.specs.declared.object.Att.{Att};
-ghost use Rattle.plan_words.specs.Keys.{each_key_once};
+ghost use Rattle.cni_addr.specs.Lists.{each_key_once};
 ghost use Rattle.plan_words.specs.Rows.{present};
 ghost use Rattle.firewall_tuning.specs.Counts as counts;
 ghost use Rattle.firewall_tuning.specs.Firewall as plan;

@@ -2,7 +2,7 @@
 
 ghost use Rattle.std.specs.Prelude.{◌≡◌, ◌++◌, map, IfOk, OnOk};
 ghost use Rattle.kernel_types.specs.Apply.Calls.{is_same_setting};
-ghost use Rattle.plan_words.specs.Keys.{each_key_once};
+ghost use Rattle.cni_addr.specs.Lists.{each_key_once};
 ghost use Rattle.firewall_tuning.specs.Tuning as plan;
 
 use cni_addr::{Duplicate, Items, NoMemory, Text};

@@ -6,7 +6,7 @@ use Rattle.std.specs.List.{list_any, list_all, filter_map, cons_option}
 use Rattle.std.specs.Str.{bytes_eq}
 use Rattle.std.proofs.lemmas.Option.{same_Some, none-some}
 use Rattle.std.proofs.lemmas.List.Folds.{list_all-append}
-use Rattle.cni_addr.specs.Lists.{distinct, firsts, without_first}
+use Rattle.cni_addr.specs.Lists.{distinct, each_key_once, without_first}
 use Rattle.kernel_types.specs.Equal.{att_eq}
 use Rattle.kernel_types.specs.Words.{is_own}
 use Rattle.kernel_types.specs.Apply.Calls.{tags_of, owner_in}
@@ -29,9 +29,10 @@ use Rattle.kernel_types.specs.declared.call.Kind.TheVariants.{Links, Rules, Sett
 use Rattle.kernel_types.specs.declared.call.Reply.{Reply}
 use Rattle.kernel_types.specs.declared.call.Reply.TheVariants.{Gone}
 use Rattle.kernel_types.proofs.Cases.{att_eq-refl}
-use Rattle.kernel_types.proofs.Isolation.{att_eq-same}
+use Rattle.kernel_types.proofs.Isolation.{att_eq-laws, att_eq-same}
 use Rattle.kernel_types.proofs.ListLemmas.{distinct-filter, list_all-filter}
 use Rattle.kernel_types.proofs.TouchRemoval.{list_all-both}
+use Rattle.plan_words.proofs.KeyLists.{distinct-each_key_once, list_all-each_key_once}
 use Rattle.net_conf.specs.declared.list.NetList.{NetList}
 use Rattle.pod_file.specs.declared.command.ValidAtt.{ValidAtt}
 use Rattle.cni_verbs.specs.Replies.{host_after, reply_to}
@@ -46,19 +47,11 @@ use Rattle.gc_sweep.proofs.Deletions.{deletes}
 use Rattle.gc_sweep.proofs.Kept.{tags_within}
 use Rattle.gc_sweep.proofs.Lists.{list_all-none, list_all-sublist}
 use Rattle.gc_sweep.proofs.Machine.{Point, start_point, point_after, IsTrail}
-use Rattle.gc_sweep.proofs.Owners.{is_stale, goes_own, own_goes, owners_cover, owners_stale, has_att, list_all-firsts, by_bool}
+use Rattle.gc_sweep.proofs.Owners.{is_stale, goes_own, own_goes, owners_cover, owners_stale, has_att, by_bool}
 use Rattle.gc_sweep.proofs.Runs.{trail, early_or, early_makes_none}
 use Rattle.gc_sweep.proofs.Weights.{jobs_weight, total, weight}
 
 -- ---- no more distinct owners than there are
-
-none_filtered : (x : Att) (xs : List Att) → list_any (att_eq x) (filter (λ y. not (att_eq x y)) xs) ≡ false
-none_filtered x [] = refl
-none_filtered x (y ∷ ys) = grind (arith, none_filtered x ys)
-
-distinct-firsts : (xs : List Att) → distinct att_eq (firsts att_eq xs) ≡ true
-distinct-firsts [] = refl
-distinct-firsts (x ∷ xs) = let rest = distinct-filter att_eq (λ y. not (att_eq x y)) (firsts att_eq xs) (distinct-firsts xs) in grind (arith, rest, none_filtered x (firsts att_eq xs))
 
 list_any-without_other : {X : Type 0} (p q : X → Bool) → ((y : X) → q y ≡ true → p y ≡ false) → (ys : List X) → list_any p ys ≡ true → list_any p (without_first q ys) ≡ true
 list_any-without_other p q w [] h = h
@@ -105,9 +98,9 @@ fewer_owners : (network : List ℕ) (valid : List ValidAtt) (few many : List Tag
 fewer_owners network valid few many sub =
     let ys = stale_owners network valid many in
     let named : list_all (λ x. is_in network valid ys (Own x)) (filter_map (owner_in network) few) ≡ true = tags_owners network (is_in network valid ys) few (sub (is_in network valid ys) (owners_cover network valid many)) in
-    let first = list_all-firsts (λ x. is_in network valid ys (Own x)) (filter_map (owner_in network) few) named in
-    let kept = list_all-filter (λ x. is_in network valid ys (Own x)) (λ a. not (is_valid valid a)) (firsts att_eq (filter_map (owner_in network) few)) first in
-    pigeon (stale_owners network valid few) ys (distinct-filter att_eq (λ a. not (is_valid valid a)) _ (distinct-firsts (filter_map (owner_in network) few)))
+    let first = list_all-each_key_once (λ x. is_in network valid ys (Own x)) att_eq (filter_map (owner_in network) few) named in
+    let kept = list_all-filter (λ x. is_in network valid ys (Own x)) (λ a. not (is_valid valid a)) (each_key_once att_eq (filter_map (owner_in network) few)) first in
+    pigeon (stale_owners network valid few) ys (distinct-filter att_eq (λ a. not (is_valid valid a)) _ (distinct-each_key_once att_eq att_eq-laws.symm (filter_map (owner_in network) few)))
     (list_all-both (is_stale network valid) (λ x. is_in network valid ys (Own x)) (λ a. list_any (att_eq a) ys) (λ a s i. grind (arith, s, i, goes_own network valid a)) (stale_owners network valid few) (owners_stale network valid few) kept)
 
 all_of_kind : (p : Tag → Bool) (h : Host) (kind : Kind) → list_all p (all_tags h) ≡ true → list_all p (tags_of h kind) ≡ true

@@ -4,7 +4,7 @@ use Rattle.std.specs.Prelude.{filter, map, ◌&&◌, ◌||◌}
 use Rattle.std.specs.List.{list_any, list_all, filter_map, cons_option}
 use Rattle.std.specs.Str.{bytes_eq}
 use Rattle.kernel_types.specs.Equal.{att_eq}
-use Rattle.cni_addr.specs.Lists.{firsts}
+use Rattle.cni_addr.specs.Lists.{each_key_once}
 use Rattle.kernel_types.specs.Words.{is_own}
 use Rattle.kernel_types.specs.Apply.Calls.{owner_in}
 use Rattle.kernel_types.specs.Sound.{is_of_network}
@@ -12,12 +12,14 @@ use Rattle.kernel_types.specs.declared.object.Att.{Att}
 use Rattle.kernel_types.specs.declared.object.Tag.{Tag}
 use Rattle.kernel_types.specs.declared.object.Tag.TheVariants.{Outside, Base, Own}
 use Rattle.kernel_types.proofs.Cases.{att_eq-refl}
-use Rattle.kernel_types.proofs.Isolation.{att_eq-same, is_own-one}
+use Rattle.kernel_types.proofs.Isolation.{att_eq-laws, is_own-one}
 use Rattle.pod_file.specs.declared.command.ValidAtt.{ValidAtt}
 use Rattle.cni_verbs.specs.Sweep.{is_valid}
 use Rattle.gc_sweep.specs.Keep.{goes}
 use Rattle.gc_sweep.specs.Bound.{stale_owners}
-use Rattle.kernel_types.proofs.ListLemmas.{list_all-weaker, list_all-filter}
+use Rattle.kernel_types.proofs.ListLemmas.{list_all-weaker}
+use Rattle.plan_words.proofs.KeyLists.{list_all-each_key_once}
+use Rattle.plan_words.proofs.RowLemmas.{list_any-each_key_once}
 use Rattle.gc_sweep.proofs.Lists.{list_any-kept_all}
 
 -- the attachment is of the network and outside the valid list
@@ -55,18 +57,14 @@ pub by_bool : {C : Type 0} (b : Bool) → (b ≡ true → C) → (b ≡ false �
 by_bool true h g = h refl
 by_bool false h g = g refl
 
-is_other : (x y : Att) (t : Tag) → is_own x t ≡ false → is_own y t ≡ true → not (att_eq x y) ≡ true
-is_other x y t fails passes =
-    by_bool (att_eq x y)
-    (λ e. let same : is_own x t ≡ true = rw (att_eq-same x y e) passes in grind (arith, fails, same))
-    (λ e. rw e refl)
+unowned : (xs : List Att) → list_any (λ a. false) xs ≡ true → ⊥
+unowned [] h = cc
+unowned (x ∷ xs) h = unowned xs h
 
-firsts_has : (xs : List Att) (t : Tag) → has_att xs t ≡ true → has_att (firsts att_eq xs) t ≡ true
-firsts_has [] t h = h
-firsts_has (x ∷ xs) t h =
-    by_bool (is_own x t)
-    (λ yes. grind (arith, yes))
-    (λ no. let later = list_any-kept_all (λ a. is_own a t) (λ y. not (att_eq x y)) (λ y. is_other x y t no) (firsts att_eq xs) (firsts_has xs t (grind (arith, h, no))) in grind (arith, later))
+once_has : (xs : List Att) (t : Tag) → has_att xs t ≡ true → has_att (each_key_once att_eq xs) t ≡ true
+once_has xs Outside h = absurd (unowned xs h)
+once_has xs Base h = absurd (unowned xs h)
+once_has xs (Own a) h = list_any-each_key_once att_eq att_eq-laws a xs ∙ h
 
 stale_has : (network : List ℕ) (valid : List ValidAtt) (xs : List Att) (t : Tag) → goes network valid t ≡ true → has_att xs t ≡ true → has_att (filter (λ a. not (is_valid valid a)) xs) t ≡ true
 stale_has network valid xs t stale h =
@@ -77,10 +75,10 @@ goes_of network valid Outside h = cc
 goes_of network valid Base h = cc
 goes_of network valid (Own a) h = grind (arith, h, goes_own network valid a)
 
-owned_or_stays : (network : List ℕ) (valid : List ValidAtt) (xs : List Att) (t : Tag) → owned_by xs network t ≡ true → (not (goes network valid t) || has_att (filter (λ a. not (is_valid valid a)) (firsts att_eq xs)) t) ≡ true
+owned_or_stays : (network : List ℕ) (valid : List ValidAtt) (xs : List Att) (t : Tag) → owned_by xs network t ≡ true → (not (goes network valid t) || has_att (filter (λ a. not (is_valid valid a)) (each_key_once att_eq xs)) t) ≡ true
 owned_or_stays network valid xs t h =
     by_bool (goes network valid t)
-    (λ yes. let there : has_att xs t ≡ true = grind (arith, h, goes_of network valid t yes) in grind (arith, stale_has network valid (firsts att_eq xs) t yes (firsts_has xs t there)))
+    (λ yes. let there : has_att xs t ≡ true = grind (arith, h, goes_of network valid t yes) in grind (arith, stale_has network valid (each_key_once att_eq xs) t yes (once_has xs t there)))
     (λ no. grind (arith, no))
 
 pub owners_cover : (network : List ℕ) (valid : List ValidAtt) (ts : List Tag) → list_all (λ t. not (goes network valid t) || has_att (stale_owners network valid ts) t) ts ≡ true
@@ -104,11 +102,7 @@ owners_named network (Outside ∷ ts) = owners_named network ts
 owners_named network (Base ∷ ts) = owners_named network ts
 owners_named network (Own a ∷ ts) = named_case (bytes_eq a.network network) a network (filter_map (owner_in network) ts) refl (owners_named network ts)
 
-pub list_all-firsts : (p : Att → Bool) (xs : List Att) → list_all p xs ≡ true → list_all p (firsts att_eq xs) ≡ true
-list_all-firsts p [] h = refl
-list_all-firsts p (x ∷ xs) h = let rest = list_all-filter p (λ y. not (att_eq x y)) (firsts att_eq xs) (list_all-firsts p xs (grind (arith, h))) in grind (arith, h, rest)
-
 pub owners_stale : (network : List ℕ) (valid : List ValidAtt) (ts : List Tag) → list_all (is_stale network valid) (stale_owners network valid ts) ≡ true
 owners_stale network valid ts =
-    list_all-filter_both (λ x. bytes_eq x.network network) (λ a. not (is_valid valid a)) (firsts att_eq (filter_map (owner_in network) ts))
-    (list_all-firsts (λ x. bytes_eq x.network network) (filter_map (owner_in network) ts) (owners_named network ts))
+    list_all-filter_both (λ x. bytes_eq x.network network) (λ a. not (is_valid valid a)) (each_key_once att_eq (filter_map (owner_in network) ts))
+    (list_all-each_key_once (λ x. bytes_eq x.network network) att_eq (filter_map (owner_in network) ts) (owners_named network ts))

@@ -1,7 +1,7 @@
 -- How many calls a garbage collection can make.
 use Rattle.std.specs.Prelude.{◌≡◌, ℕ, ◌+◌, ◌*◌, ◌≤◌, Bool, true, not, List, ◌++◌, map, filter, filter_map, length}
 use Rattle.kernel_types.specs.Equal.{att_eq}
-use Rattle.cni_addr.specs.Lists.{firsts}
+use Rattle.cni_addr.specs.Lists.{each_key_once}
 use Rattle.kernel_types.specs.Apply.Calls.{owner_in}
 use Rattle.kernel_types.specs.Sound.{IsSound}
 use Rattle.kernel_types.specs.declared.object.Att.{Att}
@@ -18,7 +18,7 @@ use Rattle.cni_verbs.specs.Progress.{is_gc}
 
 -- the attachments of the network outside the valid list that these tags name, each once
 abbrev pub stale_owners : List ℕ → List ValidAtt → List Tag → List Att
-stale_owners network valid tags = filter (λ a. not (is_valid valid a)) (firsts att_eq (filter_map (owner_in network) tags))
+stale_owners network valid tags = filter (λ a. not (is_valid valid a)) (each_key_once att_eq (filter_map (owner_in network) tags))
 
 abbrev pub all_tags : Host → List Tag
 all_tags host =

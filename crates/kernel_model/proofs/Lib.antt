@@ -1,4 +1,4 @@
 pub mod ListTests
 pub mod LeavingLinks
-pub mod EachOnce
+pub mod Owners
 pub mod NeverFault

@@ -4,7 +4,7 @@ ghost use Rattle.std.specs.Prelude.{◌≡◌, List, [], ◌∷◌, ◌++◌, ma
 ghost use Rattle.std.specs.List.{list_any, filter_map};
 ghost use Rattle.std.specs.Option.{option_copied};
 ghost use Rattle.kernel_types.specs.Equal.{att_eq};
-ghost use Rattle.cni_addr.specs.Lists.{firsts};
+ghost use Rattle.cni_addr.specs.Lists.{each_key_once, push_unless_there};
 ghost use Rattle.kernel_types.specs.Apply.Calls.{owner_in};
 ghost use Rattle.kernel_types.specs.declared.object.Tag.{Tag};
 ghost use Rattle.kernel_types.specs.declared.object.Att.{Att};
@@ -21,14 +21,14 @@ fn is_same_att(a: &Att, b: &Att) -> bool
 }
 
 fn has_att(atts: &[Att], att: &Att) -> bool
-    ensures { result ≡ list_any (λ a. att_eq a att.now) atts.now }
+    ensures { result ≡ list_any (att_eq att.now) atts.now }
 {
-    atts.iter().any(|a| is_same_att(a, att))
+    atts.iter().any(|a| is_same_att(att, a))
 }
 
 /// Adds an attachment, unless it is there.
 fn add_owner(owners: &mut Vec<Att>, att: &Att) -> Result<(), NoMemory>
-    ensures { OnOk result ((atts : List Att) → owners.old.items ≡ firsts att_eq atts → owners.new.items ≡ firsts att_eq (atts ++ att.now ∷ [])) }
+    ensures { OnOk result (owners.new.items ≡ push_unless_there att_eq owners.old.items att.now) }
 {
     if !has_att(owners, att) {
         owners.push(att.copy()?)?;
@@ -48,8 +48,8 @@ fn owner_in<'a>(network: &Text, tag: &'a Tag) -> Option<&'a Att>
 
 /// Adds the attachment that the tag names, if it is of the network.
 fn add_owner_in(owners: &mut Vec<Att>, network: &Text, tag: &Tag) -> Result<(), NoMemory>
-    ensures { OnOk result ((tags : List Tag) → owners.old.items ≡ firsts att_eq (filter_map (owner_in network.now) tags)
-        → owners.new.items ≡ firsts att_eq (filter_map (owner_in network.now) (tags ++ tag.now ∷ []))) }
+    ensures { OnOk result ((tags : List Tag) → owners.old.items ≡ each_key_once att_eq (filter_map (owner_in network.now) tags)
+        → owners.new.items ≡ each_key_once att_eq (filter_map (owner_in network.now) (tags ++ tag.now ∷ []))) }
 {
     if let Some(att) = owner_in(network, tag) {
         add_owner(owners, att)?;
@@ -63,7 +63,7 @@ pub(crate) fn owners_among<T: Tagged>(
     objects: &[T],
     network: &Text,
 ) -> Result<Items<Att>, NoMemory>
-    ensures { IfOk result (λ owners. owners ≡ firsts att_eq (filter_map (owner_in network.now) (map (λ x. T.tag_of x) objects.now))) }
+    ensures { IfOk result (λ owners. owners ≡ each_key_once att_eq (filter_map (owner_in network.now) (map (λ x. T.tag_of x) objects.now))) }
 {
     let mut owners = Vec::new(alloc);
     for object in objects {

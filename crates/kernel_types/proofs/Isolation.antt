@@ -1,6 +1,8 @@
 -- A call leaves the objects that are not its attachment's, list by list and in order.
 use Rattle.std.proofs.Common.{◌≡◌, ℕ, Bool, true, false, not, List, [], ◌∷◌, ◌++◌, inl, inr, refl, sym, ◌∙◌, ap, subst, arith}
 use Rattle.std.specs.Prelude.{filter}
+use Rattle.std.specs.Cmp.{IsPartialEquivalence}
+use Rattle.std.specs.Cmp.Lexicographic.{nat_list_eq_equiv}
 use Rattle.std.proofs.lemmas.Slice.Eq.{bytes_eq-Decides}
 use Rattle.kernel_types.specs.Equal.{att_eq}
 use Rattle.kernel_types.specs.Isolation.{KeepsWhere, KeepsPart, KeepsUnowned, names_att, is_from_outside, ensures_shared}
@@ -83,6 +85,12 @@ att_eq-same a b h =
     let c : a.container ≡ b.container = (bytes_eq-Decides a.container b.container).0 (grind (arith, h)) in
     let i : a.ifname ≡ b.ifname = (bytes_eq-Decides a.ifname b.ifname).0 (grind (arith, h)) in
     same_fields a.network b.network a.container b.container a.ifname b.ifname n c i
+
+pub att_eq-laws : IsPartialEquivalence att_eq
+att_eq-laws = record {
+  symm = λ a b. grind (arith, nat_list_eq_equiv.symm a.network b.network, nat_list_eq_equiv.symm a.container b.container, nat_list_eq_equiv.symm a.ifname b.ifname);
+  trans = λ a b c h k. ap (λ x. att_eq x c) (att_eq-same a b h) ∙ k;
+}
 
 pub is_own-one : (att : Att) (t : Tag) → is_own att t ≡ true → t ≡ tags.Own att
 is_own-one att tags.Outside h = cc

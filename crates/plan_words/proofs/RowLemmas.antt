@@ -5,10 +5,10 @@ use Rattle.std.specs.List.{list_any}
 use Rattle.std.proofs.lemmas.List.{length_push, map_push, map-append, length-append, length-map, length-replicate}
 use Rattle.std.proofs.lemmas.Option.{slice_get-map}
 use Rattle.std.proofs.lemmas.List.Folds.{list_any-append}
+use Rattle.std.proofs.lemmas.List.Sums.{fold_push}
 use Rattle.std.specs.Cmp.{IsPartialEquivalence}
-use Rattle.plan_words.specs.Keys.{push_unless_there, each_key_once}
+use Rattle.cni_addr.specs.Lists.{push_unless_there, each_key_once}
 use Rattle.plan_words.specs.Rows.{present, laid, spread}
-use Rattle.plan_words.proofs.KeyLists.{each_key_once-push}
 
 -- ---- what is present
 
@@ -174,7 +174,7 @@ pub count-more : {X : Type 0} (same : X → X → Bool) → IsPartialEquivalence
 count-more same e row i x at =
     let past = present (take i row) in
     ap (λ l. length (each_key_once same l)) (present-take_some row i x at)
-    ∙ ap length (each_key_once-push same past x)
+    ∙ ap length (fold_push (push_unless_there same) [] past x)
     ∙ length-unless (list_any (same x) (each_key_once same past)) (each_key_once same past) x
     ∙ ap (λ b. if b then length (each_key_once same past) else length (each_key_once same past) + 1) (list_any-each_key_once same e x past)
 

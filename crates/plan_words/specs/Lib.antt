@@ -1,4 +1,3 @@
-pub mod Keys
 pub mod PlanCalls
 pub mod Rows
 pub mod RuleKeys

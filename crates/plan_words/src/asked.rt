@@ -2,7 +2,7 @@
 
 ghost use Rattle.std.specs.Prelude.{◌≡◌, ◌++◌, map, OnOk};
 ghost use Rattle.std.specs.List.{list_any};
-ghost use Rattle.plan_words.specs.Keys.{push_unless_there};
+ghost use Rattle.cni_addr.specs.Lists.{push_unless_there};
 
 use cni_addr::{Duplicate, NoMemory};
 use kernel_types::{AddrObj, Call, RouteObj, Rule, Setting};

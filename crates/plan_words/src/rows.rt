@@ -3,7 +3,7 @@
 ghost use Rattle.std.specs.Prelude.{◌≡◌, ◌≤◌, find, length, take};
 ghost use Rattle.std.specs.List.{list_any};
 ghost use Rattle.cni_addr.specs.Codes.{family_eq};
-ghost use Rattle.plan_words.specs.Keys.{each_key_once};
+ghost use Rattle.cni_addr.specs.Lists.{each_key_once};
 ghost use Rattle.plan_words.specs.Rows.{present};
 
 use cni_addr::Family;

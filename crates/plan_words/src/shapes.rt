@@ -5,7 +5,7 @@ ghost use Rattle.std.specs.List.{list_any};
 ghost use Rattle.cni_addr.specs.Codes.{family_eq};
 ghost use Rattle.cni_addr.specs.declared.address.Family.TheVariants.{V4};
 ghost use Rattle.kernel_types.specs.Equal.{rule_eq};
-ghost use Rattle.plan_words.specs.Keys.{each_key_once};
+ghost use Rattle.cni_addr.specs.Lists.{each_key_once};
 ghost use Rattle.plan_words.specs.Shapes as shapes;
 
 use crate::asked::push_unless_there;

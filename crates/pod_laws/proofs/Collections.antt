@@ -14,7 +14,7 @@ use Rattle.kernel_types.specs.Apply.{apply}
 use Rattle.kernel_types.specs.Apply.Calls.{owner_in, tags_of}
 use Rattle.kernel_types.specs.Equal.{att_eq}
 use Rattle.kernel_types.specs.Isolation.{KeepsWhere}
-use Rattle.cni_addr.specs.Lists.{firsts}
+use Rattle.cni_addr.specs.Lists.{each_key_once}
 use Rattle.kernel_types.specs.Sound.{IsSound}
 use Rattle.kernel_types.specs.Touch.{TouchesOwnAlone}
 use Rattle.kernel_types.specs.Words.{is_own}
@@ -39,7 +39,8 @@ use Rattle.cni_verbs.specs.declared.answer.Ending.TheVariants.{Skipped}
 use Rattle.cni_verbs.specs.declared.answer.Skip.TheVariants as skips
 use Rattle.pod_file.specs.Commands.{is_of_network}
 use Rattle.gc_sweep.specs.Keep.{stays}
-use Rattle.gc_sweep.proofs.Owners.{is_stale, own_goes, list_all-firsts}
+use Rattle.gc_sweep.proofs.Owners.{is_stale, own_goes}
+use Rattle.plan_words.proofs.KeyLists.{list_all-each_key_once}
 use Rattle.pod_workers.specs.Plans.{Placed, commands_of}
 use Rattle.pod_workers.specs.World.{World, after, entry_of, host_of, host_on, reply_to}
 use Rattle.pod_workers.specs.declared.plan.Entry.{Entry}
@@ -86,8 +87,8 @@ jobs-stale list c s owners h =
 swept-stale : (list : NetList) (c : Command) (s : Sweep) (sweeps : List Sweep) (k : Host) (faulty : Bool) → AllStale c (work_after (gc_of list c) [] (s ∷ sweeps) (reply_to k (OwnersOf c.network s.kind) faulty)).jobs
 swept-stale list c s sweeps k true = refl
 swept-stale list c s sweeps k false =
-    jobs-stale list c s (firsts att_eq (filter_map (owner_in c.network) (tags_of k s.kind)))
-    (list_all-firsts (is_in c.network) (filter_map (owner_in c.network) (tags_of k s.kind)) (owners-in c.network (tags_of k s.kind)))
+    jobs-stale list c s (each_key_once att_eq (filter_map (owner_in c.network) (tags_of k s.kind)))
+    (list_all-each_key_once (is_in c.network) att_eq (filter_map (owner_in c.network) (tags_of k s.kind)) (owners-in c.network (tags_of k s.kind)))
 
 stale-step : (c : Command) (att : Att) (more : List Step) (jobs : List Job) → is_stale c.network c.valid att ≡ true → AllStale c jobs → AllStale c (after_step att more jobs)
 stale-step c att [] jobs stale h = h

@@ -8,7 +8,7 @@ use Rattle.net_conf.specs.Sets.{one_if}
 use Rattle.kernel_types.specs.Apply.{apply}
 use Rattle.kernel_types.specs.Apply.Calls.{goes_with, owner_in, tags_of, without_link}
 use Rattle.kernel_types.specs.Equal.{att_eq}
-use Rattle.cni_addr.specs.Lists.{firsts, without_first}
+use Rattle.cni_addr.specs.Lists.{each_key_once, without_first}
 use Rattle.kernel_types.specs.Words.{is_own}
 use Rattle.kernel_types.proofs.Removal.{goes_with-itself}
 use Rattle.kernel_types.specs.declared.object.Att.{Att}
@@ -25,6 +25,7 @@ use Rattle.kernel_types.specs.declared.call.Kind.{Kind}
 use Rattle.kernel_types.specs.declared.call.Kind.TheVariants as kinds
 use Rattle.kernel_types.specs.declared.call.Reply.{Reply}
 use Rattle.kernel_types.specs.declared.call.Reply.TheVariants.{Fault, Gone}
+use Rattle.plan_words.proofs.KeyLists.{length-each_key_once}
 use Rattle.cni_verbs.specs.Script.{call_of_work}
 use Rattle.cni_verbs.specs.Sweep.{Gc, Job, AskCached, Delete, Step, Sweep, after_step, is_valid, job_of, step_call, work_after}
 use Rattle.cni_verbs.specs.Wanted.{deletion}
@@ -35,13 +36,6 @@ use Rattle.pod_workers.specs.CallsLeft.{collection_left, jobs_left, objects_in, 
 fewer-filter : {X : Type 0} (p : X → Bool) (xs : List X) → length (filter p xs) ≤ length xs
 fewer-filter p [] = omega arith
 fewer-filter p (x ∷ xs) = grind (arith, fewer-filter p xs)
-
-fewer-firsts : (xs : List Att) → length (firsts att_eq xs) ≤ length xs
-fewer-firsts [] = omega arith
-fewer-firsts (x ∷ xs) =
-    let rest = fewer-firsts xs in
-    let some = fewer-filter (λ y. not (att_eq x y)) (firsts att_eq xs) in
-    omega arith
 
 fewer-cons : (o : Option Att) (xs : List Att) → length (cons_option o xs) ≤ 1 + length xs
 fewer-cons None xs = omega arith
@@ -117,10 +111,10 @@ FallsBy gc js ss host r k = collection_left (work_after gc js ss r) k < collecti
 owners-fall : (gc : Gc) (s : Sweep) (ss : List Sweep) (host : Host) → FallsBy gc [] (s ∷ ss) host (apply host (OwnersOf gc.network s.kind)).1 (apply host (OwnersOf gc.network s.kind)).0
 owners-fall gc s ss host =
     let all = filter_map (owner_in gc.network) (tags_of host s.kind) in
-    let owners = firsts att_eq all in
+    let owners = each_key_once att_eq all in
     let stale = filter (λ a. not (is_valid gc.valid a)) owners in
     let a = fewer-filter (λ x. not (is_valid gc.valid x)) owners in
-    let b = fewer-firsts all in
+    let b = length-each_key_once att_eq all in
     let c = fewer-owners gc.network (tags_of host s.kind) in
     let d = tags-fit host s.kind in
     let few : length stale ≤ objects_in host = omega arith in

@@ -1,11 +1,12 @@
 -- An ADD makes no more calls than its list has room for, whatever addresses it is leased.
 use Rattle.std.proofs.Common.{◌≡◌, ℕ, suc, ◌+◌, ◌*◌, ◌≤◌, Bool, true, false, List, [], ◌∷◌, ◌++◌, map, length, Option, Some, None, refl, ◌∙◌, ap, arith}
-use Rattle.std.specs.Prelude.{find, flat_map, fold, sum_by, option_to_list, if◌then◌else◌}
+use Rattle.std.specs.Prelude.{find, flat_map, sum_by, option_to_list, if◌then◌else◌}
 use Rattle.std.specs.List.{list_any}
 use Rattle.std.specs.Option.{option_map}
-use Rattle.std.proofs.lemmas.List.{length-append, length-map, length_push}
+use Rattle.std.proofs.lemmas.List.{length-append, length-map}
 use Rattle.std.proofs.lemmas.List.Sums.{sum_by-cons}
 use Rattle.cni_addr.specs.Codes.{family_eq}
+use Rattle.cni_addr.specs.Lists.{each_key_once}
 use Rattle.cni_addr.specs.declared.address.Addr.{Addr}
 use Rattle.cni_addr.specs.declared.address.Family.{Family}
 use Rattle.cni_addr.specs.declared.address.Family.TheVariants as families
@@ -36,8 +37,8 @@ use Rattle.net_conf.specs.declared.first.First.{First}
 use Rattle.net_conf.specs.declared.first.First.TheVariants.{Bridge, Ptp, Macvlan}
 use Rattle.net_conf.specs.declared.list.NetList.{NetList}
 use Rattle.pod_file.specs.declared.command.Command.{Command}
-use Rattle.plan_words.specs.Keys.{each_key_once, push_unless_there}
 use Rattle.plan_words.specs.Shapes.{address_on, addresses_on, forward_calls, forward_for, masquerade_of, masquerade_rules, route_on, routes_on}
+use Rattle.plan_words.proofs.KeyLists.{length-each_key_once}
 use Rattle.portmap.specs.Portmap.{dnat_of, from_host, host_ip_allows, mapping_rules, masquerades_of, portmap_rules, rules_for}
 use Rattle.cni_verbs.specs.CommandWords.{att_of, mappings_of}
 use Rattle.cni_verbs.specs.Script.{back_of, before_of}
@@ -45,20 +46,6 @@ use Rattle.cni_verbs.specs.Wanted.{add_calls, all_chained_calls, back_calls, cac
 use Rattle.pod_workers.specs.CallsLeft.{AddsInAtMost, most_after, most_calls, most_of_chained, most_of_first}
 
 -- ---- lists
-
-one-more : {X : Type 0} (b : Bool) (xs : List X) (x : X) → length (if b then xs else xs ++ x ∷ []) ≤ length xs + 1
-one-more true xs x = omega arith
-one-more false xs x = let e = length_push xs x in omega arith
-
-length-kept_with : {X : Type 0} (same : X → X → Bool) (kept xs : List X) → length (fold (push_unless_there same) kept xs) ≤ length kept + length xs
-length-kept_with same kept [] = omega arith
-length-kept_with same kept (x ∷ xs) =
-    let rest = length-kept_with same (push_unless_there same kept x) xs in
-    let one = one-more (list_any (same x) kept) kept x in
-    omega arith
-
-length-once : {X : Type 0} (same : X → X → Bool) (xs : List X) → length (each_key_once same xs) ≤ length xs
-length-once same xs = let all = length-kept_with same [] xs in omega arith
 
 -- so many for each
 length-twice : {X Y : Type 0} (f : X → List Y) → ((x : X) → length (f x) ≤ 2) → (xs : List X) → length (flat_map f xs) ≤ 2 * length xs
@@ -101,21 +88,21 @@ length-leases att number (set ∷ sets) = ap suc (length-leases att (number + 1)
 length-addresses : (att : Att) (netns : List ℕ) (gs : List Given) → length (map AddrAdd (addresses_on att netns gs)) ≤ length gs
 length-addresses att netns gs =
     let a = length-map (addresses_on att netns gs) AddrAdd in
-    let b = length-once is_same_addr (map (address_on att netns) gs) in
+    let b = length-each_key_once is_same_addr (map (address_on att netns) gs) in
     let c = length-map gs (address_on att netns) in
     omega arith
 
 length-routes : (att : Att) (netns : List ℕ) (gs : List Given) (entries : List RouteEntry) → length (map RouteAdd (routes_on att netns gs entries)) ≤ length entries
 length-routes att netns gs entries =
     let a = length-map (routes_on att netns gs entries) RouteAdd in
-    let b = length-once is_same_route (map (route_on att netns gs) entries) in
+    let b = length-each_key_once is_same_route (map (route_on att netns gs) entries) in
     let c = length-map entries (route_on att netns gs) in
     omega arith
 
 length-masquerades : (ip_masq : Bool) (att : Att) (gs : List Given) → length (map RuleAppend (masquerade_rules ip_masq att gs)) ≤ 2 * length gs
 length-masquerades ip_masq att gs =
     let a = length-map (masquerade_rules ip_masq att gs) RuleAppend in
-    let b = length-once rule_eq (flat_map (masquerade_of att) gs) in
+    let b = length-each_key_once rule_eq (flat_map (masquerade_of att) gs) in
     let c = length-twice (masquerade_of att) (λ g. omega arith) gs in
     let d = length-if ip_masq (each_key_once rule_eq (flat_map (masquerade_of att) gs)) (2 * length gs) (omega arith) in
     omega arith
@@ -150,7 +137,7 @@ length-bridge_routes b routes ips =
 length-gateways : (conf : _) (gs : List Given) → length (gateway_calls conf gs) ≤ length gs + 2
 length-gateways conf gs =
     let a = length-map (gateways gs) (GatewayEnsure conf.bridge) in
-    let b = length-once (λ x y. addr_eq x.addr y.addr) (map gateway_on gs) in
+    let b = length-each_key_once (λ x y. addr_eq x.addr y.addr) (map gateway_on gs) in
     let c = length-map gs gateway_on in
     let d = length-forward gs in
     let e = length-append (map (GatewayEnsure conf.bridge) (gateways gs)) (forward_calls gs) in
@@ -178,7 +165,7 @@ length-first (Ptp conf) att netns gs =
     let routes = map (λ r. Route (route_on att netns gs r)) conf.ipam.routes in
     let rules = map RuleAppend (masquerade_rules conf.ip_masq att gs) in
     let a = length-map (ptp.ptp_objects conf att netns gs) ptp.call_for in
-    let b = length-once ptp.same_key (objects ++ routes) in
+    let b = length-each_key_once ptp.same_key (objects ++ routes) in
     let c = length-append objects routes in
     let d = length-five (ptp.ptp_objects_for att netns) (λ g. omega arith) gs in
     let e = length-map conf.ipam.routes (λ r. Route (route_on att netns gs r)) in
@@ -223,17 +210,17 @@ length-mapping snat att ips m =
 length-chained : (c : Chained) (att : Att) (netns : List ℕ) (mappings : List PortMapping) (ips : List IpEntry) → length (chained_calls c att netns mappings ips) ≤ most_of_chained mappings (length ips) c
 length-chained (Portmap conf) att netns mappings ips =
     let a = length-map (portmap_rules conf att mappings ips) RuleAppend in
-    let b = length-once rule_eq (flat_map (mapping_rules conf.snat att ips) mappings) in
+    let b = length-each_key_once rule_eq (flat_map (mapping_rules conf.snat att ips) mappings) in
     let c = length-six (mapping_rules conf.snat att ips) (length-mapping conf.snat att ips) mappings in
     omega arith
 length-chained (Firewall conf) att netns mappings ips =
     let a = length-map (each_key_once rule_eq (flat_map (forward_of att) ips)) RuleAppend in
-    let b = length-once rule_eq (flat_map (forward_of att) ips) in
+    let b = length-each_key_once rule_eq (flat_map (forward_of att) ips) in
     let c = length-twice (forward_of att) (λ ip. omega arith) ips in
     omega arith
 length-chained (Tuning conf) att netns mappings ips =
     let a = length-map (tuning_settings conf att netns) SettingSet in
-    let b = length-once is_same_setting (map (setting_of att netns) conf.sysctl) in
+    let b = length-each_key_once is_same_setting (map (setting_of att netns) conf.sysctl) in
     let c = length-map conf.sysctl (setting_of att netns) in
     let d = length-if (sets_any conf) (LinkSet att (record { ns = netns; name = att.ifname }) conf.mac conf.mtu conf.tx_qlen conf.promisc conf.allmulti ∷ []) 1 (omega arith) in
     let e = length-append (map SettingSet (tuning_settings conf att netns)) (link_set_calls conf att netns) in

@@ -16,7 +16,7 @@ ghost use Rattle.std.specs.Prelude.{◌≡◌, find, fold, option_map, IfOk, OnO
 ghost use Rattle.cni_addr.specs.Codes.{family_eq};
 ghost use Rattle.cni_addr.specs.Network as network;
 ghost use Rattle.kernel_types.specs.Equal.{rule_eq};
-ghost use Rattle.plan_words.specs.Keys.{push_unless_there};
+ghost use Rattle.cni_addr.specs.Lists.{push_unless_there};
 ghost use Rattle.portmap.specs.Portmap as plan;
 
 use cni_addr::{Addr, Cidr, Duplicate, Family, Items, NoMemory, network_of, whole};

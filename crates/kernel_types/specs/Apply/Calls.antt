@@ -11,7 +11,7 @@ use Rattle.cni_addr.specs.declared.mac.Mac.{Mac}
 use Rattle.cni_addr.specs.declared.range.RangeSet.{RangeSet}
 use Rattle.cni_result.specs.declared.cached.Cached.{Cached}
 use Rattle.kernel_types.specs.Equal.{att_eq, addr_eq, cidr_eq, mac_eq, link_eq, addr_obj_eq, route_eq, rule_eq, setting_eq, lease_eq, table_eq}
-use Rattle.cni_addr.specs.Lists.{without_first, firsts}
+use Rattle.cni_addr.specs.Lists.{each_key_once, without_first}
 use Rattle.ip_pool.specs.Pool.{pick_of, has_free_of}
 use Rattle.kernel_types.specs.Names.{link_mac_of}
 use Rattle.kernel_types.specs.Words.{is_host_ns, is_host_or_ns, is_own, is_owned, is_bridge, is_at, is_peer_at, has_named_ns, link_at, is_host_link, is_host_bridge, has_host_bridge, has_objects, is_link_of}
@@ -287,7 +287,7 @@ owner_in network Base = None
 owner_in network (Own att) = if bytes_eq att.network network then Some att else None
 
 abbrev pub owners_of : Host → List ℕ → Kind → Host × Reply
-owners_of host network kind = (host, Owners (firsts att_eq (filter_map (owner_in network) (tags_of host kind))))
+owners_of host network kind = (host, Owners (each_key_once att_eq (filter_map (owner_in network) (tags_of host kind))))
 
 -- ---- what the world outside does
 

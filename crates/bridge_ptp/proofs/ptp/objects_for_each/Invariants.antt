@@ -1,6 +1,6 @@
 use Rattle.std.proofs.Common.{◌≡◌, take}
 use Rattle.std.specs.Prelude.{flat_map}
-use Rattle.plan_words.specs.Keys.{each_key_once}
+use Rattle.cni_addr.specs.Lists.{each_key_once}
 use Rattle.bridge_ptp.specs.Ptp as plan
 use Rattle.bridge_ptp.proofs.ptp.objects_for_each.Given as goal
 

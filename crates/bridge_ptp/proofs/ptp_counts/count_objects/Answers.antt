@@ -1,6 +1,6 @@
 use Rattle.std.proofs.Common.{◌++◌, ◌∙◌, false, map, Some, sym, ap, length}
 use Rattle.cni_result.specs.declared.result.RouteEntry.{RouteEntry}
-use Rattle.plan_words.specs.Keys.{each_key_once}
+use Rattle.cni_addr.specs.Lists.{each_key_once}
 use Rattle.plan_words.specs.Rows.{present, spread}
 use Rattle.plan_words.proofs.RowLemmas.{count-keys}
 use Rattle.bridge_ptp.specs.Ptp.{same_key}

@@ -1,5 +1,5 @@
 use Rattle.std.proofs.Common.{◌≡◌, ◌≤◌, take, length}
-use Rattle.plan_words.specs.Keys.{each_key_once}
+use Rattle.cni_addr.specs.Lists.{each_key_once}
 use Rattle.firewall_tuning.specs.Counts.{is_same_key}
 use Rattle.firewall_tuning.proofs.counts.count_settings.Given as goal
 

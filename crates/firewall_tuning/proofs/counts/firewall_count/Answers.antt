@@ -2,7 +2,7 @@ use Rattle.std.proofs.Common.{◌∙◌, sym, ap, refl, length}
 use Rattle.std.proofs.lemmas.List.{length-map}
 use Rattle.kernel_types.specs.Equal.{rule_eq}
 use Rattle.kernel_types.specs.declared.call.Call.TheVariants.{RuleAppend}
-use Rattle.plan_words.specs.Keys.{each_key_once}
+use Rattle.cni_addr.specs.Lists.{each_key_once}
 use Rattle.plan_words.specs.Rows.{present}
 use Rattle.plan_words.proofs.RowLemmas.{count-spread}
 use Rattle.firewall_tuning.specs.Counts.{forward_keys}

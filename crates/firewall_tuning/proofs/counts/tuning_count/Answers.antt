@@ -1,7 +1,7 @@
 use Rattle.std.proofs.Common.{◌≡◌, length, map, ◌∙◌, arith}
 use Rattle.std.proofs.lemmas.List.{length-append, length-map}
 use Rattle.kernel_types.specs.declared.call.Call.TheVariants.{SettingSet}
-use Rattle.plan_words.specs.Keys.{each_key_once}
+use Rattle.cni_addr.specs.Lists.{each_key_once}
 use Rattle.firewall_tuning.specs.Counts.{is_same_key}
 use Rattle.firewall_tuning.specs.Tuning.{tuning_settings, link_set_calls}
 use Rattle.firewall_tuning.proofs.CountLemmas.{settings-made}

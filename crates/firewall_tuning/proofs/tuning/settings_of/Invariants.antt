@@ -1,6 +1,6 @@
 use Rattle.std.proofs.Common.{◌≡◌, map, take}
 use Rattle.kernel_types.specs.Apply.Calls.{is_same_setting}
-use Rattle.plan_words.specs.Keys.{each_key_once}
+use Rattle.cni_addr.specs.Lists.{each_key_once}
 use Rattle.firewall_tuning.specs.Tuning as plan
 use Rattle.firewall_tuning.proofs.tuning.settings_of.Given as goal
 

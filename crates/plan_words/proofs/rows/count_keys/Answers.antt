@@ -1,5 +1,5 @@
 use Rattle.std.proofs.Common.{◌∙◌, sym, ap, length, Some, arith}
-use Rattle.plan_words.specs.Keys.{each_key_once}
+use Rattle.cni_addr.specs.Lists.{each_key_once}
 use Rattle.plan_words.proofs.RowLemmas.{count-more, present-take_none}
 use Rattle.plan_words.proofs.rows.count_keys.Goals as goal
 use Rattle.plan_words.proofs.rows.count_keys.Goals.{in-Some+then-not-is_before, in-Some+else-not-is_before, in_default}

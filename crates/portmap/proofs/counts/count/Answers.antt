@@ -3,7 +3,7 @@ use Rattle.std.proofs.lemmas.List.{length-map}
 use Rattle.std.specs.Prelude.{flat_map}
 use Rattle.kernel_types.specs.Equal.{rule_eq}
 use Rattle.kernel_types.specs.declared.call.Call.TheVariants.{RuleAppend}
-use Rattle.plan_words.specs.Keys.{each_key_once}
+use Rattle.cni_addr.specs.Lists.{each_key_once}
 use Rattle.plan_words.specs.Rows.{present}
 use Rattle.plan_words.proofs.RowLemmas.{count-keys, flat_map-made}
 use Rattle.portmap.specs.Portmap.{portmap_rules, mapping_rules}
