@@ -1,6 +1,6 @@
 -- The owners that a kernel names are all that there are.
 use Rattle.std.proofs.Common.{◌≡◌, ℕ, Bool, true, false, not, cond, List, [], ◌∷◌, Some, None, refl, ◌∙◌, arith}
-use Rattle.std.specs.Prelude.{filter, map, ◌&&◌, ◌||◌}
+use Rattle.std.specs.Prelude.{filter, ◌&&◌, ◌||◌}
 use Rattle.std.specs.List.{list_any, list_all, filter_map, cons_option}
 use Rattle.std.specs.Str.{bytes_eq}
 use Rattle.kernel_types.specs.Equal.{att_eq}
