@@ -58,21 +58,11 @@ fn link(
     ensures peer { result.peer ≡ peer }
     ensures tag { result.tag ≡ tag }
 {
-    let LinkKey { ns, name } = place;
-    let mac = link_mac(name.as_str());
+    let mac = link_mac(place.name.as_str());
     Link {
-        ns,
-        name,
-        kind,
         master,
         peer,
-        mac,
-        mtu: 1500,
-        hairpin: false,
-        promisc: false,
-        allmulti: false,
-        tx_qlen: 1000,
-        tag,
+        ..Link::new(place, kind, mac, 1500, tag)
     }
 }
 

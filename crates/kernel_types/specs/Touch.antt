@@ -58,19 +58,23 @@ TouchesTag tags.Outside old new = new ≡ old
 TouchesTag tags.Base old new = new ≡ old
 TouchesTag (tags.Own att) old new = TouchesOwnAlone att old new
 
+-- nothing changes, or one object of this tag is put into its place
+abbrev pub AddsOne : {X : Type 0} → (X → Tag) → Tag → (X → Host) → Host → Host → Type 0
+AddsOne {X} tag_of tag put old new = (new ≡ old) ⊎ ((x : X) × (tag_of x ≡ tag) × (new ≡ put x))
+
 -- at most one shared object is appended
 abbrev pub AddsBridge : Host → Host → Type 0
-AddsBridge old new = (new ≡ old) ⊎ ((bridge : Link) × (bridge.tag ≡ tags.Base) × (new ≡ record old { links = old.links ++ bridge ∷ [] }))
+AddsBridge old new = AddsOne (λ (x : Link). x.tag) tags.Base (λ x. record old { links = old.links ++ x ∷ [] }) old new
 
 abbrev pub AddsAddress : Host → Host → Type 0
-AddsAddress old new = (new ≡ old) ⊎ ((addr : AddrObj) × (addr.tag ≡ tags.Base) × (new ≡ record old { addresses = old.addresses ++ addr ∷ [] }))
+AddsAddress old new = AddsOne (λ (x : AddrObj). x.tag) tags.Base (λ x. record old { addresses = old.addresses ++ x ∷ [] }) old new
 
 abbrev pub AddsSetting : Host → Host → Type 0
-AddsSetting old new = (new ≡ old) ⊎ ((setting : Setting) × (setting.tag ≡ tags.Base) × (new ≡ record old { settings = old.settings ++ setting ∷ [] }))
+AddsSetting old new = AddsOne (λ (x : Setting). x.tag) tags.Base (λ x. record old { settings = old.settings ++ x ∷ [] }) old new
 
 -- at most one namespace is appended
 abbrev pub AddsNamespace : Host → Host → Type 0
-AddsNamespace old new = (new ≡ old) ⊎ ((namespace : NsObj) × (namespace.tag ≡ tags.Outside) × (new ≡ record old { namespaces = old.namespaces ++ namespace ∷ [] }))
+AddsNamespace old new = AddsOne (λ (x : NsObj). x.tag) tags.Outside (λ x. record old { namespaces = old.namespaces ++ x ∷ [] }) old new
 
 abbrev pub is_base : Tag → Bool
 is_base tags.Outside = false

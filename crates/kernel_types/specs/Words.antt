@@ -2,6 +2,7 @@
 use Rattle.std.specs.Prelude.{ℕ, Bool, true, false, ◌&&◌, ◌||◌, ◌==◌, List, length, Option, Some, None, find}
 use Rattle.std.specs.List.{list_any}
 use Rattle.std.specs.Str.{bytes_eq}
+use Rattle.cni_addr.specs.declared.mac.Mac.{Mac}
 use Rattle.kernel_types.specs.Equal.{att_eq, tag_eq}
 use Rattle.kernel_types.specs.declared.object.Att.{Att}
 use Rattle.kernel_types.specs.declared.object.LinkKey.{LinkKey}
@@ -28,6 +29,23 @@ is_bridge kind = false
 abbrev pub is_veth : LinkKind → Bool
 is_veth Veth = true
 is_veth kind = false
+
+-- a link as Linux makes a new one: under no master, without a peer, in no mode, with a queue of 1000 packets
+abbrev pub new_link : LinkKey → LinkKind → Mac → ℕ → Tag → Link
+new_link key kind mac mtu tag = record {
+  ns = key.ns;
+  name = key.name;
+  kind = kind;
+  master = None;
+  peer = None;
+  mac = mac;
+  mtu = mtu;
+  hairpin = false;
+  promisc = false;
+  allmulti = false;
+  tx_qlen = 1000;
+  tag = tag;
+}
 
 -- the link stands at this place
 abbrev pub is_at : List ℕ → List ℕ → Link → Bool

@@ -1,12 +1,34 @@
-//! The values of a link, as the call LinkSet gives them.
+//! A new link, and the values of a link as the call LinkSet gives them.
 
 ghost use Rattle.std.specs.Prelude.{◌≡◌, map};
 ghost use Rattle.kernel_types.specs.Apply.Calls.{is_own_at, set_link, with_values};
+ghost use Rattle.kernel_types.specs.Words.{new_link};
 
-use crate::object::{Att, Link, LinkKey};
+use crate::object::{Att, Link, LinkKey, LinkKind, Tag};
 use cni_addr::Mac;
 
 impl Link {
+    /// A link as Linux makes a new one: under no master, without a peer, in no mode, with a queue of 1000 packets. Takes
+    /// no memory.
+    pub fn new(key: LinkKey, kind: LinkKind, mac: Mac, mtu: u32, tag: Tag) -> Link
+        ensures { result ≡ new_link key kind mac mtu tag }
+    {
+        Link {
+            ns: key.ns,
+            name: key.name,
+            kind,
+            master: None,
+            peer: None,
+            mac,
+            mtu,
+            hairpin: false,
+            promisc: false,
+            allmulti: false,
+            tx_qlen: 1000,
+            tag,
+        }
+    }
+
     /// Whether the link is the attachment's and stands at the place.
     pub fn is_own_at(&self, att: &Att, key: &LinkKey) -> bool
         ensures { result ≡ is_own_at att.now key.now self.now }

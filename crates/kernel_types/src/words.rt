@@ -1,12 +1,12 @@
-//! What is asked of links, tags and namespaces by more than one crate. Each takes no memory.
+//! What is asked of objects, tags and namespaces by more than one crate. Each takes no memory.
 
 ghost use Rattle.std.specs.Prelude.{◌≡◌, find};
 ghost use Rattle.std.specs.Option.{option_copied, option_map};
 ghost use Rattle.kernel_types.specs.Allowed.{is_macvlan};
-ghost use Rattle.kernel_types.specs.Apply.Calls.{is_of_pool};
+ghost use Rattle.kernel_types.specs.Apply.Calls.{is_of_pool, is_same_addr, is_same_route, is_same_setting};
 ghost use Rattle.kernel_types.specs.Words.{is_at, is_bridge, is_host_ns, is_owned, is_peer_at, is_veth};
 
-use crate::object::{Last, Link, LinkKey, LinkKind, Tag};
+use crate::object::{AddrObj, Last, Link, LinkKey, LinkKind, RouteObj, Setting, Tag};
 use cni_addr::{Addr, Text};
 
 /// Whether this is the name of the host's own namespace, which is the empty text.
@@ -88,4 +88,27 @@ pub fn last_leased(lasts: &[Last], network: &Text, number: u32) -> Option<Addr>
         Some(last) => Some(last.addr),
         None => None,
     }
+}
+
+// ---- the keys of objects that a call adds unless their key is taken
+
+/// Whether the other address is on the same link and has the same number, whatever its prefix.
+pub fn is_same_addr(new: &AddrObj, other: &AddrObj) -> bool
+    ensures { result ≡ is_same_addr new.now other.now }
+{
+    other.ns == new.ns && other.link == new.link && other.cidr.addr == new.cidr.addr
+}
+
+/// Whether the other route is on the same link and has the same destination, whatever its gateway.
+pub fn is_same_route(new: &RouteObj, other: &RouteObj) -> bool
+    ensures { result ≡ is_same_route new.now other.now }
+{
+    other.ns == new.ns && other.dst == new.dst && other.link == new.link
+}
+
+/// Whether the other setting is of the same namespace and key, whatever its value.
+pub fn is_same_setting(new: &Setting, other: &Setting) -> bool
+    ensures { result ≡ is_same_setting new.now other.now }
+{
+    other.ns == new.ns && other.key == new.key
 }

@@ -7,7 +7,7 @@ use Rattle.kernel_types.specs.Sound.{IsSound}
 use Rattle.kernel_types.specs.declared.object.Att.{Att}
 use Rattle.kernel_types.specs.declared.object.Host.{Host}
 use Rattle.kernel_types.specs.declared.call.Call.{Call}
-use Rattle.kernel_types.specs.declared.call.Call.TheVariants.{Begin, BridgeEnsure, GatewayEnsure, ForwardEnsure, VethAdd, MacvlanAdd, LinkSet, AddrAdd, RouteAdd, RuleAppend, SettingSet, LeaseNext, CachePut, LinkDel, RuleDel, SettingDel, LeaseDel, CacheDel, HasObj, CacheGet, OwnersOf, PoolFree, NsChange, Outside}
+use Rattle.kernel_types.specs.declared.call.Call.TheVariants.{Begin, BridgeEnsure, GatewayEnsure, ForwardEnsure, VethAdd, MacvlanAdd, LinkSet, AddrAdd, RouteAdd, RuleAppend, SettingSet, LeaseNext, CachePut, LinkDel, RuleDel, SettingDel, LeaseDel, CacheDel, CacheGet}
 use Rattle.kernel_types.specs.declared.call.Reply.TheVariants.{Done}
 use Rattle.plan_words.specs.Share.{Share, share_of, share_plus}
 
@@ -36,22 +36,7 @@ is_call_of att (SettingDel own) = att_eq own att
 is_call_of att (LeaseDel own) = att_eq own att
 is_call_of att (CacheDel own) = att_eq own att
 is_call_of att (CacheGet own) = att_eq own att
-is_call_of att (BridgeEnsure name mtu promisc) = is_plan_call_of att (BridgeEnsure name mtu promisc)
-is_call_of att (GatewayEnsure bridge cidr) = is_plan_call_of att (GatewayEnsure bridge cidr)
-is_call_of att (ForwardEnsure family) = is_plan_call_of att (ForwardEnsure family)
-is_call_of att (VethAdd host_end inner_end) = is_plan_call_of att (VethAdd host_end inner_end)
-is_call_of att (MacvlanAdd link) = is_plan_call_of att (MacvlanAdd link)
-is_call_of att (LinkSet own key mac mtu tx_qlen promisc allmulti) = is_plan_call_of att (LinkSet own key mac mtu tx_qlen promisc allmulti)
-is_call_of att (AddrAdd obj) = is_plan_call_of att (AddrAdd obj)
-is_call_of att (RouteAdd obj) = is_plan_call_of att (RouteAdd obj)
-is_call_of att (RuleAppend rule) = is_plan_call_of att (RuleAppend rule)
-is_call_of att (SettingSet setting) = is_plan_call_of att (SettingSet setting)
-is_call_of att (CachePut own cached) = is_plan_call_of att (CachePut own cached)
-is_call_of att (HasObj probe) = false
-is_call_of att (OwnersOf network kind) = false
-is_call_of att (PoolFree network set) = false
-is_call_of att (NsChange name add) = false
-is_call_of att (Outside change) = false
+is_call_of att call = is_plan_call_of att call
 
 -- each of the calls, applied in order, replies Done
 abbrev pub AllDone : Host → List Call → Type 0

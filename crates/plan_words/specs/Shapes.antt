@@ -8,13 +8,11 @@ use Rattle.cni_addr.specs.declared.address.Cidr.{Cidr}
 use Rattle.cni_addr.specs.declared.address.Family.{Family}
 use Rattle.cni_addr.specs.declared.address.Family.TheVariants.{V4, V6}
 use Rattle.cni_addr.specs.Network.{whole}
-use Rattle.cni_addr.specs.declared.mac.Mac.{Mac}
 use Rattle.cni_addr.specs.declared.macvlan.MacvlanMode.{MacvlanMode}
 use Rattle.cni_result.specs.declared.result.RouteEntry.{RouteEntry}
 use Rattle.kernel_types.specs.declared.object.Att.{Att}
 use Rattle.kernel_types.specs.declared.object.Tag.TheVariants.{Own}
 use Rattle.kernel_types.specs.declared.object.LinkKey.{LinkKey}
-use Rattle.kernel_types.specs.declared.object.LinkKind.{LinkKind}
 use Rattle.kernel_types.specs.declared.object.LinkKind.TheVariants.{Veth, Macvlan}
 use Rattle.kernel_types.specs.declared.object.Link.{Link}
 use Rattle.kernel_types.specs.declared.object.AddrObj.{AddrObj}
@@ -29,6 +27,7 @@ use Rattle.kernel_types.specs.declared.object.Target.{Target}
 use Rattle.kernel_types.specs.declared.object.Target.TheVariants.{Accept, Masquerade}
 use Rattle.kernel_types.specs.Apply.Calls.{is_same_addr, is_same_route}
 use Rattle.kernel_types.specs.Equal.{rule_eq}
+use Rattle.kernel_types.specs.Words.{new_link}
 use Rattle.kernel_types.specs.declared.call.Call.{Call}
 use Rattle.kernel_types.specs.declared.call.Call.TheVariants.{ForwardEnsure}
 use Rattle.kernel_types.specs.declared.call.Given.{Given}
@@ -55,32 +54,15 @@ host_key att = record { ns = []; name = host_name_of att }
 abbrev pub inner_key : Att → List ℕ → LinkKey
 inner_key att netns = record { ns = netns; name = att.ifname }
 
--- a link of the attachment by itself: under no master, without a peer, and as Linux makes a new link
-abbrev pub new_link : Att → LinkKey → LinkKind → Mac → ℕ → Link
-new_link att key kind mac mtu = record {
-  ns = key.ns;
-  name = key.name;
-  kind = kind;
-  master = None;
-  peer = None;
-  mac = mac;
-  mtu = mtu;
-  hairpin = false;
-  promisc = false;
-  allmulti = false;
-  tx_qlen = 1000;
-  tag = Own att;
-}
-
 abbrev pub host_end : Att → List ℕ → Option (List ℕ) → ℕ → Bool → Link
 host_end att netns master mtu hairpin =
-    record (new_link att (host_key att) Veth (host_mac_of att) mtu) { master = master; peer = Some (inner_key att netns); hairpin = hairpin }
+    record (new_link (host_key att) Veth (host_mac_of att) mtu (Own att)) { master = master; peer = Some (inner_key att netns); hairpin = hairpin }
 
 abbrev pub inner_end : Att → List ℕ → ℕ → Link
-inner_end att netns mtu = record (new_link att (inner_key att netns) Veth (inner_mac_of att) mtu) { peer = Some (host_key att) }
+inner_end att netns mtu = record (new_link (inner_key att netns) Veth (inner_mac_of att) mtu (Own att)) { peer = Some (host_key att) }
 
 abbrev pub macvlan_link : Att → List ℕ → List ℕ → MacvlanMode → ℕ → Link
-macvlan_link att netns master mode mtu = record (new_link att (inner_key att netns) (Macvlan mode) (inner_mac_of att) mtu) { master = Some master }
+macvlan_link att netns master mode mtu = record (new_link (inner_key att netns) (Macvlan mode) (inner_mac_of att) mtu (Own att)) { master = Some master }
 
 -- ---- on the container end
 

@@ -5,6 +5,7 @@ ghost use Rattle.std.specs.List.{list_any};
 ghost use Rattle.cni_addr.specs.Lists.{push_unless_there};
 
 use cni_addr::{Duplicate, NoMemory};
+use kernel_types::words::{is_same_addr, is_same_route, is_same_setting};
 use kernel_types::{AddrObj, Call, RouteObj, Rule, Setting};
 
 /// An object that a call asks for, with the test whether another has its key.
@@ -34,7 +35,7 @@ impl Asked for AddrObj {
     ghost call_for = { λ obj. AddrAdd obj };
 
     fn has_key(&self, other: &AddrObj) -> bool {
-        other.ns == self.ns && other.link == self.link && other.cidr.addr == self.cidr.addr
+        is_same_addr(self, other)
     }
 
     fn ask(self) -> Call {
@@ -51,7 +52,7 @@ impl Asked for RouteObj {
     ghost call_for = { λ obj. RouteAdd obj };
 
     fn has_key(&self, other: &RouteObj) -> bool {
-        other.ns == self.ns && other.dst == self.dst && other.link == self.link
+        is_same_route(self, other)
     }
 
     fn ask(self) -> Call {
@@ -85,7 +86,7 @@ impl Asked for Setting {
     ghost call_for = { λ obj. SettingSet obj };
 
     fn has_key(&self, other: &Setting) -> bool {
-        other.ns == self.ns && other.key == self.key
+        is_same_setting(self, other)
     }
 
     fn ask(self) -> Call {

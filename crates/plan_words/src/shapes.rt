@@ -68,26 +68,6 @@ pub fn inner_key(att: &Att, netns: &Text) -> Result<LinkKey, NoMemory>
     })
 }
 
-/// A link under no master and without a peer, as Linux makes a new one.
-fn new_link(att: &Att, key: LinkKey, kind: LinkKind, mac: Mac, mtu: u32) -> Result<Link, NoMemory>
-    ensures { IfOk result (λ link. link ≡ shapes.new_link att.now key kind mac mtu) }
-{
-    Ok(Link {
-        ns: key.ns,
-        name: key.name,
-        kind,
-        master: None,
-        peer: None,
-        mac,
-        mtu,
-        hairpin: false,
-        promisc: false,
-        allmulti: false,
-        tx_qlen: 1000,
-        tag: Tag::Own(att.copy()?),
-    })
-}
-
 /// The host's end of the attachment's veth pair, under this master.
 pub fn host_end(
     alloc: Global,
@@ -100,11 +80,12 @@ pub fn host_end(
     ensures { IfOk result (λ link. link ≡ shapes.host_end att.now netns.now master mtu hairpin) }
 {
     let key = host_key(alloc, att)?;
+    let tag = Tag::Own(att.copy()?);
     Ok(Link {
         master,
         peer: Some(inner_key(att, netns)?),
         hairpin,
-        ..new_link(att, key, LinkKind::Veth, att.host_mac(), mtu)?
+        ..Link::new(key, LinkKind::Veth, att.host_mac(), mtu, tag)
     })
 }
 
@@ -113,9 +94,10 @@ pub fn inner_end(alloc: Global, att: &Att, netns: &Text, mtu: u32) -> Result<Lin
     ensures { IfOk result (λ link. link ≡ shapes.inner_end att.now netns.now mtu) }
 {
     let key = inner_key(att, netns)?;
+    let tag = Tag::Own(att.copy()?);
     Ok(Link {
         peer: Some(host_key(alloc, att)?),
-        ..new_link(att, key, LinkKind::Veth, att.inner_mac(), mtu)?
+        ..Link::new(key, LinkKind::Veth, att.inner_mac(), mtu, tag)
     })
 }
 
@@ -130,9 +112,10 @@ pub fn macvlan_link(
     ensures { IfOk result (λ link. link ≡ shapes.macvlan_link att.now netns.now master.now mode mtu) }
 {
     let key = inner_key(att, netns)?;
+    let tag = Tag::Own(att.copy()?);
     Ok(Link {
         master: Some(master.copy()?),
-        ..new_link(att, key, LinkKind::Macvlan(mode), att.inner_mac(), mtu)?
+        ..Link::new(key, LinkKind::Macvlan(mode), att.inner_mac(), mtu, tag)
     })
 }
 

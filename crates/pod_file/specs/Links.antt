@@ -1,5 +1,5 @@
 -- The links of an opening.
-use Rattle.std.specs.Prelude.{ℕ, ◌+◌, List, [], ◌∷◌, ◌++◌, codes, Bool, true, false, if◌then◌else◌, Result, Ok, None, ⊤}
+use Rattle.std.specs.Prelude.{ℕ, ◌+◌, List, [], ◌∷◌, ◌++◌, codes, Bool, true, if◌then◌else◌, Result, Ok, ⊤}
 use Rattle.std.specs.List.{list_any}
 use Rattle.std.specs.Str.{bytes_eq}
 use Rattle.serde_json.specs.Data.{Data, object, Items, no_items, item}
@@ -8,7 +8,7 @@ use Rattle.cni_json.specs.Outcome.{◌>>=◌}
 use Rattle.cni_json.specs.declared.fields.Field.{Field}
 use Rattle.cni_json.specs.declared.fields.Field.TheVariants.{Absent, WrongKind, Here}
 use Rattle.kernel_types.specs.Names.{link_mac_of}
-use Rattle.kernel_types.specs.Words.{is_host_ns, is_at}
+use Rattle.kernel_types.specs.Words.{is_host_ns, is_at, new_link}
 use Rattle.kernel_types.specs.declared.object.Link.{Link}
 use Rattle.kernel_types.specs.declared.object.LinkKind.{LinkKind}
 use Rattle.kernel_types.specs.declared.object.LinkKind.TheVariants.{Device, Bridge}
@@ -74,20 +74,7 @@ mtu_at index d = mtu_of index (u64_field (codes "mtu") d)
 
 -- a link that was made outside
 abbrev pub outside_link : List ℕ → List ℕ → LinkKind → ℕ → Link
-outside_link ns name kind mtu = record {
-  ns = ns;
-  name = name;
-  kind = kind;
-  master = None;
-  peer = None;
-  mac = link_mac_of name;
-  mtu = mtu;
-  hairpin = false;
-  promisc = false;
-  allmulti = false;
-  tx_qlen = 1000;
-  tag = Outside;
-}
+outside_link ns name kind mtu = new_link (record { ns = ns; name = name }) kind (link_mac_of name) mtu Outside
 
 -- no link before stands at this place
 unfoldable pub not_taken : List Link → ℕ → List ℕ → List ℕ → Result ⊤ PodError

@@ -14,7 +14,7 @@ use crate::error::{PodError, wrong, wrong_member};
 use cni_addr::{Items, Text};
 use cni_json::{Field, Value, field_list, field_str, field_u64};
 use kernel_types::words::is_at;
-use kernel_types::{Link, LinkKind, Tag, link_mac};
+use kernel_types::{Link, LinkKey, LinkKind, Tag, link_mac};
 use net_conf::{is_interface_name, is_mtu};
 use std::alloc::Global;
 
@@ -66,20 +66,7 @@ fn outside_link(ns: Text, name: Text, kind: LinkKind, mtu: u32) -> Link
     ensures { result ≡ wanted.outside_link ns name kind mtu }
 {
     let mac = link_mac(name.as_str());
-    Link {
-        ns,
-        name,
-        kind,
-        master: None,
-        peer: None,
-        mac,
-        mtu,
-        hairpin: false,
-        promisc: false,
-        allmulti: false,
-        tx_qlen: 1000,
-        tag: Tag::Outside,
-    }
+    Link::new(LinkKey { ns, name }, kind, mac, mtu, Tag::Outside)
 }
 
 #[tactic(auto, using(cni_json::proofs::Steps::steps))]

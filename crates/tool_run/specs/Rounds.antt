@@ -1,5 +1,5 @@
 -- How rounds are made, as what calls of a function do.
-use Rattle.std.specs.Prelude.{◌≡◌, ℕ, ◌<◌, ◌≤◌, length}
+use Rattle.std.specs.Prelude.{ℕ, ◌<◌, ◌≤◌, length}
 use Rattle.std.specs.Fn.{Shared}
 use Rattle.pod_workers.specs.Extends.{Rounds}
 use Rattle.pod_workers.specs.Order.{IsInFileOrder}

@@ -11,27 +11,28 @@ use crate::words::{
     copy_tag, has_free_master, has_host_bridge, has_link_of, has_named_ns, link_at,
 };
 use cni_addr::{Duplicate, NoMemory, Text};
+use kernel_types::words::{is_same_addr, is_same_route, is_same_setting};
 use kernel_types::{AddrObj, Link, Reply, RouteObj, Rule, Setting};
 
 /// The address of the same place and number.
 fn same_addr<'a>(addresses: &'a [AddrObj], obj: &AddrObj) -> Option<&'a AddrObj>
     ensures { option_copied result ≡ find (is_same_addr obj.now) addresses.now }
 {
-    addresses.iter().find(|a| a.ns == obj.ns && a.link == obj.link && a.cidr.addr == obj.cidr.addr)
+    addresses.iter().find(|a| is_same_addr(obj, a))
 }
 
 /// The route of the same place, destination and link.
 fn same_route<'a>(routes: &'a [RouteObj], obj: &RouteObj) -> Option<&'a RouteObj>
     ensures { option_copied result ≡ find (is_same_route obj.now) routes.now }
 {
-    routes.iter().find(|r| r.ns == obj.ns && r.dst == obj.dst && r.link == obj.link)
+    routes.iter().find(|r| is_same_route(obj, r))
 }
 
 /// The setting of the same place and key.
 fn same_setting<'a>(settings: &'a [Setting], obj: &Setting) -> Option<&'a Setting>
     ensures { option_copied result ≡ find (is_same_setting obj.now) settings.now }
 {
-    settings.iter().find(|s| s.ns == obj.ns && s.key == obj.key)
+    settings.iter().find(|s| is_same_setting(obj, s))
 }
 
 impl ListKernel {

@@ -11,26 +11,20 @@ use super::ListKernel;
 use crate::words::{has_host_bridge, host_link};
 use cni_addr::{Addr, Cidr, Duplicate, Family, NoMemory, Text};
 use kernel_types::words::is_host_ns;
-use kernel_types::{AddrObj, Link, LinkKind, Reply, Setting, Tag, link_mac};
+use kernel_types::{AddrObj, Link, LinkKey, LinkKind, Reply, Setting, Tag, link_mac};
 use std::alloc::Global;
 
-/// A bridge that belongs to no attachment, with Linux's queue length.
+/// A bridge that belongs to no attachment.
 fn new_bridge(alloc: Global, name: &Text, mtu: u32, promisc: bool) -> Result<Link, NoMemory>
     ensures { IfOk result (λ link. link ≡ new_bridge name.now mtu promisc) }
 {
-    Ok(Link {
+    let key = LinkKey {
         ns: Text::of(alloc, "")?,
         name: name.copy()?,
-        kind: LinkKind::Bridge,
-        master: None,
-        peer: None,
-        mac: link_mac(name.as_str()),
-        mtu,
-        hairpin: false,
+    };
+    Ok(Link {
         promisc,
-        allmulti: false,
-        tx_qlen: 1000,
-        tag: Tag::Base,
+        ..Link::new(key, LinkKind::Bridge, link_mac(name.as_str()), mtu, Tag::Base)
     })
 }
 

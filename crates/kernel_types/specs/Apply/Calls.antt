@@ -14,7 +14,7 @@ use Rattle.kernel_types.specs.Equal.{att_eq, addr_eq, cidr_eq, mac_eq, link_eq, 
 use Rattle.cni_addr.specs.Lists.{each_key_once, without_first}
 use Rattle.ip_pool.specs.Pool.{pick_of, has_free_of}
 use Rattle.kernel_types.specs.Names.{link_mac_of}
-use Rattle.kernel_types.specs.Words.{is_host_ns, is_host_or_ns, is_own, is_owned, is_bridge, is_at, is_peer_at, has_named_ns, link_at, is_host_link, is_host_bridge, has_host_bridge, has_objects, is_link_of}
+use Rattle.kernel_types.specs.Words.{is_host_ns, is_host_or_ns, is_own, is_owned, is_bridge, is_at, is_peer_at, has_named_ns, link_at, is_host_link, is_host_bridge, has_host_bridge, has_objects, is_link_of, new_link}
 use Rattle.kernel_types.specs.declared.object.Att.{Att}
 use Rattle.kernel_types.specs.declared.object.LinkKey.{LinkKey}
 use Rattle.kernel_types.specs.declared.object.Tag.{Tag}
@@ -50,20 +50,7 @@ begin_of host att netns =
 -- ---- what the attachments of a host share
 
 abbrev pub new_bridge : List ℕ → ℕ → Bool → Link
-new_bridge name mtu promisc = record {
-  ns = [];
-  name = name;
-  kind = Bridge;
-  master = None;
-  peer = None;
-  mac = link_mac_of name;
-  mtu = mtu;
-  hairpin = false;
-  promisc = promisc;
-  allmulti = false;
-  tx_qlen = 1000;
-  tag = Base;
-}
+new_bridge name mtu promisc = record (new_link (record { ns = []; name = name }) Bridge (link_mac_of name) mtu Base) { promisc = promisc }
 
 abbrev pub bridge_or_new : Host → Option Link → Link → Host × Reply
 bridge_or_new host (Some link) bridge = (host, if is_bridge link.kind then Done else Taken link.tag)
