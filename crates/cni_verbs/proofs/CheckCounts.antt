@@ -25,7 +25,7 @@ use Rattle.kernel_types.specs.declared.object.Rule.{Rule}
 use Rattle.kernel_types.specs.declared.call.Call.TheVariants.{AddrAdd, RouteAdd, RuleAppend}
 use Rattle.kernel_types.specs.declared.call.Given.{Given}
 use Rattle.plan_words.specs.Share.{Share}
-use Rattle.plan_words.specs.Shapes.{lease_of}
+use Rattle.kernel_types.specs.Words.{lease_of}
 use Rattle.plan_words.specs.Rows.{present}
 use Rattle.plan_words.proofs.RowLemmas.{present-map_some}
 use Rattle.bridge_ptp.specs.Bridge.{bridge_share_after}

@@ -9,7 +9,7 @@ use Rattle.net_conf.specs.declared.list.NetList.{NetList}
 use Rattle.pod_file.specs.declared.command.Command.{Command}
 use Rattle.kernel_types.specs.declared.object.Att.{Att}
 use Rattle.kernel_types.specs.declared.call.Call.{Call}
-use Rattle.plan_words.specs.Shapes.{lease_of}
+use Rattle.kernel_types.specs.Words.{lease_of}
 use Rattle.plan_words.specs.Share.{Share, no_objects, share_after_calls}
 use Rattle.cni_verbs.specs.CommandWords.{att_of}
 use Rattle.cni_verbs.specs.Questions.{bridge_questions, share_questions, addresses_in, cached_share}

@@ -20,7 +20,7 @@ use Rattle.kernel_types.specs.declared.object.Lease.{Lease}
 use Rattle.kernel_types.specs.declared.object.Tag.TheVariants.{Own}
 use Rattle.kernel_types.specs.declared.call.Given.{Given}
 use Rattle.kernel_types.specs.declared.call.Call.TheVariants.{CachePut}
-use Rattle.plan_words.specs.Shapes.{lease_of}
+use Rattle.kernel_types.specs.Words.{lease_of}
 use Rattle.plan_words.specs.Share.{Share, no_objects, share_after_calls}
 use Rattle.plan_words.proofs.CallLists.{share_after_calls-append, share_after_calls-rules}
 use Rattle.bridge_ptp.proofs.Shares.{share-bridge_after, share-ptp_after}

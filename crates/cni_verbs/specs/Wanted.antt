@@ -21,7 +21,7 @@ use Rattle.kernel_types.specs.declared.call.Kind.{Kind}
 use Rattle.kernel_types.specs.declared.call.Kind.TheVariants as kinds
 use Rattle.kernel_types.specs.declared.call.Call.{Call}
 use Rattle.kernel_types.specs.declared.call.Call.TheVariants.{Begin, LinkDel, RuleDel, SettingDel, LeaseDel, CacheDel, CachePut}
-use Rattle.plan_words.specs.Shapes.{lease_of}
+use Rattle.kernel_types.specs.Words.{lease_of}
 use Rattle.plan_words.specs.Share.{Share}
 use Rattle.host_local.specs.Conf.{ipam_of, range_sets_of}
 use Rattle.host_local.specs.Leases.{given_of, lease_calls_of}

@@ -20,24 +20,21 @@ use cni_addr::{Addr, Text};
 use cni_result::PortMapping;
 use firewall_tuning::{firewall_count, tuning_count};
 use host_local::GivenBySets;
+use kernel_types::digest_of;
 use net_conf::{Chained, First, NetList};
 use pod_file::{Command, RawMapping};
 use portmap::MappingRow;
-use sha2::{Digest, Sha256};
 
 // ---- the ends of a pair
 
-#[tactic(auto, unfolding(kernel_types::specs::Names::digest_of))]
 fn digest(command: &Command) -> [u8; 32]
     ensures { result ≡ digest_of (words.att_of command.now) }
 {
-    let mut hasher = Sha256::new();
-    hasher.update(command.network.as_str());
-    hasher.update(b"\n");
-    hasher.update(command.container.as_str());
-    hasher.update(b"\n");
-    hasher.update(command.ifname.as_str());
-    hasher.finalize()
+    digest_of(
+        command.network.as_str(),
+        command.container.as_str(),
+        command.ifname.as_str(),
+    )
 }
 
 fn host_name(command: &Command) -> [u8; 12]

@@ -2,14 +2,13 @@
 
 ghost use Rattle.std.specs.Prelude.{◌≡◌, ◌++◌, ◌∷◌, [], map, OnOk};
 ghost use Rattle.plan_words.specs.Share.{no_objects, share_after_call, share_after_calls};
-ghost use Rattle.plan_words.specs.Shapes as shapes;
+ghost use Rattle.kernel_types.specs.Words.{lease_of};
 
 use cni_addr::{Addr, Duplicate, NoMemory};
 use cni_result::Cached;
 use kernel_types::{
     AddrObj, Att, CachedObj, Call, Lease, Link, RouteObj, Rule, Setting, Tag, set_links,
 };
-use plan_words::lease_of;
 use std::alloc::Global;
 use std::marker::Model;
 
@@ -133,11 +132,11 @@ impl Objects {
         att: &Att,
         addrs: &[Addr],
     ) -> Result<(), NoMemory>
-        ensures { OnOk result (self.new ≡ record self.old { leases = map (shapes.lease_of att.now) addrs.now }) }
+        ensures { OnOk result (self.new ≡ record self.old { leases = map (lease_of att.now) addrs.now }) }
     {
         let mut leases = Vec::with_capacity(alloc, addrs.len())?;
         for addr in addrs {
-            leases.push(lease_of(att, *addr)?)?;
+            leases.push(Lease::of(att, *addr)?)?;
         }
         self.leases = leases;
         Ok(())

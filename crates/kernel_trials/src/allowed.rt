@@ -1,9 +1,8 @@
 //! Whether a call may be made, as a test to run.
 
-ghost use Rattle.std.specs.Prelude.{◌≡◌, true, false, find};
-ghost use Rattle.std.specs.Option.{option_copied, option_map};
+ghost use Rattle.std.specs.Prelude.{◌≡◌, true, false};
 ghost use Rattle.ip_pool.specs.NextAddress.{is_candidate_or_none};
-ghost use Rattle.kernel_types.specs.Apply.Calls.{is_of_pool, last_leased};
+ghost use Rattle.kernel_types.specs.Apply.Calls.{last_leased};
 ghost use Rattle.kernel_types.specs.Allowed.{IsAllowed, IsAllowedChange, IsPool, IsVethPair, IsMacvlanLink, is_macvlan};
 ghost use Rattle.kernel_types.specs.Words.{is_host_ns, is_owned, is_peer_at, is_veth};
 

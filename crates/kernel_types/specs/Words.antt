@@ -1,8 +1,10 @@
 -- What is asked of a host.
-use Rattle.std.specs.Prelude.{ℕ, Bool, true, false, ◌&&◌, ◌||◌, ◌==◌, List, length, Option, Some, None, find}
+use Rattle.std.specs.Prelude.{ℕ, Bool, true, false, ◌&&◌, ◌||◌, ◌==◌, List, length, Option, Some, None, find, option_map}
 use Rattle.std.specs.List.{list_any}
 use Rattle.std.specs.Str.{bytes_eq}
+use Rattle.cni_addr.specs.declared.address.Addr.{Addr}
 use Rattle.cni_addr.specs.declared.mac.Mac.{Mac}
+use Rattle.cni_result.specs.declared.cached.Cached.{Cached}
 use Rattle.kernel_types.specs.Equal.{att_eq, tag_eq}
 use Rattle.kernel_types.specs.declared.object.Att.{Att}
 use Rattle.kernel_types.specs.declared.object.LinkKey.{LinkKey}
@@ -11,6 +13,7 @@ use Rattle.kernel_types.specs.declared.object.Tag.TheVariants.{Own}
 use Rattle.kernel_types.specs.declared.object.LinkKind.{LinkKind}
 use Rattle.kernel_types.specs.declared.object.LinkKind.TheVariants.{Bridge, Veth}
 use Rattle.kernel_types.specs.declared.object.Link.{Link}
+use Rattle.kernel_types.specs.declared.object.Lease.{Lease}
 use Rattle.kernel_types.specs.declared.object.NsObj.{NsObj}
 use Rattle.kernel_types.specs.declared.object.Host.{Host}
 
@@ -46,6 +49,10 @@ new_link key kind mac mtu tag = record {
   tx_qlen = 1000;
   tag = tag;
 }
+
+-- the attachment's lease of an address
+abbrev pub lease_of : Att → Addr → Lease
+lease_of att addr = record { network = att.network; addr = addr; tag = Own att }
 
 -- the link stands at this place
 abbrev pub is_at : List ℕ → List ℕ → Link → Bool
@@ -96,3 +103,7 @@ is_owned tag = false
 -- the link stands at this place and has this tag
 abbrev pub is_link_of : List ℕ → List ℕ → Tag → Link → Bool
 is_link_of ns name tag link = is_at ns name link && tag_eq link.tag tag
+
+-- what is kept of the attachment's result
+abbrev pub cached_in : Host → Att → Option Cached
+cached_in host att = option_map (λ c. c.cached) (find (λ c. is_own att c.tag) host.cached)

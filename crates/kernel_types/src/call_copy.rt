@@ -1,6 +1,7 @@
 //! Copies of calls and replies. Texts are shared, so a copy costs what the lists of a call cost.
 
-ghost use Rattle.std.specs.Prelude.{◌≡◌, IfOk};
+ghost use Rattle.std.specs.Prelude.{◌≡◌, true, IfOk, OnErr};
+ghost use Rattle.kernel_types.specs.Replies.{holds_text_or_list};
 ghost use Rattle.kernel_types.specs.declared.call.Call.TheVariants as calls;
 
 use crate::call::{Call, Change, Kind, Object, Probe, Reply};
@@ -43,8 +44,12 @@ impl Duplicate for Change {
     }
 }
 
-impl Duplicate for Reply {
-    fn copy(&self) -> Result<Reply, NoMemory> {
+impl Reply {
+    /// A copy, of which memory can be wanting only where the reply holds a text or a list.
+    pub fn twin(&self) -> Result<Reply, NoMemory>
+        ensures ok { IfOk result (λ twin. twin ≡ self.now) }
+        ensures err { OnErr result (holds_text_or_list self.now ≡ true) }
+    {
         match self {
             Reply::Done => Ok(Reply::Done),
             Reply::NoNs => Ok(Reply::NoNs),
@@ -58,6 +63,12 @@ impl Duplicate for Reply {
             Reply::Entry(cached) => Ok(Reply::Entry(cached.copy()?)),
             Reply::Fault => Ok(Reply::Fault),
         }
+    }
+}
+
+impl Duplicate for Reply {
+    fn copy(&self) -> Result<Reply, NoMemory> {
+        self.twin()
     }
 }
 

@@ -18,7 +18,7 @@ pub mod words;
 
 pub use call::{Call, Change, Given, Kind, Object, Probe, Reply};
 pub use link_values::set_links;
-pub use names::link_mac;
+pub use names::{digest_of, link_mac};
 pub use object::{
     AddrObj, Att, CachedObj, Chain, Host, Last, Lease, Link, LinkKey, LinkKind, NsObj, RouteObj,
     Rule, Setting, Table, Tag, Target,

@@ -3,28 +3,39 @@
 //! Two attachments may derive one host name; the later ADD is then told that the name is taken.
 
 ghost use Rattle.std.specs.Prelude.{◌≡◌, IfOk};
-ghost use Rattle.kernel_types.specs.Names.{link_mac_of};
+ghost use Rattle.kernel_types.specs.Names.{digest_of, link_mac_of};
 
 use crate::object::Att;
 use cni_addr::{Mac, NoMemory, Text};
 use sha2::{Digest, Sha256};
 use std::alloc::Global;
 
+/// The digest of an attachment by its three names, joined by line feeds. Takes no memory.
+#[tactic(auto, unfolding(crate::specs::Names::digest_of))]
+pub fn digest_of(network: &str, container: &str, ifname: &str) -> [u8; 32]
+    ensures { result ≡ digest_of (record { network = network.now; container = container.now; ifname = ifname.now }) }
+{
+    let mut hasher = Sha256::new();
+    hasher.update(network);
+    hasher.update(b"\n");
+    hasher.update(container);
+    hasher.update(b"\n");
+    hasher.update(ifname);
+    hasher.finalize()
+}
+
 impl Att {
     ghost use Rattle.kernel_types.specs.Names.{digest_of, host_name_of, host_mac_of, inner_mac_of};
 
-    /// The digest of the attachment: of its network, container and interface name, joined by line feeds.
-    #[tactic(auto, unfolding(crate::specs::Names::digest_of))]
+    /// The digest of the attachment: of its network, container and interface name.
     pub fn digest(&self) -> [u8; 32]
         ensures { result ≡ digest_of self.now }
     {
-        let mut hasher = Sha256::new();
-        hasher.update(self.network.as_str());
-        hasher.update(b"\n");
-        hasher.update(self.container.as_str());
-        hasher.update(b"\n");
-        hasher.update(self.ifname.as_str());
-        hasher.finalize()
+        digest_of(
+            self.network.as_str(),
+            self.container.as_str(),
+            self.ifname.as_str(),
+        )
     }
 
     /// The name of the host's end of the attachment's veth pair: twelve bytes, so within the kernel's fifteen.

@@ -1,7 +1,7 @@
 //! The objects of the modelled kernel.
 
-ghost use Rattle.std.specs.Prelude.{◌≡◌};
-ghost use Rattle.kernel_types.specs.Words.{is_own};
+ghost use Rattle.std.specs.Prelude.{◌≡◌, IfOk};
+ghost use Rattle.kernel_types.specs.Words.{is_own, lease_of};
 
 use cni_addr::{Addr, Cidr, Duplicate, Items, Mac, MacvlanMode, NoMemory, Text};
 use cni_result::{Cached, Proto};
@@ -311,6 +311,19 @@ pub struct Lease {
     pub network: Text,
     pub addr: Addr,
     pub tag: Tag,
+}
+
+impl Lease {
+    /// The attachment's lease of an address.
+    pub fn of(att: &Att, addr: Addr) -> Result<Lease, NoMemory>
+        ensures { IfOk result (λ lease. lease ≡ lease_of att.now addr) }
+    {
+        Ok(Lease {
+            network: att.network.copy()?,
+            addr,
+            tag: Tag::Own(att.copy()?),
+        })
+    }
 }
 
 impl Duplicate for Lease {

@@ -13,7 +13,7 @@ use Rattle.cni_addr.specs.declared.range.RangeSet.{RangeSet}
 use Rattle.cni_result.specs.declared.cached.Cached.{Cached}
 use Rattle.ip_pool.specs.Pool.{pick_of}
 use Rattle.kernel_types.specs.Equal.{att_eq, rule_eq}
-use Rattle.kernel_types.specs.Words.{is_own, is_host_or_ns, has_named_ns, link_at, is_host_link, has_host_bridge, has_objects}
+use Rattle.kernel_types.specs.Words.{is_own, is_host_or_ns, has_named_ns, link_at, is_host_link, has_host_bridge, has_objects, lease_of}
 use Rattle.kernel_types.specs.Apply.{apply}
 use Rattle.kernel_types.specs.Apply.Calls.{begin_of, bridge_or_new, new_bridge, gateway_ensure_of, forward_ensure_of, has_bridge_as_master, veth_add_of, has_master, macvlan_add_of, with_values, set_link, is_own_at, link_set_of, has_link_of, is_same_addr, addr_add_of, is_same_route, route_add_of, rule_append_of, is_same_setting, setting_set_of, leased_addresses, last_leased, is_of_pool, with_last, lease_taken, lease_next_of, cache_put_of}
 use Rattle.kernel_types.proofs.Cases.{by_test, by_way, att_eq-refl}
@@ -32,7 +32,6 @@ use Rattle.kernel_types.specs.declared.call.Reply.{Reply}
 use Rattle.kernel_types.specs.declared.call.Reply.TheVariants.{Done, Leased}
 use Rattle.plan_words.specs.Share.{Share, share_of, no_objects, share_after_call}
 use Rattle.plan_words.specs.PlanCalls.{is_plan_call_of}
-use Rattle.plan_words.specs.Shapes.{lease_of}
 use Rattle.plan_words.proofs.KeyLists.{filter-push_kept, filter-push_dropped, filter-two_kept, filter-none, filter-map_kept}
 
 -- ---- what an attachment's own call was that was done

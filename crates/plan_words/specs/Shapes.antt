@@ -18,7 +18,6 @@ use Rattle.kernel_types.specs.declared.object.Link.{Link}
 use Rattle.kernel_types.specs.declared.object.AddrObj.{AddrObj}
 use Rattle.kernel_types.specs.declared.object.RouteObj.{RouteObj}
 use Rattle.kernel_types.specs.declared.object.Rule.{Rule}
-use Rattle.kernel_types.specs.declared.object.Lease.{Lease}
 use Rattle.kernel_types.specs.declared.object.Table.{Table}
 use Rattle.kernel_types.specs.declared.object.Table.TheVariants.{Nat}
 use Rattle.kernel_types.specs.declared.object.Chain.{Chain}
@@ -78,9 +77,6 @@ route_by att netns dst gw = record { ns = netns; dst = dst; link = att.ifname; g
 
 abbrev pub route_on : Att → List ℕ → List Given → RouteEntry → RouteObj
 route_on att netns given r = route_by att netns r.dst (gateway_for given r)
-
-abbrev pub lease_of : Att → Addr → Lease
-lease_of att addr = record { network = att.network; addr = addr; tag = Own att }
 
 -- ---- rules
 

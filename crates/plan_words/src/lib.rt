@@ -21,6 +21,6 @@ pub use counts::{count_addresses, count_forward_calls, count_masquerade_rules, c
 pub use families::first_of_family;
 pub use rows::{GivenRow, Row, count_keys, first_given};
 pub use shapes::{
-    address_on, addresses_on, ask_forward, default_route, host_end, inner_end, inner_key, lease_of,
+    address_on, addresses_on, ask_forward, default_route, host_end, inner_end, inner_key,
     macvlan_link, masquerade_rules, route_by, route_on, routes_on, rule_for_all,
 };

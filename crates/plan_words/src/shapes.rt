@@ -9,11 +9,10 @@ ghost use Rattle.cni_addr.specs.Lists.{each_key_once};
 ghost use Rattle.plan_words.specs.Shapes as shapes;
 
 use crate::asked::push_unless_there;
-use cni_addr::{Addr, Cidr, Duplicate, Family, Mac, MacvlanMode, NoMemory, Text, whole};
+use cni_addr::{Addr, Cidr, Duplicate, Family, MacvlanMode, NoMemory, Text, whole};
 use cni_result::RouteEntry;
 use kernel_types::{
-    AddrObj, Att, Call, Chain, Given, Lease, Link, LinkKey, LinkKind, RouteObj, Rule, Table, Tag,
-    Target,
+    AddrObj, Att, Call, Chain, Given, Link, LinkKey, LinkKind, RouteObj, Rule, Table, Tag, Target,
 };
 use std::alloc::Global;
 
@@ -207,17 +206,6 @@ pub fn routes_on(
         push_unless_there(&mut objects, route_on(att, netns, given, entry)?)?;
     }
     Ok(objects)
-}
-
-/// The lease of an address.
-pub fn lease_of(att: &Att, addr: Addr) -> Result<Lease, NoMemory>
-    ensures { IfOk result (λ lease. lease ≡ shapes.lease_of att.now addr) }
-{
-    Ok(Lease {
-        network: att.network.copy()?,
-        addr,
-        tag: Tag::Own(att.copy()?),
-    })
 }
 
 // ---- rules of packet filtering

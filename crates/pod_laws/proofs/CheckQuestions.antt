@@ -15,7 +15,7 @@ use Rattle.std.specs.Str.{bytes_eq}
 use Rattle.std.proofs.lemmas.Bool.{and_parts}
 use Rattle.std.proofs.lemmas.List.Folds.{list_all-append}
 use Rattle.kernel_types.specs.Equal.{addr_obj_eq, chain_eq, cidr_eq, key_eq, lease_eq, link_eq, link_kind_eq, mac_eq, proto_eq, route_eq, rule_eq, setting_eq, table_eq, tag_eq, target_eq}
-use Rattle.kernel_types.specs.Words.{is_own}
+use Rattle.kernel_types.specs.Words.{cached_in, is_own}
 use Rattle.kernel_types.proofs.Cases.{tag_eq-own}
 use Rattle.kernel_types.proofs.Isolation.{is_own-one}
 use Rattle.kernel_types.proofs.ListLemmas as lists
@@ -36,7 +36,7 @@ use Rattle.cni_verbs.specs.declared.answer.Cause.TheVariants.{Missing}
 use Rattle.cni_verbs.specs.declared.answer.Missed.{Missed}
 use Rattle.cni_verbs.specs.declared.answer.Missed.TheVariants as missed
 use Rattle.cni_verbs.specs.declared.answer.Question.{Question}
-use Rattle.pod_laws.specs.Checked.{are_in, cached_in, has_bridge_by, has_bridge_of, has_first_bridge, has_objects_of, holds_cached}
+use Rattle.pod_laws.specs.Checked.{are_in, has_bridge_by, has_bridge_of, has_first_bridge, has_objects_of, holds_cached}
 use Rattle.pod_laws.specs.Granted.{grants}
 use Rattle.pod_laws.proofs.Asking.{Each, and-true, each-append, each-map, tells}
 use Rattle.pod_laws.proofs.OwnWanted.{AreOwn, own-wanted}

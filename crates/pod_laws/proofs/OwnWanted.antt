@@ -11,13 +11,12 @@ use Rattle.net_conf.specs.declared.chained.Chained.{Chained}
 use Rattle.net_conf.specs.declared.chained.Chained.TheVariants.{Portmap, Firewall, Tuning}
 use Rattle.net_conf.specs.declared.list.NetList.{NetList}
 use Rattle.kernel_types.specs.Apply.Calls.{set_link}
-use Rattle.kernel_types.specs.Words.{is_own}
+use Rattle.kernel_types.specs.Words.{is_own, lease_of}
 use Rattle.kernel_types.proofs.Cases.{att_eq-refl}
 use Rattle.kernel_types.specs.declared.object.Att.{Att}
 use Rattle.kernel_types.specs.declared.object.Link.{Link}
 use Rattle.kernel_types.specs.declared.call.Given.{Given}
 use Rattle.plan_words.specs.Share.{Share}
-use Rattle.plan_words.specs.Shapes.{lease_of}
 use Rattle.plan_words.proofs.Appends.{own-addresses, own-routes, own-masquerades}
 use Rattle.plan_words.proofs.KeyLists.{list_all-append, list_all-every, list_all-flat, list_all-map}
 use Rattle.plan_words.proofs.OwnCalls.{set_link-tag}

@@ -9,6 +9,7 @@ use Rattle.pod_file.specs.Rounds.{is_exclusive_verb}
 use Rattle.pod_file.specs.declared.command.Command.{Command}
 use Rattle.kernel_types.specs.Allowed.{IsAllowed}
 use Rattle.kernel_types.specs.Apply.{apply}
+use Rattle.kernel_types.specs.Apply.Calls.{has_object}
 use Rattle.kernel_types.specs.Equal.{mac_eq}
 use Rattle.kernel_types.specs.Isolation.{ensures_shared, is_from_outside}
 use Rattle.kernel_types.specs.Sound.{IsSound, link_fits_tag}
@@ -22,12 +23,12 @@ use Rattle.kernel_types.specs.declared.object.Tag.{Tag}
 use Rattle.kernel_types.specs.declared.object.Tag.TheVariants as tags
 use Rattle.kernel_types.specs.declared.call.Call.{Call}
 use Rattle.kernel_types.specs.declared.call.Call.TheVariants.{BridgeEnsure, GatewayEnsure, ForwardEnsure}
+use Rattle.kernel_types.specs.declared.call.Probe.TheVariants.{BridgeAt}
 use Rattle.plan_words.specs.Share.{share_of}
 use Rattle.cni_verbs.specs.CommandWords.{att_of}
 use Rattle.pod_workers.specs.Plans.{Placed}
 use Rattle.pod_workers.specs.World.{World, entry_of, host_of, host_on}
 use Rattle.pod_workers.proofs.Sound.{sound_host}
-use Rattle.pod_laws.specs.Checked.{has_bridge_at}
 use Rattle.pod_laws.proofs.Bridges.{turn-inside, own_kind}
 use Rattle.pod_laws.proofs.RunFacts.{IsKeptBetween}
 use Rattle.pod_laws.proofs.Steps.{GoesOn, on-entry}
@@ -47,7 +48,7 @@ bridge-unowned name mac l (tags.Own att) h = let k = own_kind l.ns l.kind h in g
 
 -- each bridge of the one host is in the other
 abbrev pub KeepsBridges : Host → Host → Type 0
-KeepsBridges old new = (name : List ℕ) (mac : Mac) → has_bridge_at old name mac ≡ true → has_bridge_at new name mac ≡ true
+KeepsBridges old new = (name : List ℕ) (mac : Mac) → has_object old (BridgeAt name mac) ≡ true → has_object new (BridgeAt name mac) ≡ true
 
 stays-unshared : (host : Host) (call : Call) → IsSound host → IsAllowed host call → is_from_outside call ≡ false → ensures_shared call ≡ false → KeepsBridges host (apply host call).0
 stays-unshared host call sound allowed inside own = λ name mac there.
@@ -66,7 +67,7 @@ bridges-stay : (host : Host) (call : Call) → IsSound host → IsAllowed host c
 bridges-stay host (BridgeEnsure bridge mtu promisc) sound allowed inside =
     elim (Touches-apply host (BridgeEnsure bridge mtu promisc) sound allowed) [
       | inl e ↦ same-links host (apply host (BridgeEnsure bridge mtu promisc)).0 (ap (λ (k : Host). k.links) e)
-      | inr more ↦ λ name mac there. ap (λ (k : Host). has_bridge_at k name mac) more.2 ∙ list_any-append_left (is_bridge_with name mac) host.links (more.0 ∷ []) there
+      | inr more ↦ λ name mac there. ap (λ (k : Host). has_object k (BridgeAt name mac)) more.2 ∙ list_any-append_left (is_bridge_with name mac) host.links (more.0 ∷ []) there
     ]
 bridges-stay host (GatewayEnsure bridge cidr) sound allowed inside =
     elim (Touches-apply host (GatewayEnsure bridge cidr) sound allowed) [

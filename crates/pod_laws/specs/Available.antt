@@ -1,6 +1,6 @@
 -- What a STATUS is answered (CNI specification, section 3, "Status").
 use Rattle.std.specs.Prelude.{◌≡◌, ℕ, ◌&&◌, Bool, true, false, List, [], Some, slice_get}
-use Rattle.std.specs.List.{list_any, list_all}
+use Rattle.std.specs.List.{list_all}
 use Rattle.cni_result.specs.declared.version.Version.{Version}
 use Rattle.cni_result.specs.declared.version.Version.TheVariants.{V1_0, V1_1}
 use Rattle.cni_verbs.specs.Answers.{answer_of_ending, code_of}
@@ -12,8 +12,9 @@ use Rattle.cni_verbs.specs.declared.answer.Ending.{Ending}
 use Rattle.cni_verbs.specs.declared.answer.Ending.TheVariants.{Refused}
 use Rattle.cni_verbs.specs.declared.answer.Question.{Question}
 use Rattle.ip_pool.specs.Pool.{has_free_of}
-use Rattle.kernel_types.specs.Apply.Calls.{is_free_master, leased_addresses}
+use Rattle.kernel_types.specs.Apply.Calls.{has_object, leased_addresses}
 use Rattle.kernel_types.specs.declared.object.Host.{Host}
+use Rattle.kernel_types.specs.declared.call.Probe.TheVariants.{Master}
 use Rattle.net_conf.specs.declared.first.First.{First}
 use Rattle.net_conf.specs.declared.first.First.TheVariants as firsts
 use Rattle.net_conf.specs.declared.list.NetList.{NetList}
@@ -31,7 +32,7 @@ use Rattle.pod_laws.specs.Answers.{is_cut_off, EndsByFault, EndsByTest}
 abbrev pub has_master_of : Host → First → Bool
 has_master_of host (firsts.Bridge conf) = true
 has_master_of host (firsts.Ptp conf) = true
-has_master_of host (firsts.Macvlan conf) = list_any (is_free_master conf.master) host.links
+has_master_of host (firsts.Macvlan conf) = has_object host (Master conf.master)
 
 -- the network can serve an ADD: each range set has a free address, and the master is there
 abbrev pub is_available : NetList → Command → Host → Bool

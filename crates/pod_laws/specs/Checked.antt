@@ -1,5 +1,5 @@
 -- What a CHECK is answered (CNI specification, section 3, "Checking attachment").
-use Rattle.std.specs.Prelude.{◌≡◌, ℕ, ◌&&◌, Bool, true, false, List, [], ◌∷◌, find, Option, Some, None, option_map, slice_get}
+use Rattle.std.specs.Prelude.{◌≡◌, ℕ, ◌&&◌, Bool, true, false, List, [], ◌∷◌, Option, Some, None, slice_get}
 use Rattle.std.specs.List.{list_any, list_all}
 use Rattle.cni_addr.specs.declared.mac.Mac.{Mac}
 use Rattle.cni_result.specs.declared.cached.Cached.{Cached}
@@ -15,10 +15,11 @@ use Rattle.cni_verbs.specs.declared.answer.Ending.TheVariants.{Skipped, Refused}
 use Rattle.cni_verbs.specs.declared.answer.Missed.{Missed}
 use Rattle.cni_verbs.specs.declared.answer.Question.{Question}
 use Rattle.cni_verbs.specs.declared.answer.Skip.TheVariants as skips
-use Rattle.kernel_types.specs.Equal.{mac_eq, link_eq, addr_obj_eq, route_eq, rule_eq, setting_eq, lease_eq}
-use Rattle.kernel_types.specs.Words.{is_own, is_host_bridge}
-use Rattle.kernel_types.specs.declared.object.Att.{Att}
+use Rattle.kernel_types.specs.Apply.Calls.{has_object}
+use Rattle.kernel_types.specs.Equal.{link_eq, addr_obj_eq, route_eq, rule_eq, setting_eq, lease_eq}
+use Rattle.kernel_types.specs.Words.{cached_in}
 use Rattle.kernel_types.specs.declared.object.Host.{Host}
+use Rattle.kernel_types.specs.declared.call.Probe.TheVariants.{BridgeAt}
 use Rattle.net_conf.specs.declared.first.First.{First}
 use Rattle.net_conf.specs.declared.first.First.TheVariants as firsts
 use Rattle.net_conf.specs.declared.list.NetList.{NetList}
@@ -39,13 +40,9 @@ use Rattle.pod_laws.specs.Answers.{is_cut_off, EndsByFault, EndsByTest}
 abbrev pub are_in : {X : Type 0} → (X → X → Bool) → List X → List X → Bool
 are_in equal objects all = list_all (λ x. list_any (λ y. equal y x) all) objects
 
--- a bridge of the host with this name and MAC address
-abbrev pub has_bridge_at : Host → List ℕ → Mac → Bool
-has_bridge_at host name mac = list_any (λ l. is_host_bridge name l && mac_eq l.mac mac) host.links
-
 abbrev pub has_bridge_by : Host → List ℕ → Option Mac → Bool
 has_bridge_by host name None = true
-has_bridge_by host name (Some mac) = has_bridge_at host name mac
+has_bridge_by host name (Some mac) = has_object host (BridgeAt name mac)
 
 abbrev pub has_first_bridge : Host → List Interface → Bool
 has_first_bridge host [] = true
@@ -66,10 +63,6 @@ has_objects_of host s =
 -- the host holds all that the cached result says that there is
 abbrev pub holds_cached : NetList → Command → Cached → Host → Bool
 holds_cached list c cached host = has_bridge_of host list.first cached.result.interfaces && has_objects_of host (cached_share list c cached)
-
--- the cached entry of the attachment
-abbrev pub cached_in : Host → Att → Option Cached
-cached_in host att = option_map (λ c. c.cached) (find (λ c. is_own att c.tag) host.cached)
 
 -- ---- the ending
 

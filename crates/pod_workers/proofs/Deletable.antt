@@ -14,7 +14,7 @@ use Rattle.kernel_types.specs.Apply.{apply}
 use Rattle.kernel_types.specs.Apply.Calls.{goes_with, is_own_at, set_link, with_values, without_link}
 use Rattle.cni_addr.specs.Lists.{without_first}
 use Rattle.kernel_types.specs.Sound.{IsSound, link_fits_tag, peer_fits, peers_back, is_owned_kind}
-use Rattle.kernel_types.specs.Words.{is_own, is_host_ns, is_peer_at, is_veth}
+use Rattle.kernel_types.specs.Words.{is_own, is_host_ns, is_peer_at, is_veth, lease_of}
 use Rattle.kernel_types.proofs.Cases.{by_test}
 use Rattle.kernel_types.proofs.ListLemmas.{list_any-weaker, passes-find, passes-list_all}
 use Rattle.kernel_types.proofs.Isolation.{is_own-one}
@@ -34,7 +34,6 @@ use Rattle.kernel_types.specs.declared.call.Kind.TheVariants as kinds
 use Rattle.kernel_types.specs.declared.call.Reply.{Reply}
 use Rattle.kernel_types.specs.declared.call.Reply.TheVariants.{Done, Leased, Gone}
 use Rattle.plan_words.specs.PlanCalls.{is_plan_call_of}
-use Rattle.plan_words.specs.Shapes.{lease_of}
 use Rattle.plan_words.specs.Share.{Share, share_of, share_after_call}
 use Rattle.plan_words.proofs.OwnCalls.{share-own, share-lease, share-begin}
 use Rattle.plan_words.proofs.Refusals.{refused-same, refused-lease}

@@ -236,7 +236,7 @@ fn hand(slot: &mut Slot, reply: Reply) -> Result<Reply, NoMemory>
     ensures slot { OnOk result (slot.new ≡ slot_after slot.old reply) }
     ensures err { OnErr result ((holds_text_or_list reply ≡ true) ⊎ (is_fault reply ≡ true)) }
 {
-    match twin(&reply) {
+    match reply.twin() {
         Err(NoMemory) => {
             drop(reply);
             Err(NoMemory)
@@ -269,25 +269,5 @@ fn replied<K: Kernel>(
         Ok(Reply::Fault)
     } else {
         kernel.call(alloc, call)
-    }
-}
-
-/// A copy of a reply. Memory can be wanting only where the reply holds a text or a list.
-fn twin(reply: &Reply) -> Result<Reply, NoMemory>
-    ensures ok { IfOk result (λ twin. twin ≡ reply.now) }
-    ensures err { OnErr result (holds_text_or_list reply.now ≡ true) }
-{
-    match reply {
-        Reply::Done => Ok(Reply::Done),
-        Reply::NoNs => Ok(Reply::NoNs),
-        Reply::NoLink => Ok(Reply::NoLink),
-        Reply::Taken(tag) => Ok(Reply::Taken(tag.copy()?)),
-        Reply::Empty => Ok(Reply::Empty),
-        Reply::Leased(addr) => Ok(Reply::Leased(*addr)),
-        Reply::Gone(gone) => Ok(Reply::Gone(*gone)),
-        Reply::Has(has) => Ok(Reply::Has(*has)),
-        Reply::Owners(owners) => Ok(Reply::Owners(owners.copy()?)),
-        Reply::Entry(cached) => Ok(Reply::Entry(cached.copy()?)),
-        Reply::Fault => Ok(Reply::Fault),
     }
 }

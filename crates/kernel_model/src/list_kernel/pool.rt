@@ -1,20 +1,20 @@
 //! Addresses of a pool.
 
-ghost use Rattle.std.specs.Prelude.{◌≡◌, true, ◌&&◌, [], ◌∷◌, ◌++◌, map, find, IfOk, OnOk, OnErr};
+ghost use Rattle.std.specs.Prelude.{◌≡◌, true, ◌&&◌, [], ◌∷◌, ◌++◌, map, IfOk, OnOk, OnErr};
 ghost use Rattle.std.specs.List.{list_any};
 ghost use Rattle.std.specs.Str.{bytes_eq};
 ghost use Rattle.cni_addr.specs.Equal.{addr_eq};
 ghost use Rattle.ip_pool.specs.NextAddress.{is_candidate_or_none};
 ghost use Rattle.kernel_types.specs.Allowed.{IsPool};
+ghost use Rattle.kernel_types.specs.Words.{lease_of};
 ghost use Rattle.kernel_types.specs.Apply.Calls.{is_of_pool, last_leased, leased_addresses, moved_last, with_last, lease_next_of, pool_free_of};
 ghost use Rattle.ip_pool.specs.Pool.{pick_of};
-ghost use Rattle.kernel_types.specs.declared.object.Tag.TheVariants.{Own};
 
 use super::ListKernel;
 use cni_addr::{Addr, Duplicate, NoMemory, RangeSet, Text};
 use ip_pool::{Taken, has_free, pick};
 use kernel_types::words::last_leased;
-use kernel_types::{Att, Last, Lease, Reply, Tag};
+use kernel_types::{Att, Last, Lease, Reply};
 
 /// The addresses that are leased in a network.
 #[derive(Clone, Copy)]
@@ -90,14 +90,10 @@ fn push_lease_and_last(
 impl ListKernel {
     /// Leases the address, which becomes the last of its pool.
     fn lease(&mut self, att: &Att, number: u32, addr: Addr) -> Result<(), NoMemory>
-        ensures ok { OnOk result (self.new ≡ with_last (record self.old { leases = self.old.leases ++ record { network = att.now.network; addr = addr; tag = Own att.now } ∷ [] }) att.now.network number addr) }
+        ensures ok { OnOk result (self.new ≡ with_last (record self.old { leases = self.old.leases ++ lease_of att.now addr ∷ [] }) att.now.network number addr) }
         ensures err { OnErr result (self.new ≡ self.old) }
     {
-        let lease = Lease {
-            network: att.network.copy()?,
-            addr,
-            tag: Tag::Own(att.copy()?),
-        };
+        let lease = Lease::of(att, addr)?;
         if has_last(&self.lasts, &att.network, number) {
             self.leases.push(lease)?;
             move_lasts(&mut self.lasts, &att.network, number, addr);

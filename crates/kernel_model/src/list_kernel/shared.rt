@@ -24,7 +24,13 @@ fn new_bridge(alloc: Global, name: &Text, mtu: u32, promisc: bool) -> Result<Lin
     };
     Ok(Link {
         promisc,
-        ..Link::new(key, LinkKind::Bridge, link_mac(name.as_str()), mtu, Tag::Base)
+        ..Link::new(
+            key,
+            LinkKind::Bridge,
+            link_mac(name.as_str()),
+            mtu,
+            Tag::Base,
+        )
     })
 }
 

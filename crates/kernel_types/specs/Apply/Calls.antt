@@ -14,7 +14,7 @@ use Rattle.kernel_types.specs.Equal.{att_eq, addr_eq, cidr_eq, mac_eq, link_eq, 
 use Rattle.cni_addr.specs.Lists.{each_key_once, without_first}
 use Rattle.ip_pool.specs.Pool.{pick_of, has_free_of}
 use Rattle.kernel_types.specs.Names.{link_mac_of}
-use Rattle.kernel_types.specs.Words.{is_host_ns, is_host_or_ns, is_own, is_owned, is_bridge, is_at, is_peer_at, has_named_ns, link_at, is_host_link, is_host_bridge, has_host_bridge, has_objects, is_link_of, new_link}
+use Rattle.kernel_types.specs.Words.{is_host_ns, is_host_or_ns, is_own, is_owned, is_bridge, is_at, is_peer_at, has_named_ns, link_at, is_host_link, is_host_bridge, has_host_bridge, has_objects, is_link_of, new_link, lease_of, cached_in}
 use Rattle.kernel_types.specs.declared.object.Att.{Att}
 use Rattle.kernel_types.specs.declared.object.LinkKey.{LinkKey}
 use Rattle.kernel_types.specs.declared.object.Tag.{Tag}
@@ -192,7 +192,7 @@ with_last host network number addr =
 abbrev pub lease_taken : Host → Att → ℕ → Option Addr → Host × Reply
 lease_taken host att number None = (host, Empty)
 lease_taken host att number (Some addr) =
-    (with_last (record host { leases = host.leases ++ record { network = att.network; addr = addr; tag = Own att } ∷ [] }) att.network number addr, Leased addr)
+    (with_last (record host { leases = host.leases ++ lease_of att addr ∷ [] }) att.network number addr, Leased addr)
 
 abbrev pub lease_next_of : Host → Att → ℕ → RangeSet → Host × Reply
 lease_next_of host att number set =
@@ -210,7 +210,7 @@ cache_put_of host att cached =
     else (record host { cached = host.cached ++ record { cached = cached; tag = Own att } ∷ [] }, Done)
 
 abbrev pub cache_get_of : Host → Att → Host × Reply
-cache_get_of host att = (host, Entry (option_map (λ c. c.cached) (find (λ c. is_own att c.tag) host.cached)))
+cache_get_of host att = (host, Entry (cached_in host att))
 
 -- ---- deletions
 
