@@ -2,8 +2,8 @@
 //!
 //! What it promises above: a [`Kernel`] means a host; a call that may be made gives the host and the reply of `apply`
 //! (`kernel_types/specs/Apply.antt`), want of memory leaves the host as it was, ten calls never want memory, and no
-//! kernel replies with a fault. [`ListKernel`] keeps this contract over nine vectors, which it may scan: it is the plain
-//! definition made to run.
+//! kernel replies with a fault. [`ListKernel`] keeps this contract over nine vectors, which it may scan: it is the
+//! plain definition made to run.
 //!
 //! ```text
 //! let mut kernel = ListKernel::of_host(opening);
