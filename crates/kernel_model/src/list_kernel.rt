@@ -136,8 +136,7 @@ impl ListKernel {
             Call::CacheGet { att } => self.cache_get(att),
             Call::OwnersOf { network, kind } => self.owners_of(alloc, network, *kind),
             Call::PoolFree { network, set } => Ok(self.pool_free(network, set)),
-            Call::NsChange { name, add: true } => self.ns_add(name),
-            Call::NsChange { name, add: false } => Ok(self.ns_del(name)),
+            Call::NsChange { name, add } => self.ns_change(name, *add),
             Call::Outside { change } => Ok(self.outside(change)),
         }
     }

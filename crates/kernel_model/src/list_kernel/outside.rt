@@ -1,11 +1,12 @@
 //! What the world outside does.
 
-ghost use Rattle.std.specs.Prelude.{◌≡◌, not, filter, IfOk, OnErr};
+ghost use Rattle.std.specs.Prelude.{◌≡◌, true, not, filter, IfOk, OnErr, IsOk};
 ghost use Rattle.std.specs.Str.{bytes_eq};
 ghost use Rattle.kernel_types.specs.Equal.{table_eq};
 ghost use Rattle.kernel_types.specs.Apply.Calls.{ns_add_of, ns_del_of, drop_link_of, flush_of};
 ghost use Rattle.kernel_types.specs.Apply.{apply};
-ghost use Rattle.kernel_types.specs.declared.call.Call.TheVariants.{Outside};
+ghost use Rattle.kernel_types.specs.Replies.{needs_no_memory};
+ghost use Rattle.kernel_types.specs.declared.call.Call.TheVariants.{NsChange, Outside};
 
 use super::ListKernel;
 use super::leaving::{AtPlace, InNamespace};
@@ -32,7 +33,7 @@ fn drop_rules_of(rules: &mut Vec<Rule>, table: Table)
 }
 
 impl ListKernel {
-    pub(crate) fn ns_add(&mut self, name: &Text) -> Result<Reply, NoMemory>
+    fn ns_add(&mut self, name: &Text) -> Result<Reply, NoMemory>
         ensures ok { IfOk result (λ reply. (self.new, reply) ≡ ns_add_of self.old name.now) }
         ensures err { OnErr result (self.new ≡ self.old) }
     {
@@ -47,7 +48,7 @@ impl ListKernel {
         Ok(Reply::Done)
     }
 
-    pub(crate) fn ns_del(&mut self, name: &Text) -> Reply
+    fn ns_del(&mut self, name: &Text) -> Reply
         ensures { (self.new, result) ≡ ns_del_of self.old name.now }
     {
         if !has_named_ns(&self.namespaces, name) {
@@ -57,6 +58,18 @@ impl ListKernel {
         drop_namespace(&mut self.namespaces, name);
         drop_settings_in(&mut self.settings, name);
         Reply::Done
+    }
+
+    pub(crate) fn ns_change(&mut self, name: &Text, add: bool) -> Result<Reply, NoMemory>
+        ensures ok { IfOk result (λ reply. (self.new, reply) ≡ apply self.old (NsChange name.now add)) }
+        ensures err { OnErr result (self.new ≡ self.old) }
+        ensures frees { needs_no_memory (NsChange name.now add) ≡ true → IsOk result }
+    {
+        if add {
+            self.ns_add(name)
+        } else {
+            Ok(self.ns_del(name))
+        }
     }
 
     fn drop_link(&mut self, key: &LinkKey) -> Reply
