@@ -2,7 +2,7 @@
 
 ghost use Rattle.std.specs.Prelude.{◌≡◌, ◌&&◌, not, filter, find, Some};
 ghost use Rattle.std.specs.List.{list_any};
-ghost use Rattle.kernel_types.specs.Words.{is_at, is_own};
+ghost use Rattle.kernel_types.specs.Words.{is_own};
 ghost use Rattle.kernel_types.specs.Apply.Calls.{goes_with, has_peer_in, without_links, link_del_of};
 ghost use Rattle.kernel_types.specs.declared.object.Link.{Link};
 
@@ -57,6 +57,37 @@ impl Leaving for InNamespace<'_> {
     }
 }
 
+/// An object that lies on a link.
+trait OnLink {
+    ghost use Rattle.std.specs.Prelude.{Bool};
+    ghost use Rattle.kernel_types.specs.declared.object.Link.{Link};
+
+    ghost on_link: { Self → Link → Bool };
+
+    fn is_on(&self, link: &Link) -> bool
+        ensures { result ≡ on_link self.now link.now };
+}
+
+impl OnLink for AddrObj {
+    ghost use Rattle.kernel_types.specs.Words.{is_at};
+
+    ghost on_link = { λ a. is_at a.ns a.link };
+
+    fn is_on(&self, link: &Link) -> bool {
+        is_at(self.ns.as_str(), self.link.as_str(), link)
+    }
+}
+
+impl OnLink for RouteObj {
+    ghost use Rattle.kernel_types.specs.Words.{is_at};
+
+    ghost on_link = { λ r. is_at r.ns r.link };
+
+    fn is_on(&self, link: &Link) -> bool {
+        is_at(self.ns.as_str(), self.link.as_str(), link)
+    }
+}
+
 fn has_peer_in(name: &Text, peer: &Option<LinkKey>) -> bool
     ensures { result ≡ has_peer_in name.now peer.now }
 {
@@ -66,25 +97,26 @@ fn has_peer_in(name: &Text, peer: &Option<LinkKey>) -> bool
     }
 }
 
-/// Whether a link that stands at the place leaves.
-fn is_left<L: Leaving>(links: &[Link], leaving: &L, ns: &Text, name: &Text) -> bool
-    ensures { result ≡ list_any (λ l. L.leaving leaving.now l && is_at ns.now name.now l) links.now }
+/// Drops the objects on a link.
+fn drop_objects_on<T: OnLink + Drop>(objects: &mut Vec<T>, link: &Link)
+    ensures { objects.new.items ≡ filter (λ x. not (T.on_link x link.now)) objects.old.items }
 {
-    links.iter().any(|l| leaving.is_leaving(l) && is_at(ns.as_str(), name.as_str(), l))
+    objects.retain(|x| !x.is_on(link));
 }
 
-/// Drops the addresses on links that leave.
-fn drop_addresses<L: Leaving>(addresses: &mut Vec<AddrObj>, links: &[Link], leaving: &L)
-    ensures { addresses.new.items ≡ filter (λ a. not (list_any (λ l. L.leaving leaving.now l && is_at a.ns a.link l) links.now)) addresses.old.items }
+/// Drops the objects on links that leave: a test of each link, and a pass over the objects for each that leaves.
+fn drop_objects_on_leaving<T: OnLink + Drop, L: Leaving>(
+    objects: &mut Vec<T>,
+    links: &[Link],
+    leaving: &L,
+)
+    ensures { objects.new.items ≡ filter (λ x. not (list_any (λ l. L.leaving leaving.now l && T.on_link x l) links.now)) objects.old.items }
 {
-    addresses.retain(|a| !is_left(links, leaving, &a.ns, &a.link));
-}
-
-/// Drops the routes on links that leave.
-fn drop_routes<L: Leaving>(routes: &mut Vec<RouteObj>, links: &[Link], leaving: &L)
-    ensures { routes.new.items ≡ filter (λ r. not (list_any (λ l. L.leaving leaving.now l && is_at r.ns r.link l) links.now)) routes.old.items }
-{
-    routes.retain(|r| !is_left(links, leaving, &r.ns, &r.link));
+    for link in links {
+        if leaving.is_leaving(link) {
+            drop_objects_on(objects, link);
+        }
+    }
 }
 
 fn drop_links<L: Leaving>(links: &mut Vec<Link>, leaving: &L)
@@ -109,15 +141,16 @@ fn drop_own(links: &mut Vec<Link>, att: &Att)
 }
 
 impl ListKernel {
-    /// Drops the links that leave, with the addresses and routes on them.
+    /// Drops the links that leave, with the addresses and routes on them. Linear in the lists for each link that leaves.
     pub(super) fn drop_leaving<L: Leaving>(&mut self, leaving: &L)
         ensures { self.new ≡ without_links (L.leaving leaving.now) self.old }
     {
-        drop_addresses(&mut self.addresses, &self.links, leaving);
-        drop_routes(&mut self.routes, &self.links, leaving);
+        drop_objects_on_leaving(&mut self.addresses, &self.links, leaving);
+        drop_objects_on_leaving(&mut self.routes, &self.links, leaving);
         drop_links(&mut self.links, leaving);
     }
 
+    /// Linear in the lists, since of a sound host the link and its peer alone leave.
     pub(crate) fn link_del(&mut self, att: &Att) -> Reply
         ensures { (self.new, result) ≡ link_del_of self.old att.now }
     {
@@ -127,8 +160,8 @@ impl ListKernel {
                     ns: &link.ns,
                     name: &link.name,
                 };
-                drop_addresses(&mut self.addresses, &self.links, &place);
-                drop_routes(&mut self.routes, &self.links, &place);
+                drop_objects_on_leaving(&mut self.addresses, &self.links, &place);
+                drop_objects_on_leaving(&mut self.routes, &self.links, &place);
                 drop_own(&mut self.links, att);
                 Reply::Gone(true)
             }

@@ -1,6 +1,6 @@
 use Rattle.std.proofs.Common.{rules}
 use Rattle.std.proofs.lemmas.Fn.{filter_same}
-use Rattle.kernel_model.proofs.list_kernel.leaving.drop_addresses.Goals as goal
+use Rattle.kernel_model.proofs.list_kernel.leaving.drop_objects_on.Goals as goal
 
 pub returns : goal.returns
 returns g c = filter_same _ _ _ (λ x b f' k. search rules) _ _ c.retain.ensures.filtered
