@@ -27,6 +27,10 @@ use std::alloc::Global;
 use std::marker::Model;
 
 /// A kernel that keeps the lists of its host.
+///
+/// A call is linear in them but for four: `LeaseNext` and `PoolFree` scan the leases for each address that they try,
+/// `OwnersOf` the owners found so far for each object, and `NsChange` the addresses and routes for each link that goes
+/// with the namespace.
 #[derive(Drop)]
 pub struct ListKernel {
     namespaces: Vec<NsObj>,

@@ -57,7 +57,8 @@ fn add_owner_in(owners: &mut Vec<Att>, network: &Text, tag: &Tag) -> Result<(), 
     Ok(())
 }
 
-/// The attachments of the network that own some of the objects, each once, by first occurrence.
+/// The attachments of the network that own some of the objects, each once, by first occurrence. Linear in the objects
+/// times their owners.
 pub(crate) fn owners_among<T: Tagged>(
     alloc: Global,
     objects: &[T],

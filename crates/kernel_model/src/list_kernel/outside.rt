@@ -48,6 +48,7 @@ impl ListKernel {
         Ok(Reply::Done)
     }
 
+    /// Takes away a namespace with all that is in it. Linear in the lists for each link that goes.
     fn ns_del(&mut self, name: &Text) -> Reply
         ensures { (self.new, result) ≡ ns_del_of self.old name.now }
     {

@@ -120,6 +120,7 @@ impl ListKernel {
         pick(set, last_leased(&self.lasts, network, number), &taken)
     }
 
+    /// Linear in the leases for each address that is tried.
     pub(crate) fn lease_next(
         &mut self,
         att: &Att,
@@ -140,6 +141,7 @@ impl ListKernel {
         }
     }
 
+    /// Linear in the leases for each address that is tried.
     pub(crate) fn pool_free(&self, network: &Text, set: &RangeSet) -> Reply
         requires { IsPool set.now }
         ensures { (self.now, result) ≡ pool_free_of self.now network.now set.now }
