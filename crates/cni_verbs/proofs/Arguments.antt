@@ -3,6 +3,7 @@ use Rattle.std.proofs.Common.{◌≡◌, ℕ, ◌+◌, ◌<◌, ◌≤◌, Bool,
 use Rattle.std.specs.Prelude.{◌||◌, ◌&&◌, ◌==◌, find, filter_map, option_map, option_to_list}
 use Rattle.std.specs.Str.{bytes_eq}
 use Rattle.std.specs.List.{list_any, slice_split, onto_first, position_or_len, before_first, after_first, cons_option}
+use Rattle.std.proofs.lemmas.Bool.{or_parts}
 use Rattle.std.proofs.lemmas.List.Splits.{slice_split-cons_yes, slice_split-cons_no, slice_split_first, length-slice_split}
 use Rattle.cni_verbs.specs.CommandWords.{pair_of, argument_of}
 
@@ -21,14 +22,10 @@ one_part p (x ∷ xs) h =
     let step = place-step (p x) (position_or_len p xs) (length xs) (omega (arith, h)) in
     slice_split-cons_no p x xs step.0 ∙ ap (onto_first x) (one_part p xs step.1)
 
-any-step : (a b : Bool) → (a || b) ≡ false → (a ≡ false) × (b ≡ false)
-any-step true b h = absurd (cc)
-any-step false b h = (refl, h)
-
 whole_part : {X : Type 0} (p : X → Bool) (xs : List X) → list_any p xs ≡ false → slice_split p xs ≡ xs ∷ []
 whole_part p [] h = refl
 whole_part p (x ∷ xs) h =
-    let step = any-step (p x) (list_any p xs) h in
+    let step = or_parts (p x) (list_any p xs) h in
     slice_split-cons_no p x xs step.0 ∙ ap (onto_first x) (whole_part p xs step.1)
 
 -- ---- one in which something passes has two at least

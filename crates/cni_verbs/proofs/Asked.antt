@@ -28,7 +28,7 @@ each_more f before asked after xs i x q within at is so_far grown =
     ∙ ap (λ qs. before ++ qs) (sym (map_more f xs i x within))
 
 -- what is left, from its first
-left_from : {X : Type 0} (xs : List X) (i : ℕ) (x : X) → i < length xs → x ≡ get_or xs i x → drop i xs ≡ x ∷ drop (i + 1) xs
+pub left_from : {X : Type 0} (xs : List X) (i : ℕ) (x : X) → i < length xs → x ≡ get_or xs i x → drop i xs ≡ x ∷ drop (i + 1) xs
 left_from xs i x within at = drop_more xs i x within ∙ ap (λ y. y ∷ drop (i + 1) xs) (sym at)
 
 pub rules_more : (whole asked after : List Question) (rules : List Rule) (i : ℕ) (rule : Rule) (q : Question)

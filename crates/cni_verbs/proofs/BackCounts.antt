@@ -19,7 +19,7 @@ use Rattle.bridge_ptp.specs.Results.{at_interface}
 use Rattle.cni_verbs.specs.Wanted.{chained_calls, chained_result, all_chained_calls, first_result}
 
 -- a chained plugin keeps the addresses
-chained-ips : (c : Chained) (prev : AddResult) → (chained_result c prev).ips ≡ prev.ips
+pub chained-ips : (c : Chained) (prev : AddResult) → (chained_result c prev).ips ≡ prev.ips
 chained-ips (Portmap conf) prev = refl
 chained-ips (Firewall conf) prev = refl
 chained-ips (Tuning conf) prev = refl

@@ -114,7 +114,7 @@ length-rules : (number : ℕ) (rules : List Rule) → length (rule_questions num
 length-rules number [] = refl
 length-rules number (rule ∷ rules) = omega (arith, length-rules (number + 1) rules)
 
-length-share : (s : Share)
+pub length-share : (s : Share)
     → length (share_questions s) ≡ length s.links + (length s.addresses + (length s.routes + (length s.rules + (length s.settings + length s.leases))))
 length-share s =
     let leases = map lease_question s.leases in
@@ -174,7 +174,7 @@ check-counted list c cached objects made bridges links of_objects of_made of_bri
 
 -- ---- STATUS
 
-length-pools : (network : List ℕ) (number : ℕ) (sets : List RangeSet) → length (pool_questions network number sets) ≡ length sets
+pub length-pools : (network : List ℕ) (number : ℕ) (sets : List RangeSet) → length (pool_questions network number sets) ≡ length sets
 length-pools network number [] = refl
 length-pools network number (set ∷ sets) = omega (arith, length-pools network (number + 1) sets)
 

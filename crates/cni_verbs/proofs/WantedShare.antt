@@ -30,6 +30,7 @@ use Rattle.firewall_tuning.specs.Firewall.{firewall_rules}
 use Rattle.firewall_tuning.specs.Tuning.{tuned, tuning_settings}
 use Rattle.firewall_tuning.proofs.Shares.{share-tuning}
 use Rattle.cni_verbs.specs.Wanted.{share_before, share_after, calls_before, calls_after, rules_of, settings_of, links_after, chained_calls, chained_result, all_chained_calls, all_links_after, given_by_list, first_plugin_result, cached_of, wanted, back_calls}
+use Rattle.cni_verbs.proofs.BackCounts.{chained-ips}
 
 -- ---- the plugin that makes the interface
 
@@ -61,11 +62,6 @@ made-chained (Firewall conf) att netns mappings ips s =
 made-chained (Tuning conf) att netns mappings ips s =
     share-tuning conf att netns s ∙ ap (λ l. record s { links = tuned conf att netns s.links; rules = l; settings = s.settings ++ tuning_settings conf att netns }) (sym (append-nil s.rules))
 
-ips-chained : (c : Chained) (prev : AddResult) → (chained_result c prev).ips ≡ prev.ips
-ips-chained (Portmap conf) prev = refl
-ips-chained (Firewall conf) prev = refl
-ips-chained (Tuning conf) prev = refl
-
 made-all_chained : (cs : List Chained) (att : Att) (netns : List ℕ) (mappings : List PortMapping) (prev : AddResult) (ips : List IpEntry) (s : Share) → prev.ips ≡ ips
     → share_after_calls s (all_chained_calls cs att netns mappings prev)
     ≡ record s { links = all_links_after cs att netns s.links; rules = s.rules ++ flat_map (λ c. rules_of c att mappings ips) cs; settings = s.settings ++ flat_map (λ c. settings_of c att netns) cs }
@@ -74,7 +70,7 @@ made-all_chained (c ∷ cs) att netns mappings prev ips s is =
     let on = share_chained c att netns mappings ips s in
     share_after_calls-append s (chained_calls c att netns mappings prev.ips) (all_chained_calls cs att netns mappings (chained_result c prev))
     ∙ ap (λ t. share_after_calls t (all_chained_calls cs att netns mappings (chained_result c prev))) (ap (λ i. share_after_calls s (chained_calls c att netns mappings i)) is ∙ made-chained c att netns mappings ips s)
-    ∙ made-all_chained cs att netns mappings (chained_result c prev) ips on (ips-chained c prev ∙ is)
+    ∙ made-all_chained cs att netns mappings (chained_result c prev) ips on (chained-ips c prev ∙ is)
     ∙ ap (λ l. record s { links = all_links_after cs att netns (links_after c att netns s.links); rules = l; settings = (s.settings ++ settings_of c att netns) ++ flat_map (λ x. settings_of x att netns) cs })
     (append_assoc s.rules (rules_of c att mappings ips) (flat_map (λ x. rules_of x att mappings ips) cs))
     ∙ ap (λ l. record s { links = all_links_after cs att netns (links_after c att netns s.links); rules = s.rules ++ (rules_of c att mappings ips ++ flat_map (λ x. rules_of x att mappings ips) cs); settings = l })
