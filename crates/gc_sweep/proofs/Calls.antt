@@ -1,5 +1,5 @@
 -- Each call of a collection lowers a weight, so there are few.
-use Rattle.std.proofs.Common.{◌≡◌, ℕ, ◌+◌, ◌*◌, ◌<◌, ◌≤◌, Bool, true, false, not, cond, ap, List, [], ◌∷◌, ◌++◌, length, Some, None, refl, sym, ◌∙◌, subst, inl, inr, arith, suc-mul, mul-add, mul-le-mul_right, length-append}
+use Rattle.std.proofs.Common.{◌≡◌, ℕ, ◌+◌, ◌*◌, ◌<◌, ◌≤◌, Bool, true, false, not, cond, ap, List, [], ◌∷◌, ◌++◌, length, Some, None, refl, sym, ◌∙◌, subst, inl, inr, arith, suc-mul, mul-add, mul-le-mul_right, le_refl, length-append}
 use Rattle.std.proofs.lemmas.List.{length-map}
 use Rattle.std.specs.Prelude.{filter, map, ◌||◌}
 use Rattle.std.specs.List.{list_any, list_all, filter_map, cons_option}
@@ -31,7 +31,7 @@ use Rattle.kernel_types.specs.declared.call.Reply.TheVariants.{Gone}
 use Rattle.kernel_types.proofs.Cases.{att_eq-refl}
 use Rattle.kernel_types.proofs.Isolation.{att_eq-laws, att_eq-same}
 use Rattle.kernel_types.proofs.ListLemmas.{distinct-filter, list_all-filter}
-use Rattle.kernel_types.proofs.TouchRemoval.{list_all-both}
+use Rattle.kernel_types.proofs.TouchRemoval.{by_bool, list_all-both}
 use Rattle.plan_words.proofs.KeyLists.{distinct-each_key_once, list_all-each_key_once}
 use Rattle.net_conf.specs.declared.list.NetList.{NetList}
 use Rattle.pod_file.specs.declared.command.ValidAtt.{ValidAtt}
@@ -47,7 +47,7 @@ use Rattle.gc_sweep.proofs.Deletions.{deletes}
 use Rattle.gc_sweep.proofs.Kept.{tags_within}
 use Rattle.gc_sweep.proofs.Lists.{list_all-none, list_all-sublist}
 use Rattle.gc_sweep.proofs.Machine.{Point, start_point, point_after, IsTrail}
-use Rattle.gc_sweep.proofs.Owners.{is_stale, goes_own, own_goes, owners_cover, owners_stale, has_att, by_bool}
+use Rattle.gc_sweep.proofs.Owners.{is_stale, goes_own, own_goes, owners_cover, owners_stale, has_att}
 use Rattle.gc_sweep.proofs.Runs.{trail, early_or, early_makes_none}
 use Rattle.gc_sweep.proofs.Weights.{jobs_weight, total, weight}
 
@@ -116,11 +116,11 @@ owners_at_start gc h k kind w =
 
 -- ---- each call lowers the weight
 
-jobs_weight-map : (s : Sweep) (xs : List Att) → jobs_weight (map (job_of s) xs) ≡ length xs * (1 + length s.more)
+pub jobs_weight-map : (s : Sweep) (xs : List Att) → jobs_weight (map (job_of s) xs) ≡ length xs * (1 + length s.more)
 jobs_weight-map s [] = omega arith
 jobs_weight-map s (x ∷ xs) = let rest = jobs_weight-map s xs in let one = suc-mul (length xs) (1 + length s.more) in omega arith
 
-jobs_weight-after : (att : Att) (more : List Step) (js : List Job) → jobs_weight (after_step att more js) ≡ length more + jobs_weight js
+pub jobs_weight-after : (att : Att) (more : List Step) (js : List Job) → jobs_weight (after_step att more js) ≡ length more + jobs_weight js
 jobs_weight-after att [] js = omega arith
 jobs_weight-after att (s ∷ more) js = omega arith
 
@@ -199,13 +199,10 @@ count_more test n xs ys le = let sum = count_append test xs ys in omega arith
 count_over : (test : Tag → Bool) (n : ℕ) (xs ys : List Tag) → n ≤ length (filter test xs) → n ≤ length (filter test (xs ++ ys))
 count_over test n xs ys le = let sum = count_append test xs ys in omega arith
 
-at_most_itself : (n : ℕ) → n ≤ n
-at_most_itself n = omega arith
-
 some_of_all : (test : Tag → Bool) (a b c d e f g : List Tag)
     → length (filter test a) + length (filter test d) + length (filter test e) + length (filter test f) + length (filter test g) ≤ length (filter test (a ++ b ++ c ++ d ++ e ++ f ++ g))
 some_of_all test a b c d e f g =
-    count_more test _ (a ++ b ++ c ++ d ++ e ++ f) g (count_more test _ (a ++ b ++ c ++ d ++ e) f (count_more test _ (a ++ b ++ c ++ d) e (count_more test _ (a ++ b ++ c) d (count_over test _ (a ++ b) c (count_over test _ a b (at_most_itself (length (filter test a))))))))
+    count_more test _ (a ++ b ++ c ++ d ++ e ++ f) g (count_more test _ (a ++ b ++ c ++ d ++ e) f (count_more test _ (a ++ b ++ c ++ d) e (count_more test _ (a ++ b ++ c) d (count_over test _ (a ++ b) c (count_over test _ a b (le_refl (length (filter test a))))))))
 
 same_sum : (a b c d e v w x y z n : ℕ) → v ≡ a → w ≡ b → x ≡ c → y ≡ d → z ≡ e → v + w + x + y + z ≤ n → a + b + c + d + e ≤ n
 same_sum a b c d e v w x y z n h1 h2 h3 h4 h5 le = omega arith
@@ -221,7 +218,8 @@ total_most test h =
     (some_of_all test (map (λ (l : Link). l.tag) h.links) (map (λ (a : AddrObj). a.tag) h.addresses) (map (λ (r : RouteObj). r.tag) h.routes) (map (λ (r : Rule). r.tag) h.rules)
     (map (λ (s : Setting). s.tag) h.settings) (map (λ (l : Lease). l.tag) h.leases) (map (λ (c : CachedObj). c.tag) h.cached))
 
-kinds_number : (list : NetList) → length (kinds_of list) ≡ kinds_over_plugins list + 1
+-- the cached entry is the one more
+pub kinds_number : (list : NetList) → length (kinds_of list) ≡ kinds_over_plugins list + 1
 kinds_number list =
     let a = length-append (chained_kinds_reversed list.chained) (first_kinds list.first ++ Cached ∷ []) in
     let b = length-append (first_kinds list.first) (Cached ∷ []) in

@@ -17,7 +17,7 @@ use Rattle.kernel_types.specs.declared.call.Kind.TheVariants.{Links, Rules, Sett
 use Rattle.kernel_types.specs.declared.call.Reply.{Reply}
 use Rattle.kernel_types.specs.declared.call.Reply.TheVariants.{Gone, Fault}
 use Rattle.kernel_types.proofs.ListLemmas.{list_all-weaker, list_any-map, list_all-map}
-use Rattle.kernel_types.proofs.TouchRemoval.{list_all-both}
+use Rattle.kernel_types.proofs.TouchRemoval.{by_bool, list_all-both}
 use Rattle.cni_verbs.specs.Replies.{host_after, reply_to}
 use Rattle.cni_verbs.specs.Script.{call_of_work}
 use Rattle.cni_verbs.specs.Sweep.{Gc, Step, AskCached, Delete, Sweep, Job, step_call, job_of, after_step, work_after, all_sweeps}
@@ -26,9 +26,9 @@ use Rattle.gc_sweep.specs.Keep.{stays, goes}
 use Rattle.gc_sweep.specs.Trace.{Made, is_about, blames, is_blamed}
 use Rattle.kernel_types.specs.Codes.{kind_eq}
 use Rattle.gc_sweep.specs.Sweep.{is_excused}
-use Rattle.gc_sweep.proofs.Lists.{list_all-sublist, list_any-snoc, list_all-none}
+use Rattle.gc_sweep.proofs.Lists.{all_true, list_all-sublist, list_any-snoc, list_all-none}
 use Rattle.gc_sweep.specs.Bound.{stale_owners}
-use Rattle.gc_sweep.proofs.Owners.{is_stale, owners_cover, owners_stale, has_att, by_bool}
+use Rattle.gc_sweep.proofs.Owners.{is_stale, owners_cover, owners_stale, has_att}
 use Rattle.gc_sweep.proofs.Deletions.{deletes}
 use Rattle.gc_sweep.proofs.Kept.{Stays, stays_start, stays_deleted, tags_within}
 
@@ -277,10 +277,6 @@ work_step gc h es [] (s ∷ ss) k call false is v =
 work_step gc h es (j ∷ js) ss k call faulty is v =
     let P : Call → Type 0 = λ c. Next gc h es (j ∷ js) ss k c (reply_to k c faulty) in
     subst P (same_Some (step_call j.att j.step) call is) (step_by gc h es j.att j.step j.more js ss k faulty v)
-
-all_true : {X : Type 0} (p : X → Bool) → ((x : X) → p x ≡ true) → (xs : List X) → list_all p xs ≡ true
-all_true p w [] = refl
-all_true p w (x ∷ xs) = grind (arith, w x, all_true p w xs)
 
 asked : (gc : Gc) (t : Tag) (kind : Kind) → is_covered gc [] [] (all_sweeps gc.kinds) kind t ≡ true
 asked gc t Links = grind arith

@@ -106,7 +106,7 @@ deletes_cached a h sound =
 
 -- ---- links go with their peers
 
-any-found : {X : Type 0} (p : X → Bool) (xs : List X) (y : X) → find p xs ≡ Some y → list_any p xs ≡ true
+pub any-found : {X : Type 0} (p : X → Bool) (xs : List X) (y : X) → find p xs ≡ Some y → list_any p xs ≡ true
 any-found p [] y h = cc
 any-found p (x ∷ xs) y h = grind (arith, h, any-found p xs y)
 

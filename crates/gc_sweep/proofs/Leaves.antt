@@ -1,7 +1,8 @@
 -- What a garbage collection leaves.
 use Rattle.std.proofs.Common.{◌≡◌, ℕ, ◌+◌, Bool, true, false, ap, List, [], ◌∷◌, ◌++◌, refl, sym, ◌∙◌, subst, inl, inr, arith}
-use Rattle.std.specs.Prelude.{filter, ◌&&◌, if◌then◌else◌}
+use Rattle.std.specs.Prelude.{filter, if◌then◌else◌}
 use Rattle.std.specs.List.{list_any, list_all}
+use Rattle.std.proofs.lemmas.Bool.{and_parts}
 use Rattle.std.proofs.lemmas.List.{append_assoc, append-nil}
 use Rattle.kernel_types.specs.Equal.{tag_eq}
 use Rattle.kernel_types.specs.Apply.Calls.{tags_of}
@@ -20,7 +21,7 @@ use Rattle.kernel_types.specs.declared.call.Reply.{Reply}
 use Rattle.kernel_types.proofs.Cases.{att_eq-refl}
 use Rattle.kernel_types.proofs.Isolation.{is_own-one}
 use Rattle.kernel_types.proofs.ListLemmas.{list_all-weaker, list_all-map}
-use Rattle.kernel_types.proofs.TouchRemoval.{is_own-tag_eq}
+use Rattle.kernel_types.proofs.TouchRemoval.{from_one, is_own-tag_eq}
 use Rattle.net_conf.specs.declared.list.NetList.{NetList}
 use Rattle.pod_file.specs.declared.command.Command.{Command}
 use Rattle.cni_verbs.specs.Script.{gc_of, faults_after, swept}
@@ -32,7 +33,7 @@ use Rattle.gc_sweep.specs.Trace.{Made, host_on, host_from, is_blamed, Ends, IsRu
 use Rattle.cni_verbs.specs.Progress.{is_gc}
 use Rattle.gc_sweep.proofs.Covered.{WorkKept, Next, is_covered, work_step, work_start}
 use Rattle.gc_sweep.proofs.Kept.{Stays, stays_start, host_of_parts}
-use Rattle.gc_sweep.proofs.Lists.{filter_all, sublist_filter, from_one}
+use Rattle.gc_sweep.proofs.Lists.{filter_all, sublist_filter}
 use Rattle.gc_sweep.proofs.Machine.{Point, start_point, point_after, point_from, IsTrail}
 use Rattle.gc_sweep.proofs.Runs.{trail, done, early_or, early_makes_none, early_not_yes}
 
@@ -93,14 +94,10 @@ on_link gc es (Own a) u h g =
     let own : is_own a u ≡ true = is_own-tag_eq a u (Own a) h ∙ att_eq-refl a in
     subst (λ x. is_excused gc.network gc.valid es Links x ≡ true) (is_own-one a u own) g
 
-second_part : (a b : Bool) → (a && b) ≡ true → b ≡ true
-second_part true b h = h
-second_part false b h = cc
-
 link_excused : (gc : Gc) (es : List Made) (links : List Link) (ns name : List ℕ) (t : Tag) → list_all (λ (l : Link). is_excused gc.network gc.valid es Links l.tag) links ≡ true → list_any (is_link_of ns name t) links ≡ true → is_excused gc.network gc.valid es Links t ≡ true
 link_excused gc es links ns name t all h =
     from_one (is_link_of ns name t) (λ l. is_excused gc.network gc.valid es Links l.tag) (is_excused gc.network gc.valid es Links t)
-    (λ l p q. on_link gc es t l.tag (second_part (is_at ns name l) (tag_eq l.tag t) p) q) links h all
+    (λ l p q. on_link gc es t l.tag (and_parts (is_at ns name l) (tag_eq l.tag t) p).1 q) links h all
 
 address_excused : (gc : Gc) (es : List Made) (links : List Link) → list_all (λ (l : Link). is_excused gc.network gc.valid es Links l.tag) links ≡ true → (a : AddrObj) (t : Tag) → address_fits_tag links a t ≡ true → is_excused gc.network gc.valid es Links t ≡ true
 address_excused gc es links all a Outside h = refl

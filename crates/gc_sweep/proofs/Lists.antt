@@ -84,9 +84,9 @@ count_without_first own gone w (x ∷ xs) h = grind (arith, h, w x, count_withou
 
 -- ---- each, and some
 
-pub from_one : {X : Type 0} (p q : X → Bool) (c : Bool) → ((x : X) → p x ≡ true → q x ≡ true → c ≡ true) → (xs : List X) → list_any p xs ≡ true → list_all q xs ≡ true → c ≡ true
-from_one p q c w [] h g = cc
-from_one p q c w (x ∷ xs) h g = grind (arith, w x, from_one p q c w xs)
+pub all_true : {X : Type 0} (p : X → Bool) → ((x : X) → p x ≡ true) → (xs : List X) → list_all p xs ≡ true
+all_true p w [] = refl
+all_true p w (x ∷ xs) = grind (arith, w x, all_true p w xs)
 
 pub list_any-snoc : {X : Type 0} (p : X → Bool) (xs : List X) (y : X) → list_any p (xs ++ y ∷ []) ≡ (list_any p xs || p y)
 list_any-snoc p [] y = grind arith

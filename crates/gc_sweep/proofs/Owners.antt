@@ -18,6 +18,7 @@ use Rattle.cni_verbs.specs.Sweep.{is_valid}
 use Rattle.gc_sweep.specs.Keep.{goes}
 use Rattle.gc_sweep.specs.Bound.{stale_owners}
 use Rattle.kernel_types.proofs.ListLemmas.{list_all-weaker}
+use Rattle.kernel_types.proofs.TouchRemoval.{by_bool}
 use Rattle.plan_words.proofs.KeyLists.{list_all-each_key_once}
 use Rattle.plan_words.proofs.RowLemmas.{list_any-each_key_once}
 use Rattle.gc_sweep.proofs.Lists.{list_any-kept_all}
@@ -52,10 +53,6 @@ owners_all network [] = refl
 owners_all network (Outside ∷ ts) = owners_all network ts
 owners_all network (Base ∷ ts) = owners_all network ts
 owners_all network (Own a ∷ ts) = own_case (bytes_eq a.network network) a network (filter_map (owner_in network) ts) ts (owners_all network ts)
-
-pub by_bool : {C : Type 0} (b : Bool) → (b ≡ true → C) → (b ≡ false → C) → C
-by_bool true h g = h refl
-by_bool false h g = g refl
 
 unowned : (xs : List Att) → list_any (λ a. false) xs ≡ true → ⊥
 unowned [] h = cc

@@ -122,7 +122,7 @@ pub answers_before : (list : NetList) (c : Command) (w : Work) (faults : List �
     → Some a ≡ option_map (answer_by (Some list) c) (finish_of (state_by list.version list.disable_gc w faults))
 answers_before list c w faults a h = answers_early list.version list.disable_gc list c w faults a refl (sym h)
 
-finish_working : (w : Work) (faults : List ℕ) → finish_of (Collecting w faults) ≡ finish_of_work w.jobs w.sweeps faults
+pub finish_working : (w : Work) (faults : List ℕ) → finish_of (Collecting w faults) ≡ finish_of_work w.jobs w.sweeps faults
 unfolding finish_of
 finish_working w faults = refl
 

@@ -17,7 +17,7 @@ use Rattle.gc_sweep.specs.Trace.{Made, host_on, host_from, IsRunFrom, IsRun, End
 use Rattle.cni_verbs.specs.Progress.{is_gc}
 use Rattle.gc_sweep.specs.View.{state_by}
 use Rattle.gc_sweep.proofs.Machine.{Point, start_point, point_after, point_from, IsTrail}
-use Rattle.gc_sweep.proofs.Phases.{starts}
+use Rattle.gc_sweep.proofs.Phases.{finish_working, starts}
 
 -- ---- the work of a run
 
@@ -45,10 +45,6 @@ pub trail : (list : NetList) (c : Command) (host : Host) (es : List Made) → is
 trail list c host es gc collected run =
     let P : State → Type 0 = λ s. IsRunFrom list c 0 s host es in
     trail_of list c (start_point (gc_of list c)) host es (subst P (begins list c gc collected) run)
-
-finish_working : (w : Work) (faults : List ℕ) → finish_of (Collecting w faults) ≡ finish_of_work w.jobs w.sweeps faults
-unfolding finish_of
-finish_working w faults = refl
 
 finish_is : (ending : Ending) (faults : List ℕ) → ◌≡◌ {A = Option Finish} (Some (record { ending = swept faults; given = [] })) (Some (record { ending = ending; given = [] })) → swept faults ≡ ending
 finish_is ending faults e = ap (λ (f : Finish). f.ending) (same_Some (record { ending = swept faults; given = [] }) (record { ending = ending; given = [] }) e)

@@ -27,7 +27,7 @@ use Rattle.kernel_types.specs.declared.object.Host.{Host}
 
 -- ---- lists
 
-by_bool : {C : Type 0} (b : Bool) → (b ≡ true → C) → (b ≡ false → C) → C
+pub by_bool : {C : Type 0} (b : Bool) → (b ≡ true → C) → (b ≡ false → C) → C
 by_bool true h g = h refl
 by_bool false h g = g refl
 
@@ -61,7 +61,7 @@ list_all-both p q r w [] h g = refl
 list_all-both p q r w (x ∷ xs) h g = grind (arith, w x, list_all-both p q r w xs)
 
 -- from one that passes, where all pass another test
-from_one : {X : Type 0} (p q : X → Bool) (c : Bool) → ((x : X) → p x ≡ true → q x ≡ true → c ≡ true) → (xs : List X) → list_any p xs ≡ true → list_all q xs ≡ true → c ≡ true
+pub from_one : {X : Type 0} (p q : X → Bool) (c : Bool) → ((x : X) → p x ≡ true → q x ≡ true → c ≡ true) → (xs : List X) → list_any p xs ≡ true → list_all q xs ≡ true → c ≡ true
 from_one p q c w [] h g = cc
 from_one p q c w (x ∷ xs) h g = grind (arith, w x, from_one p q c w xs)
 
@@ -166,7 +166,7 @@ peer_owned att found links owned m (Some key) h p =
     (λ x a w. let at : is_at found.ns found.name x ≡ true = rw (← ns, ← name) (grind (arith, a)) in grind (arith, a, w, at, is_own-tag_eq att x.tag m.tag))
     links (grind (arith, h)) owned
 
-owned_no_bridge : (ns : List ℕ) (k : LinkKind) → is_owned_kind ns k ≡ true → is_bridge k ≡ false
+pub owned_no_bridge : (ns : List ℕ) (k : LinkKind) → is_owned_kind ns k ≡ true → is_bridge k ≡ false
 owned_no_bridge ns Device h = cc
 owned_no_bridge ns Bridge h = cc
 owned_no_bridge ns Veth h = refl
