@@ -1,11 +1,11 @@
 -- The commands of a round are those with the numbers from its first one's on.
 use Rattle.std.proofs.Common.{◌≡◌, ◌≢◌, ℕ, zero, suc, ◌+◌, ◌-◌, ◌<◌, ◌≤◌, ◌==◌, ◌&&◌, Bool, true, false, not, List, [], ◌∷◌, ◌++◌, length, map, take, Option, Some, None, slice_get, nat_le, nat_lt, refl, sym, ◌∙◌, ap, arith, inl, inr}
-use Rattle.std.proofs.lemmas.Bool.{cases_lt, le-leb, le-ltb, lt-ltb}
+use Rattle.std.proofs.lemmas.Bool.{and_left, and_right, cases_lt, le-leb, le-ltb, lt-leb, lt-ltb}
 use Rattle.std.proofs.lemmas.Bool.Decides.{eqb_tells, leb_tells}
 use Rattle.std.proofs.lemmas.List.{append_assoc, length-append, length-map}
 use Rattle.std.proofs.lemmas.Option.{same_Some, none-some, slice_get_within}
 use Rattle.pod_file.specs.declared.command.Command.{Command}
-use Rattle.pod_workers.proofs.Elements.{slice_get-left, slice_get-right}
+use Rattle.pod_workers.proofs.Elements.{slice_get-before, slice_get-right}
 use Rattle.pod_workers.proofs.Rounds.{round-of, rounds-before}
 use Rattle.pod_workers.proofs.Sound.{fine}
 use Rattle.pod_workers.proofs.WellFormedPlans.{AreNumbered, are_numbered}
@@ -54,7 +54,7 @@ in-it round c = elim (eqb_tells round round) [ inl t ↦ t.0 | inr f ↦ absurd 
 
 before-it : (round : ℕ) (front rest : List Placed) (n : ℕ) → ((k : ℕ) (d : Placed) → slice_get front k ≡ Some d → d.round < round) → n < length front → is_in_round round (slice_get (front ++ rest) n) ≡ false
 before-it round front rest n earlier less =
-    not-in round (slice_get (front ++ rest) n) (λ d at same. let low = earlier n d (sym (slice_get-left front rest n less) ∙ at) in omega arith)
+    not-in round (slice_get (front ++ rest) n) (λ d at same. let low = earlier n d (sym (slice_get-before front rest n less) ∙ at) in omega arith)
 
 after-it : (round : ℕ) (front rest : List Placed) (n : ℕ) → ((k : ℕ) (d : Placed) → slice_get rest k ≡ Some d → round < d.round) → length front ≤ n → is_in_round round (slice_get (front ++ rest) n) ≡ false
 after-it round front rest n later more =
@@ -76,19 +76,9 @@ within-it : (round : ℕ) (cs : List Command) (rest : List Placed) (k : ℕ) →
 within-it round cs rest k less =
     let c = element-at cs k less in
     let long = length-map cs (in_round round) in
-    ap (is_in_round round) (slice_get-left (map (in_round round) cs) rest k (omega (arith, long, less)) ∙ map-at (in_round round) cs k c.0 c.1) ∙ in-it round c.0
+    ap (is_in_round round) (slice_get-before (map (in_round round) cs) rest k (omega (arith, long, less)) ∙ map-at (in_round round) cs k c.0 c.1) ∙ in-it round c.0
 
 -- ---- by place
-
-false-and : (b c : Bool) → b ≡ false → (b && c) ≡ false
-false-and b c is = ap (λ (x : Bool). x && c) is
-
-and-false : (b c : Bool) → c ≡ false → (b && c) ≡ false
-and-false true c is = is
-and-false false c is = refl
-
-not-leb : (a b : ℕ) → b < a → nat_le a b ≡ false
-not-leb a b less = elim (leb_tells a b) [ inl t ↦ absurd (let le = t.1 in omega arith) | inr f ↦ f.0 ]
 
 place-in : (round : ℕ) (front rest : List Placed) (cs : List Command) → ((k : ℕ) (d : Placed) → slice_get front k ≡ Some d → d.round < round)
     → ((k : ℕ) (d : Placed) → slice_get rest k ≡ Some d → round < d.round) → (n : ℕ)
@@ -97,7 +87,7 @@ place-in round front rest cs earlier later n =
     let mine = map (in_round round) cs in
     let long = length-map cs (in_round round) in
     elim (cases_lt n (length front)) [
-      | inl less ↦ before-it round front (mine ++ rest) n earlier less ∙ sym (false-and (nat_le (length front) n) (nat_lt (n - length front) (length cs)) (not-leb (length front) n less))
+      | inl less ↦ before-it round front (mine ++ rest) n earlier less ∙ sym (and_left (nat_le (length front) n) (nat_lt (n - length front) (length cs)) (lt-leb (length front) n less))
       | inr more ↦ elim (cases_lt (n - length front) (length cs)) [
         | inl within ↦
             let place : n ≡ length front + (n - length front) = omega arith in
@@ -107,7 +97,7 @@ place-in round front rest cs earlier later n =
         | inr past ↦
             let both = length-append front mine in
             ap (λ xs. is_in_round round (slice_get xs n)) (sym (append_assoc front mine rest)) ∙ after-it round (front ++ mine) rest n later (omega (arith, both, long))
-            ∙ sym (and-false (nat_le (length front) n) (nat_lt (n - length front) (length cs)) (le-ltb (n - length front) (length cs) past))
+            ∙ sym (and_right (nat_le (length front) n) (nat_lt (n - length front) (length cs)) (le-ltb (n - length front) (length cs) past))
       ]
     ]
 
@@ -116,20 +106,20 @@ place-in round front rest cs earlier later n =
 leb-less : (a k : ℕ) → k ≢ 0 → nat_le (a + 1) k ≡ nat_le a (k - 1)
 leb-less a k some = elim (leb_tells (a + 1) k) [
   | inl t ↦ (let le = t.1 in t.0 ∙ sym (le-leb a (k - 1) (omega arith)))
-  | inr f ↦ (let less = f.1 in f.0 ∙ sym (not-leb a (k - 1) (omega arith)))
+  | inr f ↦ (let less = f.1 in f.0 ∙ sym (lt-leb a (k - 1) (omega arith)))
 ]
 
 abbrev by_place : ℕ → ℕ → ℕ → Bool
 by_place front many k = not (k == 0) && (nat_le front (k - 1) && nat_lt (k - 1 - front) many)
 
 none-numbered : (front k : ℕ) → by_place front 0 k ≡ false
-none-numbered front k = and-false (not (k == 0)) (nat_le front (k - 1) && nat_lt (k - 1 - front) 0) (and-false (nat_le front (k - 1)) (nat_lt (k - 1 - front) 0) (le-ltb (k - 1 - front) 0 (omega arith)))
+none-numbered front k = and_right (not (k == 0)) (nat_le front (k - 1) && nat_lt (k - 1 - front) 0) (and_right (nat_le front (k - 1)) (nat_lt (k - 1 - front) 0) (le-ltb (k - 1 - front) 0 (omega arith)))
 
 first-numbered : (c : Command) (front many k : ℕ) → c.number ≡ front + 1 → is_numbered_from (Some c) many k ≡ by_place front many k
 first-numbered c front many k is =
     ap (λ first. nat_le first k && nat_lt (k - first) many) is ∙ elim (eqb_tells k 0) [
       | inl t ↦
-          (let zero_is = t.1 in false-and (nat_le (front + 1) k) (nat_lt (k - (front + 1)) many) (not-leb (front + 1) k (omega arith)))
+          (let zero_is = t.1 in and_left (nat_le (front + 1) k) (nat_lt (k - (front + 1)) many) (lt-leb (front + 1) k (omega arith)))
           ∙ sym (ap (λ (b : Bool). not b && (nat_le front (k - 1) && nat_lt (k - 1 - front) many)) t.0)
       | inr f ↦
           let less : k - (front + 1) ≡ k - 1 - front = omega arith in
@@ -158,7 +148,7 @@ number-is p round cs numbered is e =
     let place : length front + 0 ≡ length front = omega arith in
     numbered (length front) (in_round round c)
     (ap (λ xs. slice_get xs (length front)) whole ∙ ap (slice_get (front ++ (map (in_round round) cs ++ split.rest))) (sym place) ∙ slice_get-right front (map (in_round round) cs ++ split.rest) 0
-    ∙ slice_get-left (map (in_round round) cs) split.rest 0 less ∙ map-at (in_round round) cs 0 c at) in
+    ∙ slice_get-before (map (in_round round) cs) split.rest 0 less ∙ map-at (in_round round) cs 0 c at) in
     ap (λ xs. not (e.command == 0) && is_in_round round (slice_get xs (e.command - 1))) whole
     ∙ ap (λ (b : Bool). not (e.command == 0) && b) (place-in round front split.rest cs (rounds-before round p.pods.rounds) (λ k d at. let low = split.later k d at in omega (arith, low, same)) (e.command - 1))
     ∙ sym (numbered-by-place cs (length front) e.command first)

@@ -4,7 +4,7 @@ use Rattle.std.specs.Prelude.{if◌then◌else◌, ◌||◌}
 use Rattle.std.proofs.lemmas.List.{append_assoc, length_push}
 use Rattle.std.proofs.lemmas.Option.{same_Some, none-some, slice_get_within}
 use Rattle.std.proofs.lemmas.Bool.Decides.{eqb_tells, nat_tests}
-use Rattle.std.proofs.lemmas.Bool.{and_parts, eqb-true}
+use Rattle.std.proofs.lemmas.Bool.{and_parts, eqb-true, or_cases}
 use Rattle.cni_verbs.specs.Progress.{turn_by, answer_by}
 use Rattle.cni_verbs.specs.Script.{Turn, Calls, Finishes, Finish}
 use Rattle.cni_verbs.specs.declared.answer.Answer.{Answer}
@@ -56,10 +56,6 @@ stands-append p h x (Some number) round is =
 
 -- ---- why a step gives an answer
 
-either_true : (a b : Bool) → (a || b) ≡ true → (a ≡ true) ⊎ (b ≡ true)
-either_true true b is = inl refl
-either_true false b is = inr is
-
 -- the script's answer, or a stop where the script has a call
 abbrev AnswersBy : Option NetList → Command → ℕ → Bool → Turn → Answer → Type 0
 AnswersBy list c made cut t a =
@@ -91,7 +87,7 @@ due_now v n c a legal ready is =
       | inl scripts ↦ inl scripts
       | inr stopped ↦ inr (
         (stopped.0, stopped.1, stopped.2),
-        elim (either_true (is_stop c.command.stop made) (is_cut v) stopped.3) [
+        elim (or_cases (is_stop c.command.stop made) (is_cut v) stopped.3) [
           | inl own ↦ inl (at_stop c.command.stop made own (λ most at. keeps_stop v legal n most c ready.there at))
           | inr cut ↦ inr (subst (EntryIsInRound v.plan v.history v.plan.stop_at) (sym ready.current) (cut_stands v v.plan.stop_at (last_entry v.history) (each_follows v legal) refl cut))
         ],

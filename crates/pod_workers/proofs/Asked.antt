@@ -15,6 +15,7 @@ use Rattle.plan_words.specs.Share.{Share}
 use Rattle.cni_verbs.specs.Questions.{address_question, bridge_by_mac, bridge_questions, cached_share, check_questions, first_interface, lease_question, link_question, master_questions, pool_questions, route_question, rule_questions, setting_question, share_questions, status_questions}
 use Rattle.cni_verbs.specs.Wanted.{sets_of}
 use Rattle.cni_verbs.specs.declared.answer.Question.{Question}
+use Rattle.pod_workers.proofs.Elements.{slice_get-middle}
 
 -- it looks for an object, or asks for one of the list's pools
 abbrev pub IsQuestionOf : NetList → Call → Type 0
@@ -68,10 +69,6 @@ check-asks list c cached =
     (asked-share list (cached_share list c cached))
 
 -- ---- a status
-
-pub slice_get-middle : {X : Type 0} (xs ys : List X) (y : X) → slice_get (xs ++ y ∷ ys) (length xs) ≡ Some y
-slice_get-middle [] ys y = refl
-slice_get-middle (x ∷ xs) ys y = slice_get-middle xs ys y
 
 asked-pools : (list : NetList) (network : List ℕ) (number : ℕ) (past sets : List RangeSet) → sets_of list ≡ past ++ sets → AreQuestionsOf list (pool_questions network number sets)
 asked-pools list network number past [] all = tt

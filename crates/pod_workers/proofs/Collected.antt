@@ -1,5 +1,5 @@
 -- Each call of a collection lowers the calls that are left to it.
-use Rattle.std.proofs.Common.{◌≡◌, ℕ, ◌+◌, ◌*◌, ◌<◌, ◌≤◌, Bool, true, false, List, [], ◌∷◌, map, length, Option, Some, None, refl, sym, subst, arith, suc-mul, mul-le-mul_right}
+use Rattle.std.proofs.Common.{◌≡◌, ℕ, ◌+◌, ◌*◌, ◌<◌, ◌≤◌, Bool, true, false, List, [], ◌∷◌, map, length, Option, Some, None, refl, sym, subst, arith, mul-le-mul_right}
 use Rattle.std.specs.Prelude.{filter, find, not}
 use Rattle.std.specs.List.{cons_option, filter_map, list_any}
 use Rattle.std.proofs.lemmas.List.{length-map}
@@ -29,6 +29,7 @@ use Rattle.plan_words.proofs.KeyLists.{length-each_key_once}
 use Rattle.cni_verbs.specs.Script.{call_of_work}
 use Rattle.cni_verbs.specs.Sweep.{Gc, Job, AskCached, Delete, Step, Sweep, after_step, is_valid, job_of, step_call, work_after}
 use Rattle.cni_verbs.specs.Wanted.{deletion}
+use Rattle.gc_sweep.proofs.Calls.{jobs_weight-after, jobs_weight-map}
 use Rattle.pod_workers.specs.CallsLeft.{collection_left, jobs_left, objects_in, sweeps_left}
 
 -- ---- no more owners than objects
@@ -87,14 +88,6 @@ deletion-shrinks att kinds.Cached host = record { gone = list_any (λ c. is_own 
 
 -- ---- the work
 
-jobs-map : (s : Sweep) (xs : List Att) → jobs_left (map (job_of s) xs) ≡ length xs * (1 + length s.more)
-jobs-map s [] = omega arith
-jobs-map s (x ∷ xs) = let rest = jobs-map s xs in let one = suc-mul (length xs) (1 + length s.more) in omega arith
-
-jobs-after : (att : Att) (more : List Step) (js : List Job) → jobs_left (after_step att more js) ≡ length more + jobs_left js
-jobs-after att [] js = omega arith
-jobs-after att (s ∷ more) js = omega arith
-
 -- fewer objects, less to do
 fewer-sweeps : (few many : ℕ) (ss : List Sweep) → few ≤ many → sweeps_left few ss ≤ sweeps_left many ss
 fewer-sweeps few many [] less = omega arith
@@ -118,7 +111,7 @@ owners-fall gc s ss host =
     let c = fewer-owners gc.network (tags_of host s.kind) in
     let d = tags-fit host s.kind in
     let few : length stale ≤ objects_in host = omega arith in
-    let jobs = jobs-map s stale in
+    let jobs : jobs_left (map (job_of s) stale) ≡ length stale * (1 + length s.more) = jobs_weight-map s stale in
     let most : length stale * (1 + length s.more) ≤ objects_in host * (1 + length s.more) = mul-le-mul_right (1 + length s.more) few in
     omega arith
 
@@ -127,12 +120,12 @@ gone-falls : (gc : Gc) (att : Att) (kind : Kind) (more : List Step) (js : List J
 gone-falls gc att kind more js ss host k true fewer = let rest = fewer-sweeps (objects_in k) (objects_in host) ss (omega arith) in omega arith
 gone-falls gc att kind more js ss host k false fewer =
     let rest = fewer-sweeps (objects_in k) (objects_in host) ss (omega arith) in
-    let left = jobs-after att more js in
+    let left : jobs_left (after_step att more js) ≡ length more + jobs_left js = jobs_weight-after att more js in
     omega arith
 
 step-falls : (gc : Gc) (att : Att) (step : Step) (more : List Step) (js : List Job) (ss : List Sweep) (host : Host)
     → FallsBy gc (record { att = att; step = step; more = more } ∷ js) ss host (apply host (step_call att step)).1 (apply host (step_call att step)).0
-step-falls gc att AskCached more js ss host = let left = jobs-after att more js in omega arith
+step-falls gc att AskCached more js ss host = let left : jobs_left (after_step att more js) ≡ length more + jobs_left js = jobs_weight-after att more js in omega arith
 step-falls gc att (Delete kind) more js ss host =
     let d = deletion-shrinks att kind host in
     subst (λ r. FallsBy gc (record { att = att; step = Delete kind; more = more } ∷ js) ss host r (apply host (deletion att kind)).0) (sym d.reply)

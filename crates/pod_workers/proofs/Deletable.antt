@@ -2,7 +2,7 @@
 use Rattle.std.proofs.Common.{◌≡◌, ℕ, ◌+◌, ◌≤◌, Bool, true, false, List, [], ◌∷◌, ◌++◌, map, length, Option, Some, None, refl, sym, ◌∙◌, ap, subst, inl, inr, ◌⊎◌, arith}
 use Rattle.std.specs.Prelude.{filter, find, not, ◌&&◌}
 use Rattle.std.specs.List.{list_any}
-use Rattle.std.proofs.lemmas.Bool.{cases_Bool}
+use Rattle.std.proofs.lemmas.Bool.{cases_Bool, not_from_true}
 use Rattle.std.proofs.lemmas.List.{length-append}
 use Rattle.std.proofs.lemmas.Slice.Eq.{bytes_eq-Decides}
 use Rattle.net_conf.specs.Sets.{one_if}
@@ -86,12 +86,9 @@ set-inner : (att : Att) (key : LinkKey) (mac : Option Mac) (mtu tx_qlen : Option
 set-inner att key mac mtu tx_qlen promisc allmulti l =
     by_test (λ (m : Link). not (is_host_ns m.ns) ≡ not (is_host_ns l.ns)) (is_own_at att key l) (with_values mac mtu tx_qlen promisc allmulti l) l (λ _. refl) (λ _. refl)
 
-outer-no : (ns : List ℕ) → is_host_ns ns ≡ true → not (is_host_ns ns) ≡ false
-outer-no ns h = ap not h
-
 -- at most one object more, a pair of links as one
 after_call-more : (att : Att) (host : Host) (call : Call) (s : Share) → is_plan_call_of att call ≡ true → IsAllowed host call → deletions_of (share_after_call s call) ≤ deletions_of s + 1
-after_call-more att host (VethAdd h i) s is allowed = let c = count-pair (λ l. not (is_host_ns l.ns)) s.links h i (outer-no h.ns allowed.outer) in omega arith
+after_call-more att host (VethAdd h i) s is allowed = let c = count-pair (λ l. not (is_host_ns l.ns)) s.links h i (not_from_true (is_host_ns h.ns) allowed.outer) in omega arith
 after_call-more att host (MacvlanAdd link) s is allowed = let c = count-push (λ l. not (is_host_ns l.ns)) s.links link in omega arith
 after_call-more att host (LinkSet own key mac mtu tx_qlen promisc allmulti) s is allowed =
     let c = count-map (λ (l : Link). not (is_host_ns l.ns)) (set_link own key mac mtu tx_qlen promisc allmulti) (set-inner own key mac mtu tx_qlen promisc allmulti) s.links in omega arith

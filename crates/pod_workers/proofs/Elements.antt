@@ -1,19 +1,15 @@
 -- Lists: an element by its place, in two lists joined and after a map.
-use Rattle.std.proofs.Common.{◌≡◌, ℕ, zero, suc, ◌+◌, ◌<◌, ◌⊎◌, List, [], ◌∷◌, ◌++◌, length, map, Some, slice_get, refl, sym, ◌∙◌, ap, arith, inl, inr}
+use Rattle.std.proofs.Common.{◌≡◌, ℕ, zero, suc, ◌+◌, ◌<◌, ◌⊎◌, List, [], ◌∷◌, ◌++◌, length, map, Some, slice_get, refl, sym, ap, arith, inl, inr}
 use Rattle.std.proofs.lemmas.Option.{same_Some, none-some}
-
-pub slice_get-left : {X : Type 0} (xs ys : List X) (i : ℕ) → i < length xs → slice_get (xs ++ ys) i ≡ slice_get xs i
-slice_get-left [] ys i h = absurd (omega arith)
-slice_get-left (x ∷ xs) ys zero h = refl
-slice_get-left (x ∷ xs) ys (suc i) h = slice_get-left xs ys i (omega arith)
+use Rattle.plan_words.proofs.RowLemmas.{slice_get-behind}
+pub use Rattle.plan_words.proofs.RowLemmas.{slice_get-before}
 
 pub slice_get-right : {X : Type 0} (xs ys : List X) (i : ℕ) → slice_get (xs ++ ys) (length xs + i) ≡ slice_get ys i
-slice_get-right [] ys i = let e : 0 + i ≡ i = omega arith in ap (slice_get ys) e
-slice_get-right (x ∷ xs) ys i = let e : length (x ∷ xs) + i ≡ suc (length xs + i) = omega arith in ap (slice_get (x ∷ (xs ++ ys))) e ∙ slice_get-right xs ys i
+slice_get-right xs ys i = slice_get-behind xs ys (length xs) (length xs + i) i refl refl
 
-pub slice_get-last : {X : Type 0} (xs : List X) (y : X) → slice_get (xs ++ y ∷ []) (length xs) ≡ Some y
-slice_get-last [] y = refl
-slice_get-last (x ∷ xs) y = slice_get-last xs y
+pub slice_get-middle : {X : Type 0} (xs ys : List X) (y : X) → slice_get (xs ++ y ∷ ys) (length xs) ≡ Some y
+slice_get-middle [] ys y = refl
+slice_get-middle (x ∷ xs) ys y = slice_get-middle xs ys y
 
 -- an element of a list with one more at the end is an earlier one, or that one
 pub at_snoc : {X : Type 0} (xs : List X) (y x : X) (i : ℕ) → slice_get (xs ++ y ∷ []) i ≡ Some x → ((i < length xs) × (slice_get xs i ≡ Some x)) ⊎ ((i ≡ length xs) × (x ≡ y))

@@ -1,6 +1,6 @@
 -- Each entry of a legal world follows, entries stand in their order, and stops are kept.
-use Rattle.std.proofs.Common.{◌≡◌, ◌≢◌, ℕ, ◌+◌, ◌-◌, ◌<◌, ◌≤◌, ◌==◌, Bool, true, false, List, [], ◌∷◌, ◌++◌, length, Option, Some, None, slice_get, refl, sym, ◌∙◌, ap, subst, inl, inr, arith}
-use Rattle.std.specs.Prelude.{if◌then◌else◌, ◌||◌, ◌&&◌}
+use Rattle.std.proofs.Common.{◌≡◌, ◌≢◌, ℕ, ◌+◌, ◌-◌, ◌<◌, ◌≤◌, ◌==◌, Bool, false, List, [], ◌∷◌, ◌++◌, length, Option, Some, None, slice_get, refl, sym, ◌∙◌, ap, subst, inl, inr, arith}
+use Rattle.std.specs.Prelude.{◌||◌, ◌&&◌}
 use Rattle.std.proofs.lemmas.List.{append_assoc, length_push}
 use Rattle.std.proofs.lemmas.Option.{same_Some, none-some}
 use Rattle.std.proofs.lemmas.Bool.{cases_lt, or_parts}
@@ -22,15 +22,10 @@ use Rattle.pod_workers.specs.declared.plan.Next.{Next}
 use Rattle.pod_workers.specs.declared.plan.Next.TheVariants as next
 use Rattle.pod_workers.proofs.Histories.{replies_of-own, replies_of-other, has_reply, last_entry-append}
 use Rattle.pod_workers.proofs.Order.{IsInOrder, in_order, not_both, other_number}
-use Rattle.pod_workers.proofs.Sound.{allowed_next}
+use Rattle.pod_workers.proofs.Sound.{allowed_next, going_by}
 use Rattle.pod_workers.proofs.Splits.{split_nil, split_snoc, two_snoc}
 
 -- ---- a step that makes a call
-
-going_by : (a : Answer) (c : Command) (made : ℕ) (k call : Call) (faulty b : Bool) → (if b then next.Answer a else next.Call k (is_faulty c made)) ≡ next.Call call faulty
-    → (Calls k ≡ Calls call) × (is_faulty c made ≡ faulty) × (b ≡ false)
-going_by a c made k call faulty true is = absurd cc
-going_by a c made k call faulty false is = (cc, cc, refl)
 
 -- why a step makes this call
 pub record Goes (c : Command) (made : ℕ) (cut : Bool) (t : Turn) (call : Call) (faulty : Bool) : Type 0 where

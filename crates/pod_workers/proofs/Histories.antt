@@ -7,6 +7,7 @@ use Rattle.kernel_types.specs.declared.call.Call.{Call}
 use Rattle.kernel_types.specs.declared.call.Reply.{Reply}
 use Rattle.pod_workers.specs.declared.plan.Entry.{Entry}
 use Rattle.pod_workers.specs.World.{replies_of, after, host_on, last_entry}
+use Rattle.pod_workers.proofs.Splits.{split_nil}
 
 -- ---- a place that is written
 
@@ -60,18 +61,14 @@ replies_of-append n (x ∷ xs) h =
     let rest = replies_of-append n xs h in
     elim (eqb_tells x.command (n + 1)) [ inl t ↦ rw t.0 (ap (λ rs. x.reply ∷ rs) rest) | inr f ↦ rw f.0 rest ]
 
-cons-not_nil : {X : Type 0} (xs ys : List X) (x : X) → xs ++ x ∷ ys ≡ [] → ⊥
-cons-not_nil [] ys x is = cc
-cons-not_nil (y ∷ xs) ys x is = cc
-
 -- a command of which an entry stands in the history has a reply
 pub has_reply : (n : ℕ) (h before rest : List Entry) (e : Entry) → h ≡ before ++ e ∷ rest → e.command ≡ n + 1 → replies_of n h ≡ [] → ⊥
 has_reply n h before rest e at own none =
     elim (eqb_tells e.command (n + 1)) [
       | inl t ↦
           let here : replies_of n (e ∷ rest) ≡ e.reply ∷ replies_of n rest = rw t.0 refl in
-          cons-not_nil (replies_of n before) (replies_of n rest) e.reply
-          (ap (λ rs. replies_of n before ++ rs) (sym here) ∙ sym (replies_of-append n before (e ∷ rest)) ∙ ap (replies_of n) (sym at) ∙ none)
+          split_nil (replies_of n before) (replies_of n rest) e.reply
+          (sym none ∙ ap (replies_of n) at ∙ replies_of-append n before (e ∷ rest) ∙ ap (λ rs. replies_of n before ++ rs) here)
       | inr f ↦ absurd (f.1 own)
     ]
 

@@ -9,23 +9,23 @@ use Rattle.pod_file.specs.declared.command.Command.{Command}
 use Rattle.pod_workers.specs.Index.{AreBefore, IsIndex, IsLatest, IsPlaced, NoneOf, nth_of}
 use Rattle.pod_workers.specs.Plans.{Placed, in_round, placed_from, IsOf}
 use Rattle.pod_workers.specs.declared.index.Place.{Place}
-use Rattle.pod_workers.proofs.Elements.{slice_get-last, at_snoc, slice_get-left}
+use Rattle.pod_workers.proofs.Elements.{at_snoc, slice_get-before, slice_get-middle}
 use Rattle.pod_workers.proofs.Rounds.{placed-fits, placed_from-more, rounds-before}
 
 -- ---- one more command
 
 none-snoc : (commands : List Placed) (c : Placed) (start end round : ℕ) (container : List ℕ) → end ≤ length commands → NoneOf commands start end round container → NoneOf (commands ++ c ∷ []) start end round container
-none-snoc commands c start end round container within none k d low high is = none k d low high (sym (slice_get-left commands (c ∷ []) k (omega arith)) ∙ is)
+none-snoc commands c start end round container within none k d low high is = none k d low high (sym (slice_get-before commands (c ∷ []) k (omega arith)) ∙ is)
 
 latest-snoc : (commands : List Placed) (c : Placed) (end round : ℕ) (container : List ℕ) (o : Option ℕ) → end ≤ length commands → IsLatest commands end round container o → IsLatest (commands ++ c ∷ []) end round container o
 latest-snoc commands c end round container None within h = none-snoc commands c 0 end round container within h
 latest-snoc commands c end round container (Some m) within h =
     let less = h.0 in
-    (h.0, (h.1.0, slice_get-left commands (c ∷ []) m (omega arith) ∙ h.1.1, h.1.2), none-snoc commands c (m + 1) end round container within h.2)
+    (h.0, (h.1.0, slice_get-before commands (c ∷ []) m (omega arith) ∙ h.1.1, h.1.2), none-snoc commands c (m + 1) end round container within h.2)
 
 -- the last of the new command's round and container is now the new command
 pub latest-own : (commands : List Placed) (c : Placed) → IsLatest (commands ++ c ∷ []) (length commands + 1) c.round c.command.container (Some (length commands))
-latest-own commands c = (omega arith, (c, slice_get-last commands c, (refl, refl)), λ k d low high is. absurd (omega arith))
+latest-own commands c = (omega arith, (c, slice_get-middle commands [] c, (refl, refl)), λ k d low high is. absurd (omega arith))
 
 none-other : (commands : List Placed) (c : Placed) (start round : ℕ) (container : List ℕ) → ¬ IsOf c round container → NoneOf commands start (length commands) round container → NoneOf (commands ++ c ∷ []) start (length commands + 1) round container
 none-other commands c start round container not none k d low high is =
@@ -39,7 +39,7 @@ pub latest-other : (commands : List Placed) (c : Placed) (round : ℕ) (containe
 latest-other commands c round container None not h = none-other commands c 0 round container not h
 latest-other commands c round container (Some m) not h =
     let less = h.0 in
-    (omega arith, (h.1.0, slice_get-left commands (c ∷ []) m h.0 ∙ h.1.1, h.1.2), none-other commands c (m + 1) round container not h.2)
+    (omega arith, (h.1.0, slice_get-before commands (c ∷ []) m h.0 ∙ h.1.1, h.1.2), none-other commands c (m + 1) round container not h.2)
 
 placed-snoc : (rounds : List (List Command)) (commands : List Placed) (x : Placed) (n : ℕ) (c : Placed) (p : Place) → n ≤ length commands → IsPlaced rounds commands n c p → IsPlaced rounds (commands ++ x ∷ []) n c p
 placed-snoc rounds commands x n c p within h = record { command = h.command; round_is = h.round_is; previous = latest-snoc commands x n c.round c.command.container p.previous within h.previous }

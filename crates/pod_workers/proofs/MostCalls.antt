@@ -1,5 +1,5 @@
 -- An ADD makes no more calls than its list has room for, whatever addresses it is leased.
-use Rattle.std.proofs.Common.{◌≡◌, ℕ, suc, ◌+◌, ◌*◌, ◌≤◌, Bool, true, false, List, [], ◌∷◌, ◌++◌, map, length, Option, Some, None, refl, ◌∙◌, ap, arith}
+use Rattle.std.proofs.Common.{◌≡◌, ℕ, suc, ◌+◌, ◌*◌, ◌≤◌, Bool, true, false, List, [], ◌∷◌, ◌++◌, map, length, Option, Some, None, refl, ◌∙◌, ap, arith, mul-suc}
 use Rattle.std.specs.Prelude.{find, flat_map, sum_by, option_to_list, if◌then◌else◌}
 use Rattle.std.specs.List.{list_any}
 use Rattle.std.specs.Option.{option_map}
@@ -40,6 +40,7 @@ use Rattle.pod_file.specs.declared.command.Command.{Command}
 use Rattle.plan_words.specs.Shapes.{address_on, addresses_on, forward_calls, forward_for, masquerade_of, masquerade_rules, route_on, routes_on}
 use Rattle.plan_words.proofs.KeyLists.{length-each_key_once}
 use Rattle.portmap.specs.Portmap.{dnat_of, from_host, host_ip_allows, mapping_rules, masquerades_of, portmap_rules, rules_for}
+use Rattle.cni_verbs.proofs.BackCounts.{chained-ips}
 use Rattle.cni_verbs.specs.CommandWords.{att_of, mappings_of}
 use Rattle.cni_verbs.specs.Script.{back_of, before_of}
 use Rattle.cni_verbs.specs.Wanted.{add_calls, all_chained_calls, back_calls, cached_of, calls_after, chained_calls, chained_result, first_plugin_result, first_result, given_by_list, sets_of}
@@ -48,17 +49,14 @@ use Rattle.pod_workers.specs.CallsLeft.{AddsInAtMost, most_after, most_calls, mo
 -- ---- lists
 
 -- so many for each
-length-twice : {X Y : Type 0} (f : X → List Y) → ((x : X) → length (f x) ≤ 2) → (xs : List X) → length (flat_map f xs) ≤ 2 * length xs
-length-twice f few [] = omega arith
-length-twice f few (x ∷ xs) = let rest = length-twice f few xs in let one = few x in let both = length-append (f x) (flat_map f xs) in omega arith
-
-length-five : {X Y : Type 0} (f : X → List Y) → ((x : X) → length (f x) ≤ 5) → (xs : List X) → length (flat_map f xs) ≤ 5 * length xs
-length-five f few [] = omega arith
-length-five f few (x ∷ xs) = let rest = length-five f few xs in let one = few x in let both = length-append (f x) (flat_map f xs) in omega arith
-
-length-six : {X Y : Type 0} (f : X → List Y) → ((x : X) → length (f x) ≤ 6) → (xs : List X) → length (flat_map f xs) ≤ 6 * length xs
-length-six f few [] = omega arith
-length-six f few (x ∷ xs) = let rest = length-six f few xs in let one = few x in let both = length-append (f x) (flat_map f xs) in omega arith
+length-each : {X Y : Type 0} (most : ℕ) (f : X → List Y) → ((x : X) → length (f x) ≤ most) → (xs : List X) → length (flat_map f xs) ≤ most * length xs
+length-each most f few [] = omega arith
+length-each most f few (x ∷ xs) =
+    let rest = length-each most f few xs in
+    let one = few x in
+    let both = length-append (f x) (flat_map f xs) in
+    let step = mul-suc most (length xs) in
+    omega arith
 
 length-if : {X : Type 0} (b : Bool) (xs : List X) (most : ℕ) → length xs ≤ most → length (if b then xs else []) ≤ most
 length-if true xs most h = h
@@ -103,7 +101,7 @@ length-masquerades : (ip_masq : Bool) (att : Att) (gs : List Given) → length (
 length-masquerades ip_masq att gs =
     let a = length-map (masquerade_rules ip_masq att gs) RuleAppend in
     let b = length-each_key_once rule_eq (flat_map (masquerade_of att) gs) in
-    let c = length-twice (masquerade_of att) (λ g. omega arith) gs in
+    let c = length-each 2 (masquerade_of att) (λ g. omega arith) gs in
     let d = length-if ip_masq (each_key_once rule_eq (flat_map (masquerade_of att) gs)) (2 * length gs) (omega arith) in
     omega arith
 
@@ -167,7 +165,7 @@ length-first (Ptp conf) att netns gs =
     let a = length-map (ptp.ptp_objects conf att netns gs) ptp.call_for in
     let b = length-each_key_once ptp.same_key (objects ++ routes) in
     let c = length-append objects routes in
-    let d = length-five (ptp.ptp_objects_for att netns) (λ g. omega arith) gs in
+    let d = length-each 5 (ptp.ptp_objects_for att netns) (λ g. omega arith) gs in
     let e = length-map conf.ipam.routes (λ r. Route (route_on att netns gs r)) in
     let f = length-forward gs in
     let g = length-masquerades conf.ip_masq att gs in
@@ -211,12 +209,12 @@ length-chained : (c : Chained) (att : Att) (netns : List ℕ) (mappings : List P
 length-chained (Portmap conf) att netns mappings ips =
     let a = length-map (portmap_rules conf att mappings ips) RuleAppend in
     let b = length-each_key_once rule_eq (flat_map (mapping_rules conf.snat att ips) mappings) in
-    let c = length-six (mapping_rules conf.snat att ips) (length-mapping conf.snat att ips) mappings in
+    let c = length-each 6 (mapping_rules conf.snat att ips) (length-mapping conf.snat att ips) mappings in
     omega arith
 length-chained (Firewall conf) att netns mappings ips =
     let a = length-map (each_key_once rule_eq (flat_map (forward_of att) ips)) RuleAppend in
     let b = length-each_key_once rule_eq (flat_map (forward_of att) ips) in
-    let c = length-twice (forward_of att) (λ ip. omega arith) ips in
+    let c = length-each 2 (forward_of att) (λ ip. omega arith) ips in
     omega arith
 length-chained (Tuning conf) att netns mappings ips =
     let a = length-map (tuning_settings conf att netns) SettingSet in
@@ -225,11 +223,6 @@ length-chained (Tuning conf) att netns mappings ips =
     let d = length-if (sets_any conf) (LinkSet att (record { ns = netns; name = att.ifname }) conf.mac conf.mtu conf.tx_qlen conf.promisc conf.allmulti ∷ []) 1 (omega arith) in
     let e = length-append (map SettingSet (tuning_settings conf att netns)) (link_set_calls conf att netns) in
     omega arith
-
-same-ips : (c : Chained) (prev : AddResult) → (chained_result c prev).ips ≡ prev.ips
-same-ips (Portmap conf) prev = refl
-same-ips (Firewall conf) prev = refl
-same-ips (Tuning conf) prev = refl
 
 more-of_chained : (mappings : List PortMapping) (few most : ℕ) (c : Chained) → few ≤ most → most_of_chained mappings few c ≤ most_of_chained mappings most c
 more-of_chained mappings few most (Portmap conf) h = omega arith
@@ -242,7 +235,7 @@ length-all_chained [] att netns mappings most prev few = omega arith
 length-all_chained (c ∷ cs) att netns mappings most prev few =
     let here = length-chained c att netns mappings prev.ips in
     let up = more-of_chained mappings (length prev.ips) most c few in
-    let rest = length-all_chained cs att netns mappings most (chained_result c prev) (let e = ap length (same-ips c prev) in omega arith) in
+    let rest = length-all_chained cs att netns mappings most (chained_result c prev) (let e = ap length (chained-ips c prev) in omega arith) in
     let both = length-append (chained_calls c att netns mappings prev.ips) (all_chained_calls cs att netns mappings (chained_result c prev)) in
     let all = sum_by-cons (most_of_chained mappings most) c cs in
     omega arith

@@ -47,6 +47,7 @@ use Rattle.firewall_tuning.specs.Firewall.{firewall_rules}
 use Rattle.firewall_tuning.proofs.Shares.{own-firewall_rules}
 use Rattle.firewall_tuning.specs.Tuning.{tuning_settings, setting_of, sets_any, link_set_calls}
 use Rattle.cni_verbs.specs.Wanted.{calls_before, calls_after, chained_calls, all_chained_calls, chained_result, back_calls, cached_of, given_by_list, first_plugin_result}
+use Rattle.gc_sweep.proofs.Lists.{all_true}
 
 -- ---- one call
 
@@ -73,10 +74,6 @@ planned-map att f q w [] h = tt
 planned-map att f q w (x ∷ xs) h =
     let both = and_parts (q x) (list_all q xs) h in
     (w x both.0, planned-map att f q w xs both.1)
-
-list_all-true : {X : Type 0} (xs : List X) → list_all (λ x. true) xs ≡ true
-list_all-true [] = refl
-list_all-true (x ∷ xs) = list_all-true xs
 
 planned-if : (att : Att) (b : Bool) (xs : List Call) → AllPlanned att xs → AllPlanned att (if b then xs else [])
 planned-if att true xs h = h
@@ -125,7 +122,7 @@ planned-gateways : (conf : BridgeConf) (att : Att) (gs : List Given) → AllPlan
 planned-gateways conf att gs =
     planned-if att conf.is_gateway (map (GatewayEnsure conf.bridge) (bridge.gateways gs) ++ forward_calls gs)
     (planned-append att (map (GatewayEnsure conf.bridge) (bridge.gateways gs)) (forward_calls gs)
-    (planned-map att (GatewayEnsure conf.bridge) (λ c. true) (λ c t. (refl, tt)) (bridge.gateways gs) (list_all-true (bridge.gateways gs))) (planned-forward att gs))
+    (planned-map att (GatewayEnsure conf.bridge) (λ c. true) (λ c t. (refl, tt)) (bridge.gateways gs) (all_true (λ c. true) (λ c. refl) (bridge.gateways gs))) (planned-forward att gs))
 
 planned-object : (att : Att) (x : AddressOrRoute) → is_own_object att x ≡ true → IsPlanned att (ptp.call_for x)
 planned-object att (Address obj) own = (own, tt)

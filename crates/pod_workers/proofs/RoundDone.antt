@@ -28,7 +28,7 @@ use Rattle.pod_workers.proofs.FileOrder.{file_order_answered, file_order_next_ro
 use Rattle.pod_workers.proofs.Histories.{slice_get-set_other}
 use Rattle.pod_workers.proofs.Order.{in_order, not_both, open_or_answered}
 use Rattle.pod_workers.proofs.Rounds.{placed-fits, placed_from-more, placed_from-front, round-of, rounds-before}
-use Rattle.pod_workers.proofs.Elements.{slice_get-right, slice_get-left}
+use Rattle.pod_workers.proofs.Elements.{slice_get-right, slice_get-before}
 use Rattle.pod_workers.proofs.Sound.{fine}
 use Rattle.pod_workers.proofs.WellFormedPlans.{few_commands}
 
@@ -124,7 +124,7 @@ not-before : (rounds : List (List Command)) (round n : ℕ) (c : Placed) → sli
 not-before rounds round n c at_n is = elim (cases_lt n (length (placed_from 0 (take round rounds)))) [
   | inl less ↦
       let f = placed_from-front 0 round rounds in
-      let there : slice_get (placed_from 0 (take round rounds)) n ≡ Some c = sym (slice_get-left (placed_from 0 (take round rounds)) f.0 n less) ∙ ap (λ xs. slice_get xs n) (sym f.1) ∙ at_n in
+      let there : slice_get (placed_from 0 (take round rounds)) n ≡ Some c = sym (slice_get-before (placed_from 0 (take round rounds)) f.0 n less) ∙ ap (λ xs. slice_get xs n) (sym f.1) ∙ at_n in
       absurd (let low = rounds-before round rounds n c there in omega arith)
   | inr more ↦ more
 ]

@@ -51,7 +51,8 @@ use Rattle.pod_workers.specs.World.{World, IsReady, after, host_of, own_replies,
 use Rattle.pod_workers.specs.declared.plan.Next.{Next}
 use Rattle.pod_workers.specs.declared.plan.Next.TheVariants as next
 use Rattle.pod_workers.specs.declared.plan.Plan.{Plan}
-use Rattle.pod_workers.proofs.Asked.{IsQuestionOf, slice_get-middle}
+use Rattle.pod_workers.proofs.Asked.{IsQuestionOf}
+use Rattle.pod_workers.proofs.Elements.{slice_get-middle}
 use Rattle.pod_workers.proofs.Planned.{IsOutside, IsRest, LeftArePlanned, LeftIsOutside, left-are-planned, left-is-outside}
 use Rattle.pod_workers.proofs.PlannedCalls.{IsPlanned}
 use Rattle.pod_workers.proofs.WellFormedPlans.{has_pools_apart, pools_apart}
@@ -296,14 +297,15 @@ by-list p host c rs None call well sound lasts found is = outside-well p host c 
 by-list p host c rs (Some list) call well sound lasts found is =
     turn-well p host list c (state_after list c rs) call well sound lasts (if-listed (is_of_network c.verb) (list_named p.lists c.network) list found) (left-are-planned list c rs) is
 
-call-by : (a : Answer) (c : Command) (made : ℕ) (k call : Call) (faulty b : Bool) → (if b then next.Answer a else next.Call k (is_faulty c made)) ≡ next.Call call faulty → (Calls k ≡ Calls call) × (is_faulty c made ≡ faulty)
-call-by a c made k call faulty true is = absurd cc
-call-by a c made k call faulty false is = (cc, cc)
+pub going_by : (a : Answer) (c : Command) (made : ℕ) (k call : Call) (faulty b : Bool) → (if b then next.Answer a else next.Call k (is_faulty c made)) ≡ next.Call call faulty
+    → (Calls k ≡ Calls call) × (is_faulty c made ≡ faulty) × (b ≡ false)
+going_by a c made k call faulty true is = absurd cc
+going_by a c made k call faulty false is = (cc, cc, refl)
 
 -- a step that makes a call makes the script's
 pub next-is-call : (list : Option NetList) (c : Command) (made : ℕ) (cut : Bool) (t : Turn) (call : Call) (faulty : Bool) → next_by list c made cut t ≡ next.Call call faulty → (t ≡ Calls call) × (is_faulty c made ≡ faulty)
 next-is-call list c made cut (Finishes finish) call faulty is = absurd cc
-next-is-call list c made cut (Calls k) call faulty is = call-by (Stopped made) c made k call faulty _ is
+next-is-call list c made cut (Calls k) call faulty is = let g = going_by (Stopped made) c made k call faulty _ is in (g.0, g.1)
 
 -- ---- every legal world
 
