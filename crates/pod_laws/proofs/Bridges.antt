@@ -19,16 +19,15 @@ use Rattle.kernel_types.specs.Allowed.{IsAllowed}
 use Rattle.kernel_types.specs.Apply.{apply}
 use Rattle.kernel_types.specs.Apply.Calls.{bridge_or_new, new_bridge, has_bridge_as_master}
 use Rattle.kernel_types.specs.Isolation.{ensures_shared, is_from_outside}
-use Rattle.kernel_types.specs.Sound.{IsSound, is_owned_kind, link_fits_tag}
+use Rattle.kernel_types.specs.Sound.{IsSound, link_fits_tag}
 use Rattle.kernel_types.specs.Words.{is_bridge, is_host_bridge, is_host_link, is_owned, has_host_bridge}
 use Rattle.kernel_types.proofs.EveryCall.{Touches-apply}
 use Rattle.kernel_types.proofs.Isolation.{KeepsUnowned-Touches}
 use Rattle.kernel_types.proofs.ListLemmas.{list_any-append_left, list_any-append_right, list_any-kept}
+use Rattle.kernel_types.proofs.TouchRemoval.{owned_no_bridge}
 use Rattle.kernel_types.specs.declared.object.Att.{Att}
 use Rattle.kernel_types.specs.declared.object.Host.{Host}
 use Rattle.kernel_types.specs.declared.object.Link.{Link}
-use Rattle.kernel_types.specs.declared.object.LinkKind.{LinkKind}
-use Rattle.kernel_types.specs.declared.object.LinkKind.TheVariants as linkkinds
 use Rattle.kernel_types.specs.declared.object.Tag.{Tag}
 use Rattle.kernel_types.specs.declared.object.Tag.TheVariants as tags
 use Rattle.kernel_types.specs.declared.call.Kind.{Kind}
@@ -62,16 +61,10 @@ use Rattle.pod_laws.proofs.Tests.{any-filtered, none-by}
 
 -- ---- a bridge of the host stays
 
-pub own_kind : (ns : List ℕ) (k : LinkKind) → is_owned_kind ns k ≡ true → is_bridge k ≡ false
-own_kind ns linkkinds.Device h = cc
-own_kind ns linkkinds.Bridge h = cc
-own_kind ns linkkinds.Veth h = refl
-own_kind ns (linkkinds.Macvlan mode) h = refl
-
 bridge-unowned : (name : List ℕ) (l : Link) (t : Tag) → link_fits_tag l t ≡ true → (is_host_bridge name l && not (not (is_owned t))) ≡ false
 bridge-unowned name l tags.Outside h = grind arith
 bridge-unowned name l tags.Base h = grind arith
-bridge-unowned name l (tags.Own att) h = let k = own_kind l.ns l.kind h in grind (arith, k)
+bridge-unowned name l (tags.Own att) h = let k = owned_no_bridge l.ns l.kind h in grind (arith, k)
 
 stays-unshared : (host : Host) (call : Call) (name : List ℕ) → IsSound host → IsAllowed host call → is_from_outside call ≡ false → ensures_shared call ≡ false → has_host_bridge host name ≡ true → has_host_bridge (apply host call).0 name ≡ true
 stays-unshared host call name sound allowed inside own there =

@@ -3,8 +3,6 @@ use Rattle.std.proofs.Common.{◌≡◌, ℕ, ◌+◌, Bool, true, false, not, L
 use Rattle.std.specs.Prelude.{filter, if◌then◌else◌}
 use Rattle.std.specs.List.{cons_option, filter_map, list_all}
 use Rattle.std.specs.Str.{bytes_eq}
-use Rattle.cni_result.specs.declared.version.Version.{Version}
-use Rattle.cni_result.specs.declared.version.Version.TheVariants.{V1_0, V1_1}
 use Rattle.net_conf.specs.declared.list.NetList.{NetList}
 use Rattle.pod_file.specs.declared.command.Command.{Command}
 use Rattle.pod_file.specs.declared.command.Verb.{Verb}
@@ -32,7 +30,7 @@ use Rattle.kernel_types.specs.declared.call.Call.TheVariants.{OwnersOf, LinkDel,
 use Rattle.kernel_types.specs.declared.call.Reply.{Reply}
 use Rattle.kernel_types.specs.declared.call.Reply.TheVariants.{Gone, Entry as Kept, Fault}
 use Rattle.plan_words.specs.Share.{Share}
-use Rattle.cni_verbs.specs.Script.{State, Collecting, Over, Calls, gc_of, advance, start_of, turn, turn_of_work, unless_old}
+use Rattle.cni_verbs.specs.Script.{State, Collecting, Over, Calls, gc_of, advance, start_of, turn, turn_of_work}
 use Rattle.cni_verbs.specs.Sweep.{Job, Step, AskCached, Delete, Sweep, after_job, after_step, is_valid, job_of, jobs_of, start_work, step_call, work_after}
 use Rattle.cni_verbs.specs.Wanted.{deletion}
 use Rattle.cni_verbs.specs.declared.answer.Ending.TheVariants.{Skipped}
@@ -47,6 +45,7 @@ use Rattle.pod_workers.specs.declared.plan.Entry.{Entry}
 use Rattle.pod_workers.specs.declared.plan.Plan.{Plan}
 use Rattle.pod_workers.proofs.Histories.{after-append}
 use Rattle.pod_workers.proofs.Order.{ready_is}
+use Rattle.pod_workers.proofs.Replies.{by-either, by-unless_old}
 use Rattle.pod_workers.proofs.Sound.{sound_host}
 use Rattle.pod_workers.proofs.Splits.{split_nil, split_snoc}
 use Rattle.pod_laws.specs.Apart.{EachCollectionTakesTheStaleAlone}
@@ -128,18 +127,10 @@ StaleLeft c _ = ⊥
 abbrev Collects : NetList → Command → List Entry → State → Share → Type 0
 Collects list c es st s = c.verb ≡ verbs.Gc → StaleLeft c st
 
-collects-old : (c : Command) (v : Version) (st : State) → StaleLeft c st → StaleLeft c (unless_old v st)
-collects-old c V1_0 st h = tt
-collects-old c V1_1 st h = h
-
-collects-if : (c : Command) (b : Bool) (s t : State) → StaleLeft c s → StaleLeft c t → StaleLeft c (if b then s else t)
-collects-if c true s t h g = h
-collects-if c false s t h g = g
-
 collects-start_of : (list : NetList) (c : Command) (v : Verb) → v ≡ verbs.Gc → StaleLeft c (start_of list v c)
 collects-start_of list c verbs.Gc is =
-    collects-old c list.version (if list.disable_gc then Over (Skipped skips.Gc) [] else Collecting (start_work (gc_of list c)) [])
-    (collects-if c list.disable_gc (Over (Skipped skips.Gc) []) (Collecting (start_work (gc_of list c)) []) tt refl)
+    by-unless_old (StaleLeft c) list.version (if list.disable_gc then Over (Skipped skips.Gc) [] else Collecting (start_work (gc_of list c)) []) (λ cause. tt)
+    (by-either (StaleLeft c) list.disable_gc (Over (Skipped skips.Gc) []) (Collecting (start_work (gc_of list c)) []) tt refl)
 collects-start_of list c _ is = cc
 
 collects-start : StartsWith Collects

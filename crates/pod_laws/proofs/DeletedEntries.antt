@@ -25,6 +25,7 @@ use Rattle.plan_words.proofs.Deletions.{empty_none}
 use Rattle.cni_verbs.specs.CommandWords.{att_of}
 use Rattle.cni_verbs.specs.Script.{State, AtBegin, BeforeLeases, Leasing, AfterLeases, ReadingCache, Deleting, Over, Calls, turn}
 use Rattle.cni_verbs.specs.Wanted.{deletion}
+use Rattle.gc_sweep.proofs.Deletions.{any-found}
 use Rattle.pod_file.specs.Commands.{is_of_network}
 use Rattle.pod_workers.specs.Plans.{Placed, commands_of}
 use Rattle.pod_workers.specs.World.{World, after, entry_of, host_of, host_on}
@@ -45,13 +46,9 @@ use Rattle.pod_laws.proofs.Undoing.{Undoing, undone-start, undone-step}
 
 -- ---- one entry
 
-found-any : {X : Type 0} (p : X → Bool) (xs : List X) (y : X) → find p xs ≡ Some y → list_any p xs ≡ true
-found-any p [] y h = cc
-found-any p (x ∷ xs) y h = grind (arith, found-any p xs y)
-
 without-none : (att : Att) (k : Host) (o : Option Link) → find (λ l. is_own att l.tag) k.links ≡ o → list_any (λ l. is_own att l.tag) k.links ≡ false → (without_link k o).0 ≡ k
 without-none att k None found none = refl
-without-none att k (Some link) found none = absurd (let there = found-any (λ l. is_own att l.tag) k.links link found in let e : true ≡ false = sym there ∙ none in cc)
+without-none att k (Some link) found none = absurd (let there = any-found (λ l. is_own att l.tag) k.links link found in let e : true ≡ false = sym there ∙ none in cc)
 
 -- where nothing is the attachment's, a deletion leaves the host
 deletion-none : (att : Att) (k : Host) (kind : Kind) → share_of att k ≡ no_objects → (apply k (deletion att kind)).0 ≡ k

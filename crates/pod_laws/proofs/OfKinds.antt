@@ -1,8 +1,8 @@
 -- What an ADD makes is of the kinds that its list's plugins name, so a deletion of these kinds leaves nothing.
 use Rattle.std.proofs.Common.{◌≡◌, ℕ, Bool, true, false, List, [], ◌∷◌, ◌++◌, map, Option, Some, None, refl, sym, ◌∙◌, ap, inl, inr, arith}
-use Rattle.std.specs.Prelude.{filter, ◌||◌, if◌then◌else◌}
+use Rattle.std.specs.Prelude.{filter, if◌then◌else◌}
 use Rattle.std.specs.List.{list_any, list_all}
-use Rattle.std.proofs.lemmas.Bool.{or_from}
+use Rattle.std.proofs.lemmas.Bool.{or_from, or_parts}
 use Rattle.pod_workers.proofs.Splits.{split_nil}
 use Rattle.cni_addr.specs.Codes.{family_eq}
 use Rattle.cni_addr.specs.declared.address.Addr.{Addr}
@@ -209,19 +209,13 @@ leases-kinds_of list past left next e = first-among list kinds.Leases (leases-fi
 
 -- ---- what removes only keeps a share within its kinds
 
-none_head : (a b : Bool) → (a || b) ≡ false → a ≡ false
-none_head a b h = grind (arith, h)
-
-none_tail : (a b : Bool) → (a || b) ≡ false → b ≡ false
-none_tail a b h = grind (arith, h)
-
 none_of : {X : Type 0} (p gone : X → Bool) (old new : List X) → DropsOnly gone old new → list_any p old ≡ false → list_any p new ≡ false
 none_of p gone [] new d h = ap (list_any p) d
 none_of p gone (x ∷ old) [] d h = refl
 none_of p gone (x ∷ old) (y ∷ new) d h =
     elim d [
-      | inl same ↦ or_from (p y) (list_any p new) (ap p (sym same.0) ∙ none_head (p x) (list_any p old) h) (none_of p gone old new same.1 (none_tail (p x) (list_any p old) h))
-      | inr drop ↦ none_of p gone old (y ∷ new) drop.1 (none_tail (p x) (list_any p old) h)
+      | inl same ↦ or_from (p y) (list_any p new) (ap p (sym same.0) ∙ (or_parts (p x) (list_any p old) h).0) (none_of p gone old new same.1 (or_parts (p x) (list_any p old) h).1)
+      | inr drop ↦ none_of p gone old (y ∷ new) drop.1 (or_parts (p x) (list_any p old) h).1
     ]
 
 pub still_none : {X : Type 0} (p gone : X → Bool) (old new : List X) → DropsOnly gone old new → filter p old ≡ [] → filter p new ≡ []

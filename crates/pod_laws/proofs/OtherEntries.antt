@@ -1,5 +1,5 @@
 -- Each entry leaves the objects of every other attachment.
-use Rattle.std.proofs.Common.{◌≡◌, ℕ, ◌+◌, Bool, true, false, refl, List, [], ◌∷◌, ◌++◌, Some, slice_get, sym, ◌∙◌, ap, subst, inl, inr, arith}
+use Rattle.std.proofs.Common.{◌≡◌, ℕ, ◌+◌, Bool, true, false, refl, List, [], ◌∷◌, ◌++◌, Some, slice_get, sym, ◌∙◌, ap, subst, inl, inr}
 use Rattle.net_conf.specs.declared.list.NetList.{NetList}
 use Rattle.kernel_types.specs.Equal.{att_eq}
 use Rattle.kernel_types.specs.declared.object.Att.{Att}
@@ -10,13 +10,14 @@ use Rattle.pod_file.specs.declared.command.Verb.{Verb}
 use Rattle.pod_file.specs.declared.command.Verb.TheVariants as verbs
 use Rattle.pod_file.specs.Commands.{is_of_network}
 use Rattle.pod_workers.specs.Plans.{Placed, commands_of}
-use Rattle.pod_workers.specs.World.{World, IsReady, after, entry_of, host_of, host_on}
+use Rattle.pod_workers.specs.World.{World, after, entry_of, host_of, host_on}
 use Rattle.pod_workers.specs.declared.plan.Entry.{Entry}
 use Rattle.pod_workers.specs.declared.plan.Plan.{Plan}
 use Rattle.pod_workers.proofs.Histories.{after-append}
 use Rattle.pod_workers.proofs.Order.{ready_is}
 use Rattle.pod_workers.proofs.Splits.{split_nil, split_snoc}
 use Rattle.pod_laws.specs.Apart.{EachEntryLeavesOthers, leaves_others}
+use Rattle.pod_laws.proofs.Entries.{same-place}
 use Rattle.pod_laws.proofs.Steps.{Changes, GoesOn, by-entries}
 use Rattle.pod_laws.proofs.Turns.{change-of, other-entered}
 
@@ -26,9 +27,6 @@ Leaves p before e other = share_of other (after p.pods.opening (before ++ e ∷ 
 abbrev AllLeave : Plan → List Entry → Type 0
 AllLeave p h = (n : ℕ) (c : Placed) (before later : List Entry) (e : Entry) (other : Att) → slice_get (commands_of p) n ≡ Some c → e.command ≡ n + 1 → leaves_others c.command.verb ≡ true → att_eq (att_of c.command) other ≡ false → h ≡ before ++ e ∷ later → Leaves p before e other
 
-is-there : (w : World) (n m : ℕ) (c d : Placed) (e x : Entry) → IsReady w n c → slice_get (commands_of w.plan) m ≡ Some d → e.command ≡ m + 1 → x ≡ e → x.command ≡ n + 1 → d ≡ c
-is-there w n m c d e x ready at number same own = let place : m ≡ n = let b : x.command ≡ e.command = ap (λ (y : Entry). y.command) same in omega (arith, number, b, own) in ready_is w n m c d ready place at
-
 not-collecting : (v : Verb) → leaves_others v ≡ true → v ≡ verbs.Gc → ⊥
 not-collecting v leaves gc = let e : true ≡ false = sym leaves ∙ ap leaves_others gc in cc
 
@@ -37,7 +35,7 @@ leave-kept w n c list call faulty on was = λ m d before later e other at number
     let x = entry_of (host_of w) n call faulty in
     elim (split_snoc w.history before later x e is) [
       | inl t ↦
-          let same : d ≡ c = is-there w n m c d e x on.ready at number t.2 refl in
+          let same : d ≡ c = ready_is w n m c d on.ready (same-place n m e x number t.2 refl) at in
           let apart : att_eq (att_of c.command) other ≡ false = ap (λ (z : Placed). att_eq (att_of z.command) other) (sym same) ∙ differ in
           let kept : share_of other (host_on (host_of w) x) ≡ share_of other (host_of w) = elim (other-entered w n c list call faulty other on apart) [
             | inl gc ↦ absurd (not-collecting d.command.verb leaves (ap (λ (z : Placed). z.command.verb) same ∙ gc))
@@ -60,7 +58,7 @@ leave-changed w n c call faulty on was = λ m d before later e other at number l
     let x = entry_of (host_of w) n call faulty in
     elim (split_snoc w.history before later x e is) [
       | inl t ↦
-          let same : d ≡ c = is-there w n m c d e x on.ready at number t.2 refl in
+          let same : d ≡ c = ready_is w n m c d on.ready (same-place n m e x number t.2 refl) at in
           absurd (not-outside d.command.verb leaves (ap (λ (z : Placed). is_of_network z.command.verb) same ∙ (change-of w n c call faulty on).verb_is))
       | inr t ↦ was m d before t.0 e other at number leaves differ t.2
     ]

@@ -49,7 +49,7 @@ use Rattle.cni_verbs.specs.Wanted.{calls_before, calls_after, chained_calls, all
 use Rattle.pod_workers.specs.Plans.{Placed}
 use Rattle.pod_workers.specs.World.{World, host_of}
 use Rattle.pod_workers.specs.declared.plan.Entry.{Entry}
-use Rattle.pod_workers.proofs.Splits.{split_nil}
+use Rattle.pod_workers.proofs.Splits.{cons_parts, split_nil}
 use Rattle.pod_laws.specs.Moments.{own_entries}
 use Rattle.pod_laws.proofs.Achieved.{Achieved, achieved-start, achieved-step, with_leases}
 use Rattle.pod_laws.proofs.Bridges.{BridgeIn, BridgeComes, HasBridge, bridge_of, ensures_bridge, all-bridges}
@@ -143,17 +143,14 @@ bridged-back list att netns mappings addrs =
 
 -- ---- one of a list
 
-tails : {X : Type 0} (x y : X) (xs ys : List X) → x ∷ xs ≡ y ∷ ys → xs ≡ ys
-tails x y xs ys e = cc
-
 one-or-none : {X : Type 0} (a b x : X) (made xs : List X) → a ∷ b ∷ [] ≡ made ++ x ∷ xs → (x ≡ a) ⊎ ((x ≡ b) × (xs ≡ []))
 one-or-none a b x [] xs e = inl cc
 one-or-none a b x (m ∷ []) xs e = inr (cc, cc)
-one-or-none a b x (m ∷ k ∷ ms) xs e = absurd (split_nil ms xs x (tails b k [] (ms ++ x ∷ xs) (tails a m (b ∷ []) (k ∷ (ms ++ x ∷ xs)) e)))
+one-or-none a b x (m ∷ k ∷ ms) xs e = absurd (split_nil ms xs x (cons_parts b k [] (ms ++ x ∷ xs) (cons_parts a m (b ∷ []) (k ∷ (ms ++ x ∷ xs)) e).1).1)
 
 only-one : {X : Type 0} (a x : X) (made xs : List X) → a ∷ [] ≡ made ++ x ∷ xs → x ≡ a
 only-one a x [] xs e = cc
-only-one a x (m ∷ ms) xs e = absurd (split_nil ms xs x (tails a m [] (ms ++ x ∷ xs) e))
+only-one a x (m ∷ ms) xs e = absurd (split_nil ms xs x (cons_parts a m [] (ms ++ x ∷ xs) e).1)
 
 -- ---- the bridge of a call before the leases
 

@@ -17,6 +17,7 @@ use Rattle.kernel_types.specs.Words.{is_host_bridge, is_owned}
 use Rattle.kernel_types.proofs.EveryCall.{Touches-apply}
 use Rattle.kernel_types.proofs.Isolation.{KeepsUnowned-Touches}
 use Rattle.kernel_types.proofs.ListLemmas.{list_any-append_left, list_any-kept}
+use Rattle.kernel_types.proofs.TouchRemoval.{owned_no_bridge}
 use Rattle.kernel_types.specs.declared.object.Host.{Host}
 use Rattle.kernel_types.specs.declared.object.Link.{Link}
 use Rattle.kernel_types.specs.declared.object.Tag.{Tag}
@@ -29,7 +30,7 @@ use Rattle.cni_verbs.specs.CommandWords.{att_of}
 use Rattle.pod_workers.specs.Plans.{Placed}
 use Rattle.pod_workers.specs.World.{World, entry_of, host_of, host_on}
 use Rattle.pod_workers.proofs.Sound.{sound_host}
-use Rattle.pod_laws.proofs.Bridges.{turn-inside, own_kind}
+use Rattle.pod_laws.proofs.Bridges.{turn-inside}
 use Rattle.pod_laws.proofs.RunFacts.{IsKeptBetween}
 use Rattle.pod_laws.proofs.Steps.{GoesOn, on-entry}
 use Rattle.pod_laws.proofs.Turns.{turn-of}
@@ -44,7 +45,7 @@ is_bridge_with name mac l = is_host_bridge name l && mac_eq l.mac mac
 bridge-unowned : (name : List ℕ) (mac : Mac) (l : Link) (t : Tag) → link_fits_tag l t ≡ true → (is_bridge_with name mac l && not (not (is_owned t))) ≡ false
 bridge-unowned name mac l tags.Outside h = grind arith
 bridge-unowned name mac l tags.Base h = grind arith
-bridge-unowned name mac l (tags.Own att) h = let k = own_kind l.ns l.kind h in grind (arith, k)
+bridge-unowned name mac l (tags.Own att) h = let k = owned_no_bridge l.ns l.kind h in grind (arith, k)
 
 -- each bridge of the one host is in the other
 abbrev pub KeepsBridges : Host → Host → Type 0

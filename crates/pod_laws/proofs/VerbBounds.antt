@@ -1,10 +1,9 @@
 -- What is left to a run before its first call, by its verb.
-use Rattle.std.proofs.Common.{◌≡◌, ◌≢◌, ℕ, suc, ◌+◌, ◌*◌, ◌≤◌, false, List, [], ◌∷◌, ◌++◌, map, length, Option, Some, None, slice_get, refl, sym, ap, subst, arith}
+use Rattle.std.proofs.Common.{◌≡◌, ◌≢◌, ℕ, ◌+◌, ◌*◌, ◌≤◌, false, List, [], ◌∷◌, ◌++◌, length, Option, Some, None, slice_get, refl, sym, ap, subst, arith}
 use Rattle.std.specs.Prelude.{if◌then◌else◌}
-use Rattle.std.proofs.lemmas.List.{length-append, length-map}
+use Rattle.std.proofs.lemmas.List.{length-append}
 use Rattle.cni_addr.specs.declared.address.Addr.{Addr}
 use Rattle.cni_addr.specs.declared.mac.Mac.{Mac}
-use Rattle.cni_addr.specs.declared.range.RangeSet.{RangeSet}
 use Rattle.cni_result.specs.declared.cached.Cached.{Cached}
 use Rattle.cni_result.specs.declared.result.Interface.{Interface}
 use Rattle.net_conf.specs.declared.first.First.{First}
@@ -14,16 +13,15 @@ use Rattle.pod_file.specs.Commands.{is_of_network}
 use Rattle.pod_file.specs.declared.command.Command.{Command}
 use Rattle.pod_file.specs.declared.command.Verb.{Verb}
 use Rattle.pod_file.specs.declared.command.Verb.TheVariants as verbs
-use Rattle.gc_sweep.specs.Bound.{kinds_over_plugins}
-use Rattle.kernel_types.specs.declared.call.Kind.TheVariants as kinds
+use Rattle.gc_sweep.proofs.Calls.{kinds_number}
+use Rattle.cni_verbs.proofs.CheckCounts.{length-pools, length-share}
 use Rattle.kernel_types.specs.declared.call.Reply.{Reply}
 use Rattle.kernel_types.specs.declared.call.Reply.TheVariants.{Entry as Found}
-use Rattle.kernel_types.specs.declared.object.Rule.{Rule}
 use Rattle.plan_words.specs.Share.{Share, share_of}
 use Rattle.cni_verbs.specs.CommandWords.{add_refusal, att_of, del_refusal}
-use Rattle.cni_verbs.specs.Questions.{address_question, bridge_by_mac, bridge_questions, cached_share, check_questions, first_interface, lease_question, link_question, master_questions, pool_questions, route_question, rule_questions, setting_question, share_questions, status_questions}
+use Rattle.cni_verbs.specs.Questions.{bridge_by_mac, bridge_questions, cached_share, check_questions, first_interface, master_questions, pool_questions, share_questions, status_questions}
 use Rattle.cni_verbs.specs.Script.{State, AtBegin, ReadingCache, FindingEntry, Over, advance, asking, at_entry, checking, start_of, start_state}
-use Rattle.cni_verbs.specs.Wanted.{chained_kinds_reversed, first_kinds, kinds_of, sets_of}
+use Rattle.cni_verbs.specs.Wanted.{kinds_of, sets_of}
 use Rattle.cni_verbs.specs.declared.answer.Ending.{Ending}
 use Rattle.cni_verbs.specs.declared.answer.Ending.TheVariants.{Yes, Skipped, Refused}
 use Rattle.cni_verbs.specs.declared.answer.Question.{Question}
@@ -40,28 +38,6 @@ use Rattle.pod_laws.specs.Bounded.{EachAddHasMost, EachChangeIsOneCall, EachRunI
 use Rattle.pod_laws.proofs.Bounded.{made-below, made-within, one-call}
 
 -- ---- questions
-
-length-rules : (number : ℕ) (rules : List Rule) → length (rule_questions number rules) ≡ length rules
-length-rules number [] = refl
-length-rules number (r ∷ rs) = ap suc (length-rules (number + 1) rs)
-
-length-share : (s : Share) → length (share_questions s) ≡ asked_of s
-length-share s =
-    let settings_leases = map setting_question s.settings ++ map lease_question s.leases in
-    let rules_on = rule_questions 1 s.rules ++ settings_leases in
-    let routes_on = map route_question s.routes ++ rules_on in
-    let a = length-append (map link_question s.links) (map address_question s.addresses ++ routes_on) in
-    let b = length-append (map address_question s.addresses) routes_on in
-    let c = length-append (map route_question s.routes) rules_on in
-    let d = length-append (rule_questions 1 s.rules) settings_leases in
-    let e = length-append (map setting_question s.settings) (map lease_question s.leases) in
-    let f = length-map s.links link_question in
-    let g = length-map s.addresses address_question in
-    let h = length-map s.routes route_question in
-    let i = length-rules 1 s.rules in
-    let j = length-map s.settings setting_question in
-    let k = length-map s.leases lease_question in
-    omega arith
 
 length-mac : (name : List ℕ) (mac : Option Mac) → length (bridge_by_mac name mac) ≤ 1
 length-mac name None = omega arith
@@ -84,10 +60,6 @@ length-check list c cached =
     let d = length-share (cached_share list c cached) in
     omega arith
 
-length-pools : (network : List ℕ) (number : ℕ) (sets : List RangeSet) → length (pool_questions network number sets) ≡ length sets
-length-pools network number [] = refl
-length-pools network number (s ∷ ss) = ap suc (length-pools network (number + 1) ss)
-
 length-master : (first : First) → length (master_questions first) ≤ 1
 length-master (Bridge conf) = omega arith
 length-master (Ptp conf) = omega arith
@@ -99,15 +71,6 @@ length-status list c =
     let a = length-append (pool_questions c.network 0 (sets_of list)) (master_questions list.first) in
     let b = length-pools c.network 0 (sets_of list) in
     let d = length-master list.first in
-    omega arith
-
--- ---- kinds
-
--- the cached entry is the one more
-kinds-number : (list : NetList) → length (kinds_of list) ≡ kinds_over_plugins list + 1
-kinds-number list =
-    let a = length-append (chained_kinds_reversed list.chained) (first_kinds list.first ++ kinds.Cached ∷ []) in
-    let b = length-append (first_kinds list.first) (kinds.Cached ∷ []) in
     omega arith
 
 -- ---- what a start leaves
@@ -222,12 +185,12 @@ run_is_bounded w legal n c list at listed =
       add = λ verb most in_most.
           let starts = starts-by most list c.command verbs.Add (λ had. 2 * most + length (kinds_of list) + 1) verb (start-add most list c.command) in
           let made = made-below w legal n c list most (2 * most + length (kinds_of list) + 1) at listed in_most starts.none starts.few in
-          let k = kinds-number list in
+          let k = kinds_number list in
           omega arith;
       del = λ verb before first is.
           let made = by-start w legal n c list (λ s. length (kinds_of list) + 1 + deletions_of s) before first at listed
           (starts-by most0 list c.command verbs.Del (λ s. length (kinds_of list) + 1 + deletions_of s) verb (start-del most0 list c.command)) is in
-          let k = kinds-number list in
+          let k = kinds_number list in
           omega arith;
       check = λ verb before first cached is found.
           let asks = subst (λ r. AsksIn list c.command FindingEntry r (length (check_questions list c.command cached))) (sym found) (found-asks list c.command cached) in
