@@ -1,8 +1,7 @@
 -- Lists that are read one after another.
-use Rattle.std.proofs.Common.{◌≡◌, ◌∙◌, ◌<◌, ◌≤◌, ℕ, suc, List, [], ◌∷◌, ◌++◌, refl, sym, ap, subst, arith, append_assoc, Ok, Err, inl, inr, length, drop, ◌+◌, Option, Result, is_err, OnOk, true≢false, false}
+use Rattle.std.proofs.Common.{◌≡◌, ◌∙◌, ◌<◌, ◌≤◌, ℕ, suc, List, [], ◌∷◌, ◌++◌, refl, sym, ap, subst, arith, append_assoc, Ok, Err, length, drop, ◌+◌, Option, Result, is_err, OnOk, true≢false, false}
 use Rattle.std.specs.Prelude.{⊤}
 use Rattle.std.specs.List.{slice_index_or}
-use Rattle.cni_io.specs.Faults.{Rose}
 use Rattle.cni_io.specs.Files.{StoredFiles}
 use Rattle.cni_json.specs.Outcome.{◌>>=◌}
 use Rattle.net_conf.specs.declared.list.NetList.{NetList}
@@ -13,7 +12,8 @@ use Rattle.tool_run.specs.Causes.{Steps, WhereTold}
 use Rattle.tool_run.specs.Verdict.{Told, list_in, lists_in, plan_of, pods_in, told_plan}
 use Rattle.tool_run.specs.declared.plan.Stop.{Stop}
 use Rattle.tool_run.specs.declared.plan.Stop.TheVariants.{Line, Unread, NoMemory}
-use Rattle.std.proofs.lemmas.List.{drop_more}
+use Rattle.cni_io.proofs.Counts.{Rose-from_start}
+use Rattle.cni_verbs.proofs.Asked.{left_from}
 
 -- what is read of the rest stands behind what was read
 abbrev pub behind : List NetList → Told (List NetList) → Told (List NetList)
@@ -31,11 +31,6 @@ lists-one_more files front name names list is =
     ap (λ (t : Told NetList). behind front (t >>= (λ (l : NetList). lists_in files names >>= (λ (ls : List NetList). Ok (l ∷ ls))))) is
     ∙ behind-cons front list (lists_in files names)
 
--- a rise is still one later on
-pub rose_later : (before between now : ℕ) → before ≤ between → Rose between now → Rose before now
-rose_later before between now up (inl higher) = inl (omega arith)
-rose_later before between now up (inr top) = inr top
-
 pub pushed : {E : Type 0} (r : Result ⊤ E) (P : Type 0) → is_err r ≡ false → OnOk r P → P
 pushed (Ok u) P ok h = h
 pushed (Err e) P ok h = absurd (true≢false ok)
@@ -45,13 +40,10 @@ pushed (Err e) P ok h = absurd (true≢false ok)
 abbrev pub Rest : Option StoredFiles → List (List ℕ) → List NetList → ℕ → Type 0
 Rest files names front i = WhereTold files (λ stored. lists_in stored names ≡ behind front (lists_in stored (drop i names)))
 
-here : (names : List (List ℕ)) (i : ℕ) (name : List ℕ) → i < length names → name ≡ slice_index_or names i name → drop i names ≡ name ∷ drop (i + 1) names
-here names i name lt at = drop_more names i name lt ∙ ap (λ (n : List ℕ). n ∷ drop (i + 1) names) (sym at)
-
 pub rest-next : (files : Option StoredFiles) (names : List (List ℕ)) (front : List NetList) (i : ℕ) (name : List ℕ) (list : NetList) → i < length names → name ≡ slice_index_or names i name
     → Rest files names front i → WhereTold files (λ stored. list_in stored name ≡ Ok list) → Rest files names (front ++ list ∷ []) (i + 1)
 rest-next files names front i name list lt at rest read = λ stored told.
-    rest stored told ∙ ap (λ (ns : List (List ℕ)). behind front (lists_in stored ns)) (here names i name lt at)
+    rest stored told ∙ ap (λ (ns : List (List ℕ)). behind front (lists_in stored ns)) (left_from names i name lt at)
     ∙ lists-one_more stored front name (drop (i + 1) names) list (read stored told)
 
 -- ---- the plan
@@ -68,7 +60,7 @@ plan-stops files later start before now words pods (Line line) same first up ste
 plan-stops files later start before now words pods (Unread line) same first up steps = record {
   file = steps.file;
   named = (suc steps.named.0, omega arith, steps.named.2);
-  rose = rose_later start before now up steps.rose;
+  rose = Rose-from_start start before now up steps.rose;
   says = steps.says;
 }
 plan-stops files later start before now words pods NoMemory same first up steps = tt
