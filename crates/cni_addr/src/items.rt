@@ -1,6 +1,6 @@
 //! Lists that contracts see as lists.
 
-ghost use Rattle.std.specs.Prelude.{◌≡◌, [], ◌∷◌, ◌++◌, OnOk, OnErr};
+ghost use Rattle.std.specs.Prelude.{◌≡◌, [], ◌∷◌, ◌++◌, OnOk, OnErr, IfOk};
 
 use crate::memory::{Duplicate, NoMemory};
 use std::alloc::Global;
@@ -65,13 +65,20 @@ impl<T: Drop> Items<T> {
     }
 }
 
+/// A copy of a list, item by item, in exactly the room that it needs.
+pub fn copies<T: Duplicate + Drop>(alloc: Global, items: &[T]) -> Result<Items<T>, NoMemory>
+    ensures { IfOk result (λ twins. twins ≡ items.now) }
+{
+    let mut twins = Vec::with_capacity(alloc, items.len())?;
+    for item in items {
+        twins.push(item.copy()?)?;
+    }
+    Ok(Items { items: twins })
+}
+
 impl<T: Duplicate + Drop> Duplicate for Items<T> {
     fn copy(&self) -> Result<Items<T>, NoMemory> {
-        let mut twin = Vec::with_capacity(*self.items.allocator(), self.items.len())?;
-        for item in &self.items {
-            twin.push(item.copy()?)?;
-        }
-        Ok(Items { items: twin })
+        copies(*self.items.allocator(), self.items.as_slice())
     }
 }
 

@@ -35,7 +35,7 @@ pub mod text;
 pub mod write;
 
 pub use address::{Addr, Cidr, Family};
-pub use items::Items;
+pub use items::{Items, copies};
 pub use mac::Mac;
 pub use macvlan::MacvlanMode;
 pub use memory::{Duplicate, NoMemory};

@@ -18,8 +18,7 @@ mod questions;
 mod shared;
 
 use crate::kernel::Kernel;
-use crate::lists::copies;
-use cni_addr::NoMemory;
+use cni_addr::{NoMemory, copies};
 use kernel_types::{
     AddrObj, CachedObj, Call, Host, Last, Lease, Link, NsObj, Reply, RouteObj, Rule, Setting,
 };
