@@ -1,16 +1,17 @@
 //! The `bridge` plugin.
 
-ghost use Rattle.std.specs.Prelude.{◌≡◌, ◌++◌, ◌∷◌, [], map, Some, IfOk, OnOk};
+ghost use Rattle.std.specs.Prelude.{◌≡◌, ◌++◌, ◌∷◌, [], map, option_to_list, Some, IfOk, OnOk, if◌then◌else◌};
 ghost use Rattle.std.specs.List.{list_any};
 ghost use Rattle.cni_addr.specs.Equal.{addr_eq, cidr_eq};
 ghost use Rattle.kernel_types.specs.declared.call.Call.TheVariants.{GatewayEnsure};
 ghost use Rattle.cni_addr.specs.Lists.{push_unless_there};
+ghost use Rattle.plan_words.specs.Shapes as shapes;
 ghost use Rattle.bridge_ptp.specs.Bridge as plan;
 ghost use Rattle.bridge_ptp.specs.Results as results;
 
 use crate::interfaces::{bridge_interface, completed, push_pair};
 use crate::kinds::interface_kinds;
-use cni_addr::{Cidr, Duplicate, Family, Items, NoMemory, Text};
+use cni_addr::{Addr, Cidr, Duplicate, Family, Items, NoMemory, Text};
 use cni_result::{AddResult, IpEntry, RouteEntry};
 use host_local::{configured_routes, ips_of};
 use kernel_types::{Att, Call, Given, Kind};
@@ -51,10 +52,22 @@ pub fn bridge_before(
 // ---- routes
 
 /// Whether a route leads there.
-pub(crate) fn has_destination(entries: &[RouteEntry], dst: &Cidr) -> bool
+fn has_destination(entries: &[RouteEntry], dst: &Cidr) -> bool
     ensures { result ≡ list_any (λ r. cidr_eq r.dst dst.now) entries.now }
 {
     entries.iter().any(|r| r.dst == *dst)
+}
+
+/// The default route of the address's family, unless one is configured.
+pub(crate) fn missing_default_route(configured: &[RouteEntry], addr: &Addr) -> Option<Cidr>
+    ensures { let dst = shapes.default_route addr.now.family in option_to_list result ≡ (if list_any (λ r. cidr_eq r.dst dst) configured.now then [] else dst ∷ []) }
+{
+    let dst = default_route(addr.family);
+    if has_destination(configured, &dst) {
+        None
+    } else {
+        Some(dst)
+    }
 }
 
 fn push_route(entries: &mut Items<RouteEntry>, dst: Cidr, ip: &IpEntry) -> Result<(), NoMemory>
@@ -74,12 +87,9 @@ fn push_default_by(
 ) -> Result<(), NoMemory>
     ensures { OnOk result (entries.new ≡ entries.old ++ results.default_unless_there configured.now (Some ip.now)) }
 {
-    let family = ip.address.addr.family;
-    let dst = default_route(family);
-    if has_destination(configured, &dst) {
-        Ok(())
-    } else {
-        push_route(entries, dst, ip)
+    match missing_default_route(configured, &ip.address.addr) {
+        Some(dst) => push_route(entries, dst, ip),
+        None => Ok(()),
     }
 }
 

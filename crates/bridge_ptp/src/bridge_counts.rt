@@ -1,8 +1,6 @@
 //! How many calls `bridge` makes after the leases. Nothing here takes memory.
 
-ghost use Rattle.std.specs.Prelude.{◌≡◌, ◌+◌, ◌*◌, ◌≤◌, ℕ, [], ◌∷◌, List, map, length, option_to_list, if◌then◌else◌};
-ghost use Rattle.std.specs.List.{list_any};
-ghost use Rattle.cni_addr.specs.Equal.{cidr_eq};
+ghost use Rattle.std.specs.Prelude.{◌≡◌, ◌+◌, ◌*◌, ◌≤◌, ℕ, List, map, length, option_to_list};
 ghost use Rattle.kernel_types.specs.declared.object.Att.{Att};
 ghost use Rattle.kernel_types.specs.declared.call.Given.{Given};
 ghost use Rattle.plan_words.specs.Rows.{present};
@@ -11,30 +9,17 @@ ghost use Rattle.host_local.specs.Results.{ip_of};
 ghost use Rattle.bridge_ptp.specs.Bridge as plan;
 ghost use Rattle.bridge_ptp.specs.Results as results;
 
-use crate::bridge::has_destination;
+use crate::bridge::missing_default_route;
 use cni_addr::{Addr, Cidr, Family};
 use cni_result::RouteEntry;
 use host_local::routes_of;
-use kernel_types::Given;
 use net_conf::BridgeConf;
 use plan_words::{
     GivenRow, Row, count_addresses, count_forward_calls, count_keys, count_masquerade_rules,
-    default_route, first_given,
+    first_given,
 };
 
 // ---- routes
-
-fn default_if_missing(configured: &[RouteEntry], given: &Given) -> Option<Cidr>
-    ensures { option_to_list result ≡ (if list_any (λ r. cidr_eq r.dst (shapes.default_route given.now.address.addr.family)) configured.now then [] else shapes.default_route given.now.address.addr.family ∷ []) }
-{
-    let family = given.address.addr.family;
-    let dst = default_route(family);
-    if has_destination(configured, &dst) {
-        None
-    } else {
-        Some(dst)
-    }
-}
 
 /// The default route of the family that is added to the configured ones, if one is.
 #[tactic(auto, using(crate::proofs::CountLemmas::default_steps))]
@@ -46,7 +31,7 @@ fn missing_default<G: GivenRow>(
     ensures { option_to_list result ≡ map (λ r. r.dst) (results.missing_default family configured.now (map ip_of (present (G.values given.now)))) }
 {
     match first_given(given, family) {
-        Some(g) => default_if_missing(configured, &g),
+        Some(g) => missing_default_route(configured, &g.address.addr),
         None => None,
     }
 }
