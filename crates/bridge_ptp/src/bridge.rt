@@ -11,14 +11,14 @@ ghost use Rattle.bridge_ptp.specs.Results as results;
 
 use crate::interfaces::{bridge_interface, completed, push_pair};
 use crate::kinds::interface_kinds;
+use crate::veth::veth_pair;
 use cni_addr::{Addr, Cidr, Duplicate, Family, Items, NoMemory, Text};
 use cni_result::{AddResult, IpEntry, RouteEntry};
 use host_local::{configured_routes, ips_of};
 use kernel_types::{Att, Call, Given, Kind};
 use net_conf::BridgeConf;
 use plan_words::{
-    addresses_on, ask_all, ask_forward, default_route, first_of_family, host_end, inner_end,
-    masquerade_rules, routes_on,
+    addresses_on, ask_all, ask_forward, default_route, first_of_family, masquerade_rules, routes_on,
 };
 use std::alloc::Global;
 
@@ -40,12 +40,7 @@ pub fn bridge_before(
         promisc: conf.promisc,
     })?;
     let master = Some(conf.bridge.copy()?);
-    let host_end = host_end(alloc, att, netns, master, conf.mtu, conf.hairpin)?;
-    let inner_end = inner_end(alloc, att, netns, conf.mtu)?;
-    calls.push(Call::VethAdd {
-        host_end,
-        inner_end,
-    })?;
+    calls.push(veth_pair(alloc, att, netns, master, conf.mtu, conf.hairpin)?)?;
     Ok(calls)
 }
 

@@ -18,6 +18,7 @@ pub mod kinds;
 pub mod laws;
 pub mod ptp;
 pub mod ptp_counts;
+mod veth;
 
 pub use bridge::{bridge_after, bridge_before, bridge_kinds, bridge_result};
 pub use bridge_counts::{bridge_after_count, bridge_object_count};

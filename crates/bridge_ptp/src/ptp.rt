@@ -11,13 +11,14 @@ ghost use Rattle.bridge_ptp.specs.Results as results;
 
 use crate::interfaces::{completed, push_pair};
 use crate::kinds::interface_kinds;
+use crate::veth::veth_pair;
 use cni_addr::{Addr, Duplicate, Items, NoMemory, Text, whole};
 use cni_result::{AddResult, RouteEntry};
 use kernel_types::{AddrObj, Att, Call, Given, Kind, RouteObj, Tag};
 use net_conf::PtpConf;
 use plan_words::{
-    Asked, address_on, ask_all, ask_forward, host_end, inner_end, masquerade_rules,
-    push_unless_there, route_by, route_on,
+    Asked, address_on, ask_all, ask_forward, masquerade_rules, push_unless_there, route_by,
+    route_on,
 };
 use std::alloc::Global;
 
@@ -71,13 +72,8 @@ pub fn ptp_before(
 ) -> Result<Items<Call>, NoMemory>
     ensures { IfOk result (λ calls. calls ≡ plan.ptp_calls_before conf.now att.now netns.now) }
 {
-    let host_end = host_end(alloc, att, netns, None, conf.mtu, false)?;
-    let inner_end = inner_end(alloc, att, netns, conf.mtu)?;
     let mut calls = Items::new(alloc);
-    calls.push(Call::VethAdd {
-        host_end,
-        inner_end,
-    })?;
+    calls.push(veth_pair(alloc, att, netns, None, conf.mtu, false)?)?;
     Ok(calls)
 }
 
