@@ -57,11 +57,7 @@ fn route_key_at(configured: &[RouteEntry], place: usize) -> PtpKey
     requires { place < length configured.now }
     ensures { slice_get (map (λ r. Some (keys.route_key false r.dst)) configured.now) place ≡ Some (Some result) }
 {
-    PtpKey {
-        on_host: false,
-        address: None,
-        destination: Some(configured[place].dst),
-    }
+    route_key(false, configured[place].dst)
 }
 
 /// The keys of what lies on both ends for each address, and of the configured routes.
