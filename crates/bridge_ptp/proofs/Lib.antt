@@ -1,3 +1,4 @@
 pub mod CountLemmas
+pub mod GatewayLemmas
 pub mod PtpLemmas
 pub mod Shares

@@ -1,4 +1,5 @@
 pub mod Bridge
+pub mod Gateways
 pub mod Ptp
 pub mod PtpKeys
 pub mod Results

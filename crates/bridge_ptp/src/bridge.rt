@@ -1,12 +1,11 @@
 //! The `bridge` plugin.
 
-ghost use Rattle.std.specs.Prelude.{◌≡◌, ◌++◌, ◌∷◌, [], map, option_to_list, Some, IfOk, OnOk, if◌then◌else◌};
+ghost use Rattle.std.specs.Prelude.{◌≡◌, ◌++◌, ◌∷◌, [], option_to_list, Some, IfOk, OnOk, if◌then◌else◌};
 ghost use Rattle.std.specs.List.{list_any};
-ghost use Rattle.cni_addr.specs.Equal.{addr_eq, cidr_eq};
-ghost use Rattle.kernel_types.specs.declared.call.Call.TheVariants.{GatewayEnsure};
-ghost use Rattle.cni_addr.specs.Lists.{push_unless_there};
+ghost use Rattle.cni_addr.specs.Equal.{cidr_eq};
 ghost use Rattle.plan_words.specs.Shapes as shapes;
 ghost use Rattle.bridge_ptp.specs.Bridge as plan;
+ghost use Rattle.bridge_ptp.specs.Gateways as gateways;
 ghost use Rattle.bridge_ptp.specs.Results as results;
 
 use crate::interfaces::{bridge_interface, completed, push_pair};
@@ -18,7 +17,8 @@ use host_local::{configured_routes, ips_of};
 use kernel_types::{Att, Call, Given, Kind};
 use net_conf::BridgeConf;
 use plan_words::{
-    addresses_on, ask_all, ask_forward, default_route, first_of_family, masquerade_rules, routes_on,
+    Asked, addresses_on, ask_all, ask_forward, default_route, first_of_family, masquerade_rules,
+    push_unless_there, routes_on,
 };
 use std::alloc::Global;
 
@@ -130,42 +130,53 @@ fn gateway_on(given: &Given) -> Cidr
     }
 }
 
-fn has_gateway(cidrs: &[Cidr], new: &Cidr) -> bool
-    ensures { result ≡ list_any (λ c. addr_eq new.now.addr c.addr) cidrs.now }
-{
-    cidrs.iter().any(|c| new.addr == c.addr)
+/// A gateway, and the bridge that has it as an address.
+#[derive(Drop)]
+pub struct Gateway {
+    bridge: Text,
+    cidr: Cidr,
 }
 
-fn push_gateway(cidrs: &mut Vec<Cidr>, new: Cidr) -> Result<(), NoMemory>
-    ensures { OnOk result (cidrs.new.items ≡ push_unless_there (λ x y. addr_eq x.addr y.addr) cidrs.old.items new) }
-{
-    if has_gateway(cidrs, &new) {
-        return Ok(());
+impl Duplicate for Gateway {
+    fn copy(&self) -> Result<Gateway, NoMemory> {
+        Ok(Gateway {
+            bridge: self.bridge.copy()?,
+            cidr: self.cidr,
+        })
     }
-    cidrs.push(new)?;
-    Ok(())
 }
 
-fn gateways(alloc: Global, given: &[Given]) -> Result<Vec<Cidr>, NoMemory>
-    ensures { IfOk result (λ cidrs. cidrs.items ≡ plan.gateways given.now) }
+impl Asked for Gateway {
+    ghost use Rattle.bridge_ptp.specs.Gateways as gateways;
+
+    ghost same_key = { gateways.is_same_gateway };
+
+    ghost call_for = { gateways.call_for };
+
+    fn has_key(&self, other: &Gateway) -> bool {
+        self.cidr.addr == other.cidr.addr
+    }
+
+    fn ask(self) -> Call {
+        Call::GatewayEnsure {
+            bridge: self.bridge,
+            cidr: self.cidr,
+        }
+    }
+}
+
+fn gateways_on(alloc: Global, bridge: &Text, given: &[Given]) -> Result<Vec<Gateway>, NoMemory>
+    ensures { IfOk result (λ all. all.items ≡ gateways.gateways_on bridge.now given.now) }
 {
-    let mut cidrs = Vec::new(alloc);
+    let mut all = Vec::new(alloc);
     for g in given {
-        push_gateway(&mut cidrs, gateway_on(g))?;
-    }
-    Ok(cidrs)
-}
-
-fn ask_each_gateway(calls: &mut Vec<Call>, bridge: &Text, cidrs: &[Cidr]) -> Result<(), NoMemory>
-    ensures { OnOk result (calls.new.items ≡ calls.old.items ++ map (GatewayEnsure bridge.now) cidrs.now) }
-{
-    for cidr in cidrs {
-        calls.push(Call::GatewayEnsure {
+        let gateway = Gateway {
             bridge: bridge.copy()?,
-            cidr: *cidr,
-        })?;
+            cidr: gateway_on(g),
+        };
+        push_unless_there(&mut all, gateway)?;
     }
-    Ok(())
+    Ok(all)
 }
 
 fn ask_gateways(
@@ -177,8 +188,8 @@ fn ask_gateways(
     ensures { OnOk result (calls.new.items ≡ calls.old.items ++ plan.gateway_calls conf.now given.now) }
 {
     if conf.is_gateway {
-        let cidrs = gateways(alloc, given)?;
-        ask_each_gateway(calls, &conf.bridge, cidrs.as_slice())?;
+        let all = gateways_on(alloc, &conf.bridge, given)?;
+        ask_all(calls, all.as_slice())?;
         ask_forward(calls, given)?;
     }
     Ok(())
