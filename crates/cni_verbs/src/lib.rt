@@ -42,3 +42,6 @@ pub mod words;
 pub use answer::{Answer, Cause, Ending, Missed, Question, Skip, WordFaults, verb_text};
 pub use error_kind::{ErrorKind, memory_error, message_of_field, plain_error};
 pub use run::Run;
+
+#[cfg(test)]
+mod tests;

@@ -1,0 +1,49 @@
+//! A run by hand, in which a namespace is made.
+
+ghost use Rattle.std.specs.Prelude.{◌≡◌, false, IfOk};
+ghost use Rattle.cni_verbs.specs.Progress.{is_gc};
+
+use super::Run;
+use cni_addr::{Items, NoMemory, Text};
+use kernel_types::Reply;
+use pod_file::{Command, Verb};
+use std::alloc::Global;
+use std::test::Fail;
+
+fn command(alloc: Global) -> Result<Command, NoMemory>
+    ensures { IfOk result (λ command. is_gc command.verb ≡ false) }
+{
+    Ok(Command {
+        number: 1,
+        verb: Verb::NsAdd,
+        network: Text::of(alloc, "")?,
+        container: Text::of(alloc, "")?,
+        netns: Text::of(alloc, "/var/run/netns/a")?,
+        ifname: Text::of(alloc, "")?,
+        args: Text::of(alloc, "")?,
+        mappings: Items::new(alloc),
+        valid: Items::new(alloc),
+        table: None,
+        stop: None,
+        faults: Items::new(alloc),
+    })
+}
+
+/// Whether the run is over before its one call, and whether it is once the call is done.
+fn over_around(alloc: Global, command: &Command) -> Result<[bool; 2], NoMemory>
+    requires { is_gc command.now.verb ≡ false }
+{
+    let mut run = Run::start(alloc, None, command)?;
+    let before = run.over();
+    if !before {
+        run.take(Reply::Done);
+    }
+    Ok([before, run.over()])
+}
+
+#[test]
+fn a_run_is_over_once_its_call_is_done(rt: HostRuntime) -> Result<(), Fail> {
+    let command = command(rt.alloc())?;
+    assert!(rt; over_around(rt.alloc(), &command)? == [false, true]);
+    Ok(())
+}
