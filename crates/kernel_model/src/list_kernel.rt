@@ -1,6 +1,6 @@
 //! The kernel over plain lists.
 
-ghost use Rattle.std.specs.Prelude.{◌≡◌, true, false, IfOk, OnErr, IsOk};
+ghost use Rattle.std.specs.Prelude.{◌≡◌, true, IfOk, OnErr, IsOk};
 ghost use Rattle.kernel_types.specs.Apply.{apply};
 ghost use Rattle.kernel_types.specs.Allowed.{IsAllowed};
 ghost use Rattle.kernel_types.specs.Replies.{needs_no_memory};
