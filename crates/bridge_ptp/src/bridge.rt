@@ -11,9 +11,9 @@ ghost use Rattle.bridge_ptp.specs.Results as results;
 use crate::interfaces::{bridge_interface, completed, push_pair};
 use crate::kinds::interface_kinds;
 use crate::veth::veth_pair;
-use cni_addr::{Addr, Cidr, Duplicate, Family, Items, NoMemory, Text};
+use cni_addr::{Addr, Cidr, Duplicate, Family, Items, NoMemory, Text, copies};
 use cni_result::{AddResult, IpEntry, RouteEntry};
-use host_local::{configured_routes, ips_of};
+use host_local::{ips_of, routes_of};
 use kernel_types::{Att, Call, Given, Kind};
 use net_conf::BridgeConf;
 use plan_words::{
@@ -105,16 +105,17 @@ fn push_default(
 
 /// The configured routes, and with `isDefaultGateway` the default routes that they lack.
 fn result_routes(
+    alloc: Global,
     is_default_gateway: bool,
-    configured: &Items<RouteEntry>,
+    configured: &[RouteEntry],
     ips: &[IpEntry],
 ) -> Result<Items<RouteEntry>, NoMemory>
     ensures { IfOk result (λ entries. entries ≡ results.bridge_routes is_default_gateway configured.now ips.now) }
 {
-    let mut entries = configured.copy()?;
+    let mut entries = copies(alloc, configured)?;
     if is_default_gateway {
-        push_default(&mut entries, configured.as_slice(), Family::V4, ips)?;
-        push_default(&mut entries, configured.as_slice(), Family::V6, ips)?;
+        push_default(&mut entries, configured, Family::V4, ips)?;
+        push_default(&mut entries, configured, Family::V6, ips)?;
     }
     Ok(entries)
 }
@@ -208,9 +209,9 @@ pub fn bridge_after(
 ) -> Result<Items<Call>, NoMemory>
     ensures { IfOk result (λ calls. calls ≡ plan.bridge_calls_after conf.now att.now netns.now given.now) }
 {
-    let configured = configured_routes(alloc, &conf.ipam)?;
+    let configured = routes_of(&conf.ipam);
     let ips = ips_of(alloc, given)?;
-    let entries = result_routes(conf.is_default_gateway, &configured, ips.as_slice())?;
+    let entries = result_routes(alloc, conf.is_default_gateway, configured, ips.as_slice())?;
     let addresses = addresses_on(alloc, att, netns, given)?;
     let routes = routes_on(alloc, att, netns, given, entries.as_slice())?;
     let rules = masquerade_rules(alloc, conf.ip_masq, att, given)?;
@@ -237,7 +238,12 @@ pub fn bridge_result(
     let mut interfaces = Items::new(alloc);
     interfaces.push(bridge_interface(&conf.bridge)?)?;
     push_pair(alloc, &mut interfaces, att, netns, conf.mtu, ipam.version)?;
-    let routes = result_routes(conf.is_default_gateway, &ipam.routes, ipam.ips.as_slice())?;
+    let routes = result_routes(
+        alloc,
+        conf.is_default_gateway,
+        ipam.routes.as_slice(),
+        ipam.ips.as_slice(),
+    )?;
     completed(alloc, ipam, interfaces, 2, routes, conf.dns.copy()?)
 }
 

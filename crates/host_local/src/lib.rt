@@ -17,5 +17,5 @@ pub mod results;
 pub mod rows;
 
 pub use leases::{given, given_of, lease_calls, release_kinds};
-pub use results::{configured_routes, ipam_result, ips_of};
+pub use results::{ipam_result, ips_of};
 pub use rows::{GivenByIps, GivenBySets, routes_of};

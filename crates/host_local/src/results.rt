@@ -1,11 +1,10 @@
 //! The plugin's result.
 
 ghost use Rattle.std.specs.Prelude.{◌≡◌, map, IfOk, Some};
-ghost use Rattle.host_local.specs.Conf.{routes_of};
 ghost use Rattle.host_local.specs.Results as results;
 
 use cni_addr::{Duplicate, Items, NoMemory};
-use cni_result::{AddResult, IpEntry, RouteEntry, Version, no_dns};
+use cni_result::{AddResult, IpEntry, Version, no_dns};
 use kernel_types::Given;
 use net_conf::HostLocalConf;
 use std::alloc::Global;
@@ -23,19 +22,6 @@ pub fn ips_of(alloc: Global, given: &[Given]) -> Result<Items<IpEntry>, NoMemory
         })?;
     }
     Ok(Items::of_vec(ips))
-}
-
-/// The configured routes; none where no addresses are given.
-pub fn configured_routes(
-    alloc: Global,
-    ipam: &Option<HostLocalConf>,
-) -> Result<Items<RouteEntry>, NoMemory>
-    ensures { IfOk result (λ entries. entries ≡ routes_of ipam.now) }
-{
-    match ipam {
-        Some(conf) => conf.routes.copy(),
-        None => Ok(Items::new(alloc)),
-    }
 }
 
 /// The given addresses with their gateways, and the configured routes: what the plugin that makes the interface
