@@ -1,4 +1,5 @@
--- The plan of the `bridge` plugin: the container's end of a veth pair, whose other end has a bridge of the host as master.
+-- The plan of the `bridge` plugin: the container's end of a veth pair, whose other end has a bridge of the host as
+-- master.
 use Rattle.std.specs.Prelude.{ℕ, Bool, List, [], ◌∷◌, ◌++◌, map, Option, Some, None, if◌then◌else◌}
 use Rattle.cni_addr.specs.Equal.{addr_eq}
 use Rattle.cni_addr.specs.declared.address.Cidr.{Cidr}

@@ -1,4 +1,5 @@
--- A line feed behind a text changes no reading. Each part of the grammar gives the same for both, or leaves the line feed behind what it leaves.
+-- A line feed behind a text changes no reading. Each part of the grammar gives the same for both, or leaves the line
+-- feed behind what it leaves.
 use Rattle.std.proofs.Common.{◌≡◌, ℕ, suc, ◌+◌, ◌-◌, ◌≤◌, Bool, true, false, cond, ◌&&◌, ◌||◌, ◌==◌, List, [], ◌∷◌, ◌++◌, length, take, drop, Option, Some, None, option_map, option_and_then, nat_eq, nat_lt, IsUtf8, refl, sym, ap, ap₂, ◌∙◌, subst, arith, length-append}
 use Rattle.std.proofs.Math.Seq.{take-append_seam}
 use Rattle.std.proofs.lemmas.List.{take-append-le}

@@ -49,7 +49,8 @@ Has64Bits (negative (pos n)) = ⊥
 Has64Bits (negative (negsuc n)) = n < 2 ^ 63
 Has64Bits (float x) = ⊥
 
--- by itself the value can be read: a number has 64 bits, a text is UTF-8, and the keys of an object are UTF-8 and ascend
+-- by itself the value can be read: a number has 64 bits, a text is UTF-8, and the keys of an object are UTF-8 and
+-- ascend
 abbrev pub IsProper : Data → Type 0
 IsProper null = ⊤
 IsProper (boolean b) = ⊤

@@ -1,4 +1,5 @@
--- The calls of `firewall` append its rules; those of `tuning` append its settings, and set the values of the container's link.
+-- The calls of `firewall` append its rules; those of `tuning` append its settings, and set the values of the
+-- container's link.
 use Rattle.std.proofs.Common.{◌≡◌, ℕ, Bool, true, false, ap, List, [], ◌∷◌, ◌++◌, map, refl, sym, ◌∙◌, arith}
 use Rattle.std.specs.Prelude.{flat_map, if◌then◌else◌}
 use Rattle.std.specs.List.{list_all}

@@ -1,4 +1,5 @@
--- The plan of the `firewall` plugin: what is forwarded to and from the container. The rule set is this project's own, after iptables.
+-- The plan of the `firewall` plugin: what is forwarded to and from the container. The rule set is this project's own,
+-- after iptables.
 use Rattle.std.specs.Prelude.{true, List, [], ◌∷◌, map, flat_map, Some}
 use Rattle.cni_addr.specs.Network.{whole}
 use Rattle.cni_addr.specs.declared.address.Addr.{Addr}

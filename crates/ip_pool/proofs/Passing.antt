@@ -1,4 +1,5 @@
--- Addresses are tried in an order that passes none by: what is tried later is never on the way to what is tried earlier.
+-- Addresses are tried in an order that passes none by: what is tried later is never on the way to what is tried
+-- earlier.
 use Rattle.std.proofs.Common.{◌≡◌, ℕ, ◌+◌, Bool, true, false, not, ◌&&◌, ◌||◌, cond, Option, Some, None, List, [], ◌∷◌, ◌++◌, take, drop, refl, ap, sym, ◌∙◌, arith}
 use Rattle.std.specs.List.{list_all, position_or_len}
 use Rattle.std.proofs.lemmas.Bool.Decides.{nat_tests}

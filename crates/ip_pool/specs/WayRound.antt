@@ -5,6 +5,7 @@ use Rattle.cni_addr.specs.declared.address.Addr.{Addr}
 use Rattle.cni_addr.specs.declared.range.Range.{Range}
 use Rattle.ip_pool.specs.Pool.{candidates_between, candidates_in}
 
--- the candidates of a range after the number last, those of the later and of the earlier ranges, and the range's up to last
+-- the candidates of a range after the number last, those of the later and of the earlier ranges, and the range's up to
+-- last
 abbrev pub way_round : Range → List Range → List Range → ℕ → List Addr
 way_round r earlier later last = candidates_between r (last + 1) (r.end.bits + 1) ++ (flat_map candidates_in later ++ (flat_map candidates_in earlier ++ candidates_between r r.start.bits (last + 1)))

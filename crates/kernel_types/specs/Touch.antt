@@ -16,7 +16,8 @@ use Rattle.kernel_types.specs.declared.call.Call.TheVariants.{Begin, BridgeEnsur
 
 -- ---- one list
 
--- objects that pass are dropped or replaced by others that pass, and others that pass stand at the end; all else stands as it stood
+-- objects that pass are dropped or replaced by others that pass, and others that pass stand at the end; all else stands
+-- as it stood
 abbrev pub ChangesOnly : {X : Type 0} → (X → Bool) → List X → List X → Type 0
 ChangesOnly own [] new = list_all own new ≡ true
 ChangesOnly own (x ∷ old) [] = (own x ≡ true) × ChangesOnly own old []

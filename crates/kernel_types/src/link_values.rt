@@ -8,8 +8,8 @@ use crate::object::{Att, Link, LinkKey, LinkKind, Tag};
 use cni_addr::Mac;
 
 impl Link {
-    /// A link as Linux makes a new one: under no master, without a peer, in no mode, with a queue of 1000 packets. Takes
-    /// no memory.
+    /// A link as Linux makes a new one: under no master, without a peer, in no mode, with a queue of 1000 packets.
+    /// Takes no memory.
     pub fn new(key: LinkKey, kind: LinkKind, mac: Mac, mtu: u32, tag: Tag) -> Link
         ensures { result ≡ new_link key kind mac mtu tag }
     {

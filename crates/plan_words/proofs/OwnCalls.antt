@@ -1,5 +1,5 @@
--- What an attachment's own calls make of its share: a call of a plan that was done what `share_after_call` says, a Begin
--- that was done had nothing to find, and a lease stands at the end.
+-- What an attachment's own calls make of its share: a call of a plan that was done what `share_after_call` says, a
+-- Begin that was done had nothing to find, and a lease stands at the end.
 use Rattle.std.proofs.Common.{◌≡◌, ℕ, Bool, true, false, List, [], ◌∷◌, ◌++◌, Option, Some, None, refl, ◌∙◌, ap, arith}
 use Rattle.std.specs.Prelude.{find, if◌then◌else◌}
 use Rattle.std.specs.List.{list_any}

@@ -1,4 +1,5 @@
--- The plan of the `portmap` plugin: ports of the host that lead to the container. The rule sets are this project's own, after iptables.
+-- The plan of the `portmap` plugin: ports of the host that lead to the container. The rule sets are this project's own,
+-- after iptables.
 use Rattle.std.specs.Prelude.{◌+◌, ◌*◌, ◌^◌, Bool, true, List, [], ◌∷◌, ◌++◌, map, find, flat_map, Option, Some, None, option_map, if◌then◌else◌}
 use Rattle.cni_addr.specs.Codes.{family_eq}
 use Rattle.cni_addr.specs.Network.{whole, network_of}
@@ -39,7 +40,8 @@ dnat_of att m addr = record (rule_for_all att Nat chains.Dnat (targets.Dnat addr
   dport = Some m.host_port;
 }
 
--- to the container's port from its own network, or from the host itself: masqueraded, so that replies come back this way
+-- to the container's port from its own network, or from the host itself: masqueraded, so that replies come back this
+-- way
 abbrev pub hostport_masquerade : Att → PortMapping → Addr → Cidr → Rule
 hostport_masquerade att m addr src = record (rule_for_all att Nat chains.HostMasq targets.Masquerade) {
   src = Some src;

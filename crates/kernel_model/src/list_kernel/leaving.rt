@@ -141,7 +141,8 @@ fn drop_own(links: &mut Vec<Link>, att: &Att)
 }
 
 impl ListKernel {
-    /// Drops the links that leave, with the addresses and routes on them. Linear in the lists for each link that leaves.
+    /// Drops the links that leave, with the addresses and routes on them. Linear in the lists for each link that
+    /// leaves.
     pub(super) fn drop_leaving<L: Leaving>(&mut self, leaving: &L)
         ensures { self.new ≡ without_links (L.leaving leaving.now) self.old }
     {
