@@ -1,7 +1,9 @@
 -- Lists of members, each read up to the first error.
 use Rattle.std.specs.Prelude.{ℕ, ◌+◌, List, [], ◌∷◌, ◌++◌, Result, Ok}
 use Rattle.serde_json.specs.Data.{Data, Items, no_items, item}
+use Rattle.cni_json.specs.Fields.{member_or}
 use Rattle.cni_json.specs.Outcome.{◌>>=◌}
+use Rattle.cni_json.specs.declared.fields.Field.{Field}
 
 -- each member is read
 abbrev pub each : {A E : Type 0} → (Data → Result A E) → Items → Result (List A) E
@@ -24,3 +26,7 @@ abbrev pub with_front : {A E : Type 0} → List A → Result (List A) E → Resu
 with_front front r = do
   rest ← r
   Ok (front ++ rest)
+
+-- each member of a list that may be absent, and is empty then
+abbrev pub list_or : {A E : Type 0} → Result (List A) E → (Data → Result A E) → Field Items → Result (List A) E
+list_or wrong read f = member_or (Ok []) wrong (each read) f

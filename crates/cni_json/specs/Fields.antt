@@ -1,5 +1,5 @@
 -- A member of an object, by the kind that is wanted.
-use Rattle.std.specs.Prelude.{ℕ, List, Bool, Option, Some, None, option_and_then}
+use Rattle.std.specs.Prelude.{ℕ, List, Bool, Result, Ok, Option, Some, None, option_and_then, ⊤}
 use Rattle.serde_json.specs.Data.{Data, null, boolean, number, string, array, object, Items}
 use Rattle.serde_json.specs.Find.{get, as_str, as_bool, as_number, as_u64, as_array, as_object}
 use Rattle.cni_json.specs.declared.fields.Field.{Field}
@@ -57,3 +57,14 @@ list_field key d = field_of as_array (get key d)
 -- the member that is an object
 abbrev pub object_field : List ℕ → Data → Field Data
 object_field key d = field_of object_of (get key d)
+
+-- what is read of a member, where an absent one and one of another kind give these
+abbrev pub member_or : {A B E : Type 0} → Result B E → Result B E → (A → Result B E) → Field A → Result B E
+member_or absent wrong read Absent = absent
+member_or absent wrong read WrongKind = wrong
+member_or absent wrong read (Here x) = read x
+
+-- the value is an object, or is refused
+abbrev pub object_or : {E : Type 0} → Result ⊤ E → Data → Result ⊤ E
+object_or wrong (object ms) = Ok tt
+object_or wrong d = wrong
