@@ -2,7 +2,7 @@
 -- sections 1 and 5). A member that is null is as an absent one, and unnamed members are passed over.
 use Rattle.std.specs.Prelude.{ℕ, List, [], codes, Bool, true, false, Result, Ok, Err}
 use Rattle.serde_json.specs.Data.{Data, string, Items}
-use Rattle.cni_json.specs.Each.{each}
+use Rattle.cni_json.specs.Each.{list_or}
 use Rattle.cni_json.specs.Fields.{text_field, list_field, object_field}
 use Rattle.cni_json.specs.Outcome.{◌>>=◌}
 use Rattle.cni_json.specs.declared.fields.Field.{Field}
@@ -24,9 +24,7 @@ word_of (string text) = Ok text
 word_of d = wrong
 
 abbrev pub words_of : Field Items → Result (List (List ℕ)) DnsError
-words_of Absent = Ok []
-words_of WrongKind = wrong
-words_of (Here ds) = each word_of ds
+words_of f = list_or wrong word_of f
 
 -- a list of texts, empty where there is none
 unfoldable pub words_at : List ℕ → Data → Result (List (List ℕ)) DnsError

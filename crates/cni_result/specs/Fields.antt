@@ -1,7 +1,7 @@
 -- Members of an object that is read, each with the key that is to blame where it is wrong.
-use Rattle.std.specs.Prelude.{ℕ, ◌^◌, List, [], nat_lt, if◌then◌else◌, Option, Some, None, Result, Ok}
+use Rattle.std.specs.Prelude.{ℕ, ◌^◌, List, nat_lt, if◌then◌else◌, Option, Some, None, Result, Ok}
 use Rattle.serde_json.specs.Data.{Data, Items}
-use Rattle.cni_json.specs.Each.{each}
+use Rattle.cni_json.specs.Each.{list_or}
 use Rattle.cni_json.specs.declared.fields.Field.{Field}
 use Rattle.cni_json.specs.declared.fields.Field.TheVariants.{Absent, WrongKind, Here}
 use Rattle.cni_result.specs.Refusals.{invalid}
@@ -31,9 +31,7 @@ optional blamed read (Here x) = given blamed (read x)
 
 -- a list that may be absent, and is empty then
 abbrev pub list_of : {A : Type 0} → List ℕ → (Data → Result A ResultError) → Field Items → Result (List A) ResultError
-list_of blamed read Absent = Ok []
-list_of blamed read WrongKind = invalid blamed
-list_of blamed read (Here ds) = each read ds
+list_of blamed read f = list_or (invalid blamed) read f
 
 -- any text
 abbrev pub as_it_is : List ℕ → Option (List ℕ)

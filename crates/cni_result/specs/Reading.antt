@@ -2,13 +2,13 @@
 -- members are passed over.
 use Rattle.std.specs.Prelude.{ℕ, List, [], codes, length, Bool, true, nat_lt, if◌then◌else◌, Option, Some, None, Result, Ok, Err, ok_or, ⊤}
 use Rattle.std.specs.List.{list_all}
-use Rattle.serde_json.specs.Data.{Data, null, boolean, number, string, array, object}
+use Rattle.serde_json.specs.Data.{Data}
 use Rattle.cni_addr.specs.AddrText.{addr_of_text}
 use Rattle.cni_addr.specs.CidrText.{cidr_of_text}
 use Rattle.cni_addr.specs.MacText.{mac_of_text}
 use Rattle.cni_addr.specs.Value.{AddrValue, CidrValue}
 use Rattle.cni_addr.specs.declared.mac.Mac.{Mac}
-use Rattle.cni_json.specs.Fields.{text_field, u64_field, list_field}
+use Rattle.cni_json.specs.Fields.{text_field, u64_field, list_field, object_or}
 use Rattle.cni_json.specs.Json.{json_of}
 use Rattle.cni_json.specs.Outcome.{◌>>=◌}
 use Rattle.cni_json.specs.declared.fields.Field.{Field}
@@ -119,12 +119,7 @@ dns_at d = dns_or_refused (dns_of_object d)
 -- ---- the whole
 
 abbrev pub object_at : Data → Result ⊤ ResultError
-object_at null = invalid (codes "result")
-object_at (boolean b) = invalid (codes "result")
-object_at (number n) = invalid (codes "result")
-object_at (string s) = invalid (codes "result")
-object_at (array ds) = invalid (codes "result")
-object_at (object ms) = Ok tt
+object_at d = object_or (invalid (codes "result")) d
 
 -- the address is on an interface of the list, or on none
 abbrev pub is_on_one_of : ℕ → Option ℕ → Bool
