@@ -1,8 +1,9 @@
 -- What a run does next, by its state.
-use Rattle.std.proofs.Common.{◌≡◌, ℕ, Bool, true, false, List, [], ◌∷◌, ◌++◌, Option, Some, None, refl, sym, ◌∙◌, ap, subst, inl, inr, ◌⊎◌}
+use Rattle.std.proofs.Common.{◌≡◌, ℕ, Bool, true, false, List, [], ◌∷◌, ◌++◌, Option, Some, None, Result, Ok, Err, OnErr, refl, sym, ◌∙◌, ap, subst, inl, inr, ◌⊎◌}
 use Rattle.std.specs.Prelude.{option_map, if◌then◌else◌, ◌||◌}
 use Rattle.std.proofs.lemmas.Bool.{false≢true}
 use Rattle.std.proofs.lemmas.Option.{same_Some, none-some}
+use Rattle.cni_addr.specs.declared.memory.NoMemory.{NoMemory}
 use Rattle.cni_verbs.proofs.CallsOrOver.{calls_or_over}
 use Rattle.cni_verbs.specs.Progress.{answer_by}
 use Rattle.cni_verbs.specs.Replies.{host_after, reply_to}
@@ -127,16 +128,18 @@ may-call host x call faulty may is = let P : Next → Type 0 = MayBeMade host in
 
 -- ---- the host after a call
 
-pub called-host : (host host' : Host) (call : Call) (reply : Reply) → (host', reply) ≡ apply host call → is_fault reply ≡ false → host' ≡ host_after host call reply
-called-host host host' call reply is never = ap (λ (s : Host × Reply). s.0) is ∙ sym (ap (λ b. if b then host else (apply host call).0) never)
-
 left-by : {host host' : Host} (b : Bool) → host' ≡ host → (if b then host else host') ≡ host
 left-by true left = refl
 left-by false left = left
 
 -- a reply that can't be copied, or be taken by a run, for want of memory left the host
-pub refused-hand : (host host' : Host) (call : Call) (faulty : Bool) (reply : Reply) → host' ≡ host_after host call reply → reply ≡ reply_to host call faulty
+refused-hand : (host host' : Host) (call : Call) (faulty : Bool) (reply : Reply) → host' ≡ host_after host call reply → reply ≡ reply_to host call faulty
     → (holds_text_or_list reply ≡ true) ⊎ (is_fault reply ≡ true) → host' ≡ host
 refused-hand host host' call faulty reply is replied (inr fault) = is ∙ ap (λ b. if b then host else (apply host call).0) fault
 refused-hand host host' call true reply is replied (inl holds) = is ∙ ap (host_after host call) replied
 refused-hand host host' call false reply is replied (inl holds) = is ∙ left-by (is_fault reply) ((IsReplyOf-apply host call).leaves (ap holds_text_or_list (sym replied) ∙ holds))
+
+pub refused-ask : (r : Result Reply NoMemory) (host host' : Host) (call : Call) (faulty : Bool) (reply : Reply) → host' ≡ host_after host call reply → reply ≡ reply_to host call faulty
+    → OnErr r ((holds_text_or_list reply ≡ true) ⊎ (is_fault reply ≡ true)) → OnErr r (host' ≡ host)
+refused-ask (Ok kept) host host' call faulty reply is replied why = tt
+refused-ask (Err e) host host' call faulty reply is replied why = refused-hand host host' call faulty reply is replied why

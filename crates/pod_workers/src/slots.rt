@@ -205,26 +205,41 @@ fn make<K: Kernel>(
         return Err(NoMemory);
     }
     let _room = history.capacity();
-    match replied(alloc, kernel, &call, faulty) {
+    match ask(alloc, kernel, slot, &call, faulty) {
         Err(NoMemory) => {
             drop(call);
             Err(NoMemory)
         }
-        Ok(reply) => match hand(slot, reply) {
-            Err(NoMemory) => {
-                drop(call);
-                Err(NoMemory)
-            }
-            Ok(kept) => {
-                history.push_reserved(Entry {
-                    command,
-                    call,
-                    reply: kept,
-                });
-                Ok(())
-            }
-        },
+        Ok(reply) => {
+            history.push_reserved(Entry {
+                command,
+                call,
+                reply,
+            });
+            Ok(())
+        }
     }
+}
+
+/// The reply to a call, which the run of a slot takes.
+fn ask<K: Kernel>(
+    alloc: Global,
+    kernel: &mut K,
+    slot: &mut Slot,
+    call: &Call,
+    faulty: bool,
+) -> Result<Reply, NoMemory>
+    requires allowed { faulty ≡ false → IsAllowed (K.host kernel.old) call.now }
+    requires unfinished { IsOpen slot.old.run.state }
+    requires counted { slot.old.made ≡ slot.old.run.made }
+    requires numbered { slot.old.made + 1 < 2 ^ 64 }
+    ensures reply { IfOk result (λ reply. reply ≡ reply_to (K.host kernel.old) call.now faulty) }
+    ensures host { IfOk result (λ reply. K.host kernel.new ≡ host_after (K.host kernel.old) call.now reply) }
+    ensures slot { IfOk result (λ reply. slot.new ≡ slot_after slot.old reply) }
+    ensures err { OnErr result (K.host kernel.new ≡ K.host kernel.old) }
+{
+    let reply = replied(alloc, kernel, call, faulty)?;
+    hand(slot, reply)
 }
 
 /// Hands a reply to the run of a slot, and gives a copy of it.
