@@ -39,6 +39,8 @@ abbrev pub kinds_over_plugins : NetList → ℕ
 kinds_over_plugins list = length (first_kinds list.first) + length (chained_kinds_reversed list.chained)
 
 -- six; for each stale attachment seven more than the kinds; and one for each object that is not kept
+abbrev pub most_of_collection : NetList → Command → Host → ℕ
+most_of_collection list c host = 6 + length (stale_owners c.network c.valid (all_tags host)) * (kinds_over_plugins list + 7) + objects_by (goes c.network c.valid) host
+
 abbrev pub GcBound : Type 0
-GcBound = (list : NetList) (c : Command) (host : Host) (es : List Made) → is_gc c.verb ≡ true → IsSound host → IsRun list c host es
-    → length es ≤ 6 + length (stale_owners c.network c.valid (all_tags host)) * (kinds_over_plugins list + 7) + objects_by (goes c.network c.valid) host
+GcBound = (list : NetList) (c : Command) (host : Host) (es : List Made) → is_gc c.verb ≡ true → IsSound host → IsRun list c host es → length es ≤ most_of_collection list c host

@@ -1,5 +1,5 @@
 -- What a garbage collection leaves and answers, from the laws of a collection that is alone with a host.
-use Rattle.std.proofs.Common.{◌≡◌, ◌≢◌, ℕ, ◌+◌, ◌*◌, ◌≤◌, Bool, true, false, List, length, [], ◌∷◌, Some, None, refl, sym, ◌∙◌, ap, subst, inl, inr, ◌⊎◌}
+use Rattle.std.proofs.Common.{◌≡◌, ◌≢◌, ℕ, ◌+◌, ◌≤◌, Bool, true, false, List, length, [], ◌∷◌, Some, None, refl, sym, ◌∙◌, ap, subst, inl, inr, ◌⊎◌}
 use Rattle.std.proofs.lemmas.Bool.{cases_Bool}
 use Rattle.std.proofs.lemmas.List.{length-map}
 use Rattle.std.proofs.lemmas.Option.{none-some}
@@ -20,8 +20,8 @@ use Rattle.cni_verbs.specs.declared.answer.Cause.TheVariants as causes
 use Rattle.cni_verbs.specs.declared.answer.Ending.{Ending}
 use Rattle.cni_verbs.specs.declared.answer.Ending.TheVariants.{Yes, Skipped, Refused}
 use Rattle.cni_verbs.specs.declared.answer.Skip.TheVariants as skips
-use Rattle.gc_sweep.specs.Bound.{all_tags, kinds_over_plugins, objects_by, stale_owners}
-use Rattle.gc_sweep.specs.Keep.{goes, keep}
+use Rattle.gc_sweep.specs.Bound.{most_of_collection}
+use Rattle.gc_sweep.specs.Keep.{keep}
 use Rattle.gc_sweep.specs.Sweep.{AreExcused, Bounds, IsCollected, fault_numbers}
 use Rattle.gc_sweep.specs.Trace as trace
 use Rattle.cni_verbs.specs.Progress.{is_gc}
@@ -189,7 +189,7 @@ collections_are_bounded w legal n c at gc some =
     subst (λ old. Bounds c.command old (host_at_end w n)) (sym (alone-start w n c t some)) (subst (Bounds c.command start) (to-host start es ∙ sym (alone-end w n c t)) bounds)
 
 abbrev IsShort : NetList → Command → Host → List Entry → Type 0
-IsShort list c host es = length es ≤ 6 + length (stale_owners c.network c.valid (all_tags host)) * (kinds_over_plugins list + 7) + objects_by (goes c.network c.valid) host
+IsShort list c host es = length es ≤ most_of_collection list c host
 
 pub collections_are_short : CollectionsAreShort
 collections_are_short w legal n c list at listed gc some =
@@ -197,5 +197,5 @@ collections_are_short w legal n c list at listed gc some =
     let es = own_entries n w.history in
     let start = after w.plan.pods.opening t.before in
     let bound = gc_bound list c.command start (made_in es) (ap is_gc gc) t.sound (gc-run w n c list listed t) in
-    let short : IsShort list c.command start es = subst (λ k. k ≤ 6 + length (stale_owners c.command.network c.command.valid (all_tags start)) * (kinds_over_plugins list + 7) + objects_by (goes c.command.network c.command.valid) start) (length-map es made_of) bound in
+    let short : IsShort list c.command start es = subst (λ k. k ≤ most_of_collection list c.command start) (length-map es made_of) bound in
     subst (λ host. IsShort list c.command host es) (sym (alone-start w n c t some)) short

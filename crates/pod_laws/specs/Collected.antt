@@ -1,13 +1,13 @@
 -- What a garbage collection leaves and answers, wherever it stands in a history (CNI specification, section 3, "Garbage-collecting unused resources").
-use Rattle.std.specs.Prelude.{◌≡◌, ◌≢◌, ℕ, ◌+◌, ◌*◌, ◌≤◌, ◌⊎◌, true, false, List, [], length, map, Some, slice_get}
+use Rattle.std.specs.Prelude.{◌≡◌, ◌≢◌, ℕ, ◌+◌, ◌≤◌, ◌⊎◌, true, false, List, [], length, map, Some, slice_get}
 use Rattle.cni_result.specs.declared.version.Version.TheVariants.{V1_0, V1_1}
 use Rattle.cni_verbs.specs.Answers.{error_of}
 use Rattle.cni_verbs.specs.declared.answer.Answer.{Answer}
 use Rattle.cni_verbs.specs.declared.answer.Answer.TheVariants as answers
 use Rattle.cni_verbs.specs.declared.answer.Cause.TheVariants as causes
 use Rattle.cni_verbs.specs.declared.answer.Skip.TheVariants as skips
-use Rattle.gc_sweep.specs.Bound.{all_tags, kinds_over_plugins, objects_by, stale_owners}
-use Rattle.gc_sweep.specs.Keep.{goes, keep}
+use Rattle.gc_sweep.specs.Bound.{most_of_collection}
+use Rattle.gc_sweep.specs.Keep.{keep}
 use Rattle.gc_sweep.specs.Sweep.{AreExcused, Bounds, IsCollected, fault_numbers}
 use Rattle.gc_sweep.specs.Trace.{Made}
 use Rattle.kernel_types.specs.declared.object.Host.{Host}
@@ -78,8 +78,7 @@ CollectionsAreBounded = (w : World) → Legal w → (n : ℕ) (c : Placed)
 abbrev pub CollectionsAreShort : Type 0
 CollectionsAreShort = (w : World) → Legal w → (n : ℕ) (c : Placed) (list : NetList)
     → slice_get (commands_of w.plan) n ≡ Some c → list_for w.plan c.command ≡ Some list → c.command.verb ≡ verbs.Gc → own_entries n w.history ≢ []
-    → length (own_entries n w.history)
-    ≤ 6 + length (stale_owners c.command.network c.command.valid (all_tags (host_at_start w n))) * (kinds_over_plugins list + 7) + objects_by (goes c.command.network c.command.valid) (host_at_start w n)
+    → length (own_entries n w.history) ≤ most_of_collection list c.command (host_at_start w n)
 
 -- ---- one after another
 
