@@ -17,8 +17,8 @@ use Rattle.pod_file.specs.declared.command.Command.{Command}
 use Rattle.pod_workers.specs.Index.{command_in, is_cut_by}
 use Rattle.pod_workers.specs.Legal.{Legal, steps, refused_memory}
 use Rattle.pod_workers.specs.Plans.{Placed, commands_of, list_for}
-use Rattle.pod_workers.specs.Slots.{Fits, CarriesOn, IsKept, IsWithin, MayBeMade, MayCarryOn, entry_by, next_in, opened, opened_by, slot_after}
-use Rattle.pod_workers.specs.World.{World, IsReady, IsReadyNumber, answered, done, end_of, entry_of, host_of, host_on, is_cut, is_faulty, is_stop, next_by, next_of, own_replies, reply_to, stepped, with_entry}
+use Rattle.pod_workers.specs.Slots.{Fits, CarriesOn, IsKept, IsWithin, MayBeMade, MayCarryOn, next_in, opened, opened_by, slot_after}
+use Rattle.pod_workers.specs.World.{World, IsReady, IsReadyNumber, answered, done, end_of, entry_by, entry_of, host_of, host_on, is_cut, is_faulty, is_stop, next_by, next_of, own_replies, stepped, with_entry}
 use Rattle.pod_workers.specs.declared.index.Place.{Place}
 use Rattle.pod_workers.specs.declared.plan.Entry.{Entry}
 use Rattle.pod_workers.specs.declared.plan.Next.{Next}
@@ -215,9 +215,9 @@ went-by host host' slots places before w n c h' t (next.Answer a) kept ready num
 went-by host host' slots places before w n c h' t (next.Call call faulty) kept ready number is d =
     let rs = own_replies w n in
     let list = list_for w.plan c.command in
-    let e = entry_by host c.command call faulty in
+    let e = entry_by host c.command.number call faulty in
     let same_entry : e ≡ entry_of (host_of w) n call faulty =
-    ap (λ k. entry_by k c.command call faulty) kept.host_is ∙ ap (λ k. record { command = k; call = call; reply = reply_to (host_of w) call faulty }) number in
+    ap (λ k. entry_by k c.command.number call faulty) kept.host_is ∙ ap (λ k. entry_by (host_of w) k call faulty) number in
     let made : with_entry w e ≡ stepped w n c.command = ap (with_entry w) same_entry ∙ sym (ap (done w n) is) in
     let legal : Legal (with_entry w e) = steps w (with_entry w e) n c kept.legal ready made in
     let goes = not-stopped list c.command (length rs) (is_cut w) (turn_by list c.command rs) call faulty is in

@@ -11,7 +11,7 @@ use Rattle.pod_file.specs.declared.command.Command.{Command}
 use Rattle.pod_workers.specs.Index.{IsIndex}
 use Rattle.pod_workers.specs.Legal.{Legal}
 use Rattle.pod_workers.specs.Plans.{Placed, commands_of, list_for, list_in, placed_from}
-use Rattle.pod_workers.specs.World.{World, host_of, host_on, next_by, own_replies, reply_to}
+use Rattle.pod_workers.specs.World.{World, entry_by, host_of, host_on, next_by, own_replies, reply_to}
 use Rattle.pod_workers.specs.declared.index.Place.{Place}
 use Rattle.pod_workers.specs.declared.plan.Entry.{Entry}
 use Rattle.pod_workers.specs.declared.plan.Next.{Next}
@@ -66,16 +66,13 @@ pub record MayCarryOn (host : Host) (h : List Entry) (c : Command) (cut : Bool) 
   pub countable : IsCountable c cut s.made
   pub allowed : MayBeMade host (next_in c cut s)
 
-abbrev pub entry_by : Host → Command → Call → Bool → Entry
-entry_by host c call faulty = record { command = c.number; call = call; reply = reply_to host call faulty }
-
 -- from the first host and history to the second this was done, for this run
 unfoldable pub CarriesOn : Host → Host → List Entry → List Entry → Command → Slot → Next → Outcome → Type 0
 CarriesOn host host' h h' c s (next.Answer a) (outcome.Over b) = (b ≡ a) × (host' ≡ host) × (h' ≡ h)
 CarriesOn host host' h h' c s (next.Answer a) (outcome.Went t) = ⊥
 CarriesOn host host' h h' c s (next.Call call faulty) (outcome.Over b) = ⊥
 CarriesOn host host' h h' c s (next.Call call faulty) (outcome.Went t) =
-    (t ≡ slot_after s (reply_to host call faulty)) × (host' ≡ host_on host (entry_by host c call faulty)) × (h' ≡ h ++ entry_by host c call faulty ∷ [])
+    (t ≡ slot_after s (reply_to host call faulty)) × (host' ≡ host_on host (entry_by host c.number call faulty)) × (h' ≡ h ++ entry_by host c.number call faulty ∷ [])
 
 -- ---- a book
 

@@ -86,8 +86,13 @@ next_by list c made cut (Calls call) = if is_stop c.stop made || cut then next.A
 abbrev pub next_of : World → Command → List Reply → Next
 next_of w c rs = next_by (list_for w.plan c) c (length rs) (is_cut w) (turn_by (list_for w.plan c) c rs)
 
+-- the entry of the command of this number, from 1
+abbrev pub entry_by : Host → ℕ → Call → Bool → Entry
+entry_by host number call faulty = record { command = number; call = call; reply = reply_to host call faulty }
+
+-- the one of the command at place n
 abbrev pub entry_of : Host → ℕ → Call → Bool → Entry
-entry_of host n call faulty = record { command = n + 1; call = call; reply = reply_to host call faulty }
+entry_of host n call faulty = entry_by host (n + 1) call faulty
 
 abbrev pub with_entry : World → Entry → World
 with_entry w e = record { plan = w.plan; history = w.history ++ e ∷ []; answers = w.answers; round = w.round }
