@@ -80,8 +80,8 @@ abbrev pub job_of : Sweep → Att → Job
 job_of s att = record { att = att; step = s.step; more = s.more }
 
 -- the owners that are not valid
-abbrev pub jobs_of : Gc → Sweep → List Att → List Job
-jobs_of gc s owners = map (job_of s) (filter (λ a. not (is_valid gc.valid a)) owners)
+abbrev pub jobs_of : List ValidAtt → Sweep → List Att → List Job
+jobs_of valid s owners = map (job_of s) (filter (λ a. not (is_valid valid a)) owners)
 
 -- ---- one reply
 
@@ -91,7 +91,7 @@ after_step att [] jobs = jobs
 after_step att (s ∷ more) jobs = record { att = att; step = s; more = more } ∷ jobs
 
 abbrev pub after_owners : Gc → Sweep → List Sweep → Reply → Work
-after_owners gc s sweeps (Owners owners) = record { jobs = jobs_of gc s owners; sweeps = sweeps }
+after_owners gc s sweeps (Owners owners) = record { jobs = jobs_of gc.valid s owners; sweeps = sweeps }
 after_owners gc s sweeps Fault = record { jobs = []; sweeps = sweeps }
 after_owners gc s sweeps r = record { jobs = []; sweeps = s ∷ sweeps }
 

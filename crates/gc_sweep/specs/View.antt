@@ -1,5 +1,5 @@
 -- What the fields of a run stand for.
-use Rattle.std.specs.Prelude.{◌≡◌, ℕ, ◌<◌, Bool, true, false, not, List, [], ◌∷◌, map, filter, drop, length, Option, Some, None, if◌then◌else◌}
+use Rattle.std.specs.Prelude.{◌≡◌, ℕ, ◌<◌, Bool, true, false, List, [], ◌∷◌, map, drop, length, Option, Some, None, if◌then◌else◌}
 use Rattle.kernel_types.specs.declared.object.Att.{Att}
 use Rattle.kernel_types.specs.declared.call.Kind.{Kind}
 use Rattle.kernel_types.specs.declared.call.Kind.TheVariants as kinds
@@ -14,7 +14,7 @@ use Rattle.cni_verbs.specs.Answers.{error_of}
 use Rattle.cni_verbs.specs.Progress.{Progress}
 use Rattle.cni_verbs.specs.Script.{State, unless_old}
 use Rattle.cni_verbs.specs.Script as script
-use Rattle.cni_verbs.specs.Sweep.{Step, AskCached, Delete, Sweep, Job, Work, first_sweep, kind_sweep, all_sweeps, is_valid, job_of, after_step}
+use Rattle.cni_verbs.specs.Sweep.{Step, AskCached, Delete, Sweep, Job, Work, first_sweep, kind_sweep, all_sweeps, job_of, jobs_of, after_step}
 use Rattle.cni_verbs.specs.Wanted.{kinds_of}
 use Rattle.cni_verbs.specs.declared.answer.Answer.{Answer}
 use Rattle.cni_verbs.specs.declared.answer.Answer.TheVariants as answers
@@ -132,7 +132,7 @@ owner_done (j ∷ jobs) = jobs
 
 abbrev pub asked : List ValidAtt → List Sweep → List Att → Work
 asked valid [] owners = record { jobs = []; sweeps = [] }
-asked valid (s ∷ sweeps) owners = record { jobs = map (job_of s) (filter (λ a. not (is_valid valid a)) owners); sweeps = sweeps }
+asked valid (s ∷ sweeps) owners = record { jobs = jobs_of valid s owners; sweeps = sweeps }
 
 abbrev pub skipped : List Sweep → List Sweep
 skipped [] = []

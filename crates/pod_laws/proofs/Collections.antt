@@ -78,15 +78,15 @@ owners-in network (t ∷ ts) = owners-cons network t (filter_map (owner_in netwo
 abbrev AllStale : Command → List Job → Type 0
 AllStale c jobs = list_all (λ j. is_stale c.network c.valid j.att) jobs ≡ true
 
-jobs-stale : (list : NetList) (c : Command) (s : Sweep) (owners : List Att) → list_all (is_in c.network) owners ≡ true → AllStale c (jobs_of (gc_of list c) s owners)
-jobs-stale list c s owners h =
+jobs-stale : (c : Command) (s : Sweep) (owners : List Att) → list_all (is_in c.network) owners ≡ true → AllStale c (jobs_of c.valid s owners)
+jobs-stale c s owners h =
     list_all-map (λ j. is_stale c.network c.valid j.att) (job_of s) (filter (λ a. not (is_valid c.valid a)) owners)
     ∙ list_all-kept (is_in c.network) (is_stale c.network c.valid) (λ a. not (is_valid c.valid a)) (λ a near named. grind (arith, near, named)) owners h
 
 swept-stale : (list : NetList) (c : Command) (s : Sweep) (sweeps : List Sweep) (k : Host) (faulty : Bool) → AllStale c (work_after (gc_of list c) [] (s ∷ sweeps) (reply_to k (OwnersOf c.network s.kind) faulty)).jobs
 swept-stale list c s sweeps k true = refl
 swept-stale list c s sweeps k false =
-    jobs-stale list c s (each_key_once att_eq (filter_map (owner_in c.network) (tags_of k s.kind)))
+    jobs-stale c s (each_key_once att_eq (filter_map (owner_in c.network) (tags_of k s.kind)))
     (list_all-each_key_once (is_in c.network) att_eq (filter_map (owner_in c.network) (tags_of k s.kind)) (owners-in c.network (tags_of k s.kind)))
 
 stale-step : (c : Command) (att : Att) (more : List Step) (jobs : List Job) → is_stale c.network c.valid att ≡ true → AllStale c jobs → AllStale c (after_step att more jobs)
