@@ -4,12 +4,12 @@ ghost use Rattle.std.specs.Prelude.{◌≡◌, ℕ, List, Some, None, drop, ⊤,
 ghost use Rattle.std.specs.Option.{option_copied};
 ghost use Rattle.kernel_types.specs.declared.call.Call.{Call};
 ghost use Rattle.cni_verbs.specs.Script.{back_of, finish_of};
-ghost use Rattle.cni_verbs.specs.Answers.{answer_of_ending, error_of, outside_by};
+ghost use Rattle.cni_verbs.specs.Answers.{answer_of_ending, outside_by};
 ghost use Rattle.cni_verbs.specs.Progress as progress;
 ghost use Rattle.cni_verbs.specs.Phases.{IsKept, IsReady, denied, questions_left, state_in, state_outside};
 
-use crate::answer::{Answer, Cause, Ending, Question};
-use crate::errors::error_of;
+use crate::answer::{Answer, Ending, Question};
+use crate::errors::refused;
 use crate::inquiry::{Inquiry, count_asked, questions_about};
 use crate::next::back_of;
 use crate::phase::Phase;
@@ -21,17 +21,6 @@ use kernel_types::{Call, Kind};
 use net_conf::NetList;
 use pod_file::Command;
 use std::alloc::Global;
-
-fn refused(
-    alloc: Global,
-    version: Version,
-    command: &Command,
-    cause: &Cause,
-) -> Result<Answer, NoMemory>
-    ensures { IfOk result (λ answer. answer ≡ Answer.Refused (error_of version command.now cause.now)) }
-{
-    Ok(Answer::Refused(error_of(alloc, version, command, cause)?))
-}
 
 // ---- a verb of a network
 

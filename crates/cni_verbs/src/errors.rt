@@ -5,7 +5,7 @@ ghost use Rattle.serde_json.specs.Data.{string};
 ghost use Rattle.serde_json.specs.Written.{compact_text};
 ghost use Rattle.cni_verbs.specs.Answers as answers;
 
-use crate::answer::{Cause, WordFaults, verb_text};
+use crate::answer::{Answer, Cause, WordFaults, verb_text};
 use crate::error_kind::{ErrorKind, message_of_field};
 use crate::missed::missed_text;
 use crate::words::att_of;
@@ -200,4 +200,16 @@ pub fn error_of(
         msg: message_of(alloc, cause)?,
         details: details_of(alloc, command, cause)?,
     })
+}
+
+/// The answer of a verb that refuses for this cause, in the version of its list.
+pub fn refused(
+    alloc: Global,
+    version: Version,
+    command: &Command,
+    cause: &Cause,
+) -> Result<Answer, NoMemory>
+    ensures { IfOk result (λ answer. answer ≡ Answer.Refused (answers.error_of version command.now cause.now)) }
+{
+    Ok(Answer::Refused(error_of(alloc, version, command, cause)?))
 }

@@ -11,9 +11,8 @@ ghost use Rattle.gc_sweep.specs.View.{is_early, early_answer, jobs_left, sweeps_
 use crate::place::{Place, go, move_of, next_call};
 use cni_addr::{Duplicate, Items, NoMemory};
 use cni_result::Version;
-use cni_verbs::errors::error_of;
 use cni_verbs::wanted::kinds_of;
-use cni_verbs::{Answer, Cause, Skip};
+use cni_verbs::{Answer, Cause, Skip, errors};
 use kernel_types::{Call, Kind, Reply};
 use net_conf::NetList;
 use pod_file::Command;
@@ -142,8 +141,7 @@ fn refused(
 ) -> Result<Option<Answer>, NoMemory>
     ensures { IfOk result (λ answer. answer ≡ Some (Refused (error_of list.now.version command.now cause))) }
 {
-    let error = error_of(alloc, list.version, command, &cause)?;
-    Ok(Some(Answer::Refused(error)))
+    Ok(Some(errors::refused(alloc, list.version, command, &cause)?))
 }
 
 /// The answer that the list gives before any call, if it gives one.
