@@ -56,6 +56,10 @@ message_of_field key value = kind_title UnsupportedField ++ (codes " " ++ (key +
 abbrev pub plain_error : Version → ErrorKind → List ℕ → CniError
 plain_error version kind msg = record { version = version; code = kind_code kind; msg = msg; details = [] }
 
+-- one in the newest version that says no more than its title
+abbrev pub titled_error : ErrorKind → CniError
+titled_error kind = plain_error V1_1 kind (kind_title kind)
+
 -- the error of what was refused memory
 abbrev pub memory_error : CniError
-memory_error = plain_error V1_1 OutOfMemory (kind_title OutOfMemory)
+memory_error = titled_error OutOfMemory

@@ -131,10 +131,17 @@ pub fn plain_error(
     })
 }
 
+/// An error in the newest version that says no more than its title.
+pub fn titled_error(alloc: Global, kind: ErrorKind) -> Result<CniError, NoMemory>
+    ensures { IfOk result (λ error. error ≡ kinds.titled_error kind) }
+{
+    let msg = kind.message(alloc)?;
+    plain_error(alloc, Version::V1_1, kind, msg)
+}
+
 /// The error of what was refused memory, in the newest version.
 pub fn memory_error(alloc: Global) -> Result<CniError, NoMemory>
     ensures { IfOk result (λ error. error ≡ kinds.memory_error) }
 {
-    let msg = ErrorKind::OutOfMemory.message(alloc)?;
-    plain_error(alloc, Version::V1_1, ErrorKind::OutOfMemory, msg)
+    titled_error(alloc, ErrorKind::OutOfMemory)
 }

@@ -2,7 +2,7 @@
 use Rattle.std.specs.Prelude.{ℕ, List, [], ◌++◌, codes, decimal, slice_index_or}
 use Rattle.cni_result.specs.declared.error.CniError.{CniError}
 use Rattle.cni_result.specs.declared.version.Version.TheVariants.{V1_1}
-use Rattle.cni_verbs.specs.ErrorKinds.{kind_title, message_about, message_of_field, plain_error, memory_error}
+use Rattle.cni_verbs.specs.ErrorKinds.{message_about, message_of_field, plain_error, titled_error, memory_error}
 use Rattle.cni_verbs.specs.declared.error_kind.ErrorKind.{ErrorKind}
 use Rattle.cni_verbs.specs.declared.error_kind.ErrorKind.TheVariants as kinds
 use Rattle.net_conf.specs.declared.error.ConfError.{ConfError}
@@ -12,9 +12,6 @@ use Rattle.pod_file.specs.declared.error.PodError.TheVariants as pods
 use Rattle.pod_workers.specs.declared.plan.PlanError.{PlanError}
 use Rattle.pod_workers.specs.declared.plan.PlanError.TheVariants as plans
 use Rattle.tool_words.specs.declared.words.Words.{Words}
-
-abbrev pub not_decoded : CniError
-not_decoded = plain_error V1_1 kinds.DecodingFailed (kind_title kinds.DecodingFailed)
 
 -- an error of this kind about this
 abbrev pub error_about : ErrorKind → List ℕ → CniError
@@ -29,12 +26,12 @@ invalid_pods why = error_about kinds.InvalidPodFile why
 abbrev pub list_error : ConfError → CniError
 list_error (conf.Version found) = error_about kinds.IncompatibleVersion found
 list_error (conf.Unsupported key value) = plain_error V1_1 kinds.UnsupportedField (message_of_field key value)
-list_error conf.Decode = not_decoded
+list_error conf.Decode = titled_error kinds.DecodingFailed
 list_error (conf.Invalid why) = invalid_list why
 list_error conf.NoMemory = memory_error
 
 abbrev pub pods_error : PodError → CniError
-pods_error pods.Decode = not_decoded
+pods_error pods.Decode = titled_error kinds.DecodingFailed
 pods_error pods.Number = invalid_pods (codes "number")
 pods_error (pods.Shape path) = invalid_pods path
 pods_error (pods.Alone round) = invalid_pods (codes "rounds[" ++ (decimal round ++ codes "] is not alone"))

@@ -6,7 +6,7 @@ ghost use Rattle.tool_run.specs.Refusals.{error_about, file_at_fault, list_error
 
 use cni_addr::NoMemory;
 use cni_result::{CniError, Version};
-use cni_verbs::{ErrorKind, memory_error, message_of_field, plain_error};
+use cni_verbs::{ErrorKind, memory_error, message_of_field, plain_error, titled_error};
 use net_conf::ConfError;
 use pod_file::PodError;
 use pod_workers::PlanError;
@@ -22,7 +22,7 @@ pub(crate) fn list_error(alloc: Global, error: &ConfError) -> Result<CniError, N
             error_about(alloc, ErrorKind::IncompatibleVersion, found.as_str())
         }
         ConfError::Unsupported { key, value } => unsupported(alloc, key.as_str(), value.as_str()),
-        ConfError::Decode => not_decoded(alloc),
+        ConfError::Decode => titled_error(alloc, ErrorKind::DecodingFailed),
         ConfError::Invalid { why } => invalid_list(alloc, why.as_str()),
         ConfError::NoMemory => memory_error(alloc),
     }
@@ -33,7 +33,7 @@ pub(crate) fn pods_error(alloc: Global, error: &PodError) -> Result<CniError, No
     ensures { IfOk result (λ e. e ≡ pods_error error.now) }
 {
     match error {
-        PodError::Decode => not_decoded(alloc),
+        PodError::Decode => titled_error(alloc, ErrorKind::DecodingFailed),
         PodError::Number => invalid_pods(alloc, "number"),
         PodError::Shape { path } => invalid_pods(alloc, path.as_str()),
         PodError::Alone { round } => {
@@ -83,13 +83,6 @@ fn unsupported(alloc: Global, key: &str, value: &str) -> Result<CniError, NoMemo
 {
     let msg = message_of_field(alloc, key, value)?;
     plain_error(alloc, Version::V1_1, ErrorKind::UnsupportedField, msg)
-}
-
-fn not_decoded(alloc: Global) -> Result<CniError, NoMemory>
-    ensures { IfOk result (λ e. e ≡ refusals.not_decoded) }
-{
-    let msg = ErrorKind::DecodingFailed.message(alloc)?;
-    plain_error(alloc, Version::V1_1, ErrorKind::DecodingFailed, msg)
 }
 
 fn invalid_list(alloc: Global, why: &str) -> Result<CniError, NoMemory>
