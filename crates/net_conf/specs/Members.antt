@@ -21,12 +21,16 @@ flag_at key default d = flag_of key default (bool_field key d)
 abbrev pub is_mtu : ℕ → Bool
 is_mtu n = nat_le 68 n && nat_le n 65535
 
--- an MTU, where 0 stands for 1500
+-- the MTU of links whose own is not given
+abbrev pub default_mtu : ℕ
+default_mtu = 1500
+
+-- an MTU, where 0 stands for the default
 abbrev pub mtu_value : ℕ → Result ℕ ConfError
-mtu_value n = if n == 0 then Ok 1500 else if is_mtu n then Ok n else invalid (codes "mtu")
+mtu_value n = if n == 0 then Ok default_mtu else if is_mtu n then Ok n else invalid (codes "mtu")
 
 abbrev pub mtu_of : Field ℕ → Result ℕ ConfError
-mtu_of Absent = Ok 1500
+mtu_of Absent = Ok default_mtu
 mtu_of WrongKind = invalid (codes "mtu")
 mtu_of (Here n) = mtu_value n
 

@@ -41,6 +41,6 @@ pub use error::ConfError;
 pub use first::{BridgeConf, First, HostLocalConf, MacvlanConf, PtpConf};
 pub use laws::network_list_laws;
 pub use list::NetList;
-pub use members::is_mtu;
+pub use members::{DEFAULT_MTU, is_mtu};
 pub use names::{is_container_id, is_interface_name, is_network_name};
 pub use read::read_list;

@@ -30,13 +30,16 @@ pub fn is_mtu(number: u64) -> bool
     matches!(number, 68..=65535)
 }
 
-/// The MTU of links, in bytes. 0 stands for 1500, as does an absent one.
+/// The MTU of links whose own is not given, in bytes.
+pub const DEFAULT_MTU: u32 = 1500;
+
+/// The MTU of links, in bytes. 0 stands for the default, as does an absent one.
 #[tactic(auto, using(cni_json::proofs::Steps::steps), unfolding(crate::specs::Members::mtu_at))]
 pub fn mtu(alloc: Global, object: &Value) -> Result<u32, ConfError>
     ensures { GivesAs is_want_of_memory (λ n. n) result (members.mtu_at (view object.now)) }
 {
     match field_u64(object, "mtu") {
-        Field::Absent | Field::Here(0) => Ok(1500),
+        Field::Absent | Field::Here(0) => Ok(DEFAULT_MTU),
         Field::Here(number) if is_mtu(number) => Ok(number as u32),
         Field::Here(_) | Field::WrongKind => Err(invalid(alloc, "mtu")),
     }

@@ -1,6 +1,7 @@
 //! Keys that are not acted on. A value that asks for nothing is accepted, every other is refused.
 
 ghost use Rattle.std.specs.Prelude.{◌≡◌, false};
+ghost use Rattle.serde_json.specs.Data.{string};
 ghost use Rattle.serde_json.specs.View.{view};
 ghost use Rattle.serde_json.specs.Written.{has_float};
 ghost use Rattle.cni_json.specs.Outcome.{GivesAs};
@@ -36,16 +37,18 @@ fn is_accepted(accepted: Accepted, value: &Value) -> bool
         (Accepted::EmptyList, Value::Array(list)) => list.as_slice().is_empty(),
         (Accepted::IsFlag(true), Value::Bool(flag)) => *flag,
         (Accepted::IsFlag(false), Value::Bool(flag)) => !*flag,
-        (Accepted::EmptyText, Value::String(text)) => text.as_str() == "",
+        (Accepted::EmptyText, Value::String(text)) => is_default_text("", text.as_str()),
         (Accepted::AnyText, Value::String(_)) => true,
-        (Accepted::Backend, Value::String(text)) => {
-            text.as_str() == "" || text.as_str() == "iptables"
-        }
-        (Accepted::OpenPolicy, Value::String(text)) => {
-            text.as_str() == "" || text.as_str() == "open"
-        }
+        (Accepted::Backend, Value::String(text)) => is_default_text("iptables", text.as_str()),
+        (Accepted::OpenPolicy, Value::String(text)) => is_default_text("open", text.as_str()),
         _ => false,
     }
+}
+
+fn is_default_text(default: &str, text: &str) -> bool
+    ensures { result ≡ outside.is_default_text default.now (string text.now) }
+{
+    text == "" || text == default
 }
 
 /// Refuses a value of the key that is neither absent, null nor accepted.
