@@ -13,7 +13,7 @@ use Rattle.kernel_types.specs.declared.object.Link.{Link}
 use Rattle.kernel_types.specs.declared.object.LinkKind.{LinkKind}
 use Rattle.kernel_types.specs.declared.object.LinkKind.TheVariants.{Device, Bridge}
 use Rattle.kernel_types.specs.declared.object.Tag.TheVariants.{Outside}
-use Rattle.net_conf.specs.Members.{is_mtu}
+use Rattle.net_conf.specs.Members.{default_mtu, is_mtu}
 use Rattle.net_conf.specs.Names.{is_interface_name}
 use Rattle.pod_file.specs.Refusals.{wrong, member_path}
 use Rattle.pod_file.specs.declared.error.PodError.{PodError}
@@ -64,7 +64,7 @@ unfoldable pub ns_at : List (List ℕ) → ℕ → Data → Result (List ℕ) Po
 ns_at names index d = ns_of names index (text_field (codes "ns") d)
 
 abbrev pub mtu_of : ℕ → Field ℕ → Result ℕ PodError
-mtu_of index Absent = Ok 1500
+mtu_of index Absent = Ok default_mtu
 mtu_of index WrongKind = wrong_link index
 mtu_of index (Here n) = if is_mtu n then Ok n else wrong_link index
 

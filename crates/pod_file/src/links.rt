@@ -15,7 +15,7 @@ use cni_addr::{Items, Text};
 use cni_json::{Field, Value, field_list, field_str, field_u64};
 use kernel_types::words::is_at;
 use kernel_types::{Link, LinkKey, LinkKind, Tag, link_mac};
-use net_conf::{is_interface_name, is_mtu};
+use net_conf::{DEFAULT_MTU, is_interface_name, is_mtu};
 use std::alloc::Global;
 
 /// The links, none where there is no list of them.
@@ -135,7 +135,7 @@ fn mtu(alloc: Global, index: usize, member: &Value) -> Result<u32, PodError>
     ensures { GivesAs is_want_of_memory (λ mtu. mtu) result (wanted.mtu_at index (view member.now)) }
 {
     match field_u64(member, "mtu") {
-        Field::Absent => Ok(1500),
+        Field::Absent => Ok(DEFAULT_MTU),
         Field::Here(number) if is_mtu(number) => Ok(number as u32),
         Field::Here(_) | Field::WrongKind => Err(wrong_link(alloc, index)),
     }
