@@ -21,14 +21,14 @@ unfoldable pub member_path : List ℕ → ℕ → List ℕ
 member_path path index = member_text path index
 
 abbrev pub command_text : CommandPlace → List ℕ
-command_text place = codes "rounds[" ++ (decimal place.round ++ (codes "][" ++ (decimal place.command ++ codes "]")))
+command_text place = member_text (member_text (codes "rounds") place.round) place.command
 
 -- a command
 unfoldable pub command_path : CommandPlace → List ℕ
 command_path place = command_text place
 
 abbrev pub key_text : CommandPlace → List ℕ → List ℕ
-key_text place key = codes "rounds[" ++ (decimal place.round ++ (codes "][" ++ (decimal place.command ++ (codes "]." ++ key))))
+key_text place key = command_text place ++ (codes "." ++ key)
 
 -- a key of a command
 unfoldable pub key_path : CommandPlace → List ℕ → List ℕ

@@ -86,21 +86,14 @@ fn member_text(alloc: Global, list: &str, index: usize) -> Result<Text, NoMemory
 fn command_text(alloc: Global, place: CommandPlace) -> Result<Text, NoMemory>
     ensures { IfOk result (λ text. text ≡ paths.command_text place) }
 {
-    let round = place.round;
-    let command = place.command;
-    Text::of(
-        alloc,
-        format!(in alloc; "rounds[{round}][{command}]")?.as_str(),
-    )
+    let round = member_text(alloc, "rounds", place.round)?;
+    member_text(alloc, round.as_str(), place.command)
 }
 
 fn key_text(alloc: Global, place: CommandPlace, key: &str) -> Result<Text, NoMemory>
     ensures { IfOk result (λ text. text ≡ paths.key_text place key.now) }
 {
-    let round = place.round;
-    let command = place.command;
-    Text::of(
-        alloc,
-        format!(in alloc; "rounds[{round}][{command}].{key}")?.as_str(),
-    )
+    let text = command_text(alloc, place)?;
+    let command = text.as_str();
+    Text::of(alloc, format!(in alloc; "{command}.{key}")?.as_str())
 }
