@@ -1,5 +1,5 @@
 -- Configured routes (the `host-local` plugin, `routes`).
-use Rattle.std.specs.Prelude.{ℕ, List, [], codes, if◌then◌else◌, Result, Ok, Option, Some, None}
+use Rattle.std.specs.Prelude.{ℕ, List, codes, if◌then◌else◌, Result, Ok, Option, Some, None}
 use Rattle.serde_json.specs.Data.{Data, Items}
 use Rattle.cni_json.specs.Fields.{text_field, list_field}
 use Rattle.cni_json.specs.Outcome.{◌>>=◌}
@@ -13,7 +13,7 @@ use Rattle.cni_addr.specs.CidrText.{cidr_of_text}
 use Rattle.cni_addr.specs.Codes.{family_eq}
 use Rattle.cni_addr.specs.Network.{network_of}
 use Rattle.cni_result.specs.declared.result.RouteEntry.{RouteEntry}
-use Rattle.cni_json.specs.Each.{each}
+use Rattle.cni_json.specs.Each.{list_or}
 use Rattle.net_conf.specs.Refusals.{invalid}
 use Rattle.net_conf.specs.declared.error.ConfError.{ConfError}
 
@@ -54,9 +54,7 @@ route_at d = do
   Ok (record { dst = dst; gw = gw })
 
 abbrev pub routes_of : Field Items → Result (List RouteEntry) ConfError
-routes_of Absent = Ok []
-routes_of WrongKind = wrong_routes
-routes_of (Here ds) = each route_at ds
+routes_of f = list_or wrong_routes route_at f
 
 -- the routes, none where there is no list
 unfoldable pub routes_at : Data → Result (List RouteEntry) ConfError

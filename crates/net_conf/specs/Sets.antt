@@ -3,10 +3,9 @@ use Rattle.std.specs.Prelude.{◌+◌, ◌&&◌, ℕ, suc, List, [], ◌∷◌, 
 use Rattle.std.specs.List.{list_all, flat_map}
 use Rattle.serde_json.specs.Data.{Data, null, array, object, Items, no_items, item}
 use Rattle.serde_json.specs.Find.{get}
-use Rattle.cni_json.specs.Fields.{list_field}
+use Rattle.cni_json.specs.Fields.{list_field, member_or}
 use Rattle.cni_json.specs.Outcome.{◌>>=◌}
 use Rattle.cni_json.specs.declared.fields.Field.{Field}
-use Rattle.cni_json.specs.declared.fields.Field.TheVariants.{Absent, WrongKind, Here}
 use Rattle.cni_addr.specs.declared.address.Family.{Family}
 use Rattle.cni_addr.specs.declared.range.Range.{Range}
 use Rattle.cni_addr.specs.declared.range.RangeSet.{RangeSet}
@@ -67,9 +66,7 @@ is_there (Some null) = false
 is_there (Some d) = true
 
 abbrev pub sets_listed : Field Items → Result Items ConfError
-sets_listed Absent = Ok no_items
-sets_listed WrongKind = wrong_ranges
-sets_listed (Here ds) = Ok ds
+sets_listed f = member_or (Ok no_items) wrong_ranges Ok f
 
 -- the listed sets, not yet read
 unfoldable pub listed_at : Data → Result Items ConfError
