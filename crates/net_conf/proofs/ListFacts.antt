@@ -10,7 +10,8 @@ use Rattle.cni_json.specs.declared.reading.ReadEnd.TheVariants as ends
 use Rattle.cni_json.proofs.Endings.{goes, ok_same, passed}
 use Rattle.net_conf.proofs.JsonOrder.{IsOrdered, json_of-ordered}
 use Rattle.net_conf.proofs.PluginFacts.{chain_at-ok}
-use Rattle.net_conf.specs.List.{read_or_refused, list_object, version_at, name_of, name_at, switch_at, list_at, list_of}
+use Rattle.net_conf.specs.List.{read_or_refused, version_at, name_of, name_at, switch_at, list_at, list_of}
+use Rattle.net_conf.specs.Members.{object_at}
 use Rattle.net_conf.specs.Names.{is_network_name}
 use Rattle.net_conf.specs.Outside.{supported}
 use Rattle.net_conf.specs.Plugins.{chain_at}
@@ -33,7 +34,7 @@ name_at-ok d name is = name_of-ok (text_field (codes "name") d) name is
 list_at-ok : (d : Data) (list : NetList) → IsOrdered d → list_at d ≡ Ok list → IsWellFormedList list
 unfolding list_at
 list_at-ok d list order is =
-    let form = goes (list_object d) _ list is in
+    let form = goes (object_at (codes "list") d) _ list is in
     let version = goes (version_at d) _ list form.rest in
     let versions = goes (supported Nothing (codes "cniVersions") d) _ list version.rest in
     let name = goes (name_at d) _ list versions.rest in

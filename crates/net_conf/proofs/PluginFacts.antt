@@ -17,13 +17,13 @@ use Rattle.net_conf.proofs.TuningFacts.{by_test, is_mtu-true, tuning_at-ok}
 use Rattle.net_conf.specs.Bridge.{bridge_rows, bridge_name_of, bridge_name_at, gateway_role_at, mode_flags_at, not_both, modes_at, bridge_at}
 use Rattle.net_conf.specs.Dns.{dns_at}
 use Rattle.net_conf.specs.Firewall.{firewall_at}
-use Rattle.net_conf.specs.Ipam.{ipam_object, manager_at, host_local_at, is_empty, some_host_local, ipam_of, ipam_at, addressing_at}
+use Rattle.net_conf.specs.Ipam.{manager_at, host_local_at, is_empty, ipam_of, ipam_at, addressing_at}
 use Rattle.net_conf.specs.Macvlan.{macvlan_rows, master_of, master_at, mode_at, macvlan_at}
-use Rattle.net_conf.specs.Members.{flag_at, is_mtu, mtu_of, mtu_at}
+use Rattle.net_conf.specs.Members.{flag_at, is_mtu, mtu_of, mtu_at, object_at, of_kind}
 use Rattle.net_conf.specs.Names.{is_interface_name}
 use Rattle.net_conf.specs.Outside.{supported, all_supported}
 use Rattle.net_conf.specs.PluginTypes.{type_eq, type_of_chained}
-use Rattle.net_conf.specs.Plugins.{plugin_object, type_at, first_of, first_at, first_plugin, later_of, is_of_type, not_repeated, later_at, chained_after, later_plugins, plugins_of, plugins_at, chain_at}
+use Rattle.net_conf.specs.Plugins.{type_at, first_of, first_at, first_plugin, later_of, is_of_type, not_repeated, later_at, chained_after, later_plugins, plugins_of, plugins_at, chain_at}
 use Rattle.net_conf.specs.Portmap.{portmap_at}
 use Rattle.net_conf.specs.Ptp.{ipam_or_refused, ptp_at}
 use Rattle.net_conf.specs.Routes.{routes_at}
@@ -61,7 +61,7 @@ mtu_at-ok d n is = mtu_of-ok (u64_field (codes "mtu") d) n is
 host_local_at-ok : (d : Data) (conf : HostLocalConf) → host_local_at d ≡ Ok conf → IsWellFormedHostLocal conf
 unfolding host_local_at
 host_local_at-ok d conf is =
-    let form = goes (ipam_object d) _ conf is in
+    let form = goes (object_at (codes "ipam") d) _ conf is in
     let manager = goes (manager_at d) _ conf form.rest in
     let resolv = goes (supported EmptyText (codes "resolvConf") d) _ conf manager.rest in
     let sets = goes (sets_at d) _ conf resolv.rest in
@@ -75,8 +75,8 @@ host_local_at-ok d conf is =
       routes = routes_at-ok d routes.value routes.first;
     })
 
-some_host_local-ok : (d : Data) (found : Option HostLocalConf) → (if is_empty d then Ok None else some_host_local (host_local_at d)) ≡ Ok found → IsWellFormedIpam found
-some_host_local-ok d found is =
+host_local_or_none-ok : (d : Data) (found : Option HostLocalConf) → (if is_empty d then Ok None else of_kind Some (host_local_at d)) ≡ Ok found → IsWellFormedIpam found
+host_local_or_none-ok d found is =
     by_test (is_empty d) _ _ _ is
     (λ empty same. subst IsWellFormedIpam (ok_same same) tt)
     (λ some same.
@@ -86,11 +86,11 @@ some_host_local-ok d found is =
 ipam_of-ok : (o : Option Data) (found : Option HostLocalConf) → ipam_of o ≡ Ok found → IsWellFormedIpam found
 ipam_of-ok None found is = subst IsWellFormedIpam (ok_same is) tt
 ipam_of-ok (Some null) found is = subst IsWellFormedIpam (ok_same is) tt
-ipam_of-ok (Some (boolean b)) found is = some_host_local-ok (boolean b) found is
-ipam_of-ok (Some (number n)) found is = some_host_local-ok (number n) found is
-ipam_of-ok (Some (string s)) found is = some_host_local-ok (string s) found is
-ipam_of-ok (Some (array ds)) found is = some_host_local-ok (array ds) found is
-ipam_of-ok (Some (object ms)) found is = some_host_local-ok (object ms) found is
+ipam_of-ok (Some (boolean b)) found is = host_local_or_none-ok (boolean b) found is
+ipam_of-ok (Some (number n)) found is = host_local_or_none-ok (number n) found is
+ipam_of-ok (Some (string s)) found is = host_local_or_none-ok (string s) found is
+ipam_of-ok (Some (array ds)) found is = host_local_or_none-ok (array ds) found is
+ipam_of-ok (Some (object ms)) found is = host_local_or_none-ok (object ms) found is
 
 abbrev HasIpam : Addressing → Type 0
 HasIpam addressing = IsWellFormedIpam addressing.ipam
@@ -205,7 +205,7 @@ first_of-ok plugin.Tuning d found is = cc
 first_at-ok : (d : Data) (found : First) → first_at d ≡ Ok found → IsWellFormedFirst found
 unfolding first_at
 first_at-ok d found is =
-    let form = goes (plugin_object d) _ found is in
+    let form = goes (object_at (codes "plugins") d) _ found is in
     let type = goes (type_at d) _ found form.rest in
     first_of-ok type.value d found type.rest
 
@@ -252,7 +252,7 @@ once_more (p ∷ before) next type is none once =
 later_at-ok : (before : List Chained) (d : Data) (next : Chained) → IsOrdered d → AreLater before → later_at before d ≡ Ok next → AreLater (before ++ next ∷ [])
 unfolding later_at not_repeated
 later_at-ok before d next order kept is =
-    let form = goes (plugin_object d) _ next is in
+    let form = goes (object_at (codes "plugins") d) _ next is in
     let type = goes (type_at d) _ next form.rest in
     let new = goes (not_repeated before type.value) _ next type.rest in
     let here = later_of-ok type.value d next order new.rest in

@@ -6,6 +6,7 @@ use Rattle.serde_json.specs.Find.{get}
 use Rattle.serde_json.specs.Written.{compact_text}
 use Rattle.cni_json.specs.Outcome.{◌>>=◌}
 use Rattle.net_conf.specs.Dns.{dns_at}
+use Rattle.net_conf.specs.Members.{object_at, of_kind}
 use Rattle.net_conf.specs.Outside.{supported}
 use Rattle.net_conf.specs.Refusals.{invalid}
 use Rattle.net_conf.specs.Routes.{routes_at}
@@ -26,14 +27,10 @@ manager_of d = invalid (codes "ipam")
 unfoldable pub manager_at : Data → Result ⊤ ConfError
 manager_at d = manager_of (get (codes "type") d)
 
-abbrev pub ipam_object : Data → Result ⊤ ConfError
-ipam_object (object ms) = Ok tt
-ipam_object d = invalid (codes "ipam")
-
 -- the configuration of `host-local`
 unfoldable pub host_local_at : Data → Result HostLocalConf ConfError
 host_local_at d = do
-  _ ← ipam_object d
+  _ ← object_at (codes "ipam") d
   _ ← manager_at d
   _ ← supported EmptyText (codes "resolvConf") d
   sets ← sets_at d
@@ -51,16 +48,11 @@ abbrev pub is_empty : Data → Bool
 is_empty (object ms) = all_null ms
 is_empty d = false
 
-abbrev pub some_host_local : Result HostLocalConf ConfError → Result (Option HostLocalConf) ConfError
-some_host_local r = do
-  conf ← r
-  Ok (Some conf)
-
 -- an absent object, and one without members, ask for no address
 abbrev pub ipam_of : Option Data → Result (Option HostLocalConf) ConfError
 ipam_of None = Ok None
 ipam_of (Some null) = Ok None
-ipam_of (Some d) = if is_empty d then Ok None else some_host_local (host_local_at d)
+ipam_of (Some d) = if is_empty d then Ok None else of_kind Some (host_local_at d)
 
 -- the `ipam` of a plugin's object
 unfoldable pub ipam_at : Data → Result (Option HostLocalConf) ConfError

@@ -1,7 +1,7 @@
 -- A network list, part by part in the order of its refusals (CNI specification 1.1.0, section 1).
-use Rattle.std.specs.Prelude.{ℕ, List, [], codes, Bool, true, false, if◌then◌else◌, Result, Ok, Err, ok_or, Option, Some, None, ⊤}
+use Rattle.std.specs.Prelude.{ℕ, List, [], codes, Bool, true, false, if◌then◌else◌, Result, Ok, Err, ok_or, Option, Some, None}
 use Rattle.std.specs.Str.{bytes_eq}
-use Rattle.serde_json.specs.Data.{Data, null, boolean, number, string, object}
+use Rattle.serde_json.specs.Data.{Data, null, boolean, string}
 use Rattle.serde_json.specs.Find.{get}
 use Rattle.cni_json.specs.Json.{json_of}
 use Rattle.cni_json.specs.Fields.{text_field}
@@ -12,6 +12,7 @@ use Rattle.cni_json.specs.declared.reading.ReadEnd.{ReadEnd}
 use Rattle.cni_json.specs.declared.reading.ReadEnd.TheVariants as ends
 use Rattle.cni_result.specs.Versions.{version_named}
 use Rattle.cni_result.specs.declared.version.Version.{Version}
+use Rattle.net_conf.specs.Members.{object_at}
 use Rattle.net_conf.specs.Names.{is_network_name}
 use Rattle.net_conf.specs.Outside.{supported}
 use Rattle.net_conf.specs.Plugins.{chain_at}
@@ -27,10 +28,6 @@ read_or_refused (Ok d) = Ok d
 read_or_refused (Err ends.Decode) = Err refusal.Decode
 read_or_refused (Err ends.Number) = invalid (codes "number")
 read_or_refused (Err ends.NoMemory) = Err refusal.NoMemory
-
-abbrev pub list_object : Data → Result ⊤ ConfError
-list_object (object ms) = Ok tt
-list_object d = invalid (codes "list")
 
 abbrev pub version_of : Field (List ℕ) → Result Version ConfError
 version_of WrongKind = invalid (codes "cniVersion")
@@ -70,7 +67,7 @@ switch_at key d = switch_of key (get key d)
 -- a network list
 unfoldable pub list_at : Data → Result NetList ConfError
 list_at d = do
-  _ ← list_object d
+  _ ← object_at (codes "list") d
   version ← version_at d
   _ ← supported Nothing (codes "cniVersions") d
   name ← name_at d

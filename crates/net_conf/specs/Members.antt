@@ -1,21 +1,30 @@
 -- Members of a plugin's object, each with its refusal.
-use Rattle.std.specs.Prelude.{◌==◌, ◌&&◌, ℕ, List, codes, Bool, nat_le, if◌then◌else◌, Result, Ok}
+use Rattle.std.specs.Prelude.{◌==◌, ◌&&◌, ℕ, List, codes, Bool, nat_le, if◌then◌else◌, Result, Ok, ⊤}
 use Rattle.serde_json.specs.Data.{Data}
-use Rattle.cni_json.specs.Fields.{bool_field, u64_field}
+use Rattle.cni_json.specs.Fields.{bool_field, u64_field, member_or, object_or}
+use Rattle.cni_json.specs.Outcome.{◌>>=◌}
 use Rattle.cni_json.specs.declared.fields.Field.{Field}
 use Rattle.cni_json.specs.declared.fields.Field.TheVariants.{Absent, WrongKind, Here}
 use Rattle.net_conf.specs.Refusals.{invalid}
 use Rattle.net_conf.specs.declared.error.ConfError.{ConfError}
 
--- a truth value, or the default where there is none
-abbrev pub flag_of : List ℕ → Bool → Field Bool → Result Bool ConfError
-flag_of key default Absent = Ok default
-flag_of key default WrongKind = invalid key
-flag_of key default (Here flag) = Ok flag
+-- the value is an object; else this key or part is to blame
+abbrev pub object_at : List ℕ → Data → Result ⊤ ConfError
+object_at blamed d = object_or (invalid blamed) d
+
+-- the configuration, as one of a kind
+abbrev pub of_kind : {A B : Type 0} → (A → B) → Result A ConfError → Result B ConfError
+of_kind kind r = do
+  conf ← r
+  Ok (kind conf)
+
+-- the truth value under the key, or the default where there is none; else `outer` is to blame
+abbrev pub flag_within : List ℕ → List ℕ → Bool → Data → Result Bool ConfError
+flag_within outer key default d = member_or (Ok default) (invalid outer) Ok (bool_field key d)
 
 -- the truth value under the key
 unfoldable pub flag_at : List ℕ → Bool → Data → Result Bool ConfError
-flag_at key default d = flag_of key default (bool_field key d)
+flag_at key default d = flag_within key key default d
 
 -- the least MTU of IPv4 (RFC 791, section 3.2) to the greatest length of a packet
 abbrev pub is_mtu : ℕ → Bool

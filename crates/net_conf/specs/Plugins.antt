@@ -2,7 +2,7 @@
 use Rattle.std.specs.Prelude.{ℕ, List, [], ◌∷◌, ◌++◌, codes, Bool, if◌then◌else◌, Result, Ok, ⊤}
 use Rattle.std.specs.List.{list_any}
 use Rattle.std.specs.Str.{bytes_eq}
-use Rattle.serde_json.specs.Data.{Data, object, Items, no_items, item}
+use Rattle.serde_json.specs.Data.{Data, Items, no_items, item}
 use Rattle.cni_json.specs.Fields.{text_field, list_field}
 use Rattle.cni_json.specs.Outcome.{◌>>=◌}
 use Rattle.cni_json.specs.declared.fields.Field.{Field}
@@ -10,6 +10,7 @@ use Rattle.cni_json.specs.declared.fields.Field.TheVariants.{Absent, WrongKind, 
 use Rattle.net_conf.specs.Bridge.{bridge_at}
 use Rattle.net_conf.specs.Firewall.{firewall_at}
 use Rattle.net_conf.specs.Macvlan.{macvlan_at}
+use Rattle.net_conf.specs.Members.{object_at, of_kind}
 use Rattle.net_conf.specs.PluginTypes.{type_eq, type_of_chained}
 use Rattle.net_conf.specs.Portmap.{portmap_at}
 use Rattle.net_conf.specs.Ptp.{ptp_at}
@@ -26,10 +27,6 @@ use Rattle.net_conf.specs.declared.plugin_type.PluginType.TheVariants as plugin
 
 abbrev pub wrong_plugins : {A : Type 0} → Result A ConfError
 wrong_plugins = invalid (codes "plugins")
-
-abbrev pub plugin_object : Data → Result ⊤ ConfError
-plugin_object (object ms) = Ok tt
-plugin_object d = wrong_plugins
 
 abbrev pub type_named : List ℕ → Result PluginType ConfError
 type_named text =
@@ -50,12 +47,6 @@ type_of (Here text) = type_named text
 unfoldable pub type_at : Data → Result PluginType ConfError
 type_at d = type_of (text_field (codes "type") d)
 
--- the configuration, as one of a kind of plugin
-abbrev pub of_kind : {A B : Type 0} → (A → B) → Result A ConfError → Result B ConfError
-of_kind kind r = do
-  conf ← r
-  Ok (kind conf)
-
 -- ---- the first plugin makes the interface
 
 abbrev pub first_of : PluginType → Data → Result First ConfError
@@ -69,7 +60,7 @@ first_of plugin.Tuning d = wrong_plugins
 -- a plugin in the first place
 unfoldable pub first_at : Data → Result First ConfError
 first_at d = do
-  _ ← plugin_object d
+  _ ← object_at (codes "plugins") d
   type ← type_at d
   first_of type d
 
@@ -99,7 +90,7 @@ not_repeated before type = if list_any (is_of_type type) before then wrong_plugi
 -- a plugin after the first and these later ones
 unfoldable pub later_at : List Chained → Data → Result Chained ConfError
 later_at before d = do
-  _ ← plugin_object d
+  _ ← object_at (codes "plugins") d
   type ← type_at d
   _ ← not_repeated before type
   later_of type d

@@ -1,11 +1,11 @@
 -- The configuration of the `portmap` plugin, key by key in the order of its refusals.
 use Rattle.std.specs.Prelude.{List, [], ◌∷◌, codes, Bool, true, false, Result, Ok}
 use Rattle.serde_json.specs.Data.{Data}
-use Rattle.cni_json.specs.Fields.{bool_field, object_field}
+use Rattle.cni_json.specs.Fields.{object_field}
 use Rattle.cni_json.specs.Outcome.{◌>>=◌}
 use Rattle.cni_json.specs.declared.fields.Field.{Field}
 use Rattle.cni_json.specs.declared.fields.Field.TheVariants.{Absent, WrongKind, Here}
-use Rattle.net_conf.specs.Members.{flag_at}
+use Rattle.net_conf.specs.Members.{flag_at, flag_within}
 use Rattle.net_conf.specs.Outside.{Row, all_supported}
 use Rattle.net_conf.specs.Refusals.{invalid}
 use Rattle.net_conf.specs.declared.chained.PortmapConf.{PortmapConf}
@@ -18,15 +18,10 @@ portmap_rows =
     (codes "conditionsV4", EmptyList) ∷ (codes "conditionsV6", EmptyList) ∷ (codes "markMasqBit", AnyNumber)
     ∷ (codes "externalSetMarkChain", EmptyText) ∷ (codes "backend", Backend) ∷ []
 
-abbrev pub mappings_flag : Field Bool → Result Bool ConfError
-mappings_flag Absent = Ok false
-mappings_flag WrongKind = invalid (codes "capabilities")
-mappings_flag (Here flag) = Ok flag
-
 abbrev pub mappings_of : Field Data → Result Bool ConfError
 mappings_of Absent = Ok false
 mappings_of WrongKind = invalid (codes "capabilities")
-mappings_of (Here d) = mappings_flag (bool_field (codes "portMappings") d)
+mappings_of (Here d) = flag_within (codes "capabilities") (codes "portMappings") false d
 
 -- whether the plugin is to get the port mappings
 unfoldable pub mappings_at : Data → Result Bool ConfError

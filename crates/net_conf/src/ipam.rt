@@ -10,6 +10,7 @@ ghost use Rattle.net_conf.specs.Refusals.{is_want_of_memory};
 use crate::dns::dns;
 use crate::error::{ConfError, invalid, unsupported};
 use crate::first::HostLocalConf;
+use crate::members::need_object;
 use crate::outside::{Accepted, supported};
 use crate::routes::routes;
 use crate::sets::sets;
@@ -80,23 +81,12 @@ fn host_local(alloc: Global, object: &Value) -> Result<HostLocalConf, ConfError>
     requires { has_float (view object.now) ≡ false }
     ensures { GivesAs is_want_of_memory (λ conf. conf) result (wanted.host_local_at (view object.now)) }
 {
-    ipam_object(alloc, object)?;
+    need_object(alloc, object, "ipam")?;
     manager(alloc, object)?;
     supported(alloc, object, "resolvConf", Accepted::EmptyText)?;
     let sets = sets(alloc, object)?;
     let routes = routes(alloc, object)?;
     Ok(HostLocalConf { sets, routes })
-}
-
-#[tactic(auto, using(cni_json::proofs::Steps::steps))]
-fn ipam_object(alloc: Global, object: &Value) -> Result<(), ConfError>
-    ensures { GivesAs is_want_of_memory (λ t. t) result (wanted.ipam_object (view object.now)) }
-{
-    if object.is_object() {
-        Ok(())
-    } else {
-        Err(invalid(alloc, "ipam"))
-    }
 }
 
 #[tactic(auto, using(cni_json::proofs::Steps::steps, cni_json::proofs::WholeNumbers::parts_are_whole), unfolding(crate::specs::Ipam::manager_at))]

@@ -10,14 +10,40 @@ use crate::error::{ConfError, invalid};
 use cni_json::{Field, Value, field_bool, field_u64};
 use std::alloc::Global;
 
+/// Refuses a value that is no object. This key or part is to blame.
+#[tactic(auto, using(cni_json::proofs::Steps::steps))]
+pub fn need_object(alloc: Global, value: &Value, blamed: &str) -> Result<(), ConfError>
+    ensures { GivesAs is_want_of_memory (λ t. t) result (members.object_at blamed.now (view value.now)) }
+{
+    if value.is_object() {
+        Ok(())
+    } else {
+        Err(invalid(alloc, blamed))
+    }
+}
+
 /// A truth value, or the default where it is absent.
-#[tactic(auto, using(cni_json::proofs::Steps::steps), unfolding(crate::specs::Members::flag_at))]
+#[tactic(auto, unfolding(crate::specs::Members::flag_at))]
 pub fn flag(alloc: Global, object: &Value, key: &str, default: bool) -> Result<bool, ConfError>
     ensures { GivesAs is_want_of_memory (λ b. b) result (members.flag_at key.now default (view object.now)) }
 {
+    flag_within(alloc, object, key, key, default)
+}
+
+/// A truth value in the value of the key `outer`, which is to blame, or the default where it is absent.
+#[tactic(auto, using(cni_json::proofs::Steps::steps))]
+pub fn flag_within(
+    alloc: Global,
+    object: &Value,
+    outer: &str,
+    key: &str,
+    default: bool,
+) -> Result<bool, ConfError>
+    ensures { GivesAs is_want_of_memory (λ b. b) result (members.flag_within outer.now key.now default (view object.now)) }
+{
     match field_bool(object, key) {
         Field::Absent => Ok(default),
-        Field::WrongKind => Err(invalid(alloc, key)),
+        Field::WrongKind => Err(invalid(alloc, outer)),
         Field::Here(flag) => Ok(flag),
     }
 }

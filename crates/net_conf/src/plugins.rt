@@ -14,6 +14,7 @@ use crate::error::{ConfError, invalid};
 use crate::firewall::firewall;
 use crate::first::First;
 use crate::macvlan::macvlan;
+use crate::members::need_object;
 use crate::plugin_type::{PluginType, type_of_chained};
 use crate::portmap::portmap;
 use crate::ptp::ptp;
@@ -96,7 +97,7 @@ fn later(alloc: Global, before: &[Chained], plugin: &Value) -> Result<Chained, C
     requires { has_float (view plugin.now) ≡ false }
     ensures { GivesAs is_want_of_memory (λ plugin. plugin) result (wanted.later_at before.now (view plugin.now)) }
 {
-    plugin_object(alloc, plugin)?;
+    need_object(alloc, plugin, "plugins")?;
     let plugin_type = plugin_type(alloc, plugin)?;
     not_repeated(alloc, before, plugin_type)?;
     later_of(alloc, plugin_type, plugin)
@@ -130,20 +131,9 @@ fn first(alloc: Global, plugin: &Value) -> Result<First, ConfError>
     requires { has_float (view plugin.now) ≡ false }
     ensures { GivesAs is_want_of_memory (λ plugin. plugin) result (wanted.first_at (view plugin.now)) }
 {
-    plugin_object(alloc, plugin)?;
+    need_object(alloc, plugin, "plugins")?;
     let plugin_type = plugin_type(alloc, plugin)?;
     first_of(alloc, plugin_type, plugin)
-}
-
-#[tactic(auto, using(cni_json::proofs::Steps::steps))]
-fn plugin_object(alloc: Global, plugin: &Value) -> Result<(), ConfError>
-    ensures { GivesAs is_want_of_memory (λ t. t) result (wanted.plugin_object (view plugin.now)) }
-{
-    if plugin.is_object() {
-        Ok(())
-    } else {
-        Err(invalid(alloc, "plugins"))
-    }
 }
 
 #[tactic(auto, using(cni_json::proofs::Steps::steps), unfolding(crate::specs::Plugins::type_at))]

@@ -1,9 +1,8 @@
 //! The `portmap` plugin.
 
-ghost use Rattle.std.specs.Prelude.{◌≡◌, false, codes};
+ghost use Rattle.std.specs.Prelude.{◌≡◌, false};
 ghost use Rattle.serde_json.specs.View.{view};
 ghost use Rattle.serde_json.specs.Written.{has_float};
-ghost use Rattle.cni_json.specs.Fields.{bool_field};
 ghost use Rattle.cni_json.specs.Outcome.{GivesAs};
 ghost use Rattle.net_conf.specs.Outside as outside;
 ghost use Rattle.net_conf.specs.Portmap as wanted;
@@ -11,9 +10,9 @@ ghost use Rattle.net_conf.specs.Refusals.{is_want_of_memory};
 
 use crate::chained::PortmapConf;
 use crate::error::{ConfError, invalid};
-use crate::members::flag;
+use crate::members::{flag, flag_within};
 use crate::outside::{Accepted, all_supported};
-use cni_json::{Field, Value, field_bool, field_object};
+use cni_json::{Field, Value, field_object};
 use std::alloc::Global;
 
 /// The configuration of the `portmap` plugin, from its object in a list.
@@ -52,18 +51,8 @@ fn mappings(alloc: Global, object: &Value) -> Result<bool, ConfError>
     match field_object(object, "capabilities") {
         Field::Absent => Ok(false),
         Field::WrongKind => Err(invalid(alloc, "capabilities")),
-        Field::Here(capabilities) => mappings_flag(alloc, capabilities),
-    }
-}
-
-#[tactic(auto, using(cni_json::proofs::Steps::steps))]
-fn mappings_flag(alloc: Global, capabilities: &Value) -> Result<bool, ConfError>
-    ensures { GivesAs is_want_of_memory (λ b. b) result
-        (wanted.mappings_flag (bool_field (codes "portMappings") (view capabilities.now))) }
-{
-    match field_bool(capabilities, "portMappings") {
-        Field::Absent => Ok(false),
-        Field::WrongKind => Err(invalid(alloc, "capabilities")),
-        Field::Here(flag) => Ok(flag),
+        Field::Here(capabilities) => {
+            flag_within(alloc, capabilities, "capabilities", "portMappings", false)
+        }
     }
 }

@@ -9,6 +9,7 @@ ghost use Rattle.net_conf.specs.Refusals.{is_want_of_memory};
 
 use crate::error::{ConfError, invalid, version_refused};
 use crate::list::NetList;
+use crate::members::need_object;
 use crate::names::is_network_name;
 use crate::outside::{Accepted, supported};
 use crate::plugins::plugin_chain;
@@ -36,7 +37,7 @@ fn list(alloc: Global, top: &Value) -> Result<NetList, ConfError>
     requires { has_float (view top.now) ≡ false }
     ensures { GivesAs is_want_of_memory (λ list. list) result (wanted.list_at (view top.now)) }
 {
-    list_object(alloc, top)?;
+    need_object(alloc, top, "list")?;
     let version = version(alloc, top)?;
     supported(alloc, top, "cniVersions", Accepted::Nothing)?;
     let name = name(alloc, top)?;
@@ -51,17 +52,6 @@ fn list(alloc: Global, top: &Value) -> Result<NetList, ConfError>
         first: plugins.first,
         chained: plugins.chained,
     })
-}
-
-#[tactic(auto, using(cni_json::proofs::Steps::steps))]
-fn list_object(alloc: Global, top: &Value) -> Result<(), ConfError>
-    ensures { GivesAs is_want_of_memory (λ t. t) result (wanted.list_object (view top.now)) }
-{
-    if top.is_object() {
-        Ok(())
-    } else {
-        Err(invalid(alloc, "list"))
-    }
 }
 
 #[tactic(auto, using(cni_json::proofs::Steps::steps), unfolding(crate::specs::List::version_at))]
