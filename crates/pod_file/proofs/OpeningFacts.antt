@@ -22,7 +22,7 @@ use Rattle.kernel_types.specs.declared.object.LinkKind.TheVariants.{Device, Brid
 use Rattle.kernel_types.specs.declared.object.Tag.TheVariants.{Outside}
 use Rattle.cni_json.proofs.Endings.{goes, ok_same, passed, not_refused}
 use Rattle.pod_file.specs.Links.{link_object, name_at, kind_of, kind_at, is_place, ns_of, ns_at, mtu_at, outside_link, not_taken, link_at, links_after, links_of, links_at}
-use Rattle.pod_file.specs.Opening.{cannot_be_added, namespace_at, namespaces_after, namespaces_of, namespaces_at, opening_members_at, opening_of, opening_at}
+use Rattle.pod_file.specs.Opening.{namespace_at, namespaces_after, namespaces_of, namespaces_at, opening_members_at, opening_of, opening_at}
 use Rattle.pod_file.specs.WellFormed.{IsOpening}
 use Rattle.pod_file.specs.declared.error.PodError.{PodError}
 
@@ -31,20 +31,20 @@ bytes_eq-swap s t same = (bytes_eq-Decides t s).1 (sym ((bytes_eq-Decides s t).0
 
 -- ---- namespaces
 
-namespace_at-ok : (before : List (List ℕ)) (index : ℕ) (d : Data) (name : List ℕ) → namespace_at before index d ≡ Ok name → cannot_be_added before name ≡ false
+namespace_at-ok : (before : List (List ℕ)) (index : ℕ) (d : Data) (name : List ℕ) → namespace_at before index d ≡ Ok name → is_place before name ≡ false
 namespace_at-ok before index null name is = cc
 namespace_at-ok before index (boolean b) name is = cc
 namespace_at-ok before index (number n) name is = cc
 namespace_at-ok before index (string s) name is =
-    let test = not_refused (cannot_be_added before s) s name _ is in
-    subst (λ text. cannot_be_added before text ≡ false) test.1 test.0
+    let test = not_refused (is_place before s) s name _ is in
+    subst (λ text. is_place before text ≡ false) test.1 test.0
 namespace_at-ok before index (array ds) name is = cc
 namespace_at-ok before index (object ms) name is = cc
 
 no_host : AreNamespaceNames []
 no_host = record { named = refl; distinct = refl }
 
-names-push : (before : List (List ℕ)) (name : List ℕ) → AreNamespaceNames before → cannot_be_added before name ≡ false → AreNamespaceNames (before ++ name ∷ [])
+names-push : (before : List (List ℕ)) (name : List ℕ) → AreNamespaceNames before → is_place before name ≡ false → AreNamespaceNames (before ++ name ∷ [])
 names-push before name good can =
     let parts = or_parts (is_host_ns name) (list_any (bytes_eq name) before) can in
     let inner : not (is_host_ns name) ≡ true = rw parts.0 refl in
@@ -91,7 +91,7 @@ kind_at-ok index d kind is = kind_of-ok index (text_field (codes "kind") d) kind
 abbrev IsPlace : List (List ℕ) → List ℕ → Type 0
 IsPlace names ns = is_host_or_ns (map outside_namespace names) ns ≡ true
 
-either_of : (host named other : Bool) → (if host then true else named) ≡ true → (named ≡ true → other ≡ true) → (host || other) ≡ true
+either_of : (host named other : Bool) → (host || named) ≡ true → (named ≡ true → other ≡ true) → (host || other) ≡ true
 either_of true named other is same = refl
 either_of false named other is same = same is
 

@@ -1,5 +1,5 @@
 -- The links of an opening.
-use Rattle.std.specs.Prelude.{ℕ, ◌+◌, List, [], ◌∷◌, ◌++◌, codes, Bool, true, if◌then◌else◌, Result, Ok, ⊤}
+use Rattle.std.specs.Prelude.{ℕ, ◌+◌, ◌||◌, List, [], ◌∷◌, ◌++◌, codes, Bool, if◌then◌else◌, Result, Ok, ⊤}
 use Rattle.std.specs.List.{list_any}
 use Rattle.std.specs.Str.{bytes_eq}
 use Rattle.serde_json.specs.Data.{Data, object, Items, no_items, item}
@@ -52,7 +52,7 @@ kind_at index d = kind_of index (text_field (codes "kind") d)
 
 -- the host, or a namespace of these names
 abbrev pub is_place : List (List ℕ) → List ℕ → Bool
-is_place names ns = if is_host_ns ns then true else list_any (bytes_eq ns) names
+is_place names ns = is_host_ns ns || list_any (bytes_eq ns) names
 
 abbrev pub ns_of : List (List ℕ) → ℕ → Field (List ℕ) → Result (List ℕ) PodError
 ns_of names index Absent = Ok []

@@ -113,18 +113,13 @@ fn ns(alloc: Global, names: &[Text], index: usize, member: &Value) -> Result<Tex
 }
 
 /// Whether the text is the host's, or the name of one of the namespaces.
-fn is_place(names: &[Text], ns: &str) -> bool
+pub fn is_place(names: &[Text], ns: &str) -> bool
     ensures { result ≡ wanted.is_place names.now ns.now }
 {
-    if ns.len() == 0 {
-        true
-    } else {
-        is_named(names, ns)
-    }
+    ns.len() == 0 || is_named(names, ns)
 }
 
-/// Whether the name is among these.
-pub fn is_named(names: &[Text], name: &str) -> bool
+fn is_named(names: &[Text], name: &str) -> bool
     ensures { result ≡ list_any (bytes_eq name.now) names.now }
 {
     names.iter().any(|other| name == other.as_str())

@@ -9,7 +9,7 @@ ghost use Rattle.pod_file.specs.Refusals.{is_want_of_memory, member_path};
 ghost use Rattle.pod_file.specs.declared.error.PodError.TheVariants as refusal;
 
 use crate::error::{PodError, wrong, wrong_member};
-use crate::links::{is_named, links};
+use crate::links::{is_place, links};
 use cni_addr::{Duplicate, Items, NoMemory, Text};
 use cni_json::{Field, Value, field_list, field_object};
 use kernel_types::{Host, Link, NsObj, Tag};
@@ -109,7 +109,7 @@ fn name_or_refused(
 ) -> Result<Text, PodError>
     ensures { GivesAs is_want_of_memory (λ name. name) result (wanted.name_or_refused before.now index name.now) }
 {
-    if cannot_be_added(before, name) {
+    if is_place(before, name) {
         Err(wrong_namespace(alloc, index))
     } else {
         Ok(Text::of(alloc, name)?)
@@ -120,10 +120,4 @@ fn wrong_namespace(alloc: Global, index: usize) -> PodError
     ensures { TellsAs is_want_of_memory result (refusal.Shape (member_path (codes "opening.namespaces") index)) }
 {
     wrong_member(alloc, "opening.namespaces", index)
-}
-
-fn cannot_be_added(before: &[Text], name: &str) -> bool
-    ensures { result ≡ wanted.cannot_be_added before.now name.now }
-{
-    name.len() == 0 || is_named(before, name)
 }
