@@ -1,14 +1,14 @@
 -- A command of a pod file, key by key in the order of its refusals. Each key is tested at every verb.
 use Rattle.std.specs.Prelude.{ℕ, ◌&&◌, List, [], codes, Bool, true, false, nat_le, if◌then◌else◌, Result, Ok, Option, Some, None, ⊤}
 use Rattle.std.specs.Str.{bytes_eq}
-use Rattle.serde_json.specs.Data.{Data, object, Items}
-use Rattle.cni_json.specs.Fields.{text_field, list_field, u64_field, u64_of}
+use Rattle.serde_json.specs.Data.{Data, Items}
+use Rattle.cni_json.specs.Fields.{text_field, list_field, u64_field, u64_of, object_or}
 use Rattle.cni_json.specs.Outcome.{◌>>=◌}
 use Rattle.cni_json.specs.declared.fields.Field.{Field}
 use Rattle.cni_json.specs.declared.fields.Field.TheVariants.{Absent, WrongKind, Here}
 use Rattle.kernel_types.specs.declared.object.Table.{Table}
 use Rattle.kernel_types.specs.declared.object.Table.TheVariants.{Nat, Filter}
-use Rattle.cni_json.specs.Each.{each}
+use Rattle.cni_json.specs.Each.{list_or}
 use Rattle.pod_file.specs.Members.{text_at, mappings_at, valid_at}
 use Rattle.pod_file.specs.Refusals.{wrong, wrong_key, command_path}
 use Rattle.pod_file.specs.declared.command.Command.{Command}
@@ -19,8 +19,7 @@ use Rattle.pod_file.specs.declared.error.PodError.{PodError}
 use Rattle.pod_file.specs.declared.place.CommandPlace.{CommandPlace}
 
 abbrev pub command_object : CommandPlace → Data → Result ⊤ PodError
-command_object place (object ms) = Ok tt
-command_object place d = wrong (command_path place)
+command_object place d = object_or (wrong (command_path place)) d
 
 -- ---- the verb
 
@@ -120,9 +119,7 @@ abbrev pub fault_at : CommandPlace → Data → Result ℕ PodError
 fault_at place d = fault_of place (u64_of d)
 
 abbrev pub faults_of : CommandPlace → Field Items → Result (List ℕ) PodError
-faults_of place Absent = Ok []
-faults_of place WrongKind = wrong_key place (codes "faults")
-faults_of place (Here ds) = each (fault_at place) ds
+faults_of place f = list_or (wrong_key place (codes "faults")) (fault_at place) f
 
 -- the calls that fail, in any order
 unfoldable pub faults_at : CommandPlace → Data → Result (List ℕ) PodError

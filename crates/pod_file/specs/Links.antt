@@ -2,8 +2,8 @@
 use Rattle.std.specs.Prelude.{ℕ, ◌+◌, ◌||◌, List, [], ◌∷◌, ◌++◌, codes, Bool, if◌then◌else◌, Result, Ok, ⊤}
 use Rattle.std.specs.List.{list_any}
 use Rattle.std.specs.Str.{bytes_eq}
-use Rattle.serde_json.specs.Data.{Data, object, Items, no_items, item}
-use Rattle.cni_json.specs.Fields.{text_field, list_field, u64_field}
+use Rattle.serde_json.specs.Data.{Data, Items, no_items, item}
+use Rattle.cni_json.specs.Fields.{text_field, list_field, u64_field, member_or, object_or}
 use Rattle.cni_json.specs.Outcome.{◌>>=◌}
 use Rattle.cni_json.specs.declared.fields.Field.{Field}
 use Rattle.cni_json.specs.declared.fields.Field.TheVariants.{Absent, WrongKind, Here}
@@ -23,8 +23,7 @@ abbrev pub wrong_link : {A : Type 0} → ℕ → Result A PodError
 wrong_link index = wrong (member_path (codes "opening.links") index)
 
 abbrev pub link_object : ℕ → Data → Result ⊤ PodError
-link_object index (object ms) = Ok tt
-link_object index d = wrong_link index
+link_object index d = object_or (wrong_link index) d
 
 abbrev pub name_of : ℕ → Field (List ℕ) → Result (List ℕ) PodError
 name_of index Absent = wrong_link index
@@ -99,9 +98,7 @@ links_after names before index (item d ds) = do
   links_after names (before ++ next ∷ []) (index + 1) ds
 
 abbrev pub links_of : List (List ℕ) → Field Items → Result (List Link) PodError
-links_of names Absent = Ok []
-links_of names WrongKind = wrong (codes "opening.links")
-links_of names (Here ds) = links_after names [] 0 ds
+links_of names f = member_or (Ok []) (wrong (codes "opening.links")) (links_after names [] 0) f
 
 -- the links, none where there is no list
 unfoldable pub links_at : List (List ℕ) → Data → Result (List Link) PodError

@@ -1,11 +1,11 @@
 -- Members of a command, each with its refusal: the place is the command's, `outer` the command's key that holds the member.
 use Rattle.std.specs.Prelude.{ℕ, List, [], codes, Result, Ok, ⊤}
-use Rattle.serde_json.specs.Data.{Data, object, Items}
-use Rattle.cni_json.specs.Fields.{text_field, list_field, u64_field}
+use Rattle.serde_json.specs.Data.{Data, Items}
+use Rattle.cni_json.specs.Fields.{text_field, list_field, u64_field, object_or}
 use Rattle.cni_json.specs.Outcome.{◌>>=◌}
 use Rattle.cni_json.specs.declared.fields.Field.{Field}
 use Rattle.cni_json.specs.declared.fields.Field.TheVariants.{Absent, WrongKind, Here}
-use Rattle.cni_json.specs.Each.{each}
+use Rattle.cni_json.specs.Each.{list_or}
 use Rattle.pod_file.specs.Refusals.{wrong_key}
 use Rattle.pod_file.specs.declared.command.RawMapping.{RawMapping}
 use Rattle.pod_file.specs.declared.command.ValidAtt.{ValidAtt}
@@ -44,8 +44,7 @@ unfoldable pub port_at : CommandPlace → List ℕ → Data → Result ℕ PodEr
 port_at place key d = port_of place (u64_field key d)
 
 abbrev pub inner_object : CommandPlace → List ℕ → Data → Result ⊤ PodError
-inner_object place outer (object ms) = Ok tt
-inner_object place outer d = wrong_key place outer
+inner_object place outer d = object_or (wrong_key place outer) d
 
 -- a text of a mapping, empty where there is none
 unfoldable pub mapping_text_at : CommandPlace → List ℕ → Data → Result (List ℕ) PodError
@@ -62,9 +61,7 @@ mapping_at place d = do
   Ok (record { host_port = host_port; container_port = container_port; protocol = protocol; host_ip = host_ip })
 
 abbrev pub mappings_of : CommandPlace → Field Items → Result (List RawMapping) PodError
-mappings_of place Absent = Ok []
-mappings_of place WrongKind = wrong_key place (codes "portMappings")
-mappings_of place (Here ds) = each (mapping_at place) ds
+mappings_of place f = list_or (wrong_key place (codes "portMappings")) (mapping_at place) f
 
 -- the port mappings, none where there is no list
 unfoldable pub mappings_at : CommandPlace → Data → Result (List RawMapping) PodError
@@ -79,9 +76,7 @@ valid_attachment_at place d = do
   Ok (record { container = container; ifname = ifname })
 
 abbrev pub valid_of : CommandPlace → Field Items → Result (List ValidAtt) PodError
-valid_of place Absent = Ok []
-valid_of place WrongKind = wrong_key place (codes "valid")
-valid_of place (Here ds) = each (valid_attachment_at place) ds
+valid_of place f = list_or (wrong_key place (codes "valid")) (valid_attachment_at place) f
 
 -- the attachments that a GC keeps, none where there is no list
 unfoldable pub valid_at : CommandPlace → Data → Result (List ValidAtt) PodError

@@ -1,10 +1,9 @@
 -- The host as it is found.
 use Rattle.std.specs.Prelude.{ℕ, ◌+◌, List, [], ◌∷◌, ◌++◌, codes, if◌then◌else◌, Result, Ok}
 use Rattle.serde_json.specs.Data.{Data, string, Items, no_items, item}
-use Rattle.cni_json.specs.Fields.{list_field, object_field}
+use Rattle.cni_json.specs.Fields.{list_field, object_field, member_or}
 use Rattle.cni_json.specs.Outcome.{◌>>=◌}
 use Rattle.cni_json.specs.declared.fields.Field.{Field}
-use Rattle.cni_json.specs.declared.fields.Field.TheVariants.{Absent, WrongKind, Here}
 use Rattle.kernel_types.specs.Opening.{opening_with}
 use Rattle.kernel_types.specs.declared.object.Host.{Host}
 use Rattle.pod_file.specs.Links.{is_place, links_at}
@@ -32,9 +31,7 @@ namespaces_after before index (item d ds) = do
   namespaces_after (before ++ next ∷ []) (index + 1) ds
 
 abbrev pub namespaces_of : Field Items → Result (List (List ℕ)) PodError
-namespaces_of Absent = Ok []
-namespaces_of WrongKind = wrong (codes "opening.namespaces")
-namespaces_of (Here ds) = namespaces_after [] 0 ds
+namespaces_of f = member_or (Ok []) (wrong (codes "opening.namespaces")) (namespaces_after [] 0) f
 
 -- the names of the namespaces, none where there is no list
 unfoldable pub namespaces_at : Data → Result (List (List ℕ)) PodError
@@ -48,9 +45,7 @@ opening_members_at d = do
   Ok (opening_with names links)
 
 abbrev pub opening_of : Field Data → Result Host PodError
-opening_of Absent = Ok (opening_with [] [])
-opening_of WrongKind = wrong (codes "opening")
-opening_of (Here d) = opening_members_at d
+opening_of f = member_or (Ok (opening_with [] [])) (wrong (codes "opening")) opening_members_at f
 
 -- the opening; the host is empty where there is none
 unfoldable pub opening_at : Data → Result Host PodError

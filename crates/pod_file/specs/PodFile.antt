@@ -1,6 +1,7 @@
 -- A pod file, part by part in the order of its refusals. The format is this project's own.
 use Rattle.std.specs.Prelude.{ℕ, List, [], Result, Ok, Err, ⊤}
-use Rattle.serde_json.specs.Data.{Data, object}
+use Rattle.serde_json.specs.Data.{Data}
+use Rattle.cni_json.specs.Fields.{object_or}
 use Rattle.cni_json.specs.Json.{json_of}
 use Rattle.cni_json.specs.Outcome.{◌>>=◌}
 use Rattle.cni_json.specs.declared.reading.ReadEnd.{ReadEnd}
@@ -20,8 +21,7 @@ read_or_refused (Err ends.Number) = Err refusal.Number
 read_or_refused (Err ends.NoMemory) = Err refusal.NoMemory
 
 abbrev pub top_object : Data → Result ⊤ PodError
-top_object (object ms) = Ok tt
-top_object d = wrong []
+top_object d = object_or (wrong []) d
 
 -- all shapes first, then the limits, and then what must stand alone
 unfoldable pub pods_at : Data → Result Pods PodError
