@@ -49,7 +49,7 @@ use Rattle.gc_sweep.proofs.Lists.{list_all-none, list_all-sublist}
 use Rattle.gc_sweep.proofs.Machine.{Point, start_point, point_after, IsTrail}
 use Rattle.gc_sweep.proofs.Owners.{is_stale, goes_own, own_goes, owners_cover, owners_stale, has_att}
 use Rattle.gc_sweep.proofs.Runs.{trail, early_or, early_makes_none}
-use Rattle.gc_sweep.proofs.Weights.{jobs_weight, total, weight}
+use Rattle.gc_sweep.specs.Weights.{jobs_weight, total, weight}
 
 -- ---- no more distinct owners than there are
 

@@ -27,7 +27,7 @@ use Rattle.kernel_types.proofs.TouchRemoval.{TouchesOwnAlone-link_del}
 use Rattle.cni_verbs.specs.Wanted.{deletion}
 use Rattle.gc_sweep.specs.Keep.{IsSublist, IsWithin}
 use Rattle.gc_sweep.proofs.Lists.{sublist_same, sublist_filter, sublist_without_first, count_without_first, count_sublist}
-use Rattle.gc_sweep.proofs.Weights.{total}
+use Rattle.gc_sweep.specs.Weights.{total}
 
 -- ---- within
 

@@ -9,4 +9,3 @@ pub mod Owners
 pub mod Phases
 pub mod Places
 pub mod Runs
-pub mod Weights

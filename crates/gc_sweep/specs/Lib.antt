@@ -3,3 +3,4 @@ pub mod Keep
 pub mod Sweep
 pub mod Trace
 pub mod View
+pub mod Weights

@@ -30,7 +30,8 @@ use Rattle.cni_verbs.specs.Script.{call_of_work}
 use Rattle.cni_verbs.specs.Sweep.{Gc, Job, AskCached, Delete, Step, Sweep, after_step, is_valid, job_of, step_call, work_after}
 use Rattle.cni_verbs.specs.Wanted.{deletion}
 use Rattle.gc_sweep.proofs.Calls.{jobs_weight-after, jobs_weight-map}
-use Rattle.pod_workers.specs.CallsLeft.{collection_left, jobs_left, objects_in, sweeps_left}
+use Rattle.gc_sweep.specs.Weights.{jobs_weight, sweeps_weight}
+use Rattle.pod_workers.specs.CallsLeft.{collection_left, objects_in}
 
 -- ---- no more owners than objects
 
@@ -89,7 +90,7 @@ deletion-shrinks att kinds.Cached host = record { gone = list_any (λ c. is_own 
 -- ---- the work
 
 -- fewer objects, less to do
-fewer-sweeps : (few many : ℕ) (ss : List Sweep) → few ≤ many → sweeps_left few ss ≤ sweeps_left many ss
+fewer-sweeps : (few many : ℕ) (ss : List Sweep) → few ≤ many → sweeps_weight few ss ≤ sweeps_weight many ss
 fewer-sweeps few many [] less = omega arith
 fewer-sweeps few many (s ∷ ss) less =
     let rest = fewer-sweeps few many ss less in
@@ -111,7 +112,7 @@ owners-fall gc s ss host =
     let c = fewer-owners gc.network (tags_of host s.kind) in
     let d = tags-fit host s.kind in
     let few : length stale ≤ objects_in host = omega arith in
-    let jobs : jobs_left (map (job_of s) stale) ≡ length stale * (1 + length s.more) = jobs_weight-map s stale in
+    let jobs : jobs_weight (map (job_of s) stale) ≡ length stale * (1 + length s.more) = jobs_weight-map s stale in
     let most : length stale * (1 + length s.more) ≤ objects_in host * (1 + length s.more) = mul-le-mul_right (1 + length s.more) few in
     omega arith
 
@@ -120,12 +121,12 @@ gone-falls : (gc : Gc) (att : Att) (kind : Kind) (more : List Step) (js : List J
 gone-falls gc att kind more js ss host k true fewer = let rest = fewer-sweeps (objects_in k) (objects_in host) ss (omega arith) in omega arith
 gone-falls gc att kind more js ss host k false fewer =
     let rest = fewer-sweeps (objects_in k) (objects_in host) ss (omega arith) in
-    let left : jobs_left (after_step att more js) ≡ length more + jobs_left js = jobs_weight-after att more js in
+    let left : jobs_weight (after_step att more js) ≡ length more + jobs_weight js = jobs_weight-after att more js in
     omega arith
 
 step-falls : (gc : Gc) (att : Att) (step : Step) (more : List Step) (js : List Job) (ss : List Sweep) (host : Host)
     → FallsBy gc (record { att = att; step = step; more = more } ∷ js) ss host (apply host (step_call att step)).1 (apply host (step_call att step)).0
-step-falls gc att AskCached more js ss host = let left : jobs_left (after_step att more js) ≡ length more + jobs_left js = jobs_weight-after att more js in omega arith
+step-falls gc att AskCached more js ss host = let left : jobs_weight (after_step att more js) ≡ length more + jobs_weight js = jobs_weight-after att more js in omega arith
 step-falls gc att (Delete kind) more js ss host =
     let d = deletion-shrinks att kind host in
     subst (λ r. FallsBy gc (record { att = att; step = Delete kind; more = more } ∷ js) ss host r (apply host (deletion att kind)).0) (sym d.reply)

@@ -17,7 +17,8 @@ use Rattle.plan_words.specs.Share.{Share}
 use Rattle.cni_verbs.specs.CommandWords.{att_of, mappings_of}
 use Rattle.cni_verbs.specs.Questions.{check_questions}
 use Rattle.cni_verbs.specs.Script.{State, AtBegin, BeforeLeases, Leasing, AfterLeases, ReadingCache, Deleting, FindingEntry, Asking, Changing, Collecting, Over, before_of}
-use Rattle.cni_verbs.specs.Sweep.{Job, Sweep, Work}
+use Rattle.cni_verbs.specs.Sweep.{Work}
+use Rattle.gc_sweep.specs.Weights.{jobs_weight, sweeps_weight}
 use Rattle.cni_verbs.specs.Wanted.{add_calls, kinds_of, sets_of}
 
 -- ---- deletions
@@ -91,16 +92,6 @@ calls_left most list c (Over ending given) s = 0
 abbrev pub objects_in : Host → ℕ
 objects_in host = length host.links + length host.rules + length host.settings + length host.leases + length host.cached
 
--- a step for the owner at hand, and those that are left
-abbrev pub jobs_left : List Job → ℕ
-jobs_left [] = 0
-jobs_left (j ∷ js) = 1 + length j.more + jobs_left js
-
--- a sweep asks for the owners, and makes its steps for each: no more owners than objects
-abbrev pub sweeps_left : ℕ → List Sweep → ℕ
-sweeps_left objects [] = 0
-sweeps_left objects (s ∷ ss) = 1 + objects * (1 + length s.more) + sweeps_left objects ss
-
--- and each object is deleted once
+-- a sweep names no more owners than there are objects, and each object is deleted once
 abbrev pub collection_left : Work → Host → ℕ
-collection_left work host = sweeps_left (objects_in host) work.sweeps + jobs_left work.jobs + objects_in host
+collection_left work host = sweeps_weight (objects_in host) work.sweeps + jobs_weight work.jobs + objects_in host

@@ -1,10 +1,10 @@
 -- What every call of a collection lowers: m is the most owners that a sweep can name.
-use Rattle.std.proofs.Common.{ℕ, ◌+◌, ◌*◌, Bool, List, [], ◌∷◌, length}
-use Rattle.std.specs.Prelude.{filter}
+use Rattle.std.specs.Prelude.{ℕ, ◌+◌, ◌*◌, Bool, List, [], ◌∷◌, length, filter}
 use Rattle.kernel_types.specs.declared.object.Tag.{Tag}
 use Rattle.kernel_types.specs.declared.object.Host.{Host}
 use Rattle.cni_verbs.specs.Sweep.{Job, Sweep}
 
+-- a sweep asks for the owners, and makes its steps for each
 abbrev pub sweep_weight : ℕ → Sweep → ℕ
 sweep_weight m s = 1 + m * (1 + length s.more)
 
@@ -12,6 +12,7 @@ abbrev pub sweeps_weight : ℕ → List Sweep → ℕ
 sweeps_weight m [] = 0
 sweeps_weight m (s ∷ ss) = sweep_weight m s + sweeps_weight m ss
 
+-- a step for the owner at hand, and those that are left
 abbrev pub jobs_weight : List Job → ℕ
 jobs_weight [] = 0
 jobs_weight (j ∷ js) = 1 + length j.more + jobs_weight js
