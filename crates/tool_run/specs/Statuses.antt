@@ -72,6 +72,18 @@ pub record Sides : Type 0 where
   pub writes_before : ℕ
   pub writes_now : ℕ
 
+abbrev pub sides : List (List ℕ) → Option StoredFiles → ℕ → ℕ → Option (List ℕ) → Option (List ℕ) → ℕ → ℕ → Sides
+sides words files reads_before reads_now old new writes_before writes_now = record {
+  words = words;
+  files = files;
+  reads_before = reads_before;
+  reads_now = reads_now;
+  old = old;
+  new = new;
+  writes_before = writes_before;
+  writes_now = writes_now;
+}
+
 -- the status of a run and its book, each with its cause
 pub record HasCauses (r : Sides) (status : ℕ) (book : Option World) : Type 0 where
   pub only : IsAmong status (0 ∷ 1 ∷ 2 ∷ 3 ∷ 4 ∷ 5 ∷ 6 ∷ 8 ∷ [])

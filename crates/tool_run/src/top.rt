@@ -8,7 +8,7 @@ ghost use Rattle.tool_words.specs.Words.{words_of};
 ghost use Rattle.tool_words.specs.declared.words.Words.{Words};
 ghost use Rattle.tool_run.specs.Ends.{Reported, Reports};
 ghost use Rattle.tool_run.specs.Rounds.{KeepsFileOrder, MakesRounds};
-ghost use Rattle.tool_run.specs.Statuses.{AskForOneThread, HasCauses};
+ghost use Rattle.tool_run.specs.Statuses.{AskForOneThread, HasCauses, sides};
 
 use crate::lines::USAGE;
 use crate::rounds::{make_round, make_round_alone};
@@ -50,16 +50,7 @@ pub fn run<R: Threads + Wait + Sync, F: Files, S: Sink, G: Gate>(
     sink: &mut S,
     gate: &G,
 ) -> Outcome
-    ensures causes { HasCauses (record {
-      words = words.now;
-      files = F.files files.old;
-      reads_before = F.faults files.old;
-      reads_now = F.faults files.new;
-      old = S.written sink.old;
-      new = S.written sink.new;
-      writes_before = S.faults sink.old;
-      writes_now = S.faults sink.new;
-    }) result.status result.book }
+    ensures causes { HasCauses (sides words.now (F.files files.old) (F.faults files.old) (F.faults files.new) (S.written sink.old) (S.written sink.new) (S.faults sink.old) (S.faults sink.new)) result.status result.book }
     ensures order { AskForOneThread words.now → IfSome result.book IsInFileOrder }
     ensures keeps { F.files files.new ≡ F.files files.old }
 {
@@ -84,16 +75,7 @@ pub fn run_alone<F: Files, S: Sink>(
     files: &mut F,
     sink: &mut S,
 ) -> Outcome
-    ensures causes { HasCauses (record {
-      words = words.now;
-      files = F.files files.old;
-      reads_before = F.faults files.old;
-      reads_now = F.faults files.new;
-      old = S.written sink.old;
-      new = S.written sink.new;
-      writes_before = S.faults sink.old;
-      writes_now = S.faults sink.new;
-    }) result.status result.book }
+    ensures causes { HasCauses (sides words.now (F.files files.old) (F.faults files.old) (F.faults files.new) (S.written sink.old) (S.written sink.new) (S.faults sink.old) (S.faults sink.new)) result.status result.book }
     ensures order { IfSome result.book IsInFileOrder }
     ensures keeps { F.files files.new ≡ F.files files.old }
 {
@@ -119,16 +101,7 @@ fn run_by<M: Fn(Book<ListKernel>, u8) -> Book<ListKernel>, F: Files, S: Sink>(
     sink: &mut S,
 ) -> Outcome
     requires { MakesRounds M.Fn make.now }
-    ensures causes { HasCauses (record {
-      words = words.now;
-      files = F.files files.old;
-      reads_before = F.faults files.old;
-      reads_now = F.faults files.new;
-      old = S.written sink.old;
-      new = S.written sink.new;
-      writes_before = S.faults sink.old;
-      writes_now = S.faults sink.new;
-    }) result.status result.book }
+    ensures causes { HasCauses (sides words.now (F.files files.old) (F.faults files.old) (F.faults files.new) (S.written sink.old) (S.written sink.new) (S.faults sink.old) (S.faults sink.new)) result.status result.book }
     ensures order { (by : Words) → words_of words.now ≡ Some by → KeepsFileOrder M.Fn make.now by.threads → IfSome result.book IsInFileOrder }
     ensures keeps { F.files files.new ≡ F.files files.old }
 {
