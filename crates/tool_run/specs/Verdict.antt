@@ -4,6 +4,7 @@ use Rattle.cni_io.specs.Files.{StoredFiles, file_of}
 use Rattle.cni_io.specs.declared.files.FileFault.{FileFault}
 use Rattle.cni_io.specs.declared.files.FileFault.TheVariants as fault
 use Rattle.cni_json.specs.Outcome.{◌>>=◌}
+use Rattle.cni_result.specs.declared.error.CniError.{CniError}
 use Rattle.net_conf.specs.List.{list_of}
 use Rattle.net_conf.specs.declared.list.NetList.{NetList}
 use Rattle.pod_file.specs.PodFile.{pods_of}
@@ -37,11 +38,15 @@ told line (Err e) = Err (line e)
 abbrev pub bytes_in : StoredFiles → List ℕ → Told (List ℕ)
 bytes_in files file = told (λ e. fault_line e file) (file_of files limit file)
 
+-- what the bytes of a file are read as, or the line of the error
+abbrev pub told_by : {A E : Type 0} → (List ℕ → Result A E) → (E → CniError) → List ℕ → List ℕ → Told A
+told_by of_bytes error_of file bytes = told (λ e. error_line (error_of e) file) (of_bytes bytes)
+
 abbrev pub told_pods : List ℕ → List ℕ → Told Pods
-told_pods file bytes = told (λ e. error_line (pods_error e) file) (pods_of bytes)
+told_pods file bytes = told_by pods_of pods_error file bytes
 
 abbrev pub told_list : List ℕ → List ℕ → Told NetList
-told_list file bytes = told (λ e. error_line (list_error e) file) (list_of bytes)
+told_list file bytes = told_by list_of list_error file bytes
 
 unfoldable pub pods_in : StoredFiles → List ℕ → Told Pods
 pods_in files file = bytes_in files file >>= told_pods file
