@@ -6,7 +6,7 @@ ghost use Rattle.kernel_types.specs.declared.object.Tag.TheVariants as tags;
 
 use crate::words::{RowError, addr_of, cidr_of, cut, placed, port_of};
 use cni_addr::{Items, MacvlanMode, NoMemory, Range, RangeSet, Text};
-use cni_result::{AddResult, Cached, Dns, Version};
+use cni_result::{AddResult, Cached, Version, no_dns};
 use kernel_types::{
     AddrObj, Att, Chain, Lease, Link, LinkKey, LinkKind, RouteObj, Rule, Setting, Table, Tag,
     Target, link_mac,
@@ -216,13 +216,7 @@ pub(crate) fn set(alloc: Global, name: &str) -> Result<RangeSet, RowError> {
 }
 
 fn empty_result(alloc: Global) -> Result<AddResult, NoMemory> {
-    let domain = Text::of(alloc, "")?;
-    let dns = Dns {
-        nameservers: Items::new(alloc),
-        domain,
-        search: Items::new(alloc),
-        options: Items::new(alloc),
-    };
+    let dns = no_dns(alloc)?;
     Ok(AddResult {
         version: Version::V1_1,
         interfaces: Items::new(alloc),
