@@ -33,12 +33,10 @@ Reported old new before now NoMemory outcome = (outcome.book ≡ None) × (outco
 
 -- the text of the plan's book, every round of which is over, or memory ran out; where so many threads keep the file's order, its commands went in it
 abbrev pub SettlesPlan : (keeps : ℕ → Type 0) → Words → Plan → Due → Type 0
-SettlesPlan keeps words plan Usage = ⊥
-SettlesPlan keeps words plan (Line line) = ⊥
-SettlesPlan keeps words plan (Unread line) = ⊥
 SettlesPlan keeps words plan (Text book bytes) =
     (book.plan ≡ plan) × (length plan.pods.rounds ≤ book.round) × Legal book × (keeps words.threads → IsInFileOrder book) × (bytes.items ≡ text_of book words.trace words.dump)
 SettlesPlan keeps words plan NoMemory = ⊤
+SettlesPlan keeps words plan due = ⊥
 
 abbrev pub SettlesFor : (keeps : ℕ → Type 0) → Words → Option StoredFiles → ℕ → ℕ → Due → Type 0
 SettlesFor keeps words files before now Usage = ⊥
@@ -53,7 +51,5 @@ SettlesWith keeps words files before now due = (w : Words) × (words_of words �
 
 abbrev pub Settles : (keeps : ℕ → Type 0) → List (List ℕ) → Option StoredFiles → ℕ → ℕ → Due → Type 0
 Settles keeps words files before now Usage = words_of words ≡ None
-Settles keeps words files before now (Line line) = SettlesWith keeps words files before now (Line line)
-Settles keeps words files before now (Unread line) = SettlesWith keeps words files before now (Unread line)
-Settles keeps words files before now (Text book bytes) = SettlesWith keeps words files before now (Text book bytes)
 Settles keeps words files before now NoMemory = ⊤
+Settles keeps words files before now due = SettlesWith keeps words files before now due
