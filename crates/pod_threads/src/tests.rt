@@ -34,6 +34,18 @@ const THREE_OF_TWO: &str = "{\"opening\":{\"namespaces\":[\"/ns/a\",\"/ns/b\"]},
 {\"verb\":\"ADD\",\"network\":\"pods\",\"container\":\"c2\",\"netns\":\"/ns/b\"},\
 {\"verb\":\"DEL\",\"network\":\"pods\",\"container\":\"c1\"}]]}";
 
+const EIGHT_ADDED: &str =
+    "{\"opening\":{\"namespaces\":[\"/ns/1\",\"/ns/2\",\"/ns/3\",\"/ns/4\",\"/ns/5\",\"/ns/6\",\
+\"/ns/7\",\"/ns/8\"]},\"rounds\":[[\
+{\"verb\":\"ADD\",\"network\":\"pods\",\"container\":\"c1\",\"netns\":\"/ns/1\"},\
+{\"verb\":\"ADD\",\"network\":\"pods\",\"container\":\"c2\",\"netns\":\"/ns/2\"},\
+{\"verb\":\"ADD\",\"network\":\"pods\",\"container\":\"c3\",\"netns\":\"/ns/3\"},\
+{\"verb\":\"ADD\",\"network\":\"pods\",\"container\":\"c4\",\"netns\":\"/ns/4\"},\
+{\"verb\":\"ADD\",\"network\":\"pods\",\"container\":\"c5\",\"netns\":\"/ns/5\"},\
+{\"verb\":\"ADD\",\"network\":\"pods\",\"container\":\"c6\",\"netns\":\"/ns/6\"},\
+{\"verb\":\"ADD\",\"network\":\"pods\",\"container\":\"c7\",\"netns\":\"/ns/7\"},\
+{\"verb\":\"ADD\",\"network\":\"pods\",\"container\":\"c8\",\"netns\":\"/ns/8\"}]]}";
+
 fn pods_of(alloc: Global, text: &str) -> Result<Pods, Fail>
     ensures { IfOk result IsWellFormedPods }
 {
@@ -187,5 +199,14 @@ fn each_container_has_its_worker(rt: HostRuntime) -> Result<(), Fail> {
     let counts = rounded.counts.as_slice();
     assert!(rt; counts.len() == 4 && 6 < made);
     assert_eq!(rt; counts, [made - 6, 6, 0, 0].as_slice());
+    Ok(())
+}
+
+/// Containers go to workers in turn, so each of four makes the entries of two ADDs.
+#[test]
+fn each_of_four_makes_a_quarter(rt: HostRuntime) -> Result<(), Fail> {
+    let alloc = rt.alloc();
+    let rounded = round(&rt, alloc, book_of(alloc, EIGHT_ADDED)?, 4, &OpenGate)?;
+    assert_eq!(rt; rounded.counts.as_slice(), [12, 12, 12, 12].as_slice());
     Ok(())
 }

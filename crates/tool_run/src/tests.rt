@@ -1,11 +1,12 @@
-//! Two ADDs of one round, stepped in turn by hand, and the room that an entry of the history takes.
+//! Two ADDs of one round, stepped in turn by hand, and the room that an entry of the history takes; and the words, the
+//! files and the sink of the other tests.
 
 ghost use Rattle.std.specs.Prelude.{◌≤◌, IfOk, length};
 
 use crate::carry::begin;
 use crate::plan::read_plan;
 use cni_addr::{Items, NoMemory, Text};
-use cni_io::{MemFiles, Text1};
+use cni_io::{MemFiles, MemSink, Text1};
 use cni_verbs::Answer;
 use kernel_model::ListKernel;
 use kernel_text::reply_text;
@@ -15,7 +16,7 @@ use std::mem::size_of;
 use std::test::Fail;
 use tool_words::Words;
 
-pub(crate) const LIST: &str =
+const LIST: &str =
     "{\"cniVersion\":\"1.1.0\",\"name\":\"pods\",\"plugins\":[{\"type\":\"bridge\",\"ipam\":{\"type\":\"host-local\",\"subnet\":\"10.88.0.0/16\"}}]}";
 
 pub(crate) const ONE: &str = "{\"opening\":{\"namespaces\":[\"/ns/a\"]},\"rounds\":[[\
@@ -30,7 +31,7 @@ const TOGETHER: &str = "{\"opening\":{\"namespaces\":[\"/ns/a\"]},\"rounds\":[[\
 {\"verb\":\"ADD\",\"network\":\"pods\",\"container\":\"c2\",\"netns\":\"/ns/a\"}]]}";
 
 /// Stores a file.
-pub(crate) fn add(alloc: Global, files: &mut MemFiles, name: &str, text: &str) -> Result<(), Fail> {
+fn add(alloc: Global, files: &mut MemFiles, name: &str, text: &str) -> Result<(), Fail> {
     let mut bytes = Vec::new(alloc);
     bytes.extend_from_slice(text.as_bytes())?;
     let Ok(name) = Text1::of(alloc, name) else {
@@ -39,6 +40,31 @@ pub(crate) fn add(alloc: Global, files: &mut MemFiles, name: &str, text: &str) -
     match files.add(name, bytes) {
         Ok(()) => Ok(()),
         Err(_) => Err("no memory for a file".into()),
+    }
+}
+
+/// The files of a run: these pods and the list.
+pub(crate) fn files_of(alloc: Global, pods: &str) -> Result<MemFiles, Fail> {
+    let mut files = MemFiles::new(alloc, Vec::new(alloc));
+    add(alloc, &mut files, "pods.json", pods)?;
+    add(alloc, &mut files, "net.json", LIST)?;
+    Ok(files)
+}
+
+/// The words of a run.
+pub(crate) fn words_of(alloc: Global, given: &[&str]) -> Result<Items<Text>, Fail> {
+    let mut words = Items::new(alloc);
+    for word in given {
+        words.push(Text::of(alloc, word)?)?;
+    }
+    Ok(words)
+}
+
+/// A sink with room for what a run writes.
+pub(crate) fn sink_of(alloc: Global) -> Result<MemSink, Fail> {
+    match MemSink::new(alloc, Vec::new(alloc), 65536, 65536) {
+        Ok(sink) => Ok(sink),
+        Err(_) => Err("no memory for the sink".into()),
     }
 }
 
@@ -58,10 +84,8 @@ fn words(alloc: Global) -> Result<Words, NoMemory>
 }
 
 /// The book of these pods as it is begun.
-pub(crate) fn book_of(alloc: Global, pods: &str) -> Result<Book<ListKernel>, Fail> {
-    let mut files = MemFiles::new(alloc, Vec::new(alloc));
-    add(alloc, &mut files, "pods.json", pods)?;
-    add(alloc, &mut files, "net.json", LIST)?;
+fn book_of(alloc: Global, pods: &str) -> Result<Book<ListKernel>, Fail> {
+    let mut files = files_of(alloc, pods)?;
     let words = words(alloc)?;
     match read_plan(alloc, &mut files, &words) {
         Ok(plan) => Ok(begin(alloc, plan)?),

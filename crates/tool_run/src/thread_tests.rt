@@ -1,13 +1,11 @@
 //! Runs by several threads, with gates that show that two of them are at work at one time.
 
-use crate::tests::{LIST, add, book_of};
+use crate::tests::{files_of, sink_of, words_of};
 use crate::{Outcome, run};
-use cni_addr::{Items, Text};
-use cni_io::{Files, MemFiles, MemSink, Sink};
+use cni_addr::Text;
+use cni_io::{Files, Sink};
 use cni_verbs::Answer;
-use kernel_model::ListKernel;
-use pod_threads::{Gate, OpenGate, Rounded, round_threads};
-use pod_workers::Book;
+use pod_threads::{Gate, OpenGate};
 use std::alloc::Global;
 use std::sync::Wait;
 use std::sync::atomic::{AtomicBool, Ordering};
@@ -76,29 +74,6 @@ fn added_and_deleted(alloc: Global) -> Result<String, Fail> {
     pods_of(alloc, rounds.as_str())
 }
 
-fn words_of(alloc: Global, threads: &str) -> Result<Items<Text>, Fail> {
-    let mut words = Items::new(alloc);
-    for word in ["--threads", threads, "pods.json", "net.json"] {
-        words.push(Text::of(alloc, word)?)?;
-    }
-    Ok(words)
-}
-
-/// The files of a run.
-fn files_of(alloc: Global, pods: &str) -> Result<MemFiles, Fail> {
-    let mut files = MemFiles::new(alloc, Vec::new(alloc));
-    add(alloc, &mut files, "pods.json", pods)?;
-    add(alloc, &mut files, "net.json", LIST)?;
-    Ok(files)
-}
-
-fn sink_of(alloc: Global) -> Result<MemSink, Fail> {
-    match MemSink::new(alloc, Vec::new(alloc), 65536, 65536) {
-        Ok(sink) => Ok(sink),
-        Err(_) => Err("no memory for the sink".into()),
-    }
-}
-
 /// A run over any files and any sink.
 fn run_over<R: Threads + Wait + Sync, F: Files, S: Sink, G: Gate>(
     rt: &R,
@@ -118,7 +93,7 @@ fn run_with<R: Threads + Wait + Sync, G: Gate>(
     pods: &str,
     gate: &G,
 ) -> Result<Seen, Fail> {
-    let words = words_of(alloc, threads)?;
+    let words = words_of(alloc, &["--threads", threads, "pods.json", "net.json"])?;
     let mut files = files_of(alloc, pods)?;
     let mut sink = sink_of(alloc)?;
     let outcome = run_over(rt, alloc, words.as_slice(), &mut files, &mut sink, gate);
@@ -289,30 +264,5 @@ fn three_threads_write_the_text(rt: HostRuntime) -> Result<(), Fail> {
     assert_eq!(rt; seen.status, 0);
     assert!(rt; seen.ends_well);
     assert!(rt; are_first_eight(seen.given.as_slice()));
-    Ok(())
-}
-
-/// How many entries each of four workers makes.
-fn counts_of_four<R: Threads + Wait + Sync>(
-    rt: &R,
-    alloc: Global,
-    book: Book<ListKernel>,
-) -> Result<Items<u64>, Fail> {
-    if book.ended() {
-        return Err("there is no round".into());
-    }
-    match round_threads(rt, alloc, book, 4, &OpenGate) {
-        Ok(Rounded { book: _, counts }) => Ok(counts),
-        Err(_) => Err("no memory for the workers".into()),
-    }
-}
-
-/// Containers go to workers in turn, so each of four makes the entries of two ADDs.
-#[test]
-fn each_of_four_makes_a_quarter(rt: HostRuntime) -> Result<(), Fail> {
-    let alloc = rt.alloc();
-    let pods = eight_added(alloc)?;
-    let counts = counts_of_four(&rt, alloc, book_of(alloc, pods.as_str())?)?;
-    assert_eq!(rt; counts.as_slice(), [12, 12, 12, 12].as_slice());
     Ok(())
 }
