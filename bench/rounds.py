@@ -13,12 +13,18 @@ Each size N gives rounds of N commands, one a container, each timed less the sam
 `adds` and `dels` show the kernel over plain lists. A time is the processor's, the least of some runs. What isn't over within LIMIT seconds is
 ended, and no figure is given.
 """
-import json, os, resource, subprocess, sys, tempfile
+import pathlib
+import resource
+import subprocess
+import sys
 
-TOP = os.path.dirname(os.path.dirname(os.path.abspath(__file__)))
-LIMIT = 120
+sys.dont_write_bytecode = True
+sys.path.insert(0, str(pathlib.Path(__file__).resolve().parent.parent / "tests"))
+
+from program import LIMIT, bridge, in_folder, network_list, program_of, run
+
 RUNS = 25
-NET = {"cniVersion": "1.1.0", "name": "pods", "plugins": [{"type": "bridge", "ipam": {"type": "host-local", "subnet": "10.0.0.0/8"}}]}
+NET = network_list("pods", bridge(subnet="10.0.0.0/8"))
 # the steps of a command: its calls, and the one that gives its answer
 STEPS = {"faults": 2, "gone": 5, "adds": 7, "dels": 8}
 
@@ -44,14 +50,12 @@ def used():
 def seconds(program, pods):
     """The least time of the runs, fewer where they take long; none where one isn't over in time."""
     times = []
-    with tempfile.TemporaryDirectory() as folder:
-        for file, content in (("pods.json", pods), ("net.json", NET)):
-            with open(f"{folder}/{file}", "w", encoding="utf-8") as it:
-                json.dump(content, it)
+    files = {"pods.json": pods, "net.json": NET}
+    with in_folder(files) as folder:
         while len(times) < RUNS and sum(times) < LIMIT / 8:
             start = used()
             try:
-                subprocess.run([program, "pods.json", "net.json"], cwd=folder, stdout=subprocess.DEVNULL, check=False, timeout=LIMIT)
+                run(program, files, folder, subprocess.DEVNULL)
             except subprocess.TimeoutExpired:
                 return None
             times.append(used() - start)
@@ -66,7 +70,7 @@ def timed(program, kind, count):
 
 
 def main():
-    program = os.path.abspath(sys.argv[1]) if len(sys.argv) > 1 else f"{TOP}/crates/cnitool/out/cnitool"
+    program = program_of(sys.argv[1:])
     sizes = [int(it) for it in sys.argv[2:]] or [1000, 10000]
     first = {}
     for size in sizes:

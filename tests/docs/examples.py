@@ -9,16 +9,14 @@ import json
 import pathlib
 import re
 import shlex
-import subprocess
-import tempfile
+import sys
 
-TOP = pathlib.Path(__file__).resolve().parent.parent.parent
+sys.path.insert(0, str(pathlib.Path(__file__).resolve().parent.parent))
+
+from program import TOP, in_folder, network_list, run
+
 FIRST = ("bridge", "ptp", "macvlan")
 REFUSED = 3
-
-
-def run(program, words, folder=TOP):
-    return subprocess.run([program, *words], cwd=folder, capture_output=True, text=True, check=False)
 
 
 def sessions(text):
@@ -38,14 +36,10 @@ def sessions(text):
 def wrong_sessions(text, program):
     for command, expected in sessions(text):
         word, *words = shlex.split(command)
-        printed = run(program if word == "./cnitool" else word, words).stdout
+        printed = run(program if word == "./cnitool" else word, words, TOP).stdout.decode("utf-8")
         pattern = "".join("(?:.*\n)*" if line == ".." else re.escape(line) + "\n" for line in expected)
         if not re.fullmatch(pattern, printed):
             yield f"`{command}` prints something else"
-
-
-def network_list(plugins, name="example"):
-    return {"cniVersion": "1.1.0", "name": name, "plugins": plugins}
 
 
 def files_of(value):
@@ -53,28 +47,26 @@ def files_of(value):
     no_pods = {"rounds": []}
     if "rounds" in value:
         networks = {command["network"] for a_round in value["rounds"] for command in a_round if "network" in command}
-        return [value, *(network_list([{"type": "bridge"}], name) for name in sorted(networks))]
+        return [value, *(network_list(name, {"type": "bridge"}) for name in sorted(networks))]
     if "plugins" in value:
         return [no_pods, value]
     if value["type"] == "host-local":
-        return [no_pods, network_list([{"type": "bridge", "ipam": value}])]
-    return [no_pods, network_list([value] if value["type"] in FIRST else [{"type": "bridge"}, value])]
+        return [no_pods, network_list("example", {"type": "bridge", "ipam": value})]
+    plugins = [value] if value["type"] in FIRST else [{"type": "bridge"}, value]
+    return [no_pods, network_list("example", *plugins)]
 
 
 def unread_examples(text, program):
     for block in re.findall(r"^```json\n(.*?)^```$", text, flags=re.MULTILINE | re.DOTALL):
-        with tempfile.TemporaryDirectory() as folder:
-            names = []
-            for number, content in enumerate(files_of(json.loads(block))):
-                names.append(f"{number}.json")
-                (pathlib.Path(folder) / names[-1]).write_text(json.dumps(content), encoding="utf-8")
-            done = run(program, names, folder)
+        files = {f"{number}.json": content for number, content in enumerate(files_of(json.loads(block)))}
+        with in_folder(files) as folder:
+            done = run(program, [*files], folder)
         if done.returncode == REFUSED:
-            yield f"an example is refused: {done.stdout.strip()}"
+            yield f"an example is refused: {done.stdout.decode('utf-8').strip()}"
 
 
 def wrong_first(program):
     folder = TOP / "examples" / "first"
-    printed = run(program, ["--trace", "--dump", "pods.json", "net.json"], folder).stdout
+    printed = run(program, ["--trace", "--dump", "pods.json", "net.json"], folder).stdout.decode("utf-8")
     if printed != (folder / "output.txt").read_text(encoding="utf-8"):
         yield "examples/first/output.txt isn't what is printed"

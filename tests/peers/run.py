@@ -1,7 +1,7 @@
 #!/usr/bin/env python3
 """Runs a built program on the recorded sequences of hostlocal.json, and compares the addresses that it leases.
 
-    run.py PROGRAM
+    run.py [PROGRAM]
 
 Each sequence is one network list, whose sets are the recorded ones, and one pod file, whose rounds are the recorded ADDs
 and DELs, one a round and each container in a namespace of its own. Of each ADD the leased addresses are compared, or the
@@ -18,18 +18,16 @@ at the order of ranges and addresses alone.
 
 import ipaddress
 import json
-import os
 import pathlib
-import subprocess
 import sys
-import tempfile
 
-HERE = pathlib.Path(__file__).resolve().parent
+sys.dont_write_bytecode = True
+sys.path.insert(0, str(pathlib.Path(__file__).resolve().parent.parent))
+
+from program import bridge, count_failed, in_folder, network_list, program_of, run
+from recorded import is_ipv6, recordings
+
 ADDRESSES = ("rangeStart", "rangeEnd", "gateway")
-
-
-def is_ipv6(given_set):
-    return ":" in given_set[0]["subnet"]
 
 
 class AsRecorded:
@@ -82,10 +80,9 @@ def mapped_range(taken_by, given):
     return {"subnet": taken_by.subnet(given["subnet"]), **ends}
 
 
-def network_list(maps, sets):
+def list_of(maps, sets):
     ranges = [[mapped_range(taken_by, given) for given in given_set] for taken_by, given_set in zip(maps, sets)]
-    bridge = {"type": "bridge", "ipam": {"type": "host-local", "ranges": ranges}}
-    return {"cniVersion": "1.1.0", "name": "peer", "plugins": [bridge]}
+    return network_list("peer", bridge(ranges=ranges))
 
 
 def pod_file(operations):
@@ -120,12 +117,10 @@ def lasts_of(lines, count):
     return [found.get(number) for number in range(count)]
 
 
-def run(program, files):
-    with tempfile.TemporaryDirectory() as folder:
-        for name, content in files.items():
-            (pathlib.Path(folder) / name).write_text(json.dumps(content), encoding="utf-8")
-        words = [program, "--dump", *files]
-        done = subprocess.run(words, cwd=folder, stdout=subprocess.PIPE, timeout=120)
+def printed(program, files):
+    """The status of a run with these files, and the lines that it prints."""
+    with in_folder(files) as folder:
+        done = run(program, ["--dump", *files], folder)
     return done.returncode, [json.loads(line) for line in done.stdout.decode("utf-8").splitlines()]
 
 
@@ -133,7 +128,7 @@ def differences(program, recorded):
     """What is other than recorded, a text each."""
     sets, operations = recorded["sets"], recorded["sequence"]
     maps = [map_of(number, given_set) for number, given_set in enumerate(sets)]
-    status, lines = run(program, {"pods.json": pod_file(operations), "net.json": network_list(maps, sets)})
+    status, lines = printed(program, {"pods.json": pod_file(operations), "net.json": list_of(maps, sets)})
     if status not in (0, 1):
         yield f"status {status}: {lines}"
         return
@@ -150,14 +145,11 @@ def differences(program, recorded):
 
 
 def main():
-    program = os.path.abspath(sys.argv[1])
-    sequences = json.loads((HERE / "hostlocal.json").read_text(encoding="utf-8"))["sequences"]
-    failed = 0
-    for number, recorded in enumerate(sequences):
-        found = list(differences(program, recorded))
-        failed += bool(found)
-        for text in found:
-            print(f"sequence {number}: {text}")
+    program = program_of(sys.argv[1:])
+    sequences = recordings()["sequences"]
+    failed = count_failed(
+        (f"sequence {number}", [*differences(program, recorded)]) for number, recorded in enumerate(sequences)
+    )
     sets = [given_set for recorded in sequences for given_set in recorded["sets"]]
     through = sum(map(is_ipv6, sets))
     print(

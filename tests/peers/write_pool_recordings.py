@@ -10,11 +10,14 @@ Python's standard library is enough.
 """
 
 import ipaddress
-import json
 import pathlib
+import sys
 
-HERE = pathlib.Path(__file__).resolve().parent
-TARGET = HERE.parent.parent / "crates/ip_pool/src/tests"
+sys.dont_write_bytecode = True
+
+from recorded import is_ipv6, recordings
+
+TARGET = pathlib.Path(__file__).resolve().parent.parent.parent / "crates/ip_pool/src/tests"
 
 
 def bounds(given):
@@ -24,10 +27,6 @@ def bounds(given):
     end = given.get("rangeEnd", subnet[-2])
     gateway = given.get("gateway", subnet[1])
     return [int(ipaddress.ip_address(address)) for address in (start, end, gateway)]
-
-
-def is_ipv6(given_set):
-    return ":" in given_set[0]["subnet"]
 
 
 class Recording:
@@ -124,7 +123,7 @@ def write(module, constant, what, made):
 
 
 def main():
-    data = json.loads((HERE / "hostlocal.json").read_text())
+    data = recordings()
     rows = [*from_tables(data["next_address"], data["order"])]
     write("rows.rt", "ROWS", "the rows of the `host-local` plugin's own tests of its allocator", rows)
     sequences = [*from_sequences(data["sequences"])]

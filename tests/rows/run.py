@@ -1,7 +1,7 @@
 #!/usr/bin/env python3
 """Runs a built program on the rows of rows.json and of ../readers, and compares what it writes and its status.
 
-    run.py PROGRAM [WORD]      the rows whose names hold WORD; without one, all
+    run.py [PROGRAM [WORD]]    the rows whose names hold WORD; without one, all
 
 A row has the files that lie where the program runs, the words, and what is expected:
 
@@ -19,14 +19,18 @@ In a line `<HV N/C/I>`, `<MH N/C/I>` and `<MC N/C/I>` are the host end's name, i
 attachment of container C to network N by interface I, and `<ML NAME>` is the MAC of another link; they are derived here.
 """
 
+import contextlib
 import hashlib
 import json
-import os
 import pathlib
 import re
 import subprocess
 import sys
-import tempfile
+
+sys.dont_write_bytecode = True
+sys.path.insert(0, str(pathlib.Path(__file__).resolve().parent.parent))
+
+from program import DIRECTORY, count_failed, in_folder, program_of, run
 
 HERE = pathlib.Path(__file__).resolve().parent
 LATER = re.compile(r"invalid pod file: no network for command \d+")
@@ -51,17 +55,17 @@ def expanded(line):
     return re.sub(r"<(HV|MH|MC|ML) ([^>]*)>", derive, line)
 
 
-def put_file(path, content, lists):
-    if isinstance(content, str) and content.startswith("@"):
-        content = lists[content[1:]]
-    if isinstance(content, dict) and content.get("directory"):
-        path.mkdir()
-    elif isinstance(content, dict) and "size" in content:
-        path.write_bytes(b" " * content["size"])
-    elif isinstance(content, dict) and "text" in content:
-        path.write_text(content["text"], encoding="utf-8")
-    else:
-        path.write_text(json.dumps(content, separators=(",", ":")), encoding="utf-8")
+def content_of(given, lists):
+    """What a file of a row holds."""
+    if isinstance(given, str) and given.startswith("@"):
+        return lists[given[1:]]
+    if isinstance(given, dict) and given.get("directory"):
+        return DIRECTORY
+    if isinstance(given, dict) and "size" in given:
+        return b" " * given["size"]
+    if isinstance(given, dict) and "text" in given:
+        return given["text"].encode("utf-8")
+    return given
 
 
 def by_command(lines, key):
@@ -138,29 +142,24 @@ def differences(row, status, out):
             yield f"dump: {json.dumps(got)}"
 
 
-def run(program, row, lists):
-    with tempfile.TemporaryDirectory() as folder:
-        for name, content in row.get("files", {}).items():
-            put_file(pathlib.Path(folder) / name, content, lists)
-        out = open(row["stdout_to"], "wb") if "stdout_to" in row else subprocess.PIPE
-        done = subprocess.run([program, *row["words"]], cwd=folder, stdout=out, timeout=120)
-        return list(differences(row, done.returncode, done.stdout or b""))
+def output_of(row):
+    return open(row["stdout_to"], "wb") if "stdout_to" in row else contextlib.nullcontext(subprocess.PIPE)
+
+
+def found_of(program, row, lists):
+    files = {name: content_of(given, lists) for name, given in row.get("files", {}).items()}
+    with in_folder(files) as folder, output_of(row) as out:
+        done = run(program, row["words"], folder, out)
+    return [*differences(row, done.returncode, done.stdout or b"")]
 
 
 def main():
-    program = os.path.abspath(sys.argv[1])
+    program = program_of(sys.argv[1:])
     word = sys.argv[2] if len(sys.argv) > 2 else ""
     table = json.loads((HERE / "rows.json").read_text(encoding="utf-8"))
-    passed = failed = 0
-    for row in [*table["rows"], *reader_rows()]:
-        if word not in row["name"]:
-            continue
-        found = run(program, row, table["lists"])
-        passed += not found
-        failed += bool(found)
-        for text in found:
-            print(f"{row['name']}: {text}")
-    print(f"rows: {passed} passed, {failed} failed")
+    rows = [row for row in [*table["rows"], *reader_rows()] if word in row["name"]]
+    failed = count_failed((row["name"], found_of(program, row, table["lists"])) for row in rows)
+    print(f"rows: {len(rows) - failed} passed, {failed} failed")
     return 1 if failed else 0
 
 

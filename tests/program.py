@@ -1,0 +1,61 @@
+"""What the scripts of tests/ and bench/ share: the program, the files that it reads in a folder of their own, a run of it, and network
+lists as values."""
+
+import contextlib
+import json
+import pathlib
+import subprocess
+import tempfile
+
+TOP = pathlib.Path(__file__).resolve().parent.parent
+BUILT = TOP / "crates" / "cnitool" / "out" / "cnitool"
+# in place of a file's content: a folder is to have that name
+DIRECTORY = object()
+# the most seconds that a run may take
+LIMIT = 120
+
+
+def program_of(words):
+    """The program that the first word names, or the one that `./test` built."""
+    return str(pathlib.Path(words[0]).resolve() if words else BUILT)
+
+
+def compact(value):
+    return json.dumps(value, separators=(",", ":"))
+
+
+@contextlib.contextmanager
+def in_folder(files):
+    """A fresh folder with these files, each of which is bytes, a value that is written as JSON, or DIRECTORY."""
+    with tempfile.TemporaryDirectory() as name:
+        folder = pathlib.Path(name)
+        for file, content in files.items():
+            if content is DIRECTORY:
+                (folder / file).mkdir()
+            else:
+                (folder / file).write_bytes(content if isinstance(content, bytes) else compact(content).encode("utf-8"))
+        yield folder
+
+
+def run(program, words, folder, stdout=subprocess.PIPE):
+    """The run of the program with these words in this folder, as it ended."""
+    return subprocess.run([program, *words], cwd=folder, stdout=stdout, check=False, timeout=LIMIT)
+
+
+def count_failed(found):
+    """Prints what is other than expected, each text behind the name that it is found of, and counts the names that have one."""
+    failed = 0
+    for name, texts in found:
+        failed += bool(texts)
+        for text in texts:
+            print(f"{name}: {text}")
+    return failed
+
+
+def bridge(**ipam):
+    """A plugin `bridge` whose addresses are `host-local`'s, by these keys."""
+    return {"type": "bridge", "ipam": {"type": "host-local", **ipam}}
+
+
+def network_list(name, *plugins):
+    return {"cniVersion": "1.1.0", "name": name, "plugins": [*plugins]}
