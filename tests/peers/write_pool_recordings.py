@@ -1,12 +1,12 @@
 #!/usr/bin/env python3
 """Writes the recordings that ip_pool's tests replay, from what the host-local plugin did.
 
-    python3 tests/peers/write_pool_recordings.py
+    write_pool_recordings.py          writes rows.rt and sequences.rt into crates/ip_pool/src/tests
+    write_pool_recordings.py --check  fails where one of them isn't what would be written
 
-reads hostlocal.json beside this file and writes rows.rt and sequences.rt into crates/ip_pool/src/tests, which
-`rt fmt` then lays out: the rows of the plugin's own tests, and recorded sequences of ADD and DEL. A sequence runs over several sets; each set leases by itself, so each becomes a recording of its own. Sets of
-IPv6 addresses and rows whose last address is no candidate are left out, and named in the file that is written.
-Python's standard library is enough.
+Of hostlocal.json it takes the rows of the plugin's own tests, and recorded sequences of ADD and DEL. A sequence runs over several
+sets; each set leases by itself, so each becomes a recording of its own. Sets of IPv6 addresses and rows whose last address is no
+candidate are left out, and named in the file that is written. The layout is that of `rt fmt`.
 """
 
 import ipaddress
@@ -14,10 +14,13 @@ import pathlib
 import sys
 
 sys.dont_write_bytecode = True
+sys.path.insert(0, str(pathlib.Path(__file__).resolve().parent.parent))
 
+from program import TOP
 from recorded import is_ipv6, recordings
+from written import settle
 
-TARGET = pathlib.Path(__file__).resolve().parent.parent.parent / "crates/ip_pool/src/tests"
+TARGET = TOP / "crates/ip_pool/src/tests"
 
 
 def bounds(given):
@@ -48,8 +51,11 @@ class Recording:
         return any(start <= bits <= end and bits != gateway for start, end, gateway in self.ranges)
 
     def text(self):
-        ranges = ", ".join("(%#010x, %#010x, %#010x)" % tuple(bounds) for bounds in self.ranges)
-        return f'Recording {{ name: "{self.name}", ranges: &[{ranges}], steps: "{" ".join(self.words)}" }},'
+        ranges = ["(%#010x, %#010x, %#010x)" % tuple(bounds) for bounds in self.ranges]
+        inner = ranges[0] if len(ranges) == 1 else "".join(f"\n            {it}," for it in ranges) + "\n        "
+        steps = " ".join(self.words)
+        fields = (f'name: "{self.name}"', f"ranges: &[{inner}]", f'steps: "{steps}"')
+        return "\n".join(["    Recording {", *(f"        {it}," for it in fields), "    },"])
 
 
 def from_tables(rows, orders):
@@ -104,7 +110,7 @@ def from_sequences(sequences):
             yield name, recording
 
 
-def write(module, constant, what, made):
+def text_of(constant, what, made):
     left_out = [f"//! {name} ({reason});" for name, reason in made if isinstance(reason, str)]
     recordings = [recording.text() for _, recording in made if isinstance(recording, Recording)]
     lines = [
@@ -119,16 +125,19 @@ def write(module, constant, what, made):
         *recordings,
         "];",
     ]
-    (TARGET / module).write_text("\n".join(lines) + "\n")
+    return "\n".join(lines) + "\n"
 
 
 def main():
     data = recordings()
     rows = [*from_tables(data["next_address"], data["order"])]
-    write("rows.rt", "ROWS", "the rows of the `host-local` plugin's own tests of its allocator", rows)
     sequences = [*from_sequences(data["sequences"])]
-    write("sequences.rt", "SEQUENCES", "what the `host-local` plugin 1.9.1 did when it was run", sequences)
+    texts = {
+        "rows.rt": text_of("ROWS", "the rows of the `host-local` plugin's own tests of its allocator", rows),
+        "sequences.rt": text_of("SEQUENCES", "what the `host-local` plugin 1.9.1 did when it was run", sequences),
+    }
+    return settle({TARGET / name: text for name, text in texts.items()})
 
 
 if __name__ == "__main__":
-    main()
+    sys.exit(main())

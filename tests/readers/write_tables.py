@@ -1,17 +1,24 @@
 #!/usr/bin/env python3
 """Writes the table that the tests of crates/pod_file go through.
 
-    python3 tests/readers/write_tables.py
+    write_tables.py          writes rows.rt into crates/pod_file/src/tests
+    write_tables.py --check  fails where it isn't what would be written
 
-reads pod_files.json beside this file, and writes rows.rt into crates/pod_file/src/tests. A file that has white space around it, or a character outside printable ASCII, doesn't fit in a
-line of a table, and is left out there. Python's standard library is enough.
+The rows are those of pod_files.json. A file that has white space around it, or a character outside printable ASCII, doesn't fit in a
+line of a table, and is left out there.
 """
 
 import json
 import pathlib
+import sys
 
-HERE = pathlib.Path(__file__).resolve().parent
-TABLES = {"pod_files.json": "pod_file"}
+sys.dont_write_bytecode = True
+sys.path.insert(0, str(pathlib.Path(__file__).resolve().parent.parent))
+
+from program import TOP
+from written import settle
+
+TARGET = TOP / "crates/pod_file/src/tests/rows.rt"
 BEGIN = '//! Written by tests/readers/write_tables.py: what comes of a file, and the file.\n\npub(super) const ROWS: &str = r#"'
 
 
@@ -23,9 +30,11 @@ def line(row):
     return f"{row.get('msg', 'read')} | {row['input']}"
 
 
-for name, crate in TABLES.items():
-    rows = json.loads((HERE / name).read_text())
+def main():
+    rows = json.loads((TOP / "tests/readers/pod_files.json").read_text(encoding="utf-8"))
     lines = [line(row) for row in rows if fits(row["input"])]
-    target = HERE.parent.parent / f"crates/{crate}/src/tests/rows.rt"
-    target.write_text(BEGIN + "\n".join(lines) + '"#;\n')
-    print(f"{crate}: {len(lines)} of {len(rows)} rows")
+    return settle({TARGET: BEGIN + "\n".join(lines) + '"#;\n'})
+
+
+if __name__ == "__main__":
+    sys.exit(main())
