@@ -5,7 +5,8 @@
 
 Each file that a document names in backticks is there. Each `crate::item` is an item of that crate, each `crate/edit` an edit that must be
 refused, and each bare name in the documents on the code stands in some crate. Each definition of docs/DEFINITIONS.md stands in the file beside
-it. docs/INDEX.md names every public definition and function. With a program, the documents' sessions and examples are run by examples.py.
+it. docs/INDEX.md names every public definition and function. examples/first is as the data of crates/cnitool. With a program, the
+documents' sessions and examples are run by examples.py.
 """
 
 import os
@@ -114,8 +115,7 @@ def main():
     program = str(pathlib.Path(sys.argv[1]).resolve()) if len(sys.argv) > 1 else None
     sources = {name: texts_of(folder) for name, folder in CRATES.items()}
     wrong = [f"{path.relative_to(TOP)}: {it}" for path in documents() for it in wrong_in(path, sources, program)]
-    if program:
-        wrong += examples.wrong_first(program)
+    wrong += examples.unlike_crate()
     if not index.INDEX.exists() or index.INDEX.read_text(encoding="utf-8") != index.index():
         wrong.append("docs/INDEX.md isn't what tests/docs/index.py prints")
     for it in wrong:
