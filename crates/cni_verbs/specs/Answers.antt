@@ -1,4 +1,5 @@
--- What a run that has come to its end answers (CNI specification, section 5, "Error"; codes from 100 on are this project's own).
+-- What a run that has come to its end answers (CNI specification, section 5, "Error"; codes from 100 on are this
+-- project's own).
 use Rattle.std.specs.Prelude.{ℕ, Bool, List, [], ◌∷◌, ◌++◌, map, codes, if◌then◌else◌}
 use Rattle.std.specs.Fmt.{decimal}
 use Rattle.serde_json.specs.Data.{string}

@@ -1,5 +1,5 @@
--- What an error says by its kind (CNI specification, section 5, "Error"): its code, and the title that its message begins with. The titles are
--- this project's own, and so are the codes from 100 on.
+-- What an error says by its kind (CNI specification, section 5, "Error"): its code, and the title that its message
+-- begins with. The titles are this project's own, and so are the codes from 100 on.
 use Rattle.std.specs.Prelude.{ℕ, List, [], ◌++◌, codes}
 use Rattle.cni_result.specs.declared.error.CniError.{CniError}
 use Rattle.cni_result.specs.declared.version.Version.{Version}

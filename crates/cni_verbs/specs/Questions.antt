@@ -1,4 +1,5 @@
--- What CHECK and STATUS ask of the kernel, and what a denial means (CNI specification, section 3, "Checking attachment" and "Status").
+-- What CHECK and STATUS ask of the kernel, and what a denial means (CNI specification, section 3, "Checking attachment"
+-- and "Status").
 use Rattle.std.specs.Prelude.{ℕ, ◌+◌, List, [], ◌∷◌, ◌++◌, map, Option, Some, None}
 use Rattle.cni_addr.specs.declared.address.Addr.{Addr}
 use Rattle.cni_addr.specs.declared.mac.Mac.{Mac}

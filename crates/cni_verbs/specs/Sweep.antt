@@ -1,5 +1,6 @@
--- A garbage collection as work that is left: sweeps over the owners of a kind, and jobs of single owners (CNI specification, section 3,
--- "Garbage-collecting unused resources", and libcni, which deletes the cached attachments first).
+-- A garbage collection as work that is left: sweeps over the owners of a kind, and jobs of single owners (CNI
+-- specification, section 3, "Garbage-collecting unused resources", and libcni, which deletes the cached attachments
+-- first).
 use Rattle.std.specs.Prelude.{ℕ, ◌&&◌, Bool, false, not, List, [], ◌∷◌, map, filter}
 use Rattle.std.specs.List.{list_any}
 use Rattle.std.specs.Str.{bytes_eq}

@@ -1,4 +1,5 @@
--- The calls of an ADD, the objects that it wants, and its result (CNI specification, section 3, "Adding an attachment").
+-- The calls of an ADD, the objects that it wants, and its result (CNI specification, section 3, "Adding an
+-- attachment").
 use Rattle.std.specs.Prelude.{ℕ, List, [], ◌∷◌, ◌++◌, map, flat_map}
 use Rattle.cni_addr.specs.declared.address.Addr.{Addr}
 use Rattle.cni_addr.specs.declared.range.RangeSet.{RangeSet}

@@ -65,8 +65,8 @@ within_leases h xs s = record { namespaces = refl; links = sublist_same h.links;
 within_cached : (h : Host) (xs : List CachedObj) → IsSublist xs h.cached → IsWithin (record h { cached = xs }) h
 within_cached h xs s = record { namespaces = refl; links = sublist_same h.links; addresses = sublist_same h.addresses; routes = sublist_same h.routes; rules = sublist_same h.rules; settings = sublist_same h.settings; leases = sublist_same h.leases; cached = s; lasts = refl }
 
--- One list loses the first of the attachment's objects, and nothing else changes. `put` sets that list in a host, and `more` is what the other lists
--- add to a total.
+-- One list loses the first of the attachment's objects, and nothing else changes. `put` sets that list in a host, and
+-- `more` is what the other lists add to a total.
 deletes_first : {X : Type 0} (a : Att) (kind : Kind) (h : Host) (tag_of : X → Tag) (xs : List X) (put : List X → Host) (left : List X) (any : Bool)
     → left ≡ without_first (λ x. is_own a (tag_of x)) xs → any ≡ list_any (λ x. is_own a (tag_of x)) xs → tags_of h kind ≡ map tag_of xs → put xs ≡ h
     → ((p : Tag → Bool) → length (filter (λ x. p (tag_of x)) left) < length (filter (λ x. p (tag_of x)) xs) → total p (put left) < total p h)

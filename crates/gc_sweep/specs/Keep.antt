@@ -1,4 +1,5 @@
--- What a garbage collection keeps (CNI specification, section 2, "GC", `cni.dev/valid-attachments`), and hosts that only lost objects.
+-- What a garbage collection keeps (CNI specification, section 2, "GC", `cni.dev/valid-attachments`), and hosts that
+-- only lost objects.
 use Rattle.std.specs.Prelude.{◌≡◌, ◌⊎◌, ℕ, Bool, true, not, ◌||◌, List, [], ◌∷◌, filter}
 use Rattle.std.specs.Str.{bytes_eq}
 use Rattle.kernel_types.specs.declared.object.Tag.{Tag}
@@ -16,8 +17,8 @@ stays network valid (Own att) = not (bytes_eq att.network network) || is_valid v
 abbrev pub goes : List ℕ → List ValidAtt → Tag → Bool
 goes network valid tag = not (stays network valid tag)
 
--- the host without the objects of the network's attachments outside the valid list; the lasts stay. The code never makes
--- it: it lists owners and deletes single objects.
+-- the host without the objects of the network's attachments outside the valid list; the lasts stay. The code never
+-- makes it: it lists owners and deletes single objects.
 abbrev pub keep : List ℕ → List ValidAtt → Host → Host
 keep network valid host = record host {
   namespaces = filter (λ n. stays network valid n.tag) host.namespaces;

@@ -1,4 +1,5 @@
--- Members of a command, each with its refusal: the place is the command's, `outer` the command's key that holds the member.
+-- Members of a command, each with its refusal: the place is the command's, `outer` the command's key that holds the
+-- member.
 use Rattle.std.specs.Prelude.{ℕ, List, [], codes, Result, Ok, ⊤}
 use Rattle.serde_json.specs.Data.{Data, Items}
 use Rattle.cni_json.specs.Fields.{text_field, list_field, u64_field, object_or}

@@ -1,5 +1,5 @@
-//! What every pod file that is read keeps. The function does nothing: what it ensures is the law, and a proof above this
-//! crate gets it by calling the function, or by the lemma that its answer names.
+//! What every pod file that is read keeps. The function does nothing: what it ensures is the law, and a proof above
+//! this crate gets it by calling the function, or by the lemma that its answer names.
 
 ghost use Rattle.std.specs.Prelude.{◌≡◌, ℕ, List, Ok};
 ghost use Rattle.pod_file.specs.PodFile.{pods_of};

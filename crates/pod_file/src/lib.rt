@@ -1,9 +1,10 @@
 //! Pod files: an opening host, and rounds of commands for containers' attachments.
 //!
 //! What it promises above: [`read_pods`] gives exactly the pod file that the definition `pods_of` of the bytes is
-//! (`specs/PodFile.antt`), or its first refusal with the place that is wrong, for every byte string. The types carry every
-//! field of a command, also those that its verb doesn't use, and a copy of a command equals it. Every pod file that is read
-//! is well formed ([`pod_file_laws`]): its opening is a sound host, and its commands are numbered from 1 in file order.
+//! (`specs/PodFile.antt`), or its first refusal with the place that is wrong, for every byte string. The types carry
+//! every field of a command, also those that its verb doesn't use, and a copy of a command equals it. Every pod file
+//! that is read is well formed ([`pod_file_laws`]): its opening is a sound host, and its commands are numbered from 1
+//! in file order.
 //!
 //! ```text
 //! let pods = read_pods(alloc, b"{\"rounds\":[[{\"verb\":\"DEL\",\"network\":\"pods\",\"container\":\"c1\"}]]}")?;

@@ -77,7 +77,8 @@ RunsFrom p n c before own = (list : NetList) → list_for p c.command ≡ Some l
 
 -- ---- so its entries stand together
 
--- the history up to the command's last entry is one without it, and then its entries, which are a run from the host there
+-- the history up to the command's last entry is one without it, and then its entries, which are a run from the host
+-- there
 pub record StandsTogether (p : Plan) (h : List Entry) (n : ℕ) (c : Placed) : Type 0 where
   pub before : List Entry
   pub until : until_last n h ≡ before ++ own_entries n h

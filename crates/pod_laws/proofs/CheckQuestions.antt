@@ -44,7 +44,8 @@ use Rattle.pod_laws.proofs.SteadyHosts.{KeepsAsked}
 
 -- ---- one question
 
--- its reply is a truth value, a denial names what is missing, and it stays granted while the host keeps what the command asks
+-- its reply is a truth value, a denial names what is missing, and it stays granted while the host keeps what the
+-- command asks
 pub record IsSteadyQuestion (c : Command) (q : Question) : Type 0 where
   pub told : tells q.call ≡ true
   pub what : Missed

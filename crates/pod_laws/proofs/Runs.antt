@@ -30,7 +30,8 @@ use Rattle.pod_laws.proofs.Turns.{alone-collecting, alone-outside, other-entered
 
 -- ---- what a host keeps for a run between its entries
 
--- it is kept where nothing happens, and where a call of another command leaves the attachment's share, and neither stands alone
+-- it is kept where nothing happens, and where a call of another command leaves the attachment's share, and neither
+-- stands alone
 pub record IsKeptBeside (R : Keeping) : Type 0 where
   pub same : (c : Command) (host : Host) → R c host host
   pub beside : (w : World) (n : ℕ) (c : Placed) (list : NetList) (call : Call) (faulty : Bool) (d : Command) (old : Host) → GoesOn w n c list call faulty → is_exclusive_verb d.verb ≡ false

@@ -1,4 +1,5 @@
--- What a command asks of a host stays between its entries: its attachment's share, each bridge, and all where it stands alone.
+-- What a command asks of a host stays between its entries: its attachment's share, each bridge, and all where it stands
+-- alone.
 use Rattle.std.proofs.Common.{◌≡◌, ℕ, Bool, true, false, not, List, [], ◌∷◌, refl, ◌∙◌, ap, inl, inr, arith}
 use Rattle.std.specs.Prelude.{◌&&◌}
 use Rattle.std.specs.List.{list_any}

@@ -28,7 +28,8 @@ use Rattle.pod_workers.proofs.StepsLeft.{host-made}
 
 -- ---- a step that makes an entry
 
--- the command at place n, of this list, is ready and makes this call next, which may be made where no fault is listed for it
+-- the command at place n, of this list, is ready and makes this call next, which may be made where no fault is listed
+-- for it
 pub record GoesOn (w : World) (n : ℕ) (c : Placed) (list : NetList) (call : Call) (faulty : Bool) : Type 0 where
   pub legal : Legal w
   pub ready : IsReady w n c

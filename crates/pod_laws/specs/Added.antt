@@ -19,8 +19,8 @@ use Rattle.pod_workers.specs.World.{World, own_replies}
 use Rattle.pod_laws.specs.Moments.{host_at_end, own_entries}
 use Rattle.pod_laws.specs.Refused.{lets_go_on}
 
--- It was leased one address a range set, no two the same, and these decide its result. At its last entry its attachment has
--- exactly the objects that they ask for, list by list, in order. No entry refused it.
+-- It was leased one address a range set, no two the same, and these decide its result. At its last entry its attachment
+-- has exactly the objects that they ask for, list by list, in order. No entry refused it.
 pub record HasMade (w : World) (n : ℕ) (c : Command) (list : NetList) (r : AddResult) : Type 0 where
   pub verb : c.verb ≡ verbs.Add
   pub words : add_refusal c ≡ None

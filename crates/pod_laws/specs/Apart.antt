@@ -28,13 +28,15 @@ leaves_others verbs.Drop = false
 leaves_others verbs.Flush = false
 leaves_others verb = true
 
--- each entry of an ADD, a DEL, a CHECK or a STATUS leaves the objects of every other attachment, from the start of its run
+-- each entry of an ADD, a DEL, a CHECK or a STATUS leaves the objects of every other attachment, from the start of its
+-- run
 abbrev pub EachEntryLeavesOthers : Type 0
 EachEntryLeavesOthers = (w : World) → Legal w → (n : ℕ) (c : Placed) (before later : List Entry) (e : Entry) (other : Att)
     → slice_get (commands_of w.plan) n ≡ Some c → e.command ≡ n + 1 → leaves_others c.command.verb ≡ true → att_eq (att_of c.command) other ≡ false → w.history ≡ before ++ e ∷ later
     → share_of other (after w.plan.pods.opening (before ++ e ∷ [])) ≡ share_of other (after w.plan.pods.opening before)
 
--- each entry of a garbage collection leaves all that it keeps, list by list (CNI specification, section 3, "Garbage-collecting unused resources")
+-- each entry of a garbage collection leaves all that it keeps, list by list (CNI specification, section 3,
+-- "Garbage-collecting unused resources")
 abbrev pub EachCollectionTakesTheStaleAlone : Type 0
 EachCollectionTakesTheStaleAlone = (w : World) → Legal w → (n : ℕ) (c : Placed) (before later : List Entry) (e : Entry)
     → slice_get (commands_of w.plan) n ≡ Some c → e.command ≡ n + 1 → c.command.verb ≡ verbs.Gc → w.history ≡ before ++ e ∷ later

@@ -54,7 +54,8 @@ last_begun att (e ∷ es) = option_or (last_begun att es) (if begins att e then 
 
 -- ---- what it asks for
 
--- the links of an ADD as a first part of its calls after the leases leaves them: as they were made, or with the values of `tuning`
+-- the links of an ADD as a first part of its calls after the leases leaves them: as they were made, or with the values
+-- of `tuning`
 abbrev pub links_after_part : NetList → Command → List Call → List Link
 links_after_part list c made = (share_after_calls (record no_objects { links = untuned list (att_of c) c.netns }) made).links
 
@@ -74,7 +75,8 @@ pub record AreAskedFor (list : NetList) (c : Command) (given : List Addr) (objec
   pub leases : AreAmong objects.leases (wanted list (att_of c) c.netns (mappings_of list c) given).leases
   pub cached : AreAmong objects.cached (wanted list (att_of c) c.netns (mappings_of list c) given).cached
 
--- the last ADD of the attachment whose Begin was done asks for all that the attachment has, with the addresses leased to it so far
+-- the last ADD of the attachment whose Begin was done asks for all that the attachment has, with the addresses leased
+-- to it so far
 pub record IsAskedFor (p : Plan) (h : List Entry) (att : Att) : Type 0 where
   pub place : ℕ
   pub by : Placed

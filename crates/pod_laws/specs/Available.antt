@@ -45,7 +45,8 @@ pub record LacksService (list : NetList) (c : Command) (host : Host) (ending : E
   pub code : code_of question.lack ≡ 50
   pub ending_is : ending ≡ Refused question.lack
 
--- how a STATUS ends: a list of an older version has no such verb (code 1), and else by a fault, or by what the host has to give
+-- how a STATUS ends: a list of an older version has no such verb (code 1), and else by a fault, or by what the host has
+-- to give
 abbrev pub EndsStatus : NetList → Command → List Entry → Host → Version → Ending → Type 0
 EndsStatus list c entries host V1_0 ending = (entries ≡ []) × (ending ≡ Refused (causes.TooOld V1_0))
 EndsStatus list c entries host V1_1 ending = EndsByFault entries (has_fault entries) ending (EndsByTest (is_available list c host) ending (LacksService list c host ending))

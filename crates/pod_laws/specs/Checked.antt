@@ -66,7 +66,8 @@ holds_cached list c cached host = has_bridge_of host list.first cached.result.in
 
 -- ---- the ending
 
--- an object is missing (code 110), and named is the first: of bridge, links, addresses, routes, rules, settings and leases
+-- an object is missing (code 110), and named is the first: of bridge, links, addresses, routes, rules, settings and
+-- leases
 pub record LacksObject (list : NetList) (c : Command) (cached : Cached) (host : Host) (ending : Ending) : Type 0 where
   pub question : Question
   pub first : IsFirstDenied host (check_questions list c cached) question

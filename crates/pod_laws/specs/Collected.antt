@@ -1,4 +1,5 @@
--- What a garbage collection leaves and answers, wherever it stands in a history (CNI specification, section 3, "Garbage-collecting unused resources").
+-- What a garbage collection leaves and answers, wherever it stands in a history (CNI specification, section 3,
+-- "Garbage-collecting unused resources").
 use Rattle.std.specs.Prelude.{◌≡◌, ◌≢◌, ℕ, ◌+◌, ◌≤◌, ◌⊎◌, true, false, List, [], length, map, Some, slice_get}
 use Rattle.cni_result.specs.declared.version.Version.TheVariants.{V1_0, V1_1}
 use Rattle.cni_verbs.specs.Answers.{error_of}
@@ -61,7 +62,8 @@ pub record IsFaulty (list : NetList) (c : Command) (entries : List Entry) (new :
 abbrev pub IsCollectionAnswer : NetList → Command → List Entry → Host → Host → Answer → Type 0
 IsCollectionAnswer list c entries old new a = IsTooOld list c entries a ⊎ (IsDisabled list entries a ⊎ (IsClean list c entries old new a ⊎ (IsFaulty list c entries new a ⊎ (is_cut_off a ≡ true))))
 
--- each answer of a collection is of one of these kinds, from the host right before its first entry to the one right after its last
+-- each answer of a collection is of one of these kinds, from the host right before its first entry to the one right
+-- after its last
 abbrev pub CollectionsAreAnswered : Type 0
 CollectionsAreAnswered = (w : World) → Legal w → (n : ℕ) (c : Placed) (list : NetList) (a : Answer)
     → slice_get (commands_of w.plan) n ≡ Some c → list_for w.plan c.command ≡ Some list → c.command.verb ≡ verbs.Gc → slice_get w.answers n ≡ Some (Some a)
@@ -74,7 +76,8 @@ abbrev pub CollectionsAreBounded : Type 0
 CollectionsAreBounded = (w : World) → Legal w → (n : ℕ) (c : Placed)
     → slice_get (commands_of w.plan) n ≡ Some c → c.command.verb ≡ verbs.Gc → own_entries n w.history ≢ [] → Bounds c.command (host_at_start w n) (host_at_end w n)
 
--- and it made at most six calls; for each stale attachment that owned an object at its start seven more than its list has kinds; and one for each object that is not kept
+-- and it made at most six calls; for each stale attachment that owned an object at its start seven more than its list
+-- has kinds; and one for each object that is not kept
 abbrev pub CollectionsAreShort : Type 0
 CollectionsAreShort = (w : World) → Legal w → (n : ℕ) (c : Placed) (list : NetList)
     → slice_get (commands_of w.plan) n ≡ Some c → list_for w.plan c.command ≡ Some list → c.command.verb ≡ verbs.Gc → own_entries n w.history ≢ []
@@ -90,7 +93,8 @@ pub record AreInARow (d c : Placed) : Type 0 where
   pub network : d.command.network ≡ c.command.network
   pub valid : d.command.valid ≡ c.command.valid
 
--- where the second is answered without an error, it leaves what the first was to keep, whatever the first came to once it had made a call
+-- where the second is answered without an error, it leaves what the first was to keep, whatever the first came to once
+-- it had made a call
 abbrev pub CollectionsInARowKeep : Type 0
 CollectionsInARowKeep = (w : World) → Legal w → (m n : ℕ) (d c : Placed)
     → slice_get (commands_of w.plan) m ≡ Some d → slice_get (commands_of w.plan) n ≡ Some c → AreInARow d c → own_entries m w.history ≢ [] → slice_get w.answers n ≡ Some (Some answers.Yes)

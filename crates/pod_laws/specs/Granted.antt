@@ -1,4 +1,5 @@
--- What a kernel grants of questions, and that asking changes nothing (CNI specification, section 3, "Checking attachment" and "Status").
+-- What a kernel grants of questions, and that asking changes nothing (CNI specification, section 3, "Checking
+-- attachment" and "Status").
 use Rattle.std.specs.Prelude.{◌≡◌, ℕ, ◌+◌, Bool, true, false, List, [], ◌∷◌, ◌++◌, Some, slice_get}
 use Rattle.std.specs.List.{list_all}
 use Rattle.cni_verbs.specs.declared.answer.Question.{Question}

@@ -1,4 +1,5 @@
--- Why an ADD was refused, and what it left (CNI specification, section 5, "Error"; the codes from 100 on are this project's own).
+-- Why an ADD was refused, and what it left (CNI specification, section 5, "Error"; the codes from 100 on are this
+-- project's own).
 use Rattle.std.specs.Prelude.{◌≡◌, ◌≢◌, ℕ, ◌+◌, ◌⊎◌, Bool, true, false, List, [], ◌∷◌, ◌++◌, length, Some, None, slice_get}
 use Rattle.std.specs.List.{list_all}
 use Rattle.cni_addr.specs.declared.range.RangeSet.{RangeSet}
@@ -95,8 +96,8 @@ BeginLeavesTheHost = (host : Host) (att : Att) (netns : List ℕ) (n : ℕ) (rep
 
 -- ---- all answers
 
--- An ADD is answered a result or a refusal, unless memory was refused or it was stopped. So one that was neither refused
--- memory nor stopped is refused exactly where its words or an entry refuse it.
+-- An ADD is answered a result or a refusal, unless memory was refused or it was stopped. So one that was neither
+-- refused memory nor stopped is refused exactly where its words or an entry refuse it.
 abbrev pub IsResultOrCutOff : Answer → Type 0
 IsResultOrCutOff a = ((result : AddResult) × (a ≡ answers.Added result)) ⊎ (is_cut_off a ≡ true)
 

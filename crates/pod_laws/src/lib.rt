@@ -8,8 +8,8 @@
 //! (`specs/Changed.antt`). Of every moment it promises that an attachment has only what its last ADD that began asks
 //! for (`specs/AskedFor.antt`), which entries leave the other attachments and what none owns (`specs/Apart.antt`), that
 //! asking changes nothing (`specs/Granted.antt`), that each last address is a candidate of its set
-//! (`specs/Lasts.antt`), and of every run how many calls it makes at most (`specs/Bounded.antt`). What the laws share of
-//! answers is in `specs/Answers.antt`. Each law stands on a function that does nothing.
+//! (`specs/Lasts.antt`), and of every run how many calls it makes at most (`specs/Bounded.antt`). What the laws share
+//! of answers is in `specs/Answers.antt`. Each law stands on a function that does nothing.
 //!
 //! ```text
 //! an_added_attachment_is_made() // a proof above gets the law by calling it

@@ -1,4 +1,5 @@
--- What is printed of a world: one JSON object a line, for the commands in file order, for the history, and for the host.
+-- What is printed of a world: one JSON object a line, for the commands in file order, for the history, and for the
+-- host.
 use Rattle.std.specs.Prelude.{ℕ, ◌+◌, Bool, true, List, [], ◌∷◌, ◌++◌, codes, Option, Some, None, if◌then◌else◌}
 use Rattle.std.specs.List.{flat_map}
 use Rattle.serde_json.specs.Data.{Data, boolean, object, Members, no_members, put}

@@ -1,4 +1,5 @@
--- Every call that is left to a run may be made, whatever the host; a lease and a question about a pool ask for the pool of their set besides.
+-- Every call that is left to a run may be made, whatever the host; a lease and a question about a pool ask for the pool
+-- of their set besides.
 use Rattle.std.proofs.Common.{◌≡◌, ℕ, ◌+◌, Bool, true, false, not, List, [], ◌∷◌, ◌++◌, length, Option, Some, None, refl, sym, ◌∙◌, ap, arith}
 use Rattle.std.proofs.lemmas.Option.{none-some}
 use Rattle.std.proofs.lemmas.List.{append_assoc, length_push}

@@ -1,4 +1,5 @@
--- The calls of an ADD after its Begin are planned: each is of its attachment or of what all share, and its links have the shapes that a kernel takes.
+-- The calls of an ADD after its Begin are planned: each is of its attachment or of what all share, and its links have
+-- the shapes that a kernel takes.
 use Rattle.std.proofs.Common.{◌≡◌, ℕ, Bool, true, false, not, List, [], ◌∷◌, ◌++◌, map, Option, Some, None, refl, arith}
 use Rattle.std.proofs.lemmas.Bool.{and_parts, not-true}
 use Rattle.std.specs.Prelude.{if◌then◌else◌, ◌&&◌}

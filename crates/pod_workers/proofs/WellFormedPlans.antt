@@ -1,4 +1,5 @@
--- What a well-formed plan keeps: pools of addresses apart, commands numbered from 1, exclusive ones alone in their rounds, and bounds.
+-- What a well-formed plan keeps: pools of addresses apart, commands numbered from 1, exclusive ones alone in their
+-- rounds, and bounds.
 use Rattle.std.proofs.Common.{◌≡◌, ◌∙◌, ◌≤◌, ◌+◌, ◌++◌, ℕ, Bool, true, List, [], ◌∷◌, map, length, refl, sym, ap, arith, Option, Some, None, slice_get, option_map}
 use Rattle.std.specs.List.{All, list_all}
 use Rattle.std.proofs.lemmas.Bool.{and_from}

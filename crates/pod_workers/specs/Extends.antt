@@ -35,7 +35,8 @@ pub record Extends (from w : World) : Type 0 where
   pub answers_stand : KeepsAnswers from.answers w.answers
   pub others : KeepsOtherRounds from w
 
--- the current round of this world was done, and the next is current: no command of it has made an entry or has an answer
+-- the current round of this world was done, and the next is current: no command of it has made an entry or has an
+-- answer
 pub record Rounds (from w : World) : Type 0 where
   pub last : World
   pub legal : Legal last

@@ -102,8 +102,9 @@ pub record GoesByRounds (w : World) : Type 0 where
 abbrev pub AreOfOneContainer : Placed → Placed → Type 0
 AreOfOneContainer d c = IsOf d c.round c.command.container
 
--- In each container of a round one command goes after another (CNI specification, section 3, "Lifecycle & Ordering"): one that
--- has a call or an answer finds each earlier one answered, one that has a call finds it done, and entries stand in file order.
+-- In each container of a round one command goes after another (CNI specification, section 3, "Lifecycle & Ordering"):
+-- one that has a call or an answer finds each earlier one answered, one that has a call finds it done, and entries
+-- stand in file order.
 pub record GoesOneByOne (w : World) : Type 0 where
   pub first : (m n : ℕ) (d c : Placed) → m < n → slice_get (commands_of w.plan) m ≡ Some d → slice_get (commands_of w.plan) n ≡ Some c → AreOfOneContainer d c
       → IsUntouched w n ⊎ IsAnswered w m

@@ -11,7 +11,8 @@ pub record IsBegun (w : World) : Type 0 where
   pub unanswered : AllNone w.answers
   pub round : w.round ≡ 0
 
--- a book is begun; a ready command makes its step, or is refused memory for it; a round that is over gives way to the next
+-- a book is begun; a ready command makes its step, or is refused memory for it; a round that is over gives way to the
+-- next
 pub data Legal : World → Type 0 where
   begins : (w : World) → IsBegun w → Legal w
   steps : (v w : World) (n : ℕ) (c : Placed) → Legal v → IsReady v n c → w ≡ stepped v n c.command → Legal w

@@ -6,7 +6,8 @@ use Rattle.pod_workers.specs.Legal.{Legal}
 use Rattle.pod_workers.specs.Plans.{Placed, commands_of}
 use Rattle.pod_workers.specs.World.{World, IsAnswered, IsReady, stepped}
 
--- each command's entries stand together, commands stand in file order, and none is left half done for a later one of its round
+-- each command's entries stand together, commands stand in file order, and none is left half done for a later one of
+-- its round
 pub record IsInFileOrder (w : World) : Type 0 where
   pub entries : EachTwo w.plan w.history (λ number m d n c. m ≤ n)
   pub before : EachIsDoneBefore w (λ d c. d.round ≡ c.round)

@@ -45,7 +45,8 @@ list_for p c = list_in p.lists c
 
 -- ---- well-formed plans
 
--- its lists and its pods keep what those keep that are read, no two lists have one name, and the network of each command has its list
+-- its lists and its pods keep what those keep that are read, no two lists have one name, and the network of each
+-- command has its list
 pub record IsWellFormed (p : Plan) : Type 0 where
   pub lists : All IsWellFormedList p.lists
   pub pods : IsWellFormedPods p.pods

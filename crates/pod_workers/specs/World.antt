@@ -127,7 +127,8 @@ AllNone {T} xs = (n : ℕ) (o : Option T) → slice_get xs n ≡ Some o → o �
 abbrev pub Blocks : Placed → Option Answer → ℕ → List ℕ → Type 0
 Blocks d o round container = IsOf d round container × (o ≡ None)
 
--- the command at place n is of the current round and has no answer, and each earlier one of its container in the round has one
+-- the command at place n is of the current round and has no answer, and each earlier one of its container in the round
+-- has one
 pub record MayStep (commands : List Placed) (answers : List (Option Answer)) (round n : ℕ) (c : Placed) : Type 0 where
   pub there : slice_get commands n ≡ Some c
   pub current : c.round ≡ round

@@ -31,7 +31,8 @@ Reported old new before now (Text book bytes) outcome =
     (outcome.book ≡ Some book) × Reports old new before now bytes.items (status_of book.answers) outcome.status
 Reported old new before now NoMemory outcome = (outcome.book ≡ None) × (outcome.status ≡ 6) × (new ≡ old)
 
--- the text of the plan's book, every round of which is over, or memory ran out; where so many threads keep the file's order, its commands went in it
+-- the text of the plan's book, every round of which is over, or memory ran out; where so many threads keep the file's
+-- order, its commands went in it
 abbrev pub SettlesPlan : (keeps : ℕ → Type 0) → Words → Plan → Due → Type 0
 SettlesPlan keeps words plan (Text book bytes) =
     (book.plan ≡ plan) × (length plan.pods.rounds ≤ book.round) × Legal book × (keeps words.threads → IsInFileOrder book) × (bytes.items ≡ text_of book words.trace words.dump)

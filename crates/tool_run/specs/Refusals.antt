@@ -1,4 +1,5 @@
--- Why a file or a plan is refused, as an error (CNI specification, section 5, "Error"). The texts are this project's own.
+-- Why a file or a plan is refused, as an error (CNI specification, section 5, "Error"). The texts are this project's
+-- own.
 use Rattle.std.specs.Prelude.{ℕ, List, [], ◌++◌, codes, decimal, slice_index_or}
 use Rattle.cni_result.specs.declared.error.CniError.{CniError}
 use Rattle.cni_result.specs.declared.version.Version.TheVariants.{V1_1}

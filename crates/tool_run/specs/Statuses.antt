@@ -61,7 +61,8 @@ Completes usage status = IsAmong status (2 ∷ 6 ∷ [])
 Completes (line bytes) status = IsAmong status (3 ∷ 6 ∷ [])
 Completes (carry plan trace dump) status = IsAmong status (0 ∷ 1 ∷ 6 ∷ 8 ∷ [])
 
--- words, files and the count of their faults before and now, the sink's bytes and the count of its faults before and now
+-- words, files and the count of their faults before and now, the sink's bytes and the count of its faults before and
+-- now
 pub record Sides : Type 0 where
   pub words : List (List ℕ)
   pub files : Option StoredFiles

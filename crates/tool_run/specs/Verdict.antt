@@ -75,7 +75,8 @@ plan_of files words = do
   lists ← lists_in files words.lists
   told_plan words pods lists
 
--- the words aren't taken; a line tells what is refused; or a plan is carried out, and printed with its trace and dump where asked
+-- the words aren't taken; a line tells what is refused; or a plan is carried out, and printed with its trace and dump
+-- where asked
 pub data Verdict : Type 0 where
   usage : Verdict
   line : List ℕ → Verdict

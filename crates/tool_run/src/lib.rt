@@ -1,8 +1,9 @@
-//! The top call of the program `cnitool`: words, files, a plan that is carried out on the modelled kernel, and the text.
+//! The top call of the program `cnitool`: words, files, a plan that is carried out on the modelled kernel, and the
+//! text.
 //!
-//! What it promises above: [`run`] by several threads, if it returns, and [`run_alone`] by one give each exit status its
-//! cause (`HasCauses`, `specs/Statuses.antt`), and at 6, want of memory, nothing was written. Where files and sink tell
-//! their bytes, what is written is the text of a legal book of exactly the plan that the definition `verdict_of`
+//! What it promises above: [`run`] by several threads, if it returns, and [`run_alone`] by one give each exit status
+//! its cause (`HasCauses`, `specs/Statuses.antt`), and at 6, want of memory, nothing was written. Where files and sink
+//! tell their bytes, what is written is the text of a legal book of exactly the plan that the definition `verdict_of`
 //! (`specs/Verdict.antt`) makes of the words and the files, or the one line that it gives in place of a plan. Where no
 //! read and no write failed, nothing but want of memory takes the place of that. Where one thread makes the rounds, the
 //! book's commands go in the order of the file.
