@@ -185,10 +185,8 @@ impl<K: Kernel + Drop> Book<K> {
     }
 
     /// Steps each command of the current round to its answer, in file order, and makes the next round current. It ends,
-    /// since a step gives an answer or enters a call, and each run has so many calls at most: an ADD two a call of its
-    /// plan, one a kind of its plugins' objects, and two; a DEL one a kind, one an object of its attachment, and two; a
-    /// CHECK and a STATUS one a question, and one; a change from outside one; a GC six, and for each object of the host
-    /// eight and one a kind.
+    /// since a step gives an answer or enters a call, and each run has a bounded number of calls
+    /// (`pod_workers/specs/CallsLeft.antt`; in numbers, `each_run_is_bounded` and the laws beside it in `pod_laws`).
     pub fn round_alone(&mut self)
         requires { self.old.round < length self.old.plan.pods.rounds }
         ensures rounds { Rounds self.old self.new }
