@@ -8,7 +8,7 @@ use Rattle.cni_addr.specs.declared.range.RangeSet.{RangeSet}
 use Rattle.net_conf.specs.declared.list.NetList.{NetList}
 use Rattle.kernel_types.specs.Equal.{att_eq}
 use Rattle.kernel_types.specs.Sound.{IsSound}
-use Rattle.kernel_types.specs.Words.{is_own, lease_of}
+use Rattle.kernel_types.specs.Words.{lease_of}
 use Rattle.kernel_types.proofs.Cases.{att_eq-refl}
 use Rattle.kernel_types.proofs.Isolation.{att_eq-same}
 use Rattle.kernel_types.specs.declared.object.Att.{Att}
@@ -43,7 +43,7 @@ use Rattle.pod_laws.proofs.Begins.{all-last, begin-apart, deletion-no_begin, las
 use Rattle.pod_laws.proofs.Causes.{begin-may, plan-may}
 use Rattle.pod_laws.proofs.Entries.{is_of-own, own_entries-own, replies-own_entries}
 use Rattle.pod_laws.proofs.Fronts.{asked-after_leases, asked-before_leases, asked-leasing, asked-removes}
-use Rattle.pod_laws.proofs.OfKinds.{still_none}
+use Rattle.pod_laws.proofs.OfKinds.{share-removes_none}
 use Rattle.pod_laws.proofs.Quiet.{plan-no_lease, lease-no_lease, deletion-no_lease, question-no_lease, outside-no_lease}
 use Rattle.pod_laws.proofs.Removes.{OnlyRemoves, removes-deletion, removes-nothing}
 use Rattle.pod_laws.proofs.States.{LeftFit, is_question, question-leaves, asked-is_question}
@@ -60,17 +60,6 @@ leases-quiet m h e none = elim (eqb_tells e.command (m + 1)) [
   | inl t ↦ ap leases_in (replies_of-own m h e t.1) ∙ leases-push (replies_of m h) e.reply ∙ ap (λ l. leases_in (replies_of m h) ++ l) none ∙ append-nil (leases_in (replies_of m h))
   | inr f ↦ ap leases_in (replies_of-other m h e f.1)
 ]
-
-share-removes_none : (att : Att) (old new : Host) → OnlyRemoves old new → share_of att old ≡ no_objects → share_of att new ≡ no_objects
-share-removes_none att old new d none =
-    let links = still_none (λ l. is_own att l.tag) (λ l. true) old.links new.links d.links (ap (λ (s : Share). s.links) none) in
-    let addresses = still_none (λ l. is_own att l.tag) (λ l. true) old.addresses new.addresses d.addresses (ap (λ (s : Share). s.addresses) none) in
-    let routes = still_none (λ l. is_own att l.tag) (λ l. true) old.routes new.routes d.routes (ap (λ (s : Share). s.routes) none) in
-    let rules = still_none (λ l. is_own att l.tag) (λ l. true) old.rules new.rules d.rules (ap (λ (s : Share). s.rules) none) in
-    let settings = still_none (λ l. is_own att l.tag) (λ l. true) old.settings new.settings d.settings (ap (λ (s : Share). s.settings) none) in
-    let leases = still_none (λ l. is_own att l.tag) (λ l. true) old.leases new.leases d.leases (ap (λ (s : Share). s.leases) none) in
-    let cached = still_none (λ l. is_own att l.tag) (λ l. true) old.cached new.cached d.cached (ap (λ (s : Share). s.cached) none) in
-    rw (links, addresses, routes, rules, settings, leases, cached) refl
 
 asked-quiet : (p : Plan) (h : List Entry) (e : Entry) (att : Att) → begins att e ≡ false → leases_in (e.reply ∷ []) ≡ [] → OnlyRemoves (after p.pods.opening h) (after p.pods.opening (h ++ e ∷ [])) → HasNothingUnasked p h att
     → HasNothingUnasked p (h ++ e ∷ []) att

@@ -29,6 +29,7 @@ pub mod OwnWanted
 pub mod QuestionRuns
 pub mod Quiet
 pub mod Removes
+pub mod RepeatedEntries
 pub mod Rest
 pub mod RunFacts
 pub mod Runs

@@ -229,3 +229,15 @@ IsWithin-removes att ks old new d w = record {
   leases = λ h. still_none (λ l. is_own att l.tag) (λ l. true) old.leases new.leases d.leases (w.leases h);
   cached = λ h. still_none (λ c. is_own att c.tag) (λ c. true) old.cached new.cached d.cached (w.cached h);
 }
+
+-- what had nothing has nothing
+pub share-removes_none : (att : Att) (old new : Host) → OnlyRemoves old new → share_of att old ≡ no_objects → share_of att new ≡ no_objects
+share-removes_none att old new d none =
+    let links = still_none (λ l. is_own att l.tag) (λ l. true) old.links new.links d.links (ap (λ (s : Share). s.links) none) in
+    let addresses = still_none (λ l. is_own att l.tag) (λ l. true) old.addresses new.addresses d.addresses (ap (λ (s : Share). s.addresses) none) in
+    let routes = still_none (λ l. is_own att l.tag) (λ l. true) old.routes new.routes d.routes (ap (λ (s : Share). s.routes) none) in
+    let rules = still_none (λ l. is_own att l.tag) (λ l. true) old.rules new.rules d.rules (ap (λ (s : Share). s.rules) none) in
+    let settings = still_none (λ l. is_own att l.tag) (λ l. true) old.settings new.settings d.settings (ap (λ (s : Share). s.settings) none) in
+    let leases = still_none (λ l. is_own att l.tag) (λ l. true) old.leases new.leases d.leases (ap (λ (s : Share). s.leases) none) in
+    let cached = still_none (λ l. is_own att l.tag) (λ l. true) old.cached new.cached d.cached (ap (λ (s : Share). s.cached) none) in
+    rw (links, addresses, routes, rules, settings, leases, cached) refl

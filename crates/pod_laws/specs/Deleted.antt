@@ -78,8 +78,7 @@ pub record DeletesOwnAlone (att : Att) (old new : Host) : Type 0 where
   pub removes : RemovesOwn att old new
   pub repeated : share_of att old ≡ no_objects → new ≡ old
 
--- Each entry of a DEL, from the start of its run. So a DEL that is repeated after it was answered Yes changes nothing,
--- until an ADD of that attachment has begun.
+-- each entry of a DEL, from the start of its run
 abbrev pub EachDeletionIsOwn : Type 0
 EachDeletionIsOwn = (w : World) → Legal w → (n : ℕ) (c : Placed) (before later : List Entry) (e : Entry)
     → slice_get (commands_of w.plan) n ≡ Some c → c.command.verb ≡ verbs.Del → e.command ≡ n + 1 → w.history ≡ before ++ e ∷ later

@@ -12,3 +12,4 @@ pub mod Granted
 pub mod Lasts
 pub mod Moments
 pub mod Refused
+pub mod Repeated

@@ -14,6 +14,7 @@ ghost use Rattle.pod_laws.specs.Deleted.{AnswersOfDel, CalmIsDeleted, EachDeleti
 ghost use Rattle.pod_laws.specs.Granted.{EachQuestionLeavesTheHost};
 ghost use Rattle.pod_laws.specs.Lasts.{EachLastIsCandidate};
 ghost use Rattle.pod_laws.specs.Refused.{AnswersOfAdd, BeginLeavesTheHost, UnrefusedIsAdded, WasRefused};
+ghost use Rattle.pod_laws.specs.Repeated.{GoneStaysGone, RepeatedDeletionsLeave};
 
 // ---- ADD
 
@@ -68,10 +69,15 @@ pub fn a_calm_del_is_answered_without_error()
     ensures { CalmIsDeleted }
 {}
 
-/// Each entry of a DEL removes own objects alone, and leaves the host where there are none: a DEL that is repeated
-/// changes nothing.
+/// Each entry of a DEL removes own objects alone, and leaves the host where there are none.
 pub fn a_deletion_removes_own_objects()
     ensures { EachDeletionIsOwn }
+{}
+
+/// After a DEL that was answered without an error, each entry of a later DEL of its attachment leaves the host as it
+/// is, until an ADD of that attachment makes a call.
+pub fn a_repeated_deletion_leaves_the_host()
+    ensures { RepeatedDeletionsLeave }
 {}
 
 // ---- GC
@@ -108,6 +114,12 @@ pub fn a_second_collection_finishes_the_first()
 /// attachment whose Begin was done, with the addresses that it was leased so far.
 pub fn nothing_is_unasked()
     ensures { NothingIsUnasked }
+{}
+
+/// An attachment that has nothing at some moment has nothing until an ADD of that attachment makes a call, whatever
+/// other commands and the world outside do.
+pub fn a_gone_attachment_stays_gone()
+    ensures { GoneStaysGone }
 {}
 
 /// Where a list has `tuning` at most once, as every list that is read, each link that an ADD asks for is a wanted one,

@@ -6,7 +6,8 @@
 //! (`specs/Deleted.antt`), what a CHECK found (`specs/Checked.antt`), and what a GC leaves (`specs/Collected.antt`);
 //! what a STATUS found (`specs/Available.antt`), and how a VERSION and a change of the world outside are answered
 //! (`specs/Changed.antt`). Of every moment it promises that an attachment has only what its last ADD that began asks
-//! for (`specs/AskedFor.antt`), which entries leave the other attachments and what none owns (`specs/Apart.antt`), that
+//! for (`specs/AskedFor.antt`), that one that is gone stays gone and a repeated DEL of it changes nothing
+//! (`specs/Repeated.antt`), which entries leave the other attachments and what none owns (`specs/Apart.antt`), that
 //! asking changes nothing (`specs/Granted.antt`), that each last address is a candidate of its set
 //! (`specs/Lasts.antt`), and of every run how many calls it makes at most (`specs/Bounded.antt`). What the laws share
 //! of answers is in `specs/Answers.antt`. Each law stands on a function that does nothing.
@@ -21,10 +22,11 @@ pub mod laws;
 pub use laws::{
     a_calm_del_is_answered_without_error, a_check_tells_what_the_host_holds,
     a_collection_makes_few_calls, a_deleted_attachment_is_gone, a_deletion_fails_by_words_or_fault,
-    a_deletion_removes_own_objects, a_refused_attachment_is_undone,
-    a_second_collection_finishes_the_first, a_status_tells_what_is_available,
-    an_added_attachment_is_made, an_unrefused_add_is_answered_a_result, begin_leaves_the_host,
-    each_add_has_most_calls, each_change_is_answered_by_its_reply, each_change_is_one_call,
+    a_deletion_removes_own_objects, a_gone_attachment_stays_gone, a_refused_attachment_is_undone,
+    a_repeated_deletion_leaves_the_host, a_second_collection_finishes_the_first,
+    a_status_tells_what_is_available, an_added_attachment_is_made,
+    an_unrefused_add_is_answered_a_result, begin_leaves_the_host, each_add_has_most_calls,
+    each_change_is_answered_by_its_reply, each_change_is_one_call,
     each_collection_takes_the_stale_alone, each_entry_keeps_the_rest, each_entry_leaves_others,
     each_last_is_a_candidate, each_link_is_wanted, each_question_leaves_the_host,
     each_run_is_bounded, each_version_is_the_lists, every_add_is_answered,

@@ -1,0 +1,5 @@
+use Rattle.pod_laws.proofs.RepeatedEntries.{gone_stays_gone}
+use Rattle.pod_laws.proofs.laws.a_gone_attachment_stays_gone.Goals as goal
+
+pub returns : goal.returns
+returns c = gone_stays_gone

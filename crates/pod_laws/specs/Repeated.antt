@@ -1,0 +1,35 @@
+-- What is gone stays gone, and a DEL that is repeated changes nothing (CNI specification, section 2, "DEL").
+use Rattle.std.specs.Prelude.{◌≡◌, ℕ, ◌+◌, List, [], ◌∷◌, ◌++◌, Some, slice_get}
+use Rattle.cni_verbs.specs.CommandWords.{att_of}
+use Rattle.cni_verbs.specs.declared.answer.Answer.TheVariants as answers
+use Rattle.kernel_types.specs.declared.object.Att.{Att}
+use Rattle.plan_words.specs.Share.{share_of, no_objects}
+use Rattle.pod_file.specs.declared.command.Verb.TheVariants as verbs
+use Rattle.pod_workers.specs.Legal.{Legal}
+use Rattle.pod_workers.specs.Plans.{Placed, commands_of}
+use Rattle.pod_workers.specs.World.{World, after}
+use Rattle.pod_workers.specs.declared.plan.Entry.{Entry}
+use Rattle.pod_workers.specs.declared.plan.Plan.{Plan}
+use Rattle.pod_laws.specs.Moments.{own_entries, until_last}
+
+-- the attachment has nothing in the host after these entries
+abbrev pub IsGone : Plan → Att → List Entry → Type 0
+IsGone p att h = share_of att (after p.pods.opening h) ≡ no_objects
+
+-- none of these entries is of an ADD of the attachment
+abbrev pub IsWithoutAdd : Plan → Att → List Entry → Type 0
+IsWithoutAdd p att h = (n : ℕ) (c : Placed) → slice_get (commands_of p) n ≡ Some c → c.command.verb ≡ verbs.Add → att_of c.command ≡ att → own_entries n h ≡ []
+
+-- an attachment that has nothing at some moment has nothing until an ADD of it makes a call
+abbrev pub GoneStaysGone : Type 0
+GoneStaysGone = (w : World) → Legal w → (att : Att) (before between later : List Entry)
+    → w.history ≡ before ++ between ++ later → IsWithoutAdd w.plan att between → IsGone w.plan att before → IsGone w.plan att (before ++ between)
+
+-- after the last entry of a DEL that was answered Yes, each entry of a DEL of its attachment leaves the whole host,
+-- until an ADD of it makes a call
+abbrev pub RepeatedDeletionsLeave : Type 0
+RepeatedDeletionsLeave = (w : World) → Legal w → (n m : ℕ) (c d : Placed) (between later : List Entry) (e : Entry)
+    → slice_get (commands_of w.plan) n ≡ Some c → c.command.verb ≡ verbs.Del → slice_get w.answers n ≡ Some (Some answers.Yes)
+    → slice_get (commands_of w.plan) m ≡ Some d → d.command.verb ≡ verbs.Del → att_of d.command ≡ att_of c.command → e.command ≡ m + 1
+    → w.history ≡ until_last n w.history ++ between ++ e ∷ later → IsWithoutAdd w.plan (att_of c.command) between
+    → after w.plan.pods.opening (until_last n w.history ++ between ++ e ∷ []) ≡ after w.plan.pods.opening (until_last n w.history ++ between)
