@@ -7,19 +7,33 @@ ghost use Rattle.tool_words.specs.Command.{IsArg, bare_app, flag_rule, list_rule
 use clap::{Arg, ArgAction, Command, value_parser};
 use std::alloc::{AllocError, Global};
 
+// What the command line calls its options, flags and words.
+
+pub(crate) const THREADS_OPTION: &str = "threads";
+
+pub(crate) const STOP_AT_OPTION: &str = "stop-at";
+
+pub(crate) const TRACE_FLAG: &str = "trace";
+
+pub(crate) const DUMP_FLAG: &str = "dump";
+
+pub(crate) const PODS_WORD: &str = "PODS";
+
+pub(crate) const LISTS_WORD: &str = "LIST";
+
 fn threads<'a>(alloc: Global) -> Arg<'a>
     ensures { IsArg result threads_rule }
 {
-    Arg::new(alloc, "threads")
-        .long("threads")
+    Arg::new(alloc, THREADS_OPTION)
+        .long(THREADS_OPTION)
         .value_parser(value_parser!(u8).range(1..=16))
 }
 
 fn stop_at<'a>(alloc: Global) -> Arg<'a>
     ensures { IsArg result stop_rule }
 {
-    Arg::new(alloc, "stop-at")
-        .long("stop-at")
+    Arg::new(alloc, STOP_AT_OPTION)
+        .long(STOP_AT_OPTION)
         .value_parser(value_parser!(u32).range(1..))
 }
 
@@ -35,13 +49,13 @@ fn flag<'a>(alloc: Global, name: &'a str) -> Arg<'a>
 fn pods<'a>(alloc: Global) -> Arg<'a>
     ensures { IsArg result pods_rule }
 {
-    Arg::new(alloc, "PODS").required(true)
+    Arg::new(alloc, PODS_WORD).required(true)
 }
 
 fn list<'a>(alloc: Global) -> Arg<'a>
     ensures { IsArg result list_rule }
 {
-    Arg::new(alloc, "LIST").num_args(0..)
+    Arg::new(alloc, LISTS_WORD).num_args(0..)
 }
 
 fn bare<'a>(alloc: Global) -> Command<'a>
@@ -59,8 +73,8 @@ pub(crate) fn make_command<'a>(alloc: Global) -> Result<Command<'a>, AllocError>
 {
     let with_threads = bare(alloc).arg(threads(alloc))?;
     let with_stop = with_threads.arg(stop_at(alloc))?;
-    let with_trace = with_stop.arg(flag(alloc, "trace"))?;
-    let with_dump = with_trace.arg(flag(alloc, "dump"))?;
+    let with_trace = with_stop.arg(flag(alloc, TRACE_FLAG))?;
+    let with_dump = with_trace.arg(flag(alloc, DUMP_FLAG))?;
     let with_pods = with_dump.arg(pods(alloc))?;
     let with_list = with_pods.arg(list(alloc))?;
     Ok(with_list)

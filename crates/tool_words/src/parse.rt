@@ -8,7 +8,7 @@ ghost use Rattle.tool_words.specs.Command.{counts_to};
 ghost use Rattle.tool_words.specs.Parse.{Parses, Passes};
 ghost use Rattle.tool_words.specs.Words.{flag_at, lists_at, number_at};
 
-use crate::command::make_command;
+use crate::command::{LISTS_WORD, PODS_WORD, STOP_AT_OPTION, THREADS_OPTION, make_command};
 use crate::words::WordsEnd;
 use clap::ArgMatches;
 use clap::error::ErrorKind;
@@ -36,7 +36,7 @@ pub(crate) fn threads<'a>(matches: &ArgMatches<'a>) -> Option<u8>
     ensures value { result ≡ number_at (codes "threads") (rows_of (found_of matches.now)) }
     ensures range { IfSome result (λ n. (1 ≤ n) × (n ≤ 16)) }
 {
-    matches.get_one("threads")
+    matches.get_one(THREADS_OPTION)
 }
 
 pub(crate) fn stop_at<'a>(matches: &ArgMatches<'a>) -> Option<u32>
@@ -44,7 +44,7 @@ pub(crate) fn stop_at<'a>(matches: &ArgMatches<'a>) -> Option<u32>
     ensures value { result ≡ number_at (codes "stop-at") (rows_of (found_of matches.now)) }
     ensures range { IfSome result (λ n. (1 ≤ n) × (n ≤ 4294967295)) }
 {
-    matches.get_one("stop-at")
+    matches.get_one(STOP_AT_OPTION)
 }
 
 pub(crate) fn flag<'a>(matches: &ArgMatches<'a>, name: &str) -> bool
@@ -58,11 +58,11 @@ pub(crate) fn pods<'a>(matches: &ArgMatches<'a>) -> Option<&'a str>
     ensures { option_map (λ s. s.now) result
         ≡ first_of (codes "PODS") (rows_of (found_of matches.now)) }
 {
-    matches.get_str("PODS")
+    matches.get_str(PODS_WORD)
 }
 
 pub(crate) fn lists<'m, 'a>(matches: &'m ArgMatches<'a>) -> &'m [&'a str]
     ensures { map (λ v. v.now) result.now ≡ lists_at (rows_of (found_of matches.entry.now)) }
 {
-    matches.get_strs("LIST").unwrap_or_default()
+    matches.get_strs(LISTS_WORD).unwrap_or_default()
 }

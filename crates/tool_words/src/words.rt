@@ -3,6 +3,7 @@
 ghost use Rattle.std.specs.Prelude.{◌≡◌, IfOk, map};
 ghost use Rattle.tool_words.specs.Words.{IsWithinLimits, Reads, are_within, asks_generator, words_of};
 
+use crate::command::{DUMP_FLAG, TRACE_FLAG};
 use crate::parse::{flag, lists, parse, pods, stop_at, threads};
 use clap::ArgMatches;
 use cni_addr::{Items, NoMemory, Text};
@@ -58,8 +59,8 @@ pub fn read_words(alloc: Global, words: &[Text]) -> Result<Words, WordsEnd>
         Ok((pods, lists)) => Ok(Words {
             threads: threads(&matches).unwrap_or(1),
             stop_at: stop_at(&matches),
-            trace: flag(&matches, "trace"),
-            dump: flag(&matches, "dump"),
+            trace: flag(&matches, TRACE_FLAG),
+            dump: flag(&matches, DUMP_FLAG),
             pods,
             lists,
         }),
