@@ -96,6 +96,9 @@ mappings_of list c = if list_any takes_mappings list.chained then filter_map map
 abbrev pub any_fault : WordFaults → Bool
 any_fault faults = faults.container || (faults.netns || (faults.ifname || faults.args))
 
+abbrev pub no_faults : WordFaults
+no_faults = record { container = false; netns = false; ifname = false; args = false }
+
 abbrev pub add_faults : Command → WordFaults
 add_faults c = record {
   container = not (is_container_id c.container);
@@ -105,7 +108,7 @@ add_faults c = record {
 }
 
 abbrev pub del_faults : Command → WordFaults
-del_faults c = record { container = not (is_container_id c.container); netns = false; ifname = not (is_interface_name c.ifname); args = false }
+del_faults c = record no_faults { container = not (is_container_id c.container); ifname = not (is_interface_name c.ifname) }
 
 abbrev pub refusal_by : WordFaults → Option Cause
 refusal_by faults = if any_fault faults then Some (BadWords faults) else None
@@ -131,8 +134,8 @@ del_refusal c = refusal_by (del_faults c)
 
 -- why a change of a namespace refuses its words, if it does
 unfoldable pub netns_refusal : Command → Option Cause
-netns_refusal c = refusal_by (record { container = false; netns = is_host_ns c.netns; ifname = false; args = false })
+netns_refusal c = refusal_by (record no_faults { netns = is_host_ns c.netns })
 
 -- why the loss of a link refuses its words, if it does
 unfoldable pub drop_refusal : Command → Option Cause
-drop_refusal c = refusal_by (record { container = false; netns = is_host_ns c.netns; ifname = not (is_interface_name c.ifname); args = false })
+drop_refusal c = refusal_by (record no_faults { netns = is_host_ns c.netns; ifname = not (is_interface_name c.ifname) })

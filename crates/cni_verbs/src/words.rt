@@ -228,6 +228,17 @@ fn any_fault(faults: WordFaults) -> bool
     faults.container || faults.netns || faults.ifname || faults.args
 }
 
+fn no_faults() -> WordFaults
+    ensures { result ≡ words.no_faults }
+{
+    WordFaults {
+        container: false,
+        netns: false,
+        ifname: false,
+        args: false,
+    }
+}
+
 fn add_faults(command: &Command) -> WordFaults
     ensures { result ≡ words.add_faults command.now }
 {
@@ -244,9 +255,8 @@ fn del_faults(command: &Command) -> WordFaults
 {
     WordFaults {
         container: !is_container_id(command.container.as_str()),
-        netns: false,
         ifname: !is_interface_name(command.ifname.as_str()),
-        args: false,
+        ..no_faults()
     }
 }
 
@@ -306,10 +316,8 @@ pub fn netns_refusal(command: &Command) -> Option<Cause>
     ensures { result ≡ words.netns_refusal command.now }
 {
     refusal_by(WordFaults {
-        container: false,
         netns: command.netns.as_str().is_empty(),
-        ifname: false,
-        args: false,
+        ..no_faults()
     })
 }
 
@@ -319,9 +327,8 @@ pub fn drop_refusal(command: &Command) -> Option<Cause>
     ensures { result ≡ words.drop_refusal command.now }
 {
     refusal_by(WordFaults {
-        container: false,
         netns: command.netns.as_str().is_empty(),
         ifname: !is_interface_name(command.ifname.as_str()),
-        args: false,
+        ..no_faults()
     })
 }

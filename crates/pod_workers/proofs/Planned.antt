@@ -18,7 +18,7 @@ use Rattle.kernel_types.specs.declared.call.Call.TheVariants.{NsChange, Outside}
 use Rattle.kernel_types.specs.declared.call.Change.TheVariants.{DropLink}
 use Rattle.kernel_types.specs.declared.object.Table.{Table}
 use Rattle.kernel_types.specs.declared.call.Reply.{Reply}
-use Rattle.cni_verbs.specs.CommandWords.{att_of, add_refusal, any_fault, add_faults, drop_refusal, netns_refusal, refusal_by}
+use Rattle.cni_verbs.specs.CommandWords.{att_of, add_refusal, any_fault, add_faults, drop_refusal, netns_refusal, no_faults, refusal_by}
 use Rattle.cni_verbs.specs.Questions.{check_questions, status_questions}
 use Rattle.cni_verbs.specs.Script.{State, AtBegin, BeforeLeases, Leasing, AfterLeases, ReadingCache, Deleting, FindingEntry, Asking, Changing, Collecting, Over, before_of, back_of, after_leases, leasing, before_leases, asking, state_after, flush_by, outside_of, outside_start, outside_advance, outside_from, outside_after}
 use Rattle.cni_verbs.specs.Wanted.{sets_of}
@@ -124,11 +124,11 @@ names-place f none = no-fault f.container f.netns f.ifname f.args (if-some (any_
 
 netns-place : (c : Command) → netns_refusal c ≡ None → HasPlace c
 unfolding netns_refusal
-netns-place c none = names-place (record { container = false; netns = is_host_ns c.netns; ifname = false; args = false }) none
+netns-place c none = names-place (record no_faults { netns = is_host_ns c.netns }) none
 
 drop-place : (c : Command) → drop_refusal c ≡ None → HasPlace c
 unfolding drop_refusal
-drop-place c none = names-place (record { container = false; netns = is_host_ns c.netns; ifname = not (is_interface_name c.ifname); args = false }) none
+drop-place c none = names-place (record no_faults { netns = is_host_ns c.netns; ifname = not (is_interface_name c.ifname) }) none
 
 outside-flush : (o : Option Table) → LeftIsOutside (flush_by o)
 outside-flush None = tt
