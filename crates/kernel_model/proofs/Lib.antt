@@ -1,5 +1,5 @@
 pub mod ListTests
 pub mod LeavingLinks
-pub mod Owners
+pub mod TaggedOwners
 pub mod NeverFault
 pub mod OnLeavingLinks

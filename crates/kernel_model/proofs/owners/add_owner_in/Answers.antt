@@ -5,7 +5,7 @@ use Rattle.cni_addr.specs.Lists.{each_key_once, push_unless_there}
 use Rattle.kernel_types.specs.Equal.{att_eq}
 use Rattle.kernel_types.specs.Apply.Calls.{owner_in}
 use Rattle.kernel_types.specs.declared.object.Att.{Att}
-use Rattle.kernel_model.proofs.Owners.{owners-more, owners-same}
+use Rattle.kernel_model.proofs.TaggedOwners.{owners-more, owners-same}
 use Rattle.kernel_model.proofs.owners.add_owner_in.Goals as goal
 
 pub returns-in_ok-add_owner : goal.returns-in_ok-add_owner
