@@ -15,6 +15,8 @@ pub mod laws;
 pub mod leases;
 pub mod results;
 pub mod rows;
+#[cfg(test)]
+mod tests;
 
 pub use leases::{given, given_of, lease_calls, release_kinds};
 pub use results::{ipam_result, ips_of};
