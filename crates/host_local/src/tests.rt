@@ -89,8 +89,9 @@ fn means(network: u32, number: u32) -> Given {
 /// What the address means, where it is a candidate of the set.
 fn given_candidate(rt: &impl Abort, conf: &HostLocalConf, number: u32, addr: &Addr) -> Given {
     let sets = conf.sets.as_slice();
-    assert!(rt; (number as usize) < sets.len());
-    assert!(rt; contains_candidate(&sets[number as usize], addr));
+    let place = number as usize;
+    assert!(rt; place < sets.len());
+    assert!(rt; contains_candidate(&sets[place], addr));
     given(conf, number, addr)
 }
 
