@@ -20,7 +20,7 @@ use Rattle.cni_verbs.specs.Script.{State, AtBegin, BeforeLeases, Leasing, AfterL
 use Rattle.cni_verbs.specs.Wanted.{deletion}
 use Rattle.pod_workers.specs.Legal.{Legal}
 use Rattle.pod_workers.specs.Plans.{Placed}
-use Rattle.pod_workers.specs.World.{World, after, entry_of, host_of, host_on}
+use Rattle.pod_workers.specs.World.{World, entry_of, host_of, host_on}
 use Rattle.pod_workers.specs.declared.plan.Entry.{Entry}
 use Rattle.pod_workers.specs.declared.plan.Plan.{Plan}
 use Rattle.pod_workers.proofs.Histories.{after-append}
