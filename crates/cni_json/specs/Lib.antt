@@ -4,4 +4,5 @@ pub mod Json
 pub mod Laws
 pub mod Outcome
 pub mod ReadEnds
+pub mod Readers
 pub mod WellFormed

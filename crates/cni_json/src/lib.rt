@@ -7,6 +7,7 @@
 //! - `read` gives `json_of` of the bytes, in both directions: `Decode` exactly where they have no
 //!   reading, and `Number` exactly where a number of the reading is neither a `u64` nor an `i64`.
 //! - `field_str` and its kin give `text_field` and its kin of the value, and take no memory.
+//! - `read_each` gives `each` of what its function gives of a member, up to the first refusal.
 //! - `line` writes `line_of` of the value.
 //! - What a line was written for is what it is read as (`a_line_is_read_again`), and the keys of
 //!   each object that is read ascend (`keys_ascend`).
@@ -14,7 +15,7 @@
 //! Each of these words is a definition in `specs/` that computes on literals, under `unfolding
 //! cni_json_on_literals`. `GivesAs` of `specs/Outcome.antt` says that an outcome is the wanted one
 //! or want of memory. Each enum of errors can use it, by its own test of which of its errors are
-//! want of memory.
+//! want of memory, which [`Refusal`] has for readers that serve any of them.
 //!
 //! ```text
 //! let list = read(alloc, b"{\"name\":\"pods\",\"mtu\":1500,\"dns\":null}")?;
@@ -28,13 +29,17 @@
 
 mod fields;
 mod laws;
+mod lists;
 mod reading;
+mod refusal;
 #[cfg(test)]
 mod tests;
 mod writing;
 
 pub use fields::{Field, field_bool, field_list, field_object, field_str, field_u64};
 pub use laws::{a_line_feed_is_space, a_line_is_read_again, keys_ascend};
+pub use lists::{read_each, read_each_placed};
 pub use reading::{ReadEnd, read};
+pub use refusal::Refusal;
 pub use serde_json::{Map, Value};
 pub use writing::{LineNoMemory, line};

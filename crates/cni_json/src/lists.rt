@@ -1,0 +1,50 @@
+//! Lists of members, each read up to the first refusal.
+
+ghost use Rattle.std.specs.Prelude.{ℕ, Result};
+ghost use Rattle.serde_json.specs.Data.{Data};
+ghost use Rattle.serde_json.specs.View.{items_view};
+ghost use Rattle.cni_json.specs.Each.{each, each_from};
+ghost use Rattle.cni_json.specs.Outcome.{GivesAs};
+ghost use Rattle.cni_json.specs.Readers.{IsPlacedReader, IsReader};
+
+use crate::refusal::Refusal;
+use cni_addr::Items;
+use serde_json::Value;
+use std::alloc::Global;
+
+/// The members in order, each as the function reads it, up to the first refusal. A function whose calls give as
+/// `wanted` wants reads the list as `each wanted` wants.
+#[tactic(auto, using(crate::proofs::Steps::steps))]
+pub fn read_each<T: Drop, E: Refusal, R: Fn(&Value) -> Result<T, E>>(
+    alloc: Global,
+    list: &[Value],
+    read: R,
+) -> Result<Items<T>, E>
+    requires { R.IsAlwaysCallable read }
+    ensures { (wanted : Data → Result T E) → IsReader E.is_want_of_memory R.Fn read wanted
+        → GivesAs E.is_want_of_memory (λ xs. xs) result (each wanted (items_view list.now)) }
+{
+    let mut found = Items::new(alloc);
+    for member in list {
+        found.push(read(member)?)?;
+    }
+    Ok(found)
+}
+
+/// The same, by a function that takes the member's place from 0 too: it reads the list as `each_from wanted 0` wants.
+#[tactic(auto, using(crate::proofs::Steps::steps))]
+pub fn read_each_placed<T: Drop, E: Refusal, R: Fn(usize, &Value) -> Result<T, E>>(
+    alloc: Global,
+    list: &[Value],
+    read: R,
+) -> Result<Items<T>, E>
+    requires { R.IsAlwaysCallable read }
+    ensures { (wanted : ℕ → Data → Result T E) → IsPlacedReader E.is_want_of_memory R.Fn read wanted
+        → GivesAs E.is_want_of_memory (λ xs. xs) result (each_from wanted 0 (items_view list.now)) }
+{
+    let mut found = Items::new(alloc);
+    for (place, member) in list.iter().enumerate() {
+        found.push(read(place, member)?)?;
+    }
+    Ok(found)
+}
