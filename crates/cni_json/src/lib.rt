@@ -38,7 +38,7 @@ mod writing;
 
 pub use fields::{Field, field_bool, field_list, field_object, field_str, field_u64};
 pub use laws::{a_line_feed_is_space, a_line_is_read_again, keys_ascend};
-pub use lists::{read_each, read_each_placed};
+pub use lists::{read_each, read_each_after, read_each_placed};
 pub use reading::{ReadEnd, read};
 pub use refusal::Refusal;
 pub use serde_json::{Map, Value};

@@ -3,7 +3,7 @@
 ghost use Rattle.std.specs.Prelude.{ℕ, Result};
 ghost use Rattle.serde_json.specs.Data.{Data};
 ghost use Rattle.serde_json.specs.View.{items_view};
-ghost use Rattle.cni_json.specs.Each.{each, each_from};
+ghost use Rattle.cni_json.specs.Each.{each, each_from, with_front};
 ghost use Rattle.cni_json.specs.Outcome.{GivesAs};
 ghost use Rattle.cni_json.specs.Readers.{IsPlacedReader, IsReader};
 
@@ -24,14 +24,28 @@ pub fn read_each<T: Drop, E: Refusal, R: Fn(&Value) -> Result<T, E>>(
     ensures { (wanted : Data → Result T E) → IsReader E.is_want_of_memory R.Fn read wanted
         → GivesAs E.is_want_of_memory (λ xs. xs) result (each wanted (items_view list.now)) }
 {
-    let mut found = Items::new(alloc);
+    read_each_after(Items::new(alloc), list, read)
+}
+
+/// The items that are there already, and then the members as [`read_each`] reads them.
+#[tactic(auto, using(crate::proofs::Steps::steps))]
+pub fn read_each_after<T: Drop, E: Refusal, R: Fn(&Value) -> Result<T, E>>(
+    before: Items<T>,
+    list: &[Value],
+    read: R,
+) -> Result<Items<T>, E>
+    requires { R.IsAlwaysCallable read }
+    ensures { (wanted : Data → Result T E) → IsReader E.is_want_of_memory R.Fn read wanted
+        → GivesAs E.is_want_of_memory (λ xs. xs) result (with_front before (each wanted (items_view list.now))) }
+{
+    let mut found = before;
     for member in list {
         found.push(read(member)?)?;
     }
     Ok(found)
 }
 
-/// The same, by a function that takes the member's place from 0 too: it reads the list as `each_from wanted 0` wants.
+/// The same as [`read_each`], by a function that takes the member's place from 0 too: it reads the list as `each_from wanted 0` wants.
 #[tactic(auto, using(crate::proofs::Steps::steps))]
 pub fn read_each_placed<T: Drop, E: Refusal, R: Fn(usize, &Value) -> Result<T, E>>(
     alloc: Global,

@@ -1,6 +1,7 @@
 //! Why a network list is refused.
 
 ghost use Rattle.std.specs.Prelude.{◌≡◌, false};
+ghost use Rattle.std.proofs.Common.{rules};
 ghost use Rattle.serde_json.specs.View.{view};
 ghost use Rattle.serde_json.specs.Written.{has_float, compact_text};
 ghost use Rattle.cni_json.specs.Outcome.{TellsAs};
@@ -8,7 +9,7 @@ ghost use Rattle.net_conf.specs.Refusals.{is_want_of_memory};
 ghost use Rattle.net_conf.specs.declared.error.ConfError.TheVariants as refusal;
 
 use cni_addr::{NoMemory, Text};
-use cni_json::Value;
+use cni_json::{Refusal, Value};
 use std::alloc::Global;
 
 /// Why a network list is refused: the first cause in the order of its parts. The error codes of the CNI specification
@@ -33,6 +34,12 @@ impl From<NoMemory> for ConfError {
     fn from(_refused: NoMemory) -> ConfError {
         ConfError::NoMemory
     }
+}
+
+impl Refusal for ConfError {
+    ghost is_want_of_memory = { is_want_of_memory };
+
+    ghost tells_want_of_memory = { λ n e is. Prim.search rules };
 }
 
 /// The refusal of a key or part.

@@ -1,16 +1,15 @@
 //! Configured routes.
 
 ghost use Rattle.std.specs.Prelude.{codes};
-ghost use Rattle.serde_json.specs.View.{view, items_view};
+ghost use Rattle.serde_json.specs.View.{view};
 ghost use Rattle.cni_json.specs.Outcome.{GivesAs, TellsAs};
-ghost use Rattle.cni_json.specs.Each.{each};
 ghost use Rattle.net_conf.specs.Routes as routes;
 ghost use Rattle.net_conf.specs.Refusals.{is_want_of_memory};
 ghost use Rattle.net_conf.specs.declared.error.ConfError.TheVariants as refusal;
 
 use crate::error::{ConfError, invalid};
 use cni_addr::{Addr, Cidr, Family, Items, network_of, read_addr, read_cidr};
-use cni_json::{Field, Value, field_list, field_str};
+use cni_json::{Field, Value, field_list, field_str, read_each};
 use cni_result::RouteEntry;
 use std::alloc::Global;
 
@@ -22,20 +21,8 @@ pub fn routes(alloc: Global, object: &Value) -> Result<Items<RouteEntry>, ConfEr
     match field_list(object, "routes") {
         Field::Absent => Ok(Items::new(alloc)),
         Field::WrongKind => Err(wrong(alloc)),
-        Field::Here(list) => all_routes(alloc, list),
+        Field::Here(list) => read_each(alloc, list, |member| route(alloc, member)),
     }
-}
-
-#[tactic(auto, using(cni_json::proofs::Steps::steps))]
-fn all_routes(alloc: Global, list: &[Value]) -> Result<Items<RouteEntry>, ConfError>
-    ensures { GivesAs is_want_of_memory (λ routes. routes) result (each routes.route_at (items_view list.now)) }
-{
-    let mut found = Items::new(alloc);
-    for member in list {
-        let route = route(alloc, member)?;
-        found.push(route)?;
-    }
-    Ok(found)
 }
 
 #[tactic(auto, using(cni_json::proofs::Steps::steps), unfolding(crate::specs::Routes::route_at))]

@@ -6,8 +6,6 @@ ghost use Rattle.serde_json.specs.Data.{array};
 ghost use Rattle.serde_json.specs.Find.{get};
 ghost use Rattle.serde_json.specs.View.{view, items_view};
 ghost use Rattle.cni_json.specs.Outcome.{GivesAs};
-ghost use Rattle.cni_json.specs.Each.{each, with_front};
-ghost use Rattle.net_conf.specs.Ranges.{range_at};
 ghost use Rattle.net_conf.specs.Refusals.{is_want_of_memory};
 ghost use Rattle.net_conf.specs.Sets as wanted;
 
@@ -15,7 +13,7 @@ use crate::apart::share_no_address;
 use crate::error::{ConfError, invalid};
 use crate::ranges::range;
 use cni_addr::{Family, Items, NoMemory, Range, RangeSet};
-use cni_json::{Field, Value, field_list};
+use cni_json::{Field, Value, field_list, read_each, read_each_after};
 use std::alloc::Global;
 
 /// The set that the object's own `subnet` gives, and then those of its `ranges`.
@@ -27,7 +25,7 @@ pub fn sets(alloc: Global, object: &Value) -> Result<Items<RangeSet>, ConfError>
     let has_own = is_there(object, "subnet");
     well_formed(alloc, has_own, listed)?;
     let own = own_sets(alloc, has_own, object)?;
-    let sets = all_sets(alloc, own, listed)?;
+    let sets = read_each_after(own, listed, |member| set(alloc, member))?;
     separate(alloc, sets.as_slice())?;
     Ok(sets)
 }
@@ -129,46 +127,17 @@ fn own_sets(alloc: Global, has_own: bool, object: &Value) -> Result<Items<RangeS
     Ok(own)
 }
 
-/// The sets that are there already, and then the listed ones.
-#[tactic(auto, using(cni_json::proofs::Steps::steps))]
-fn all_sets(
-    alloc: Global,
-    own: Items<RangeSet>,
-    listed: &[Value],
-) -> Result<Items<RangeSet>, ConfError>
-    ensures { GivesAs is_want_of_memory (λ sets. sets) result (with_front own (each wanted.set_of (items_view listed.now))) }
-{
-    let mut found = own;
-    for member in listed {
-        let set = set(alloc, member)?;
-        found.push(set)?;
-    }
-    Ok(found)
-}
-
 #[tactic(auto, using(cni_json::proofs::Steps::steps))]
 fn set(alloc: Global, member: &Value) -> Result<RangeSet, ConfError>
     ensures { GivesAs is_want_of_memory (λ set. set) result (wanted.set_of (view member.now)) }
 {
     match member {
         Value::Array(list) => {
-            let ranges = all_ranges(alloc, list.as_slice())?;
+            let ranges = read_each(alloc, list.as_slice(), |member| range(alloc, member))?;
             Ok(RangeSet { ranges })
         }
         _ => Err(invalid(alloc, "ranges")),
     }
-}
-
-#[tactic(auto, using(cni_json::proofs::Steps::steps))]
-fn all_ranges(alloc: Global, list: &[Value]) -> Result<Items<Range>, ConfError>
-    ensures { GivesAs is_want_of_memory (λ ranges. ranges) result (each range_at (items_view list.now)) }
-{
-    let mut found = Items::new(alloc);
-    for member in list {
-        let range = range(alloc, member)?;
-        found.push(range)?;
-    }
-    Ok(found)
 }
 
 #[tactic(auto, using(cni_json::proofs::Steps::steps))]
