@@ -8,7 +8,6 @@ use Rattle.serde_json.specs.Find.{as_str, as_array}
 use Rattle.serde_json.specs.View.{items_of}
 use Rattle.std.specs.Prelude.{map, Result}
 use Rattle.cni_json.specs.Fields.{field_of, u64_of, object_of}
-use Rattle.cni_json.specs.Outcome.{◌>>=◌}
 use Rattle.cni_result.proofs.Lookups.{text_member, list_member, object_member}
 use Rattle.cni_result.specs.Fields.{needed, optional, list_of, in_32_bits}
 use Rattle.cni_json.specs.Each.{each}
