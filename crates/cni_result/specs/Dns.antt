@@ -3,10 +3,9 @@
 use Rattle.std.specs.Prelude.{ℕ, List, [], codes, Bool, true, false, Result, Ok, Err}
 use Rattle.serde_json.specs.Data.{Data, string, Items}
 use Rattle.cni_json.specs.Each.{list_or}
-use Rattle.cni_json.specs.Fields.{text_field, list_field, object_field}
+use Rattle.cni_json.specs.Fields.{text_field, list_field, object_field, member_or}
 use Rattle.cni_json.specs.Outcome.{◌>>=◌}
 use Rattle.cni_json.specs.declared.fields.Field.{Field}
-use Rattle.cni_json.specs.declared.fields.Field.TheVariants.{Absent, WrongKind, Here}
 use Rattle.cni_result.specs.declared.dns.DnsError.{DnsError}
 use Rattle.cni_result.specs.declared.dns.DnsError.TheVariants as ends
 use Rattle.cni_result.specs.declared.result.Dns.{Dns}
@@ -31,9 +30,7 @@ unfoldable pub words_at : List ℕ → Data → Result (List (List ℕ)) DnsErro
 words_at key d = words_of (list_field key d)
 
 abbrev pub domain_of : Field (List ℕ) → Result (List ℕ) DnsError
-domain_of Absent = Ok []
-domain_of WrongKind = wrong
-domain_of (Here text) = Ok text
+domain_of f = member_or (Ok []) wrong Ok f
 
 -- the domain, empty where there is none
 unfoldable pub domain_at : Data → Result (List ℕ) DnsError
@@ -53,9 +50,7 @@ abbrev pub no_dns : Dns
 no_dns = record { nameservers = []; domain = []; search = []; options = [] }
 
 abbrev pub dns_of : Field Data → Result Dns DnsError
-dns_of Absent = Ok no_dns
-dns_of WrongKind = wrong
-dns_of (Here d) = dns_members_at d
+dns_of f = member_or (Ok no_dns) wrong dns_members_at f
 
 -- the `dns` of an object
 unfoldable pub dns_of_object : Data → Result Dns DnsError

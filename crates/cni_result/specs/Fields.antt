@@ -2,8 +2,9 @@
 use Rattle.std.specs.Prelude.{ℕ, ◌^◌, List, nat_lt, if◌then◌else◌, Option, Some, None, Result, Ok}
 use Rattle.serde_json.specs.Data.{Data, Items}
 use Rattle.cni_json.specs.Each.{list_or}
+use Rattle.cni_json.specs.Fields.{member_or}
+use Rattle.cni_json.specs.Outcome.{◌>>=◌}
 use Rattle.cni_json.specs.declared.fields.Field.{Field}
-use Rattle.cni_json.specs.declared.fields.Field.TheVariants.{Absent, WrongKind, Here}
 use Rattle.cni_result.specs.Refusals.{invalid}
 use Rattle.cni_result.specs.declared.refusal.ResultError.{ResultError}
 
@@ -14,20 +15,17 @@ read_or blamed (Some x) = Ok x
 
 -- the same of a member that is there
 abbrev pub given : {A : Type 0} → List ℕ → Option A → Result (Option A) ResultError
-given blamed None = invalid blamed
-given blamed (Some x) = Ok (Some x)
+given blamed found = do
+  x ← read_or blamed found
+  Ok (Some x)
 
 -- a member that must be there
 abbrev pub needed : {A B : Type 0} → List ℕ → (A → Option B) → Field A → Result B ResultError
-needed blamed read Absent = invalid blamed
-needed blamed read WrongKind = invalid blamed
-needed blamed read (Here x) = read_or blamed (read x)
+needed blamed read f = member_or (invalid blamed) (invalid blamed) (λ x. read_or blamed (read x)) f
 
 -- a member that may be absent
 abbrev pub optional : {A B : Type 0} → List ℕ → (A → Option B) → Field A → Result (Option B) ResultError
-optional blamed read Absent = Ok None
-optional blamed read WrongKind = invalid blamed
-optional blamed read (Here x) = given blamed (read x)
+optional blamed read f = member_or (Ok None) (invalid blamed) (λ x. given blamed (read x)) f
 
 -- a list that may be absent, and is empty then
 abbrev pub list_of : {A : Type 0} → List ℕ → (Data → Result A ResultError) → Field Items → Result (List A) ResultError

@@ -8,11 +8,10 @@ use Rattle.cni_addr.specs.CidrText.{cidr_of_text}
 use Rattle.cni_addr.specs.MacText.{mac_of_text}
 use Rattle.cni_addr.specs.Value.{AddrValue, CidrValue}
 use Rattle.cni_addr.specs.declared.mac.Mac.{Mac}
-use Rattle.cni_json.specs.Fields.{text_field, u64_field, list_field, object_or}
+use Rattle.cni_json.specs.Fields.{text_field, u64_field, list_field, member_or, object_or}
 use Rattle.cni_json.specs.Json.{json_of}
 use Rattle.cni_json.specs.Outcome.{◌>>=◌}
 use Rattle.cni_json.specs.declared.fields.Field.{Field}
-use Rattle.cni_json.specs.declared.fields.Field.TheVariants.{Absent, WrongKind, Here}
 use Rattle.cni_json.specs.declared.reading.ReadEnd.{ReadEnd}
 use Rattle.cni_json.specs.declared.reading.ReadEnd.TheVariants as reading
 use Rattle.cni_result.specs.Dns.{dns_of_object}
@@ -33,11 +32,12 @@ use Rattle.cni_result.specs.declared.version.Version.TheVariants.{V1_0, V1_1}
 
 -- ---- the version
 
+abbrev pub known_version : List ℕ → Result Version ResultError
+known_version text = ok_or (version_named text) (refusal.Version text)
+
 -- the version that `cniVersion` names
 abbrev pub version_of : Field (List ℕ) → Result Version ResultError
-version_of Absent = Err (refusal.Version [])
-version_of WrongKind = Err (refusal.Version [])
-version_of (Here text) = ok_or (version_named text) (refusal.Version text)
+version_of f = member_or (Err (refusal.Version [])) (Err (refusal.Version [])) known_version f
 
 unfoldable pub version_at : Data → Result Version ResultError
 version_at d = version_of (text_field (codes "cniVersion") d)
