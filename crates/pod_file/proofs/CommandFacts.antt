@@ -7,14 +7,16 @@ use Rattle.std.proofs.lemmas.Bool.Decides.{nat_tests}
 use Rattle.std.proofs.lemmas.List.{length-append}
 use Rattle.std.proofs.lemmas.List.Elements.{All-nil, All-cons, All-head, All-tail}
 use Rattle.serde_json.specs.Data.{Data, null, boolean, number, string, array, object, Items}
+use Rattle.cni_json.specs.Each.{list_or}
 use Rattle.cni_json.specs.Fields.{text_field, list_field, u64_field, u64_of}
 use Rattle.cni_json.specs.declared.fields.Field.{Field}
 use Rattle.cni_json.specs.declared.fields.Field.TheVariants.{Absent, WrongKind, Here}
 use Rattle.kernel_types.specs.declared.object.Table.{Table}
 use Rattle.kernel_types.specs.declared.object.Table.TheVariants.{Nat, Filter}
 use Rattle.cni_json.proofs.Endings.{goes, ok_same, passed, went_on, each_all, each_from_all}
-use Rattle.pod_file.specs.Commands.{command_object, verb_at, needs_table, texts_at, table_of, table_at, stop_of, stop_at, is_call_number, fault_of, fault_at, faults_of, faults_at, command_at}
+use Rattle.pod_file.specs.Commands.{command_object, verb_at, needs_table, texts_at, table_of, table_at, stop_of, stop_at, is_call_number, fault_of, fault_at, faults_at, command_at}
 use Rattle.pod_file.specs.Members.{mappings_at, valid_at}
+use Rattle.pod_file.specs.Refusals.{wrong_key}
 use Rattle.pod_file.specs.Rounds.{command_in, round_at, rounds_of, rounds_at, command_count, is_exclusive, is_alone, each_alone, numbered, round_numbered, all_numbered}
 use Rattle.pod_file.specs.WellFormed.{IsCallNumber, IsWellFormedCommand, IsWellFormedRound, in_file_order}
 use Rattle.pod_file.specs.declared.command.Command.{Command}
@@ -73,7 +75,7 @@ fault_of-ok : (place : CommandPlace) (o : Option ℕ) (n : ℕ) → fault_of pla
 fault_of-ok place None n is = cc
 fault_of-ok place (Some m) n is = let test = passed (is_call_number m) m n _ is in subst IsCallNumber test.1 (is_call_number-true m test.0)
 
-faults_of-ok : (place : CommandPlace) (f : Field Items) (faults : List ℕ) → faults_of place f ≡ Ok faults → All IsCallNumber faults
+faults_of-ok : (place : CommandPlace) (f : Field Items) (faults : List ℕ) → list_or (wrong_key place (codes "faults")) (fault_at place) f ≡ Ok faults → All IsCallNumber faults
 faults_of-ok place Absent faults is = subst (All IsCallNumber) (ok_same is) (All-nil IsCallNumber)
 faults_of-ok place WrongKind faults is = cc
 faults_of-ok place (Here ds) faults is = each_all (fault_at place) IsCallNumber (λ d n read. fault_of-ok place (u64_of d) n read) ds faults is

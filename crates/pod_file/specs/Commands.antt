@@ -1,15 +1,13 @@
 -- A command of a pod file, key by key in the order of its refusals. Each key is tested at every verb.
 use Rattle.std.specs.Prelude.{ℕ, ◌&&◌, List, [], codes, Bool, true, false, nat_le, if◌then◌else◌, Result, Ok, Option, Some, None, ⊤}
 use Rattle.std.specs.Str.{bytes_eq}
-use Rattle.serde_json.specs.Data.{Data, Items}
-use Rattle.cni_json.specs.Fields.{text_field, list_field, u64_field, u64_of, object_or}
+use Rattle.serde_json.specs.Data.{Data}
+use Rattle.cni_json.specs.Fields.{text_field, u64_field, u64_of, member_or, object_or}
 use Rattle.cni_json.specs.Outcome.{◌>>=◌}
 use Rattle.cni_json.specs.declared.fields.Field.{Field}
-use Rattle.cni_json.specs.declared.fields.Field.TheVariants.{Absent, WrongKind, Here}
 use Rattle.kernel_types.specs.declared.object.Table.{Table}
 use Rattle.kernel_types.specs.declared.object.Table.TheVariants.{Nat, Filter}
-use Rattle.cni_json.specs.Each.{list_or}
-use Rattle.pod_file.specs.Members.{text_at, mappings_at, valid_at}
+use Rattle.pod_file.specs.Members.{text_at, needed_text_at, list_at, mappings_at, valid_at}
 use Rattle.pod_file.specs.Refusals.{wrong, wrong_key, command_path}
 use Rattle.pod_file.specs.declared.command.Command.{Command}
 use Rattle.pod_file.specs.declared.command.Verb.{Verb}
@@ -23,6 +21,9 @@ command_object place d = object_or (wrong (command_path place)) d
 
 -- ---- the verb
 
+abbrev pub wrong_verb : {A : Type 0} → CommandPlace → Result A PodError
+wrong_verb place = wrong_key place (codes "verb")
+
 abbrev pub verb_named : CommandPlace → List ℕ → Result Verb PodError
 verb_named place text =
     if bytes_eq text (codes "ADD") then Ok verbs.Add
@@ -35,16 +36,11 @@ verb_named place text =
     else if bytes_eq text (codes "NSDEL") then Ok verbs.NsDel
     else if bytes_eq text (codes "DROP") then Ok verbs.Drop
     else if bytes_eq text (codes "FLUSH") then Ok verbs.Flush
-    else wrong_key place (codes "verb")
-
-abbrev pub verb_of : CommandPlace → Field (List ℕ) → Result Verb PodError
-verb_of place Absent = wrong_key place (codes "verb")
-verb_of place WrongKind = wrong_key place (codes "verb")
-verb_of place (Here text) = verb_named place text
+    else wrong_verb place
 
 -- what the command does; it must be there
 unfoldable pub verb_at : CommandPlace → Data → Result Verb PodError
-verb_at place d = verb_of place (text_field (codes "verb") d)
+verb_at place d = member_or (wrong_verb place) (wrong_verb place) (verb_named place) (text_field (codes "verb") d)
 
 -- the verbs of the CNI specification, which speak of a network
 abbrev pub is_of_network : Verb → Bool
@@ -61,14 +57,11 @@ needs_table verb = false
 
 -- ---- texts
 
-abbrev pub network_of : CommandPlace → Verb → Field (List ℕ) → Result (List ℕ) PodError
-network_of place verb Absent = if is_of_network verb then wrong_key place (codes "network") else Ok []
-network_of place verb WrongKind = wrong_key place (codes "network")
-network_of place verb (Here text) = Ok text
-
 -- the network's name, which must be there for a verb that speaks of one
 unfoldable pub network_at : CommandPlace → Verb → Data → Result (List ℕ) PodError
-network_at place verb d = network_of place verb (text_field (codes "network") d)
+network_at place verb d =
+    if is_of_network verb then needed_text_at place (codes "network") (codes "network") d
+    else text_at place (codes "network") [] d
 
 -- the texts that name what the command is about
 unfoldable pub texts_at : CommandPlace → Verb → Data → Result CommandTexts PodError
@@ -88,19 +81,21 @@ table_named place text =
     else if bytes_eq text (codes "filter") then Ok (Some Filter)
     else wrong_key place (codes "table")
 
+abbrev pub no_table : CommandPlace → Verb → Result (Option Table) PodError
+no_table place verb = if needs_table verb then wrong_key place (codes "table") else Ok None
+
 abbrev pub table_of : CommandPlace → Verb → Field (List ℕ) → Result (Option Table) PodError
-table_of place verb Absent = if needs_table verb then wrong_key place (codes "table") else Ok None
-table_of place verb WrongKind = wrong_key place (codes "table")
-table_of place verb (Here text) = table_named place text
+table_of place verb f = member_or (no_table place verb) (wrong_key place (codes "table")) (table_named place) f
 
 -- the table that a flush empties
 unfoldable pub table_at : CommandPlace → Verb → Data → Result (Option Table) PodError
 table_at place verb d = table_of place verb (text_field (codes "table") d)
 
+abbrev pub stop_after : CommandPlace → ℕ → Result (Option ℕ) PodError
+stop_after place n = if nat_le n 4294967295 then Ok (Some n) else wrong_key place (codes "stop")
+
 abbrev pub stop_of : CommandPlace → Field ℕ → Result (Option ℕ) PodError
-stop_of place Absent = Ok None
-stop_of place WrongKind = wrong_key place (codes "stop")
-stop_of place (Here n) = if nat_le n 4294967295 then Ok (Some n) else wrong_key place (codes "stop")
+stop_of place f = member_or (Ok None) (wrong_key place (codes "stop")) (stop_after place) f
 
 -- the number of calls after which the command stops
 unfoldable pub stop_at : CommandPlace → Data → Result (Option ℕ) PodError
@@ -118,12 +113,9 @@ fault_of place (Some n) = if is_call_number n then Ok n else wrong_key place (co
 abbrev pub fault_at : CommandPlace → Data → Result ℕ PodError
 fault_at place d = fault_of place (u64_of d)
 
-abbrev pub faults_of : CommandPlace → Field Items → Result (List ℕ) PodError
-faults_of place f = list_or (wrong_key place (codes "faults")) (fault_at place) f
-
 -- the calls that fail, in any order
 unfoldable pub faults_at : CommandPlace → Data → Result (List ℕ) PodError
-faults_at place d = faults_of place (list_field (codes "faults") d)
+faults_at place d = list_at place (codes "faults") (fault_at place) d
 
 -- ---- the whole command; it has no number yet
 

@@ -6,7 +6,6 @@ use Rattle.serde_json.specs.Data.{Data, Items, no_items, item}
 use Rattle.cni_json.specs.Fields.{text_field, list_field, u64_field, member_or, object_or}
 use Rattle.cni_json.specs.Outcome.{◌>>=◌}
 use Rattle.cni_json.specs.declared.fields.Field.{Field}
-use Rattle.cni_json.specs.declared.fields.Field.TheVariants.{Absent, WrongKind, Here}
 use Rattle.kernel_types.specs.Names.{link_mac_of}
 use Rattle.kernel_types.specs.Words.{is_host_ns, is_at, new_link}
 use Rattle.kernel_types.specs.declared.object.Link.{Link}
@@ -25,14 +24,12 @@ wrong_link index = wrong (member_path (codes "opening.links") index)
 abbrev pub link_object : ℕ → Data → Result ⊤ PodError
 link_object index d = object_or (wrong_link index) d
 
-abbrev pub name_of : ℕ → Field (List ℕ) → Result (List ℕ) PodError
-name_of index Absent = wrong_link index
-name_of index WrongKind = wrong_link index
-name_of index (Here text) = if is_interface_name text then Ok text else wrong_link index
+abbrev pub interface_name : ℕ → List ℕ → Result (List ℕ) PodError
+interface_name index text = if is_interface_name text then Ok text else wrong_link index
 
 -- the link's name
 unfoldable pub name_at : ℕ → Data → Result (List ℕ) PodError
-name_at index d = name_of index (text_field (codes "name") d)
+name_at index d = member_or (wrong_link index) (wrong_link index) (interface_name index) (text_field (codes "name") d)
 
 abbrev pub kind_named : ℕ → List ℕ → Result LinkKind PodError
 kind_named index text =
@@ -41,9 +38,7 @@ kind_named index text =
     else wrong_link index
 
 abbrev pub kind_of : ℕ → Field (List ℕ) → Result LinkKind PodError
-kind_of index Absent = wrong_link index
-kind_of index WrongKind = wrong_link index
-kind_of index (Here text) = kind_named index text
+kind_of index f = member_or (wrong_link index) (wrong_link index) (kind_named index) f
 
 -- what kind of link it is
 unfoldable pub kind_at : ℕ → Data → Result LinkKind PodError
@@ -53,23 +48,22 @@ kind_at index d = kind_of index (text_field (codes "kind") d)
 abbrev pub is_place : List (List ℕ) → List ℕ → Bool
 is_place names ns = is_host_ns ns || list_any (bytes_eq ns) names
 
+abbrev pub place_named : List (List ℕ) → ℕ → List ℕ → Result (List ℕ) PodError
+place_named names index text = if is_place names text then Ok text else wrong_link index
+
 abbrev pub ns_of : List (List ℕ) → ℕ → Field (List ℕ) → Result (List ℕ) PodError
-ns_of names index Absent = Ok []
-ns_of names index WrongKind = wrong_link index
-ns_of names index (Here text) = if is_place names text then Ok text else wrong_link index
+ns_of names index f = member_or (Ok []) (wrong_link index) (place_named names index) f
 
 -- the namespace that the link is in; the empty text is the host
 unfoldable pub ns_at : List (List ℕ) → ℕ → Data → Result (List ℕ) PodError
 ns_at names index d = ns_of names index (text_field (codes "ns") d)
 
-abbrev pub mtu_of : ℕ → Field ℕ → Result ℕ PodError
-mtu_of index Absent = Ok default_mtu
-mtu_of index WrongKind = wrong_link index
-mtu_of index (Here n) = if is_mtu n then Ok n else wrong_link index
+abbrev pub mtu_of : ℕ → ℕ → Result ℕ PodError
+mtu_of index n = if is_mtu n then Ok n else wrong_link index
 
 -- the link's MTU
 unfoldable pub mtu_at : ℕ → Data → Result ℕ PodError
-mtu_at index d = mtu_of index (u64_field (codes "mtu") d)
+mtu_at index d = member_or (Ok default_mtu) (wrong_link index) (mtu_of index) (u64_field (codes "mtu") d)
 
 -- a link that was made outside
 abbrev pub outside_link : List ℕ → List ℕ → LinkKind → ℕ → Link

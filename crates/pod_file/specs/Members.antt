@@ -1,11 +1,9 @@
 -- Members of a command, each with its refusal: the place is the command's, `outer` the command's key that holds the
 -- member.
 use Rattle.std.specs.Prelude.{ℕ, List, [], codes, Result, Ok, ⊤}
-use Rattle.serde_json.specs.Data.{Data, Items}
-use Rattle.cni_json.specs.Fields.{text_field, list_field, u64_field, object_or}
+use Rattle.serde_json.specs.Data.{Data}
+use Rattle.cni_json.specs.Fields.{text_field, list_field, u64_field, member_or, object_or}
 use Rattle.cni_json.specs.Outcome.{◌>>=◌}
-use Rattle.cni_json.specs.declared.fields.Field.{Field}
-use Rattle.cni_json.specs.declared.fields.Field.TheVariants.{Absent, WrongKind, Here}
 use Rattle.cni_json.specs.Each.{list_or}
 use Rattle.pod_file.specs.Refusals.{wrong_key}
 use Rattle.pod_file.specs.declared.command.RawMapping.{RawMapping}
@@ -13,36 +11,25 @@ use Rattle.pod_file.specs.declared.command.ValidAtt.{ValidAtt}
 use Rattle.pod_file.specs.declared.error.PodError.{PodError}
 use Rattle.pod_file.specs.declared.place.CommandPlace.{CommandPlace}
 
-abbrev pub text_of : CommandPlace → List ℕ → List ℕ → Field (List ℕ) → Result (List ℕ) PodError
-text_of place outer default Absent = Ok default
-text_of place outer default WrongKind = wrong_key place outer
-text_of place outer default (Here text) = Ok text
-
 -- a text, or the default where there is none
 unfoldable pub inner_text_at : CommandPlace → List ℕ → List ℕ → List ℕ → Data → Result (List ℕ) PodError
-inner_text_at place outer key default d = text_of place outer default (text_field key d)
+inner_text_at place outer key default d = member_or (Ok default) (wrong_key place outer) Ok (text_field key d)
 
 -- a text of the command itself
 abbrev pub text_at : CommandPlace → List ℕ → List ℕ → Data → Result (List ℕ) PodError
 text_at place key default d = inner_text_at place key key default d
 
-abbrev pub needed_text_of : CommandPlace → List ℕ → Field (List ℕ) → Result (List ℕ) PodError
-needed_text_of place outer Absent = wrong_key place outer
-needed_text_of place outer WrongKind = wrong_key place outer
-needed_text_of place outer (Here text) = Ok text
-
 -- a text that must be there
 unfoldable pub needed_text_at : CommandPlace → List ℕ → List ℕ → Data → Result (List ℕ) PodError
-needed_text_at place outer key d = needed_text_of place outer (text_field key d)
-
-abbrev pub port_of : CommandPlace → Field ℕ → Result ℕ PodError
-port_of place Absent = Ok 0
-port_of place WrongKind = wrong_key place (codes "portMappings")
-port_of place (Here port) = Ok port
+needed_text_at place outer key d = member_or (wrong_key place outer) (wrong_key place outer) Ok (text_field key d)
 
 -- a port, which is any number here: an ADD tests it
 unfoldable pub port_at : CommandPlace → List ℕ → Data → Result ℕ PodError
-port_at place key d = port_of place (u64_field key d)
+port_at place key d = member_or (Ok 0) (wrong_key place (codes "portMappings")) Ok (u64_field key d)
+
+-- the list under a key of the command, each of its members read, and empty where it is absent
+abbrev pub list_at : {A : Type 0} → CommandPlace → List ℕ → (Data → Result A PodError) → Data → Result (List A) PodError
+list_at place key read d = list_or (wrong_key place key) read (list_field key d)
 
 abbrev pub inner_object : CommandPlace → List ℕ → Data → Result ⊤ PodError
 inner_object place outer d = object_or (wrong_key place outer) d
@@ -61,12 +48,9 @@ mapping_at place d = do
   host_ip ← mapping_text_at place (codes "hostIP") d
   Ok (record { host_port = host_port; container_port = container_port; protocol = protocol; host_ip = host_ip })
 
-abbrev pub mappings_of : CommandPlace → Field Items → Result (List RawMapping) PodError
-mappings_of place f = list_or (wrong_key place (codes "portMappings")) (mapping_at place) f
-
 -- the port mappings, none where there is no list
 unfoldable pub mappings_at : CommandPlace → Data → Result (List RawMapping) PodError
-mappings_at place d = mappings_of place (list_field (codes "portMappings") d)
+mappings_at place d = list_at place (codes "portMappings") (mapping_at place) d
 
 -- an attachment that a GC keeps (CNI specification 1.1.0, section 2, `cni.dev/valid-attachments`); a value that is no
 -- object has no `containerID`
@@ -76,9 +60,6 @@ valid_attachment_at place d = do
   ifname ← needed_text_at place (codes "valid") (codes "ifname") d
   Ok (record { container = container; ifname = ifname })
 
-abbrev pub valid_of : CommandPlace → Field Items → Result (List ValidAtt) PodError
-valid_of place f = list_or (wrong_key place (codes "valid")) (valid_attachment_at place) f
-
 -- the attachments that a GC keeps, none where there is no list
 unfoldable pub valid_at : CommandPlace → Data → Result (List ValidAtt) PodError
-valid_at place d = valid_of place (list_field (codes "valid") d)
+valid_at place d = list_at place (codes "valid") (valid_attachment_at place) d

@@ -9,7 +9,7 @@ ghost use Rattle.pod_file.specs.Refusals.{is_want_of_memory};
 
 use crate::command::{Command, Verb};
 use crate::error::{PodError, wrong_command, wrong_key};
-use crate::members::{mappings, text, valid_attachments};
+use crate::members::{mappings, needed_text, text, valid_attachments};
 use crate::place::CommandPlace;
 use cni_addr::{Items, Text};
 use cni_json::{Field, Value, field_list, field_str, field_u64};
@@ -119,11 +119,10 @@ fn network(
 ) -> Result<Text, PodError>
     ensures { GivesAs is_want_of_memory (λ network. network) result (wanted.network_at place verb (view command.now)) }
 {
-    match field_str(command, "network") {
-        Field::Absent if verb.is_of_network() => Err(wrong_key(alloc, place, "network")),
-        Field::Absent => Ok(Text::of(alloc, "")?),
-        Field::WrongKind => Err(wrong_key(alloc, place, "network")),
-        Field::Here(network) => Ok(Text::of(alloc, network)?),
+    if verb.is_of_network() {
+        needed_text(alloc, place, "network", "network", command)
+    } else {
+        text(alloc, place, "network", "", command)
     }
 }
 

@@ -46,8 +46,9 @@ fn inner_text(
     }
 }
 
+/// A text in the value of the command's key `outer` that must be there.
 #[tactic(auto, using(cni_json::proofs::Steps::steps), unfolding(crate::specs::Members::needed_text_at))]
-fn needed_text(
+pub fn needed_text(
     alloc: Global,
     place: CommandPlace,
     outer: &str,
