@@ -12,7 +12,7 @@ use Rattle.cni_result.proofs.EntriesAgain.{interface_again, ip_again, route_agai
 use Rattle.cni_result.proofs.Lookups.{at_other, at_other_text, at_other_list, at_other_object, at_key, at_key_text, at_key_list, at_key_object, list_member}
 use Rattle.cni_result.proofs.ReadAgain.{each_again, list_again, list_if_again, domain_again, dns_again, everywhere, each_of}
 use Rattle.cni_result.specs.Dns.{word_of, words_of, words_at, domain_of, domain_at, dns_members_at, dns_of, dns_of_object}
-use Rattle.cni_result.specs.Fields.{list_of}
+use Rattle.cni_result.specs.Fields.{list_of, list_at}
 use Rattle.cni_result.specs.Laws.{IsInterfaceOf, IsIpEntry, IsRouteEntry, IsReadable}
 use Rattle.cni_result.specs.Members.{text_data, list_data, ◌▷◌, put_text_unless_empty, put_list_unless_empty, put_object_unless_empty}
 use Rattle.cni_result.specs.Reading.{version_of, version_at, interface_at, interfaces_at, ip_at, ips_at, route_at, routes_at, dns_or_refused, dns_at, indexes_at, result_at, result_of_bytes}
@@ -112,7 +112,7 @@ version_again r =
     ∙ version_named_again r.version
 
 interfaces_again : (r : AddResult) → IsReadable r → interfaces_at r.version (result_data r) ≡ Ok r.interfaces
-unfolding interfaces_at result_members
+unfolding interfaces_at list_at result_members
 interfaces_again r kept =
     let all = everywhere (IsInterfaceOf r.version) (λ i. interface_at r.version (interface_data r.version i) ≡ Ok i) r.interfaces (interface_again r.version) kept.interfaces in
     ap (λ g. list_of (codes "interfaces") (interface_at r.version) (field_of as_array g))
@@ -122,7 +122,7 @@ interfaces_again r kept =
     ∙ list_again (codes "interfaces") (interface_data r.version) (interface_at r.version) r.interfaces all
 
 ips_again : (r : AddResult) → IsReadable r → ips_at (result_data r) ≡ Ok r.ips
-unfolding ips_at result_members
+unfolding ips_at list_at result_members
 ips_again r kept =
     let all = everywhere IsIpEntry (λ ip. ip_at (ip_data ip) ≡ Ok ip) r.ips ip_again kept.ips in
     ap (λ g. list_of (codes "ips") ip_at (field_of as_array g))
@@ -134,7 +134,7 @@ ips_again r kept =
     ∙ list_if_again (codes "ips") ip_data ip_at r.ips all
 
 routes_again : (r : AddResult) → IsReadable r → routes_at (result_data r) ≡ Ok r.routes
-unfolding routes_at result_members
+unfolding routes_at list_at result_members
 routes_again r kept =
     let all = everywhere IsRouteEntry (λ route. route_at (route_data route) ≡ Ok route) r.routes route_again kept.routes in
     ap (λ g. list_of (codes "routes") route_at (field_of as_array g))

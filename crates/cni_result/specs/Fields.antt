@@ -2,7 +2,7 @@
 use Rattle.std.specs.Prelude.{ℕ, ◌^◌, List, nat_lt, if◌then◌else◌, Option, Some, None, Result, Ok}
 use Rattle.serde_json.specs.Data.{Data, Items}
 use Rattle.cni_json.specs.Each.{list_or}
-use Rattle.cni_json.specs.Fields.{member_or}
+use Rattle.cni_json.specs.Fields.{list_field, member_or}
 use Rattle.cni_json.specs.Outcome.{◌>>=◌}
 use Rattle.cni_json.specs.declared.fields.Field.{Field}
 use Rattle.cni_result.specs.Refusals.{invalid}
@@ -30,6 +30,10 @@ optional blamed read f = member_or (Ok None) (invalid blamed) (λ x. given blame
 -- a list that may be absent, and is empty then
 abbrev pub list_of : {A : Type 0} → List ℕ → (Data → Result A ResultError) → Field Items → Result (List A) ResultError
 list_of blamed read f = list_or (invalid blamed) read f
+
+-- the list under this key, which is to blame
+unfoldable pub list_at : {A : Type 0} → List ℕ → (Data → Result A ResultError) → Data → Result (List A) ResultError
+list_at key read d = list_of key read (list_field key d)
 
 -- any text
 abbrev pub as_it_is : List ℕ → Option (List ℕ)

@@ -8,14 +8,14 @@ use Rattle.cni_addr.specs.CidrText.{cidr_of_text}
 use Rattle.cni_addr.specs.MacText.{mac_of_text}
 use Rattle.cni_addr.specs.Value.{AddrValue, CidrValue}
 use Rattle.cni_addr.specs.declared.mac.Mac.{Mac}
-use Rattle.cni_json.specs.Fields.{text_field, u64_field, list_field, member_or, object_or}
+use Rattle.cni_json.specs.Fields.{text_field, u64_field, member_or, object_or}
 use Rattle.cni_json.specs.Json.{json_of}
 use Rattle.cni_json.specs.Outcome.{◌>>=◌}
 use Rattle.cni_json.specs.declared.fields.Field.{Field}
 use Rattle.cni_json.specs.declared.reading.ReadEnd.{ReadEnd}
 use Rattle.cni_json.specs.declared.reading.ReadEnd.TheVariants as reading
 use Rattle.cni_result.specs.Dns.{dns_of_object}
-use Rattle.cni_result.specs.Fields.{needed, optional, list_of, as_it_is, in_32_bits}
+use Rattle.cni_result.specs.Fields.{needed, optional, list_at, as_it_is, in_32_bits}
 use Rattle.cni_result.specs.Refusals.{invalid}
 use Rattle.cni_result.specs.Versions.{version_named}
 use Rattle.cni_result.specs.declared.dns.DnsError.{DnsError}
@@ -84,7 +84,7 @@ interface_at version d = do
   Ok (record { name = name; mac = mac; mtu = mtu; sandbox = sandbox })
 
 unfoldable pub interfaces_at : Version → Data → Result (List Interface) ResultError
-interfaces_at version d = list_of (codes "interfaces") (interface_at version) (list_field (codes "interfaces") d)
+interfaces_at version d = list_at (codes "interfaces") (interface_at version) d
 
 unfoldable pub ip_at : Data → Result IpEntry ResultError
 ip_at d = do
@@ -94,7 +94,7 @@ ip_at d = do
   Ok (record { address = address; gateway = gateway; interface = interface })
 
 unfoldable pub ips_at : Data → Result (List IpEntry) ResultError
-ips_at d = list_of (codes "ips") ip_at (list_field (codes "ips") d)
+ips_at d = list_at (codes "ips") ip_at d
 
 unfoldable pub route_at : Data → Result RouteEntry ResultError
 route_at d = do
@@ -103,7 +103,7 @@ route_at d = do
   Ok (record { dst = dst; gw = gw })
 
 unfoldable pub routes_at : Data → Result (List RouteEntry) ResultError
-routes_at d = list_of (codes "routes") route_at (list_field (codes "routes") d)
+routes_at d = list_at (codes "routes") route_at d
 
 -- ---- name resolution
 

@@ -1,16 +1,16 @@
 //! The configuration of name resolution, which results and network lists both have under `dns`.
 
 ghost use Rattle.std.specs.Prelude.{◌≡◌, IfOk};
-ghost use Rattle.serde_json.specs.View.{view, items_view};
+ghost use Rattle.std.proofs.Common.{rules};
+ghost use Rattle.serde_json.specs.View.{view};
 ghost use Rattle.cni_json.specs.Outcome.{GivesAs};
-ghost use Rattle.cni_json.specs.Each.{each};
 ghost use Rattle.cni_result.specs.Dns as wanted;
 ghost use Rattle.cni_result.specs.Dns.{is_want_of_memory};
 ghost use Rattle.cni_result.specs.declared.dns.DnsError.TheVariants as ends;
 
 use crate::result::Dns;
 use cni_addr::{Items, NoMemory, Text};
-use cni_json::{Field, Value, field_list, field_object, field_str};
+use cni_json::{Field, Refusal, Value, field_list, field_object, field_str, read_each};
 use std::alloc::Global;
 
 /// Why a configuration of name resolution is not read.
@@ -28,6 +28,12 @@ impl From<NoMemory> for DnsError {
     fn from(_refused: NoMemory) -> DnsError {
         DnsError::NoMemory
     }
+}
+
+impl Refusal for DnsError {
+    ghost is_want_of_memory = { is_want_of_memory };
+
+    ghost tells_want_of_memory = { λ n e is. Prim.search rules };
 }
 
 /// The configuration under `dns` of an object (CNI specification 1.1.0, sections 1 and 5). Where it is absent each list
@@ -89,20 +95,8 @@ fn words(alloc: Global, members: &Value, key: &str) -> Result<Items<Text>, DnsEr
     match field_list(members, key) {
         Field::Absent => Ok(Items::new(alloc)),
         Field::WrongKind => Err(DnsError::Invalid),
-        Field::Here(list) => all_words(alloc, list),
+        Field::Here(list) => read_each(alloc, list, |entry| word(alloc, entry)),
     }
-}
-
-#[tactic(auto, using(cni_json::proofs::Steps::steps))]
-fn all_words(alloc: Global, list: &[Value]) -> Result<Items<Text>, DnsError>
-    ensures { GivesAs is_want_of_memory (λ words. words) result (each wanted.word_of (items_view list.now)) }
-{
-    let mut found = Items::new(alloc);
-    for entry in list {
-        let word = word(alloc, entry)?;
-        found.push(word)?;
-    }
-    Ok(found)
 }
 
 #[tactic(auto, using(cni_json::proofs::Steps::steps))]

@@ -1,18 +1,41 @@
 //! Interfaces, addresses and routes of a result that is read.
 
-ghost use Rattle.serde_json.specs.View.{view, items_view};
+ghost use Rattle.std.specs.Prelude.{Result};
+ghost use Rattle.serde_json.specs.Data.{Data};
+ghost use Rattle.serde_json.specs.View.{view};
 ghost use Rattle.cni_json.specs.Outcome.{GivesAs};
-ghost use Rattle.cni_json.specs.Each.{each};
+ghost use Rattle.cni_json.specs.Readers.{IsReader};
+ghost use Rattle.cni_result.specs.Fields.{list_at};
 ghost use Rattle.cni_result.specs.Reading.{mtu_if_at, interface_at, interfaces_at, ip_at, ips_at, route_at, routes_at};
 ghost use Rattle.cni_result.specs.Refusals.{is_want_of_memory};
+ghost use Rattle.cni_result.specs.declared.refusal.ResultError.{ResultError};
 
 use crate::fields::{addr_if, cidr, mac_if, number_if, text, text_if};
 use crate::refusal::{ResultError, invalid};
 use crate::result::{Interface, IpEntry, RouteEntry};
 use crate::version::Version;
 use cni_addr::Items;
-use cni_json::{Field, Value, field_list};
+use cni_json::{Field, Value, field_list, read_each};
 use std::alloc::Global;
+
+/// The list under this key, each entry as the function reads it; it is empty where it is absent.
+#[tactic(auto, using(cni_json::proofs::Steps::steps), unfolding(crate::specs::Fields::list_at))]
+fn list<T: Drop, R: Fn(&Value) -> Result<T, ResultError>>(
+    alloc: Global,
+    top: &Value,
+    key: &str,
+    read: R,
+) -> Result<Items<T>, ResultError>
+    requires { R.IsAlwaysCallable read }
+    ensures { (wanted : Data → Result T ResultError) → IsReader is_want_of_memory R.Fn read wanted
+        → GivesAs is_want_of_memory (λ xs. xs) result (list_at key.now wanted (view top.now)) }
+{
+    match field_list(top, key) {
+        Field::Absent => Ok(Items::new(alloc)),
+        Field::WrongKind => Err(invalid(alloc, key)),
+        Field::Here(entries) => read_each(alloc, entries, read),
+    }
+}
 
 /// The interfaces, none where there is no list of them.
 #[tactic(auto, using(cni_json::proofs::Steps::steps), unfolding(crate::specs::Reading::interfaces_at))]
@@ -23,27 +46,12 @@ pub(crate) fn interfaces(
 ) -> Result<Items<Interface>, ResultError>
     ensures { GivesAs is_want_of_memory (λ interfaces. interfaces) result (interfaces_at version (view top.now)) }
 {
-    match field_list(top, "interfaces") {
-        Field::Absent => Ok(Items::new(alloc)),
-        Field::WrongKind => Err(invalid(alloc, "interfaces")),
-        Field::Here(list) => all_interfaces(alloc, version, list),
-    }
-}
-
-#[tactic(auto, using(cni_json::proofs::Steps::steps))]
-fn all_interfaces(
-    alloc: Global,
-    version: Version,
-    list: &[Value],
-) -> Result<Items<Interface>, ResultError>
-    ensures { GivesAs is_want_of_memory (λ interfaces. interfaces) result (each (interface_at version) (items_view list.now)) }
-{
-    let mut found = Items::new(alloc);
-    for entry in list {
-        let interface = interface(alloc, version, entry)?;
-        found.push(interface)?;
-    }
-    Ok(found)
+    list(
+        alloc,
+        top,
+        "interfaces",
+        |entry| interface(alloc, version, entry),
+    )
 }
 
 #[tactic(auto, using(cni_json::proofs::Steps::steps), unfolding(crate::specs::Reading::interface_at))]
@@ -76,23 +84,7 @@ fn mtu_if(alloc: Global, version: Version, entry: &Value) -> Result<Option<u32>,
 pub(crate) fn ips(alloc: Global, top: &Value) -> Result<Items<IpEntry>, ResultError>
     ensures { GivesAs is_want_of_memory (λ ips. ips) result (ips_at (view top.now)) }
 {
-    match field_list(top, "ips") {
-        Field::Absent => Ok(Items::new(alloc)),
-        Field::WrongKind => Err(invalid(alloc, "ips")),
-        Field::Here(list) => all_ips(alloc, list),
-    }
-}
-
-#[tactic(auto, using(cni_json::proofs::Steps::steps))]
-fn all_ips(alloc: Global, list: &[Value]) -> Result<Items<IpEntry>, ResultError>
-    ensures { GivesAs is_want_of_memory (λ ips. ips) result (each ip_at (items_view list.now)) }
-{
-    let mut found = Items::new(alloc);
-    for entry in list {
-        let ip = ip(alloc, entry)?;
-        found.push(ip)?;
-    }
-    Ok(found)
+    list(alloc, top, "ips", |entry| ip(alloc, entry))
 }
 
 #[tactic(auto, using(cni_json::proofs::Steps::steps), unfolding(crate::specs::Reading::ip_at))]
@@ -114,23 +106,7 @@ fn ip(alloc: Global, entry: &Value) -> Result<IpEntry, ResultError>
 pub(crate) fn routes(alloc: Global, top: &Value) -> Result<Items<RouteEntry>, ResultError>
     ensures { GivesAs is_want_of_memory (λ routes. routes) result (routes_at (view top.now)) }
 {
-    match field_list(top, "routes") {
-        Field::Absent => Ok(Items::new(alloc)),
-        Field::WrongKind => Err(invalid(alloc, "routes")),
-        Field::Here(list) => all_routes(alloc, list),
-    }
-}
-
-#[tactic(auto, using(cni_json::proofs::Steps::steps))]
-fn all_routes(alloc: Global, list: &[Value]) -> Result<Items<RouteEntry>, ResultError>
-    ensures { GivesAs is_want_of_memory (λ routes. routes) result (each route_at (items_view list.now)) }
-{
-    let mut found = Items::new(alloc);
-    for entry in list {
-        let route = route(alloc, entry)?;
-        found.push(route)?;
-    }
-    Ok(found)
+    list(alloc, top, "routes", |entry| route(alloc, entry))
 }
 
 #[tactic(auto, using(cni_json::proofs::Steps::steps), unfolding(crate::specs::Reading::route_at))]

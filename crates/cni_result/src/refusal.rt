@@ -1,11 +1,13 @@
 //! Why a result is not read.
 
 ghost use Rattle.std.specs.Prelude.{◌≡◌};
+ghost use Rattle.std.proofs.Common.{rules};
 ghost use Rattle.cni_json.specs.Outcome.{TellsAs};
 ghost use Rattle.cni_result.specs.Refusals.{is_want_of_memory};
 ghost use Rattle.cni_result.specs.declared.refusal.ResultError.TheVariants as refusal;
 
 use cni_addr::{NoMemory, Text};
+use cni_json::Refusal;
 use std::alloc::Global;
 
 /// Why bytes are not read as a result: the first cause in the order of the members.
@@ -28,6 +30,12 @@ impl From<NoMemory> for ResultError {
     fn from(_refused: NoMemory) -> ResultError {
         ResultError::NoMemory
     }
+}
+
+impl Refusal for ResultError {
+    ghost is_want_of_memory = { is_want_of_memory };
+
+    ghost tells_want_of_memory = { λ n e is. Prim.search rules };
 }
 
 /// The refusal of a member.
