@@ -1,9 +1,11 @@
--- Published ports as JSON.
-use Rattle.std.specs.Prelude.{ℕ, List, codes}
+-- Protocols by their words, and published ports as JSON.
+use Rattle.std.specs.Prelude.{ℕ, List, codes, Option, find}
+use Rattle.std.specs.Str.{bytes_eq}
 use Rattle.serde_json.specs.Data.{Data, object, no_members, put}
 use Rattle.cni_result.specs.Members.{text_data, number_data, ◌▷◌, put_if}
 use Rattle.cni_result.specs.Results.{addr_data}
 use Rattle.cni_result.specs.declared.cached.PortMapping.{PortMapping}
+use Rattle.cni_result.specs.declared.cached.TheConstants.Proto.{ALL}
 use Rattle.cni_result.specs.declared.cached.Proto.{Proto}
 use Rattle.cni_result.specs.declared.cached.Proto.TheVariants.{Tcp, Udp, Sctp}
 
@@ -12,6 +14,10 @@ abbrev pub proto_text : Proto → List ℕ
 proto_text Tcp = codes "tcp"
 proto_text Udp = codes "udp"
 proto_text Sctp = codes "sctp"
+
+-- the protocol whose word the text is
+abbrev pub proto_named : List ℕ → Option Proto
+proto_named text = find (λ protocol. bytes_eq text (proto_text protocol)) ALL
 
 abbrev pub proto_data : Proto → Data
 proto_data protocol = text_data (proto_text protocol)

@@ -1,5 +1,5 @@
 -- Results and errors as JSON (CNI specification 1.1.0, section 5).
-use Rattle.std.specs.Prelude.{ℕ, List, codes}
+use Rattle.std.specs.Prelude.{codes}
 use Rattle.serde_json.specs.Data.{Data, object, Members, no_members, put}
 use Rattle.cni_addr.specs.AddrText.{addr_text}
 use Rattle.cni_addr.specs.CidrText.{cidr_text}
@@ -7,7 +7,7 @@ use Rattle.cni_addr.specs.MacText.{mac_text}
 use Rattle.cni_addr.specs.Value.{AddrValue, CidrValue}
 use Rattle.cni_addr.specs.declared.mac.Mac.{Mac}
 use Rattle.cni_result.specs.Members.{text_data, number_data, list_data, ◌▷◌, put_if, put_text_unless_empty, put_list_unless_empty, put_object_unless_empty}
-use Rattle.cni_result.specs.Versions.{mtu_since_1_1}
+use Rattle.cni_result.specs.Versions.{version_text, mtu_since_1_1}
 use Rattle.cni_result.specs.declared.error.CniError.{CniError}
 use Rattle.cni_result.specs.declared.result.AddResult.{AddResult}
 use Rattle.cni_result.specs.declared.result.Dns.{Dns}
@@ -15,12 +15,6 @@ use Rattle.cni_result.specs.declared.result.Interface.{Interface}
 use Rattle.cni_result.specs.declared.result.IpEntry.{IpEntry}
 use Rattle.cni_result.specs.declared.result.RouteEntry.{RouteEntry}
 use Rattle.cni_result.specs.declared.version.Version.{Version}
-use Rattle.cni_result.specs.declared.version.Version.TheVariants.{V1_0, V1_1}
-
--- a version as `cniVersion` names it
-abbrev pub version_text : Version → List ℕ
-version_text V1_0 = codes "1.0.0"
-version_text V1_1 = codes "1.1.0"
 
 abbrev pub version_data : Version → Data
 version_data version = text_data (version_text version)

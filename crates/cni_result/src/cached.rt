@@ -1,6 +1,9 @@
 //! What the runtime keeps of an attachment for DEL, CHECK and GC (CNI specification 1.1.0, section 3, "Cached
 //! results").
 
+ghost use Rattle.std.specs.Prelude.{◌≡◌, Some};
+ghost use Rattle.cni_result.specs.Mappings.{proto_text, proto_named};
+
 use crate::result::AddResult;
 use cni_addr::{Addr, Duplicate, Items, NoMemory, Text};
 
@@ -10,6 +13,33 @@ pub enum Proto {
     Tcp,
     Udp,
     Sctp,
+}
+
+impl Proto {
+    /// Every protocol once.
+    pub const ALL: [Proto; 3] = [Proto::Tcp, Proto::Udp, Proto::Sctp];
+}
+
+/// The protocol as the `portmap` plugin is configured with it. Takes no memory.
+pub fn proto_text(protocol: Proto) -> &'static str
+    ensures text { result.now ≡ proto_text protocol }
+    ensures named_again { proto_named (proto_text protocol) ≡ Some protocol }
+{
+    match protocol {
+        Proto::Tcp => "tcp",
+        Proto::Udp => "udp",
+        Proto::Sctp => "sctp",
+    }
+}
+
+/// The protocol whose word the text is. Takes no memory.
+pub fn proto_named(text: &str) -> Option<Proto>
+    ensures { result ≡ proto_named text.now }
+{
+    Proto::ALL
+        .iter()
+        .copied()
+        .find(|protocol| text == proto_text(*protocol))
 }
 
 impl PartialEq for Proto {

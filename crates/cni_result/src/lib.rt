@@ -26,12 +26,12 @@ pub mod result;
 mod tests;
 pub mod version;
 
-pub use cached::{Cached, PortMapping, Proto};
+pub use cached::{Cached, PortMapping, Proto, proto_named, proto_text};
 pub use dns::{DnsError, no_dns, read_dns};
 pub use error::CniError;
 pub use members::{JsonObject, ToJson, list_value};
-pub use printing::{error_value, proto_text, result_line, to_value, version_text};
+pub use printing::{error_value, result_line, to_value};
 pub use reading::read_result;
 pub use refusal::ResultError;
 pub use result::{AddResult, Dns, Interface, IpEntry, RouteEntry};
-pub use version::{Version, mtu_since_1_1, version_named};
+pub use version::{Version, mtu_since_1_1, version_named, version_text};

@@ -6,29 +6,19 @@ ghost use Rattle.serde_json.specs.Written.{has_float};
 ghost use Rattle.cni_result.specs.Members.{list_data, members_of};
 ghost use Rattle.cni_json.specs.Json.{line_of};
 ghost use Rattle.cni_result.specs.Laws.{IsReadable};
-ghost use Rattle.cni_result.specs.Mappings.{proto_text, proto_data, mapping_data};
+ghost use Rattle.cni_result.specs.Mappings.{proto_data, mapping_data};
 ghost use Rattle.cni_result.specs.Reading.{result_of_bytes};
-ghost use Rattle.cni_result.specs.Results.{version_text, version_data, addr_data, cidr_data, mac_data, interface_data, ip_data, route_data, dns_members, result_members, result_data, error_data};
+ghost use Rattle.cni_result.specs.Results.{version_data, addr_data, cidr_data, mac_data, interface_data, ip_data, route_data, dns_members, result_members, result_data, error_data};
 
-use crate::cached::{PortMapping, Proto};
+use crate::cached::{PortMapping, Proto, proto_text};
 use crate::error::CniError;
 use crate::members::{JsonObject, ToJson};
 use crate::result::{AddResult, Dns, Interface, IpEntry, RouteEntry};
-use crate::version::{Version, mtu_since_1_1};
+use crate::version::{Version, mtu_since_1_1, version_text};
 use cni_addr::{Addr, Cidr, Mac, NoMemory, write_addr, write_cidr, write_mac};
 use cni_json::{LineNoMemory, line};
 use serde_json::Value;
 use std::alloc::Global;
-
-/// The version as `cniVersion` names it. Takes no memory.
-pub fn version_text(version: Version) -> &'static str
-    ensures { result.now ≡ version_text version }
-{
-    match version {
-        Version::V1_0 => "1.0.0",
-        Version::V1_1 => "1.1.0",
-    }
-}
 
 impl ToJson for Version {
     ghost json = { version_data };
@@ -178,17 +168,6 @@ pub fn error_value(alloc: Global, error: &CniError) -> Result<Value, NoMemory>
     object.put("details", &error.details)?;
     object.put("msg", &error.msg)?;
     Ok(object.into_value())
-}
-
-/// The protocol as the `portmap` plugin is configured with it. Takes no memory.
-pub fn proto_text(protocol: Proto) -> &'static str
-    ensures { result.now ≡ proto_text protocol }
-{
-    match protocol {
-        Proto::Tcp => "tcp",
-        Proto::Udp => "udp",
-        Proto::Sctp => "sctp",
-    }
 }
 
 impl ToJson for Proto {

@@ -8,7 +8,7 @@ use Rattle.cni_addr.specs.AddrText.{addr_text}
 use Rattle.cni_addr.specs.CidrText.{cidr_text}
 use Rattle.cni_addr.specs.declared.address.Addr.{Addr}
 use Rattle.cni_result.specs.declared.error.CniError.{CniError}
-use Rattle.cni_result.specs.Results.{version_text}
+use Rattle.cni_result.specs.Versions.{version_text}
 use Rattle.cni_result.specs.declared.version.Version.{Version}
 use Rattle.cni_result.specs.declared.version.Version.TheVariants.{V1_1}
 use Rattle.net_conf.specs.declared.list.NetList.{NetList}

@@ -5,9 +5,10 @@ use Rattle.std.specs.List.{list_any, list_all, slice_split}
 use Rattle.std.specs.Str.{byte, bytes_eq}
 use Rattle.cni_addr.specs.AddrText.{addr_of_text}
 use Rattle.cni_addr.specs.declared.address.Addr.{Addr}
+use Rattle.cni_result.specs.Mappings.{proto_named}
 use Rattle.cni_result.specs.declared.cached.PortMapping.{PortMapping}
 use Rattle.cni_result.specs.declared.cached.Proto.{Proto}
-use Rattle.cni_result.specs.declared.cached.Proto.TheVariants.{Tcp, Udp, Sctp}
+use Rattle.cni_result.specs.declared.cached.Proto.TheVariants.{Tcp}
 use Rattle.net_conf.specs.Names.{is_container_id, is_interface_name}
 use Rattle.net_conf.specs.declared.chained.Chained.{Chained}
 use Rattle.net_conf.specs.declared.chained.Chained.TheVariants.{Portmap, Firewall, Tuning}
@@ -52,12 +53,9 @@ value_of_argument key text =
 
 -- ---- port mappings (the `portMappings` capability)
 
+-- the protocol whose word the text is; no word means TCP
 abbrev pub proto_of : List ℕ → Option Proto
-proto_of text =
-    if bytes_eq text (codes "tcp") || length text == 0 then Some Tcp
-    else if bytes_eq text (codes "udp") then Some Udp
-    else if bytes_eq text (codes "sctp") then Some Sctp
-    else None
+proto_of text = if length text == 0 then Some Tcp else proto_named text
 
 -- no address, or the text of every address, restricts nothing
 abbrev pub is_any_host : List ℕ → Bool

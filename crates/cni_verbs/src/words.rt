@@ -8,7 +8,7 @@ ghost use Rattle.cni_verbs.specs.CommandWords as words;
 
 use crate::answer::{Cause, WordFaults};
 use cni_addr::{Addr, Duplicate, Items, NoMemory, Text, read_addr};
-use cni_result::{PortMapping, Proto};
+use cni_result::{PortMapping, Proto, proto_named};
 use kernel_types::Att;
 use net_conf::{Chained, NetList, is_container_id, is_interface_name};
 use pod_file::{Command, RawMapping};
@@ -105,14 +105,10 @@ pub fn value_of_argument<'a>(key: &str, text: &'a str) -> Option<&'a str>
 fn proto_of(text: &str) -> Option<Proto>
     ensures { result ≡ words.proto_of text.now }
 {
-    if text == "tcp" || text.is_empty() {
+    if text.is_empty() {
         Some(Proto::Tcp)
-    } else if text == "udp" {
-        Some(Proto::Udp)
-    } else if text == "sctp" {
-        Some(Proto::Sctp)
     } else {
-        None
+        proto_named(text)
     }
 }
 

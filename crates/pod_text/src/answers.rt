@@ -27,10 +27,9 @@ pub fn skip_text(skip: Skip) -> &'static str
 fn versions_value(alloc: Global, version: Version) -> Result<Value, NoMemory>
     ensures { IfOk result (λ v. view v ≡ versions_data version) }
 {
-    let supported = [Version::V1_0, Version::V1_1];
     let mut object = JsonObject::new(alloc);
     object.put("cniVersion", &version)?;
-    object.put_list("supportedVersions", &supported)?;
+    object.put_list("supportedVersions", &Version::ALL)?;
     Ok(object.into_value())
 }
 
