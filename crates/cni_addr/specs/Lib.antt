@@ -4,6 +4,7 @@ pub mod Codes
 pub mod Equal
 pub mod Lists
 pub mod MacText
+pub mod Modes
 pub mod Network
 pub mod TextLaws
 pub mod Value

@@ -37,7 +37,7 @@ pub mod write;
 pub use address::{Addr, Cidr, Family};
 pub use items::{Items, copies};
 pub use mac::Mac;
-pub use macvlan::MacvlanMode;
+pub use macvlan::{MacvlanMode, mode_named, mode_text};
 pub use memory::{Duplicate, NoMemory};
 pub use network::{contains, last_of, network_of, next_addr, whole};
 pub use range::{Range, RangeSet};

@@ -1,4 +1,7 @@
-//! The modes of a macvlan link.
+//! The modes of a macvlan link, and their words.
+
+ghost use Rattle.std.specs.Prelude.{◌≡◌, Some};
+ghost use Rattle.cni_addr.specs.Modes.{mode_text, mode_named};
 
 /// How macvlan links of one master reach each other (the `mode` of the `macvlan` plugin).
 #[derive(Clone, Copy, Debug)]
@@ -7,6 +10,39 @@ pub enum MacvlanMode {
     Private,
     Vepa,
     Passthru,
+}
+
+impl MacvlanMode {
+    /// Every mode once.
+    pub const ALL: [MacvlanMode; 4] = [
+        MacvlanMode::Bridge,
+        MacvlanMode::Private,
+        MacvlanMode::Vepa,
+        MacvlanMode::Passthru,
+    ];
+}
+
+/// The mode as the `macvlan` plugin is configured with it. Takes no memory.
+pub fn mode_text(mode: MacvlanMode) -> &'static str
+    ensures text { result.now ≡ mode_text mode }
+    ensures named_again { mode_named (mode_text mode) ≡ Some mode }
+{
+    match mode {
+        MacvlanMode::Bridge => "bridge",
+        MacvlanMode::Private => "private",
+        MacvlanMode::Vepa => "vepa",
+        MacvlanMode::Passthru => "passthru",
+    }
+}
+
+/// The mode whose word the text is. Takes no memory.
+pub fn mode_named(text: &str) -> Option<MacvlanMode>
+    ensures { result ≡ mode_named text.now }
+{
+    MacvlanMode::ALL
+        .iter()
+        .copied()
+        .find(|mode| text == mode_text(*mode))
 }
 
 impl PartialEq for MacvlanMode {

@@ -4,7 +4,6 @@ use Rattle.std.specs.List.{join_with_byte}
 use Rattle.cni_addr.specs.AddrText.{addr_text}
 use Rattle.cni_addr.specs.MacText.{colon}
 use Rattle.cni_addr.specs.declared.macvlan.MacvlanMode.{MacvlanMode}
-use Rattle.cni_addr.specs.declared.macvlan.MacvlanMode.TheVariants as modes
 use Rattle.kernel_types.specs.declared.object.Chain.{Chain}
 use Rattle.kernel_types.specs.declared.object.Chain.TheVariants as chains
 use Rattle.kernel_types.specs.declared.object.LinkKind.{LinkKind}
@@ -27,13 +26,6 @@ link_mode kinds.Device = None
 link_mode kinds.Bridge = None
 link_mode kinds.Veth = None
 link_mode (kinds.Macvlan mode) = Some mode
-
--- a mode as the `macvlan` plugin is configured with it
-abbrev pub mode_text : MacvlanMode → List ℕ
-mode_text modes.Bridge = codes "bridge"
-mode_text modes.Private = codes "private"
-mode_text modes.Vepa = codes "vepa"
-mode_text modes.Passthru = codes "passthru"
 
 -- a table as iptables names it
 abbrev pub table_text : Table → List ℕ

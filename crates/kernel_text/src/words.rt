@@ -1,7 +1,7 @@
-//! Kinds, modes, tables, chains and targets as texts.
+//! Kinds, tables, chains and targets as texts.
 
 ghost use Rattle.std.specs.Prelude.{◌≡◌, IfOk};
-ghost use Rattle.kernel_text.specs.Words.{link_kind_text, link_mode, mode_text, table_text, chain_text, target_text};
+ghost use Rattle.kernel_text.specs.Words.{link_kind_text, link_mode, table_text, chain_text, target_text};
 
 use cni_addr::{MacvlanMode, NoMemory, Text, write_addr};
 use kernel_types::{Chain, LinkKind, Table, Target};
@@ -26,18 +26,6 @@ pub fn link_mode(kind: LinkKind) -> Option<MacvlanMode>
     match kind {
         LinkKind::Macvlan(mode) => Some(mode),
         LinkKind::Device | LinkKind::Bridge | LinkKind::Veth => None,
-    }
-}
-
-/// The mode as the `macvlan` plugin is configured with it.
-pub fn mode_text(mode: MacvlanMode) -> &'static str
-    ensures { result.now ≡ mode_text mode }
-{
-    match mode {
-        MacvlanMode::Bridge => "bridge",
-        MacvlanMode::Private => "private",
-        MacvlanMode::Vepa => "vepa",
-        MacvlanMode::Passthru => "passthru",
     }
 }
 

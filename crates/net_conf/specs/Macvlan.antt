@@ -1,19 +1,20 @@
 -- The configuration of the `macvlan` plugin, key by key in the order of its refusals.
-use Rattle.std.specs.Prelude.{ℕ, List, [], ◌∷◌, codes, false, if◌then◌else◌, Result, Ok}
-use Rattle.std.specs.Str.{bytes_eq}
+use Rattle.std.specs.Prelude.{ℕ, List, [], ◌∷◌, codes, false, if◌then◌else◌, Result, Ok, ok_or}
 use Rattle.serde_json.specs.Data.{Data}
 use Rattle.cni_json.specs.Fields.{text_field}
 use Rattle.cni_json.specs.Outcome.{◌>>=◌}
 use Rattle.cni_json.specs.declared.fields.Field.{Field}
 use Rattle.cni_json.specs.declared.fields.Field.TheVariants.{Absent, WrongKind, Here}
 use Rattle.cni_addr.specs.declared.macvlan.MacvlanMode.{MacvlanMode}
-use Rattle.cni_addr.specs.declared.macvlan.MacvlanMode.TheVariants as modes
+use Rattle.cni_addr.specs.Modes.{mode_named}
+use Rattle.cni_addr.specs.declared.macvlan.MacvlanMode.TheVariants.{Bridge}
 use Rattle.net_conf.specs.Ipam.{addressing_at}
 use Rattle.net_conf.specs.Members.{mtu_at}
 use Rattle.net_conf.specs.Names.{is_interface_name}
 use Rattle.net_conf.specs.Outside.{Row, all_supported}
 use Rattle.net_conf.specs.Refusals.{invalid}
 use Rattle.net_conf.specs.declared.error.ConfError.{ConfError}
+use Rattle.net_conf.specs.declared.error.ConfError.TheVariants as refusal
 use Rattle.net_conf.specs.declared.first.MacvlanConf.{MacvlanConf}
 use Rattle.net_conf.specs.declared.outside.Accepted.TheVariants.{IsFlag}
 
@@ -30,18 +31,10 @@ master_of (Here text) = if is_interface_name text then Ok text else invalid (cod
 unfoldable pub master_at : Data → Result (List ℕ) ConfError
 master_at d = master_of (text_field (codes "master") d)
 
-abbrev pub mode_named : List ℕ → Result MacvlanMode ConfError
-mode_named text =
-    if bytes_eq text (codes "bridge") then Ok modes.Bridge
-    else if bytes_eq text (codes "private") then Ok modes.Private
-    else if bytes_eq text (codes "vepa") then Ok modes.Vepa
-    else if bytes_eq text (codes "passthru") then Ok modes.Passthru
-    else invalid (codes "mode")
-
 abbrev pub mode_of : Field (List ℕ) → Result MacvlanMode ConfError
-mode_of Absent = Ok modes.Bridge
+mode_of Absent = Ok Bridge
 mode_of WrongKind = invalid (codes "mode")
-mode_of (Here text) = mode_named text
+mode_of (Here text) = ok_or (mode_named text) (refusal.Invalid (codes "mode"))
 
 -- the mode of the link
 unfoldable pub mode_at : Data → Result MacvlanMode ConfError

@@ -14,7 +14,7 @@ use crate::ipam::addressing_of;
 use crate::members::mtu;
 use crate::names::is_interface_name;
 use crate::outside::{Accepted, all_supported};
-use cni_addr::{MacvlanMode, Text};
+use cni_addr::{MacvlanMode, Text, mode_named};
 use cni_json::{Field, Value, field_str};
 use std::alloc::Global;
 
@@ -64,10 +64,11 @@ fn mode(alloc: Global, object: &Value) -> Result<MacvlanMode, ConfError>
     ensures { GivesAs is_want_of_memory (λ mode. mode) result (wanted.mode_at (view object.now)) }
 {
     match field_str(object, "mode") {
-        Field::Absent | Field::Here("bridge") => Ok(MacvlanMode::Bridge),
-        Field::Here("private") => Ok(MacvlanMode::Private),
-        Field::Here("vepa") => Ok(MacvlanMode::Vepa),
-        Field::Here("passthru") => Ok(MacvlanMode::Passthru),
-        Field::Here(_) | Field::WrongKind => Err(invalid(alloc, "mode")),
+        Field::Absent => Ok(MacvlanMode::Bridge),
+        Field::WrongKind => Err(invalid(alloc, "mode")),
+        Field::Here(found) => match mode_named(found) {
+            Some(mode) => Ok(mode),
+            None => Err(invalid(alloc, "mode")),
+        },
     }
 }
