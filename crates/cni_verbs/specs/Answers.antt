@@ -15,8 +15,8 @@ use Rattle.net_conf.specs.declared.list.NetList.{NetList}
 use Rattle.pod_file.specs.declared.command.Command.{Command}
 use Rattle.pod_file.specs.declared.command.Verb.{Verb}
 use Rattle.pod_file.specs.declared.command.Verb.TheVariants as verbs
-use Rattle.kernel_text.specs.Words.{chain_text, table_text}
-use Rattle.kernel_types.specs.Texts.{attachment_text, tag_text}
+use Rattle.kernel_text.specs.Words.{chain_text}
+use Rattle.kernel_types.specs.Texts.{attachment_text, tag_text, table_text}
 use Rattle.kernel_types.specs.Words.{is_host_ns}
 use Rattle.cni_verbs.specs.CommandWords.{att_of}
 use Rattle.cni_verbs.specs.ErrorKinds.{kind_code, kind_title, message_about, message_of_field}

@@ -6,8 +6,8 @@ ghost use Rattle.cni_verbs.specs.Answers as answers;
 
 use crate::answer::Missed;
 use cni_addr::{Addr, Cidr, NoMemory, Text, write_addr, write_cidr};
-use kernel_text::words::{chain_text, table_text};
-use kernel_types::{Chain, Table};
+use kernel_text::words::chain_text;
+use kernel_types::{Chain, Table, table_text};
 use std::alloc::Global;
 
 fn place_text(ns: &str) -> &str

@@ -1,4 +1,4 @@
--- Kinds, tables, chains and protocols as texts.
+-- The mode of a link, and chains and targets as texts.
 use Rattle.std.specs.Prelude.{ℕ, List, [], ◌∷◌, ◌++◌, codes, Option, Some, None, decimal}
 use Rattle.std.specs.List.{join_with_byte}
 use Rattle.cni_addr.specs.AddrText.{addr_text}
@@ -8,17 +8,8 @@ use Rattle.kernel_types.specs.declared.object.Chain.{Chain}
 use Rattle.kernel_types.specs.declared.object.Chain.TheVariants as chains
 use Rattle.kernel_types.specs.declared.object.LinkKind.{LinkKind}
 use Rattle.kernel_types.specs.declared.object.LinkKind.TheVariants as kinds
-use Rattle.kernel_types.specs.declared.object.Table.{Table}
-use Rattle.kernel_types.specs.declared.object.Table.TheVariants as tables
 use Rattle.kernel_types.specs.declared.object.Target.{Target}
 use Rattle.kernel_types.specs.declared.object.Target.TheVariants as targets
-
--- what a link is
-abbrev pub link_kind_text : LinkKind → List ℕ
-link_kind_text kinds.Device = codes "device"
-link_kind_text kinds.Bridge = codes "bridge"
-link_kind_text kinds.Veth = codes "veth"
-link_kind_text (kinds.Macvlan mode) = codes "macvlan"
 
 -- the mode of a macvlan link; no other link has one
 abbrev pub link_mode : LinkKind → Option MacvlanMode
@@ -26,11 +17,6 @@ link_mode kinds.Device = None
 link_mode kinds.Bridge = None
 link_mode kinds.Veth = None
 link_mode (kinds.Macvlan mode) = Some mode
-
--- a table as iptables names it
-abbrev pub table_text : Table → List ℕ
-table_text tables.Nat = codes "nat"
-table_text tables.Filter = codes "filter"
 
 -- a chain, by the names of the reference plugins
 abbrev pub chain_text : Chain → List ℕ

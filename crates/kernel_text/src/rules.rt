@@ -6,10 +6,10 @@ ghost use Rattle.kernel_text.specs.Dump.{rule_data, put_match, put_chain, settin
 
 use crate::dump::Dumped;
 use crate::tags::put_tag;
-use crate::words::{chain_text, table_text, target_text};
+use crate::words::{chain_text, target_text};
 use cni_addr::NoMemory;
 use cni_result::JsonObject;
-use kernel_types::{Rule, Setting};
+use kernel_types::{Rule, Setting, table_text};
 use serde_json::Value;
 use std::alloc::Global;
 

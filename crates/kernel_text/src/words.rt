@@ -1,23 +1,11 @@
-//! Kinds, tables, chains and targets as texts.
+//! The mode of a link, and chains and targets as texts.
 
 ghost use Rattle.std.specs.Prelude.{◌≡◌, IfOk};
-ghost use Rattle.kernel_text.specs.Words.{link_kind_text, link_mode, table_text, chain_text, target_text};
+ghost use Rattle.kernel_text.specs.Words.{link_mode, chain_text, target_text};
 
 use cni_addr::{MacvlanMode, NoMemory, Text, write_addr};
-use kernel_types::{Chain, LinkKind, Table, Target};
+use kernel_types::{Chain, LinkKind, Target};
 use std::alloc::Global;
-
-/// What the link is.
-pub fn link_kind_text(kind: LinkKind) -> &'static str
-    ensures { result.now ≡ link_kind_text kind }
-{
-    match kind {
-        LinkKind::Device => "device",
-        LinkKind::Bridge => "bridge",
-        LinkKind::Veth => "veth",
-        LinkKind::Macvlan(_) => "macvlan",
-    }
-}
 
 /// The mode of a macvlan link; no other link has one.
 pub fn link_mode(kind: LinkKind) -> Option<MacvlanMode>
@@ -26,16 +14,6 @@ pub fn link_mode(kind: LinkKind) -> Option<MacvlanMode>
     match kind {
         LinkKind::Macvlan(mode) => Some(mode),
         LinkKind::Device | LinkKind::Bridge | LinkKind::Veth => None,
-    }
-}
-
-/// The table as iptables names it.
-pub fn table_text(table: Table) -> &'static str
-    ensures { result.now ≡ table_text table }
-{
-    match table {
-        Table::Nat => "nat",
-        Table::Filter => "filter",
     }
 }
 

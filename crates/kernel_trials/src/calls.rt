@@ -5,7 +5,7 @@ use crate::objects::{
 };
 use crate::words::{RowError, cidr_of, cut, kind_of, placed};
 use cni_addr::{Family, Text};
-use kernel_types::{Call, Change, Object, Probe, Table, link_mac};
+use kernel_types::{Call, Change, Object, Probe, link_mac, table_named};
 use std::alloc::Global;
 
 /// `Begin CONTAINER NAMESPACE`; the host's own namespace is written `host`.
@@ -213,10 +213,13 @@ fn drop_link(alloc: Global, words: &str) -> Result<Call, RowError> {
     })
 }
 
-fn flush(table: Table) -> Result<Call, RowError> {
-    Ok(Call::Outside {
-        change: Change::Flush(table),
-    })
+fn flush(words: &str) -> Result<Call, RowError> {
+    match table_named(words) {
+        Some(table) => Ok(Call::Outside {
+            change: Change::Flush(table),
+        }),
+        None => Err(RowError::NoCall),
+    }
 }
 
 fn outside(alloc: Global, verb: &str, words: &str) -> Result<Call, RowError> {
@@ -224,8 +227,7 @@ fn outside(alloc: Global, verb: &str, words: &str) -> Result<Call, RowError> {
         "NsAdd" => ns_change(alloc, words, true),
         "NsDel" => ns_change(alloc, words, false),
         "DropLink" => drop_link(alloc, words),
-        "Flush" if words == "nat" => flush(Table::Nat),
-        "Flush" if words == "filter" => flush(Table::Filter),
+        "Flush" => flush(words),
         _ => Err(RowError::NoCall),
     }
 }

@@ -1,8 +1,14 @@
--- How attachments and owners are written in messages, traces and dumps.
-use Rattle.std.specs.Prelude.{ℕ, List, ◌++◌, codes}
+-- How attachments, owners, kinds of links and tables are written in messages, traces and dumps, and named in pod files.
+use Rattle.std.specs.Prelude.{ℕ, List, ◌++◌, codes, Option, find}
+use Rattle.std.specs.Str.{bytes_eq}
 use Rattle.kernel_types.specs.declared.object.Att.{Att}
+use Rattle.kernel_types.specs.declared.object.LinkKind.{LinkKind}
+use Rattle.kernel_types.specs.declared.object.LinkKind.TheVariants as kinds
+use Rattle.kernel_types.specs.declared.object.Table.{Table}
+use Rattle.kernel_types.specs.declared.object.Table.TheVariants as tables
 use Rattle.kernel_types.specs.declared.object.Tag.{Tag}
 use Rattle.kernel_types.specs.declared.object.Tag.TheVariants.{Outside, Base, Own}
+use Rattle.kernel_types.specs.declared.object.TheConstants.Table.{ALL}
 
 -- `NETWORK/CONTAINER/IFNAME`
 abbrev pub attachment_text : Att → List ℕ
@@ -12,3 +18,19 @@ abbrev pub tag_text : Tag → List ℕ
 tag_text Outside = codes "outside"
 tag_text Base = codes "base"
 tag_text (Own att) = attachment_text att
+
+-- what a link is
+abbrev pub link_kind_text : LinkKind → List ℕ
+link_kind_text kinds.Device = codes "device"
+link_kind_text kinds.Bridge = codes "bridge"
+link_kind_text kinds.Veth = codes "veth"
+link_kind_text (kinds.Macvlan mode) = codes "macvlan"
+
+-- a table as iptables names it
+abbrev pub table_text : Table → List ℕ
+table_text tables.Nat = codes "nat"
+table_text tables.Filter = codes "filter"
+
+-- the table whose word the text is
+abbrev pub table_named : List ℕ → Option Table
+table_named text = find (λ table. bytes_eq text (table_text table)) ALL

@@ -5,7 +5,7 @@
 //! call; `IsSound` says what holds of every host, `IsAllowed` when a call may be made, `Touches` what it may change.
 //! The laws that join these are carried by the functions of [`laws`].
 //! Crates above make plans of calls; the crate `kernel_model` has a kernel that carries them out. What more than one of
-//! them asks of links, tags and namespaces is in [`words`].
+//! them asks of links, tags and namespaces is in [`words`]; the words of kinds and tables are in [`texts`].
 #![tactic(auto)]
 
 pub mod call;
@@ -14,6 +14,7 @@ pub mod laws;
 pub mod link_values;
 pub mod names;
 pub mod object;
+pub mod texts;
 pub mod words;
 
 pub use call::{Call, Change, Given, Kind, Object, Probe, Reply};
@@ -23,3 +24,4 @@ pub use object::{
     AddrObj, Att, CachedObj, Chain, Host, Last, Lease, Link, LinkKey, LinkKind, NsObj, RouteObj,
     Rule, Setting, Table, Tag, Target,
 };
+pub use texts::{link_kind_text, table_named, table_text};

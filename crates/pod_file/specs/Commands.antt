@@ -5,8 +5,8 @@ use Rattle.serde_json.specs.Data.{Data}
 use Rattle.cni_json.specs.Fields.{text_field, u64_field, u64_of, member_or, object_or}
 use Rattle.cni_json.specs.Outcome.{◌>>=◌}
 use Rattle.cni_json.specs.declared.fields.Field.{Field}
+use Rattle.kernel_types.specs.Texts.{table_named}
 use Rattle.kernel_types.specs.declared.object.Table.{Table}
-use Rattle.kernel_types.specs.declared.object.Table.TheVariants.{Nat, Filter}
 use Rattle.pod_file.specs.Members.{text_at, needed_text_at, list_at, mappings_at, valid_at}
 use Rattle.pod_file.specs.Refusals.{wrong, wrong_key, command_path}
 use Rattle.pod_file.specs.declared.command.Command.{Command}
@@ -75,17 +75,16 @@ texts_at place verb d = do
 
 -- ---- the table, and when to stop or to fail
 
-abbrev pub table_named : CommandPlace → List ℕ → Result (Option Table) PodError
-table_named place text =
-    if bytes_eq text (codes "nat") then Ok (Some Nat)
-    else if bytes_eq text (codes "filter") then Ok (Some Filter)
-    else wrong_key place (codes "table")
+abbrev pub table_or_wrong : CommandPlace → Option Table → Result (Option Table) PodError
+table_or_wrong place None = wrong_key place (codes "table")
+table_or_wrong place (Some table) = Ok (Some table)
 
 abbrev pub no_table : CommandPlace → Verb → Result (Option Table) PodError
 no_table place verb = if needs_table verb then wrong_key place (codes "table") else Ok None
 
 abbrev pub table_of : CommandPlace → Verb → Field (List ℕ) → Result (Option Table) PodError
-table_of place verb f = member_or (no_table place verb) (wrong_key place (codes "table")) (table_named place) f
+table_of place verb f =
+    member_or (no_table place verb) (wrong_key place (codes "table")) (λ text. table_or_wrong place (table_named text)) f
 
 -- the table that a flush empties
 unfoldable pub table_at : CommandPlace → Verb → Data → Result (Option Table) PodError

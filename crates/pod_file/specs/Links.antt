@@ -1,5 +1,5 @@
 -- The links of an opening.
-use Rattle.std.specs.Prelude.{ℕ, ◌+◌, ◌||◌, List, [], ◌∷◌, ◌++◌, codes, Bool, if◌then◌else◌, Result, Ok, ⊤}
+use Rattle.std.specs.Prelude.{ℕ, ◌+◌, ◌||◌, List, [], ◌∷◌, ◌++◌, codes, Bool, if◌then◌else◌, Result, Ok, ok_or, Option, find, ⊤}
 use Rattle.std.specs.List.{list_any}
 use Rattle.std.specs.Str.{bytes_eq}
 use Rattle.serde_json.specs.Data.{Data, Items, no_items, item}
@@ -7,15 +7,17 @@ use Rattle.cni_json.specs.Fields.{text_field, list_field, u64_field, member_or, 
 use Rattle.cni_json.specs.Outcome.{◌>>=◌}
 use Rattle.cni_json.specs.declared.fields.Field.{Field}
 use Rattle.kernel_types.specs.Names.{link_mac_of}
+use Rattle.kernel_types.specs.Texts.{link_kind_text}
 use Rattle.kernel_types.specs.Words.{is_host_ns, is_at, new_link}
 use Rattle.kernel_types.specs.declared.object.Link.{Link}
 use Rattle.kernel_types.specs.declared.object.LinkKind.{LinkKind}
-use Rattle.kernel_types.specs.declared.object.LinkKind.TheVariants.{Device, Bridge}
 use Rattle.kernel_types.specs.declared.object.Tag.TheVariants.{Outside}
 use Rattle.net_conf.specs.Members.{default_mtu, is_mtu}
 use Rattle.net_conf.specs.Names.{is_interface_name}
 use Rattle.pod_file.specs.Refusals.{wrong, member_path}
 use Rattle.pod_file.specs.declared.error.PodError.{PodError}
+use Rattle.pod_file.specs.declared.error.PodError.TheVariants as refusal
+use Rattle.pod_file.specs.declared.links.TheConstants.{KINDS}
 
 -- a fault in a link has the link's place, and no deeper one
 abbrev pub wrong_link : {A : Type 0} → ℕ → Result A PodError
@@ -31,14 +33,14 @@ interface_name index text = if is_interface_name text then Ok text else wrong_li
 unfoldable pub name_at : ℕ → Data → Result (List ℕ) PodError
 name_at index d = member_or (wrong_link index) (wrong_link index) (interface_name index) (text_field (codes "name") d)
 
-abbrev pub kind_named : ℕ → List ℕ → Result LinkKind PodError
-kind_named index text =
-    if bytes_eq text (codes "device") then Ok Device
-    else if bytes_eq text (codes "bridge") then Ok Bridge
-    else wrong_link index
+-- the kind whose word the text is, of those that an opening may have
+abbrev pub kind_named : List ℕ → Option LinkKind
+kind_named text = find (λ kind. bytes_eq text (link_kind_text kind)) KINDS
 
 abbrev pub kind_of : ℕ → Field (List ℕ) → Result LinkKind PodError
-kind_of index f = member_or (wrong_link index) (wrong_link index) (kind_named index) f
+kind_of index f =
+    member_or (wrong_link index) (wrong_link index)
+      (λ text. ok_or (kind_named text) (refusal.Shape (member_path (codes "opening.links") index))) f
 
 -- what kind of link it is
 unfoldable pub kind_at : ℕ → Data → Result LinkKind PodError

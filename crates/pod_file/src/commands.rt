@@ -13,7 +13,7 @@ use crate::members::{mappings, needed_text, text, valid_attachments};
 use crate::place::CommandPlace;
 use cni_addr::{Items, Text};
 use cni_json::{Field, Value, field_list, field_str, field_u64};
-use kernel_types::Table;
+use kernel_types::{Table, table_named};
 use std::alloc::Global;
 
 /// The texts that name what a command is about.
@@ -138,9 +138,11 @@ fn table(
     match field_str(command, "table") {
         Field::Absent if needs_table(verb) => Err(wrong_key(alloc, place, "table")),
         Field::Absent => Ok(None),
-        Field::Here("nat") => Ok(Some(Table::Nat)),
-        Field::Here("filter") => Ok(Some(Table::Filter)),
-        Field::Here(_) | Field::WrongKind => Err(wrong_key(alloc, place, "table")),
+        Field::WrongKind => Err(wrong_key(alloc, place, "table")),
+        Field::Here(found) => match table_named(found) {
+            Some(table) => Ok(Some(table)),
+            None => Err(wrong_key(alloc, place, "table")),
+        },
     }
 }
 

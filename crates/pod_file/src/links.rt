@@ -14,9 +14,12 @@ use crate::error::{PodError, wrong, wrong_member};
 use cni_addr::{Items, Text};
 use cni_json::{Field, Value, field_list, field_str, field_u64};
 use kernel_types::words::is_at;
-use kernel_types::{Link, LinkKey, LinkKind, Tag, link_mac};
+use kernel_types::{Link, LinkKey, LinkKind, Tag, link_kind_text, link_mac};
 use net_conf::{DEFAULT_MTU, is_interface_name, is_mtu};
 use std::alloc::Global;
+
+/// The kinds of links that an opening may have, each once.
+const KINDS: [LinkKind; 2] = [LinkKind::Device, LinkKind::Bridge];
 
 /// The links, none where there is no list of them.
 #[tactic(auto, using(cni_json::proofs::Steps::steps), unfolding(crate::specs::Links::links_at))]
@@ -95,10 +98,21 @@ fn kind(alloc: Global, index: usize, member: &Value) -> Result<LinkKind, PodErro
     ensures { GivesAs is_want_of_memory (λ kind. kind) result (wanted.kind_at index (view member.now)) }
 {
     match field_str(member, "kind") {
-        Field::Here("device") => Ok(LinkKind::Device),
-        Field::Here("bridge") => Ok(LinkKind::Bridge),
-        Field::Here(_) | Field::Absent | Field::WrongKind => Err(wrong_link(alloc, index)),
+        Field::Absent | Field::WrongKind => Err(wrong_link(alloc, index)),
+        Field::Here(found) => match kind_named(found) {
+            Some(kind) => Ok(kind),
+            None => Err(wrong_link(alloc, index)),
+        },
     }
+}
+
+fn kind_named(text: &str) -> Option<LinkKind>
+    ensures { result ≡ wanted.kind_named text.now }
+{
+    KINDS
+        .iter()
+        .copied()
+        .find(|kind| text == link_kind_text(*kind))
 }
 
 #[tactic(auto, using(cni_json::proofs::Steps::steps), unfolding(crate::specs::Links::ns_at))]
