@@ -13,8 +13,7 @@ use Rattle.cni_result.specs.declared.version.Version.{Version}
 use Rattle.cni_result.specs.declared.version.Version.TheVariants.{V1_1}
 use Rattle.net_conf.specs.declared.list.NetList.{NetList}
 use Rattle.pod_file.specs.declared.command.Command.{Command}
-use Rattle.pod_file.specs.declared.command.Verb.{Verb}
-use Rattle.pod_file.specs.declared.command.Verb.TheVariants as verbs
+use Rattle.pod_file.specs.Commands.{verb_text}
 use Rattle.kernel_text.specs.Words.{chain_text}
 use Rattle.kernel_types.specs.Texts.{attachment_text, tag_text, table_text}
 use Rattle.kernel_types.specs.Words.{is_host_ns}
@@ -84,19 +83,6 @@ message_of (TooOld version) = message_about kinds.IncompatibleVersion (version_t
 message_of cause = kind_title (kind_of cause)
 
 -- ---- details
-
--- a verb as pod files spell it
-abbrev pub verb_text : Verb → List ℕ
-verb_text verbs.Add = codes "ADD"
-verb_text verbs.Check = codes "CHECK"
-verb_text verbs.Del = codes "DEL"
-verb_text verbs.Gc = codes "GC"
-verb_text verbs.Status = codes "STATUS"
-verb_text verbs.Version = codes "VERSION"
-verb_text verbs.NsAdd = codes "NSADD"
-verb_text verbs.NsDel = codes "NSDEL"
-verb_text verbs.Drop = codes "DROP"
-verb_text verbs.Flush = codes "FLUSH"
 
 -- a namespace; the host's has no name
 abbrev pub place_text : List ℕ → List ℕ

@@ -1,12 +1,8 @@
 //! What a command is answered, and why an attachment's verb refuses.
 
-ghost use Rattle.std.specs.Prelude.{◌≡◌};
-ghost use Rattle.cni_verbs.specs.Answers.{verb_text};
-
 use cni_addr::{Addr, Cidr, Items, Text};
 use cni_result::{AddResult, CniError, Version};
 use kernel_types::{Call, Chain, Table, Tag};
-use pod_file::Verb;
 
 /// A verb that a list disables (`disableCheck`, `disableGC`).
 #[derive(Clone, Copy)]
@@ -145,22 +141,4 @@ pub enum Ending {
     Skipped(Skip),
     Versions,
     Refused(Cause),
-}
-
-/// The verb as pod files spell it. Takes no memory.
-pub fn verb_text(verb: Verb) -> &'static str
-    ensures { result.now ≡ verb_text verb }
-{
-    match verb {
-        Verb::Add => "ADD",
-        Verb::Check => "CHECK",
-        Verb::Del => "DEL",
-        Verb::Gc => "GC",
-        Verb::Status => "STATUS",
-        Verb::Version => "VERSION",
-        Verb::NsAdd => "NSADD",
-        Verb::NsDel => "NSDEL",
-        Verb::Drop => "DROP",
-        Verb::Flush => "FLUSH",
-    }
 }

@@ -5,14 +5,14 @@ ghost use Rattle.serde_json.specs.Data.{string};
 ghost use Rattle.serde_json.specs.Written.{compact_text};
 ghost use Rattle.cni_verbs.specs.Answers as answers;
 
-use crate::answer::{Answer, Cause, WordFaults, verb_text};
+use crate::answer::{Answer, Cause, WordFaults};
 use crate::error_kind::{ErrorKind, message_of_field};
 use crate::missed::missed_text;
 use crate::words::att_of;
 use cni_addr::{Duplicate, Items, NoMemory, Text};
 use cni_result::{CniError, Version, version_text};
 use kernel_text::{attachment_text, tag_text};
-use pod_file::Command;
+use pod_file::{Command, verb_text};
 use serde_json::Value;
 use std::alloc::Global;
 

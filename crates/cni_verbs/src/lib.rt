@@ -39,7 +39,7 @@ mod start;
 pub mod wanted;
 pub mod words;
 
-pub use answer::{Answer, Cause, Ending, Missed, Question, Skip, WordFaults, verb_text};
+pub use answer::{Answer, Cause, Ending, Missed, Question, Skip, WordFaults};
 pub use error_kind::{ErrorKind, memory_error, message_of_field, plain_error, titled_error};
 pub use run::Run;
 

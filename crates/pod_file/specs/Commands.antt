@@ -1,5 +1,5 @@
 -- A command of a pod file, key by key in the order of its refusals. Each key is tested at every verb.
-use Rattle.std.specs.Prelude.{ℕ, ◌&&◌, List, [], codes, Bool, true, false, nat_le, if◌then◌else◌, Result, Ok, Option, Some, None, ⊤}
+use Rattle.std.specs.Prelude.{ℕ, ◌&&◌, List, [], codes, Bool, true, false, nat_le, if◌then◌else◌, Result, Ok, ok_or, Option, Some, None, find, ⊤}
 use Rattle.std.specs.Str.{bytes_eq}
 use Rattle.serde_json.specs.Data.{Data}
 use Rattle.cni_json.specs.Fields.{text_field, u64_field, u64_of, member_or, object_or}
@@ -8,12 +8,14 @@ use Rattle.cni_json.specs.declared.fields.Field.{Field}
 use Rattle.kernel_types.specs.Texts.{table_named}
 use Rattle.kernel_types.specs.declared.object.Table.{Table}
 use Rattle.pod_file.specs.Members.{text_at, needed_text_at, list_at, mappings_at, valid_at}
-use Rattle.pod_file.specs.Refusals.{wrong, wrong_key, command_path}
+use Rattle.pod_file.specs.Refusals.{wrong, wrong_key, command_path, key_path}
 use Rattle.pod_file.specs.declared.command.Command.{Command}
 use Rattle.pod_file.specs.declared.command.Verb.{Verb}
 use Rattle.pod_file.specs.declared.command.Verb.TheVariants as verbs
+use Rattle.pod_file.specs.declared.command.TheConstants.Verb.{ALL}
 use Rattle.pod_file.specs.declared.commands.CommandTexts.{CommandTexts}
 use Rattle.pod_file.specs.declared.error.PodError.{PodError}
+use Rattle.pod_file.specs.declared.error.PodError.TheVariants as refusal
 use Rattle.pod_file.specs.declared.place.CommandPlace.{CommandPlace}
 
 abbrev pub command_object : CommandPlace → Data → Result ⊤ PodError
@@ -24,23 +26,28 @@ command_object place d = object_or (wrong (command_path place)) d
 abbrev pub wrong_verb : {A : Type 0} → CommandPlace → Result A PodError
 wrong_verb place = wrong_key place (codes "verb")
 
-abbrev pub verb_named : CommandPlace → List ℕ → Result Verb PodError
-verb_named place text =
-    if bytes_eq text (codes "ADD") then Ok verbs.Add
-    else if bytes_eq text (codes "CHECK") then Ok verbs.Check
-    else if bytes_eq text (codes "DEL") then Ok verbs.Del
-    else if bytes_eq text (codes "GC") then Ok verbs.Gc
-    else if bytes_eq text (codes "STATUS") then Ok verbs.Status
-    else if bytes_eq text (codes "VERSION") then Ok verbs.Version
-    else if bytes_eq text (codes "NSADD") then Ok verbs.NsAdd
-    else if bytes_eq text (codes "NSDEL") then Ok verbs.NsDel
-    else if bytes_eq text (codes "DROP") then Ok verbs.Drop
-    else if bytes_eq text (codes "FLUSH") then Ok verbs.Flush
-    else wrong_verb place
+-- a verb as pod files and the output spell it
+abbrev pub verb_text : Verb → List ℕ
+verb_text verbs.Add = codes "ADD"
+verb_text verbs.Check = codes "CHECK"
+verb_text verbs.Del = codes "DEL"
+verb_text verbs.Gc = codes "GC"
+verb_text verbs.Status = codes "STATUS"
+verb_text verbs.Version = codes "VERSION"
+verb_text verbs.NsAdd = codes "NSADD"
+verb_text verbs.NsDel = codes "NSDEL"
+verb_text verbs.Drop = codes "DROP"
+verb_text verbs.Flush = codes "FLUSH"
+
+-- the verb whose word the text is
+abbrev pub verb_named : List ℕ → Option Verb
+verb_named text = find (λ verb. bytes_eq text (verb_text verb)) ALL
 
 -- what the command does; it must be there
 unfoldable pub verb_at : CommandPlace → Data → Result Verb PodError
-verb_at place d = member_or (wrong_verb place) (wrong_verb place) (verb_named place) (text_field (codes "verb") d)
+verb_at place d =
+    member_or (wrong_verb place) (wrong_verb place)
+      (λ text. ok_or (verb_named text) (refusal.Shape (key_path place (codes "verb")))) (text_field (codes "verb") d)
 
 -- the verbs of the CNI specification, which speak of a network
 abbrev pub is_of_network : Verb → Bool

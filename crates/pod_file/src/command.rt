@@ -1,7 +1,7 @@
 //! Commands of a pod file.
 
-ghost use Rattle.std.specs.Prelude.{◌≡◌};
-ghost use Rattle.pod_file.specs.Commands.{is_of_network};
+ghost use Rattle.std.specs.Prelude.{◌≡◌, Some};
+ghost use Rattle.pod_file.specs.Commands.{is_of_network, verb_text, verb_named};
 
 use cni_addr::{Items, Text};
 use kernel_types::Table;
@@ -22,6 +22,20 @@ pub enum Verb {
 }
 
 impl Verb {
+    /// Every verb once.
+    pub const ALL: [Verb; 10] = [
+        Verb::Add,
+        Verb::Check,
+        Verb::Del,
+        Verb::Gc,
+        Verb::Status,
+        Verb::Version,
+        Verb::NsAdd,
+        Verb::NsDel,
+        Verb::Drop,
+        Verb::Flush,
+    ];
+
     /// Whether the verb is one of the CNI specification's, which speak of a network.
     pub fn is_of_network(self) -> bool
         ensures { result ≡ is_of_network self }
@@ -51,6 +65,35 @@ impl Eq for Verb {
     ghost use Rattle.pod_file.specs.Codes.{verb_code};
 
     ghost laws = { on_equiv verb_code nat_eq_equiv };
+}
+
+/// The verb as pod files and the output spell it. Takes no memory.
+pub fn verb_text(verb: Verb) -> &'static str
+    ensures text { result.now ≡ verb_text verb }
+    ensures named_again { verb_named (verb_text verb) ≡ Some verb }
+{
+    match verb {
+        Verb::Add => "ADD",
+        Verb::Check => "CHECK",
+        Verb::Del => "DEL",
+        Verb::Gc => "GC",
+        Verb::Status => "STATUS",
+        Verb::Version => "VERSION",
+        Verb::NsAdd => "NSADD",
+        Verb::NsDel => "NSDEL",
+        Verb::Drop => "DROP",
+        Verb::Flush => "FLUSH",
+    }
+}
+
+/// The verb whose word the text is. Takes no memory.
+pub fn verb_named(text: &str) -> Option<Verb>
+    ensures { result ≡ verb_named text.now }
+{
+    Verb::ALL
+        .iter()
+        .copied()
+        .find(|verb| text == verb_text(*verb))
 }
 
 /// A port mapping as it was written: numbers and texts that an ADD tests when it runs.

@@ -7,7 +7,7 @@ ghost use Rattle.pod_file.specs.Commands as wanted;
 ghost use Rattle.cni_json.specs.Each.{each};
 ghost use Rattle.pod_file.specs.Refusals.{is_want_of_memory};
 
-use crate::command::{Command, Verb};
+use crate::command::{Command, Verb, verb_named};
 use crate::error::{PodError, wrong_command, wrong_key};
 use crate::members::{mappings, needed_text, text, valid_attachments};
 use crate::place::CommandPlace;
@@ -71,19 +71,11 @@ fn verb(alloc: Global, place: CommandPlace, command: &Value) -> Result<Verb, Pod
     ensures { GivesAs is_want_of_memory (λ verb. verb) result (wanted.verb_at place (view command.now)) }
 {
     match field_str(command, "verb") {
-        Field::Here("ADD") => Ok(Verb::Add),
-        Field::Here("CHECK") => Ok(Verb::Check),
-        Field::Here("DEL") => Ok(Verb::Del),
-        Field::Here("GC") => Ok(Verb::Gc),
-        Field::Here("STATUS") => Ok(Verb::Status),
-        Field::Here("VERSION") => Ok(Verb::Version),
-        Field::Here("NSADD") => Ok(Verb::NsAdd),
-        Field::Here("NSDEL") => Ok(Verb::NsDel),
-        Field::Here("DROP") => Ok(Verb::Drop),
-        Field::Here("FLUSH") => Ok(Verb::Flush),
-        Field::Here(_) | Field::Absent | Field::WrongKind => {
-            Err(wrong_key(alloc, place, "verb"))
-        }
+        Field::Absent | Field::WrongKind => Err(wrong_key(alloc, place, "verb")),
+        Field::Here(found) => match verb_named(found) {
+            Some(verb) => Ok(verb),
+            None => Err(wrong_key(alloc, place, "verb")),
+        },
     }
 }
 

@@ -28,7 +28,7 @@ mod rounds;
 #[cfg(test)]
 mod tests;
 
-pub use command::{Command, RawMapping, ValidAtt, Verb};
+pub use command::{Command, RawMapping, ValidAtt, Verb, verb_named, verb_text};
 pub use error::PodError;
 pub use laws::pod_file_laws;
 pub use pods::Pods;

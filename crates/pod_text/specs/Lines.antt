@@ -8,7 +8,6 @@ use Rattle.cni_result.specs.Members.{text_data, number_data, list_data, ◌▷�
 use Rattle.cni_result.specs.Results.{version_data, result_data, error_data}
 use Rattle.cni_result.specs.declared.version.Version.{Version}
 use Rattle.cni_result.specs.declared.version.TheConstants.Version.{ALL as every_version}
-use Rattle.cni_verbs.specs.Answers.{verb_text}
 use Rattle.cni_verbs.specs.ErrorKinds.{memory_error}
 use Rattle.cni_verbs.specs.declared.answer.Answer.{Answer}
 use Rattle.cni_verbs.specs.declared.answer.Answer.TheVariants.{Added, Yes, Skipped, Versions, Refused, OutOfMemory, Stopped}
@@ -16,6 +15,7 @@ use Rattle.cni_verbs.specs.declared.answer.Skip.{Skip}
 use Rattle.cni_verbs.specs.declared.answer.Skip.TheVariants as skips
 use Rattle.kernel_text.specs.Dump.{dump_of}
 use Rattle.kernel_text.specs.Replies.{trace_data}
+use Rattle.pod_file.specs.Commands.{verb_text}
 use Rattle.pod_file.specs.declared.command.Command.{Command}
 use Rattle.pod_workers.specs.Plans.{commands_of}
 use Rattle.pod_workers.specs.World.{World, answer_at, host_of}

@@ -8,8 +8,8 @@ ghost use Rattle.pod_text.specs.Lines.{skip_text, versions_data, put_answer, ans
 
 use cni_addr::NoMemory;
 use cni_result::{JsonObject, Version, error_value, to_value};
-use cni_verbs::{Answer, Skip, memory_error, verb_text};
-use pod_file::Command;
+use cni_verbs::{Answer, Skip, memory_error};
+use pod_file::{Command, verb_text};
 use serde_json::Value;
 use std::alloc::Global;
 
