@@ -2,8 +2,8 @@
 use Rattle.std.proofs.Common.{◌≡◌, ℕ, zero, suc, ◌+◌, ◌-◌, ◌^◌, ◌<◌, ◌≤◌, inl, inr, List, Bool, true, false, if◌then◌else◌, nat_lt, arith, refl, ◌∙◌, add-one}
 use Rattle.std.specs.Prelude.{⊤}
 use Rattle.std.proofs.lemmas.Bool.Decides.{nat_tests}
-use Rattle.std.proofs.lemmas.Bool.{cases_Bool, cases_lt}
-use Rattle.cni_io.specs.Faults.{Rose, CountsFault, counted}
+use Rattle.std.proofs.lemmas.Bool.{cases_Bool}
+use Rattle.cni_io.specs.Faults.{Rose, CountsFault}
 use Rattle.cni_io.specs.FailingCalls.{CallsState, failures, failures_among, is_failing, fails_next, next_call}
 
 -- what rose later rose from the start on
