@@ -14,9 +14,7 @@ use bridge_ptp::{
 };
 use cni_addr::{Addr, Duplicate, Items, NoMemory, RangeSet, Text};
 use cni_result::{AddResult, Cached, PortMapping, Version};
-use firewall_tuning::{
-    firewall_calls, firewall_kinds, firewall_result, tuning_calls, tuning_kinds, tuning_result,
-};
+use firewall_tuning::{firewall_calls, firewall_kinds, tuning_calls, tuning_kinds, tuning_result};
 use host_local::given_of;
 use kernel_types::{Att, Call, Given, Kind};
 use net_conf::{Chained, First, HostLocalConf, NetList};
@@ -157,12 +155,12 @@ fn chained_calls(
     }
 }
 
+/// The result of a chained plugin. One that changes nothing of it hands on the result before.
 fn chained_result(alloc: Global, chained: &Chained, prev: &AddResult) -> Result<AddResult, NoMemory>
     ensures { IfOk result (λ r. r ≡ wanted.chained_result chained.now prev.now) }
 {
     match chained {
-        Chained::Portmap(_) => portmap::result(prev),
-        Chained::Firewall(_) => firewall_result(prev),
+        Chained::Portmap(_) | Chained::Firewall(_) => prev.copy(),
         Chained::Tuning(conf) => tuning_result(alloc, conf, prev),
     }
 }

@@ -1,8 +1,8 @@
 //! The plugins `firewall` and `tuning`: what is forwarded to and from a container, its kernel settings and the values
 //! of its link.
 //!
-//! To the verbs each promises its calls, its result and the kinds of objects that DEL takes back as values. They are
-//! those of `specs/Firewall.antt` and `specs/Tuning.antt`.
+//! To the verbs each promises its calls and the kinds of objects that DEL takes back as values, and `tuning` its result;
+//! that of `firewall` is the one before. They are those of `specs/Firewall.antt` and `specs/Tuning.antt`.
 //!
 //! ```text
 //! firewall_calls(alloc, &att, &prev)?       // two RuleAppend for each address
@@ -17,5 +17,5 @@ pub mod laws;
 pub mod tuning;
 
 pub use counts::{firewall_count, setting_count, tuning_count};
-pub use firewall::{firewall_calls, firewall_kinds, firewall_result};
+pub use firewall::{firewall_calls, firewall_kinds};
 pub use tuning::{tuning_calls, tuning_kinds, tuning_result};

@@ -1,7 +1,7 @@
 //! The `portmap` plugin: ports of the host that lead to the container.
 //!
-//! To the verbs it promises its calls, its result and the kinds of objects that DEL takes back as values. The calls are
-//! those of `specs/Portmap.antt`; the result is the one that it is handed.
+//! To the verbs it promises its calls and the kinds of objects that DEL takes back as values. They are those of
+//! `specs/Portmap.antt`; its result is the one before.
 //!
 //! ```text
 //! portmap::calls(alloc, &conf, &att, &mappings, &prev)? // three RuleAppend a mapping
@@ -19,7 +19,7 @@ ghost use Rattle.kernel_types.specs.Equal.{rule_eq};
 ghost use Rattle.cni_addr.specs.Lists.{push_unless_there};
 ghost use Rattle.portmap.specs.Portmap as plan;
 
-use cni_addr::{Addr, Cidr, Duplicate, Family, Items, NoMemory, network_of, whole};
+use cni_addr::{Addr, Cidr, Family, Items, NoMemory, network_of, whole};
 use cni_result::{AddResult, IpEntry, PortMapping};
 pub use counts::{MappingRow, count};
 use kernel_types::{Att, Call, Chain, Kind, Rule, Table, Target};
@@ -209,13 +209,6 @@ pub fn calls(
     let mut all = Vec::new(alloc);
     ask_all(&mut all, rules.as_slice())?;
     Ok(Items::of_vec(all))
-}
-
-/// The result, which is the one before.
-pub fn result(prev: &AddResult) -> Result<AddResult, NoMemory>
-    ensures { IfOk result (λ r. r ≡ prev.now) }
-{
-    prev.copy()
 }
 
 /// The kinds of objects that DEL takes back.
