@@ -40,6 +40,13 @@ fn cause_of(set: u32, number: u64, reply: Reply) -> Cause
     }
 }
 
+/// Reads the cached entry ahead of the deletions, of a run that this reply refuses.
+fn undoing(set: u32, number: u64, refusal: Reply) -> Phase
+    ensures { result ≡ Phase.ReadingCache (Ending.Refused (script.cause_of set number refusal)) }
+{
+    Phase::ReadingCache(Ending::Refused(cause_of(set, number, refusal)))
+}
+
 fn faulted(number: u64, ending: Ending) -> Ending
     ensures { result ≡ script.faulted number ending }
 {
@@ -86,7 +93,7 @@ fn after_begin(calls: usize, sets: usize, number: u64, reply: Reply) -> Phase
 {
     match reply {
         Reply::Done => before_leases(0, calls, sets),
-        refusal => Phase::Over(Ending::Refused(cause_of(0, number, refusal))),
+        refusal => Phase::refused(cause_of(0, number, refusal)),
     }
 }
 
@@ -97,7 +104,7 @@ fn after_call_before(passed: usize, calls: usize, sets: usize, number: u64, repl
 {
     match reply {
         Reply::Done => before_leases(passed + 1, calls, sets),
-        refusal => Phase::ReadingCache(Ending::Refused(cause_of(0, number, refusal))),
+        refusal => undoing(0, number, refusal),
     }
 }
 
@@ -116,7 +123,7 @@ fn after_lease(given: &mut Vec<Addr>, sets: usize, number: u64, reply: Reply) ->
         }
         refusal => {
             let set = given.len() as u32;
-            Phase::ReadingCache(Ending::Refused(cause_of(set, number, refusal)))
+            undoing(set, number, refusal)
         }
     }
 }
@@ -131,7 +138,7 @@ fn after_call_after(passed: usize, calls: Option<Items<Call>>, number: u64, repl
             passed: passed + 1,
             calls,
         },
-        refusal => Phase::ReadingCache(Ending::Refused(cause_of(0, number, refusal))),
+        refusal => undoing(0, number, refusal),
     }
 }
 
@@ -165,8 +172,8 @@ fn after_entry(number: u64, reply: Reply) -> Phase
             passed: 0,
             questions: None,
         }),
-        Reply::Entry(None) => Phase::Over(Ending::Refused(Cause::Unknown)),
-        _ => Phase::Over(Ending::Refused(Cause::Fault(number))),
+        Reply::Entry(None) => Phase::refused(Cause::Unknown),
+        _ => Phase::refused(Cause::Fault(number)),
     }
 }
 
@@ -182,7 +189,7 @@ fn after_question(mut inquiry: Inquiry, number: u64, reply: Reply) -> Phase
             Phase::Asking(inquiry)
         }
         Reply::Has(false) => Phase::Denied(inquiry),
-        _ => Phase::Over(Ending::Refused(Cause::Fault(number))),
+        _ => Phase::refused(Cause::Fault(number)),
     }
 }
 

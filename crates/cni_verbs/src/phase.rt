@@ -1,6 +1,8 @@
 //! How far a run has come.
 
-use crate::answer::Ending;
+ghost use Rattle.std.specs.Prelude.{◌≡◌};
+
+use crate::answer::{Cause, Ending};
 use crate::inquiry::Inquiry;
 use cni_addr::Items;
 use kernel_types::Call;
@@ -32,4 +34,13 @@ pub(crate) enum Phase {
     /// A change from outside is made by this call.
     Changing(Call),
     Over(Ending),
+}
+
+impl Phase {
+    /// The end of a run that is refused for this cause.
+    pub(crate) fn refused(cause: Cause) -> Phase
+        ensures { result ≡ Phase.Over (Ending.Refused cause) }
+    {
+        Phase::Over(Ending::Refused(cause))
+    }
 }

@@ -28,7 +28,7 @@ fn first_of_add(alloc: Global, command: &Command) -> Result<Phase, NoMemory>
     ensures { IfOk result (λ phase. (list : NetList) → IsPhaseOf list command.now 0 [] phase (unless_refused (add_refusal command.now) AtBegin)) }
 {
     match add_refusal(alloc, command)? {
-        Some(cause) => Ok(Phase::Over(Ending::Refused(cause))),
+        Some(cause) => Ok(Phase::refused(cause)),
         None => Ok(Phase::AtBegin),
     }
 }
@@ -37,7 +37,7 @@ fn first_of_del(command: &Command) -> Phase
     ensures { (list : NetList) → IsPhaseOf list command.now 0 [] result (unless_refused (del_refusal command.now) (ReadingCache ending.Yes)) }
 {
     match del_refusal(command) {
-        Some(cause) => Phase::Over(Ending::Refused(cause)),
+        Some(cause) => Phase::refused(cause),
         None => Phase::ReadingCache(Ending::Yes),
     }
 }
@@ -46,7 +46,7 @@ fn first_of_check(list: &NetList, command: &Command) -> Phase
     ensures { IsPhaseOf list.now command.now 0 [] result (start_of list.now Verb.Check command.now) }
 {
     match del_refusal(command) {
-        Some(cause) => Phase::Over(Ending::Refused(cause)),
+        Some(cause) => Phase::refused(cause),
         None => {
             if list.disable_check {
                 Phase::Over(Ending::Skipped(Skip::Check))
@@ -61,7 +61,7 @@ fn first_of_status(list: &NetList) -> Phase
     ensures { (c : Command) → IsPhaseOf list.now c 0 [] result (unless_old list.now.version (asking (status_questions list.now c))) }
 {
     match list.version {
-        Version::V1_0 => Phase::Over(Ending::Refused(Cause::TooOld(Version::V1_0))),
+        Version::V1_0 => Phase::refused(Cause::TooOld(Version::V1_0)),
         Version::V1_1 => Phase::Asking(Inquiry {
             about: None,
             passed: 0,
@@ -97,7 +97,7 @@ fn change_of_namespace(command: &Command, add: bool) -> Result<Phase, NoMemory>
     ensures { IfOk result (λ phase. state_outside phase ≡ unless_refused (netns_refusal command.now) (Changing (call.NsChange command.now.netns add))) }
 {
     match netns_refusal(command) {
-        Some(cause) => Ok(Phase::Over(Ending::Refused(cause))),
+        Some(cause) => Ok(Phase::refused(cause)),
         None => Ok(Phase::Changing(Call::NsChange {
             name: command.netns.copy()?,
             add,
@@ -109,7 +109,7 @@ fn loss_of_link(command: &Command) -> Result<Phase, NoMemory>
     ensures { IfOk result (λ phase. state_outside phase ≡ unless_refused (drop_refusal command.now) (Changing (call.Outside (change.DropLink (record { ns = command.now.netns; name = command.now.ifname }))))) }
 {
     match drop_refusal(command) {
-        Some(cause) => Ok(Phase::Over(Ending::Refused(cause))),
+        Some(cause) => Ok(Phase::refused(cause)),
         None => {
             let key = LinkKey {
                 ns: command.netns.copy()?,
