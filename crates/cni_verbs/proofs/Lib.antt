@@ -1,3 +1,4 @@
+pub mod AfterReplies
 pub mod Arguments
 pub mod Asked
 pub mod BackCounts

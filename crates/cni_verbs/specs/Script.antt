@@ -186,10 +186,13 @@ start_state list c = start_of list c.verb c
 
 -- ---- all replies
 
--- the state after these replies, the first of which has the number after `made`
+-- the state after these replies, by what each makes of it; the first of them has the number after `made`
+abbrev pub after_replies : (ℕ → State → Reply → State) → ℕ → State → List Reply → State
+after_replies step made s [] = s
+after_replies step made s (r ∷ rs) = after_replies step (made + 1) (step (made + 1) s r) rs
+
 abbrev pub state_from : NetList → Command → ℕ → State → List Reply → State
-state_from list c made s [] = s
-state_from list c made s (r ∷ rs) = state_from list c (made + 1) (advance list c (made + 1) s r) rs
+state_from list c made s rs = after_replies (advance list c) made s rs
 
 abbrev pub state_after : NetList → Command → List Reply → State
 state_after list c rs = state_from list c 0 (start_state list c) rs
@@ -216,8 +219,7 @@ outside_advance number (Changing change) r = Over (changed number r) []
 outside_advance number s r = s
 
 abbrev pub outside_from : ℕ → State → List Reply → State
-outside_from made s [] = s
-outside_from made s (r ∷ rs) = outside_from (made + 1) (outside_advance (made + 1) s r) rs
+outside_from made s rs = after_replies outside_advance made s rs
 
 abbrev pub outside_after : Command → List Reply → State
 outside_after c rs = outside_from 0 (outside_start c) rs

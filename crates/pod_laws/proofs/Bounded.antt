@@ -11,7 +11,8 @@ use Rattle.kernel_types.specs.declared.call.Call.{Call}
 use Rattle.kernel_types.specs.declared.call.Reply.{Reply}
 use Rattle.plan_words.specs.Share.{Share, share_of}
 use Rattle.cni_verbs.specs.CommandWords.{att_of}
-use Rattle.cni_verbs.specs.Script.{State, Changing, Over, Calls, turn, advance, start_state, outside_advance, outside_after, outside_from, outside_start}
+use Rattle.cni_verbs.proofs.AfterReplies.{after_replies-keeps}
+use Rattle.cni_verbs.specs.Script.{State, Changing, Over, Calls, turn, advance, start_state, outside_advance, outside_after, outside_start}
 use Rattle.pod_workers.specs.CallsLeft.{AddsInAtMost, calls_left}
 use Rattle.pod_workers.specs.Legal.{Legal}
 use Rattle.pod_workers.specs.Plans.{Placed, commands_of, list_for}
@@ -184,10 +185,6 @@ over-stays : (number : ℕ) (s : State) (r : Reply) → IsOver s → IsOver (out
 over-stays number (Over ending given) r is = tt
 over-stays number _ r is = absurd is
 
-over-from : (made : ℕ) (s : State) (rs : List Reply) → IsOver s → IsOver (outside_from made s rs)
-over-from made s [] is = is
-over-from made s (r ∷ rs) is = over-from (made + 1) (outside_advance (made + 1) s r) rs (over-stays (made + 1) s r is)
-
 over-calls : (c : Command) (s : State) (call : Call) → IsOver s → turn c s ≡ Calls call → ⊥
 unfolding turn
 over-calls c (Over ending given) call is calls = cc
@@ -196,7 +193,7 @@ over-calls c _ call is calls = absurd is
 -- its first call is its last
 only-call : (c : Command) (rs : List Reply) (call : Call) → turn c (outside_after c rs) ≡ Calls call → rs ≡ []
 only-call c [] call is = refl
-only-call c (r ∷ rs) call is = absurd (over-calls c (outside_after c (r ∷ rs)) call (over-from 1 (outside_advance 1 (outside_start c) r) rs (over-advance 1 (outside_start c) r (left-is-outside c []))) is)
+only-call c (r ∷ rs) call is = absurd (over-calls c (outside_after c (r ∷ rs)) call (after_replies-keeps IsOver outside_advance 1 (outside_advance 1 (outside_start c) r) rs over-stays (over-advance 1 (outside_start c) r (left-is-outside c []))) is)
 
 abbrev OneCall : Plan → List Entry → Type 0
 OneCall p h = (n : ℕ) (c : Placed) → slice_get (commands_of p) n ≡ Some c → list_for p c.command ≡ None → length (own_entries n h) ≤ 1

@@ -23,7 +23,8 @@ use Rattle.plan_words.specs.PlanCalls.{is_call_of}
 use Rattle.plan_words.specs.Share.{share_of}
 use Rattle.plan_words.proofs.OtherCalls.{share-other, call-plan}
 use Rattle.cni_verbs.specs.CommandWords.{att_of, netns_refusal, drop_refusal}
-use Rattle.cni_verbs.specs.Script.{State, AtBegin, BeforeLeases, Leasing, AfterLeases, ReadingCache, Deleting, FindingEntry, Asking, Changing, Collecting, Over, Calls, turn, turn_of_work, flush_by, outside_of, outside_start, outside_advance, outside_from}
+use Rattle.cni_verbs.proofs.AfterReplies.{after_replies-keeps}
+use Rattle.cni_verbs.specs.Script.{State, AtBegin, BeforeLeases, Leasing, AfterLeases, ReadingCache, Deleting, FindingEntry, Asking, Changing, Collecting, Over, Calls, turn, turn_of_work, flush_by, outside_of, outside_start, outside_advance}
 use Rattle.cni_verbs.specs.Sweep.{Job, Step, AskCached, Delete, Sweep, step_call}
 use Rattle.cni_verbs.specs.Wanted.{deletion}
 use Rattle.pod_file.specs.Commands.{is_of_network}
@@ -114,10 +115,6 @@ outside-advance c number (Changing change) r h = tt
 outside-advance c number (Over ending given) r h = tt
 outside-advance c number _ r h = absurd h
 
-outside-from : (c : Command) (made : ℕ) (s : State) (rs : List Reply) → FitsOutside c s → FitsOutside c (outside_from made s rs)
-outside-from c made s [] h = h
-outside-from c made s (r ∷ rs) h = outside-from c (made + 1) (outside_advance (made + 1) s r) rs (outside-advance c (made + 1) s r h)
-
 outside-turn : (c : Command) (s : State) (call : Call) → FitsOutside c s → turn c s ≡ Calls call → IsFromOutside c call
 unfolding turn
 outside-turn c (Changing change) call h is = subst (IsFromOutside c) (let e : change ≡ call = cc in e) h
@@ -125,7 +122,7 @@ outside-turn c (Over ending given) call h is = cc
 outside-turn c _ call h is = absurd h
 
 pub change-of : (w : World) (n : ℕ) (c : Placed) (call : Call) (faulty : Bool) → Changes w n c call faulty → IsFromOutside c.command call
-change-of w n c call faulty on = outside-turn c.command _ call (outside-from c.command 0 (outside_start c.command) (own_replies w n) (outside-begun c.command c.command.verb refl)) on.turn_is
+change-of w n c call faulty on = outside-turn c.command _ call (after_replies-keeps (FitsOutside c.command) outside_advance 0 (outside_start c.command) (own_replies w n) (outside-advance c.command) (outside-begun c.command c.command.verb refl)) on.turn_is
 
 -- it only removes
 pub removes-changed : (w : World) (n : ℕ) (c : Placed) (call : Call) (faulty : Bool) → Changes w n c call faulty → OnlyRemoves (host_of w) (host_on (host_of w) (entry_of (host_of w) n call faulty))

@@ -7,6 +7,7 @@ use Rattle.std.proofs.lemmas.Bool.{false≢true}
 use Rattle.std.proofs.lemmas.Bool.Decides.{eqb_tells, leb_tells}
 use Rattle.cni_verbs.specs.Progress.{progress, advanced, turn_by}
 use Rattle.cni_verbs.specs.Script.{State, Turn, Calls, Finishes, turn, state_from, start_state, advance, outside_advance, outside_from, outside_start}
+use Rattle.cni_verbs.proofs.AfterReplies.{after_replies-append}
 use Rattle.cni_verbs.specs.declared.answer.Answer.{Answer}
 use Rattle.cni_verbs.specs.declared.answer.Answer.TheVariants.{OutOfMemory, Stopped}
 use Rattle.kernel_types.specs.declared.call.Call.{Call}
@@ -38,15 +39,10 @@ use Rattle.pod_workers.proofs.WellFormedPlans.{are_numbered}
 -- one more reply makes one more step
 pub state_from-append : (list : NetList) (c : Command) (made : ℕ) (s : State) (rs : List Reply) (r : Reply)
     → state_from list c made s (rs ++ r ∷ []) ≡ advance list c (made + length rs + 1) (state_from list c made s rs) r
-state_from-append list c made s [] r = ap (λ k. advance list c k s r) (omega arith)
-state_from-append list c made s (x ∷ xs) r =
-    state_from-append list c (made + 1) (advance list c (made + 1) s x) xs r
-    ∙ ap (λ k. advance list c k (state_from list c (made + 1) (advance list c (made + 1) s x) xs) r) (omega arith)
+state_from-append list c made s rs r = after_replies-append (advance list c) made s rs r
 
 pub outside_from-append : (made : ℕ) (s : State) (rs : List Reply) (r : Reply) → outside_from made s (rs ++ r ∷ []) ≡ outside_advance (made + length rs + 1) (outside_from made s rs) r
-outside_from-append made s [] r = ap (λ k. outside_advance k s r) (omega arith)
-outside_from-append made s (x ∷ xs) r =
-    outside_from-append (made + 1) (outside_advance (made + 1) s x) xs r ∙ ap (λ k. outside_advance k (outside_from (made + 1) (outside_advance (made + 1) s x) xs) r) (omega arith)
+outside_from-append made s rs r = after_replies-append outside_advance made s rs r
 
 -- one more reply
 progress-append : (list : Option NetList) (c : Command) (rs : List Reply) (r : Reply) → progress list c (rs ++ r ∷ []) ≡ advanced (progress list c rs) r

@@ -20,7 +20,8 @@ use Rattle.kernel_types.specs.declared.object.Table.{Table}
 use Rattle.kernel_types.specs.declared.call.Reply.{Reply}
 use Rattle.cni_verbs.specs.CommandWords.{att_of, add_refusal, any_fault, add_faults, drop_refusal, netns_refusal, no_faults, refusal_by}
 use Rattle.cni_verbs.specs.Questions.{check_questions, status_questions}
-use Rattle.cni_verbs.specs.Script.{State, AtBegin, BeforeLeases, Leasing, AfterLeases, ReadingCache, Deleting, FindingEntry, Asking, Changing, Collecting, Over, before_of, back_of, after_leases, leasing, before_leases, asking, state_after, flush_by, outside_of, outside_start, outside_advance, outside_from, outside_after}
+use Rattle.cni_verbs.proofs.AfterReplies.{after_replies-keeps}
+use Rattle.cni_verbs.specs.Script.{State, AtBegin, BeforeLeases, Leasing, AfterLeases, ReadingCache, Deleting, FindingEntry, Asking, Changing, Collecting, Over, before_of, back_of, after_leases, leasing, before_leases, asking, state_after, flush_by, outside_of, outside_start, outside_advance, outside_after}
 use Rattle.cni_verbs.specs.Wanted.{sets_of}
 use Rattle.cni_verbs.specs.declared.answer.Question.{Question}
 use Rattle.cni_verbs.specs.declared.answer.WordFaults.{WordFaults}
@@ -151,9 +152,5 @@ outside-advance number (Changing change) r h = tt
 outside-advance number (Over ending given) r h = tt
 outside-advance number _ r h = absurd h
 
-outside-from : (made : ℕ) (s : State) (rs : List Reply) → LeftIsOutside s → LeftIsOutside (outside_from made s rs)
-outside-from made s [] h = h
-outside-from made s (r ∷ rs) h = outside-from (made + 1) (outside_advance (made + 1) s r) rs (outside-advance (made + 1) s r h)
-
 pub left-is-outside : (c : Command) (rs : List Reply) → LeftIsOutside (outside_after c rs)
-left-is-outside c rs = outside-from 0 (outside_start c) rs (outside-of c c.verb)
+left-is-outside c rs = after_replies-keeps LeftIsOutside outside_advance 0 (outside_start c) rs outside-advance (outside-of c c.verb)

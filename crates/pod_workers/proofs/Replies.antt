@@ -16,6 +16,7 @@ use Rattle.kernel_types.specs.declared.call.Reply.{Reply}
 use Rattle.kernel_types.specs.declared.call.Reply.TheVariants.{Done, Leased, Gone, Has, Entry, Fault}
 use Rattle.cni_verbs.specs.CommandWords.{add_refusal, del_refusal}
 use Rattle.cni_verbs.specs.Questions.{check_questions, status_questions}
+use Rattle.cni_verbs.proofs.AfterReplies.{after_replies-keeps}
 use Rattle.cni_verbs.specs.Script.{State, AtBegin, BeforeLeases, Leasing, AfterLeases, ReadingCache, Deleting, FindingEntry, Asking, Changing, Collecting, Over, before_of, after_leases, leasing, before_leases, deleting, asking, gc_of, faulted, at_begin, at_call_before, at_lease, at_call_after, at_cache, at_deletion, checking, at_entry, at_question, changed, advance, unless_refused, unless_old, start_of, start_state, state_from, state_after}
 use Rattle.cni_verbs.specs.Sweep.{Work, start_work}
 use Rattle.cni_verbs.specs.Wanted.{kinds_of}
@@ -116,8 +117,7 @@ true-advance P list c number (Collecting work faults) r stays h = stays.collects
 true-advance P list c number (Over ending given) r stays h = h
 
 pub true-from : (P : State → Type 0) (list : NetList) (c : Command) (made : ℕ) (s : State) (rs : List Reply) → StaysTrue list c P → P s → P (state_from list c made s rs)
-true-from P list c made s [] stays h = h
-true-from P list c made s (r ∷ rs) stays h = true-from P list c (made + 1) (advance list c (made + 1) s r) rs stays (true-advance P list c (made + 1) s r stays h)
+true-from P list c made s rs stays h = after_replies-keeps P (advance list c) made s rs (λ number t r was. true-advance P list c number t r stays was) h
 
 -- ---- the start
 
