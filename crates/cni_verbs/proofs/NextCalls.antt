@@ -1,5 +1,5 @@
 -- What a phase calls next, and how it ends.
-use Rattle.std.proofs.Common.{◌≡◌, ℕ, ◌^◌, ◌<◌, ◌≤◌, List, [], ◌∷◌, length, drop, refl, sym, ap, ◌∙◌, subst, arith, Option, Some, None, Result, inl, inr}
+use Rattle.std.proofs.Common.{◌≡◌, ℕ, ◌+◌, ◌^◌, ◌<◌, ◌≤◌, List, [], ◌∷◌, length, drop, refl, sym, ap, ◌∙◌, subst, arith, Option, Some, None, Result, inl, inr}
 use Rattle.std.specs.Prelude.{◌⊎◌, slice_get, option_map, IfOk, Ok, Err}
 use Rattle.cni_addr.specs.declared.address.Addr.{Addr}
 use Rattle.net_conf.specs.declared.list.NetList.{NetList}
@@ -10,7 +10,7 @@ use Rattle.kernel_types.specs.declared.call.Call.TheVariants.{Begin, LeaseNext, 
 use Rattle.cni_verbs.specs.CommandWords.{att_of}
 use Rattle.cni_verbs.specs.Wanted.{sets_of, kinds_of, deletion}
 use Rattle.cni_verbs.specs.Script as script
-use Rattle.cni_verbs.specs.Script.{Finish, before_of, back_of, next_call, finish_of}
+use Rattle.cni_verbs.specs.Script.{State, Finish, before_of, back_of, next_call, finish_of}
 use Rattle.cni_verbs.specs.Phases.{Stands, IsPrepared, IsKept, IsKeptBy, IsPhaseOf, IsSameButPrepared, denied, questions_about, questions_left, state_in, state_outside, state_by_phase}
 use Rattle.cni_verbs.specs.Progress.{answer_by}
 use Rattle.cni_verbs.specs.declared.answer.Ending.{Ending}
@@ -67,17 +67,22 @@ next_lease list c before kinds room made addrs phase kept is =
     let S : Phase → Type 0 = λ p. Stands (length before) (length (sets_of list)) made addrs p in
     at_lease list c addrs (subst S is kept.stands) ∙ sym (ap (λ p. next_call c (state_in list c addrs p)) is)
 
-at_after : (c : Command) (calls : List Call) (passed : ℕ) (addrs : List Addr) → slice_get calls passed ≡ next_call c (script.after_leases (drop passed calls) addrs)
-unfolding next_call
-at_after c calls passed addrs =
-    elim (left_or_none calls passed) [
-      | inl w ↦ w.1.0 ∙ sym (ap (λ left. next_call c (script.after_leases left addrs)) w.1.1)
-      | inr w ↦ w.0 ∙ sym (ap (λ left. next_call c (script.after_leases left addrs)) w.1)
+-- what is next of a list that is left, by what its first item calls
+next_listed : {X : Type 0} (c : Command) (state : List X → State) (call_of : Option X → Option Call) (items : List X) (passed : ℕ)
+    → call_of None ≡ next_call c (state []) → ((item : X) (left : List X) → call_of (Some item) ≡ next_call c (state (item ∷ left)))
+    → call_of (slice_get items passed) ≡ next_call c (state (drop passed items))
+next_listed c state call_of items passed over calls =
+    elim (left_or_none items passed) [
+      | inl w ↦ ap call_of w.1.0 ∙ calls w.0 (drop (passed + 1) items) ∙ sym (ap (λ left. next_call c (state left)) w.1.1)
+      | inr w ↦ ap call_of w.0 ∙ over ∙ sym (ap (λ left. next_call c (state left)) w.1)
     ]
 
 pub next_after : (list : NetList) (c : Command) (passed : ℕ) (kept : Option (List Call)) (addrs : List Addr) (phase : Phase) → phase ≡ phases.AfterLeases passed kept
     → slice_get (back_of list c addrs) passed ≡ next_call c (state_in list c addrs phase)
-next_after list c passed kept addrs phase is = at_after c (back_of list c addrs) passed addrs ∙ sym (ap (λ p. next_call c (state_in list c addrs p)) is)
+unfolding next_call
+next_after list c passed kept addrs phase is =
+    next_listed c (λ calls. script.after_leases calls addrs) (λ call. call) (back_of list c addrs) passed refl (λ call calls. refl)
+    ∙ sym (ap (λ p. next_call c (state_in list c addrs p)) is)
 
 pub next_cache : (list : NetList) (c : Command) (addrs : List Addr) (phase : Phase) → ((ending : Ending) × (phase ≡ phases.ReadingCache ending)) ⊎ (phase ≡ phases.FindingEntry)
     → Some (CacheGet (att_of c)) ≡ next_call c (state_in list c addrs phase)
@@ -85,34 +90,21 @@ unfolding next_call
 next_cache list c addrs phase (inl w) = sym (ap (λ p. next_call c (state_in list c addrs p)) w.1)
 next_cache list c addrs phase (inr is) = sym (ap (λ p. next_call c (state_in list c addrs p)) is)
 
-at_deletion : (c : Command) (kinds : List Kind) (passed : ℕ) (ending : Ending) → option_map (deletion (att_of c)) (slice_get kinds passed) ≡ next_call c (script.deleting (drop passed kinds) ending)
-unfolding next_call
-at_deletion c kinds passed ending =
-    elim (left_or_none kinds passed) [
-      | inl w ↦ ap (option_map (deletion (att_of c))) w.1.0 ∙ sym (ap (λ left. next_call c (script.deleting left ending)) w.1.1)
-      | inr w ↦ ap (option_map (deletion (att_of c))) w.0 ∙ sym (ap (λ left. next_call c (script.deleting left ending)) w.1)
-    ]
-
 pub next_deletion : (list : NetList) (c : Command) (before : List Call) (kinds : List Kind) (room made passed : ℕ) (ending : Ending) (addrs : List Addr) (phase : Phase)
     → IsKept list c before kinds room made addrs phase → phase ≡ phases.Deleting passed ending
     → option_map (deletion (att_of c)) (slice_get kinds passed) ≡ next_call c (state_in list c addrs phase)
+unfolding next_call
 next_deletion list c before kinds room made passed ending addrs phase kept is =
-    at_deletion c kinds passed ending
+    next_listed c (λ kinds. script.deleting kinds ending) (option_map (deletion (att_of c))) kinds passed refl (λ kind kinds. refl)
     ∙ ap (λ ks. next_call c (script.deleting (drop passed ks) ending)) kept.kinds_is
     ∙ sym (ap (λ p. next_call c (state_in list c addrs p)) is)
 
-at_question : (c : Command) (questions : List Question) (passed : ℕ) → option_map (λ question. question.call) (slice_get questions passed) ≡ next_call c (script.asking (drop passed questions))
-unfolding next_call
-at_question c questions passed =
-    elim (left_or_none questions passed) [
-      | inl w ↦ ap (option_map (λ question. question.call)) w.1.0 ∙ sym (ap (λ left. next_call c (script.asking left)) w.1.1)
-      | inr w ↦ ap (option_map (λ question. question.call)) w.0 ∙ sym (ap (λ left. next_call c (script.asking left)) w.1)
-    ]
-
 pub next_asking : (list : NetList) (c : Command) (inquiry : Inquiry) (addrs : List Addr) (phase : Phase) → phase ≡ phases.Asking inquiry
     → option_map (λ question. question.call) (slice_get (questions_about list c inquiry.about) inquiry.passed) ≡ next_call c (state_in list c addrs phase)
+unfolding next_call
 next_asking list c inquiry addrs phase is =
-    at_question c (questions_about list c inquiry.about) inquiry.passed ∙ sym (ap (λ p. next_call c (state_in list c addrs p)) is)
+    next_listed c script.asking (option_map (λ question. question.call)) (questions_about list c inquiry.about) inquiry.passed refl (λ question questions. refl)
+    ∙ sym (ap (λ p. next_call c (state_in list c addrs p)) is)
 
 pub next_change : (list : NetList) (c : Command) (change : Call) (addrs : List Addr) (phase : Phase) → phase ≡ phases.Changing change → Some change ≡ next_call c (state_in list c addrs phase)
 unfolding next_call
@@ -130,83 +122,6 @@ next_over list c addrs phase (inl w) = at_denial c (questions_left list c w.0) �
 next_over list c addrs phase (inr w) = sym (ap (λ p. next_call c (state_in list c addrs p)) w.1)
 
 -- ---- the end
-
-calls_are_left : (calls : List Call) (passed : ℕ) (addrs : List Addr) → passed < length calls → finish_of (script.after_leases (drop passed calls) addrs) ≡ None
-unfolding finish_of
-calls_are_left calls passed addrs h =
-    let left = left_of calls passed h in
-    ap (λ rest. finish_of (script.after_leases rest addrs)) left.1.1
-
-kinds_are_left : (kinds : List Kind) (passed : ℕ) (ending : Ending) → passed < length kinds → finish_of (script.deleting (drop passed kinds) ending) ≡ None
-unfolding finish_of
-kinds_are_left kinds passed ending h =
-    let left = left_of kinds passed h in
-    ap (λ rest. finish_of (script.deleting rest ending)) left.1.1
-
-begin_is_open : {A : Type 0} (list : NetList) (c : Command) (addrs : List Addr) (phase : Phase) (f : Finish → A) → phase ≡ phases.AtBegin
-    → None ≡ option_map f (finish_of (state_in list c addrs phase))
-unfolding finish_of
-begin_is_open list c addrs phase f is = sym (ap (λ p. option_map f (finish_of (state_in list c addrs p))) is)
-
-pub after_is_open : {A : Type 0} (list : NetList) (c : Command) (passed : ℕ) (kept : Option (List Call)) (addrs : List Addr) (phase : Phase) (f : Finish → A)
-    → phase ≡ phases.AfterLeases passed kept → passed < length (back_of list c addrs) → None ≡ option_map f (finish_of (state_in list c addrs phase))
-after_is_open list c passed kept addrs phase f is h =
-    sym (ap (λ p. option_map f (finish_of (state_in list c addrs p))) is ∙ ap (option_map f) (calls_are_left (back_of list c addrs) passed addrs h))
-
-pub deleting_is_open : {A : Type 0} (list : NetList) (c : Command) (passed : ℕ) (ending : Ending) (kinds : List Kind) (addrs : List Addr) (phase : Phase) (f : Finish → A)
-    → phase ≡ phases.Deleting passed ending → kinds ≡ kinds_of list → passed < length kinds → None ≡ option_map f (finish_of (state_in list c addrs phase))
-deleting_is_open list c passed ending kinds addrs phase f is same h =
-    sym (ap (λ p. option_map f (finish_of (state_in list c addrs p))) is
-    ∙ ap (λ ks. option_map f (finish_of (script.deleting (drop passed ks) ending))) (sym same)
-    ∙ ap (option_map f) (kinds_are_left kinds passed ending h))
-
-before_is_open : {A : Type 0} (list : NetList) (c : Command) (before : List Call) (kinds : List Kind) (room made passed : ℕ) (addrs : List Addr) (phase : Phase) (f : Finish → A)
-    → IsKept list c before kinds room made addrs phase → phase ≡ phases.BeforeLeases passed → None ≡ option_map f (finish_of (state_in list c addrs phase))
-unfolding finish_of
-before_is_open list c before kinds room made passed addrs phase f kept is =
-    let S : Phase → Type 0 = λ p. Stands (length before) (length (sets_of list)) made addrs p in
-    let here : (passed < length before) × (addrs ≡ []) = subst S is kept.stands in
-    let same = ap length kept.before_is in
-    let lt : passed < length (before_of list c) = let below = here.0 in omega arith in
-    let left = left_of (before_of list c) passed lt in
-    sym (ap (λ p. option_map f (finish_of (state_in list c addrs p))) is
-    ∙ ap (λ calls. option_map f (finish_of (script.before_leases list c calls))) left.1.1)
-
-leasing_is_open : {A : Type 0} (list : NetList) (c : Command) (before : List Call) (kinds : List Kind) (room made : ℕ) (addrs : List Addr) (phase : Phase) (f : Finish → A)
-    → IsKept list c before kinds room made addrs phase → phase ≡ phases.Leasing → None ≡ option_map f (finish_of (state_in list c addrs phase))
-unfolding finish_of
-leasing_is_open list c before kinds room made addrs phase f kept is =
-    let S : Phase → Type 0 = λ p. Stands (length before) (length (sets_of list)) made addrs p in
-    let left = left_of (sets_of list) (length addrs) (subst S is kept.stands) in
-    sym (ap (λ p. option_map f (finish_of (state_in list c addrs p))) is
-    ∙ ap (λ sets. option_map f (finish_of (script.leasing list c sets addrs))) left.1.1)
-
-cache_is_open : {A : Type 0} (list : NetList) (c : Command) (ending : Ending) (addrs : List Addr) (phase : Phase) (f : Finish → A) → phase ≡ phases.ReadingCache ending
-    → None ≡ option_map f (finish_of (state_in list c addrs phase))
-unfolding finish_of
-cache_is_open list c ending addrs phase f is = sym (ap (λ p. option_map f (finish_of (state_in list c addrs p))) is)
-
-entry_is_open : {A : Type 0} (list : NetList) (c : Command) (addrs : List Addr) (phase : Phase) (f : Finish → A) → phase ≡ phases.FindingEntry
-    → None ≡ option_map f (finish_of (state_in list c addrs phase))
-unfolding finish_of
-entry_is_open list c addrs phase f is = sym (ap (λ p. option_map f (finish_of (state_in list c addrs p))) is)
-
-change_is_open : {A : Type 0} (list : NetList) (c : Command) (change : Call) (addrs : List Addr) (phase : Phase) (f : Finish → A) → phase ≡ phases.Changing change
-    → None ≡ option_map f (finish_of (state_in list c addrs phase))
-unfolding finish_of
-change_is_open list c change addrs phase f is = sym (ap (λ p. option_map f (finish_of (state_in list c addrs p))) is)
-
-questions_are_left : (questions : List Question) (passed : ℕ) → passed < length questions → finish_of (script.asking (drop passed questions)) ≡ None
-unfolding finish_of
-questions_are_left questions passed h =
-    let left = left_of questions passed h in
-    ap (λ rest. finish_of (script.asking rest)) left.1.1
-
-pub asking_is_open : {A : Type 0} (list : NetList) (c : Command) (inquiry : Inquiry) (addrs : List Addr) (phase : Phase) (f : Finish → A)
-    → phase ≡ phases.Asking inquiry → inquiry.passed < length (questions_about list c inquiry.about) → None ≡ option_map f (finish_of (state_in list c addrs phase))
-asking_is_open list c inquiry addrs phase f is h =
-    sym (ap (λ p. option_map f (finish_of (state_in list c addrs p))) is
-    ∙ ap (option_map f) (questions_are_left (questions_about list c inquiry.about) inquiry.passed h))
 
 pub denied_finish : {A : Type 0} (questions : List Question) (place : ℕ) (question : Question) (f : Finish → A) → slice_get questions place ≡ Some question
     → Some (f (record { ending = Refused question.lack; given = [] })) ≡ option_map f (finish_of (denied (drop place questions)))
@@ -227,17 +142,6 @@ denied_none questions place f got =
       | inl w ↦ let e = w.1.0 in absurd cc
       | inr w ↦ sym (ap (λ rest. option_map f (finish_of (denied rest))) w.1)
     ]
-
-pub early_is_open : {A : Type 0} (list : NetList) (c : Command) (before : List Call) (kinds : List Kind) (room made : ℕ) (addrs : List Addr) (phase : Phase) (f : Finish → A)
-    → IsKept list c before kinds room made addrs phase
-    → (phase ≡ phases.AtBegin) ⊎ (((passed : ℕ) × (phase ≡ phases.BeforeLeases passed)) ⊎ ((phase ≡ phases.Leasing) ⊎ (((ending : Ending) × (phase ≡ phases.ReadingCache ending)) ⊎ ((phase ≡ phases.FindingEntry) ⊎ ((change : Call) × (phase ≡ phases.Changing change))))))
-    → None ≡ option_map f (finish_of (state_in list c addrs phase))
-early_is_open list c before kinds room made addrs phase f kept (inl is) = begin_is_open list c addrs phase f is
-early_is_open list c before kinds room made addrs phase f kept (inr (inl w)) = before_is_open list c before kinds room made w.0 addrs phase f kept w.1
-early_is_open list c before kinds room made addrs phase f kept (inr (inr (inl is))) = leasing_is_open list c before kinds room made addrs phase f kept is
-early_is_open list c before kinds room made addrs phase f kept (inr (inr (inr (inl w)))) = cache_is_open list c w.0 addrs phase f w.1
-early_is_open list c before kinds room made addrs phase f kept (inr (inr (inr (inr (inl is))))) = entry_is_open list c addrs phase f is
-early_is_open list c before kinds room made addrs phase f kept (inr (inr (inr (inr (inr w))))) = change_is_open list c w.0 addrs phase f w.1
 
 -- ---- the start
 

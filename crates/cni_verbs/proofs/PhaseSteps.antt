@@ -71,52 +71,32 @@ steps_lease list c number addrs r h =
     let left = left_of (sets_of list) (length addrs) h in
     sym (ap (λ sets. advance list c number (script.leasing list c sets addrs) r) left.1.1)
 
--- an open state has work left in its list
-pub opens_after : (calls : List Call) (passed : ℕ) (addrs : List Addr) → IsOpen (script.after_leases (drop passed calls) addrs) → passed < length calls
-opens_after calls passed addrs h =
-    elim (cases_lt passed (length calls)) [
+-- a state that is open has an item left of its list, where the list's end is over
+pub opens : {X : Type 0} (state : List X → State) (items : List X) (passed : ℕ) → (IsOpen (state []) → ⊥) → IsOpen (state (drop passed items)) → passed < length items
+opens state items passed over h =
+    elim (cases_lt passed (length items)) [
       | inl lt ↦ lt
-      | inr le ↦ absurd (subst (λ left. IsOpen (script.after_leases left addrs)) (drop_all passed calls le) h)
+      | inr le ↦ absurd (over (subst (λ left. IsOpen (state left)) (drop_all passed items le) h))
     ]
+
+item_left : {X : Type 0} (state : List X → State) (items : List X) (passed : ℕ) → (IsOpen (state []) → ⊥) → IsOpen (state (drop passed items))
+    → (item : X) × (drop passed items ≡ item ∷ drop (passed + 1) items)
+item_left state items passed over h =
+    let left = left_of items passed (opens state items passed over h) in
+    (left.0, left.1.1)
 
 pub steps_after : (list : NetList) (c : Command) (number passed : ℕ) (addrs : List Addr) (r : Reply) → IsOpen (script.after_leases (drop passed (back_of list c addrs)) addrs)
     → script.at_call_after number (drop (passed + 1) (back_of list c addrs)) addrs r ≡ advance list c number (script.after_leases (drop passed (back_of list c addrs)) addrs) r
 unfolding advance
 steps_after list c number passed addrs r h =
-    let left = left_of (back_of list c addrs) passed (opens_after (back_of list c addrs) passed addrs h) in
-    sym (ap (λ calls. advance list c number (script.after_leases calls addrs) r) left.1.1)
-
-pub opens_deleting : (kinds : List Kind) (passed : ℕ) (ending : Ending) → IsOpen (script.deleting (drop passed kinds) ending) → passed < length kinds
-opens_deleting kinds passed ending h =
-    elim (cases_lt passed (length kinds)) [
-      | inl lt ↦ lt
-      | inr le ↦ absurd (subst (λ left. IsOpen (script.deleting left ending)) (drop_all passed kinds le) h)
-    ]
-
-pub kind_left : (list : NetList) (passed : ℕ) (ending : Ending) → IsOpen (script.deleting (drop passed (kinds_of list)) ending)
-    → (kind : Kind) × (drop passed (kinds_of list) ≡ kind ∷ drop (passed + 1) (kinds_of list))
-kind_left list passed ending h =
-    let left = left_of (kinds_of list) passed (opens_deleting (kinds_of list) passed ending h) in
-    (left.0, left.1.1)
+    let left = item_left (λ calls. script.after_leases calls addrs) (back_of list c addrs) passed (λ h. h) h in
+    sym (ap (λ calls. advance list c number (script.after_leases calls addrs) r) left.1)
 
 pub steps_deletion : (list : NetList) (c : Command) (number passed : ℕ) (kind : Kind) (ending : Ending) (r : Reply)
     → drop passed (kinds_of list) ≡ kind ∷ drop (passed + 1) (kinds_of list)
     → script.at_deletion number kind (drop (passed + 1) (kinds_of list)) ending r ≡ advance list c number (script.deleting (drop passed (kinds_of list)) ending) r
 unfolding advance
 steps_deletion list c number passed kind ending r here = sym (ap (λ kinds. advance list c number (script.deleting kinds ending) r) here)
-
-pub opens_asking : (questions : List Question) (passed : ℕ) → IsOpen (script.asking (drop passed questions)) → passed < length questions
-opens_asking questions passed h =
-    elim (cases_lt passed (length questions)) [
-      | inl lt ↦ lt
-      | inr le ↦ absurd (subst (λ left. IsOpen (script.asking left)) (drop_all passed questions le) h)
-    ]
-
-question_left : (list : NetList) (c : Command) (inquiry : Inquiry) → IsOpen (script.asking (questions_left list c inquiry))
-    → (question : Question) × (questions_left list c inquiry ≡ question ∷ drop (inquiry.passed + 1) (questions_about list c inquiry.about))
-question_left list c inquiry h =
-    let left = left_of (questions_about list c inquiry.about) inquiry.passed (opens_asking (questions_about list c inquiry.about) inquiry.passed h) in
-    (left.0, left.1.1)
 
 steps_question : (list : NetList) (c : Command) (number : ℕ) (question : Question) (inquiry : Inquiry) (r : Reply)
     → questions_left list c inquiry ≡ question ∷ drop (inquiry.passed + 1) (questions_about list c inquiry.about)
@@ -216,9 +196,9 @@ pub goes_deleting : (list : NetList) (c : Command) (made passed : ℕ) (ending :
     → ((kind : Kind) → drop passed (kinds_of list) ≡ kind ∷ drop (passed + 1) (kinds_of list)
     → IsPhaseOf list c (made + 1) addrs next (script.at_deletion (made + 1) kind (drop (passed + 1) (kinds_of list)) ending r))
     → Goes list c made addrs addrs phase r next
-goes_deleting list c made passed ending addrs phase r next is opens h =
+goes_deleting list c made passed ending addrs phase r next is open h =
     let O : Phase → Type 0 = λ p. IsOpen (state_in list c addrs p) in
-    let left = kind_left list passed ending (subst O is opens) in
+    let left = item_left (λ kinds. script.deleting kinds ending) (kinds_of list) passed (λ h. h) (subst O is open) in
     let F : Phase → Type 0 = λ p. Goes list c made addrs addrs p r next in
     subst F (sym is) (at_state list c (made + 1) addrs next (steps_deletion list c (made + 1) passed left.0 ending r left.1) (h left.0 left.1))
 
@@ -233,10 +213,10 @@ pub goes_asking : (list : NetList) (c : Command) (made : ℕ) (inquiry : Inquiry
     → ((question : Question) → IsReady list c inquiry → questions_left list c inquiry ≡ question ∷ drop (inquiry.passed + 1) (questions_about list c inquiry.about)
     → IsPhaseOf list c (made + 1) addrs next (script.at_question (made + 1) question (drop (inquiry.passed + 1) (questions_about list c inquiry.about)) r))
     → Goes list c made addrs addrs phase r next
-goes_asking list c made inquiry addrs phase r next is prepared opens h =
+goes_asking list c made inquiry addrs phase r next is prepared open h =
     let R : Phase → Type 0 = λ p. IsPrepared list c addrs p in
     let O : Phase → Type 0 = λ p. IsOpen (state_in list c addrs p) in
-    let left = question_left list c inquiry (subst O is opens) in
+    let left = item_left script.asking (questions_about list c inquiry.about) inquiry.passed (λ h. h) (subst O is open) in
     let F : Phase → Type 0 = λ p. Goes list c made addrs addrs p r next in
     subst F (sym is) (at_state list c (made + 1) addrs next (steps_question list c (made + 1) left.0 inquiry r left.1) (h left.0 (subst R is prepared) left.1))
 

@@ -15,6 +15,7 @@ ghost use Rattle.cni_verbs.specs.Phases.{Stands, IsPrepared, IsReady, IsPhaseOf,
 
 use crate::answer::{Cause, Ending};
 use crate::inquiry::Inquiry;
+use crate::over::is_changing;
 use crate::phase::Phase;
 use cni_addr::{Addr, Items};
 use kernel_types::{Call, Reply};
@@ -204,17 +205,6 @@ fn changed(number: u64, reply: Reply) -> Ending
         Reply::Gone(false) => Ending::Refused(Cause::NothingThere),
         Reply::Fault => Ending::Refused(Cause::Fault(number)),
         _ => Ending::Yes,
-    }
-}
-
-fn is_changing(phase: &Phase) -> bool
-    ensures { MatchBool result
-        ((change : Call) × (phase.now ≡ Phase.Changing change))
-        ((number : ℕ) (reply : Reply) → script.outside_advance number (state_outside phase.now) reply ≡ state_outside phase.now) }
-{
-    match phase {
-        Phase::Changing(_) => true,
-        _ => false,
     }
 }
 

@@ -1,23 +1,24 @@
 //! What a run answers at its end.
 
-ghost use Rattle.std.specs.Prelude.{◌≡◌, ℕ, List, Some, None, drop, ⊤, length, slice_get, option_map, IfOk, MatchOption};
+ghost use Rattle.std.specs.Prelude.{◌≡◌, ℕ, List, Some, None, drop, slice_get, option_map, IfOk};
 ghost use Rattle.std.specs.Option.{option_copied};
 ghost use Rattle.kernel_types.specs.declared.call.Call.{Call};
-ghost use Rattle.cni_verbs.specs.Script.{back_of, finish_of};
+ghost use Rattle.kernel_types.specs.declared.call.Kind.{Kind};
+ghost use Rattle.cni_verbs.specs.Script.{IsOpen, finish_of};
 ghost use Rattle.cni_verbs.specs.Answers.{answer_of_ending, outside_by};
 ghost use Rattle.cni_verbs.specs.Progress as progress;
 ghost use Rattle.cni_verbs.specs.Phases.{IsKept, IsReady, denied, questions_left, state_in, state_outside};
 
 use crate::answer::{Answer, Ending, Question};
 use crate::errors::refused;
-use crate::inquiry::{Inquiry, count_asked, questions_about};
-use crate::next::back_of;
+use crate::inquiry::{Inquiry, questions_about};
+use crate::over::{is_over, is_over_outside};
 use crate::phase::Phase;
 use crate::wanted::result_of_add;
 use crate::words::att_of;
-use cni_addr::{Addr, Items, NoMemory};
+use cni_addr::{Addr, NoMemory};
 use cni_result::Version;
-use kernel_types::{Call, Kind};
+use kernel_types::Kind;
 use net_conf::NetList;
 use pod_file::Command;
 use std::alloc::Global;
@@ -43,22 +44,6 @@ fn ended(
         Ending::Skipped(skip) => Ok(Answer::Skipped(*skip)),
         Ending::Versions => Ok(Answer::Versions(list.version)),
         Ending::Refused(cause) => refused(alloc, list.version, command, cause),
-    }
-}
-
-fn count_after(
-    alloc: Global,
-    list: &NetList,
-    command: &Command,
-    given: &[Addr],
-    calls: &Option<Items<Call>>,
-) -> Result<usize, NoMemory>
-    requires { MatchOption calls.now ⊤ (λ all. all ≡ back_of list.now command.now given.now) }
-    ensures { IfOk result (λ count. count ≡ length (back_of list.now command.now given.now)) }
-{
-    match calls {
-        Some(calls) => Ok(calls.as_slice().len()),
-        None => Ok(back_of(alloc, list, command, given)?.as_slice().len()),
     }
 }
 
@@ -101,8 +86,33 @@ fn denied(
     }
 }
 
+fn answer_at_end(
+    alloc: Global,
+    list: &NetList,
+    command: &Command,
+    given: &[Addr],
+    phase: &Phase,
+) -> Result<Answer, NoMemory>
+    requires kept { (before : List Call) × (kinds : List Kind) × (room : ℕ) × (made : ℕ) × IsKept list.now command.now before kinds room made given.now phase.now }
+    requires over { IsOpen (state_in list.now command.now given.now phase.now) → ⊥ }
+    ensures { IfOk result (λ answer. Some answer ≡ option_map (progress.answer_by (Some list.now) command.now) (finish_of (state_in list.now command.now given.now phase.now))) }
+{
+    match phase {
+        Phase::AfterLeases { .. } => ended(alloc, list, command, &Ending::Added, given),
+        Phase::Deleting(_, ending) => ended(alloc, list, command, ending, &[]),
+        Phase::Asking(_) => ended(alloc, list, command, &Ending::Yes, &[]),
+        Phase::Denied(inquiry) => denied(alloc, list, command, inquiry),
+        Phase::Over(ending) => ended(alloc, list, command, ending, &[]),
+        Phase::AtBegin
+        | Phase::BeforeLeases(_)
+        | Phase::Leasing
+        | Phase::ReadingCache(_)
+        | Phase::FindingEntry
+        | Phase::Changing(_) => unreachable!(),
+    }
+}
+
 /// What the run of this list answers, where it is over.
-#[tactic(auto, unfolding(crate::specs::Answers::answer_of, crate::specs::Script::finish_of))]
 pub(crate) fn answer_of(
     alloc: Global,
     list: &NetList,
@@ -114,33 +124,10 @@ pub(crate) fn answer_of(
     requires { (before : List Call) × (room : ℕ) × (made : ℕ) × IsKept list.now command.now before kinds.now room made given.now phase.now }
     ensures { IfOk result (λ answer. answer ≡ option_map (progress.answer_by (Some list.now) command.now) (finish_of (state_in list.now command.now given.now phase.now))) }
 {
-    match phase {
-        Phase::AtBegin
-        | Phase::BeforeLeases(_)
-        | Phase::Leasing
-        | Phase::ReadingCache(_)
-        | Phase::FindingEntry
-        | Phase::Changing(_) => Ok(None),
-        Phase::AfterLeases { passed, calls } => {
-            if *passed < count_after(alloc, list, command, given, calls)? {
-                return Ok(None);
-            }
-            Ok(Some(ended(alloc, list, command, &Ending::Added, given)?))
-        }
-        Phase::Deleting(passed, ending) => {
-            if *passed < kinds.len() {
-                return Ok(None);
-            }
-            Ok(Some(ended(alloc, list, command, ending, &[])?))
-        }
-        Phase::Asking(inquiry) => {
-            if inquiry.passed < count_asked(alloc, list, command, inquiry)? {
-                return Ok(None);
-            }
-            Ok(Some(ended(alloc, list, command, &Ending::Yes, &[])?))
-        }
-        Phase::Denied(inquiry) => Ok(Some(denied(alloc, list, command, inquiry)?)),
-        Phase::Over(ending) => Ok(Some(ended(alloc, list, command, ending, &[])?)),
+    if is_over(list, command, kinds, given, phase) {
+        Ok(Some(answer_at_end(alloc, list, command, given, phase)?))
+    } else {
+        Ok(None)
     }
 }
 
@@ -166,8 +153,10 @@ pub(crate) fn answer_outside(
 ) -> Result<Option<Answer>, NoMemory>
     ensures { IfOk result (λ answer. answer ≡ option_map (progress.answer_by None command.now) (finish_of (state_outside phase.now))) }
 {
+    if !is_over_outside(phase) {
+        return Ok(None);
+    }
     match phase {
-        Phase::Changing(_) => Ok(None),
         Phase::Over(ending) => Ok(Some(ended_outside(alloc, command, ending)?)),
         _ => Ok(Some(Answer::Yes)),
     }

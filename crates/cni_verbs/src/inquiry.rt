@@ -1,6 +1,6 @@
 //! What a CHECK or a STATUS asks, one question at a time.
 
-ghost use Rattle.std.specs.Prelude.{◌≡◌, IfOk, length, option_map, slice_get};
+ghost use Rattle.std.specs.Prelude.{◌≡◌, IfOk, option_map, slice_get};
 ghost use Rattle.cni_verbs.specs.Phases.{IsReady, questions_about};
 
 use crate::answer::Question;
@@ -75,25 +75,5 @@ pub(crate) fn call_asked(
             let questions = questions_about(alloc, list, command, &inquiry.about)?;
             call_of(questions.as_slice(), inquiry.passed)
         }
-    }
-}
-
-/// How many questions there are, with those that were answered.
-pub(crate) fn count_asked(
-    alloc: Global,
-    list: &NetList,
-    command: &Command,
-    inquiry: &Inquiry,
-) -> Result<usize, NoMemory>
-    requires { IsReady list.now command.now inquiry.now }
-    ensures { IfOk result (λ count. count ≡ length (questions_about list.now command.now inquiry.now.about)) }
-{
-    match &inquiry.questions {
-        Some(questions) => Ok(questions.as_slice().len()),
-        None => Ok(
-            questions_about(alloc, list, command, &inquiry.about)?
-                .as_slice()
-                .len(),
-        ),
     }
 }

@@ -2,7 +2,8 @@
 
 ghost use Rattle.std.specs.Prelude.{◌≡◌, ◌≤◌, ◌<◌, ℕ, List, ⊤, length, MatchBool, MatchOption};
 ghost use Rattle.kernel_types.specs.declared.call.Call.{Call};
-ghost use Rattle.cni_verbs.specs.Script.{IsOpen, back_of};
+ghost use Rattle.kernel_types.specs.declared.call.Reply.{Reply};
+ghost use Rattle.cni_verbs.specs.Script.{IsOpen, back_of, outside_advance};
 ghost use Rattle.cni_verbs.specs.Phases.{IsKept, IsReady, questions_about, state_in, state_outside};
 
 use crate::check_counts::count_questions;
@@ -77,12 +78,22 @@ pub(crate) fn is_over(
     }
 }
 
+/// Whether the run of no network has its change still to make.
+pub(crate) fn is_changing(phase: &Phase) -> bool
+    ensures { MatchBool result
+        ((change : Call) × (phase.now ≡ Phase.Changing change))
+        (((number : ℕ) (reply : Reply) → outside_advance number (state_outside phase.now) reply ≡ state_outside phase.now)
+        × (IsOpen (state_outside phase.now) → ⊥)) }
+{
+    match phase {
+        Phase::Changing(_) => true,
+        _ => false,
+    }
+}
+
 /// Whether the run of no network is over.
 pub(crate) fn is_over_outside(phase: &Phase) -> bool
     ensures { MatchBool result (IsOpen (state_outside phase.now) → ⊥) (IsOpen (state_outside phase.now)) }
 {
-    match phase {
-        Phase::Changing(_) => false,
-        _ => true,
-    }
+    !is_changing(phase)
 }
