@@ -10,7 +10,7 @@ use Rattle.cni_verbs.specs.Wanted.{sets_of, kinds_of}
 use Rattle.cni_verbs.specs.Questions.{check_questions, status_questions}
 use Rattle.cni_verbs.specs.Script.{State, Over, before_of, back_of, after_leases, leasing, before_leases, deleting, asking}
 use Rattle.cni_verbs.specs.Script as states
-use Rattle.cni_verbs.specs.declared.answer.Ending.TheVariants.{Yes, Refused}
+use Rattle.cni_verbs.specs.declared.answer.Ending.TheVariants.{Yes}
 use Rattle.cni_verbs.specs.declared.answer.Question.{Question}
 use Rattle.cni_verbs.specs.declared.inquiry.Inquiry.{Inquiry}
 use Rattle.cni_verbs.specs.declared.phase.Phase.{Phase}
@@ -26,7 +26,7 @@ questions_about list c (Some cached) = check_questions list c cached
 -- the end of a run whose next question was denied
 abbrev pub denied : List Question → State
 denied [] = Over Yes []
-denied (question ∷ questions) = Over (Refused question.lack) []
+denied (question ∷ questions) = states.refused question.lack
 
 abbrev pub questions_left : NetList → Command → Inquiry → List Question
 questions_left list c inquiry = drop inquiry.passed (questions_about list c inquiry.about)

@@ -93,23 +93,30 @@ abbrev pub faulted : ℕ → Ending → Ending
 faulted number (Refused cause) = Refused cause
 faulted number ending = Refused (causes.Fault number)
 
+abbrev pub refused : Cause → State
+refused cause = Over (Refused cause) []
+
+-- what was made is taken back, beginning with the cached entry
+abbrev pub undoing : ℕ → ℕ → Reply → State
+undoing set number r = ReadingCache (Refused (cause_of set number r))
+
 -- ---- one reply, the one of this number
 
 abbrev pub at_begin : NetList → Command → ℕ → Reply → State
 at_begin list c number Done = before_leases list c (before_of list c)
-at_begin list c number r = Over (Refused (cause_of 0 number r)) []
+at_begin list c number r = refused (cause_of 0 number r)
 
 abbrev pub at_call_before : NetList → Command → ℕ → List Call → Reply → State
 at_call_before list c number left Done = before_leases list c left
-at_call_before list c number left r = ReadingCache (Refused (cause_of 0 number r))
+at_call_before list c number left r = undoing 0 number r
 
 abbrev pub at_lease : NetList → Command → ℕ → List RangeSet → List Addr → Reply → State
 at_lease list c number left given (Leased addr) = leasing list c left (given ++ addr ∷ [])
-at_lease list c number left given r = ReadingCache (Refused (cause_of (length given) number r))
+at_lease list c number left given r = undoing (length given) number r
 
 abbrev pub at_call_after : ℕ → List Call → List Addr → Reply → State
 at_call_after number left given Done = after_leases left given
-at_call_after number left given r = ReadingCache (Refused (cause_of 0 number r))
+at_call_after number left given r = undoing 0 number r
 
 abbrev pub at_cache : NetList → ℕ → Ending → Reply → State
 at_cache list number ending Fault = Over (faulted number ending) []
@@ -123,17 +130,17 @@ at_deletion number kind left ending r = Deleting kind left ending
 
 -- the questions of a check, where the attachment has a cached entry
 abbrev pub checking : NetList → Command → Option Cached → State
-checking list c None = Over (Refused causes.Unknown) []
+checking list c None = refused causes.Unknown
 checking list c (Some cached) = asking (check_questions list c cached)
 
 abbrev pub at_entry : NetList → Command → ℕ → Reply → State
 at_entry list c number (Entry cached) = checking list c cached
-at_entry list c number r = Over (Refused (causes.Fault number)) []
+at_entry list c number r = refused (causes.Fault number)
 
 abbrev pub at_question : ℕ → Question → List Question → Reply → State
 at_question number question left (Has true) = asking left
-at_question number question left (Has false) = Over (Refused question.lack) []
-at_question number question left r = Over (Refused (causes.Fault number)) []
+at_question number question left (Has false) = refused question.lack
+at_question number question left r = refused (causes.Fault number)
 
 -- how a change from outside ends
 abbrev pub changed : ℕ → Reply → Ending
@@ -164,11 +171,11 @@ advance list c number (Over ending given) r = Over ending given
 
 abbrev pub unless_refused : Option Cause → State → State
 unless_refused None state = state
-unless_refused (Some cause) state = Over (Refused cause) []
+unless_refused (Some cause) state = refused cause
 
 -- the verbs that came with version 1.1.0
 abbrev pub unless_old : Version → State → State
-unless_old V1_0 state = Over (Refused (causes.TooOld V1_0)) []
+unless_old V1_0 state = refused (causes.TooOld V1_0)
 unless_old V1_1 state = state
 
 -- the verbs that speak of no network have no list, and are begun by `outside_start`
