@@ -24,7 +24,7 @@ use Rattle.clap.specs.declared.parser.matches.MatchedArg.{MatchedArg}
 use Rattle.clap.proofs.CallerLemmas.{entry_by_id, same_rules_by_id}
 use Rattle.clap.proofs.SimpleLemmas.{is_false, is_nil}
 use Rattle.clap.proofs.WalkLemmas.{both}
-use Rattle.tool_words.specs.Command.{the_app, counts_to}
+use Rattle.tool_words.specs.Command.{the_app, counts_to, most_threads, greatest_entry}
 use Rattle.tool_words.specs.Parse.{Passes}
 
 abbrev the_rules : List Rule
@@ -179,8 +179,8 @@ not_same a b is e = true≢false (sym ((bytes_eq-Decides a b).1 e) ∙ is)
 apart : {X : Type 0} → false ≡ true → X
 apart h = absurd (true≢false (sym h))
 
-pub passes-threads : (c : Command) (m : ArgMatches) → IsParsedFrom c m → app_of c ≡ the_app → Passes m (codes "threads") (counts_to 16)
-passes-threads c m p is = passes c m p is 0 (codes "threads") (counts_to 16) (record {
+pub passes-threads : (c : Command) (m : ArgMatches) → IsParsedFrom c m → app_of c ≡ the_app → Passes m (codes "threads") (counts_to most_threads)
+passes-threads c m p is = passes c m p is 0 (codes "threads") (counts_to most_threads) (record {
   inside = subst (λ n. 0 < n) (sym (arg_count c is)) (omega arith);
   id = id_at c is 0;
   parser = λ d. ap (λ r. r.parser) (sym (rule_at c is 0 d));
@@ -191,8 +191,8 @@ passes-threads c m p is = passes c m p is 0 (codes "threads") (counts_to 16) (re
   no_version = not_same (codes "threads") (codes "version") refl;
 }) (not_same (codes "threads") [] refl)
 
-pub passes-stop_at : (c : Command) (m : ArgMatches) → IsParsedFrom c m → app_of c ≡ the_app → Passes m (codes "stop-at") (counts_to 4294967295)
-passes-stop_at c m p is = passes c m p is 1 (codes "stop-at") (counts_to 4294967295) (record {
+pub passes-stop_at : (c : Command) (m : ArgMatches) → IsParsedFrom c m → app_of c ≡ the_app → Passes m (codes "stop-at") (counts_to greatest_entry)
+passes-stop_at c m p is = passes c m p is 1 (codes "stop-at") (counts_to greatest_entry) (record {
   inside = subst (λ n. 1 < n) (sym (arg_count c is)) (omega arith);
   id = id_at c is 1;
   parser = λ d. ap (λ r. r.parser) (sym (rule_at c is 1 d));

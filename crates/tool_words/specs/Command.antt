@@ -9,6 +9,22 @@ use Rattle.clap.specs.declared.builder.arg.Arg.{Arg}
 use Rattle.clap.specs.declared.builder.value_parser.ValueParser.{ValueParser}
 use Rattle.clap.specs.declared.builder.value_parser.ValueParser.TheVariants as parser
 
+-- ---- limits
+
+-- how many threads may be asked for
+abbrev pub most_threads : ℕ
+most_threads = 16
+
+-- the greatest number that an entry of the history may be named by
+abbrev pub greatest_entry : ℕ
+greatest_entry = 4294967295
+
+-- how many lists may be named
+abbrev pub most_lists : ℕ
+most_lists = 64
+
+-- ---- the command
+
 -- whole numbers from 1 to the most
 abbrev pub counts_to : ℕ → ValueParser
 counts_to most = parser.Signed (pos 1) (pos most)
@@ -17,10 +33,10 @@ abbrev pub number_rule : Text → ℕ → Rule
 number_rule name most = record (new_rule name) { long = Some name; parser = Some (counts_to most) }
 
 abbrev pub threads_rule : Rule
-threads_rule = number_rule (codes "threads") 16
+threads_rule = number_rule (codes "threads") most_threads
 
 abbrev pub stop_rule : Rule
-stop_rule = number_rule (codes "stop-at") 4294967295
+stop_rule = number_rule (codes "stop-at") greatest_entry
 
 abbrev pub flag_rule : Text → Rule
 flag_rule name = record (new_rule name) { long = Some name; action = Some SetTrue; parser = Some parser.Bool }

@@ -6,7 +6,7 @@ use Rattle.clap.specs.Walk.{Text, rows_of}
 use Rattle.clap.specs.declared.builder.value_parser.ValueParser.{ValueParser}
 use Rattle.clap.specs.declared.builder.value_parser.ValueParser.TheVariants as parser
 use Rattle.clap.specs.declared.parser.matches.ArgMatches.{ArgMatches}
-use Rattle.tool_words.specs.Command.{fits, rows, counts_to}
+use Rattle.tool_words.specs.Command.{fits, rows, counts_to, most_threads, greatest_entry}
 use Rattle.tool_words.specs.declared.words.WordsEnd.{WordsEnd}
 use Rattle.tool_words.specs.declared.words.WordsEnd.TheVariants.{Usage, NoMemory}
 
@@ -18,8 +18,8 @@ Passes m name q = (text : Text) → one_text (found_of m) name ≡ Some text
 pub record IsParseOf (words : List Text) (m : ArgMatches) : Type 0 where
   pub fit : fits words ≡ true
   pub rows_are : rows_of (found_of m) ≡ rows words
-  pub threads : Passes m (codes "threads") (counts_to 16)
-  pub stop_at : Passes m (codes "stop-at") (counts_to 4294967295)
+  pub threads : Passes m (codes "threads") (counts_to most_threads)
+  pub stop_at : Passes m (codes "stop-at") (counts_to greatest_entry)
   pub trace : Passes m (codes "trace") parser.Bool
   pub dump : Passes m (codes "dump") parser.Bool
 

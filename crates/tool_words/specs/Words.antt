@@ -5,7 +5,7 @@ use Rattle.std.specs.Option.{option_map_or}
 use Rattle.std.specs.Str.{bytes_eq}
 use Rattle.std.specs.Str.Parse.{digits_value, without_leading_plus}
 use Rattle.clap.specs.Walk.{Row, Text, first_of, one_of, all_of}
-use Rattle.tool_words.specs.Command.{fits, rows}
+use Rattle.tool_words.specs.Command.{fits, rows, most_threads, greatest_entry, most_lists}
 use Rattle.tool_words.specs.declared.words.Words.{Words}
 use Rattle.tool_words.specs.declared.words.WordsEnd.{WordsEnd}
 use Rattle.tool_words.specs.declared.words.WordsEnd.TheVariants.{Usage, NoMemory}
@@ -37,9 +37,9 @@ words_at found pods = record {
   lists = lists_at found;
 }
 
--- at most 64 lists, and PODS names a file
+-- the lists are not too many, and PODS names a file
 abbrev pub are_within : Text → List Text → Bool
-are_within pods lists = nat_le (length lists) 64 && not (asks_generator pods)
+are_within pods lists = nat_le (length lists) most_lists && not (asks_generator pods)
 
 abbrev pub words_if : List Row → Option Text → Option Words
 words_if found None = None
@@ -57,6 +57,6 @@ Reads wanted (Err NoMemory) = ⊤
 
 pub record IsWithinLimits (w : Words) : Type 0 where
   pub threads_least : 1 ≤ w.threads
-  pub threads_most : w.threads ≤ 16
-  pub stop_at : IfSome w.stop_at (λ n. (1 ≤ n) × (n ≤ 4294967295))
-  pub lists : length w.lists ≤ 64
+  pub threads_most : w.threads ≤ most_threads
+  pub stop_at : IfSome w.stop_at (λ n. (1 ≤ n) × (n ≤ greatest_entry))
+  pub lists : length w.lists ≤ most_lists

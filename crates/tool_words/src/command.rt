@@ -7,6 +7,9 @@ ghost use Rattle.tool_words.specs.Command.{IsArg, bare_app, flag_rule, list_rule
 use clap::{Arg, ArgAction, Command, value_parser};
 use std::alloc::{AllocError, Global};
 
+/// The most threads that may be asked for.
+const MOST_THREADS: i64 = 16;
+
 // What the command line calls its options, flags and words.
 
 pub(crate) const THREADS_OPTION: &str = "threads";
@@ -26,7 +29,7 @@ fn threads<'a>(alloc: Global) -> Arg<'a>
 {
     Arg::new(alloc, THREADS_OPTION)
         .long(THREADS_OPTION)
-        .value_parser(value_parser!(u8).range(1..=16))
+        .value_parser(value_parser!(u8).range(1..=MOST_THREADS))
 }
 
 fn stop_at<'a>(alloc: Global) -> Arg<'a>

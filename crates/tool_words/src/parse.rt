@@ -4,7 +4,7 @@ ghost use Rattle.std.specs.Prelude.{◌≡◌, ◌≤◌, IfSome, codes, map, op
 ghost use Rattle.clap.specs.Matches.{found_of};
 ghost use Rattle.clap.specs.Walk.{first_of, rows_of};
 ghost use Rattle.clap.specs.declared.builder.value_parser.ValueParser.TheVariants as parser;
-ghost use Rattle.tool_words.specs.Command.{counts_to};
+ghost use Rattle.tool_words.specs.Command.{counts_to, greatest_entry, most_threads};
 ghost use Rattle.tool_words.specs.Parse.{Parses, Passes};
 ghost use Rattle.tool_words.specs.Words.{flag_at, lists_at, number_at};
 
@@ -32,17 +32,17 @@ pub(crate) fn parse<'a>(alloc: Global, words: &'a [Text]) -> Result<ArgMatches<'
 }
 
 pub(crate) fn threads<'a>(matches: &ArgMatches<'a>) -> Option<u8>
-    requires { Passes matches.now (codes "threads") (counts_to 16) }
+    requires { Passes matches.now (codes "threads") (counts_to most_threads) }
     ensures value { result ≡ number_at (codes "threads") (rows_of (found_of matches.now)) }
-    ensures range { IfSome result (λ n. (1 ≤ n) × (n ≤ 16)) }
+    ensures range { IfSome result (λ n. (1 ≤ n) × (n ≤ most_threads)) }
 {
     matches.get_one(THREADS_OPTION)
 }
 
 pub(crate) fn stop_at<'a>(matches: &ArgMatches<'a>) -> Option<u32>
-    requires { Passes matches.now (codes "stop-at") (counts_to 4294967295) }
+    requires { Passes matches.now (codes "stop-at") (counts_to greatest_entry) }
     ensures value { result ≡ number_at (codes "stop-at") (rows_of (found_of matches.now)) }
-    ensures range { IfSome result (λ n. (1 ≤ n) × (n ≤ 4294967295)) }
+    ensures range { IfSome result (λ n. (1 ≤ n) × (n ≤ greatest_entry)) }
 {
     matches.get_one(STOP_AT_OPTION)
 }

@@ -9,6 +9,7 @@ use clap::ArgMatches;
 use cni_addr::{Items, NoMemory, Text};
 use std::alloc::Global;
 
+/// The most lists that may be named.
 const MOST_LISTS: usize = 64;
 
 /// What the words say.
