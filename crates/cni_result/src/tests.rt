@@ -1,9 +1,7 @@
 //! Results and errors as the CNI specification and the reference plugins print them, and each public call once.
 
 use super::*;
-use cni_addr::{
-    Addr, Cidr, Duplicate, Family, Items, Mac, NoMemory, Text, read_addr, read_cidr, read_mac,
-};
+use cni_addr::{Addr, Cidr, Family, Items, Mac, NoMemory, Text, read_addr, read_cidr, read_mac};
 use cni_json::line;
 use std::alloc::Global;
 use std::test::Fail;
@@ -68,8 +66,28 @@ fn on_bridge(alloc: Global, version: Version) -> Result<AddResult, NoMemory> {
     })
 }
 
-// Every member of a result is there.
-fn with_all_members(alloc: Global) -> Result<AddResult, NoMemory> {
+fn texts(alloc: Global, words: &[&str]) -> Result<Items<Text>, NoMemory> {
+    let mut found = Items::new(alloc);
+    for word in words {
+        found.push(Text::of(alloc, word)?)?;
+    }
+    Ok(found)
+}
+
+fn all_names(alloc: Global) -> Result<Dns, NoMemory> {
+    let nameservers = texts(alloc, &["10.0.0.1"])?;
+    let domain = Text::of(alloc, "local")?;
+    let search = texts(alloc, &["a.b", "c"])?;
+    let options = texts(alloc, &["rotate"])?;
+    Ok(Dns {
+        nameservers,
+        domain,
+        search,
+        options,
+    })
+}
+
+fn two_routes(alloc: Global) -> Result<Items<RouteEntry>, NoMemory> {
     let all = RouteEntry {
         dst: cidr("0.0.0.0/0"),
         gw: None,
@@ -78,15 +96,37 @@ fn with_all_members(alloc: Global) -> Result<AddResult, NoMemory> {
         dst: cidr("10.1.0.0/16"),
         gw: read_addr(b"10.88.0.9"),
     };
-    let mut found = on_bridge(alloc, Version::V1_1)?;
-    found.routes = Items::of_vec(vec![in alloc; all, some]?);
-    found.dns = Dns {
-        nameservers: Items::of_vec(vec![in alloc; Text::of(alloc, "10.0.0.1")?]?),
-        domain: Text::of(alloc, "local")?,
-        search: Items::of_vec(vec![in alloc; Text::of(alloc, "a.b")?, Text::of(alloc, "c")?]?),
-        options: Items::of_vec(vec![in alloc; Text::of(alloc, "rotate")?]?),
-    };
-    Ok(found)
+    Ok(Items::of_vec(vec![in alloc; all, some]?))
+}
+
+// Every member of a result is there.
+fn with_all_members(alloc: Global) -> Result<AddResult, NoMemory> {
+    let routes = two_routes(alloc)?;
+    let dns = all_names(alloc)?;
+    let AddResult {
+        version,
+        interfaces,
+        ips,
+        routes: none,
+        dns: empty,
+    } = on_bridge(alloc, Version::V1_1)?;
+    drop(none);
+    drop(empty);
+    Ok(AddResult {
+        version,
+        interfaces,
+        ips,
+        routes,
+        dns,
+    })
+}
+
+// Whether the text is read as this result.
+fn is_read_as(alloc: Global, text: &[u8], wanted: &AddResult) -> bool {
+    match read_result(alloc, text) {
+        Ok(found) => found == *wanted,
+        Err(_) => false,
+    }
 }
 
 #[test]
@@ -99,7 +139,7 @@ fn a_result_is_printed_and_read_again(rt: HostRuntime) -> Result<(), Fail> {
 "#
             .as_bytes()
     );
-    assert!(rt; read_result(rt.alloc(), &text) == Ok(added));
+    assert!(rt; is_read_as(rt.alloc(), &text, &added));
     Ok(())
 }
 
@@ -129,7 +169,7 @@ fn an_mtu_is_not_of_1_0(rt: HostRuntime) -> Result<(), Fail> {
 fn all_members_are_printed_and_read_again(rt: HostRuntime) -> Result<(), Fail> {
     let added = with_all_members(rt.alloc())?;
     let text = result_line(rt.alloc(), &added)?;
-    assert!(rt; read_result(rt.alloc(), &text) == Ok(added));
+    assert!(rt; is_read_as(rt.alloc(), &text, &added));
     let dns =
         r#","dns":{"domain":"local","nameservers":["10.0.0.1"],"options":["rotate"],"search":["a.b","c"]},"interfaces":["#;
     assert_eq!(rt; text.get(21..21 + dns.len()), Some(dns.as_bytes()));
@@ -158,10 +198,7 @@ fn an_empty_result_has_interfaces(rt: HostRuntime) -> Result<(), Fail> {
         r#"{"cniVersion":"1.1.0"}"#,
         r#"{"cniVersion":"1.1.0","interfaces":null,"ips":[],"dns":{},"other":7}"#,
     ] {
-        assert!(rt;
-            read_result(rt.alloc(), text.as_bytes()) == Ok(added.copy()?),
-            "{text}"
-        );
+        assert!(rt; is_read_as(rt.alloc(), text.as_bytes(), &added), "{text}");
     }
     Ok(())
 }

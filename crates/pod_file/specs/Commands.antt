@@ -47,7 +47,7 @@ verb_named text = find (λ verb. bytes_eq text (verb_text verb)) ALL
 unfoldable pub verb_at : CommandPlace → Data → Result Verb PodError
 verb_at place d =
     member_or (wrong_verb place) (wrong_verb place)
-      (λ text. ok_or (verb_named text) (refusal.Shape (key_path place (codes "verb")))) (text_field (codes "verb") d)
+    (λ text. ok_or (verb_named text) (refusal.Shape (key_path place (codes "verb")))) (text_field (codes "verb") d)
 
 -- the verbs of the CNI specification, which speak of a network
 abbrev pub is_of_network : Verb → Bool

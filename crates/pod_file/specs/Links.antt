@@ -40,7 +40,7 @@ kind_named text = find (λ kind. bytes_eq text (link_kind_text kind)) KINDS
 abbrev pub kind_of : ℕ → Field (List ℕ) → Result LinkKind PodError
 kind_of index f =
     member_or (wrong_link index) (wrong_link index)
-      (λ text. ok_or (kind_named text) (refusal.Shape (member_path (codes "opening.links") index))) f
+    (λ text. ok_or (kind_named text) (refusal.Shape (member_path (codes "opening.links") index))) f
 
 -- what kind of link it is
 unfoldable pub kind_at : ℕ → Data → Result LinkKind PodError
