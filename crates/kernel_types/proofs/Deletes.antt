@@ -1,10 +1,10 @@
 -- The deletion of one object that isn't a link leaves a host sound, and touches the attachment's alone.
-use Rattle.std.specs.Prelude.{◌&&◌}
+use Rattle.std.specs.Prelude.{◌&&◌, is_some}
 use Rattle.std.specs.Str.{bytes_eq}
 use Rattle.kernel_types.specs.Equal.{addr_eq, rule_eq, tag_eq}
 use Rattle.kernel_types.specs.Words.{is_own, is_owned}
-use Rattle.kernel_types.specs.Apply.Calls.{rule_del_of, setting_del_of, lease_del_of, cache_del_of, is_same_setting}
-use Rattle.kernel_types.specs.Sound.{IsSound, setting_fits_tag, is_of_network}
+use Rattle.kernel_types.specs.Apply.Calls.{rule_del_of, setting_del_of, lease_del_of, cache_del_of, is_same_setting, owner_in}
+use Rattle.kernel_types.specs.Sound.{IsSound, setting_fits_tag}
 use Rattle.kernel_types.specs.Touch.{TouchesOwnAlone}
 use Rattle.kernel_types.proofs.ChangeLemmas.{ChangesOnly-without_first}
 use Rattle.kernel_types.proofs.ListLemmas.{list_all-without_first, distinct-without_first}
@@ -39,7 +39,7 @@ TouchesOwnAlone-setting_del host att = TouchesOwnAlone-with_settings att host _ 
 pub IsSound-lease_del : (host : Host) (att : Att) → IsSound host → IsSound (lease_del_of host att).0
 IsSound-lease_del host att sound = IsSound-with_leases host _ sound (record {
   keys = distinct-without_first (λ a b. bytes_eq a.network b.network && addr_eq a.addr b.addr) (λ l. is_own att l.tag) host.leases sound.leases.keys;
-  tags = list_all-without_first (λ l. is_of_network l.network l.tag) (λ l. is_own att l.tag) host.leases sound.leases.tags;
+  tags = list_all-without_first (λ l. is_some (owner_in l.network l.tag)) (λ l. is_own att l.tag) host.leases sound.leases.tags;
 })
 
 pub TouchesOwnAlone-lease_del : (host : Host) (att : Att) → TouchesOwnAlone att host (lease_del_of host att).0

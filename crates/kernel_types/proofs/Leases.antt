@@ -1,6 +1,6 @@
 -- An address that is leased was free, and leaves a host sound.
 use Rattle.std.proofs.Common.{◌≡◌, ℕ, true, false, List, [], ◌∷◌, ◌++◌, ◌⊎◌, inl, inr, Option, Some, None, refl, sym, ◌∙◌, ap, arith}
-use Rattle.std.specs.Prelude.{◌&&◌, ◌==◌}
+use Rattle.std.specs.Prelude.{◌&&◌, ◌==◌, if◌then◌else◌, is_some}
 use Rattle.std.specs.List.{list_any}
 use Rattle.std.specs.Str.{bytes_eq}
 use Rattle.std.specs.Cmp.Lexicographic.{nat_list_eq_equiv}
@@ -10,8 +10,8 @@ use Rattle.cni_addr.specs.declared.range.RangeSet.{RangeSet}
 use Rattle.ip_pool.specs.Pool.{is_free, pick_of, after_last_first, candidates_of}
 use Rattle.kernel_types.specs.Equal.{addr_eq}
 use Rattle.kernel_types.specs.Words.{is_own}
-use Rattle.kernel_types.specs.Apply.Calls.{lease_next_of, lease_taken, leased_addresses, last_leased, is_of_pool, moved_last, with_last}
-use Rattle.kernel_types.specs.Sound.{IsSound, is_of_network}
+use Rattle.kernel_types.specs.Apply.Calls.{lease_next_of, lease_taken, leased_addresses, last_leased, is_of_pool, moved_last, owner_in, with_last}
+use Rattle.kernel_types.specs.Sound.{IsSound}
 use Rattle.kernel_types.specs.Touch.{ChangesOnly, TouchesOwn, TouchesOwnAndLast}
 use Rattle.kernel_types.proofs.Cases.{by_test, att_eq-refl}
 use Rattle.kernel_types.proofs.ChangeLemmas.{ChangesOnly-nothing, ChangesOnly-append, ChangesOnly-map}
@@ -86,7 +86,8 @@ sound-lease_taken host att number None free sound = sound
 sound-lease_taken host att number (Some addr) free sound =
     IsSound-with_last (record host { leases = host.leases ++ record { network = att.network; addr = addr; tag = Own att } ∷ [] }) att.network number addr (IsSound-with_leases host _ sound (record {
       keys = distinct-push (λ a b. bytes_eq a.network b.network && addr_eq a.addr b.addr) host.leases (record { network = att.network; addr = addr; tag = Own att }) sound.leases.keys (free-new host att.network addr (free addr refl));
-      tags = list_all-push (λ l. is_of_network l.network l.tag) host.leases (record { network = att.network; addr = addr; tag = Own att }) sound.leases.tags (nat_list_eq_equiv.refl att.network);
+      tags = list_all-push (λ l. is_some (owner_in l.network l.tag)) host.leases (record { network = att.network; addr = addr; tag = Own att }) sound.leases.tags
+          (ap (λ b. is_some (if b then Some att else None)) (nat_list_eq_equiv.refl att.network));
     }))
 
 pub IsSound-lease_next : (host : Host) (att : Att) (number : ℕ) (set : RangeSet) → IsSound host → IsSound (lease_next_of host att number set).0

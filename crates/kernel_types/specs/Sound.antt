@@ -1,11 +1,11 @@
 -- What holds of every host: keys are distinct, and tags, places and peers fit.
-use Rattle.std.specs.Prelude.{◌≡◌, ℕ, Bool, true, false, not, ◌&&◌, ◌||◌, List, Option, Some, None}
+use Rattle.std.specs.Prelude.{◌≡◌, ℕ, Bool, true, false, not, ◌&&◌, ◌||◌, List, Option, Some, None, is_some}
 use Rattle.std.specs.List.{list_any, list_all}
 use Rattle.std.specs.Str.{bytes_eq}
 use Rattle.cni_addr.specs.Lists.{distinct}
 use Rattle.kernel_types.specs.Equal.{addr_eq, rule_eq, tag_eq}
 use Rattle.kernel_types.specs.Words.{is_host_ns, is_host_or_ns, is_owned, is_bridge, is_veth, is_at, is_peer_at, is_link_of}
-use Rattle.kernel_types.specs.Apply.Calls.{is_same_addr, is_same_route, is_same_setting, is_of_pool, leased_addresses}
+use Rattle.kernel_types.specs.Apply.Calls.{is_same_addr, is_same_route, is_same_setting, is_of_pool, leased_addresses, owner_in}
 use Rattle.kernel_types.specs.declared.object.LinkKey.{LinkKey}
 use Rattle.kernel_types.specs.declared.object.Tag.{Tag}
 use Rattle.kernel_types.specs.declared.object.Tag.TheVariants.{Outside, Base, Own}
@@ -106,15 +106,9 @@ pub record AreSettings (namespaces : List NsObj) (settings : List Setting) : Typ
   pub keys : HasDistinct (λ a b. is_same_setting b a) settings
   pub tags : AllPassTest (λ s. setting_fits_tag namespaces s s.tag) settings
 
--- an attachment of the network
-abbrev pub is_of_network : List ℕ → Tag → Bool
-is_of_network network Outside = false
-is_of_network network Base = false
-is_of_network network (Own att) = bytes_eq att.network network
-
 pub record AreLeases (leases : List Lease) : Type 0 where
   pub keys : HasDistinct (λ a b. bytes_eq a.network b.network && addr_eq a.addr b.addr) leases
-  pub tags : AllPassTest (λ l. is_of_network l.network l.tag) leases
+  pub tags : AllPassTest (λ l. is_some (owner_in l.network l.tag)) leases
 
 pub record AreCached (cached : List CachedObj) : Type 0 where
   pub keys : HasDistinct (λ a b. tag_eq a.tag b.tag) cached
