@@ -10,7 +10,7 @@ use Rattle.kernel_types.specs.declared.object.LinkKind.TheVariants.{Macvlan}
 use Rattle.kernel_types.specs.declared.object.Link.{Link}
 use Rattle.kernel_types.specs.declared.object.Host.{Host}
 use Rattle.kernel_types.specs.declared.call.Call.{Call}
-use Rattle.kernel_types.specs.declared.call.Call.TheVariants.{VethAdd, MacvlanAdd, AddrAdd, RouteAdd, RuleAppend, SettingSet, LeaseNext, PoolFree, NsChange, Outside}
+use Rattle.kernel_types.specs.declared.call.Call.TheVariants.{Begin, BridgeEnsure, GatewayEnsure, ForwardEnsure, VethAdd, MacvlanAdd, LinkSet, AddrAdd, RouteAdd, RuleAppend, SettingSet, LeaseNext, CachePut, LinkDel, RuleDel, SettingDel, LeaseDel, CacheDel, HasObj, CacheGet, OwnersOf, PoolFree, NsChange, Outside}
 use Rattle.kernel_types.specs.declared.call.Change.{Change}
 use Rattle.kernel_types.specs.declared.call.Change.TheVariants.{DropLink, Flush}
 
@@ -46,14 +46,27 @@ IsAllowedChange (DropLink key) = is_host_ns key.ns ≡ false
 IsAllowedChange (Flush table) = Unit {0}
 
 abbrev pub IsAllowed : Host → Call → Type 0
+IsAllowed host (Begin att netns) = Unit {0}
+IsAllowed host (BridgeEnsure name mtu promisc) = Unit {0}
+IsAllowed host (GatewayEnsure bridge cidr) = Unit {0}
+IsAllowed host (ForwardEnsure family) = Unit {0}
 IsAllowed host (VethAdd host_end inner_end) = IsVethPair host_end inner_end
 IsAllowed host (MacvlanAdd link) = IsMacvlanLink link
+IsAllowed host (LinkSet att key mac mtu tx_qlen promisc allmulti) = Unit {0}
 IsAllowed host (AddrAdd obj) = is_owned obj.tag ≡ true
 IsAllowed host (RouteAdd obj) = is_owned obj.tag ≡ true
 IsAllowed host (RuleAppend rule) = is_owned rule.tag ≡ true
 IsAllowed host (SettingSet setting) = (is_owned setting.tag ≡ true) × (is_host_ns setting.ns ≡ false)
 IsAllowed host (LeaseNext att number set) = IsPool set × (is_candidate_or_none set (last_leased host att.network number) ≡ true)
+IsAllowed host (CachePut att cached) = Unit {0}
+IsAllowed host (LinkDel att) = Unit {0}
+IsAllowed host (RuleDel att) = Unit {0}
+IsAllowed host (SettingDel att) = Unit {0}
+IsAllowed host (LeaseDel att) = Unit {0}
+IsAllowed host (CacheDel att) = Unit {0}
+IsAllowed host (HasObj probe) = Unit {0}
+IsAllowed host (CacheGet att) = Unit {0}
+IsAllowed host (OwnersOf network kind) = Unit {0}
 IsAllowed host (PoolFree network set) = IsPool set
 IsAllowed host (NsChange name add) = is_host_ns name ≡ false
 IsAllowed host (Outside change) = IsAllowedChange change
-IsAllowed host call = Unit {0}
