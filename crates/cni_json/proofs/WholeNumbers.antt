@@ -8,7 +8,7 @@ use Rattle.serde_json.specs.Find.{get, get_member, as_array}
 use Rattle.serde_json.specs.View.{view, items_view}
 use Rattle.serde_json.specs.Written.{has_float, items_have_float, members_have_float}
 use Rattle.serde_json.specs.declared.value.Value.{Value}
-use Rattle.cni_json.specs.Fields.{list_field, object_field, object_of, field_of}
+use Rattle.cni_json.specs.Fields.{unless_null, member_at, list_field, object_field, object_of, field_of}
 use Rattle.cni_json.specs.declared.fields.Field.TheVariants.{Here}
 
 member_whole : (o : Ordering) (x y : Option Data) (e v : Data) → match_ordering o x (Some e) y ≡ Some v → (x ≡ Some v → has_float v ≡ false) → (y ≡ Some v → has_float v ≡ false) → has_float e ≡ false → has_float v ≡ false
@@ -31,6 +31,19 @@ get-whole key (number n) v whole is = cc
 get-whole key (string s) v whole is = cc
 get-whole key (array ds) v whole is = cc
 get-whole key (object ms) v whole is = get_member-whole key ms v whole is
+
+-- a member that is there is what was found at the key
+pub member_at-found : (found : Option Data) (v : Data) → unless_null found ≡ Some v → found ≡ Some v
+member_at-found None v is = cc
+member_at-found (Some null) v is = cc
+member_at-found (Some (boolean b)) v is = is
+member_at-found (Some (number n)) v is = is
+member_at-found (Some (string s)) v is = is
+member_at-found (Some (array ds)) v is = is
+member_at-found (Some (object ms)) v is = is
+
+pub member_at-whole : (key : List ℕ) (d v : Data) → has_float d ≡ false → member_at key d ≡ Some v → has_float v ≡ false
+member_at-whole key d v whole is = get-whole key d v whole (member_at-found (get key d) v is)
 
 array_whole : (o : Option Data) (ds : Items) → field_of as_array o ≡ Here ds → ((v : Data) → o ≡ Some v → has_float v ≡ false) → items_have_float ds ≡ false
 array_whole None ds is whole = cc
@@ -64,5 +77,5 @@ items_have_float-at [] i d whole h = absurd (omega arith)
 items_have_float-at (x ∷ xs) zero d whole h = (or_parts (has_float (view x)) _ whole).0
 items_have_float-at (x ∷ xs) (suc i) d whole h = items_have_float-at xs i d (or_parts (has_float (view x)) _ whole).1 (omega arith)
 
--- the four under one name, for a function that hands on a part
-pub ruleset parts_are_whole = (get-whole, list_field-whole, object_field-whole, items_have_float-at)
+-- the five under one name, for a function that hands on a part
+pub ruleset parts_are_whole = (get-whole, member_at-whole, list_field-whole, object_field-whole, items_have_float-at)

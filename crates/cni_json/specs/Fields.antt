@@ -1,6 +1,6 @@
 -- A member of an object, by the kind that is wanted.
 use Rattle.std.specs.Prelude.{ℕ, List, Bool, Result, Ok, Option, Some, None, option_and_then, ⊤}
-use Rattle.serde_json.specs.Data.{Data, null, boolean, number, string, array, object, Items}
+use Rattle.serde_json.specs.Data.{Data, null, object, Items}
 use Rattle.serde_json.specs.Find.{get, as_str, as_bool, as_number, as_u64, as_array, as_object}
 use Rattle.cni_json.specs.declared.fields.Field.{Field}
 use Rattle.cni_json.specs.declared.fields.Field.TheVariants.{Absent, WrongKind, Here}
@@ -11,24 +11,29 @@ field_map f Absent = Absent
 field_map f WrongKind = WrongKind
 field_map f (Here x) = Here (f x)
 
+-- a member that is null is as an absent one
+abbrev pub unless_null : Option Data → Option Data
+unless_null None = None
+unless_null (Some null) = None
+unless_null (Some d) = Some d
+
+-- the member of d at the key
+abbrev pub member_at : List ℕ → Data → Option Data
+member_at key d = unless_null (get key d)
+
 -- a value that is there, of the wanted kind or of another
 abbrev pub of_kind : {A : Type 0} → Option A → Field A
 of_kind None = WrongKind
 of_kind (Some x) = Here x
 
--- a member that is null is as an absent one
-abbrev pub unless_null : {A : Type 0} → (Data → Option A) → Data → Field A
-unless_null kind null = Absent
-unless_null kind (boolean b) = of_kind (kind (boolean b))
-unless_null kind (number n) = of_kind (kind (number n))
-unless_null kind (string s) = of_kind (kind (string s))
-unless_null kind (array ds) = of_kind (kind (array ds))
-unless_null kind (object ms) = of_kind (kind (object ms))
+-- a member that may be there, by the wanted kind
+abbrev pub by_kind : {A : Type 0} → (Data → Option A) → Option Data → Field A
+by_kind kind None = Absent
+by_kind kind (Some d) = of_kind (kind d)
 
 -- what was found at a key, by the wanted kind
 abbrev pub field_of : {A : Type 0} → (Data → Option A) → Option Data → Field A
-field_of kind None = Absent
-field_of kind (Some d) = unless_null kind d
+field_of kind found = by_kind kind (unless_null found)
 
 -- the number, where it is a u64
 abbrev pub u64_of : Data → Option ℕ

@@ -1,8 +1,8 @@
 //! Members of an object, each asked for by its key and the kind that it is to have.
 
-ghost use Rattle.std.specs.Prelude.{◌≡◌};
+ghost use Rattle.std.specs.Prelude.{◌≡◌, option_map};
 ghost use Rattle.serde_json.specs.View.{view, items_view};
-ghost use Rattle.cni_json.specs.Fields.{field_map, text_field, bool_field, u64_field, list_field, object_field};
+ghost use Rattle.cni_json.specs.Fields.{field_map, member_at, text_field, bool_field, u64_field, list_field, object_field};
 
 use serde_json::Value;
 
@@ -17,12 +17,22 @@ pub enum Field<T> {
     Here(T),
 }
 
+/// The member under the key. One that is null is as an absent one.
+pub fn member<'a>(object: &'a Value, key: &str) -> Option<&'a Value>
+    ensures { option_map (λ v. view v.now) result ≡ member_at key.now (view object.entry.now) }
+{
+    match object.get(key) {
+        None | Some(Value::Null) => None,
+        there => there,
+    }
+}
+
 /// The member that is a text. It is one look-up of the key and takes no memory, as its kin.
 pub fn field_str<'a>(object: &'a Value, key: &str) -> Field<&'a str>
     ensures { field_map (λ s. s.now) result ≡ text_field key.now (view object.entry.now) }
 {
-    match object.get(key) {
-        None | Some(Value::Null) => Field::Absent,
+    match member(object, key) {
+        None => Field::Absent,
         Some(Value::String(text)) => Field::Here(text.as_str()),
         Some(_) => Field::WrongKind,
     }
@@ -32,8 +42,8 @@ pub fn field_str<'a>(object: &'a Value, key: &str) -> Field<&'a str>
 pub fn field_bool(object: &Value, key: &str) -> Field<bool>
     ensures { result ≡ bool_field key.now (view object.now) }
 {
-    match object.get(key) {
-        None | Some(Value::Null) => Field::Absent,
+    match member(object, key) {
+        None => Field::Absent,
         Some(Value::Bool(flag)) => Field::Here(*flag),
         Some(_) => Field::WrongKind,
     }
@@ -43,8 +53,8 @@ pub fn field_bool(object: &Value, key: &str) -> Field<bool>
 pub fn field_u64(object: &Value, key: &str) -> Field<u64>
     ensures { result ≡ u64_field key.now (view object.now) }
 {
-    match object.get(key) {
-        None | Some(Value::Null) => Field::Absent,
+    match member(object, key) {
+        None => Field::Absent,
         Some(value) => match value.as_u64() {
             Some(number) => Field::Here(number),
             None => Field::WrongKind,
@@ -56,8 +66,8 @@ pub fn field_u64(object: &Value, key: &str) -> Field<u64>
 pub fn field_list<'a>(object: &'a Value, key: &str) -> Field<&'a [Value]>
     ensures { field_map (λ s. items_view s.now) result ≡ list_field key.now (view object.entry.now) }
 {
-    match object.get(key) {
-        None | Some(Value::Null) => Field::Absent,
+    match member(object, key) {
+        None => Field::Absent,
         Some(Value::Array(items)) => Field::Here(items.as_slice()),
         Some(_) => Field::WrongKind,
     }
@@ -67,8 +77,8 @@ pub fn field_list<'a>(object: &'a Value, key: &str) -> Field<&'a [Value]>
 pub fn field_object<'a>(object: &'a Value, key: &str) -> Field<&'a Value>
     ensures { field_map (λ v. view v.now) result ≡ object_field key.now (view object.entry.now) }
 {
-    match object.get(key) {
-        None | Some(Value::Null) => Field::Absent,
+    match member(object, key) {
+        None => Field::Absent,
         Some(value) if value.is_object() => Field::Here(value),
         Some(_) => Field::WrongKind,
     }

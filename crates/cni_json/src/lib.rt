@@ -2,7 +2,7 @@
 //!
 //! The reading and the text are `serde_json`'s. This crate adds what each reader of configuration
 //! asks besides: each number of a value is a `u64` or an `i64`, and a member that is null is as an
-//! absent one. To the crates above it promises:
+//! absent one (`member`). To the crates above it promises:
 //!
 //! - `read` gives `json_of` of the bytes, in both directions: `Decode` exactly where they have no
 //!   reading, and `Number` exactly where a number of the reading is neither a `u64` nor an `i64`.
@@ -36,7 +36,7 @@ mod refusal;
 mod tests;
 mod writing;
 
-pub use fields::{Field, field_bool, field_list, field_object, field_str, field_u64};
+pub use fields::{Field, field_bool, field_list, field_object, field_str, field_u64, member};
 pub use laws::{a_line_feed_is_space, a_line_is_read_again, keys_ascend};
 pub use lists::{read_each, read_each_after, read_each_placed};
 pub use reading::{ReadEnd, read};

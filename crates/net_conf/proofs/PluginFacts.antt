@@ -7,7 +7,7 @@ use Rattle.std.proofs.lemmas.Bool.{or_parts, or_right}
 use Rattle.std.proofs.lemmas.List.Elements.{All-nil, All-cons, All-append}
 use Rattle.serde_json.specs.Data.{Data, null, boolean, number, string, array, object, Items, no_items, item}
 use Rattle.serde_json.specs.Find.{get, as_array}
-use Rattle.cni_json.specs.Fields.{u64_field, text_field, field_of}
+use Rattle.cni_json.specs.Fields.{member_at, u64_field, text_field, field_of}
 use Rattle.cni_json.specs.declared.fields.Field.{Field}
 use Rattle.cni_json.specs.declared.fields.Field.TheVariants.{Absent, WrongKind, Here}
 use Rattle.cni_json.proofs.Endings.{goes, ok_same, passed, not_refused}
@@ -85,12 +85,7 @@ host_local_or_none-ok d found is =
 
 ipam_of-ok : (o : Option Data) (found : Option HostLocalConf) → ipam_of o ≡ Ok found → IsWellFormedIpam found
 ipam_of-ok None found is = subst IsWellFormedIpam (ok_same is) tt
-ipam_of-ok (Some null) found is = subst IsWellFormedIpam (ok_same is) tt
-ipam_of-ok (Some (boolean b)) found is = host_local_or_none-ok (boolean b) found is
-ipam_of-ok (Some (number n)) found is = host_local_or_none-ok (number n) found is
-ipam_of-ok (Some (string s)) found is = host_local_or_none-ok (string s) found is
-ipam_of-ok (Some (array ds)) found is = host_local_or_none-ok (array ds) found is
-ipam_of-ok (Some (object ms)) found is = host_local_or_none-ok (object ms) found is
+ipam_of-ok (Some d) found is = host_local_or_none-ok d found is
 
 abbrev HasIpam : Addressing → Type 0
 HasIpam addressing = IsWellFormedIpam addressing.ipam
@@ -100,7 +95,7 @@ unfolding addressing_at ipam_at
 addressing_at-ok d found is =
     let dns = goes (dns_at d) _ found is in
     let ipam = goes (ipam_at d) _ found dns.rest in
-    subst HasIpam (ok_same ipam.rest) (ipam_of-ok (get (codes "ipam") d) ipam.value ipam.first)
+    subst HasIpam (ok_same ipam.rest) (ipam_of-ok (member_at (codes "ipam") d) ipam.value ipam.first)
 
 -- ---- the first plugin
 

@@ -7,7 +7,6 @@ use Rattle.std.proofs.lemmas.Bool.Decides.{nat_tests}
 use Rattle.std.proofs.lemmas.List.Elements.{All-nil, All-cons, All-append}
 use Rattle.std.proofs.lemmas.List.Folds.{list_all-append}
 use Rattle.serde_json.specs.Data.{Data, null, boolean, number, string, array, object, Items, no_items, item}
-use Rattle.serde_json.specs.Find.{get}
 use Rattle.cni_json.specs.declared.fields.Field.{Field}
 use Rattle.cni_json.specs.declared.fields.Field.TheVariants.{Absent, WrongKind, Here}
 use Rattle.cni_addr.proofs.Networks.{IsCidr-network_of, network_of_network}
@@ -27,7 +26,7 @@ use Rattle.net_conf.proofs.RangeLemmas.{same_family}
 use Rattle.cni_json.specs.Each.{each, with_front}
 use Rattle.net_conf.specs.Ranges.{range_at}
 use Rattle.net_conf.specs.Routes.{destination_or_refused, destination_of, destination_at, hop_or_refused, hop_of, hop_at, route_at, routes_of, routes_at}
-use Rattle.net_conf.specs.Sets.{set_of, is_set, all_items, is_of_one_family, ranges_of, is_there, listed_at, item_count, is_set_count, one_if, well_formed, own_sets_of, separate, sets_at}
+use Rattle.net_conf.specs.Sets.{set_of, is_set, all_items, is_of_one_family, ranges_of, has_subnet, listed_at, item_count, is_set_count, one_if, well_formed, own_sets_of, separate, sets_at}
 use Rattle.net_conf.specs.WellFormed.{IsWellFormedRange, IsWellFormedSet, IsWellFormedRoute}
 
 -- ---- a set
@@ -102,7 +101,7 @@ counted n h = (grind (arith, nat_tests), grind (arith, nat_tests))
 pub sets_at-ok : (d : Data) (sets : List RangeSet) → sets_at d ≡ Ok sets → AreWellFormedSets sets
 unfolding sets_at
 sets_at-ok d sets is =
-    let has_own = is_there (get (codes "subnet") d) in
+    let has_own = has_subnet d in
     let listed = goes (listed_at d) _ sets is in
     let form = goes (well_formed has_own listed.value) _ sets listed.rest in
     let own = goes (own_sets_of has_own d) _ sets form.rest in

@@ -10,13 +10,14 @@ use Rattle.std.specs.Ordering.{is_eq}
 use Rattle.std.proofs.lemmas.List.Elements.{All-nil, All-cons}
 use Rattle.serde_json.specs.Data.{Data, null, boolean, number, string, array, object, Members, no_members, member}
 use Rattle.serde_json.specs.Find.{get}
-use Rattle.cni_json.specs.Fields.{u64_field}
+use Rattle.cni_json.specs.Fields.{member_at, u64_field}
 use Rattle.cni_json.specs.declared.fields.Field.{Field}
 use Rattle.cni_json.specs.declared.fields.Field.TheVariants.{Absent, WrongKind, Here}
 use Rattle.cni_addr.proofs.MacTexts.{mac_read_is_spelled}
 use Rattle.cni_addr.specs.declared.mac.Mac.{Mac}
 use Rattle.cni_addr.specs.MacText.{IsMac, mac_of_text}
 use Rattle.cni_json.proofs.Endings.{goes, ok_same, passed}
+use Rattle.cni_json.proofs.WholeNumbers.{member_at-found}
 use Rattle.net_conf.proofs.JsonOrder.{IsBelowAll, IsOrdered, HasOrder, get-ordered}
 use Rattle.net_conf.specs.Members.{flag_at, is_mtu}
 use Rattle.net_conf.specs.Tuning.{has_part, setting_or_refused, setting_of, is_null, settings_of, sysctl_of, sysctl_at, mac_or_refused, new_mac_of, new_mac_at, new_mtu_of, new_mtu_at, queue_length_of, queue_length_at, tuning_at}
@@ -96,7 +97,7 @@ settings_of-ok (member k d ms) settings order is =
 
 sysctl_of-ok : (o : Option Data) (settings : List Sysctl) → ((d : Data) → o ≡ Some d → IsOrdered d) → sysctl_of o ≡ Ok settings → AreSettings settings
 sysctl_of-ok None settings order is = settings_of-ok no_members settings tt is
-sysctl_of-ok (Some null) settings order is = settings_of-ok no_members settings tt is
+sysctl_of-ok (Some null) settings order is = cc
 sysctl_of-ok (Some (boolean b)) settings order is = cc
 sysctl_of-ok (Some (number n)) settings order is = cc
 sysctl_of-ok (Some (string s)) settings order is = cc
@@ -105,7 +106,7 @@ sysctl_of-ok (Some (object ms)) settings order is = settings_of-ok ms settings (
 
 sysctl_at-ok : (d : Data) (settings : List Sysctl) → IsOrdered d → sysctl_at d ≡ Ok settings → AreSettings settings
 unfolding sysctl_at
-sysctl_at-ok d settings order is = sysctl_of-ok (get (codes "sysctl") d) settings (λ e there. get-ordered (codes "sysctl") d e order there) is
+sysctl_at-ok d settings order is = sysctl_of-ok (member_at (codes "sysctl") d) settings (λ e there. get-ordered (codes "sysctl") d e order (member_at-found (get (codes "sysctl") d) e there)) is
 
 -- ---- numbers
 

@@ -4,6 +4,7 @@ use Rattle.std.specs.Str.{bytes_eq}
 use Rattle.serde_json.specs.Data.{Data, null, string, object, Members, no_members, member}
 use Rattle.serde_json.specs.Find.{get}
 use Rattle.serde_json.specs.Written.{compact_text}
+use Rattle.cni_json.specs.Fields.{member_at}
 use Rattle.cni_json.specs.Outcome.{◌>>=◌}
 use Rattle.net_conf.specs.Dns.{dns_at}
 use Rattle.net_conf.specs.Members.{object_at, of_kind}
@@ -51,12 +52,11 @@ is_empty d = false
 -- an absent object, and one without members, ask for no address
 abbrev pub ipam_of : Option Data → Result (Option HostLocalConf) ConfError
 ipam_of None = Ok None
-ipam_of (Some null) = Ok None
 ipam_of (Some d) = if is_empty d then Ok None else of_kind Some (host_local_at d)
 
 -- the `ipam` of a plugin's object
 unfoldable pub ipam_at : Data → Result (Option HostLocalConf) ConfError
-ipam_at d = ipam_of (get (codes "ipam") d)
+ipam_at d = ipam_of (member_at (codes "ipam") d)
 
 -- the members that each plugin which makes an interface has last
 unfoldable pub addressing_at : Data → Result Addressing ConfError

@@ -1,10 +1,9 @@
 -- A network list, part by part in the order of its refusals (CNI specification 1.1.0, section 1).
 use Rattle.std.specs.Prelude.{ℕ, List, [], codes, Bool, true, false, if◌then◌else◌, Result, Ok, Err, ok_or, Option, Some, None}
 use Rattle.std.specs.Str.{bytes_eq}
-use Rattle.serde_json.specs.Data.{Data, null, boolean, string}
-use Rattle.serde_json.specs.Find.{get}
+use Rattle.serde_json.specs.Data.{Data, boolean, string}
 use Rattle.cni_json.specs.Json.{json_of}
-use Rattle.cni_json.specs.Fields.{text_field}
+use Rattle.cni_json.specs.Fields.{member_at, text_field}
 use Rattle.cni_json.specs.Outcome.{◌>>=◌}
 use Rattle.cni_json.specs.declared.fields.Field.{Field}
 use Rattle.cni_json.specs.declared.fields.Field.TheVariants.{Absent, WrongKind, Here}
@@ -55,14 +54,13 @@ switch_named key text =
 
 abbrev pub switch_of : List ℕ → Option Data → Result Bool ConfError
 switch_of key None = Ok false
-switch_of key (Some null) = Ok false
 switch_of key (Some (boolean b)) = Ok b
 switch_of key (Some (string text)) = switch_named key text
 switch_of key (Some d) = invalid key
 
 -- a truth value, or the text of one
 unfoldable pub switch_at : List ℕ → Data → Result Bool ConfError
-switch_at key d = switch_of key (get key d)
+switch_at key d = switch_of key (member_at key d)
 
 -- a network list
 unfoldable pub list_at : Data → Result NetList ConfError

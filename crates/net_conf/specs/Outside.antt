@@ -2,9 +2,9 @@
 use Rattle.std.specs.Prelude.{◌==◌, ◌||◌, ℕ, List, [], ◌∷◌, codes, Bool, true, false, not, if◌then◌else◌, Result, Ok, Err, Option, Some, None, ⊤, map}
 use Rattle.std.specs.Str.{bytes_eq}
 use Rattle.std.specs.Borrow.{Bor}
-use Rattle.serde_json.specs.Data.{Data, null, boolean, number, string, array, no_items, unsigned}
-use Rattle.serde_json.specs.Find.{get}
+use Rattle.serde_json.specs.Data.{Data, boolean, number, string, array, no_items, unsigned}
 use Rattle.serde_json.specs.Written.{compact_text}
+use Rattle.cni_json.specs.Fields.{member_at}
 use Rattle.cni_json.specs.Outcome.{◌>>=◌}
 use Rattle.net_conf.specs.declared.outside.Accepted.{Accepted}
 use Rattle.net_conf.specs.declared.outside.Accepted.TheVariants.{Nothing, Zero, AnyNumber, EmptyList, IsFlag, EmptyText, AnyText, Backend, OpenPolicy}
@@ -49,15 +49,14 @@ accepts AnyText d = is_text d
 accepts Backend d = is_default_text (codes "iptables") d
 accepts OpenPolicy d = is_default_text (codes "open") d
 
--- an absent value and null pass, and so does what is accepted; a refusal gives the value's compact text
+-- an absent value passes, and so does what is accepted; a refusal gives the value's compact text
 abbrev pub accepted_value : Accepted → List ℕ → Option Data → Result ⊤ ConfError
 accepted_value accepted key None = Ok tt
-accepted_value accepted key (Some null) = Ok tt
 accepted_value accepted key (Some d) = if accepts accepted d then Ok tt else Err (refusal.Unsupported key (compact_text d))
 
 -- the value under the key
 unfoldable pub supported : Accepted → List ℕ → Data → Result ⊤ ConfError
-supported accepted key d = accepted_value accepted key (get key d)
+supported accepted key d = accepted_value accepted key (member_at key d)
 
 -- a key and what it may be
 abbrev pub Row : Type 0

@@ -1,9 +1,8 @@
 -- The sets of ranges (the `host-local` plugin, `ranges`, and the older form `subnet`).
-use Rattle.std.specs.Prelude.{◌+◌, ◌&&◌, ℕ, suc, List, [], ◌∷◌, codes, Bool, true, false, nat_le, if◌then◌else◌, Result, Ok, Option, Some, None, ⊤}
+use Rattle.std.specs.Prelude.{◌+◌, ◌&&◌, ℕ, suc, List, [], ◌∷◌, codes, Bool, true, false, nat_le, if◌then◌else◌, Result, Ok, is_some, ⊤}
 use Rattle.std.specs.List.{list_all, flat_map}
-use Rattle.serde_json.specs.Data.{Data, null, array, object, Items, no_items, item}
-use Rattle.serde_json.specs.Find.{get}
-use Rattle.cni_json.specs.Fields.{list_field, member_or}
+use Rattle.serde_json.specs.Data.{Data, array, object, Items, no_items, item}
+use Rattle.cni_json.specs.Fields.{member_at, list_field, member_or}
 use Rattle.cni_json.specs.Outcome.{◌>>=◌}
 use Rattle.cni_json.specs.declared.fields.Field.{Field}
 use Rattle.cni_addr.specs.declared.address.Family.{Family}
@@ -59,11 +58,9 @@ ranges_of sets = flat_map (λ set. set.ranges) sets
 abbrev pub are_separate : List RangeSet → Bool
 are_separate sets = are_apart (ranges_of sets) && list_all is_of_one_family sets
 
--- the key is there, and not null
-abbrev pub is_there : Option Data → Bool
-is_there None = false
-is_there (Some null) = false
-is_there (Some d) = true
+-- the object has a `subnet` of its own
+abbrev pub has_subnet : Data → Bool
+has_subnet d = is_some (member_at (codes "subnet") d)
 
 abbrev pub sets_listed : Field Items → Result Items ConfError
 sets_listed f = member_or (Ok no_items) wrong_ranges Ok f
@@ -106,8 +103,8 @@ separate sets = if are_separate sets then Ok tt else wrong_ranges
 unfoldable pub sets_at : Data → Result (List RangeSet) ConfError
 sets_at d = do
   listed ← listed_at d
-  _ ← well_formed (is_there (get (codes "subnet") d)) listed
-  own ← own_sets_of (is_there (get (codes "subnet") d)) d
+  _ ← well_formed (has_subnet d) listed
+  own ← own_sets_of (has_subnet d) d
   sets ← with_front own (each set_of listed)
   _ ← separate sets
   Ok sets

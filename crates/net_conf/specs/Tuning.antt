@@ -3,9 +3,8 @@ use Rattle.std.specs.Prelude.{◌==◌, ◌||◌, ℕ, List, [], ◌∷◌, code
 use Rattle.std.specs.List.{starts_with}
 use Rattle.std.specs.Str.{bytes_eq}
 use Rattle.serde_json.specs.Data.{Data, null, string, object, Members, no_members, member}
-use Rattle.serde_json.specs.Find.{get}
 use Rattle.serde_json.specs.Written.{compact_text}
-use Rattle.cni_json.specs.Fields.{text_field, u64_field}
+use Rattle.cni_json.specs.Fields.{member_at, text_field, u64_field}
 use Rattle.cni_json.specs.Outcome.{◌>>=◌}
 use Rattle.cni_json.specs.declared.fields.Field.{Field}
 use Rattle.cni_json.specs.declared.fields.Field.TheVariants.{Absent, WrongKind, Here}
@@ -48,13 +47,12 @@ settings_of (member key d ms) = if is_null d then settings_of ms else (do
 
 abbrev pub sysctl_of : Option Data → Result (List Sysctl) ConfError
 sysctl_of None = Ok []
-sysctl_of (Some null) = Ok []
 sysctl_of (Some (object ms)) = settings_of ms
 sysctl_of (Some d) = invalid (codes "sysctl")
 
 -- the settings of the container's namespace
 unfoldable pub sysctl_at : Data → Result (List Sysctl) ConfError
-sysctl_at d = sysctl_of (get (codes "sysctl") d)
+sysctl_at d = sysctl_of (member_at (codes "sysctl") d)
 
 abbrev pub mac_or_refused : Option Mac → Result (Option Mac) ConfError
 mac_or_refused None = invalid (codes "mac")

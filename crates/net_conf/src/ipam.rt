@@ -14,7 +14,7 @@ use crate::members::need_object;
 use crate::outside::{Accepted, supported};
 use crate::routes::routes;
 use crate::sets::sets;
-use cni_json::{Map, Value};
+use cni_json::{Map, Value, member};
 use cni_result::Dns;
 use std::alloc::Global;
 
@@ -43,8 +43,8 @@ fn ipam(alloc: Global, plugin: &Value) -> Result<Option<HostLocalConf>, ConfErro
     requires { has_float (view plugin.now) ≡ false }
     ensures { GivesAs is_want_of_memory (λ conf. conf) result (wanted.ipam_at (view plugin.now)) }
 {
-    match plugin.get("ipam") {
-        None | Some(Value::Null) => Ok(None),
+    match member(plugin, "ipam") {
+        None => Ok(None),
         Some(object) => {
             if is_empty(object) {
                 Ok(None)

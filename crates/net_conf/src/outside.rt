@@ -9,7 +9,7 @@ ghost use Rattle.net_conf.specs.Outside as outside;
 ghost use Rattle.net_conf.specs.Refusals.{is_want_of_memory};
 
 use crate::error::{ConfError, unsupported};
-use cni_json::Value;
+use cni_json::{Value, member};
 use std::alloc::Global;
 
 /// The values that are accepted of a key that isn't acted on.
@@ -62,8 +62,8 @@ pub fn supported(
     requires { has_float (view object.now) ≡ false }
     ensures { GivesAs is_want_of_memory (λ t. t) result (outside.supported accepted key.now (view object.now)) }
 {
-    match object.get(key) {
-        None | Some(Value::Null) => Ok(()),
+    match member(object, key) {
+        None => Ok(()),
         Some(value) => {
             if is_accepted(accepted, value) {
                 Ok(())

@@ -14,7 +14,7 @@ use crate::names::is_network_name;
 use crate::outside::{Accepted, supported};
 use crate::plugins::plugin_chain;
 use cni_addr::Text;
-use cni_json::{Field, ReadEnd, Value, field_str};
+use cni_json::{Field, ReadEnd, Value, field_str, member};
 use cni_result::{Version, version_named};
 use std::alloc::Global;
 
@@ -83,8 +83,8 @@ fn name(alloc: Global, top: &Value) -> Result<Text, ConfError>
 fn switch(alloc: Global, top: &Value, key: &str) -> Result<bool, ConfError>
     ensures { GivesAs is_want_of_memory (λ b. b) result (wanted.switch_at key.now (view top.now)) }
 {
-    match top.get(key) {
-        None | Some(Value::Null) => Ok(false),
+    match member(top, key) {
+        None => Ok(false),
         Some(Value::Bool(flag)) => Ok(*flag),
         Some(Value::String(text)) => match text.as_str() {
             "true" => Ok(true),

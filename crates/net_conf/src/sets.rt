@@ -3,7 +3,6 @@
 ghost use Rattle.std.specs.Prelude.{◌≡◌, ◌+◌, IfOk};
 ghost use Rattle.std.specs.List.{list_all};
 ghost use Rattle.serde_json.specs.Data.{array};
-ghost use Rattle.serde_json.specs.Find.{get};
 ghost use Rattle.serde_json.specs.View.{view, items_view};
 ghost use Rattle.cni_json.specs.Outcome.{GivesAs};
 ghost use Rattle.net_conf.specs.Refusals.{is_want_of_memory};
@@ -13,7 +12,7 @@ use crate::apart::share_no_address;
 use crate::error::{ConfError, invalid};
 use crate::ranges::range;
 use cni_addr::{Family, Items, NoMemory, Range, RangeSet};
-use cni_json::{Field, Value, field_list, read_each, read_each_after};
+use cni_json::{Field, Value, field_list, member, read_each, read_each_after};
 use std::alloc::Global;
 
 /// The set that the object's own `subnet` gives, and then those of its `ranges`.
@@ -22,7 +21,7 @@ pub fn sets(alloc: Global, object: &Value) -> Result<Items<RangeSet>, ConfError>
     ensures { GivesAs is_want_of_memory (λ sets. sets) result (wanted.sets_at (view object.now)) }
 {
     let listed = listed(alloc, object)?;
-    let has_own = is_there(object, "subnet");
+    let has_own = has_subnet(object);
     well_formed(alloc, has_own, listed)?;
     let own = own_sets(alloc, has_own, object)?;
     let sets = read_each_after(own, listed, |member| set(alloc, member))?;
@@ -41,13 +40,10 @@ fn listed<'a>(alloc: Global, object: &'a Value) -> Result<&'a [Value], ConfError
     }
 }
 
-fn is_there(object: &Value, key: &str) -> bool
-    ensures { result ≡ wanted.is_there (get key.now (view object.now)) }
+fn has_subnet(object: &Value) -> bool
+    ensures { result ≡ wanted.has_subnet (view object.now) }
 {
-    match object.get(key) {
-        None | Some(Value::Null) => false,
-        Some(_) => true,
-    }
+    member(object, "subnet").is_some()
 }
 
 #[tactic(auto, using(cni_json::proofs::Steps::steps))]

@@ -11,7 +11,7 @@ use crate::chained::{Sysctl, TuningConf};
 use crate::error::{ConfError, invalid, unsupported};
 use crate::members::{flag, is_mtu};
 use cni_addr::{Items, Mac, Text, read_mac};
-use cni_json::{Field, Map, Value, field_str, field_u64};
+use cni_json::{Field, Map, Value, field_str, field_u64, member};
 use std::alloc::Global;
 
 /// The configuration of the `tuning` plugin, from its object in a list.
@@ -39,8 +39,8 @@ pub fn tuning(alloc: Global, object: &Value) -> Result<TuningConf, ConfError>
 fn sysctl(alloc: Global, object: &Value) -> Result<Items<Sysctl>, ConfError>
     ensures { GivesAs is_want_of_memory (λ settings. settings) result (wanted.sysctl_at (view object.now)) }
 {
-    match object.get("sysctl") {
-        None | Some(Value::Null) => Ok(Items::new(alloc)),
+    match member(object, "sysctl") {
+        None => Ok(Items::new(alloc)),
         Some(Value::Object(members)) => settings(alloc, members),
         Some(_) => Err(invalid(alloc, "sysctl")),
     }
