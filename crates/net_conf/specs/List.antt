@@ -3,15 +3,14 @@ use Rattle.std.specs.Prelude.{ℕ, List, [], codes, Bool, true, false, if◌then
 use Rattle.std.specs.Str.{bytes_eq}
 use Rattle.serde_json.specs.Data.{Data, boolean, string}
 use Rattle.cni_json.specs.Json.{json_of}
-use Rattle.cni_json.specs.Fields.{member_at, text_field}
+use Rattle.cni_json.specs.Fields.{member_at, text_field, member_or}
 use Rattle.cni_json.specs.Outcome.{◌>>=◌}
 use Rattle.cni_json.specs.declared.fields.Field.{Field}
-use Rattle.cni_json.specs.declared.fields.Field.TheVariants.{Absent, WrongKind, Here}
 use Rattle.cni_json.specs.declared.reading.ReadEnd.{ReadEnd}
 use Rattle.cni_json.specs.declared.reading.ReadEnd.TheVariants as ends
 use Rattle.cni_result.specs.Versions.{version_named}
 use Rattle.cni_result.specs.declared.version.Version.{Version}
-use Rattle.net_conf.specs.Members.{object_at}
+use Rattle.net_conf.specs.Members.{object_at, needed}
 use Rattle.net_conf.specs.Names.{is_network_name}
 use Rattle.net_conf.specs.Outside.{supported}
 use Rattle.net_conf.specs.Plugins.{chain_at}
@@ -29,18 +28,19 @@ read_or_refused (Err ends.Number) = invalid (codes "number")
 read_or_refused (Err ends.NoMemory) = Err refusal.NoMemory
 
 abbrev pub version_of : Field (List ℕ) → Result Version ConfError
-version_of WrongKind = invalid (codes "cniVersion")
-version_of Absent = Err (refusal.Version [])
-version_of (Here text) = ok_or (version_named text) (refusal.Version text)
+version_of f =
+    member_or (Err (refusal.Version [])) (invalid (codes "cniVersion"))
+    (λ text. ok_or (version_named text) (refusal.Version text)) f
 
 -- the version that the plugins are asked in
 unfoldable pub version_at : Data → Result Version ConfError
 version_at d = version_of (text_field (codes "cniVersion") d)
 
+abbrev pub name_or_refused : List ℕ → Result (List ℕ) ConfError
+name_or_refused text = if is_network_name text then Ok text else invalid (codes "name")
+
 abbrev pub name_of : Field (List ℕ) → Result (List ℕ) ConfError
-name_of Absent = invalid (codes "name")
-name_of WrongKind = invalid (codes "name")
-name_of (Here text) = if is_network_name text then Ok text else invalid (codes "name")
+name_of f = needed (codes "name") name_or_refused f
 
 -- the name of the network
 unfoldable pub name_at : Data → Result (List ℕ) ConfError

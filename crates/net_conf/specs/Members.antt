@@ -4,13 +4,21 @@ use Rattle.serde_json.specs.Data.{Data}
 use Rattle.cni_json.specs.Fields.{bool_field, u64_field, member_or, object_or}
 use Rattle.cni_json.specs.Outcome.{◌>>=◌}
 use Rattle.cni_json.specs.declared.fields.Field.{Field}
-use Rattle.cni_json.specs.declared.fields.Field.TheVariants.{Absent, WrongKind, Here}
+use Rattle.net_conf.specs.Names.{is_interface_name}
 use Rattle.net_conf.specs.Refusals.{invalid}
 use Rattle.net_conf.specs.declared.error.ConfError.{ConfError}
 
 -- the value is an object; else this key or part is to blame
 abbrev pub object_at : List ℕ → Data → Result ⊤ ConfError
 object_at blamed d = object_or (invalid blamed) d
+
+-- what is read of a member that must be there; else this key or part is to blame
+abbrev pub needed : {A B : Type 0} → List ℕ → (A → Result B ConfError) → Field A → Result B ConfError
+needed blamed read f = member_or (invalid blamed) (invalid blamed) read f
+
+-- what is read of a member that may be absent, and is the default then
+abbrev pub optional : {A B : Type 0} → List ℕ → B → (A → Result B ConfError) → Field A → Result B ConfError
+optional blamed default read f = member_or (Ok default) (invalid blamed) read f
 
 -- the configuration, as one of a kind
 abbrev pub of_kind : {A B : Type 0} → (A → B) → Result A ConfError → Result B ConfError
@@ -20,11 +28,15 @@ of_kind kind r = do
 
 -- the truth value under the key, or the default where there is none; else `outer` is to blame
 abbrev pub flag_within : List ℕ → List ℕ → Bool → Data → Result Bool ConfError
-flag_within outer key default d = member_or (Ok default) (invalid outer) Ok (bool_field key d)
+flag_within outer key default d = optional outer default Ok (bool_field key d)
 
 -- the truth value under the key
 unfoldable pub flag_at : List ℕ → Bool → Data → Result Bool ConfError
 flag_at key default d = flag_within key key default d
+
+-- the text, which must be the name of an interface; else this key is to blame
+abbrev pub interface_name : List ℕ → List ℕ → Result (List ℕ) ConfError
+interface_name blamed text = if is_interface_name text then Ok text else invalid blamed
 
 -- the least MTU of IPv4 (RFC 791, section 3.2) to the greatest length of a packet
 abbrev pub is_mtu : ℕ → Bool
@@ -39,9 +51,7 @@ abbrev pub mtu_value : ℕ → Result ℕ ConfError
 mtu_value n = if n == 0 then Ok default_mtu else if is_mtu n then Ok n else invalid (codes "mtu")
 
 abbrev pub mtu_of : Field ℕ → Result ℕ ConfError
-mtu_of Absent = Ok default_mtu
-mtu_of WrongKind = invalid (codes "mtu")
-mtu_of (Here n) = mtu_value n
+mtu_of f = optional (codes "mtu") default_mtu mtu_value f
 
 -- the MTU of the links that a plugin makes
 unfoldable pub mtu_at : Data → Result ℕ ConfError

@@ -6,11 +6,10 @@ use Rattle.serde_json.specs.Data.{Data, Items, no_items, item}
 use Rattle.cni_json.specs.Fields.{text_field, list_field}
 use Rattle.cni_json.specs.Outcome.{◌>>=◌}
 use Rattle.cni_json.specs.declared.fields.Field.{Field}
-use Rattle.cni_json.specs.declared.fields.Field.TheVariants.{Absent, WrongKind, Here}
 use Rattle.net_conf.specs.Bridge.{bridge_at}
 use Rattle.net_conf.specs.Firewall.{firewall_at}
 use Rattle.net_conf.specs.Macvlan.{macvlan_at}
-use Rattle.net_conf.specs.Members.{object_at, of_kind}
+use Rattle.net_conf.specs.Members.{object_at, needed, of_kind}
 use Rattle.net_conf.specs.PluginTypes.{type_eq, type_of_chained}
 use Rattle.net_conf.specs.Portmap.{portmap_at}
 use Rattle.net_conf.specs.Ptp.{ptp_at}
@@ -39,9 +38,7 @@ type_named text =
     else invalid (codes "type")
 
 abbrev pub type_of : Field (List ℕ) → Result PluginType ConfError
-type_of Absent = invalid (codes "type")
-type_of WrongKind = invalid (codes "type")
-type_of (Here text) = type_named text
+type_of f = needed (codes "type") type_named f
 
 -- the type that the object names
 unfoldable pub type_at : Data → Result PluginType ConfError
@@ -110,9 +107,7 @@ later_plugins (item d ds) = chained_after [] ds
 -- ---- all plugins
 
 abbrev pub plugins_of : Field Items → Result Items ConfError
-plugins_of Absent = wrong_plugins
-plugins_of WrongKind = wrong_plugins
-plugins_of (Here ds) = Ok ds
+plugins_of f = needed (codes "plugins") Ok f
 
 -- the plugins, not yet read
 unfoldable pub plugins_at : Data → Result Items ConfError

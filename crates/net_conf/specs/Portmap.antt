@@ -4,10 +4,8 @@ use Rattle.serde_json.specs.Data.{Data}
 use Rattle.cni_json.specs.Fields.{object_field}
 use Rattle.cni_json.specs.Outcome.{◌>>=◌}
 use Rattle.cni_json.specs.declared.fields.Field.{Field}
-use Rattle.cni_json.specs.declared.fields.Field.TheVariants.{Absent, WrongKind, Here}
-use Rattle.net_conf.specs.Members.{flag_at, flag_within}
+use Rattle.net_conf.specs.Members.{optional, flag_at, flag_within}
 use Rattle.net_conf.specs.Outside.{Row, all_supported}
-use Rattle.net_conf.specs.Refusals.{invalid}
 use Rattle.net_conf.specs.declared.chained.PortmapConf.{PortmapConf}
 use Rattle.net_conf.specs.declared.error.ConfError.{ConfError}
 use Rattle.net_conf.specs.declared.outside.Accepted.TheVariants.{AnyNumber, EmptyList, EmptyText, Backend}
@@ -19,9 +17,7 @@ portmap_rows =
     ∷ (codes "externalSetMarkChain", EmptyText) ∷ (codes "backend", Backend) ∷ []
 
 abbrev pub mappings_of : Field Data → Result Bool ConfError
-mappings_of Absent = Ok false
-mappings_of WrongKind = invalid (codes "capabilities")
-mappings_of (Here d) = flag_within (codes "capabilities") (codes "portMappings") false d
+mappings_of f = optional (codes "capabilities") false (flag_within (codes "capabilities") (codes "portMappings") false) f
 
 -- whether the plugin is to get the port mappings
 unfoldable pub mappings_at : Data → Result Bool ConfError

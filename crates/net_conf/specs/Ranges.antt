@@ -4,7 +4,6 @@ use Rattle.serde_json.specs.Data.{Data}
 use Rattle.cni_json.specs.Fields.{text_field}
 use Rattle.cni_json.specs.Outcome.{◌>>=◌}
 use Rattle.cni_json.specs.declared.fields.Field.{Field}
-use Rattle.cni_json.specs.declared.fields.Field.TheVariants.{Absent, WrongKind, Here}
 use Rattle.cni_addr.specs.declared.address.Family.{Family}
 use Rattle.cni_addr.specs.declared.address.Addr.{Addr}
 use Rattle.cni_addr.specs.declared.address.Cidr.{Cidr}
@@ -14,6 +13,7 @@ use Rattle.cni_addr.specs.CidrText.{cidr_of_text}
 use Rattle.cni_addr.specs.Codes.{family_eq}
 use Rattle.cni_addr.specs.Equal.{cidr_eq}
 use Rattle.cni_addr.specs.Network.{network_of, last_of, contains}
+use Rattle.net_conf.specs.Members.{needed, optional}
 use Rattle.net_conf.specs.Refusals.{invalid}
 use Rattle.net_conf.specs.declared.error.ConfError.{ConfError}
 
@@ -26,9 +26,7 @@ subnet_or_refused None = invalid (codes "subnet")
 subnet_or_refused (Some subnet) = if is_subnet subnet then Ok subnet else invalid (codes "subnet")
 
 abbrev pub subnet_of : Field (List ℕ) → Result Cidr ConfError
-subnet_of Absent = invalid (codes "subnet")
-subnet_of WrongKind = invalid (codes "subnet")
-subnet_of (Here text) = subnet_or_refused (cidr_of_text text)
+subnet_of f = needed (codes "subnet") (λ text. subnet_or_refused (cidr_of_text text)) f
 
 -- the subnet of a range
 unfoldable pub subnet_at : Data → Result Cidr ConfError
@@ -40,9 +38,7 @@ bound_or_refused key subnet None = invalid key
 bound_or_refused key subnet (Some addr) = if contains subnet addr then Ok addr else invalid key
 
 abbrev pub bound_of : List ℕ → Cidr → Addr → Field (List ℕ) → Result Addr ConfError
-bound_of key subnet default Absent = Ok default
-bound_of key subnet default WrongKind = invalid key
-bound_of key subnet default (Here text) = bound_or_refused key subnet (addr_of_text text)
+bound_of key subnet default f = optional key default (λ text. bound_or_refused key subnet (addr_of_text text)) f
 
 -- the first or the last address to lease, or the default
 unfoldable pub bound_at : List ℕ → Cidr → Addr → Data → Result Addr ConfError
@@ -66,9 +62,8 @@ gateway_or_refused family None = invalid (codes "gateway")
 gateway_or_refused family (Some addr) = if family_eq addr.family family then Ok addr else invalid (codes "gateway")
 
 abbrev pub gateway_of : Cidr → Field (List ℕ) → Result Addr ConfError
-gateway_of subnet Absent = Ok (first_host subnet)
-gateway_of subnet WrongKind = invalid (codes "gateway")
-gateway_of subnet (Here text) = gateway_or_refused subnet.addr.family (addr_of_text text)
+gateway_of subnet f =
+    optional (codes "gateway") (first_host subnet) (λ text. gateway_or_refused subnet.addr.family (addr_of_text text)) f
 
 -- the gateway of a range, or the subnet's first address
 unfoldable pub gateway_at : Cidr → Data → Result Addr ConfError

@@ -4,7 +4,6 @@ use Rattle.serde_json.specs.Data.{Data, Items}
 use Rattle.cni_json.specs.Fields.{text_field, list_field}
 use Rattle.cni_json.specs.Outcome.{◌>>=◌}
 use Rattle.cni_json.specs.declared.fields.Field.{Field}
-use Rattle.cni_json.specs.declared.fields.Field.TheVariants.{Absent, WrongKind, Here}
 use Rattle.cni_addr.specs.declared.address.Family.{Family}
 use Rattle.cni_addr.specs.declared.address.Addr.{Addr}
 use Rattle.cni_addr.specs.declared.address.Cidr.{Cidr}
@@ -14,6 +13,7 @@ use Rattle.cni_addr.specs.Codes.{family_eq}
 use Rattle.cni_addr.specs.Network.{network_of}
 use Rattle.cni_result.specs.declared.result.RouteEntry.{RouteEntry}
 use Rattle.cni_json.specs.Each.{list_or}
+use Rattle.net_conf.specs.Members.{needed, optional}
 use Rattle.net_conf.specs.Refusals.{invalid}
 use Rattle.net_conf.specs.declared.error.ConfError.{ConfError}
 
@@ -25,9 +25,7 @@ destination_or_refused None = wrong_routes
 destination_or_refused (Some cidr) = Ok (network_of cidr)
 
 abbrev pub destination_of : Field (List ℕ) → Result Cidr ConfError
-destination_of Absent = wrong_routes
-destination_of WrongKind = wrong_routes
-destination_of (Here text) = destination_or_refused (cidr_of_text text)
+destination_of f = needed (codes "routes") (λ text. destination_or_refused (cidr_of_text text)) f
 
 -- the destination, its host bits cleared
 unfoldable pub destination_at : Data → Result Cidr ConfError
@@ -38,9 +36,7 @@ hop_or_refused family None = wrong_routes
 hop_or_refused family (Some addr) = if family_eq addr.family family then Ok (Some addr) else wrong_routes
 
 abbrev pub hop_of : Family → Field (List ℕ) → Result (Option Addr) ConfError
-hop_of family Absent = Ok None
-hop_of family WrongKind = wrong_routes
-hop_of family (Here text) = hop_or_refused family (addr_of_text text)
+hop_of family f = optional (codes "routes") None (λ text. hop_or_refused family (addr_of_text text)) f
 
 -- the next hop, of the destination's family, if one is given
 unfoldable pub hop_at : Family → Data → Result (Option Addr) ConfError

@@ -2,7 +2,7 @@
 use Rattle.std.specs.Prelude.{◌+◌, ◌&&◌, ℕ, suc, List, [], ◌∷◌, codes, Bool, true, false, nat_le, if◌then◌else◌, Result, Ok, is_some, ⊤}
 use Rattle.std.specs.List.{list_all, flat_map}
 use Rattle.serde_json.specs.Data.{Data, array, object, Items, no_items, item}
-use Rattle.cni_json.specs.Fields.{member_at, list_field, member_or}
+use Rattle.cni_json.specs.Fields.{member_at, list_field}
 use Rattle.cni_json.specs.Outcome.{◌>>=◌}
 use Rattle.cni_json.specs.declared.fields.Field.{Field}
 use Rattle.cni_addr.specs.declared.address.Family.{Family}
@@ -11,6 +11,7 @@ use Rattle.cni_addr.specs.declared.range.RangeSet.{RangeSet}
 use Rattle.cni_addr.specs.Codes.{family_eq}
 use Rattle.ip_pool.specs.Pool.{are_apart}
 use Rattle.cni_json.specs.Each.{each, with_front}
+use Rattle.net_conf.specs.Members.{optional}
 use Rattle.net_conf.specs.Ranges.{range_at}
 use Rattle.net_conf.specs.Refusals.{invalid}
 use Rattle.net_conf.specs.declared.error.ConfError.{ConfError}
@@ -63,7 +64,7 @@ abbrev pub has_subnet : Data → Bool
 has_subnet d = is_some (member_at (codes "subnet") d)
 
 abbrev pub sets_listed : Field Items → Result Items ConfError
-sets_listed f = member_or (Ok no_items) wrong_ranges Ok f
+sets_listed f = optional (codes "ranges") no_items Ok f
 
 -- the listed sets, not yet read
 unfoldable pub listed_at : Data → Result Items ConfError
