@@ -1,5 +1,5 @@
 -- A member of an object, by the kind that is wanted.
-use Rattle.std.specs.Prelude.{ℕ, List, Bool, Result, Ok, Option, Some, None, option_and_then, ⊤}
+use Rattle.std.specs.Prelude.{ℕ, ◌^◌, List, Bool, nat_lt, if◌then◌else◌, Result, Ok, Option, Some, None, option_and_then, ⊤}
 use Rattle.serde_json.specs.Data.{Data, null, object, Items}
 use Rattle.serde_json.specs.Find.{get, as_str, as_bool, as_number, as_u64, as_array, as_object}
 use Rattle.cni_json.specs.declared.fields.Field.{Field}
@@ -39,6 +39,14 @@ field_of kind found = by_kind kind (unless_null found)
 abbrev pub u64_of : Data → Option ℕ
 u64_of d = option_and_then as_u64 (as_number d)
 
+-- a number of 32 bits
+abbrev pub in_32_bits : ℕ → Option ℕ
+in_32_bits n = if nat_lt n (2 ^ 32) then Some n else None
+
+-- the number, where it is a u32
+abbrev pub u32_of : Data → Option ℕ
+u32_of d = option_and_then in_32_bits (u64_of d)
+
 -- the value itself, where it is an object
 abbrev pub object_of : Data → Option Data
 object_of d = option_and_then (λ _. Some d) (as_object d)
@@ -54,6 +62,10 @@ bool_field key d = field_of as_bool (get key d)
 -- the member that is a u64
 abbrev pub u64_field : List ℕ → Data → Field ℕ
 u64_field key d = field_of u64_of (get key d)
+
+-- the member that is a u32
+abbrev pub u32_field : List ℕ → Data → Field ℕ
+u32_field key d = field_of u32_of (get key d)
 
 -- the member that is a list
 abbrev pub list_field : List ℕ → Data → Field Items

@@ -2,7 +2,7 @@
 
 ghost use Rattle.std.specs.Prelude.{◌≡◌, option_map};
 ghost use Rattle.serde_json.specs.View.{view, items_view};
-ghost use Rattle.cni_json.specs.Fields.{field_map, member_at, text_field, bool_field, u64_field, list_field, object_field};
+ghost use Rattle.cni_json.specs.Fields.{field_map, member_at, text_field, bool_field, u64_field, u32_field, list_field, object_field};
 
 use serde_json::Value;
 
@@ -58,6 +58,19 @@ pub fn field_u64(object: &Value, key: &str) -> Field<u64>
         Some(value) => match value.as_u64() {
             Some(number) => Field::Here(number),
             None => Field::WrongKind,
+        },
+    }
+}
+
+/// The member that is a whole number of 32 bits. A greater number is another kind.
+pub fn field_u32(object: &Value, key: &str) -> Field<u32>
+    ensures { result ≡ u32_field key.now (view object.now) }
+{
+    match member(object, key) {
+        None => Field::Absent,
+        Some(value) => match value.as_u64() {
+            Some(number @ 0..=4_294_967_295) => Field::Here(number as u32),
+            _ => Field::WrongKind,
         },
     }
 }

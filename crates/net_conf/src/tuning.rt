@@ -11,7 +11,7 @@ use crate::chained::{Sysctl, TuningConf};
 use crate::error::{ConfError, invalid, unsupported};
 use crate::members::{flag, is_mtu};
 use cni_addr::{Items, Mac, Text, read_mac};
-use cni_json::{Field, Map, Value, field_str, field_u64, member};
+use cni_json::{Field, Map, Value, field_str, field_u32, field_u64, member};
 use std::alloc::Global;
 
 /// The configuration of the `tuning` plugin, from its object in a list.
@@ -141,9 +141,9 @@ fn new_mtu(alloc: Global, object: &Value) -> Result<Option<u32>, ConfError>
 fn queue_length(alloc: Global, object: &Value) -> Result<Option<u32>, ConfError>
     ensures { GivesAs is_want_of_memory (λ length. length) result (wanted.queue_length_at (view object.now)) }
 {
-    match field_u64(object, "txQLen") {
+    match field_u32(object, "txQLen") {
         Field::Absent => Ok(None),
-        Field::Here(number @ 0..=4_294_967_295) => Ok(Some(number as u32)),
-        Field::Here(_) | Field::WrongKind => Err(invalid(alloc, "txQLen")),
+        Field::Here(number) => Ok(Some(number)),
+        Field::WrongKind => Err(invalid(alloc, "txQLen")),
     }
 }
