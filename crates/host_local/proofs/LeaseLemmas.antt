@@ -1,16 +1,15 @@
--- A candidate of a set has a range that holds it, and lists of given addresses end with the shorter of the two lists.
-use Rattle.std.proofs.Common.{◌≡◌, ℕ, ◌≤◌, Bool, true, false, cond, List, [], ◌∷◌, ◌++◌, map, Option, Some, refl, ◌∙◌, ap, arith, drop, inl, inr}
-use Rattle.std.specs.Prelude.{find, ◌⊎◌, length, option_map, option_to_list, nat_lt, min}
+-- A candidate of a set has a range that holds it.
+use Rattle.std.proofs.Common.{◌≡◌, Bool, true, false, cond, List, [], ◌∷◌, map, Option, Some, refl, ◌∙◌, ap, arith}
+use Rattle.std.specs.Prelude.{find, option_map, option_to_list}
 use Rattle.std.specs.List.{list_any}
-use Rattle.std.proofs.lemmas.Bool.Decides.{nat_tests}
-use Rattle.std.proofs.lemmas.List.{drop_all}
 use Rattle.cni_addr.specs.declared.address.Addr.{Addr}
 use Rattle.cni_addr.specs.declared.range.Range.{Range}
 use Rattle.cni_addr.specs.declared.range.RangeSet.{RangeSet}
 use Rattle.ip_pool.specs.NextAddress.{is_between, is_in, is_candidate}
 use Rattle.kernel_types.specs.declared.call.Given.{Given}
 use Rattle.host_local.specs.Laws.{CandidatesAreGiven}
-use Rattle.host_local.specs.Leases.{given_by, given_in, given_of}
+use Rattle.host_local.specs.Leases.{given_by, given_by_set, given_in, given_row}
+use Rattle.plan_words.specs.Rows.{present}
 
 found-step : {X : Type 0} (b : Bool) (x : X) (o : Option X) → (b ≡ false → (y : X) × (o ≡ Some y)) → (y : X) × (cond b (Some x) o ≡ Some y)
 found-step true x o h = (x, refl)
@@ -38,20 +37,5 @@ given_candidates [] (a ∷ more) h = absurd h
 given_candidates (s ∷ ss) [] h = absurd h
 given_candidates (s ∷ ss) (a ∷ more) h =
     let f = range-found a s.ranges h.0 in
-    let here : given_in s a ≡ given_by a f.0 ∷ [] = ap (λ o. option_to_list (option_map (given_by a) o)) f.1 in
-    ap (λ l. map (λ given. given.address.addr) (l ++ given_of ss more)) here ∙ ap (λ addrs. a ∷ addrs) (given_candidates ss more h.1)
-
-pub given_of-no_addrs : (sets : List RangeSet) → given_of sets [] ≡ []
-given_of-no_addrs [] = refl
-given_of-no_addrs (s ∷ ss) = refl
-
-pub given_of-end : (sets : List RangeSet) (addrs : List Addr) (n : ℕ) → (length sets ≤ n) ⊎ (length addrs ≤ n) → given_of (drop n sets) (drop n addrs) ≡ []
-given_of-end sets addrs n (inl h) = rw (drop_all n sets h) refl
-given_of-end sets addrs n (inr h) = rw (drop_all n addrs h) (given_of-no_addrs (drop n sets))
-
-min-step : (b : Bool) (m n k : ℕ) → b ≡ nat_lt m n → min m n ≤ k → (m ≤ k) ⊎ (n ≤ k)
-min-step true m n k is h = inl (grind (arith, nat_tests, is, h))
-min-step false m n k is h = inr (grind (arith, nat_tests, is, h))
-
-pub one_is_over : (m n k : ℕ) → min m n ≤ k → (m ≤ k) ⊎ (n ≤ k)
-one_is_over m n k h = min-step (nat_lt m n) m n k refl h
+    let here : given_by_set s a ≡ Some (given_by a f.0) = ap (option_map (given_by a)) f.1 in
+    ap (λ o. map (λ given. given.address.addr) (present (o ∷ given_row ss more))) here ∙ ap (λ addrs. a ∷ addrs) (given_candidates ss more h.1)

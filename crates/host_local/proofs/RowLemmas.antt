@@ -1,25 +1,27 @@
 -- What is at the places of a row of given addresses.
 use Rattle.std.proofs.Common.{◌≡◌, ℕ, zero, suc, ◌+◌, List, [], ◌∷◌, ◌++◌, map, length, Option, Some, None, refl, ◌∙◌, ap, arith}
 use Rattle.std.specs.Prelude.{slice_get, option_to_list, min}
-use Rattle.std.proofs.lemmas.List.{length-map}
+use Rattle.std.proofs.lemmas.List.{length-map, take_all}
 use Rattle.std.proofs.lemmas.Option.{slice_get-map, slice_get_read}
 use Rattle.cni_addr.specs.declared.address.Addr.{Addr}
 use Rattle.cni_addr.specs.declared.range.RangeSet.{RangeSet}
 use Rattle.cni_result.specs.declared.result.IpEntry.{IpEntry}
 use Rattle.kernel_types.specs.declared.call.Given.{Given}
 use Rattle.plan_words.specs.Rows.{present}
+use Rattle.plan_words.proofs.RowLemmas.{present-take_none, present-take_some}
 use Rattle.host_local.specs.Leases.{given_by_set, given_in, given_of, given_row}
 
 present-cons : (o : Option Given) (row : List (Option Given)) → present (o ∷ row) ≡ option_to_list o ++ present row
 present-cons None row = refl
 present-cons (Some x) row = refl
 
+-- the first address by the first set, and then the others
+pub given_of-cons : (set : RangeSet) (sets : List RangeSet) (addr : Addr) (addrs : List Addr) → given_of (set ∷ sets) (addr ∷ addrs) ≡ given_in set addr ++ given_of sets addrs
+given_of-cons set sets addr addrs = present-cons (given_by_set set addr) (given_row sets addrs)
+
 -- what is there is what is given
 pub present-given_row : (sets : List RangeSet) (addrs : List Addr) → present (given_row sets addrs) ≡ given_of sets addrs
-present-given_row [] addrs = refl
-present-given_row (s ∷ ss) [] = refl
-present-given_row (s ∷ ss) (a ∷ as_left) =
-    present-cons (given_by_set s a) (given_row ss as_left) ∙ ap (λ l. given_in s a ++ l) (present-given_row ss as_left)
+present-given_row sets addrs = refl
 
 pub given_row-places : (sets : List RangeSet) (addrs : List Addr) → length (given_row sets addrs) ≡ min (length sets) (length addrs)
 given_row-places [] addrs = omega arith
@@ -42,6 +44,8 @@ pub given_row-at : (sets : List RangeSet) (addrs : List Addr) (i : ℕ) (s : Ran
 given_row-at sets addrs i s a o h k is = given_row-found sets addrs i s a h k ∙ ap (λ p. Some p) (same_list o (given_by_set s a) is)
 
 pub ruleset row_steps = (given_row-places, given_row-at, slice_get_read)
+
+pub ruleset present_steps = (present-take_none, present-take_some, take_all)
 
 -- ---- the addresses of a result
 

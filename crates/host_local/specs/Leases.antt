@@ -1,5 +1,5 @@
 -- The leases of an attachment, and what a leased address means by its range (the `host-local` plugin).
-use Rattle.std.specs.Prelude.{ℕ, ◌+◌, List, [], ◌∷◌, ◌++◌, find, Option, option_map, option_to_list}
+use Rattle.std.specs.Prelude.{ℕ, ◌+◌, List, [], ◌∷◌, find, Option, option_map, option_to_list}
 use Rattle.cni_addr.specs.declared.address.Addr.{Addr}
 use Rattle.cni_addr.specs.declared.range.Range.{Range}
 use Rattle.cni_addr.specs.declared.range.RangeSet.{RangeSet}
@@ -8,6 +8,7 @@ use Rattle.kernel_types.specs.declared.object.Att.{Att}
 use Rattle.kernel_types.specs.declared.call.Call.{Call}
 use Rattle.kernel_types.specs.declared.call.Call.TheVariants.{LeaseNext}
 use Rattle.kernel_types.specs.declared.call.Given.{Given}
+use Rattle.plan_words.specs.Rows.{present}
 
 -- one lease of each set, in order
 abbrev pub lease_calls_from : Att → ℕ → List RangeSet → List Call
@@ -28,14 +29,12 @@ given_by_set set addr = option_map (given_by addr) (find (is_between addr) set.r
 abbrev pub given_in : RangeSet → Addr → List Given
 given_in set addr = option_to_list (given_by_set set addr)
 
--- the k-th address by the k-th set; one that its set doesn't hold is passed over, which no candidate is (Laws.antt)
-abbrev pub given_of : List RangeSet → List Addr → List Given
-given_of [] addrs = []
-given_of (set ∷ sets) [] = []
-given_of (set ∷ sets) (addr ∷ addrs) = given_in set addr ++ given_of sets addrs
-
 -- what is at each place, where the k-th address has a range in the k-th set
 abbrev pub given_row : List RangeSet → List Addr → List (Option Given)
 given_row [] addrs = []
 given_row (set ∷ sets) [] = []
 given_row (set ∷ sets) (addr ∷ addrs) = given_by_set set addr ∷ given_row sets addrs
+
+-- the k-th address by the k-th set; one that its set doesn't hold is passed over, which no candidate is (Laws.antt)
+abbrev pub given_of : List RangeSet → List Addr → List Given
+given_of sets addrs = present (given_row sets addrs)

@@ -75,20 +75,6 @@ pub fn given(conf: &HostLocalConf, set: u32, addr: &Addr) -> Given
     }
 }
 
-/// The k-th address by the k-th set. An address that no range of its set holds is passed over, which no candidate is:
-/// see [`candidates_are_given`](crate::laws::candidates_are_given).
-pub fn given_of(alloc: Global, sets: &[RangeSet], addrs: &[Addr]) -> Result<Vec<Given>, NoMemory>
-    ensures { IfOk result (λ given. given.items ≡ leases.given_of sets.now addrs.now) }
-{
-    let mut all = Vec::new(alloc);
-    for place in 0..sets.len().min(addrs.len()) {
-        if let Some(given) = find_given(&sets[place], &addrs[place]) {
-            all.push(given)?;
-        }
-    }
-    Ok(all)
-}
-
 /// The kinds of objects that DEL takes back.
 pub fn release_kinds() -> [Kind; 1]
     ensures { result ≡ Leases ∷ [] }

@@ -18,6 +18,6 @@ pub mod rows;
 #[cfg(test)]
 mod tests;
 
-pub use leases::{given, given_of, lease_calls, release_kinds};
+pub use leases::{given, lease_calls, release_kinds};
 pub use results::{ipam_result, ips_of};
-pub use rows::{GivenByIps, GivenBySets, routes_of};
+pub use rows::{GivenByIps, GivenBySets, given_of, routes_of};

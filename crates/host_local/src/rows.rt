@@ -1,14 +1,16 @@
 //! What leased addresses mean, each computed when it is asked for.
 
-ghost use Rattle.std.specs.Prelude.{◌≡◌, ◌<◌, Some, length, map, slice_get};
+ghost use Rattle.std.specs.Prelude.{◌≡◌, ◌<◌, IfOk, Some, length, map, slice_get};
 ghost use Rattle.host_local.specs.Conf.{routes_of};
+ghost use Rattle.host_local.specs.Leases.{given_of};
 
 use crate::leases::find_given;
-use cni_addr::{Addr, RangeSet};
+use cni_addr::{Addr, NoMemory, RangeSet};
 use cni_result::{IpEntry, RouteEntry};
 use kernel_types::Given;
 use net_conf::HostLocalConf;
 use plan_words::GivenRow;
+use std::alloc::Global;
 
 /// What addresses mean, the k-th by the k-th set. Takes no memory; what is at a place is found in time linear in the
 /// ranges of its set.
@@ -34,6 +36,22 @@ impl<'a> GivenRow for GivenBySets<'a> {
     fn given_at(&self, place: usize) -> Option<Given> {
         find_given(&self.sets[place], &self.addrs[place])
     }
+}
+
+/// The k-th address by the k-th set. An address that no range of its set holds is passed over, which no candidate is:
+/// see [`candidates_are_given`](crate::laws::candidates_are_given).
+#[tactic(auto, using(crate::proofs::RowLemmas::present_steps))]
+pub fn given_of(alloc: Global, sets: &[RangeSet], addrs: &[Addr]) -> Result<Vec<Given>, NoMemory>
+    ensures { IfOk result (λ given. given.items ≡ given_of sets.now addrs.now) }
+{
+    let row = GivenBySets { sets, addrs };
+    let mut all = Vec::new(alloc);
+    for place in 0..row.places() {
+        if let Some(given) = row.given_at(place) {
+            all.push(given)?;
+        }
+    }
+    Ok(all)
 }
 
 /// What the addresses of a result mean, the k-th by the k-th set. Takes no memory, as with [`GivenBySets`].

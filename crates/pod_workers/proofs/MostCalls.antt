@@ -24,6 +24,7 @@ use Rattle.firewall_tuning.specs.Firewall.{forward_of}
 use Rattle.firewall_tuning.specs.Tuning.{link_set_calls, setting_of, sets_any, tuning_settings}
 use Rattle.host_local.specs.Conf.{ipam_of, routes_of}
 use Rattle.host_local.specs.Leases.{given_by, given_in, given_of, lease_calls_from, lease_calls_of}
+use Rattle.host_local.proofs.RowLemmas.{given_of-cons}
 use Rattle.host_local.specs.Results.{ip_of, ipam_result_of}
 use Rattle.ip_pool.specs.NextAddress.{is_between}
 use Rattle.kernel_types.specs.Apply.Calls.{is_same_addr, is_same_route, is_same_setting}
@@ -74,7 +75,7 @@ length-given (set ∷ sets) [] = omega arith
 length-given (set ∷ sets) (addr ∷ addrs) =
     let rest = length-given sets addrs in
     let one = length-given_in (find (is_between addr) set.ranges) addr in
-    let both = length-append (given_in set addr) (given_of sets addrs) in
+    let both = ap length (given_of-cons set sets addr addrs) ∙ length-append (given_in set addr) (given_of sets addrs) in
     omega arith
 
 length-leases : (att : Att) (number : ℕ) (sets : List RangeSet) → length (lease_calls_from att number sets) ≡ length sets
