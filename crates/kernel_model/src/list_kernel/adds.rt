@@ -1,8 +1,9 @@
 //! Objects of one attachment.
 
-ghost use Rattle.std.specs.Prelude.{◌≡◌, IfOk, OnErr, find};
+ghost use Rattle.std.specs.Prelude.{◌≡◌, List, [], ◌∷◌, ◌++◌, IfOk, OnErr, find};
 ghost use Rattle.std.specs.Option.{option_copied};
-ghost use Rattle.kernel_types.specs.Apply.Calls.{veth_add_of, has_bridge_as_master, macvlan_add_of, has_master, addr_add_of, is_same_addr, route_add_of, is_same_route, rule_append_of, setting_set_of, is_same_setting};
+ghost use Rattle.kernel_types.specs.Apply.Calls.{append_unless_taken, veth_add_of, has_bridge_as_master, macvlan_add_of, has_master, addr_add_of, is_same_addr, route_add_of, is_same_route, rule_append_of, setting_set_of, is_same_setting};
+ghost use Rattle.kernel_types.specs.declared.object.Host.{Host};
 
 use super::ListKernel;
 use crate::compared::contains;
@@ -12,7 +13,7 @@ use crate::words::{
 };
 use cni_addr::{Duplicate, NoMemory, Text};
 use kernel_types::words::{is_same_addr, is_same_route, is_same_setting};
-use kernel_types::{AddrObj, Link, Reply, RouteObj, Rule, Setting};
+use kernel_types::{AddrObj, Link, Reply, RouteObj, Rule, Setting, Tag};
 
 /// The address of the same place and number.
 fn same_addr<'a>(addresses: &'a [AddrObj], obj: &AddrObj) -> Option<&'a AddrObj>
@@ -33,6 +34,24 @@ fn same_setting<'a>(settings: &'a [Setting], obj: &Setting) -> Option<&'a Settin
     ensures { option_copied result ≡ find (is_same_setting obj.now) settings.now }
 {
     settings.iter().find(|s| is_same_setting(obj, s))
+}
+
+/// Puts a copy of the object at the end, unless one of this tag stands in the way. A host with the list in its place
+/// is then as the call's equation says.
+fn append_unless_taken<T: Duplicate + Drop>(
+    objects: &mut Vec<T>,
+    taken: Option<Tag>,
+    object: &T,
+) -> Result<Reply, NoMemory>
+    ensures ok { IfOk result (λ reply. (put : List T → Host) → (put objects.new.items, reply)
+        ≡ append_unless_taken taken (put objects.old.items) (put (objects.old.items ++ object.now ∷ []))) }
+    ensures err { OnErr result (objects.new.items ≡ objects.old.items) }
+{
+    if let Some(tag) = taken {
+        return Ok(Reply::Taken(tag));
+    }
+    objects.push(object.copy()?)?;
+    Ok(Reply::Done)
 }
 
 impl ListKernel {
@@ -86,11 +105,8 @@ impl ListKernel {
         if !self.has_master(&link.master) {
             return Ok(Reply::NoLink);
         }
-        if let Some(tag) = copy_tag(link_at(&self.links, &link.ns, &link.name))? {
-            return Ok(Reply::Taken(tag));
-        }
-        self.links.push(link.copy()?)?;
-        Ok(Reply::Done)
+        let taken = copy_tag(link_at(&self.links, &link.ns, &link.name))?;
+        append_unless_taken(&mut self.links, taken, link)
     }
 
     pub(crate) fn addr_add(&mut self, obj: &AddrObj) -> Result<Reply, NoMemory>
@@ -100,11 +116,8 @@ impl ListKernel {
         if !has_link_of(&self.links, &obj.ns, &obj.link, &obj.tag) {
             return Ok(Reply::NoLink);
         }
-        if let Some(tag) = copy_tag(same_addr(&self.addresses, obj))? {
-            return Ok(Reply::Taken(tag));
-        }
-        self.addresses.push(obj.copy()?)?;
-        Ok(Reply::Done)
+        let taken = copy_tag(same_addr(&self.addresses, obj))?;
+        append_unless_taken(&mut self.addresses, taken, obj)
     }
 
     pub(crate) fn route_add(&mut self, obj: &RouteObj) -> Result<Reply, NoMemory>
@@ -114,11 +127,8 @@ impl ListKernel {
         if !has_link_of(&self.links, &obj.ns, &obj.link, &obj.tag) {
             return Ok(Reply::NoLink);
         }
-        if let Some(tag) = copy_tag(same_route(&self.routes, obj))? {
-            return Ok(Reply::Taken(tag));
-        }
-        self.routes.push(obj.copy()?)?;
-        Ok(Reply::Done)
+        let taken = copy_tag(same_route(&self.routes, obj))?;
+        append_unless_taken(&mut self.routes, taken, obj)
     }
 
     pub(crate) fn rule_append(&mut self, rule: &Rule) -> Result<Reply, NoMemory>
@@ -139,10 +149,7 @@ impl ListKernel {
         if !has_named_ns(&self.namespaces, &setting.ns) {
             return Ok(Reply::NoNs);
         }
-        if let Some(tag) = copy_tag(same_setting(&self.settings, setting))? {
-            return Ok(Reply::Taken(tag));
-        }
-        self.settings.push(setting.copy()?)?;
-        Ok(Reply::Done)
+        let taken = copy_tag(same_setting(&self.settings, setting))?;
+        append_unless_taken(&mut self.settings, taken, setting)
     }
 }

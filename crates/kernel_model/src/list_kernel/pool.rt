@@ -65,28 +65,6 @@ fn move_lasts(lasts: &mut Vec<Last>, network: &Text, number: u32, addr: Addr)
     }
 }
 
-/// Puts each at the end of its list, or neither.
-fn push_lease_and_last(
-    leases: &mut Vec<Lease>,
-    lasts: &mut Vec<Last>,
-    lease: Lease,
-    last: Last,
-) -> Result<(), NoMemory>
-    ensures leases { OnOk result (leases.new.items ≡ leases.old.items ++ lease ∷ []) }
-    ensures lasts { OnOk result (lasts.new.items ≡ lasts.old.items ++ last ∷ []) }
-    ensures no_lease { OnErr result (leases.new.items ≡ leases.old.items) }
-    ensures no_last { OnErr result (lasts.new.items ≡ lasts.old.items) }
-{
-    leases.push(lease)?;
-    match lasts.push(last) {
-        Ok(()) => Ok(()),
-        Err(_) => {
-            let _undone = leases.pop();
-            Err(NoMemory)
-        }
-    }
-}
-
 impl ListKernel {
     /// Leases the address, which becomes the last of its pool.
     fn lease(&mut self, att: &Att, number: u32, addr: Addr) -> Result<(), NoMemory>
@@ -104,7 +82,10 @@ impl ListKernel {
             set: number,
             addr,
         };
-        push_lease_and_last(&mut self.leases, &mut self.lasts, lease, last)
+        self.lasts.reserve(1)?;
+        self.leases.push(lease)?;
+        self.lasts.push(last)?;
+        Ok(())
     }
 
     /// The address that is leased next.
