@@ -1,10 +1,9 @@
 -- The keys of what `bridge` makes after the leases.
 use Rattle.std.proofs.Common.{◌≡◌, ℕ, ◌+◌, ◌-◌, ◌<◌, Bool, true, false, cond, List, [], ◌∷◌, ◌++◌, map, length, Option, Some, None, refl, sym, ◌∙◌, ap, arith}
-use Rattle.std.specs.Prelude.{find, slice_get, option_map, option_to_list, if◌then◌else◌}
+use Rattle.std.specs.Prelude.{slice_get, option_map, option_to_list, if◌then◌else◌}
 use Rattle.std.specs.List.{list_any}
 use Rattle.std.proofs.lemmas.List.{length-append, length-map, map-append, append-nil}
 use Rattle.std.proofs.lemmas.Option.{slice_get-map, slice_get_read}
-use Rattle.cni_addr.specs.Codes.{family_eq}
 use Rattle.cni_addr.specs.Equal.{cidr_eq}
 use Rattle.cni_addr.specs.declared.address.Cidr.{Cidr}
 use Rattle.cni_addr.specs.declared.address.Family.{Family}
@@ -12,6 +11,7 @@ use Rattle.cni_addr.specs.declared.address.Family.TheVariants.{V4, V6}
 use Rattle.cni_result.specs.declared.result.IpEntry.{IpEntry}
 use Rattle.cni_result.specs.declared.result.RouteEntry.{RouteEntry}
 use Rattle.kernel_types.specs.declared.call.Given.{Given}
+use Rattle.plan_words.specs.Families.{is_of_family, first_given, first_of_family}
 use Rattle.plan_words.specs.Rows.{present}
 use Rattle.plan_words.specs.Shapes.{default_route}
 use Rattle.plan_words.proofs.RowLemmas.{slice_get-before, slice_get-behind, present-append, present-keys}
@@ -25,15 +25,15 @@ find-step true g o p h = refl
 find-step false g o p h = h
 
 -- the first address of a family is that of the first given one
-pub find-ips : (family : Family) (given : List Given) → find (λ ip. family_eq ip.address.addr.family family) (map ip_of given) ≡ option_map ip_of (find (λ g. family_eq g.address.addr.family family) given)
+pub find-ips : (family : Family) (given : List Given) → first_of_family family (map ip_of given) ≡ option_map ip_of (first_given family given)
 find-ips family [] = refl
-find-ips family (g ∷ gs) = find-step (family_eq g.address.addr.family family) g (find (λ x. family_eq x.address.addr.family family) gs) (find (λ ip. family_eq ip.address.addr.family family) (map ip_of gs)) (find-ips family gs)
+find-ips family (g ∷ gs) = find-step (is_of_family family g.address) g (first_given family gs) (first_of_family family (map ip_of gs)) (find-ips family gs)
 
 by-there : (b : Bool) (r : RouteEntry) → map (λ x. x.dst) (if b then [] else r ∷ []) ≡ (if b then [] else r.dst ∷ [])
 by-there true r = refl
 by-there false r = refl
 
-pub default-found : (family : Family) (configured : List RouteEntry) (given : List Given) (g : Given) (keys : List Cidr) → find (λ x. family_eq x.address.addr.family family) given ≡ Some g
+pub default-found : (family : Family) (configured : List RouteEntry) (given : List Given) (g : Given) (keys : List Cidr) → first_given family given ≡ Some g
     → keys ≡ (if list_any (λ r. cidr_eq r.dst (default_route g.address.addr.family)) configured then [] else default_route g.address.addr.family ∷ [])
     → keys ≡ map (λ r. r.dst) (missing_default family configured (map ip_of given))
 default-found family configured given g keys at is =
@@ -41,7 +41,7 @@ default-found family configured given g keys at is =
     ∙ sym (by-there (list_any (λ r. cidr_eq r.dst (default_route g.address.addr.family)) configured) (record { dst = default_route g.address.addr.family; gw = Some g.gateway }))
     ∙ sym (ap (λ o. map (λ r. r.dst) (default_unless_there configured o)) (find-ips family given ∙ ap (option_map ip_of) at))
 
-pub default-none : (family : Family) (configured : List RouteEntry) (given : List Given) → find (λ x. family_eq x.address.addr.family family) given ≡ None → [] ≡ map (λ r. r.dst) (missing_default family configured (map ip_of given))
+pub default-none : (family : Family) (configured : List RouteEntry) (given : List Given) → first_given family given ≡ None → [] ≡ map (λ r. r.dst) (missing_default family configured (map ip_of given))
 default-none family configured given at = sym (ap (λ o. map (λ r. r.dst) (default_unless_there configured o)) (find-ips family given ∙ ap (option_map ip_of) at))
 
 pub ruleset default_steps = (default-found, default-none)

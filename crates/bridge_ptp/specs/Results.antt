@@ -1,7 +1,6 @@
 -- What `bridge` and `ptp` answer (CNI specification, section 5, ADD Success).
-use Rattle.std.specs.Prelude.{ℕ, Bool, List, [], ◌∷◌, ◌++◌, map, find, Option, Some, None, if◌then◌else◌}
+use Rattle.std.specs.Prelude.{ℕ, Bool, List, [], ◌∷◌, ◌++◌, map, Option, Some, None, if◌then◌else◌}
 use Rattle.std.specs.List.{list_any}
-use Rattle.cni_addr.specs.Codes.{family_eq}
 use Rattle.cni_addr.specs.Equal.{cidr_eq}
 use Rattle.cni_addr.specs.declared.address.Family.{Family}
 use Rattle.cni_addr.specs.declared.address.Family.TheVariants.{V4, V6}
@@ -16,6 +15,7 @@ use Rattle.net_conf.specs.declared.first.BridgeConf.{BridgeConf}
 use Rattle.net_conf.specs.declared.first.PtpConf.{PtpConf}
 use Rattle.kernel_types.specs.Names.{host_name_of, host_mac_of, inner_mac_of, link_mac_of}
 use Rattle.kernel_types.specs.declared.object.Att.{Att}
+use Rattle.plan_words.specs.Families.{first_of_family}
 use Rattle.plan_words.specs.Shapes.{default_route}
 
 -- ---- interfaces
@@ -48,7 +48,7 @@ default_unless_there routes (Some ip) =
 
 -- the default route by the gateway of the family's first address, unless one is configured
 abbrev pub missing_default : Family → List RouteEntry → List IpEntry → List RouteEntry
-missing_default family routes ips = default_unless_there routes (find (λ ip. family_eq ip.address.addr.family family) ips)
+missing_default family routes ips = default_unless_there routes (first_of_family family ips)
 
 -- what `isDefaultGateway` adds for a family
 abbrev pub added_default : Bool → Family → List RouteEntry → List IpEntry → List RouteEntry

@@ -1,9 +1,8 @@
 -- Calls of a plan append a share where each is the attachment's, and where they add it to every share.
 use Rattle.std.proofs.Common.{◌≡◌, ℕ, Bool, true, ap, List, [], ◌∷◌, ◌++◌, map, refl, ◌∙◌, arith}
 use Rattle.std.specs.Prelude.{flat_map, if◌then◌else◌}
-use Rattle.std.specs.List.{list_any, list_all}
+use Rattle.std.specs.List.{list_all}
 use Rattle.std.proofs.lemmas.Bool.{and_parts}
-use Rattle.cni_addr.specs.Codes.{family_eq}
 use Rattle.cni_addr.specs.declared.address.Family.TheVariants.{V4, V6}
 use Rattle.cni_result.specs.declared.result.RouteEntry.{RouteEntry}
 use Rattle.kernel_types.specs.Apply.{apply}
@@ -20,6 +19,7 @@ use Rattle.kernel_types.specs.declared.object.Host.{Host}
 use Rattle.kernel_types.specs.declared.call.Call.{Call}
 use Rattle.kernel_types.specs.declared.call.Call.TheVariants.{AddrAdd, RouteAdd, RuleAppend, SettingSet, ForwardEnsure}
 use Rattle.kernel_types.specs.declared.call.Given.{Given}
+use Rattle.plan_words.specs.Families.{has_family}
 use Rattle.plan_words.specs.PlanCalls.{is_plan_call_of, AllDone, applied, AppendsShare}
 use Rattle.plan_words.specs.Shapes.{address_on, route_on, masquerade_of, addresses_on, routes_on, masquerade_rules, forward_calls}
 use Rattle.plan_words.specs.Share.{Share, share_of, share_plus, share_after_calls}
@@ -76,8 +76,8 @@ own-setting_calls att xs h = own-calls (list_all-map (is_plan_call_of att) Setti
 pub own-forward_calls : (att : Att) (given : List Given) → AreOwnCalls att (forward_calls given)
 own-forward_calls att given =
     own-append
-    (own-if {xs = ForwardEnsure V4 ∷ []} (list_any (λ g. family_eq g.address.addr.family V4) given) (own-calls refl))
-    (own-if {xs = ForwardEnsure V6 ∷ []} (list_any (λ g. family_eq g.address.addr.family V6) given) (own-calls refl))
+    (own-if {xs = ForwardEnsure V4 ∷ []} (has_family V4 given) (own-calls refl))
+    (own-if {xs = ForwardEnsure V6 ∷ []} (has_family V6 given) (own-calls refl))
 
 -- ---- objects of the attachment
 

@@ -2,8 +2,6 @@
 use Rattle.std.proofs.Common.{◌≡◌, ℕ, Bool, true, false, ap, List, [], ◌∷◌, ◌++◌, map, refl, sym, ◌∙◌, append_assoc}
 use Rattle.std.proofs.lemmas.List.{append-nil}
 use Rattle.std.specs.Prelude.{if◌then◌else◌}
-use Rattle.std.specs.List.{list_any}
-use Rattle.cni_addr.specs.Codes.{family_eq}
 use Rattle.cni_addr.specs.declared.address.Cidr.{Cidr}
 use Rattle.cni_addr.specs.declared.address.Family.{Family}
 use Rattle.cni_addr.specs.declared.address.Family.TheVariants.{V4, V6}
@@ -15,6 +13,7 @@ use Rattle.kernel_types.specs.declared.object.Setting.{Setting}
 use Rattle.kernel_types.specs.declared.call.Call.{Call}
 use Rattle.kernel_types.specs.declared.call.Call.TheVariants.{GatewayEnsure, ForwardEnsure, AddrAdd, RouteAdd, RuleAppend, SettingSet}
 use Rattle.kernel_types.specs.declared.call.Given.{Given}
+use Rattle.plan_words.specs.Families.{has_family}
 use Rattle.plan_words.specs.Shapes.{forward_for, forward_calls}
 use Rattle.plan_words.specs.Share.{Share, no_objects, share_plus, share_after_call, share_after_calls}
 
@@ -52,8 +51,8 @@ share_after_calls-forward_for s false family = refl
 
 pub share_after_calls-forward : (s : Share) (given : List Given) → share_after_calls s (forward_calls given) ≡ s
 share_after_calls-forward s given =
-    let v4 = list_any (λ g. family_eq g.address.addr.family V4) given in
-    let v6 = list_any (λ g. family_eq g.address.addr.family V6) given in
+    let v4 = has_family V4 given in
+    let v6 = has_family V6 given in
     share_after_calls-append s (forward_for V4 given) (forward_for V6 given)
     ∙ ap (λ t. share_after_calls t (forward_for V6 given)) (share_after_calls-forward_for s v4 V4)
     ∙ share_after_calls-forward_for s v6 V6

@@ -1,6 +1,6 @@
 -- Objects are the same where their keys are.
 use Rattle.std.proofs.Common.{◌≡◌, ℕ, ◌+◌, ◌*◌, ◌/◌, ◌%◌, ◌≤◌, Bool, true, false, List, [], ◌∷◌, length, drop, Option, Some, None, refl, sym, ◌∙◌, ap, arith, cond}
-use Rattle.std.specs.Prelude.{◌&&◌, ◌||◌, find, is_some, slice_get, if◌then◌else◌}
+use Rattle.std.specs.Prelude.{◌&&◌, ◌||◌, find, is_some, slice_get}
 use Rattle.std.specs.List.{list_any}
 use Rattle.std.specs.Option.{option_eq}
 use Rattle.std.specs.Cmp.{nat_eq_equiv}
@@ -19,11 +19,10 @@ use Rattle.kernel_types.specs.Equal.{addr_eq, cidr_eq, rule_eq}
 use Rattle.kernel_types.proofs.Cases.{att_eq-refl}
 use Rattle.kernel_types.specs.declared.object.Att.{Att}
 use Rattle.kernel_types.specs.declared.object.Rule.{Rule}
-use Rattle.kernel_types.specs.declared.call.Call.TheVariants.{ForwardEnsure}
 use Rattle.kernel_types.specs.declared.call.Given.{Given}
 use Rattle.plan_words.specs.Rows.{present, spread}
 use Rattle.plan_words.specs.RuleKeys.{masquerade_keys}
-use Rattle.plan_words.specs.Shapes.{multicast, address_on, route_on, masquerade_out, no_masquerade_in_subnet, forward_for}
+use Rattle.plan_words.specs.Shapes.{multicast, address_on, route_on, masquerade_out, no_masquerade_in_subnet}
 use Rattle.plan_words.specs.declared.counts.MasqueradeKey.{MasqueradeKey}
 use Rattle.plan_words.proofs.RowLemmas.{present-drop, length-spread, spread-none, spread-some}
 
@@ -119,10 +118,4 @@ pub list_any-find : {X : Type 0} (p : X → Bool) (xs : List X) → list_any p x
 list_any-find p [] = refl
 list_any-find p (x ∷ xs) = any-step (p x) (list_any p xs) x (find p xs) (list_any-find p xs)
 
-pub forward-one : (family : Family) (given : List Given) (x : Given) → find (λ g. family_eq g.address.addr.family family) given ≡ Some x → length (forward_for family given) ≡ 1
-forward-one family given x h = ap (λ b. length (if b then ForwardEnsure family ∷ [] else [])) (list_any-find (λ g. family_eq g.address.addr.family family) given ∙ ap is_some h)
-
-pub forward-none : (family : Family) (given : List Given) → find (λ g. family_eq g.address.addr.family family) given ≡ None → length (forward_for family given) ≡ 0
-forward-none family given h = ap (λ b. length (if b then ForwardEnsure family ∷ [] else [])) (list_any-find (λ g. family_eq g.address.addr.family family) given ∙ ap is_some h)
-
-pub ruleset forward_steps = (forward-one, forward-none)
+pub ruleset family_steps = (list_any-find)

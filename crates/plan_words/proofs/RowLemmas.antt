@@ -120,6 +120,8 @@ spread-some has n w row i q r x e lt at y h =
 
 pub ruleset row_steps = (slice_get-map, length-map)
 
+pub ruleset given_steps = (present-map_some)
+
 -- ---- what is left of a row
 
 drop-at : {X : Type 0} (xs : List X) (i : ℕ) (x : X) → slice_get xs i ≡ Some x → drop i xs ≡ x ∷ drop (suc i) xs

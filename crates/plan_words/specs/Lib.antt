@@ -1,3 +1,4 @@
+pub mod Families
 pub mod PlanCalls
 pub mod Rows
 pub mod RuleKeys

@@ -1,9 +1,7 @@
 -- The objects of an attachment, as the plugins make them (documentation of `bridge`, `ptp`, `macvlan`; the rule sets
 -- are this project's own, after iptables).
-use Rattle.std.specs.Prelude.{ℕ, ◌*◌, ◌^◌, Bool, true, false, List, [], ◌∷◌, ◌++◌, map, flat_map, find, Option, Some, None, option_map, if◌then◌else◌}
-use Rattle.std.specs.List.{list_any}
+use Rattle.std.specs.Prelude.{ℕ, ◌*◌, ◌^◌, Bool, true, false, List, [], ◌∷◌, ◌++◌, map, flat_map, Option, Some, None, option_map, if◌then◌else◌}
 use Rattle.std.specs.Option.{option_or}
-use Rattle.cni_addr.specs.Codes.{family_eq}
 use Rattle.cni_addr.specs.declared.address.Addr.{Addr}
 use Rattle.cni_addr.specs.declared.address.Cidr.{Cidr}
 use Rattle.cni_addr.specs.declared.address.Family.{Family}
@@ -32,6 +30,7 @@ use Rattle.kernel_types.specs.declared.call.Call.{Call}
 use Rattle.kernel_types.specs.declared.call.Call.TheVariants.{ForwardEnsure}
 use Rattle.kernel_types.specs.declared.call.Given.{Given}
 use Rattle.cni_addr.specs.Lists.{each_key_once}
+use Rattle.plan_words.specs.Families.{first_given, has_family}
 use Rattle.kernel_types.specs.Names.{host_name_of, host_mac_of, inner_mac_of}
 
 -- ---- networks that rules and routes speak of
@@ -71,7 +70,7 @@ address_on att netns g = record { ns = netns; link = att.ifname; cidr = g.addres
 
 -- the route's own gateway, else the first given address's of its family
 abbrev pub gateway_for : List Given → RouteEntry → Option Addr
-gateway_for given r = option_or r.gw (option_map (λ g. g.gateway) (find (λ g. family_eq g.address.addr.family r.dst.addr.family) given))
+gateway_for given r = option_or r.gw (option_map (λ g. g.gateway) (first_given r.dst.addr.family given))
 
 abbrev pub route_by : Att → List ℕ → Cidr → Option Addr → RouteObj
 route_by att netns dst gw = record { ns = netns; dst = dst; link = att.ifname; gw = gw; tag = Own att }
@@ -121,7 +120,7 @@ masquerade_rules ip_masq att given = if ip_masq then each_key_once rule_eq (flat
 
 -- the host forwards for the families of the given addresses, IPv4 first
 abbrev pub forward_for : Family → List Given → List Call
-forward_for family given = if list_any (λ g. family_eq g.address.addr.family family) given then ForwardEnsure family ∷ [] else []
+forward_for family given = if has_family family given then ForwardEnsure family ∷ [] else []
 
 abbrev pub forward_calls : List Given → List Call
 forward_calls given = forward_for V4 given ++ forward_for V6 given

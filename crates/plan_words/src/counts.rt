@@ -8,7 +8,8 @@ ghost use Rattle.plan_words.specs.Rows.{present};
 ghost use Rattle.plan_words.specs.RuleKeys as keys;
 ghost use Rattle.plan_words.specs.Shapes as shapes;
 
-use crate::rows::{GivenRow, Row, count_keys, first_given};
+use crate::families::has_family;
+use crate::rows::{GivenRow, Row, count_keys};
 use cni_addr::{Addr, Cidr, Family};
 use cni_result::RouteEntry;
 use kernel_types::Given;
@@ -138,15 +139,11 @@ pub fn count_masquerade_rules<G: GivenRow + Copy>(ip_masq: bool, given: G) -> us
     }
 }
 
-#[tactic(auto, using(crate::proofs::CountLemmas::forward_steps))]
 fn count_forward_for<G: GivenRow>(family: Family, given: &G) -> usize
     ensures count { result ≡ length (shapes.forward_for family (present (G.values given.now))) }
     ensures most { result ≤ 1 }
 {
-    match first_given(given, family) {
-        Some(_) => 1,
-        None => 0,
-    }
+    if has_family(given, family) { 1 } else { 0 }
 }
 
 /// How many calls make the host forward: one for each family that is given.

@@ -18,8 +18,8 @@ pub mod shapes;
 
 pub use asked::{Asked, ask_all, push_unless_there};
 pub use counts::{count_addresses, count_forward_calls, count_masquerade_rules, count_routes};
-pub use families::first_of_family;
-pub use rows::{GivenRow, Row, count_keys, first_given};
+pub use families::{first_given, first_of_family, has_family};
+pub use rows::{GivenRow, Row, count_keys};
 pub use shapes::{
     address_on, addresses_on, ask_forward, default_route, host_end, inner_end, inner_key,
     macvlan_link, masquerade_rules, route_by, route_on, routes_on, rule_for_all,

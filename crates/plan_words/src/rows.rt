@@ -1,12 +1,10 @@
 //! Rows: values by place, each computed when it is asked for. So what a plan would make is counted without memory.
 
-ghost use Rattle.std.specs.Prelude.{◌≡◌, ◌≤◌, find, length, take};
+ghost use Rattle.std.specs.Prelude.{◌≡◌, ◌≤◌, length, take};
 ghost use Rattle.std.specs.List.{list_any};
-ghost use Rattle.cni_addr.specs.Codes.{family_eq};
 ghost use Rattle.cni_addr.specs.Lists.{each_key_once};
 ghost use Rattle.plan_words.specs.Rows.{present};
 
-use cni_addr::Family;
 use kernel_types::Given;
 
 /// Values by place. A place may have none.
@@ -87,18 +85,4 @@ pub fn count_keys<K: Copy + PartialEq, R: Row<K>>(row: &R) -> usize
         }
     }
     count
-}
-
-/// The first given address of the family. Takes no memory.
-pub fn first_given<G: GivenRow>(given: &G, family: Family) -> Option<Given>
-    ensures { result ≡ find (λ g. family_eq g.address.addr.family family) (present (G.values given.now)) }
-{
-    for place in 0..given.places() {
-        if let Some(g) = given.given_at(place) {
-            if g.address.addr.family == family {
-                return Some(g);
-            }
-        }
-    }
-    None
 }

@@ -1,14 +1,14 @@
 //! The objects of an attachment, as the plugins make them.
 
-ghost use Rattle.std.specs.Prelude.{◌≡◌, ◌++◌, find, option_map, flat_map, IfOk, OnOk};
-ghost use Rattle.std.specs.List.{list_any};
-ghost use Rattle.cni_addr.specs.Codes.{family_eq};
+ghost use Rattle.std.specs.Prelude.{◌≡◌, ◌++◌, option_map, flat_map, IfOk, OnOk};
 ghost use Rattle.cni_addr.specs.declared.address.Family.TheVariants.{V4};
 ghost use Rattle.kernel_types.specs.Equal.{rule_eq};
 ghost use Rattle.cni_addr.specs.Lists.{each_key_once};
+ghost use Rattle.plan_words.specs.Families as families;
 ghost use Rattle.plan_words.specs.Shapes as shapes;
 
 use crate::asked::push_unless_there;
+use crate::families::{first_given, has_family};
 use cni_addr::{Addr, Cidr, Duplicate, Family, MacvlanMode, NoMemory, Text, whole};
 use cni_result::RouteEntry;
 use kernel_types::{
@@ -148,10 +148,11 @@ pub fn addresses_on(
     Ok(objects)
 }
 
+#[tactic(auto, using(crate::proofs::RowLemmas::given_steps))]
 fn family_gateway(given: &[Given], family: Family) -> Option<Addr>
-    ensures { result ≡ option_map (λ g. g.gateway) (find (λ g. family_eq g.address.addr.family family) given.now) }
+    ensures { result ≡ option_map (λ g. g.gateway) (families.first_given family given.now) }
 {
-    match given.iter().find(|g| g.address.addr.family == family) {
+    match first_given(&given, family) {
         Some(g) => Some(g.gateway),
         None => None,
     }
@@ -279,16 +280,11 @@ pub fn masquerade_rules(
     }
 }
 
-fn has_family(given: &[Given], family: Family) -> bool
-    ensures { result ≡ list_any (λ g. family_eq g.address.addr.family family) given.now }
-{
-    given.iter().any(|g| g.address.addr.family == family)
-}
-
+#[tactic(auto, using(crate::proofs::RowLemmas::given_steps))]
 fn ask_forward_for(calls: &mut Vec<Call>, family: Family, given: &[Given]) -> Result<(), NoMemory>
     ensures { OnOk result (calls.new.items ≡ calls.old.items ++ shapes.forward_for family given.now) }
 {
-    if has_family(given, family) {
+    if has_family(&given, family) {
         calls.push(Call::ForwardEnsure { family })?;
     }
     Ok(())

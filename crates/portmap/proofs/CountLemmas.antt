@@ -1,9 +1,8 @@
 -- The keys of the rules of `portmap`.
-use Rattle.std.proofs.Common.{◌≡◌, ℕ, ◌+◌, ◌-◌, ◌*◌, ◌/◌, ◌%◌, ◌<◌, ◌≤◌, Bool, true, false, cond, List, [], ◌∷◌, ◌++◌, map, length, Option, Some, None, refl, sym, ◌∙◌, ap, arith}
-use Rattle.std.specs.Prelude.{◌&&◌, ◌==◌, find, flat_map, option_map, slice_get, if◌then◌else◌}
+use Rattle.std.proofs.Common.{◌≡◌, ℕ, ◌-◌, ◌*◌, ◌/◌, ◌%◌, ◌<◌, ◌≤◌, Bool, true, false, cond, List, [], ◌∷◌, ◌++◌, map, length, Option, Some, None, refl, sym, ◌∙◌, ap, arith}
+use Rattle.std.specs.Prelude.{◌&&◌, ◌==◌, flat_map, option_map, slice_get, if◌then◌else◌}
 use Rattle.std.specs.Option.{option_eq}
 use Rattle.std.proofs.lemmas.List.{length-append, map-append}
-use Rattle.cni_addr.specs.Codes.{family_eq}
 use Rattle.cni_addr.specs.Equal.{addr_eq, cidr_eq}
 use Rattle.cni_addr.specs.Network.{whole, network_of}
 use Rattle.cni_addr.specs.declared.address.Addr.{Addr}
@@ -18,6 +17,7 @@ use Rattle.kernel_types.proofs.Cases.{att_eq-refl}
 use Rattle.kernel_types.specs.declared.object.Att.{Att}
 use Rattle.kernel_types.specs.declared.object.Rule.{Rule}
 use Rattle.kernel_types.specs.declared.call.Given.{Given}
+use Rattle.plan_words.specs.Families.{is_of_family, first_given, first_of_family}
 use Rattle.plan_words.specs.Rows.{present, laid}
 use Rattle.plan_words.proofs.CountLemmas.{whole-same}
 use Rattle.plan_words.proofs.RowLemmas.{length-laid, laid-none, laid-some, present-laid, present-append, flat_map-made, slice_get-before, slice_get-behind}
@@ -94,22 +94,22 @@ find-step false ip g o p e h = h
 
 -- the first address of a result with these addresses
 find-address : (family : Family) (ips : List IpEntry) (given : List Given) → map (λ ip. ip.address) ips ≡ map (λ g. g.address) given
-    → option_map (λ ip. ip.address) (find (λ ip. family_eq ip.address.addr.family family) ips) ≡ option_map (λ g. g.address) (find (λ g. family_eq g.address.addr.family family) given)
+    → option_map (λ ip. ip.address) (first_of_family family ips) ≡ option_map (λ g. g.address) (first_given family given)
 find-address family [] [] h = refl
 find-address family [] (g ∷ gs) h = cc
 find-address family (ip ∷ ips) [] h = cc
 find-address family (ip ∷ ips) (g ∷ gs) h =
     let here : ip.address ≡ g.address = cc in
     let rest : map (λ i. i.address) ips ≡ map (λ x. x.address) gs = cc in
-    ap (λ b. option_map (λ i. i.address) (cond b (Some ip) (find (λ i. family_eq i.address.addr.family family) ips))) (ap (λ a. family_eq a.addr.family family) here)
-    ∙ find-step (family_eq g.address.addr.family family) ip g (find (λ i. family_eq i.address.addr.family family) ips) (find (λ x. family_eq x.address.addr.family family) gs) here (find-address family ips gs rest)
+    ap (λ b. option_map (λ i. i.address) (cond b (Some ip) (first_of_family family ips))) (ap (is_of_family family) here)
+    ∙ find-step (is_of_family family g.address) ip g (first_of_family family ips) (first_given family gs) here (find-address family ips gs rest)
 
 pub rules-leading : (att : Att) (snat : Bool) (ips : List IpEntry) (given : List Given) (v4 v6 : Option Cidr) → map (λ ip. ip.address) ips ≡ map (λ g. g.address) given
-    → v4 ≡ option_map (λ g. g.address) (find (λ g. family_eq g.address.addr.family V4) given) → v6 ≡ option_map (λ g. g.address) (find (λ g. family_eq g.address.addr.family V6) given)
+    → v4 ≡ option_map (λ g. g.address) (first_given V4 given) → v6 ≡ option_map (λ g. g.address) (first_given V6 given)
     → (m : PortMapping) → mapping_rules snat att ips m ≡ map (rule_of att) (leading snat v4 v6 m)
 rules-leading att snat ips given v4 v6 h is4 is6 m =
-    let ip4 = find (λ ip. family_eq ip.address.addr.family V4) ips in
-    let ip6 = find (λ ip. family_eq ip.address.addr.family V6) ips in
+    let ip4 = first_of_family V4 ips in
+    let ip6 = first_of_family V6 ips in
     ap (λ l. l ++ rules_for snat att m ip6) (rules-for att snat m ip4 ∙ ap (λ o. map (rule_of att) (leading_for snat m o)) (find-address V4 ips given h ∙ sym is4))
     ∙ ap (λ l. map (rule_of att) (leading_for snat m v4) ++ l) (rules-for att snat m ip6 ∙ ap (λ o. map (rule_of att) (leading_for snat m o)) (find-address V6 ips given h ∙ sym is6))
     ∙ sym (map-append (rule_of att) (leading_for snat m v4) (leading_for snat m v6))

@@ -1,8 +1,7 @@
 -- The calls of `portmap` are of their attachment and append its rules.
 use Rattle.std.proofs.Common.{◌≡◌, Bool, true, false, List, ◌∷◌, Option, Some, None, refl, sym, ◌∙◌, arith}
-use Rattle.std.specs.Prelude.{flat_map, find}
+use Rattle.std.specs.Prelude.{flat_map}
 use Rattle.std.specs.List.{list_all}
-use Rattle.cni_addr.specs.Codes.{family_eq}
 use Rattle.cni_addr.specs.declared.address.Addr.{Addr}
 use Rattle.cni_addr.specs.declared.address.Family.{Family}
 use Rattle.cni_addr.specs.declared.address.Family.TheVariants.{V4, V6}
@@ -14,6 +13,7 @@ use Rattle.kernel_types.specs.Words.{is_own}
 use Rattle.kernel_types.proofs.Cases.{att_eq-refl}
 use Rattle.kernel_types.specs.declared.object.Att.{Att}
 use Rattle.kernel_types.specs.declared.object.Rule.{Rule}
+use Rattle.plan_words.specs.Families.{first_of_family}
 use Rattle.plan_words.specs.PlanCalls.{AppendsShare}
 use Rattle.plan_words.proofs.Appends.{AreOwnCalls, own-rule_calls, appends-share}
 use Rattle.plan_words.proofs.CallLists.{share_after_calls-rules, share_plus-rules}
@@ -37,8 +37,8 @@ own-rules_for snat att m (Some ip) =
 
 own-mapping_rules : (snat : Bool) (att : Att) (ips : List IpEntry) (m : PortMapping) → list_all (λ x. is_own att x.tag) (mapping_rules snat att ips m) ≡ true
 own-mapping_rules snat att ips m =
-    let v4 = find (λ ip. family_eq ip.address.addr.family V4) ips in
-    let v6 = find (λ ip. family_eq ip.address.addr.family V6) ips in
+    let v4 = first_of_family V4 ips in
+    let v6 = first_of_family V6 ips in
     list_all-append (λ x. is_own att x.tag) (rules_for snat att m v4) (rules_for snat att m v6) (own-rules_for snat att m v4) (own-rules_for snat att m v6)
 
 -- each rule is its attachment's

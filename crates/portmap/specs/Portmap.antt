@@ -1,6 +1,6 @@
 -- The plan of the `portmap` plugin: ports of the host that lead to the container. The rule sets are this project's own,
 -- after iptables.
-use Rattle.std.specs.Prelude.{◌+◌, ◌*◌, ◌^◌, Bool, true, List, [], ◌∷◌, ◌++◌, map, find, flat_map, Option, Some, None, option_map, if◌then◌else◌}
+use Rattle.std.specs.Prelude.{◌+◌, ◌*◌, ◌^◌, Bool, true, List, [], ◌∷◌, ◌++◌, map, flat_map, Option, Some, None, option_map, if◌then◌else◌}
 use Rattle.cni_addr.specs.Codes.{family_eq}
 use Rattle.cni_addr.specs.Network.{whole, network_of}
 use Rattle.cni_addr.specs.declared.address.Family.{Family}
@@ -21,6 +21,7 @@ use Rattle.kernel_types.specs.declared.call.Call.TheVariants.{RuleAppend}
 use Rattle.kernel_types.specs.declared.call.Kind.{Kind}
 use Rattle.kernel_types.specs.declared.call.Kind.TheVariants.{Rules}
 use Rattle.cni_addr.specs.Lists.{each_key_once}
+use Rattle.plan_words.specs.Families.{first_of_family}
 use Rattle.plan_words.specs.Shapes.{rule_for_all}
 
 -- `127.0.0.1/32`
@@ -68,8 +69,8 @@ rules_for snat att m (Some ip) =
 -- for the first address of each family, IPv4 first
 abbrev pub mapping_rules : Bool → Att → List IpEntry → PortMapping → List Rule
 mapping_rules snat att ips m =
-    rules_for snat att m (find (λ ip. family_eq ip.address.addr.family V4) ips)
-    ++ rules_for snat att m (find (λ ip. family_eq ip.address.addr.family V6) ips)
+    rules_for snat att m (first_of_family V4 ips)
+    ++ rules_for snat att m (first_of_family V6 ips)
 
 abbrev pub portmap_rules : PortmapConf → Att → List PortMapping → List IpEntry → List Rule
 portmap_rules conf att mappings ips = each_key_once rule_eq (flat_map (mapping_rules conf.snat att ips) mappings)

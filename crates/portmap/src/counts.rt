@@ -1,9 +1,9 @@
 //! How many calls `portmap` makes. Nothing here takes memory.
 
-ghost use Rattle.std.specs.Prelude.{◌≡◌, List, length, map, find, option_map};
-ghost use Rattle.cni_addr.specs.Codes.{family_eq};
+ghost use Rattle.std.specs.Prelude.{◌≡◌, List, length, map, option_map};
 ghost use Rattle.cni_result.specs.declared.result.IpEntry.{IpEntry};
 ghost use Rattle.kernel_types.specs.declared.object.Att.{Att};
+ghost use Rattle.plan_words.specs.Families as families;
 ghost use Rattle.plan_words.specs.Rows.{present};
 ghost use Rattle.portmap.specs.Portmap as plan;
 ghost use Rattle.portmap.specs.PortKeys as keys;
@@ -156,7 +156,7 @@ impl<M: MappingRow> Row<PortKey> for PortKeys<M> {
 }
 
 fn address_of_family<G: GivenRow>(given: &G, family: Family) -> Option<Cidr>
-    ensures { result ≡ option_map (λ g. g.address) (find (λ g. family_eq g.address.addr.family family) (present (G.values given.now))) }
+    ensures { result ≡ option_map (λ g. g.address) (families.first_given family (present (G.values given.now))) }
 {
     match first_given(given, family) {
         Some(g) => Some(g.address),

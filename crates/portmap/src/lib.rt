@@ -12,11 +12,11 @@
 pub mod counts;
 pub mod laws;
 
-ghost use Rattle.std.specs.Prelude.{◌≡◌, find, fold, option_map, IfOk, OnOk};
-ghost use Rattle.cni_addr.specs.Codes.{family_eq};
+ghost use Rattle.std.specs.Prelude.{◌≡◌, fold, option_map, IfOk, OnOk};
 ghost use Rattle.cni_addr.specs.Network as network;
 ghost use Rattle.kernel_types.specs.Equal.{rule_eq};
 ghost use Rattle.cni_addr.specs.Lists.{push_unless_there};
+ghost use Rattle.plan_words.specs.Families as families;
 ghost use Rattle.portmap.specs.Portmap as plan;
 
 use cni_addr::{Addr, Cidr, Family, Items, NoMemory, network_of, whole};
@@ -156,7 +156,7 @@ fn push_rules_for(
     mapping: &PortMapping,
     family: Family,
 ) -> Result<(), NoMemory>
-    ensures { OnOk result (rules.new.items ≡ fold (push_unless_there rule_eq) rules.old.items (plan.rules_for snat att.now mapping.now (find (λ ip. family_eq ip.address.addr.family family) ips.now))) }
+    ensures { OnOk result (rules.new.items ≡ fold (push_unless_there rule_eq) rules.old.items (plan.rules_for snat att.now mapping.now (families.first_of_family family ips.now))) }
 {
     match first_of_family(ips, family) {
         Some(ip) => push_rules_to(rules, snat, att, mapping, ip),
