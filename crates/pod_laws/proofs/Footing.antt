@@ -6,7 +6,6 @@ use Rattle.std.specs.Option.{option_map, option_or}
 use Rattle.std.specs.Str.{bytes_eq}
 use Rattle.std.specs.Cmp.Lexicographic.{nat_list_eq_equiv}
 use Rattle.std.proofs.lemmas.Bool.{both_ways}
-use Rattle.cni_addr.specs.Codes.{family_eq}
 use Rattle.cni_addr.specs.declared.address.Addr.{Addr}
 use Rattle.cni_addr.specs.declared.address.Family.TheVariants as families
 use Rattle.cni_addr.specs.declared.mac.Mac.{Mac}
@@ -41,6 +40,7 @@ use Rattle.kernel_types.specs.declared.call.Call.TheVariants.{BridgeEnsure, Gate
 use Rattle.kernel_types.specs.declared.call.Given.{Given}
 use Rattle.kernel_types.specs.declared.call.Reply.{Reply}
 use Rattle.kernel_types.specs.declared.call.Reply.TheVariants.{Done, NoLink, Taken}
+use Rattle.plan_words.specs.Families.{has_family}
 use Rattle.plan_words.specs.PlanCalls.{is_plan_call_of}
 use Rattle.plan_words.specs.Shapes.{host_end, inner_end, macvlan_link, address_on, route_on, addresses_on, routes_on, masquerade_rules, forward_for, forward_calls}
 use Rattle.plan_words.specs.Share.{Share, share_of, share_after_call, share_after_calls}
@@ -186,8 +186,8 @@ lie-routes links att netns given entries there =
 
 lie-forward : (links : List Link) (given : List Given) → AllLie links (forward_calls given)
 lie-forward links given =
-    let v4 = list_any (λ g. family_eq g.address.addr.family families.V4) given in
-    let v6 = list_any (λ g. family_eq g.address.addr.family families.V6) given in
+    let v4 = has_family families.V4 given in
+    let v6 = has_family families.V6 given in
     list_all-append (lies_on links) (forward_for families.V4 given) (forward_for families.V6 given) (list_all-if (lies_on links) v4 (ForwardEnsure families.V4 ∷ []) refl) (list_all-if (lies_on links) v6 (ForwardEnsure families.V6 ∷ []) refl)
 
 lie-gateways : (links : List Link) (conf : BridgeConf) (given : List Given) → AllLie links (gateway_calls conf given)

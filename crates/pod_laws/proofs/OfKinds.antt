@@ -4,7 +4,6 @@ use Rattle.std.specs.Prelude.{filter, if◌then◌else◌}
 use Rattle.std.specs.List.{list_any, list_all}
 use Rattle.std.proofs.lemmas.Bool.{or_from, or_parts}
 use Rattle.pod_workers.proofs.Splits.{split_nil}
-use Rattle.cni_addr.specs.Codes.{family_eq}
 use Rattle.cni_addr.specs.declared.address.Addr.{Addr}
 use Rattle.cni_addr.specs.declared.address.Family.TheVariants as families
 use Rattle.cni_addr.specs.declared.range.RangeSet.{RangeSet}
@@ -29,6 +28,7 @@ use Rattle.kernel_types.specs.declared.call.Kind.{Kind}
 use Rattle.kernel_types.specs.declared.call.Kind.TheVariants as kinds
 use Rattle.kernel_types.specs.declared.call.Call.{Call}
 use Rattle.kernel_types.specs.declared.call.Call.TheVariants.{GatewayEnsure, ForwardEnsure, VethAdd, MacvlanAdd, LinkSet, AddrAdd, RouteAdd, RuleAppend, SettingSet, CachePut}
+use Rattle.plan_words.specs.Families.{has_family}
 use Rattle.plan_words.specs.Shapes.{addresses_on, routes_on, masquerade_rules, forward_calls, forward_for}
 use Rattle.plan_words.specs.Share.{Share, share_of, no_objects, share_after_call}
 use Rattle.plan_words.proofs.Deletions.{empty_none}
@@ -121,8 +121,8 @@ fit-masquerades ks false rules h = refl
 
 fit-forward : (ks : List Kind) (given : List Given) → AllFit ks (forward_calls given)
 fit-forward ks given =
-    let v4 = list_any (λ g. family_eq g.address.addr.family families.V4) given in
-    let v6 = list_any (λ g. family_eq g.address.addr.family families.V6) given in
+    let v4 = has_family families.V4 given in
+    let v6 = has_family families.V6 given in
     list_all-append (call_fits ks) (forward_for families.V4 given) (forward_for families.V6 given) (list_all-if (call_fits ks) v4 (ForwardEnsure families.V4 ∷ []) refl) (list_all-if (call_fits ks) v6 (ForwardEnsure families.V6 ∷ []) refl)
 
 fit-gateways : (ks : List Kind) (conf : BridgeConf) (given : List Given) → AllFit ks (gateway_calls conf given)

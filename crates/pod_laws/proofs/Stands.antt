@@ -5,7 +5,6 @@ use Rattle.std.specs.Prelude.{if◌then◌else◌}
 use Rattle.std.specs.List.{list_any, list_all}
 use Rattle.std.specs.Str.{bytes_eq}
 use Rattle.std.specs.Cmp.Lexicographic.{nat_list_eq_equiv}
-use Rattle.cni_addr.specs.Codes.{family_eq}
 use Rattle.cni_addr.specs.declared.address.Addr.{Addr}
 use Rattle.cni_addr.specs.declared.address.Family.TheVariants as families
 use Rattle.cni_result.specs.declared.cached.PortMapping.{PortMapping}
@@ -29,6 +28,7 @@ use Rattle.kernel_types.specs.declared.call.Given.{Given}
 use Rattle.kernel_types.specs.declared.call.Kind.{Kind}
 use Rattle.kernel_types.specs.declared.call.Kind.TheVariants as kinds
 use Rattle.kernel_types.specs.declared.call.Reply.TheVariants.{NoLink}
+use Rattle.plan_words.specs.Families.{has_family}
 use Rattle.plan_words.specs.PlanCalls.{is_plan_call_of}
 use Rattle.plan_words.specs.Shapes.{host_end, inner_end, macvlan_link, addresses_on, routes_on, masquerade_rules, forward_for, forward_calls}
 use Rattle.plan_words.specs.Share.{Share, share_of}
@@ -92,8 +92,8 @@ bridged-if first false xs h = refl
 
 bridged-forward : (first : First) (given : List Given) → AllBridged first (forward_calls given)
 bridged-forward first given =
-    let v4 = list_any (λ g. family_eq g.address.addr.family families.V4) given in
-    let v6 = list_any (λ g. family_eq g.address.addr.family families.V6) given in
+    let v4 = has_family families.V4 given in
+    let v6 = has_family families.V6 given in
     bridged-append first (forward_for families.V4 given) (forward_for families.V6 given) (bridged-if first v4 (ForwardEnsure families.V4 ∷ []) refl) (bridged-if first v6 (ForwardEnsure families.V6 ∷ []) refl)
 
 bridged-gateways : (conf : BridgeConf) (given : List Given) → AllBridged (Bridge conf) (gateway_calls conf given)

@@ -3,7 +3,6 @@ use Rattle.std.proofs.Common.{◌≡◌, ℕ, Bool, true, false, not, List, [], 
 use Rattle.std.specs.Prelude.{◌||◌, if◌then◌else◌}
 use Rattle.std.specs.List.{list_any}
 use Rattle.std.proofs.lemmas.Bool.{not-true}
-use Rattle.cni_addr.specs.Codes.{family_eq}
 use Rattle.cni_addr.specs.declared.address.Addr.{Addr}
 use Rattle.cni_addr.specs.declared.address.Family.TheVariants as families
 use Rattle.cni_result.specs.declared.cached.PortMapping.{PortMapping}
@@ -21,6 +20,7 @@ use Rattle.kernel_types.specs.declared.object.Att.{Att}
 use Rattle.kernel_types.specs.declared.call.Call.{Call}
 use Rattle.kernel_types.specs.declared.call.Call.TheVariants.{GatewayEnsure, ForwardEnsure, VethAdd, MacvlanAdd, LinkSet, AddrAdd, RouteAdd, RuleAppend, SettingSet, CachePut}
 use Rattle.kernel_types.specs.declared.call.Given.{Given}
+use Rattle.plan_words.specs.Families.{has_family}
 use Rattle.plan_words.specs.Shapes.{addresses_on, routes_on, masquerade_rules, forward_for, forward_calls}
 use Rattle.plan_words.specs.Share.{Share, no_objects, share_after_call, share_after_calls}
 use Rattle.plan_words.proofs.CallLists.{share_after_calls-append}
@@ -118,8 +118,8 @@ none-if false xs h = refl
 
 none-forward : (given : List Given) → NoneChange (forward_calls given)
 none-forward given =
-    let v4 = list_any (λ g. family_eq g.address.addr.family families.V4) given in
-    let v6 = list_any (λ g. family_eq g.address.addr.family families.V6) given in
+    let v4 = has_family families.V4 given in
+    let v6 = has_family families.V6 given in
     none-append (forward_for families.V4 given) (forward_for families.V6 given) (none-if v4 (ForwardEnsure families.V4 ∷ []) refl) (none-if v6 (ForwardEnsure families.V6 ∷ []) refl)
 
 none-gateways : (conf : BridgeConf) (given : List Given) → NoneChange (gateway_calls conf given)

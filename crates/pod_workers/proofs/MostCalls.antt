@@ -1,11 +1,9 @@
 -- An ADD makes no more calls than its list has room for, whatever addresses it is leased.
 use Rattle.std.proofs.Common.{◌≡◌, ℕ, suc, ◌+◌, ◌*◌, ◌≤◌, Bool, true, false, List, [], ◌∷◌, ◌++◌, map, length, Option, Some, None, refl, ◌∙◌, ap, arith, mul-suc}
 use Rattle.std.specs.Prelude.{find, flat_map, sum_by, option_to_list, if◌then◌else◌}
-use Rattle.std.specs.List.{list_any}
 use Rattle.std.specs.Option.{option_map}
 use Rattle.std.proofs.lemmas.List.{length-append, length-map}
 use Rattle.std.proofs.lemmas.List.Sums.{sum_by-cons}
-use Rattle.cni_addr.specs.Codes.{family_eq}
 use Rattle.cni_addr.specs.Lists.{each_key_once}
 use Rattle.cni_addr.specs.declared.address.Addr.{Addr}
 use Rattle.cni_addr.specs.declared.address.Family.{Family}
@@ -38,6 +36,7 @@ use Rattle.net_conf.specs.declared.first.First.{First}
 use Rattle.net_conf.specs.declared.first.First.TheVariants.{Bridge, Ptp, Macvlan}
 use Rattle.net_conf.specs.declared.list.NetList.{NetList}
 use Rattle.pod_file.specs.declared.command.Command.{Command}
+use Rattle.plan_words.specs.Families.{has_family, first_of_family}
 use Rattle.plan_words.specs.Shapes.{address_on, addresses_on, forward_calls, forward_for, masquerade_of, masquerade_rules, route_on, routes_on}
 use Rattle.plan_words.proofs.KeyLists.{length-each_key_once}
 use Rattle.portmap.specs.Portmap.{dnat_of, from_host, host_ip_allows, mapping_rules, masquerades_of, portmap_rules, rules_for}
@@ -108,8 +107,8 @@ length-masquerades ip_masq att gs =
 
 length-forward : (gs : List Given) → length (forward_calls gs) ≤ 2
 length-forward gs =
-    let a = length-if (list_any (λ g. family_eq g.address.addr.family families.V4) gs) (ForwardEnsure families.V4 ∷ []) 1 (omega arith) in
-    let b = length-if (list_any (λ g. family_eq g.address.addr.family families.V6) gs) (ForwardEnsure families.V6 ∷ []) 1 (omega arith) in
+    let a = length-if (has_family families.V4 gs) (ForwardEnsure families.V4 ∷ []) 1 (omega arith) in
+    let b = length-if (has_family families.V6 gs) (ForwardEnsure families.V6 ∷ []) 1 (omega arith) in
     let c = length-append (forward_for families.V4 gs) (forward_for families.V6 gs) in
     omega arith
 
@@ -127,8 +126,8 @@ length-by false xs ys most h g = g
 
 length-bridge_routes : (b : Bool) (routes : List RouteEntry) (ips : List IpEntry) → length (bridge_routes b routes ips) ≤ length routes + 2
 length-bridge_routes b routes ips =
-    let v4 = length-default routes (find (λ ip. family_eq ip.address.addr.family families.V4) ips) in
-    let v6 = length-default routes (find (λ ip. family_eq ip.address.addr.family families.V6) ips) in
+    let v4 = length-default routes (first_of_family families.V4 ips) in
+    let v6 = length-default routes (first_of_family families.V6 ips) in
     let both = length-append (missing_default families.V4 routes ips) (missing_default families.V6 routes ips) in
     let all = length-append routes (missing_default families.V4 routes ips ++ missing_default families.V6 routes ips) in
     length-by b (routes ++ (missing_default families.V4 routes ips ++ missing_default families.V6 routes ips)) routes (length routes + 2) (omega arith) (omega arith)
@@ -199,8 +198,8 @@ length-rules_for snat att m (Some ip) =
 
 length-mapping : (snat : Bool) (att : Att) (ips : List IpEntry) (m : PortMapping) → length (mapping_rules snat att ips m) ≤ 6
 length-mapping snat att ips m =
-    let v4 = find (λ ip. family_eq ip.address.addr.family families.V4) ips in
-    let v6 = find (λ ip. family_eq ip.address.addr.family families.V6) ips in
+    let v4 = first_of_family families.V4 ips in
+    let v6 = first_of_family families.V6 ips in
     let a = length-rules_for snat att m v4 in
     let b = length-rules_for snat att m v6 in
     let c = length-append (rules_for snat att m v4) (rules_for snat att m v6) in

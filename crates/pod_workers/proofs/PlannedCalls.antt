@@ -3,9 +3,8 @@
 use Rattle.std.proofs.Common.{◌≡◌, ℕ, Bool, true, false, not, List, [], ◌∷◌, ◌++◌, map, Option, Some, None, refl, arith}
 use Rattle.std.proofs.lemmas.Bool.{and_parts, not-true}
 use Rattle.std.specs.Prelude.{if◌then◌else◌, ◌&&◌}
-use Rattle.std.specs.List.{list_any, list_all}
+use Rattle.std.specs.List.{list_all}
 use Rattle.std.specs.Cmp.Lexicographic.{nat_list_eq_equiv}
-use Rattle.cni_addr.specs.Codes.{family_eq}
 use Rattle.cni_addr.specs.declared.address.Addr.{Addr}
 use Rattle.cni_addr.specs.declared.address.Family.TheVariants as families
 use Rattle.cni_result.specs.declared.result.AddResult.{AddResult}
@@ -30,6 +29,7 @@ use Rattle.kernel_types.specs.declared.object.Rule.{Rule}
 use Rattle.kernel_types.specs.declared.call.Given.{Given}
 use Rattle.kernel_types.specs.declared.call.Call.{Call}
 use Rattle.kernel_types.specs.declared.call.Call.TheVariants.{GatewayEnsure, ForwardEnsure, VethAdd, MacvlanAdd, LinkSet, AddrAdd, RouteAdd, RuleAppend, SettingSet, CachePut}
+use Rattle.plan_words.specs.Families.{has_family}
 use Rattle.plan_words.specs.PlanCalls.{is_plan_call_of}
 use Rattle.plan_words.specs.Shapes.{host_end, inner_end, addresses_on, routes_on, masquerade_rules, forward_for, forward_calls}
 use Rattle.plan_words.proofs.Appends.{own-addresses, own-routes, own-masquerades}
@@ -116,8 +116,8 @@ planned-before (Macvlan c) att netns place = ((att_eq-refl att, record { kind = 
 planned-forward : (att : Att) (gs : List Given) → AllPlanned att (forward_calls gs)
 planned-forward att gs =
     planned-append att (forward_for families.V4 gs) (forward_for families.V6 gs)
-    (planned-if att (list_any (λ g. family_eq g.address.addr.family families.V4) gs) (ForwardEnsure families.V4 ∷ []) ((refl, tt), tt))
-    (planned-if att (list_any (λ g. family_eq g.address.addr.family families.V6) gs) (ForwardEnsure families.V6 ∷ []) ((refl, tt), tt))
+    (planned-if att (has_family families.V4 gs) (ForwardEnsure families.V4 ∷ []) ((refl, tt), tt))
+    (planned-if att (has_family families.V6 gs) (ForwardEnsure families.V6 ∷ []) ((refl, tt), tt))
 
 planned-gateways : (conf : BridgeConf) (att : Att) (gs : List Given) → AllPlanned att (bridge.gateway_calls conf gs)
 planned-gateways conf att gs =
