@@ -10,10 +10,10 @@ use crate::objects::{device, one};
 use crate::outcomes::{KINDS, OUTCOMES};
 use crate::table::ROWS;
 use crate::words::{RowError, cut};
-use cni_addr::{Items, NoMemory, Text};
+use cni_addr::{NoMemory, Text};
 use kernel_model::{Kernel, ListKernel};
 use kernel_text::{call_name, reply_text};
-use kernel_types::{Call, Host, Reply};
+use kernel_types::{Call, Host, Reply, opening_with};
 use std::alloc::Global;
 use std::test::Fail;
 
@@ -23,17 +23,7 @@ fn opening(alloc: Global) -> Result<Host, NoMemory>
 {
     let device = device(alloc, "ens1")?;
     let links = one(alloc, device)?;
-    Ok(Host {
-        namespaces: Items::new(alloc),
-        links,
-        addresses: Items::new(alloc),
-        routes: Items::new(alloc),
-        rules: Items::new(alloc),
-        settings: Items::new(alloc),
-        leases: Items::new(alloc),
-        cached: Items::new(alloc),
-        lasts: Items::new(alloc),
-    })
+    opening_with(alloc, &[], links)
 }
 
 /// The call of a row and its reply; none for a heading.

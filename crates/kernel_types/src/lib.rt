@@ -10,6 +10,7 @@
 
 pub mod call;
 mod call_copy;
+pub mod found_host;
 pub mod laws;
 pub mod link_values;
 pub mod names;
@@ -18,6 +19,7 @@ pub mod texts;
 pub mod words;
 
 pub use call::{Call, Change, Given, Kind, Object, Probe, Reply};
+pub use found_host::opening_with;
 pub use link_values::set_links;
 pub use names::{digest_of, link_mac};
 pub use object::{

@@ -1,18 +1,17 @@
 //! The reader of the opening.
 
-ghost use Rattle.std.specs.Prelude.{◌≡◌, [], IfOk, codes, map};
+ghost use Rattle.std.specs.Prelude.{[], codes};
 ghost use Rattle.serde_json.specs.View.{view, items_view};
 ghost use Rattle.cni_json.specs.Outcome.{GivesAs, TellsAs};
-ghost use Rattle.kernel_types.specs.Opening as hosts;
 ghost use Rattle.pod_file.specs.Opening as wanted;
 ghost use Rattle.pod_file.specs.Refusals.{is_want_of_memory, member_path};
 ghost use Rattle.pod_file.specs.declared.error.PodError.TheVariants as refusal;
 
 use crate::error::{PodError, wrong, wrong_member};
 use crate::links::{is_place, links};
-use cni_addr::{Duplicate, Items, NoMemory, Text};
+use cni_addr::{Items, Text};
 use cni_json::{Field, Value, field_list, field_object};
-use kernel_types::{Host, Link, NsObj, Tag};
+use kernel_types::{Host, opening_with};
 use std::alloc::Global;
 
 /// The host as it is found, empty where there is no opening.
@@ -21,7 +20,7 @@ pub fn opening(alloc: Global, top: &Value) -> Result<Host, PodError>
     ensures { GivesAs is_want_of_memory (λ host. host) result (wanted.opening_at (view top.now)) }
 {
     match field_object(top, "opening") {
-        Field::Absent => Ok(host(alloc, &[], Items::new(alloc))?),
+        Field::Absent => Ok(opening_with(alloc, &[], Items::new(alloc))?),
         Field::WrongKind => Err(wrong(alloc, "opening")),
         Field::Here(members) => opening_members(alloc, members),
     }
@@ -33,37 +32,7 @@ fn opening_members(alloc: Global, members: &Value) -> Result<Host, PodError>
 {
     let names = namespaces(alloc, members)?;
     let links = links(alloc, names.as_slice(), members)?;
-    Ok(host(alloc, names.as_slice(), links)?)
-}
-
-/// The host of these namespaces and links, and nothing else.
-fn host(alloc: Global, names: &[Text], links: Items<Link>) -> Result<Host, NoMemory>
-    ensures { IfOk result (λ host. host ≡ hosts.opening_with names.now links) }
-{
-    Ok(Host {
-        namespaces: outside_namespaces(alloc, names)?,
-        links,
-        addresses: Items::new(alloc),
-        routes: Items::new(alloc),
-        rules: Items::new(alloc),
-        settings: Items::new(alloc),
-        leases: Items::new(alloc),
-        cached: Items::new(alloc),
-        lasts: Items::new(alloc),
-    })
-}
-
-fn outside_namespaces(alloc: Global, names: &[Text]) -> Result<Items<NsObj>, NoMemory>
-    ensures { IfOk result (λ namespaces. namespaces ≡ map hosts.outside_namespace names.now) }
-{
-    let mut namespaces = Items::new(alloc);
-    for name in names {
-        namespaces.push(NsObj {
-            name: name.copy()?,
-            tag: Tag::Outside,
-        })?;
-    }
-    Ok(namespaces)
+    Ok(opening_with(alloc, names.as_slice(), links)?)
 }
 
 /// The names of the namespaces, none where there is no list of them.
