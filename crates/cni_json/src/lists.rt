@@ -45,7 +45,8 @@ pub fn read_each_after<T: Drop, E: Refusal, R: Fn(&Value) -> Result<T, E>>(
     Ok(found)
 }
 
-/// The same as [`read_each`], by a function that takes the member's place from 0 too: it reads the list as `each_from wanted 0` wants.
+/// The same as [`read_each`], by a function that takes the member's place from 0 too: it reads the list as
+/// `each_from wanted 0` wants.
 #[tactic(auto, using(crate::proofs::Steps::steps))]
 pub fn read_each_placed<T: Drop, E: Refusal, R: Fn(usize, &Value) -> Result<T, E>>(
     alloc: Global,
