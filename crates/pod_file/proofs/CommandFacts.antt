@@ -15,7 +15,7 @@ use Rattle.kernel_types.specs.declared.object.Table.{Table}
 use Rattle.kernel_types.specs.declared.object.Table.TheVariants.{Nat, Filter}
 use Rattle.cni_json.proofs.Endings.{goes, ok_same, passed, went_on, each_all, each_from_all}
 use Rattle.pod_file.specs.Commands.{command_object, verb_at, needs_table, texts_at, table_of, table_at, stop_of, stop_at, is_call_number, fault_of, fault_at, faults_at, command_at}
-use Rattle.pod_file.specs.Members.{mappings_at, valid_at}
+use Rattle.pod_file.specs.Members.{list_at, mappings_at, valid_at}
 use Rattle.pod_file.specs.Refusals.{wrong_key}
 use Rattle.pod_file.specs.Rounds.{command_in, round_at, rounds_of, rounds_at, command_count, is_exclusive, is_alone, each_alone, numbered, round_numbered, all_numbered}
 use Rattle.pod_file.specs.WellFormed.{IsCallNumber, IsWellFormedCommand, IsWellFormedRound, in_file_order}
@@ -81,7 +81,7 @@ faults_of-ok place WrongKind faults is = cc
 faults_of-ok place (Here ds) faults is = each_all (fault_at place) IsCallNumber (λ d n read. fault_of-ok place (u64_of d) n read) ds faults is
 
 faults_at-ok : (place : CommandPlace) (d : Data) (faults : List ℕ) → faults_at place d ≡ Ok faults → All IsCallNumber faults
-unfolding faults_at
+unfolding faults_at list_at
 faults_at-ok place d faults is = faults_of-ok place (list_field (codes "faults") d) faults is
 
 command_at-ok : (place : CommandPlace) (d : Data) (command : Command) → command_at place d ≡ Ok command → IsWellFormedCommand command

@@ -1,18 +1,17 @@
 //! The reader of one command.
 
 ghost use Rattle.std.specs.Prelude.{◌≡◌};
-ghost use Rattle.serde_json.specs.View.{view, items_view};
+ghost use Rattle.serde_json.specs.View.{view};
 ghost use Rattle.cni_json.specs.Outcome.{GivesAs};
 ghost use Rattle.pod_file.specs.Commands as wanted;
-ghost use Rattle.cni_json.specs.Each.{each};
 ghost use Rattle.pod_file.specs.Refusals.{is_want_of_memory};
 
 use crate::command::{Command, Verb, verb_named};
 use crate::error::{PodError, wrong_command, wrong_key};
-use crate::members::{mappings, needed_text, text, valid_attachments};
+use crate::members::{list, mappings, needed_text, text, valid_attachments};
 use crate::place::CommandPlace;
 use cni_addr::{Items, Text};
-use cni_json::{Field, Value, field_list, field_str, field_u64};
+use cni_json::{Field, Value, field_str, field_u64};
 use kernel_types::{Table, table_named};
 use std::alloc::Global;
 
@@ -159,23 +158,13 @@ fn stop(alloc: Global, place: CommandPlace, command: &Value) -> Result<Option<u3
 fn faults(alloc: Global, place: CommandPlace, command: &Value) -> Result<Items<u32>, PodError>
     ensures { GivesAs is_want_of_memory (λ faults. faults) result (wanted.faults_at place (view command.now)) }
 {
-    match field_list(command, "faults") {
-        Field::Absent => Ok(Items::new(alloc)),
-        Field::WrongKind => Err(wrong_key(alloc, place, "faults")),
-        Field::Here(list) => all_faults(alloc, place, list),
-    }
-}
-
-#[tactic(auto, using(cni_json::proofs::Steps::steps))]
-fn all_faults(alloc: Global, place: CommandPlace, list: &[Value]) -> Result<Items<u32>, PodError>
-    ensures { GivesAs is_want_of_memory (λ faults. faults) result (each (wanted.fault_at place) (items_view list.now)) }
-{
-    let mut found = Items::new(alloc);
-    for member in list {
-        let number = fault(alloc, place, member)?;
-        found.push(number)?;
-    }
-    Ok(found)
+    list(
+        alloc,
+        place,
+        "faults",
+        command,
+        |member| fault(alloc, place, member),
+    )
 }
 
 #[tactic(auto, using(cni_json::proofs::Steps::steps))]

@@ -1,6 +1,7 @@
 //! Why a pod file is refused.
 
 ghost use Rattle.std.specs.Prelude.{◌≡◌, IfOk, IfErr};
+ghost use Rattle.std.proofs.Common.{rules};
 ghost use Rattle.cni_json.specs.Outcome.{TellsAs};
 ghost use Rattle.pod_file.specs.Refusals as paths;
 ghost use Rattle.pod_file.specs.Refusals.{is_want_of_memory, member_path, command_path, key_path};
@@ -8,6 +9,7 @@ ghost use Rattle.pod_file.specs.declared.error.PodError.TheVariants as refusal;
 
 use crate::place::CommandPlace;
 use cni_addr::{NoMemory, Text};
+use cni_json::Refusal;
 use std::alloc::Global;
 
 /// Why a pod file is refused: the first cause, where all shapes come before the limits, and these before what must
@@ -33,6 +35,12 @@ impl From<NoMemory> for PodError {
     fn from(_refused: NoMemory) -> PodError {
         PodError::NoMemory
     }
+}
+
+impl Refusal for PodError {
+    ghost is_want_of_memory = { is_want_of_memory };
+
+    ghost tells_want_of_memory = { λ n e is. Prim.search rules };
 }
 
 // The refusal of the place whose text was made, or of the want of memory that kept it from being made.

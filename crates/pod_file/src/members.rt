@@ -1,17 +1,20 @@
 //! Members of a command that several keys have, and the lists of objects. A fault inside such a list has the place of
 //! the command's key.
 
-ghost use Rattle.serde_json.specs.View.{view, items_view};
+ghost use Rattle.std.specs.Prelude.{Result};
+ghost use Rattle.serde_json.specs.Data.{Data};
+ghost use Rattle.serde_json.specs.View.{view};
 ghost use Rattle.cni_json.specs.Outcome.{GivesAs};
-ghost use Rattle.cni_json.specs.Each.{each};
+ghost use Rattle.cni_json.specs.Readers.{IsReader};
 ghost use Rattle.pod_file.specs.Members as wanted;
 ghost use Rattle.pod_file.specs.Refusals.{is_want_of_memory};
+ghost use Rattle.pod_file.specs.declared.error.PodError.{PodError};
 
 use crate::command::{RawMapping, ValidAtt};
 use crate::error::{PodError, wrong_key};
 use crate::place::CommandPlace;
 use cni_addr::{Items, Text};
-use cni_json::{Field, Value, field_list, field_str, field_u64};
+use cni_json::{Field, Value, field_list, field_str, field_u64, read_each};
 use std::alloc::Global;
 
 /// A text of the command itself, or the default where it is absent.
@@ -63,6 +66,26 @@ pub fn needed_text(
     }
 }
 
+/// The list under the command's key, each member as the function reads it; it is empty where it is absent.
+#[tactic(auto, using(cni_json::proofs::Steps::steps), unfolding(crate::specs::Members::list_at))]
+pub fn list<T: Drop, R: Fn(&Value) -> Result<T, PodError>>(
+    alloc: Global,
+    place: CommandPlace,
+    key: &str,
+    command: &Value,
+    read: R,
+) -> Result<Items<T>, PodError>
+    requires { R.IsAlwaysCallable read }
+    ensures { (read_as : Data → Result T PodError) → IsReader is_want_of_memory R.Fn read read_as
+        → GivesAs is_want_of_memory (λ xs. xs) result (wanted.list_at place key.now read_as (view command.now)) }
+{
+    match field_list(command, key) {
+        Field::Absent => Ok(Items::new(alloc)),
+        Field::WrongKind => Err(wrong_key(alloc, place, key)),
+        Field::Here(members) => read_each(alloc, members, read),
+    }
+}
+
 /// The port mappings, as they are written.
 #[tactic(auto, using(cni_json::proofs::Steps::steps), unfolding(crate::specs::Members::mappings_at))]
 pub fn mappings(
@@ -72,27 +95,13 @@ pub fn mappings(
 ) -> Result<Items<RawMapping>, PodError>
     ensures { GivesAs is_want_of_memory (λ mappings. mappings) result (wanted.mappings_at place (view command.now)) }
 {
-    match field_list(command, "portMappings") {
-        Field::Absent => Ok(Items::new(alloc)),
-        Field::WrongKind => Err(wrong_key(alloc, place, "portMappings")),
-        Field::Here(list) => all_mappings(alloc, place, list),
-    }
-}
-
-#[tactic(auto, using(cni_json::proofs::Steps::steps))]
-fn all_mappings(
-    alloc: Global,
-    place: CommandPlace,
-    list: &[Value],
-) -> Result<Items<RawMapping>, PodError>
-    ensures { GivesAs is_want_of_memory (λ mappings. mappings) result (each (wanted.mapping_at place) (items_view list.now)) }
-{
-    let mut found = Items::new(alloc);
-    for member in list {
-        let mapping = mapping(alloc, place, member)?;
-        found.push(mapping)?;
-    }
-    Ok(found)
+    list(
+        alloc,
+        place,
+        "portMappings",
+        command,
+        |member| mapping(alloc, place, member),
+    )
 }
 
 #[tactic(auto, using(cni_json::proofs::Steps::steps), unfolding(crate::specs::Members::mapping_at))]
@@ -160,27 +169,13 @@ pub fn valid_attachments(
 ) -> Result<Items<ValidAtt>, PodError>
     ensures { GivesAs is_want_of_memory (λ valid. valid) result (wanted.valid_at place (view command.now)) }
 {
-    match field_list(command, "valid") {
-        Field::Absent => Ok(Items::new(alloc)),
-        Field::WrongKind => Err(wrong_key(alloc, place, "valid")),
-        Field::Here(list) => all_valid(alloc, place, list),
-    }
-}
-
-#[tactic(auto, using(cni_json::proofs::Steps::steps))]
-fn all_valid(
-    alloc: Global,
-    place: CommandPlace,
-    list: &[Value],
-) -> Result<Items<ValidAtt>, PodError>
-    ensures { GivesAs is_want_of_memory (λ valid. valid) result (each (wanted.valid_attachment_at place) (items_view list.now)) }
-{
-    let mut found = Items::new(alloc);
-    for member in list {
-        let attachment = valid_attachment(alloc, place, member)?;
-        found.push(attachment)?;
-    }
-    Ok(found)
+    list(
+        alloc,
+        place,
+        "valid",
+        command,
+        |member| valid_attachment(alloc, place, member),
+    )
 }
 
 #[tactic(auto, using(cni_json::proofs::Steps::steps), unfolding(crate::specs::Members::valid_attachment_at))]

@@ -2,9 +2,8 @@
 
 ghost use Rattle.std.specs.Prelude.{◌≡◌, ◌+◌, ◌≤◌, length, true, nat_le};
 ghost use Rattle.std.specs.List.{list_any};
-ghost use Rattle.serde_json.specs.View.{view, items_view};
+ghost use Rattle.serde_json.specs.View.{view};
 ghost use Rattle.cni_json.specs.Outcome.{GivesAs};
-ghost use Rattle.cni_json.specs.Each.{each_from};
 ghost use Rattle.pod_file.specs.Refusals.{is_want_of_memory};
 ghost use Rattle.pod_file.specs.Rounds as wanted;
 
@@ -13,7 +12,7 @@ use crate::commands::read_command;
 use crate::error::{PodError, wrong, wrong_member};
 use crate::place::CommandPlace;
 use cni_addr::Items;
-use cni_json::{Field, Value, field_list};
+use cni_json::{Field, Value, field_list, read_each_placed};
 use std::alloc::Global;
 
 /// The most rounds, and the most commands, that a file may have.
@@ -25,21 +24,11 @@ pub fn rounds(alloc: Global, top: &Value) -> Result<Items<Items<Command>>, PodEr
     ensures { GivesAs is_want_of_memory (λ rounds. rounds) result (wanted.rounds_at (view top.now)) }
 {
     match field_list(top, "rounds") {
-        Field::Here(list) => all_rounds(alloc, list),
+        Field::Here(list) => {
+            read_each_placed(alloc, list, |index, member| round(alloc, index, member))
+        }
         Field::Absent | Field::WrongKind => Err(wrong(alloc, "rounds")),
     }
-}
-
-#[tactic(auto, using(cni_json::proofs::Steps::steps))]
-fn all_rounds(alloc: Global, list: &[Value]) -> Result<Items<Items<Command>>, PodError>
-    ensures { GivesAs is_want_of_memory (λ rounds. rounds) result (each_from wanted.round_at 0 (items_view list.now)) }
-{
-    let mut found = Items::new(alloc);
-    for (index, member) in list.iter().enumerate() {
-        let commands = round(alloc, index, member)?;
-        found.push(commands)?;
-    }
-    Ok(found)
 }
 
 #[tactic(auto, using(cni_json::proofs::Steps::steps))]
@@ -47,25 +36,25 @@ fn round(alloc: Global, index: usize, member: &Value) -> Result<Items<Command>, 
     ensures { GivesAs is_want_of_memory (λ commands. commands) result (wanted.round_at index (view member.now)) }
 {
     match member {
-        Value::Array(list) => all_commands(alloc, index, list.as_slice()),
+        Value::Array(list) => {
+            read_each_placed(
+                alloc,
+                list.as_slice(),
+                |place, member| command(alloc, index, place, member),
+            )
+        }
         _ => Err(wrong_member(alloc, "rounds", index)),
     }
 }
 
-#[tactic(auto, using(cni_json::proofs::Steps::steps))]
-fn all_commands(alloc: Global, round: usize, list: &[Value]) -> Result<Items<Command>, PodError>
-    ensures { GivesAs is_want_of_memory (λ commands. commands) result (each_from (wanted.command_in round) 0 (items_view list.now)) }
+fn command(alloc: Global, round: usize, index: usize, member: &Value) -> Result<Command, PodError>
+    ensures { GivesAs is_want_of_memory (λ command. command) result (wanted.command_in round index (view member.now)) }
 {
-    let mut found = Items::new(alloc);
-    for (index, member) in list.iter().enumerate() {
-        let place = CommandPlace {
-            round,
-            command: index,
-        };
-        let command = read_command(alloc, place, member)?;
-        found.push(command)?;
-    }
-    Ok(found)
+    let place = CommandPlace {
+        round,
+        command: index,
+    };
+    read_command(alloc, place, member)
 }
 
 /// Whether the rounds and their commands are within the limits.
