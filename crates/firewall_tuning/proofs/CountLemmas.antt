@@ -1,48 +1,34 @@
--- The keys of the rules of `firewall` and of the settings of `tuning`.
-use Rattle.std.proofs.Common.{◌≡◌, ℕ, zero, suc, ◌+◌, ◌*◌, ◌/◌, ◌%◌, Bool, true, false, List, [], ◌∷◌, ◌++◌, map, length, take, Option, Some, None, refl, ◌∙◌, ap, arith}
-use Rattle.std.specs.Prelude.{◌&&◌, flat_map, option_map, slice_get, if◌then◌else◌}
+-- How many rules `firewall` makes, and the keys of the settings of `tuning`.
+use Rattle.std.proofs.Common.{◌≡◌, ℕ, zero, suc, ◌+◌, ◌*◌, Bool, true, false, List, [], ◌∷◌, ◌++◌, map, length, take, Some, refl, sym, ◌∙◌, ap, arith}
+use Rattle.std.specs.Prelude.{flat_map, option_map, slice_get, if◌then◌else◌}
 use Rattle.std.specs.List.{list_any}
 use Rattle.std.specs.Cmp.{IsPartialEquivalence, partial_equiv_from_equiv}
 use Rattle.std.specs.Cmp.Lexicographic.{nat_list_eq_equiv}
-use Rattle.std.proofs.Math.Bool.{beq}
 use Rattle.std.proofs.lemmas.List.{length-map}
-use Rattle.std.proofs.lemmas.Option.{slice_get-map, slice_get_read}
-use Rattle.cni_addr.specs.declared.address.Addr.{Addr}
+use Rattle.std.proofs.lemmas.Option.{slice_get-map}
 use Rattle.cni_result.specs.declared.result.IpEntry.{IpEntry}
 use Rattle.net_conf.specs.declared.chained.Sysctl.{Sysctl}
-use Rattle.kernel_types.specs.Apply.Calls.{is_same_setting}
+use Rattle.kernel_types.specs.Apply.Calls.{is_same_addr, is_same_setting}
 use Rattle.kernel_types.specs.Equal.{addr_eq, rule_eq}
 use Rattle.kernel_types.proofs.Cases.{att_eq-refl}
 use Rattle.kernel_types.specs.declared.object.Att.{Att}
 use Rattle.kernel_types.specs.declared.object.Rule.{Rule}
 use Rattle.kernel_types.specs.declared.call.Given.{Given}
 use Rattle.cni_addr.specs.Lists.{each_key_once}
-use Rattle.plan_words.specs.Rows.{present, spread}
-use Rattle.plan_words.proofs.CountLemmas.{whole-same}
-use Rattle.plan_words.proofs.RowLemmas.{length-spread, spread-none, spread-some, count-more, each_key_once-map}
-use Rattle.firewall_tuning.specs.Counts.{forward_keys, is_same_key}
+use Rattle.plan_words.specs.Rows.{present}
+use Rattle.plan_words.specs.Shapes.{address_on, addresses_on}
+use Rattle.plan_words.proofs.CountLemmas.{whole-same, same-address}
+use Rattle.plan_words.proofs.RowLemmas.{count-more, each_key_once-map}
+use Rattle.firewall_tuning.specs.Counts.{is_same_key}
 use Rattle.firewall_tuning.specs.Firewall.{accept_replies_to, accept_from, forward_of}
 use Rattle.firewall_tuning.specs.Tuning.{setting_of}
-use Rattle.firewall_tuning.specs.declared.counts.ForwardKey.{ForwardKey}
+use Rattle.firewall_tuning.proofs.PairLemmas.{length-pairs_once}
 
 -- ---- firewall
 
-abbrev pub rule_to : Att → Addr → Bool → Rule
-rule_to att addr true = accept_replies_to att addr
-rule_to att addr false = accept_from att addr
-
--- the rule of a key
-abbrev pub rule_by : Att → ForwardKey → Rule
-rule_by att k = rule_to att k.addr k.is_reply
-
-same-to : (att : Att) (a b : Addr) (r s : Bool) → rule_eq (rule_to att a r) (rule_to att b s) ≡ (addr_eq a b && beq r s)
-same-to att a b true true = grind (arith, whole-same a b, att_eq-refl att)
-same-to att a b true false = grind (arith, whole-same a b)
-same-to att a b false true = grind (arith, whole-same a b)
-same-to att a b false false = grind (arith, whole-same a b, att_eq-refl att)
-
-pub same-forward : (att : Att) (k l : ForwardKey) → rule_eq (rule_by att k) (rule_by att l) ≡ (addr_eq k.addr l.addr && beq k.is_reply l.is_reply)
-same-forward att k l = same-to att k.addr l.addr k.is_reply l.is_reply
+-- given addresses are told apart by the address alone
+abbrev pub same_address : Given → Given → Bool
+same_address x y = addr_eq x.address.addr y.address.addr
 
 -- the rules for a given address
 abbrev pub rules_of_given : Att → Given → List Rule
@@ -58,16 +44,23 @@ rules-of_ips att (ip ∷ ips) (g ∷ gs) h =
     let rest : map (λ i. i.address) ips ≡ map (λ x. x.address) gs = cc in
     ap (λ a. (accept_replies_to att a.addr ∷ accept_from att a.addr ∷ []) ++ flat_map (rules_of_given att) gs) here ∙ ap (λ l. forward_of att ip ++ l) (rules-of_ips att ips gs rest)
 
-pub forward-places : (row : List (Option Given)) → length (spread forward_keys 2 row) ≡ 2 * length row
-forward-places row = length-spread forward_keys 2 (λ x. refl) row
+same-reply : (att : Att) (x y : Given) → rule_eq (accept_replies_to att x.address.addr) (accept_replies_to att y.address.addr) ≡ same_address x y
+same-reply att x y = grind (arith, whole-same x.address.addr y.address.addr, att_eq-refl att)
 
-pub forward-none : (row : List (Option Given)) (place : ℕ) → slice_get row (place / 2) ≡ Some None → slice_get (spread forward_keys 2 row) place ≡ Some None
-forward-none row place at = spread-none forward_keys 2 (λ x. refl) row place (place / 2) (place % 2) (omega arith) (omega arith) at
+same-from : (att : Att) (x y : Given) → rule_eq (accept_from att x.address.addr) (accept_from att y.address.addr) ≡ same_address x y
+same-from att x y = grind (arith, whole-same x.address.addr y.address.addr, att_eq-refl att)
 
-pub forward-some : (row : List (Option Given)) (place : ℕ) (x : Given) (k : ForwardKey) → slice_get row (place / 2) ≡ Some (Some x) → slice_get (forward_keys x) (place % 2) ≡ Some k → slice_get (spread forward_keys 2 row) place ≡ Some (Some k)
-forward-some row place x k at is = spread-some forward_keys 2 (λ x. refl) row place (place / 2) (place % 2) x (omega arith) (omega arith) at k is
+reply-from : (att : Att) (x y : Given) → rule_eq (accept_replies_to att x.address.addr) (accept_from att y.address.addr) ≡ false
+reply-from att x y = grind (arith, whole-same x.address.addr y.address.addr)
 
-pub ruleset forward_steps = (forward-places, forward-none, forward-some, slice_get_read)
+from-reply : (att : Att) (x y : Given) → rule_eq (accept_from att x.address.addr) (accept_replies_to att y.address.addr) ≡ false
+from-reply att x y = grind (arith, whole-same x.address.addr y.address.addr)
+
+-- twice as many rules as addresses
+pub rules-twice : (att : Att) (netns : List ℕ) (given : List Given) → length (each_key_once rule_eq (flat_map (rules_of_given att) given)) ≡ 2 * length (addresses_on att netns given)
+rules-twice att netns given =
+    length-pairs_once (λ (x : Given). accept_replies_to att x.address.addr) (λ (x : Given). accept_from att x.address.addr) same_address rule_eq (same-reply att) (same-from att) (reply-from att) (from-reply att) given
+    ∙ ap (λ n. 2 * n) (sym (ap length (each_key_once-map (address_on att netns) same_address is_same_addr (same-address att netns) given) ∙ length-map (each_key_once same_address given) (address_on att netns)))
 
 -- ---- tuning
 

@@ -1,6 +1,6 @@
 //! How many calls `firewall` and `tuning` make. Nothing here takes memory.
 
-ghost use Rattle.std.specs.Prelude.{◌≡◌, ◌+◌, ◌*◌, ◌≤◌, ℕ, List, length, map, take, Some};
+ghost use Rattle.std.specs.Prelude.{◌≡◌, ◌+◌, ◌*◌, ◌≤◌, ℕ, List, length, map, take};
 ghost use Rattle.std.specs.List.{list_any};
 ghost use Rattle.std.specs.Str.{bytes_eq};
 ghost use Rattle.cni_result.specs.declared.result.IpEntry.{IpEntry};
@@ -13,69 +13,19 @@ ghost use Rattle.firewall_tuning.specs.Firewall as plan;
 ghost use Rattle.firewall_tuning.specs.Tuning as tuning;
 
 use crate::tuning::sets_any;
-use cni_addr::Addr;
-use kernel_types::Given;
 use net_conf::{Sysctl, TuningConf};
-use plan_words::{GivenRow, Row, count_keys};
+use plan_words::{GivenRow, count_addresses};
 
 // ---- firewall
 
-/// What tells a rule of an attachment from its others: the address, and whether it lets through what answers it.
-#[derive(Clone, Copy, PartialEq, Eq)]
-struct ForwardKey {
-    addr: Addr,
-    is_reply: bool,
-}
-
-fn forward_keys(given: &Given) -> [ForwardKey; 2]
-    ensures { result ≡ counts.forward_keys given.now }
-{
-    let addr = given.address.addr;
-    let reply = ForwardKey {
-        addr,
-        is_reply: true,
-    };
-    let from = ForwardKey {
-        addr,
-        is_reply: false,
-    };
-    [reply, from]
-}
-
-#[derive(Clone, Copy)]
-struct ForwardKeys<G>(G);
-
-impl<G: GivenRow> Row<ForwardKey> for ForwardKeys<G> {
-    ghost use Rattle.plan_words.specs.Rows.{spread};
-    ghost use Rattle.firewall_tuning.specs.Counts.{forward_keys};
-
-    ghost values = { λ row. spread forward_keys 2 (G.values row.0) };
-
-    #[tactic(auto, using(crate::proofs::CountLemmas::forward_steps))]
-    fn places(&self) -> usize {
-        2 * self.0.places()
-    }
-
-    #[tactic(auto, using(crate::proofs::CountLemmas::forward_steps))]
-    fn at(&self, place: usize) -> Option<ForwardKey> {
-        match self.0.given_at(place / 2) {
-            Some(given) => {
-                let keys = forward_keys(&given);
-                Some(keys[place % 2])
-            }
-            None => None,
-        }
-    }
-}
-
-/// How many calls `firewall` makes where the result before it has these given addresses: an address that comes twice
-/// has its rules once. Takes no memory; quadratic in the addresses.
-#[tactic(auto, using(crate::proofs::CountLemmas::forward_steps))]
+/// How many calls `firewall` makes where the result before it has these given addresses: two for each address, one that
+/// comes twice counted once. Takes no memory; quadratic in the addresses.
 pub fn firewall_count<G: GivenRow + Copy>(given: G) -> usize
     ensures count { (att : Att) (ips : List IpEntry) → map (λ ip. ip.address) ips ≡ map (λ g. g.address) (present (G.values given)) → length (plan.firewall_calls_of att ips) ≡ result }
     ensures most { result ≤ 2 * length (G.values given) }
 {
-    count_keys(&ForwardKeys(given))
+    let _places = given.places();
+    2 * count_addresses(given)
 }
 
 // ---- tuning

@@ -1,8 +1,8 @@
 //! The plugins `firewall` and `tuning`: what is forwarded to and from a container, its kernel settings and the values
 //! of its link.
 //!
-//! To the verbs each promises its calls and the kinds of objects that DEL takes back as values, and `tuning` its result;
-//! that of `firewall` is the one before. They are those of `specs/Firewall.antt` and `specs/Tuning.antt`.
+//! To the verbs each promises its calls and the kinds of objects that DEL takes back as values, and `tuning` its
+//! result; that of `firewall` is the one before. They are those of `specs/Firewall.antt` and `specs/Tuning.antt`.
 //!
 //! ```text
 //! firewall_calls(alloc, &att, &prev)?       // two RuleAppend for each address
