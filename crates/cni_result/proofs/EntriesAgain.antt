@@ -12,10 +12,10 @@ use Rattle.cni_addr.specs.MacText.{mac_text, mac_of_text, IsMac}
 use Rattle.cni_addr.specs.Network.{IsCidr}
 use Rattle.cni_addr.specs.Value.{AddrValue, CidrValue, IsAddr}
 use Rattle.cni_addr.specs.declared.mac.Mac.{Mac}
-use Rattle.cni_json.specs.Fields.{field_of, u64_of}
+use Rattle.cni_json.specs.Fields.{field_of, u32_of}
 use Rattle.cni_result.proofs.Lookups.{at_other, at_other_if, at_key, at_key_if}
 use Rattle.cni_result.proofs.ReadAgain.{needed_again, optional_again, number_again}
-use Rattle.cni_result.specs.Fields.{needed, optional, as_it_is, in_32_bits}
+use Rattle.cni_result.specs.Fields.{needed, optional, as_it_is}
 use Rattle.cni_result.specs.Laws.{HasMtuOf, IsInterfaceOf, IsIpEntry, IsRouteEntry}
 use Rattle.cni_result.specs.Members.{text_data, number_data, ◌▷◌, put_if}
 use Rattle.cni_result.specs.Reading.{text_at, text_if_at, cidr_at, addr_if_at, mac_if_at, number_if_at, mtu_if_at, interface_at, ip_at, route_at}
@@ -86,7 +86,7 @@ mtu_again : (version : Version) (i : Interface) → HasMtuOf version i → mtu_i
 unfolding number_if_at interface_data
 mtu_again V1_0 i has = ap Ok (sym has)
 mtu_again V1_1 i has =
-    ap (λ g. optional (codes "interfaces") in_32_bits (field_of u64_of g))
+    ap (λ g. optional (codes "interfaces") as_it_is (field_of u32_of g))
     (at_other_if text_data (codes "mtu") (codes "sandbox") i.sandbox (up_to_name V1_1 i) refl
     ∙ at_other (codes "mtu") (codes "name") (text_data i.name) (up_to_mtu V1_1 i) refl
     ∙ at_key_if number_data (codes "mtu") i.mtu (up_to_mac i) (at_other_if mac_data (codes "mtu") (codes "mac") i.mac no_members refl))
@@ -125,7 +125,7 @@ gateway_again ip kept =
 index_again : (ip : IpEntry) → IsIpEntry ip → number_if_at (codes "ips") (codes "interface") (ip_data ip) ≡ Ok ip.interface
 unfolding number_if_at ip_data
 index_again ip kept =
-    ap (λ g. optional (codes "ips") in_32_bits (field_of u64_of g))
+    ap (λ g. optional (codes "ips") as_it_is (field_of u32_of g))
     (at_key_if number_data (codes "interface") ip.interface (up_to_gateway ip)
     (at_other_if addr_data (codes "interface") (codes "gateway") ip.gateway (up_to_address ip) refl
     ∙ at_other (codes "interface") (codes "address") (cidr_data ip.address) no_members refl))

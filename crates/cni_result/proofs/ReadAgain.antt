@@ -7,9 +7,9 @@ use Rattle.serde_json.specs.Data.{object}
 use Rattle.serde_json.specs.Find.{as_str, as_array}
 use Rattle.serde_json.specs.View.{items_of}
 use Rattle.std.specs.Prelude.{map, Result}
-use Rattle.cni_json.specs.Fields.{field_of, u64_of, object_of}
+use Rattle.cni_json.specs.Fields.{field_of, u32_of, object_of}
 use Rattle.cni_result.proofs.Lookups.{text_member, list_member, object_member}
-use Rattle.cni_result.specs.Fields.{needed, optional, list_of, in_32_bits}
+use Rattle.cni_result.specs.Fields.{needed, optional, list_of, as_it_is}
 use Rattle.cni_json.specs.Each.{each}
 use Rattle.cni_result.specs.Members.{text_data, number_data}
 use Rattle.cni_result.specs.Dns.{domain_of, dns_of, words_at, domain_at, dns_members_at}
@@ -26,7 +26,7 @@ optional_again blamed read write None is = refl
 optional_again blamed read write (Some x) is = rw is refl
 
 -- a number that may be absent
-pub number_again : (blamed : List ℕ) (o : Option ℕ) → IfSome o (λ n. n < 2 ^ 32) → optional blamed in_32_bits (field_of u64_of (option_map number_data o)) ≡ Ok o
+pub number_again : (blamed : List ℕ) (o : Option ℕ) → IfSome o (λ n. n < 2 ^ 32) → optional blamed as_it_is (field_of u32_of (option_map number_data o)) ≡ Ok o
 number_again blamed None fits = refl
 number_again blamed (Some n) fits = search rules
 

@@ -1,5 +1,5 @@
 -- Members of an object that is read, each with the key that is to blame where it is wrong.
-use Rattle.std.specs.Prelude.{ℕ, ◌^◌, List, nat_lt, if◌then◌else◌, Option, Some, None, Result, Ok}
+use Rattle.std.specs.Prelude.{ℕ, List, Option, Some, None, Result, Ok}
 use Rattle.serde_json.specs.Data.{Data, Items}
 use Rattle.cni_json.specs.Each.{list_or}
 use Rattle.cni_json.specs.Fields.{list_field, member_or}
@@ -35,10 +35,6 @@ list_of blamed read f = list_or (invalid blamed) read f
 unfoldable pub list_at : {A : Type 0} → List ℕ → (Data → Result A ResultError) → Data → Result (List A) ResultError
 list_at key read d = list_of key read (list_field key d)
 
--- any text
-abbrev pub as_it_is : List ℕ → Option (List ℕ)
-as_it_is text = Some text
-
--- a number of 32 bits
-abbrev pub in_32_bits : ℕ → Option ℕ
-in_32_bits n = if nat_lt n (2 ^ 32) then Some n else None
+-- whatever was found
+abbrev pub as_it_is : {A : Type 0} → A → Option A
+as_it_is x = Some x

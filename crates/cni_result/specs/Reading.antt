@@ -8,14 +8,14 @@ use Rattle.cni_addr.specs.CidrText.{cidr_of_text}
 use Rattle.cni_addr.specs.MacText.{mac_of_text}
 use Rattle.cni_addr.specs.Value.{AddrValue, CidrValue}
 use Rattle.cni_addr.specs.declared.mac.Mac.{Mac}
-use Rattle.cni_json.specs.Fields.{text_field, u64_field, member_or, object_or}
+use Rattle.cni_json.specs.Fields.{text_field, u32_field, member_or, object_or}
 use Rattle.cni_json.specs.Json.{json_of}
 use Rattle.cni_json.specs.Outcome.{◌>>=◌}
 use Rattle.cni_json.specs.declared.fields.Field.{Field}
 use Rattle.cni_json.specs.declared.reading.ReadEnd.{ReadEnd}
 use Rattle.cni_json.specs.declared.reading.ReadEnd.TheVariants as reading
 use Rattle.cni_result.specs.Dns.{dns_of_object}
-use Rattle.cni_result.specs.Fields.{needed, optional, list_at, as_it_is, in_32_bits}
+use Rattle.cni_result.specs.Fields.{needed, optional, list_at, as_it_is}
 use Rattle.cni_result.specs.Refusals.{invalid}
 use Rattle.cni_result.specs.Versions.{version_named}
 use Rattle.cni_result.specs.declared.dns.DnsError.{DnsError}
@@ -66,7 +66,7 @@ mac_if_at blamed key d = optional blamed mac_of_text (text_field key d)
 
 -- a number of 32 bits that may be absent
 unfoldable pub number_if_at : List ℕ → List ℕ → Data → Result (Option ℕ) ResultError
-number_if_at blamed key d = optional blamed in_32_bits (u64_field key d)
+number_if_at blamed key d = optional blamed as_it_is (u32_field key d)
 
 -- `mtu` came to results with 1.1.0, and is passed over before
 abbrev pub mtu_if_at : Version → Data → Result (Option ℕ) ResultError

@@ -7,7 +7,7 @@ ghost use Rattle.cni_result.specs.Refusals.{is_want_of_memory};
 
 use crate::refusal::{ResultError, invalid};
 use cni_addr::{Addr, Cidr, Mac, Text, read_addr, read_cidr, read_mac};
-use cni_json::{Field, Value, field_str, field_u64};
+use cni_json::{Field, Value, field_str, field_u32};
 use std::alloc::Global;
 
 /// A text that must be there.
@@ -112,9 +112,9 @@ pub(crate) fn number_if(
 ) -> Result<Option<u32>, ResultError>
     ensures { GivesAs is_want_of_memory (λ number. number) result (number_if_at blamed.now key.now (view object.now)) }
 {
-    match field_u64(object, key) {
+    match field_u32(object, key) {
         Field::Absent => Ok(None),
-        Field::Here(number) if number <= u64::from(u32::MAX) => Ok(Some(number as u32)),
-        Field::Here(_) | Field::WrongKind => Err(invalid(alloc, blamed)),
+        Field::WrongKind => Err(invalid(alloc, blamed)),
+        Field::Here(number) => Ok(Some(number)),
     }
 }

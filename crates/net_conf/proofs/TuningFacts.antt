@@ -1,6 +1,6 @@
 -- What the configuration of `tuning` keeps that is read.
 use Rattle.std.proofs.Common.{◌≡◌, ℕ, ◌<◌, ◌^◌, Bool, true, false, List, [], codes, Option, Some, None, Result, Ok, Less, nat_cmp, nat_eq, refl, sym, ap, ◌∙◌, subst, arith}
-use Rattle.std.specs.Prelude.{All, nat_lt, not, map, if◌then◌else◌}
+use Rattle.std.specs.Prelude.{All, not, map, if◌then◌else◌}
 use Rattle.std.specs.Cmp.Lexicographic.{slice_cmp}
 use Rattle.std.specs.List.{AllByRecursion, IsDistinct, starts_with}
 use Rattle.std.specs.Str.{bytes_eq}
@@ -8,16 +8,16 @@ use Rattle.std.proofs.lemmas.Bool.Decides.{nat_tests}
 use Rattle.std.proofs.lemmas.Map.Text.{is_eq-slice_cmp}
 use Rattle.std.specs.Ordering.{is_eq}
 use Rattle.std.proofs.lemmas.List.Elements.{All-nil, All-cons}
-use Rattle.serde_json.specs.Data.{Data, unsigned, negative, float, null, boolean, number, string, array, object, Members, no_members, member}
+use Rattle.serde_json.specs.Data.{Data, null, boolean, number, string, array, object, Members, no_members, member}
 use Rattle.serde_json.specs.Find.{get}
-use Rattle.cni_json.specs.Fields.{of_kind, field_of, in_32_bits, u32_of, member_at, u64_field, u32_field}
+use Rattle.cni_json.specs.Fields.{member_at, u64_field, u32_field}
 use Rattle.cni_json.specs.declared.fields.Field.{Field}
 use Rattle.cni_json.specs.declared.fields.Field.TheVariants.{Absent, WrongKind, Here}
 use Rattle.cni_addr.proofs.MacTexts.{mac_read_is_spelled}
 use Rattle.cni_addr.specs.declared.mac.Mac.{Mac}
 use Rattle.cni_addr.specs.MacText.{IsMac, mac_of_text}
 use Rattle.cni_json.proofs.Endings.{goes, ok_same, passed}
-use Rattle.cni_json.proofs.WholeNumbers.{member_at-found}
+use Rattle.cni_json.proofs.WholeNumbers.{member_at-found, u32_of-fits}
 use Rattle.net_conf.proofs.JsonOrder.{IsBelowAll, IsOrdered, HasOrder, get-ordered}
 use Rattle.net_conf.specs.Members.{flag_at, is_mtu}
 use Rattle.net_conf.specs.Tuning.{has_part, setting_or_refused, setting_of, is_null, settings_of, sysctl_of, sysctl_at, mac_or_refused, new_mac_of, new_mac_at, new_mtu_of, new_mtu_at, queue_length_of, queue_length_at, tuning_at}
@@ -155,24 +155,6 @@ new_mtu_at-ok d found is = new_mtu_of-ok (u64_field (codes "mtu") d) found is
 
 abbrev HasWord : ℕ → Type 0
 HasWord n = n < 2 ^ 32
-
-in_32_bits-fits : (m n : ℕ) → of_kind (in_32_bits m) ≡ Here n → HasWord n
-in_32_bits-fits m n is = decided (nat_lt m (2 ^ 32)) refl is
-  where
-    decided : (b : Bool) → nat_lt m (2 ^ 32) ≡ b → of_kind (if b then Some m else None) ≡ Here n → HasWord n
-    decided true below same = let this : m ≡ n = cc in subst HasWord this (grind (arith, nat_tests))
-    decided false below same = cc
-
-u32_of-fits : (o : Option Data) (n : ℕ) → field_of u32_of o ≡ Here n → HasWord n
-u32_of-fits None n is = cc
-u32_of-fits (Some null) n is = cc
-u32_of-fits (Some (boolean b)) n is = cc
-u32_of-fits (Some (number (unsigned m))) n is = in_32_bits-fits m n is
-u32_of-fits (Some (number (negative z))) n is = cc
-u32_of-fits (Some (number (float x))) n is = cc
-u32_of-fits (Some (string s)) n is = cc
-u32_of-fits (Some (array ds)) n is = cc
-u32_of-fits (Some (object ms)) n is = cc
 
 queue_length_of-ok : (f : Field ℕ) (found : Option ℕ) → ((n : ℕ) → f ≡ Here n → HasWord n) → queue_length_of f ≡ Ok found → IsNew HasWord found
 queue_length_of-ok Absent found fits is = subst (IsNew HasWord) (ok_same is) (none_new HasWord)

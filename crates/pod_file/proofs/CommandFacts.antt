@@ -1,5 +1,5 @@
 -- What the rounds of a pod file keep that are read.
-use Rattle.std.proofs.Common.{◌≡◌, ℕ, zero, suc, ◌+◌, ◌≤◌, Bool, true, false, not, List, [], ◌∷◌, ◌++◌, length, codes, Option, Some, None, Ok, Err, refl, sym, ap, ◌∙◌, subst, arith}
+use Rattle.std.proofs.Common.{◌≡◌, ℕ, zero, suc, ◌+◌, ◌≤◌, ◌<◌, ◌^◌, Bool, true, false, not, List, [], ◌∷◌, ◌++◌, length, codes, Option, Some, None, Ok, Err, refl, sym, ap, ◌∙◌, subst, arith}
 use Rattle.std.specs.Prelude.{◌||◌, if◌then◌else◌, nat_le, is_some, All, slice_get}
 use Rattle.std.specs.List.{list_any}
 use Rattle.std.specs.Str.{bytes_eq}
@@ -7,13 +7,15 @@ use Rattle.std.proofs.lemmas.Bool.Decides.{nat_tests}
 use Rattle.std.proofs.lemmas.List.{length-append}
 use Rattle.std.proofs.lemmas.List.Elements.{All-nil, All-cons, All-head, All-tail}
 use Rattle.serde_json.specs.Data.{Data, null, boolean, number, string, array, object, Items}
+use Rattle.serde_json.specs.Find.{get}
 use Rattle.cni_json.specs.Each.{list_or}
-use Rattle.cni_json.specs.Fields.{text_field, list_field, u64_field, u64_of}
+use Rattle.cni_json.specs.Fields.{text_field, list_field, u32_field, u64_of}
 use Rattle.cni_json.specs.declared.fields.Field.{Field}
 use Rattle.cni_json.specs.declared.fields.Field.TheVariants.{Absent, WrongKind, Here}
 use Rattle.kernel_types.specs.declared.object.Table.{Table}
 use Rattle.kernel_types.specs.declared.object.Table.TheVariants.{Nat, Filter}
 use Rattle.cni_json.proofs.Endings.{goes, ok_same, passed, went_on, each_all, each_from_all}
+use Rattle.cni_json.proofs.WholeNumbers.{u32_of-fits}
 use Rattle.pod_file.specs.Commands.{command_object, verb_at, needs_table, texts_at, table_of, table_at, stop_of, stop_at, is_call_number, fault_of, fault_at, faults_at, command_at}
 use Rattle.pod_file.specs.Members.{list_at, mappings_at, valid_at}
 use Rattle.pod_file.specs.Refusals.{wrong_key}
@@ -56,17 +58,17 @@ IsStop stop = (n : ℕ) → stop ≡ Some n → n ≤ 4294967295
 some_stop : (n : ℕ) → n ≤ 4294967295 → IsStop (Some n)
 some_stop n most m same = let e : n ≡ m = cc in subst (λ k. k ≤ 4294967295) e most
 
-stop_of-ok : (place : CommandPlace) (f : Field ℕ) (stop : Option ℕ) → stop_of place f ≡ Ok stop → IsStop stop
-stop_of-ok place Absent stop is = subst IsStop (ok_same is) (λ n same. cc)
-stop_of-ok place WrongKind stop is = cc
-stop_of-ok place (Here n) stop is =
-    let test = passed (nat_le n 4294967295) (Some n) stop _ is in
-    let most : n ≤ 4294967295 = grind (arith, nat_tests, test.0) in
-    subst IsStop test.1 (some_stop n most)
+stop_of-ok : (place : CommandPlace) (f : Field ℕ) (stop : Option ℕ) → ((n : ℕ) → f ≡ Here n → n < 2 ^ 32) → stop_of place f ≡ Ok stop → IsStop stop
+stop_of-ok place Absent stop fits is = subst IsStop (ok_same is) (λ n same. cc)
+stop_of-ok place WrongKind stop fits is = cc
+stop_of-ok place (Here n) stop fits is =
+    let below : n < 4294967296 = fits n refl in
+    let most : n ≤ 4294967295 = grind (arith, below) in
+    subst IsStop (ok_same is) (some_stop n most)
 
 stop_at-ok : (place : CommandPlace) (d : Data) (stop : Option ℕ) → stop_at place d ≡ Ok stop → IsStop stop
 unfolding stop_at
-stop_at-ok place d stop is = stop_of-ok place (u64_field (codes "stop") d) stop is
+stop_at-ok place d stop is = stop_of-ok place (u32_field (codes "stop") d) stop (u32_of-fits (get (codes "stop") d)) is
 
 is_call_number-true : (n : ℕ) → is_call_number n ≡ true → IsCallNumber n
 is_call_number-true n is = record { least = grind (arith, nat_tests); most = grind (arith, nat_tests) }

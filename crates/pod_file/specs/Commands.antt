@@ -2,7 +2,7 @@
 use Rattle.std.specs.Prelude.{ℕ, ◌&&◌, List, [], codes, Bool, true, false, nat_le, if◌then◌else◌, Result, Ok, ok_or, Option, Some, None, find, ⊤}
 use Rattle.std.specs.Str.{bytes_eq}
 use Rattle.serde_json.specs.Data.{Data}
-use Rattle.cni_json.specs.Fields.{text_field, u64_field, u64_of, member_or, object_or}
+use Rattle.cni_json.specs.Fields.{text_field, u32_field, u64_of, member_or, object_or}
 use Rattle.cni_json.specs.Outcome.{◌>>=◌}
 use Rattle.cni_json.specs.declared.fields.Field.{Field}
 use Rattle.kernel_types.specs.Texts.{table_named}
@@ -97,15 +97,12 @@ table_of place verb f =
 unfoldable pub table_at : CommandPlace → Verb → Data → Result (Option Table) PodError
 table_at place verb d = table_of place verb (text_field (codes "table") d)
 
-abbrev pub stop_after : CommandPlace → ℕ → Result (Option ℕ) PodError
-stop_after place n = if nat_le n 4294967295 then Ok (Some n) else wrong_key place (codes "stop")
-
 abbrev pub stop_of : CommandPlace → Field ℕ → Result (Option ℕ) PodError
-stop_of place f = member_or (Ok None) (wrong_key place (codes "stop")) (stop_after place) f
+stop_of place f = member_or (Ok None) (wrong_key place (codes "stop")) (λ n. Ok (Some n)) f
 
 -- the number of calls after which the command stops
 unfoldable pub stop_at : CommandPlace → Data → Result (Option ℕ) PodError
-stop_at place d = stop_of place (u64_field (codes "stop") d)
+stop_at place d = stop_of place (u32_field (codes "stop") d)
 
 -- calls are numbered from 1
 abbrev pub is_call_number : ℕ → Bool

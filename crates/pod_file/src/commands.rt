@@ -11,7 +11,7 @@ use crate::error::{PodError, wrong_command, wrong_key};
 use crate::members::{list, mappings, needed_text, text, valid_attachments};
 use crate::place::CommandPlace;
 use cni_addr::{Items, Text};
-use cni_json::{Field, Value, field_str, field_u64};
+use cni_json::{Field, Value, field_str, field_u32};
 use kernel_types::{Table, table_named};
 use std::alloc::Global;
 
@@ -147,10 +147,10 @@ fn needs_table(verb: Verb) -> bool
 fn stop(alloc: Global, place: CommandPlace, command: &Value) -> Result<Option<u32>, PodError>
     ensures { GivesAs is_want_of_memory (λ stop. stop) result (wanted.stop_at place (view command.now)) }
 {
-    match field_u64(command, "stop") {
+    match field_u32(command, "stop") {
         Field::Absent => Ok(None),
-        Field::Here(number @ 0..=4_294_967_295) => Ok(Some(number as u32)),
-        Field::Here(_) | Field::WrongKind => Err(wrong_key(alloc, place, "stop")),
+        Field::WrongKind => Err(wrong_key(alloc, place, "stop")),
+        Field::Here(number) => Ok(Some(number)),
     }
 }
 
