@@ -11,7 +11,7 @@
 //!
 //! ```text
 //! let mut files = MemFiles::new(alloc, Vec::new(alloc));
-//! files.add(Text1::of(alloc, "hosts")?, b"c1 c2".to_vec(alloc)?)?;
+//! files.add(Text::of(alloc, "hosts")?, b"c1 c2".to_vec(alloc)?)?;
 //! let bytes = files.read(alloc, "hosts", 64)?;
 //!
 //! let mut sink = MemSink::new(alloc, vec![in alloc; 2]?, 3, 64)?;
@@ -27,14 +27,12 @@ mod mem_sink;
 mod real_files;
 mod real_sink;
 mod sink;
-mod text;
 mod whole;
 
 pub use files::{FileFault, Files};
 pub use mem_files::MemFiles;
-pub use mem_sink::{MemSink, SinkNoMemory};
+pub use mem_sink::MemSink;
 pub use real_files::RealFiles;
 pub use real_sink::RealSink;
 pub use sink::{Sink, SinkFault};
-pub use text::Text1;
 pub use whole::{WriteEnd, write_whole};

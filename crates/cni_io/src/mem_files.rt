@@ -10,13 +10,13 @@ ghost use Rattle.cni_io.specs.Memory.{FilesState, stored_with, HasEachNameOnce, 
 
 use crate::failing_calls::FailingCalls;
 use crate::files::{FileFault, Files};
-use crate::text::Text1;
+use cni_addr::Text;
 use std::alloc::Global;
 use std::marker::Model;
 
 #[derive(Drop)]
 struct StoredFile {
-    name: Text1,
+    name: Text,
     bytes: Vec<u8>,
 }
 
@@ -29,7 +29,7 @@ impl Model for StoredFile {
 }
 
 impl StoredFile {
-    fn new(name: Text1, bytes: Vec<u8>) -> StoredFile
+    fn new(name: Text, bytes: Vec<u8>) -> StoredFile
         ensures { result ≡ (name, bytes.items) }
     {
         StoredFile { name, bytes }
@@ -91,7 +91,7 @@ impl MemFiles {
     ///
     /// The one error is `NoMemory`, and nothing is stored then. It takes a time that grows with the
     /// number of files.
-    pub fn add(&mut self, name: Text1, bytes: Vec<u8>) -> Result<(), FileFault>
+    pub fn add(&mut self, name: Text, bytes: Vec<u8>) -> Result<(), FileFault>
         ensures stores { OnOk result (self.new
             ≡ record self.old { stored = stored_with self.old.stored name bytes.items }) }
         ensures file { OnOk result (bytes_of self.new.stored name ≡ Some bytes.items) }
@@ -184,7 +184,7 @@ mod tests {
         let mut files = MemFiles::new(rt.alloc(), vec![in rt.alloc(); 2]?);
         for text in ["first", "bytes"] {
             files.add(
-                Text1::of(rt.alloc(), "a")?,
+                Text::of(rt.alloc(), "a")?,
                 text.as_bytes().to_vec(rt.alloc())?,
             )?;
         }

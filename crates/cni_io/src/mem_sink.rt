@@ -4,12 +4,9 @@ ghost use Rattle.std.specs.Prelude.{◌≡◌, IfOk, []};
 
 use crate::failing_calls::FailingCalls;
 use crate::sink::{Sink, SinkFault, count_fault};
+use cni_addr::NoMemory;
 use std::alloc::Global;
 use std::marker::Model;
-
-/// The room of a sink was refused.
-#[derive(Clone, Copy, Debug, PartialEq, Eq)]
-pub struct SinkNoMemory;
 
 /// A sink in memory, which tells its bytes, and some of whose writes fail.
 ///
@@ -51,7 +48,7 @@ impl MemSink {
         failing: Vec<u64>,
         most: usize,
         room: usize,
-    ) -> Result<MemSink, SinkNoMemory>
+    ) -> Result<MemSink, NoMemory>
         ensures { IfOk result (λ sink. sink ≡ record {
           written = [];
           most = most;
@@ -60,16 +57,13 @@ impl MemSink {
           faults = 0;
         }) }
     {
-        match Vec::with_capacity(alloc, room) {
-            Ok(written) => Ok(MemSink {
-                written,
-                most,
-                room,
-                writes: FailingCalls::new(failing),
-                faults: 0,
-            }),
-            Err(_) => Err(SinkNoMemory),
-        }
+        Ok(MemSink {
+            written: Vec::with_capacity(alloc, room)?,
+            most,
+            room,
+            writes: FailingCalls::new(failing),
+            faults: 0,
+        })
     }
 
     /// The bytes written so far.

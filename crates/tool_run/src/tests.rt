@@ -6,7 +6,7 @@ ghost use Rattle.std.specs.Prelude.{◌≤◌, IfOk, length};
 use crate::carry::begin;
 use crate::plan::read_plan;
 use cni_addr::{Items, NoMemory, Text};
-use cni_io::{MemFiles, MemSink, Text1};
+use cni_io::{MemFiles, MemSink};
 use cni_verbs::Answer;
 use kernel_model::ListKernel;
 use kernel_text::reply_text;
@@ -34,7 +34,7 @@ const TOGETHER: &str = "{\"opening\":{\"namespaces\":[\"/ns/a\"]},\"rounds\":[[\
 fn add(alloc: Global, files: &mut MemFiles, name: &str, text: &str) -> Result<(), Fail> {
     let mut bytes = Vec::new(alloc);
     bytes.extend_from_slice(text.as_bytes())?;
-    let Ok(name) = Text1::of(alloc, name) else {
+    let Ok(name) = Text::of(alloc, name) else {
         return Err("no memory for a name".into());
     };
     match files.add(name, bytes) {
