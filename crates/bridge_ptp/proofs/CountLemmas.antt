@@ -1,10 +1,8 @@
 -- The keys of what `bridge` makes after the leases.
 use Rattle.std.proofs.Common.{◌≡◌, ℕ, ◌+◌, ◌-◌, ◌<◌, Bool, true, false, cond, List, [], ◌∷◌, ◌++◌, map, length, Option, Some, None, refl, sym, ◌∙◌, ap, arith}
 use Rattle.std.specs.Prelude.{slice_get, option_map, option_to_list, if◌then◌else◌}
-use Rattle.std.specs.List.{list_any}
 use Rattle.std.proofs.lemmas.List.{length-append, length-map, map-append, append-nil}
 use Rattle.std.proofs.lemmas.Option.{slice_get-map, slice_get_read}
-use Rattle.cni_addr.specs.Equal.{cidr_eq}
 use Rattle.cni_addr.specs.declared.address.Cidr.{Cidr}
 use Rattle.cni_addr.specs.declared.address.Family.{Family}
 use Rattle.cni_addr.specs.declared.address.Family.TheVariants.{V4, V6}
@@ -16,7 +14,7 @@ use Rattle.plan_words.specs.Rows.{present}
 use Rattle.plan_words.specs.Shapes.{default_route}
 use Rattle.plan_words.proofs.RowLemmas.{slice_get-before, slice_get-behind, present-append, present-keys}
 use Rattle.host_local.specs.Results.{ip_of}
-use Rattle.bridge_ptp.specs.Results.{default_unless_there, missing_default, added_default, bridge_routes}
+use Rattle.bridge_ptp.specs.Results.{has_destination, default_unless_there, missing_default, added_default, bridge_routes}
 
 -- ---- the default routes
 
@@ -34,11 +32,11 @@ by-there true r = refl
 by-there false r = refl
 
 pub default-found : (family : Family) (configured : List RouteEntry) (given : List Given) (g : Given) (keys : List Cidr) → first_given family given ≡ Some g
-    → keys ≡ (if list_any (λ r. cidr_eq r.dst (default_route g.address.addr.family)) configured then [] else default_route g.address.addr.family ∷ [])
+    → keys ≡ (if has_destination configured (default_route g.address.addr.family) then [] else default_route g.address.addr.family ∷ [])
     → keys ≡ map (λ r. r.dst) (missing_default family configured (map ip_of given))
 default-found family configured given g keys at is =
     is
-    ∙ sym (by-there (list_any (λ r. cidr_eq r.dst (default_route g.address.addr.family)) configured) (record { dst = default_route g.address.addr.family; gw = Some g.gateway }))
+    ∙ sym (by-there (has_destination configured (default_route g.address.addr.family)) (record { dst = default_route g.address.addr.family; gw = Some g.gateway }))
     ∙ sym (ap (λ o. map (λ r. r.dst) (default_unless_there configured o)) (find-ips family given ∙ ap (option_map ip_of) at))
 
 pub default-none : (family : Family) (configured : List RouteEntry) (given : List Given) → first_given family given ≡ None → [] ≡ map (λ r. r.dst) (missing_default family configured (map ip_of given))

@@ -10,18 +10,19 @@ use Rattle.kernel_types.specs.declared.call.Given.{Given}
 use Rattle.kernel_types.specs.declared.call.Kind.{Kind}
 use Rattle.kernel_types.specs.declared.call.Kind.TheVariants.{Links, Rules, Leases}
 use Rattle.kernel_types.specs.declared.call.Call.{Call}
-use Rattle.kernel_types.specs.declared.call.Call.TheVariants.{BridgeEnsure, GatewayEnsure, VethAdd, AddrAdd, RouteAdd, RuleAppend}
+use Rattle.kernel_types.specs.declared.call.Call.TheVariants.{BridgeEnsure, GatewayEnsure, AddrAdd, RouteAdd, RuleAppend}
 use Rattle.cni_addr.specs.Lists.{each_key_once}
-use Rattle.plan_words.specs.Shapes.{host_end, inner_end, addresses_on, routes_on, masquerade_rules, forward_calls}
+use Rattle.plan_words.specs.Shapes.{addresses_on, routes_on, masquerade_rules, forward_calls}
 use Rattle.plan_words.specs.Share.{Share, no_objects}
 use Rattle.host_local.specs.Conf.{routes_of}
 use Rattle.host_local.specs.Results.{ip_of}
 use Rattle.bridge_ptp.specs.Results.{bridge_routes}
+use Rattle.bridge_ptp.specs.Veth.{veth_share, veth_pair}
 
 -- ---- the share
 
 abbrev pub bridge_share_before : BridgeConf → Att → List ℕ → Share
-bridge_share_before conf att netns = record no_objects { links = host_end att netns (Some conf.bridge) conf.mtu conf.hairpin ∷ inner_end att netns conf.mtu ∷ [] }
+bridge_share_before conf att netns = veth_share att netns (Some conf.bridge) conf.mtu conf.hairpin
 
 abbrev pub bridge_share_after : BridgeConf → Att → List ℕ → List Given → Share
 bridge_share_after conf att netns given = record no_objects {
@@ -44,7 +45,7 @@ gateway_calls conf given = if conf.is_gateway then map (GatewayEnsure conf.bridg
 
 abbrev pub bridge_calls_before : BridgeConf → Att → List ℕ → List Call
 bridge_calls_before conf att netns =
-    BridgeEnsure conf.bridge conf.mtu conf.promisc ∷ VethAdd (host_end att netns (Some conf.bridge) conf.mtu conf.hairpin) (inner_end att netns conf.mtu) ∷ []
+    BridgeEnsure conf.bridge conf.mtu conf.promisc ∷ veth_pair att netns (Some conf.bridge) conf.mtu conf.hairpin ∷ []
 
 abbrev pub bridge_calls_after : BridgeConf → Att → List ℕ → List Given → List Call
 bridge_calls_after conf att netns given =

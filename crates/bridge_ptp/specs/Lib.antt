@@ -3,3 +3,4 @@ pub mod Gateways
 pub mod Ptp
 pub mod PtpKeys
 pub mod Results
+pub mod Veth

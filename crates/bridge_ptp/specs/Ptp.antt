@@ -1,6 +1,7 @@
 -- The plan of the `ptp` plugin: a veth pair with routes on both ends and no bridge.
 use Rattle.std.specs.Prelude.{ℕ, Bool, false, List, [], ◌∷◌, ◌++◌, map, flat_map, filter_map, Option, Some, None}
 use Rattle.cni_addr.specs.Network.{whole}
+use Rattle.cni_addr.specs.declared.address.Addr.{Addr}
 use Rattle.net_conf.specs.declared.first.PtpConf.{PtpConf}
 use Rattle.kernel_types.specs.Apply.Calls.{is_same_addr, is_same_route}
 use Rattle.kernel_types.specs.Names.{host_name_of}
@@ -11,11 +12,12 @@ use Rattle.kernel_types.specs.declared.object.RouteObj.{RouteObj}
 use Rattle.kernel_types.specs.declared.call.Given.{Given}
 use Rattle.kernel_types.specs.declared.call.Kind.{Kind}
 use Rattle.kernel_types.specs.declared.call.Call.{Call}
-use Rattle.kernel_types.specs.declared.call.Call.TheVariants.{VethAdd, AddrAdd, RouteAdd, RuleAppend}
+use Rattle.kernel_types.specs.declared.call.Call.TheVariants.{AddrAdd, RouteAdd, RuleAppend}
 use Rattle.cni_addr.specs.Lists.{each_key_once}
-use Rattle.plan_words.specs.Shapes.{host_end, inner_end, address_on, route_by, route_on, masquerade_rules, forward_calls}
+use Rattle.plan_words.specs.Shapes.{address_on, route_by, route_on, masquerade_rules, forward_calls}
 use Rattle.plan_words.specs.Share.{Share, no_objects}
 use Rattle.bridge_ptp.specs.Bridge.{interface_kinds}
+use Rattle.bridge_ptp.specs.Veth.{veth_share, veth_pair}
 -- an address or a route, in the order in which they are asked for
 pub use Rattle.bridge_ptp.specs.declared.ptp.AddressOrRoute.{AddressOrRoute}
 pub use Rattle.bridge_ptp.specs.declared.ptp.AddressOrRoute.TheVariants.{Address, Route}
@@ -38,21 +40,28 @@ abbrev pub call_for : AddressOrRoute → Call
 call_for (Address obj) = AddrAdd obj
 call_for (Route obj) = RouteAdd obj
 
+-- on the host's end: the gateway as its address, and the way to the container's address
+abbrev pub gateway_on_host : Att → Addr → AddrObj
+gateway_on_host att gateway = record { ns = []; link = host_name_of att; cidr = whole gateway; tag = Own att }
+
+abbrev pub route_on_host : Att → Addr → RouteObj
+route_on_host att addr = record { ns = []; dst = whole addr; link = host_name_of att; gw = None; tag = Own att }
+
 -- what lies on both ends for one address
 abbrev pub ptp_objects_for : Att → List ℕ → Given → List AddressOrRoute
 ptp_objects_for att netns g =
     Address (address_on att netns g)
     ∷ Route (route_by att netns (whole g.gateway) None)
     ∷ Route (route_by att netns g.subnet (Some g.gateway))
-    ∷ Address (record { ns = []; link = host_name_of att; cidr = whole g.gateway; tag = Own att })
-    ∷ Route (record { ns = []; dst = whole g.address.addr; link = host_name_of att; gw = None; tag = Own att })
+    ∷ Address (gateway_on_host att g.gateway)
+    ∷ Route (route_on_host att g.address.addr)
     ∷ []
 
 abbrev pub ptp_objects : PtpConf → Att → List ℕ → List Given → List AddressOrRoute
 ptp_objects conf att netns given = each_key_once same_key (flat_map (ptp_objects_for att netns) given ++ map (λ r. Route (route_on att netns given r)) conf.ipam.routes)
 
 abbrev pub ptp_share_before : PtpConf → Att → List ℕ → Share
-ptp_share_before conf att netns = record no_objects { links = host_end att netns None conf.mtu false ∷ inner_end att netns conf.mtu ∷ [] }
+ptp_share_before conf att netns = veth_share att netns None conf.mtu false
 
 abbrev pub ptp_share_after : PtpConf → Att → List ℕ → List Given → Share
 ptp_share_after conf att netns given = record no_objects {
@@ -62,7 +71,7 @@ ptp_share_after conf att netns given = record no_objects {
 }
 
 abbrev pub ptp_calls_before : PtpConf → Att → List ℕ → List Call
-ptp_calls_before conf att netns = VethAdd (host_end att netns None conf.mtu false) (inner_end att netns conf.mtu) ∷ []
+ptp_calls_before conf att netns = veth_pair att netns None conf.mtu false ∷ []
 
 abbrev pub ptp_calls_after : PtpConf → Att → List ℕ → List Given → List Call
 ptp_calls_after conf att netns given = map call_for (ptp_objects conf att netns given) ++ (forward_calls given ++ map RuleAppend (masquerade_rules conf.ip_masq att given))

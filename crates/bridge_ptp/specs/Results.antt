@@ -2,6 +2,7 @@
 use Rattle.std.specs.Prelude.{ℕ, Bool, List, [], ◌∷◌, ◌++◌, map, Option, Some, None, if◌then◌else◌}
 use Rattle.std.specs.List.{list_any}
 use Rattle.cni_addr.specs.Equal.{cidr_eq}
+use Rattle.cni_addr.specs.declared.address.Cidr.{Cidr}
 use Rattle.cni_addr.specs.declared.address.Family.{Family}
 use Rattle.cni_addr.specs.declared.address.Family.TheVariants.{V4, V6}
 use Rattle.cni_result.specs.Versions.{mtu_since_1_1}
@@ -39,10 +40,14 @@ at_interface index ip = record { address = ip.address; gateway = ip.gateway; int
 
 -- ---- routes
 
+-- a route leads there
+abbrev pub has_destination : List RouteEntry → Cidr → Bool
+has_destination routes dst = list_any (λ r. cidr_eq r.dst dst) routes
+
 abbrev pub default_unless_there : List RouteEntry → Option IpEntry → List RouteEntry
 default_unless_there routes None = []
 default_unless_there routes (Some ip) =
-    if list_any (λ r. cidr_eq r.dst (default_route ip.address.addr.family)) routes
+    if has_destination routes (default_route ip.address.addr.family)
     then []
     else record { dst = default_route ip.address.addr.family; gw = ip.gateway } ∷ []
 

@@ -1,8 +1,6 @@
 //! The `bridge` plugin.
 
 ghost use Rattle.std.specs.Prelude.{◌≡◌, ◌++◌, ◌∷◌, [], option_to_list, Some, IfOk, OnOk, if◌then◌else◌};
-ghost use Rattle.std.specs.List.{list_any};
-ghost use Rattle.cni_addr.specs.Equal.{cidr_eq};
 ghost use Rattle.plan_words.specs.Shapes as shapes;
 ghost use Rattle.bridge_ptp.specs.Bridge as plan;
 ghost use Rattle.bridge_ptp.specs.Gateways as gateways;
@@ -48,14 +46,14 @@ pub fn bridge_before(
 
 /// Whether a route leads there.
 fn has_destination(entries: &[RouteEntry], dst: &Cidr) -> bool
-    ensures { result ≡ list_any (λ r. cidr_eq r.dst dst.now) entries.now }
+    ensures { result ≡ results.has_destination entries.now dst.now }
 {
     entries.iter().any(|r| r.dst == *dst)
 }
 
 /// The default route of the address's family, unless one is configured.
 pub(crate) fn missing_default_route(configured: &[RouteEntry], addr: &Addr) -> Option<Cidr>
-    ensures { let dst = shapes.default_route addr.now.family in option_to_list result ≡ (if list_any (λ r. cidr_eq r.dst dst) configured.now then [] else dst ∷ []) }
+    ensures { let dst = shapes.default_route addr.now.family in option_to_list result ≡ (if results.has_destination configured.now dst then [] else dst ∷ []) }
 {
     let dst = default_route(addr.family);
     if has_destination(configured, &dst) {

@@ -1,9 +1,6 @@
 //! The `ptp` plugin.
 
-ghost use Rattle.std.specs.Prelude.{◌≡◌, [], map, flat_map, fold, None, IfOk, OnOk};
-ghost use Rattle.cni_addr.specs.Network as network;
-ghost use Rattle.kernel_types.specs.Names.{host_name_of};
-ghost use Rattle.kernel_types.specs.declared.object.Tag.TheVariants as tags;
+ghost use Rattle.std.specs.Prelude.{◌≡◌, map, flat_map, fold, IfOk, OnOk};
 ghost use Rattle.cni_addr.specs.Lists.{each_key_once, push_unless_there};
 ghost use Rattle.plan_words.specs.Shapes as shapes;
 ghost use Rattle.bridge_ptp.specs.Ptp as plan;
@@ -81,7 +78,7 @@ pub fn ptp_before(
 
 /// The gateway is an address of the host's end.
 fn gateway_on_host(alloc: Global, att: &Att, gateway: &Addr) -> Result<AddrObj, NoMemory>
-    ensures { IfOk result (λ obj. obj ≡ record { ns = []; link = host_name_of att.now; cidr = network.whole gateway.now; tag = tags.Own att.now }) }
+    ensures { IfOk result (λ obj. obj ≡ plan.gateway_on_host att.now gateway.now) }
 {
     Ok(AddrObj {
         ns: Text::of(alloc, "")?,
@@ -93,7 +90,7 @@ fn gateway_on_host(alloc: Global, att: &Att, gateway: &Addr) -> Result<AddrObj, 
 
 /// The host reaches the address by its own end.
 fn route_on_host(alloc: Global, att: &Att, addr: &Addr) -> Result<RouteObj, NoMemory>
-    ensures { IfOk result (λ obj. obj ≡ record { ns = []; dst = network.whole addr.now; link = host_name_of att.now; gw = None; tag = tags.Own att.now }) }
+    ensures { IfOk result (λ obj. obj ≡ plan.route_on_host att.now addr.now) }
 {
     Ok(RouteObj {
         ns: Text::of(alloc, "")?,

@@ -1,8 +1,7 @@
 //! The veth pair between a container and the host.
 
 ghost use Rattle.std.specs.Prelude.{◌≡◌, IfOk};
-ghost use Rattle.kernel_types.specs.declared.call.Call.TheVariants.{VethAdd};
-ghost use Rattle.plan_words.specs.Shapes as shapes;
+ghost use Rattle.bridge_ptp.specs.Veth as veth;
 
 use cni_addr::{NoMemory, Text};
 use kernel_types::{Att, Call};
@@ -18,7 +17,7 @@ pub(crate) fn veth_pair(
     mtu: u32,
     hairpin: bool,
 ) -> Result<Call, NoMemory>
-    ensures { IfOk result (λ call. call ≡ VethAdd (shapes.host_end att.now netns.now master mtu hairpin) (shapes.inner_end att.now netns.now mtu)) }
+    ensures { IfOk result (λ call. call ≡ veth.veth_pair att.now netns.now master mtu hairpin) }
 {
     Ok(Call::VethAdd {
         host_end: host_end(alloc, att, netns, master, mtu, hairpin)?,

@@ -1,0 +1,15 @@
+-- The veth pair between a container and the host.
+use Rattle.std.specs.Prelude.{ℕ, Bool, List, [], ◌∷◌, Option}
+use Rattle.kernel_types.specs.declared.object.Att.{Att}
+use Rattle.kernel_types.specs.declared.call.Call.{Call}
+use Rattle.kernel_types.specs.declared.call.Call.TheVariants.{VethAdd}
+use Rattle.plan_words.specs.Shapes.{host_end, inner_end}
+use Rattle.plan_words.specs.Share.{Share, no_objects}
+
+-- both ends, the host's under this master
+abbrev pub veth_share : Att → List ℕ → Option (List ℕ) → ℕ → Bool → Share
+veth_share att netns master mtu hairpin = record no_objects { links = host_end att netns master mtu hairpin ∷ inner_end att netns mtu ∷ [] }
+
+-- the call that makes them
+abbrev pub veth_pair : Att → List ℕ → Option (List ℕ) → ℕ → Bool → Call
+veth_pair att netns master mtu hairpin = VethAdd (host_end att netns master mtu hairpin) (inner_end att netns mtu)
