@@ -44,4 +44,4 @@ pub use lists::{read_each, read_each_after, read_each_placed};
 pub use reading::{ReadEnd, read};
 pub use refusal::Refusal;
 pub use serde_json::{Map, Value};
-pub use writing::{LineNoMemory, line};
+pub use writing::line;

@@ -8,19 +8,16 @@ ghost use Rattle.serde_json.specs.Written.{has_float};
 ghost use Rattle.cni_json.specs.Json.{json_of, line_of};
 ghost use Rattle.cni_json.specs.WellFormed.{KeysAscend};
 
+use cni_addr::NoMemory;
 use serde_json::Value;
 use std::alloc::Global;
-
-/// Memory ran out while a line was written.
-#[derive(Clone, Copy, Debug, PartialEq, Eq)]
-pub struct LineNoMemory;
 
 /// The value on one line: its compact text, which has no space outside texts, and a line feed.
 ///
 /// The members of an object stand in ascending byte order of their keys, as a `Map` keeps them.
 /// It takes time and memory in proportion to the line. It asks that each number be a `u64` or an
 /// `i64`, as in each value that `read` gives.
-pub fn line(alloc: Global, value: &Value) -> Result<Vec<u8>, LineNoMemory>
+pub fn line(alloc: Global, value: &Value) -> Result<Vec<u8>, NoMemory>
     requires { has_float (view value.now) ≡ false }
     ensures text { IfOk result (λ text. text.items ≡ line_of (view value.now)) }
 
@@ -31,10 +28,10 @@ pub fn line(alloc: Global, value: &Value) -> Result<Vec<u8>, LineNoMemory>
         → KeysAscend (view value.now)) }
 {
     let Ok(mut text) = value.to_vec(alloc) else {
-        return Err(LineNoMemory);
+        return Err(NoMemory);
     };
     if text.push(b'\n').is_err() {
-        return Err(LineNoMemory);
+        return Err(NoMemory);
     }
     Ok(text)
 }

@@ -16,7 +16,7 @@ use crate::members::{JsonObject, ToJson};
 use crate::result::{AddResult, Dns, Interface, IpEntry, RouteEntry};
 use crate::version::{Version, mtu_since_1_1, version_text};
 use cni_addr::{Addr, Cidr, Mac, NoMemory, write_addr, write_cidr, write_mac};
-use cni_json::{LineNoMemory, line};
+use cni_json::line;
 use serde_json::Value;
 use std::alloc::Global;
 
@@ -150,10 +150,7 @@ pub fn result_line(alloc: Global, added: &AddResult) -> Result<Vec<u8>, NoMemory
     ensures again { IfOk result (λ text. IsReadable added.now → result_of_bytes text.items ≡ Ok added.now) }
 {
     let value = to_value(alloc, added)?;
-    match line(alloc, &value) {
-        Ok(text) => Ok(text),
-        Err(LineNoMemory) => Err(NoMemory),
-    }
+    line(alloc, &value)
 }
 
 /// The error as JSON.
