@@ -150,7 +150,8 @@ pub fn result_line(alloc: Global, added: &AddResult) -> Result<Vec<u8>, NoMemory
     ensures again { IfOk result (λ text. IsReadable added.now → result_of_bytes text.items ≡ Ok added.now) }
 {
     let value = to_value(alloc, added)?;
-    line(alloc, &value)
+    let text = line(alloc, &value)?;
+    Ok(text)
 }
 
 /// The error as JSON.

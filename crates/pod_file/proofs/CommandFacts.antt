@@ -2,7 +2,6 @@
 use Rattle.std.proofs.Common.{◌≡◌, ℕ, zero, suc, ◌+◌, ◌≤◌, ◌<◌, ◌^◌, Bool, true, false, not, List, [], ◌∷◌, ◌++◌, length, codes, Option, Some, None, Ok, Err, refl, sym, ap, ◌∙◌, subst, arith}
 use Rattle.std.specs.Prelude.{◌||◌, if◌then◌else◌, nat_le, is_some, All, slice_get}
 use Rattle.std.specs.List.{list_any}
-use Rattle.std.specs.Str.{bytes_eq}
 use Rattle.std.proofs.lemmas.Bool.Decides.{nat_tests}
 use Rattle.std.proofs.lemmas.List.{length-append}
 use Rattle.std.proofs.lemmas.List.Elements.{All-nil, All-cons, All-head, All-tail}
@@ -12,11 +11,11 @@ use Rattle.cni_json.specs.Each.{list_or}
 use Rattle.cni_json.specs.Fields.{text_field, list_field, u32_field, u64_of}
 use Rattle.cni_json.specs.declared.fields.Field.{Field}
 use Rattle.cni_json.specs.declared.fields.Field.TheVariants.{Absent, WrongKind, Here}
+use Rattle.kernel_types.specs.Texts.{table_named}
 use Rattle.kernel_types.specs.declared.object.Table.{Table}
-use Rattle.kernel_types.specs.declared.object.Table.TheVariants.{Nat, Filter}
 use Rattle.cni_json.proofs.Endings.{goes, ok_same, passed, went_on, each_all, each_from_all}
 use Rattle.cni_json.proofs.WholeNumbers.{u32_of-fits}
-use Rattle.pod_file.specs.Commands.{command_object, verb_at, needs_table, texts_at, table_of, table_at, stop_of, stop_at, is_call_number, fault_of, fault_at, faults_at, command_at}
+use Rattle.pod_file.specs.Commands.{command_object, verb_at, needs_table, texts_at, table_or_wrong, table_of, table_at, stop_of, stop_at, is_call_number, fault_of, fault_at, faults_at, command_at}
 use Rattle.pod_file.specs.Members.{list_at, mappings_at, valid_at}
 use Rattle.pod_file.specs.Refusals.{wrong_key}
 use Rattle.pod_file.specs.Rounds.{command_in, round_at, rounds_of, rounds_at, command_count, is_exclusive, is_alone, each_alone, numbered, round_numbered, all_numbered}
@@ -33,10 +32,9 @@ use Rattle.pod_file.specs.declared.place.CommandPlace.{CommandPlace}
 abbrev HasTable : Verb → Option Table → Type 0
 HasTable verb table = verb ≡ verbs.Flush → is_some table ≡ true
 
-table_by-ok : (nat filter : Bool) (verb : Verb) (e : PodError) (table : Option Table) → (if nat then Ok (Some Nat) else if filter then Ok (Some Filter) else Err e) ≡ Ok table → HasTable verb table
-table_by-ok true filter verb e table is = subst (HasTable verb) (ok_same is) (λ flush. refl)
-table_by-ok false true verb e table is = subst (HasTable verb) (ok_same is) (λ flush. refl)
-table_by-ok false false verb e table is = cc
+table_or_wrong-ok : (place : CommandPlace) (named : Option Table) (verb : Verb) (table : Option Table) → table_or_wrong place named ≡ Ok table → HasTable verb table
+table_or_wrong-ok place None verb table is = cc
+table_or_wrong-ok place (Some named) verb table is = subst (HasTable verb) (ok_same is) (λ flush. refl)
 
 no_table-ok : (verb : Verb) (e : PodError) (table : Option Table) → (if needs_table verb then Err e else Ok None) ≡ Ok table → HasTable verb table
 no_table-ok verbs.Flush e table is = cc
@@ -45,7 +43,7 @@ no_table-ok verb e table is = λ flush. cc
 table_of-ok : (place : CommandPlace) (verb : Verb) (f : Field (List ℕ)) (table : Option Table) → table_of place verb f ≡ Ok table → HasTable verb table
 table_of-ok place verb Absent table is = no_table-ok verb _ table is
 table_of-ok place verb WrongKind table is = cc
-table_of-ok place verb (Here text) table is = table_by-ok (bytes_eq text (codes "nat")) (bytes_eq text (codes "filter")) verb _ table is
+table_of-ok place verb (Here text) table is = table_or_wrong-ok place (table_named text) verb table is
 
 table_at-ok : (place : CommandPlace) (verb : Verb) (d : Data) (table : Option Table) → table_at place verb d ≡ Ok table → HasTable verb table
 unfolding table_at

@@ -1,6 +1,6 @@
 -- What the opening of a pod file keeps that is read.
-use Rattle.std.proofs.Common.{◌≡◌, ℕ, ◌+◌, Bool, true, false, not, List, [], ◌∷◌, ◌++◌, codes, Ok, Err, refl, sym, ◌∙◌, subst}
-use Rattle.std.specs.Prelude.{◌&&◌, ◌||◌, if◌then◌else◌, map, is_none}
+use Rattle.std.proofs.Common.{◌≡◌, ℕ, ◌+◌, Bool, true, false, not, List, [], ◌∷◌, ◌++◌, codes, Some, None, Ok, refl, sym, ◌∙◌, subst}
+use Rattle.std.specs.Prelude.{◌&&◌, ◌||◌, if◌then◌else◌, ok_or, map, is_none}
 use Rattle.std.specs.List.{list_any}
 use Rattle.std.specs.Str.{bytes_eq}
 use Rattle.std.proofs.lemmas.Bool.{or_parts}
@@ -73,7 +73,7 @@ namespaces_at-ok d names is = namespaces_of-ok (list_field (codes "namespaces") 
 abbrev IsShared : LinkKind → Type 0
 IsShared kind = is_shared_kind kind ≡ true
 
-kind_by-ok : (device bridge : Bool) (e : PodError) (kind : LinkKind) → (if device then Ok Device else if bridge then Ok Bridge else Err e) ≡ Ok kind → IsShared kind
+kind_by-ok : (device bridge : Bool) (e : PodError) (kind : LinkKind) → ok_or (if device then Some Device else if bridge then Some Bridge else None) e ≡ Ok kind → IsShared kind
 kind_by-ok true bridge e kind is = subst IsShared (ok_same is) refl
 kind_by-ok false true e kind is = subst IsShared (ok_same is) refl
 kind_by-ok false false e kind is = cc
