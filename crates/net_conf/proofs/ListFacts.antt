@@ -10,7 +10,7 @@ use Rattle.cni_json.specs.declared.reading.ReadEnd.TheVariants as ends
 use Rattle.cni_json.proofs.Endings.{goes, ok_same, passed}
 use Rattle.net_conf.proofs.JsonOrder.{IsOrdered, json_of-ordered}
 use Rattle.net_conf.proofs.PluginFacts.{chain_at-ok}
-use Rattle.net_conf.specs.List.{read_or_refused, version_at, name_of, name_at, switch_at, list_at, list_of}
+use Rattle.net_conf.specs.List.{read_or_refused, version_at, name_of, name_at, switch_at, disable_check_key, disable_gc_key, list_at, list_of}
 use Rattle.net_conf.specs.Members.{object_at}
 use Rattle.net_conf.specs.Names.{is_network_name}
 use Rattle.net_conf.specs.Outside.{supported}
@@ -38,8 +38,8 @@ list_at-ok d list order is =
     let version = goes (version_at d) _ list form.rest in
     let versions = goes (supported Nothing (codes "cniVersions") d) _ list version.rest in
     let name = goes (name_at d) _ list versions.rest in
-    let check = goes (switch_at (codes "disableCheck") d) _ list name.rest in
-    let gc = goes (switch_at (codes "disableGC") d) _ list check.rest in
+    let check = goes (switch_at disable_check_key d) _ list name.rest in
+    let gc = goes (switch_at disable_gc_key d) _ list check.rest in
     let plugins = goes (chain_at d) _ list gc.rest in
     let chain = chain_at-ok d plugins.value order plugins.first in
     subst IsWellFormedList (ok_same plugins.rest) (record {

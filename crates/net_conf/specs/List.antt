@@ -62,6 +62,13 @@ switch_of key (Some d) = invalid key
 unfoldable pub switch_at : List ℕ → Data → Result Bool ConfError
 switch_at key d = switch_of key (member_at key d)
 
+-- the keys that disable a verb (CNI specification, section 1, "Network configuration format")
+abbrev pub disable_check_key : List ℕ
+disable_check_key = codes "disableCheck"
+
+abbrev pub disable_gc_key : List ℕ
+disable_gc_key = codes "disableGC"
+
 -- a network list
 unfoldable pub list_at : Data → Result NetList ConfError
 list_at d = do
@@ -69,8 +76,8 @@ list_at d = do
   version ← version_at d
   _ ← supported Nothing (codes "cniVersions") d
   name ← name_at d
-  check ← switch_at (codes "disableCheck") d
-  gc ← switch_at (codes "disableGC") d
+  check ← switch_at disable_check_key d
+  gc ← switch_at disable_gc_key d
   plugins ← chain_at d
   Ok (record { version = version; name = name; disable_check = check; disable_gc = gc; first = plugins.first; chained = plugins.chained })
 

@@ -40,7 +40,7 @@ pub use chained::{Chained, FirewallConf, PortmapConf, Sysctl, TuningConf};
 pub use error::ConfError;
 pub use first::{BridgeConf, First, HostLocalConf, MacvlanConf, PtpConf};
 pub use laws::network_list_laws;
-pub use list::NetList;
+pub use list::{DISABLE_CHECK_KEY, DISABLE_GC_KEY, NetList};
 pub use members::{DEFAULT_MTU, is_mtu};
 pub use names::{is_container_id, is_interface_name, is_network_name};
 pub use read::read_list;

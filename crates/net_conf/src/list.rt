@@ -5,6 +5,12 @@ use crate::first::First;
 use cni_addr::{Items, Text};
 use cni_result::Version;
 
+/// The key of a list that disables CHECK.
+pub const DISABLE_CHECK_KEY: &str = "disableCheck";
+
+/// The key of a list that disables GC.
+pub const DISABLE_GC_KEY: &str = "disableGC";
+
 /// A network: its name, the version that its plugins are asked in, and the plugins in the order of ADD (CNI
 /// specification 1.1.0, section 1, "Configuration format").
 #[derive(PartialEq, Eq, Drop)]

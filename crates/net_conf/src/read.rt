@@ -8,7 +8,7 @@ ghost use Rattle.net_conf.specs.List as wanted;
 ghost use Rattle.net_conf.specs.Refusals.{is_want_of_memory};
 
 use crate::error::{ConfError, invalid, version_refused};
-use crate::list::NetList;
+use crate::list::{DISABLE_CHECK_KEY, DISABLE_GC_KEY, NetList};
 use crate::members::need_object;
 use crate::names::is_network_name;
 use crate::outside::{Accepted, supported};
@@ -41,8 +41,8 @@ fn list(alloc: Global, top: &Value) -> Result<NetList, ConfError>
     let version = version(alloc, top)?;
     supported(alloc, top, "cniVersions", Accepted::Nothing)?;
     let name = name(alloc, top)?;
-    let disable_check = switch(alloc, top, "disableCheck")?;
-    let disable_gc = switch(alloc, top, "disableGC")?;
+    let disable_check = check_disabled(alloc, top)?;
+    let disable_gc = gc_disabled(alloc, top)?;
     let plugins = plugin_chain(alloc, top)?;
     Ok(NetList {
         version,
@@ -76,6 +76,18 @@ fn name(alloc: Global, top: &Value) -> Result<Text, ConfError>
         Field::Here(name) if is_network_name(name) => Ok(Text::of(alloc, name)?),
         Field::Here(_) | Field::Absent | Field::WrongKind => Err(invalid(alloc, "name")),
     }
+}
+
+fn check_disabled(alloc: Global, top: &Value) -> Result<bool, ConfError>
+    ensures { GivesAs is_want_of_memory (λ b. b) result (wanted.switch_at wanted.disable_check_key (view top.now)) }
+{
+    switch(alloc, top, DISABLE_CHECK_KEY)
+}
+
+fn gc_disabled(alloc: Global, top: &Value) -> Result<bool, ConfError>
+    ensures { GivesAs is_want_of_memory (λ b. b) result (wanted.switch_at wanted.disable_gc_key (view top.now)) }
+{
+    switch(alloc, top, DISABLE_GC_KEY)
 }
 
 /// A truth value, or the text of one. Absent is false.

@@ -15,6 +15,7 @@ use Rattle.cni_verbs.specs.declared.answer.Skip.{Skip}
 use Rattle.cni_verbs.specs.declared.answer.Skip.TheVariants as skips
 use Rattle.kernel_text.specs.Dump.{dump_of}
 use Rattle.kernel_text.specs.Replies.{trace_data}
+use Rattle.net_conf.specs.List.{disable_check_key, disable_gc_key}
 use Rattle.pod_file.specs.Commands.{verb_text}
 use Rattle.pod_file.specs.declared.command.Command.{Command}
 use Rattle.pod_workers.specs.Plans.{commands_of}
@@ -23,10 +24,10 @@ use Rattle.pod_workers.specs.declared.plan.Entry.{Entry}
 
 -- ---- one answer
 
--- the key of the network list that disables a verb (CNI specification, section 1, "Network configuration format")
+-- the key of the network list that disables a verb
 abbrev pub skip_text : Skip → List ℕ
-skip_text skips.Check = codes "disableCheck"
-skip_text skips.Gc = codes "disableGC"
+skip_text skips.Check = disable_check_key
+skip_text skips.Gc = disable_gc_key
 
 -- the answer to VERSION (CNI specification, section 5, "Result Types")
 unfoldable pub versions_data : Version → Data

@@ -9,6 +9,7 @@ ghost use Rattle.pod_text.specs.Lines.{skip_text, versions_data, put_answer, ans
 use cni_addr::NoMemory;
 use cni_result::{JsonObject, Version, error_value, to_value};
 use cni_verbs::{Answer, Skip, memory_error};
+use net_conf::{DISABLE_CHECK_KEY, DISABLE_GC_KEY};
 use pod_file::{Command, verb_text};
 use serde_json::Value;
 use std::alloc::Global;
@@ -18,8 +19,8 @@ pub fn skip_text(skip: Skip) -> &'static str
     ensures { result.now ≡ skip_text skip }
 {
     match skip {
-        Skip::Check => "disableCheck",
-        Skip::Gc => "disableGC",
+        Skip::Check => DISABLE_CHECK_KEY,
+        Skip::Gc => DISABLE_GC_KEY,
     }
 }
 
