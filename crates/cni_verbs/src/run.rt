@@ -18,14 +18,11 @@ use crate::start::{first_outside, first_phase};
 use crate::wanted::{kinds_of, sets_of};
 use cni_addr::{Addr, Duplicate, Items, NoMemory};
 use kernel_types::{Call, Kind, Reply};
-use net_conf::NetList;
+use net_conf::{MOST_SETS, NetList};
 use pod_file::Command;
 use std::alloc::Global;
 use std::marker::Model;
 use std::mem::replace;
-
-/// The most sets that a list has.
-const MOST_SETS: usize = 65_536;
 
 /// The run of one command. It keeps how far it has come and what it was leased, and no replies.
 #[derive(Drop)]
@@ -53,9 +50,8 @@ impl Model for Run {
 }
 
 impl Run {
-    /// The run of a command of this list, or of a command of no network, before its first call. A list with more sets
-    /// than the 65,536 that a list is read with is refused as for want of memory. A garbage collection isn't a run: it
-    /// keeps owners and sweeps.
+    /// The run of a command of this list, or of a command of no network, before its first call. A list with more than
+    /// [`MOST_SETS`] sets is refused as for want of memory. A garbage collection isn't a run: it keeps owners and sweeps.
     ///
     /// It copies the list and the command, and keeps the copies until it is dropped. Texts are shared, so that takes
     /// time and memory in proportion to the ranges, routes and settings of the list, and to the mappings and valid

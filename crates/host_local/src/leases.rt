@@ -5,6 +5,7 @@ ghost use Rattle.std.specs.Option.{option_copied};
 ghost use Rattle.ip_pool.specs.NextAddress.{is_between, is_candidate};
 ghost use Rattle.cni_addr.specs.declared.range.RangeSet.{RangeSet};
 ghost use Rattle.kernel_types.specs.declared.call.Kind.TheVariants.{Leases};
+ghost use Rattle.net_conf.specs.Sets.{most_sets};
 ghost use Rattle.host_local.specs.Leases as leases;
 
 use cni_addr::{Addr, Cidr, Duplicate, Items, NoMemory, Range, RangeSet};
@@ -15,7 +16,7 @@ use std::alloc::Global;
 
 /// One lease of each set of the configuration, in order.
 pub fn lease_calls(alloc: Global, conf: &HostLocalConf, att: &Att) -> Result<Items<Call>, NoMemory>
-    requires { length conf.now.sets ≤ 65536 }
+    requires { length conf.now.sets ≤ most_sets }
     ensures { IfOk result (λ calls. calls ≡ leases.lease_calls_of conf.now.sets att.now) }
 {
     let mut calls = Items::new(alloc);

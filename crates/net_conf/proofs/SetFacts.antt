@@ -26,7 +26,7 @@ use Rattle.net_conf.proofs.RangeLemmas.{same_family}
 use Rattle.cni_json.specs.Each.{each, with_front}
 use Rattle.net_conf.specs.Ranges.{range_at}
 use Rattle.net_conf.specs.Routes.{destination_or_refused, destination_of, destination_at, hop_or_refused, hop_of, hop_at, route_at, routes_of, routes_at}
-use Rattle.net_conf.specs.Sets.{set_of, is_set, all_items, is_of_one_family, ranges_of, has_subnet, listed_at, item_count, is_set_count, one_if, well_formed, own_sets_of, separate, sets_at}
+use Rattle.net_conf.specs.Sets.{set_of, is_set, all_items, is_of_one_family, ranges_of, has_subnet, listed_at, item_count, most_sets, is_set_count, one_if, well_formed, own_sets_of, separate, sets_at}
 use Rattle.net_conf.specs.WellFormed.{IsWellFormedRange, IsWellFormedSet, IsWellFormedRoute}
 
 -- ---- a set
@@ -80,7 +80,7 @@ all_sets (set ∷ sets) apart one filled =
 -- what sets keep together
 pub record AreWellFormedSets (sets : List RangeSet) : Type 0 where
   pub some : 0 < length sets
-  pub few : length sets ≤ 65536
+  pub few : length sets ≤ most_sets
   pub each_set : All IsWellFormedSet sets
   pub apart : are_apart (ranges_of sets) ≡ true
 
@@ -95,7 +95,7 @@ own_sets_of-ok true d sets is =
     subst (λ (found : List RangeSet). (length found ≡ 1) × All IsFilled found) (ok_same read.rest)
     (refl, All-cons IsFilled set [] (filled, ranges) (All-nil IsFilled))
 
-counted : (n : ℕ) → is_set_count n ≡ true → (0 < n) × (n ≤ 65536)
+counted : (n : ℕ) → is_set_count n ≡ true → (0 < n) × (n ≤ most_sets)
 counted n h = (grind (arith, nat_tests), grind (arith, nat_tests))
 
 pub sets_at-ok : (d : Data) (sets : List RangeSet) → sets_at d ≡ Ok sets → AreWellFormedSets sets

@@ -75,9 +75,13 @@ abbrev pub item_count : Items → ℕ
 item_count no_items = 0
 item_count (item d ds) = suc (item_count ds)
 
--- one set or more, and not more than a set has a number for
+-- the most sets that a configuration has
+abbrev pub most_sets : ℕ
+most_sets = 65536
+
+-- one set or more, and not too many
 abbrev pub is_set_count : ℕ → Bool
-is_set_count n = nat_le 1 n && nat_le n 65536
+is_set_count n = nat_le 1 n && nat_le n most_sets
 
 -- as a number
 abbrev pub one_if : Bool → ℕ

@@ -13,7 +13,7 @@ use Rattle.cni_result.specs.declared.result.RouteEntry.{RouteEntry}
 use Rattle.ip_pool.specs.Pool.{are_apart}
 use Rattle.net_conf.specs.Names.{is_network_name, is_interface_name}
 use Rattle.net_conf.specs.PluginTypes.{type_eq, type_of_chained}
-use Rattle.net_conf.specs.Sets.{ranges_of, is_of_one_family}
+use Rattle.net_conf.specs.Sets.{ranges_of, is_of_one_family, most_sets}
 use Rattle.net_conf.specs.declared.chained.Chained.{Chained}
 use Rattle.net_conf.specs.declared.chained.Chained.TheVariants as later
 use Rattle.net_conf.specs.declared.chained.Sysctl.{Sysctl}
@@ -56,10 +56,10 @@ pub record IsWellFormedRoute (route : RouteEntry) : Type 0 where
   pub hop_is_addr : (gw : Addr) → route.gw ≡ Some gw → IsAddr gw
   pub hop_family : (gw : Addr) → route.gw ≡ Some gw → gw.family ≡ route.dst.addr.family
 
--- there are sets, each has a number below 65,536, and no two ranges of any two sets share an address
+-- there are sets, not too many, and no two ranges of any two sets share an address
 pub record IsWellFormedHostLocal (conf : HostLocalConf) : Type 0 where
   pub some : 0 < length conf.sets
-  pub few : length conf.sets ≤ 65536
+  pub few : length conf.sets ≤ most_sets
   pub sets : All IsWellFormedSet conf.sets
   pub apart : IsTrue (are_apart (ranges_of conf.sets))
   pub routes : All IsWellFormedRoute conf.routes

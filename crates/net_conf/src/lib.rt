@@ -44,3 +44,4 @@ pub use list::{DISABLE_CHECK_KEY, DISABLE_GC_KEY, NetList};
 pub use members::{DEFAULT_MTU, is_mtu};
 pub use names::{is_container_id, is_interface_name, is_network_name};
 pub use read::read_list;
+pub use sets::MOST_SETS;

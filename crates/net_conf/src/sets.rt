@@ -15,6 +15,9 @@ use cni_addr::{Family, Items, NoMemory, Range, RangeSet};
 use cni_json::{Field, Value, field_list, member, read_each, read_each_after};
 use std::alloc::Global;
 
+/// The most sets that a configuration has.
+pub const MOST_SETS: usize = 65_536;
+
 /// The set that the object's own `subnet` gives, and then those of its `ranges`.
 #[tactic(auto, using(cni_json::proofs::Steps::steps), unfolding(crate::specs::Sets::sets_at))]
 pub fn sets(alloc: Global, object: &Value) -> Result<Items<RangeSet>, ConfError>
@@ -62,9 +65,9 @@ fn is_set_count(has_own: bool, listed: &[Value]) -> bool
     ensures { result ≡ wanted.is_set_count (wanted.one_if has_own + wanted.item_count (items_view listed.now)) }
 {
     if has_own {
-        listed.len() <= 65_535
+        listed.len() < MOST_SETS
     } else {
-        1 <= listed.len() && listed.len() <= 65_536
+        1 <= listed.len() && listed.len() <= MOST_SETS
     }
 }
 
