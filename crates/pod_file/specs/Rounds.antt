@@ -36,10 +36,14 @@ abbrev pub command_count : List (List Command) → ℕ
 command_count [] = 0
 command_count (commands ∷ rounds) = length commands + command_count rounds
 
-unfoldable pub are_few : List (List Command) → Bool
-are_few rounds = nat_le (length rounds) 65536 && nat_le (command_count rounds) 65536
+-- the most rounds that a file may have, and the most commands
+abbrev pub file_limit : ℕ
+file_limit = 65536
 
--- at most 65,536 rounds and 65,536 commands
+-- neither the rounds nor the commands are too many
+unfoldable pub are_few : List (List Command) → Bool
+are_few rounds = nat_le (length rounds) file_limit && nat_le (command_count rounds) file_limit
+
 abbrev pub few : List (List Command) → Result ⊤ PodError
 few rounds = if are_few rounds then Ok tt else wrong (codes "rounds")
 

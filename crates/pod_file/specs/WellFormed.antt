@@ -5,7 +5,7 @@ use Rattle.kernel_types.specs.Equal.{tag_eq}
 use Rattle.kernel_types.specs.Sound.{AllPassTest, IsSound}
 use Rattle.kernel_types.specs.declared.object.Host.{Host}
 use Rattle.kernel_types.specs.declared.object.Tag.TheVariants.{Outside}
-use Rattle.pod_file.specs.Rounds.{is_exclusive}
+use Rattle.pod_file.specs.Rounds.{file_limit, is_exclusive}
 use Rattle.pod_file.specs.declared.command.Command.{Command}
 use Rattle.pod_file.specs.declared.command.Verb.TheVariants.{Flush}
 use Rattle.pod_file.specs.declared.pods.Pods.{Pods}
@@ -51,6 +51,6 @@ in_file_order (commands ∷ rounds) = commands ++ in_file_order rounds
 pub record IsWellFormedPods (pods : Pods) : Type 0 where
   pub opening : IsOpening pods.opening
   pub rounds : All IsWellFormedRound pods.rounds
-  pub few_rounds : length pods.rounds ≤ 65536
-  pub few_commands : length (in_file_order pods.rounds) ≤ 65536
+  pub few_rounds : length pods.rounds ≤ file_limit
+  pub few_commands : length (in_file_order pods.rounds) ≤ file_limit
   pub numbers : (n : ℕ) (command : Command) → slice_get (in_file_order pods.rounds) n ≡ Some command → command.number ≡ n + 1

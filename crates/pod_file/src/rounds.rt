@@ -66,7 +66,7 @@ pub fn are_few(rounds: &[Items<Command>]) -> bool
 }
 
 fn have_few_commands(rounds: &[Items<Command>]) -> bool
-    ensures { result ≡ nat_le (wanted.command_count rounds.now) 65536 }
+    ensures { result ≡ nat_le (wanted.command_count rounds.now) wanted.file_limit }
 {
     let mut left = LIMIT;
     for commands in rounds {
@@ -134,7 +134,7 @@ pub fn numbered(alloc: Global, rounds: Items<Items<Command>>) -> Items<Items<Com
 
 /// Numbers a round's commands from this number.
 fn number_round(alloc: Global, first: u32, commands: &mut Items<Command>)
-    requires { first + length commands.old ≤ 65537 }
+    requires { first + length commands.old ≤ wanted.file_limit + 1 }
     ensures { commands.new ≡ wanted.round_numbered first commands.old }
 {
     let taken = std::mem::replace(commands, Items::new(alloc));
@@ -143,7 +143,7 @@ fn number_round(alloc: Global, first: u32, commands: &mut Items<Command>)
 
 #[tactic(auto, using(crate::proofs::Numbering::numbers))]
 fn round_numbered(first: u32, commands: Items<Command>) -> Items<Command>
-    requires { first + length commands ≤ 65537 }
+    requires { first + length commands ≤ wanted.file_limit + 1 }
     ensures { result ≡ wanted.round_numbered first commands }
 {
     let mut commands = commands.into_vec();

@@ -1,6 +1,6 @@
 //! Rounds by one, two and four workers.
 
-ghost use Rattle.std.specs.Prelude.{◌≤◌, All, IfOk, length};
+ghost use Rattle.std.specs.Prelude.{◌<◌, ◌^◌, All, IfOk, length};
 ghost use Rattle.net_conf.specs.WellFormed.{IsWellFormedList};
 ghost use Rattle.pod_file.specs.WellFormed.{IsWellFormedPods};
 ghost use Rattle.pod_workers.specs.Plans.{IsWellFormed};
@@ -69,7 +69,7 @@ fn list_of(alloc: Global) -> Result<NetList, Fail>
 #[tactic(auto, using(crate::proofs::Formed::one_is_formed))]
 fn lists_of(alloc: Global) -> Result<Items<NetList>, Fail>
     ensures formed { IfOk result (λ lists. All IsWellFormedList lists) }
-    ensures few { IfOk result (λ lists. length lists ≤ 64) }
+    ensures few { IfOk result (λ lists. length lists < 2 ^ 32) }
 {
     let list = list_of(alloc)?;
     let mut lists = Items::new(alloc);
@@ -79,7 +79,7 @@ fn lists_of(alloc: Global) -> Result<Items<NetList>, Fail>
 
 fn joined(lists: Items<NetList>, pods: Pods) -> Result<Plan, Fail>
     requires lists { All IsWellFormedList lists }
-    requires few { length lists ≤ 64 }
+    requires few { length lists < 2 ^ 32 }
     requires pods { IsWellFormedPods pods }
     ensures { IfOk result IsWellFormed }
 {

@@ -10,6 +10,7 @@ use Rattle.cni_addr.specs.declared.memory.NoMemory.{NoMemory}
 use Rattle.cni_verbs.specs.declared.answer.Answer.{Answer}
 use Rattle.cni_verbs.specs.declared.answer.Answer.TheVariants.{OutOfMemory}
 use Rattle.kernel_types.specs.declared.object.Host.{Host}
+use Rattle.pod_file.specs.Rounds.{file_limit}
 use Rattle.pod_file.specs.declared.command.Command.{Command}
 use Rattle.pod_workers.specs.Extends.{Extends, IsOfRound, Rounds}
 use Rattle.pod_workers.specs.Legal.{Legal, turns}
@@ -242,7 +243,7 @@ pub round-there : (round : ℕ) {rounds seen : List (List Command)} {cs : List C
 round-there round {rounds} {seen} {cs} same is = ap (λ rs. slice_get rs round) (sym same) ∙ is
 
 pub round-fits : (host : Host) (slots : List (Option Slot)) (places : List Place) (before : ℕ) (w : World) (cs : List Command) → IsKept host slots places before w → slice_get w.plan.pods.rounds w.round ≡ Some cs
-    → (before + length cs ≤ 65536) × (w.round < 65536)
+    → (before + length cs ≤ file_limit) × (w.round < file_limit)
 round-fits host slots places before w cs kept is =
     let fits = placed-fits w.plan.pods.rounds w.round cs is in
     let all = ap length (placed-all w) in

@@ -14,6 +14,7 @@ use Rattle.net_conf.specs.declared.first.First.{First}
 use Rattle.net_conf.specs.declared.first.First.TheVariants as first
 use Rattle.net_conf.specs.declared.first.HostLocalConf.{HostLocalConf}
 use Rattle.net_conf.specs.declared.list.NetList.{NetList}
+use Rattle.pod_file.specs.Rounds.{file_limit}
 use Rattle.pod_file.specs.WellFormed.{IsWellFormedPods, in_file_order}
 use Rattle.pod_file.specs.declared.command.Command.{Command}
 use Rattle.pod_workers.specs.Plans.{IsWellFormed, Placed, commands_of, in_round, placed_from}
@@ -62,7 +63,7 @@ file_order : (p : Plan) → map (λ (c : Placed). c.command) (commands_of p) ≡
 unfolding commands_of
 file_order p = all_placed 0 p.pods.rounds
 
-pub few_commands : (p : Plan) → IsWellFormedPods p.pods → length (commands_of p) ≤ 65536
+pub few_commands : (p : Plan) → IsWellFormedPods p.pods → length (commands_of p) ≤ file_limit
 few_commands p formed =
     let same : length (commands_of p) ≡ length (in_file_order p.pods.rounds) = sym (length-map (commands_of p) (λ (c : Placed). c.command)) ∙ ap length (file_order p) in
     rw same formed.few_commands

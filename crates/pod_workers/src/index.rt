@@ -1,6 +1,7 @@
 //! Where each command stands, so that none is looked for.
 
 ghost use Rattle.std.specs.Prelude.{◌≡◌, ◌+◌, ◌<◌, ◌≤◌, ◌++◌, List, Some, IfOk, IsSome, OnOk, length, map, slice_get};
+ghost use Rattle.pod_file.specs.Rounds.{file_limit};
 ghost use Rattle.pod_file.specs.declared.command.Command.{Command};
 ghost use Rattle.pod_workers.specs.Index.{AreBefore, IsIndex, command_in, lets_through, may_step_by};
 ghost use Rattle.pod_workers.specs.Plans.{Placed, in_round, placed_from};
@@ -21,8 +22,8 @@ pub struct Place {
 
 /// The places of all commands, in file order.
 pub fn index_of(alloc: Global, rounds: &[Items<Command>]) -> Result<Vec<Place>, NoMemory>
-    requires few_rounds { length rounds.now ≤ 65536 }
-    requires few_commands { length (placed_from 0 rounds.now) ≤ 65536 }
+    requires few_rounds { length rounds.now ≤ file_limit }
+    requires few_commands { length (placed_from 0 rounds.now) ≤ file_limit }
     ensures { IfOk result (λ places. IsIndex rounds.now (placed_from 0 rounds.now) places.items) }
 {
     let mut places = Vec::new(alloc);
@@ -39,7 +40,7 @@ fn index_round(
     commands: &[Command],
     places: &mut Vec<Place>,
 ) -> Result<(), NoMemory>
-    requires { length places.old.items + length commands.now ≤ 65536 }
+    requires { length places.old.items + length commands.now ≤ file_limit }
     ensures { OnOk result ((rounds : List (List Command)) (before : List Placed) → slice_get rounds round ≡ Some commands.now → AreBefore round before → IsIndex rounds before places.old.items → IsIndex rounds (before ++ map (in_round round) commands.now) places.new.items) }
 {
     let mut latest: HashMap<Text, u32> = HashMap::new(alloc);

@@ -1,6 +1,6 @@
 //! Lists and a pod file as one plan.
 
-ghost use Rattle.std.specs.Prelude.{◌≡◌, ◌≤◌, ◌&&◌, [], is_some, length, not, position};
+ghost use Rattle.std.specs.Prelude.{◌≡◌, ◌<◌, ◌≤◌, ◌^◌, ◌&&◌, [], is_some, length, not, position};
 ghost use Rattle.std.specs.List.{list_any};
 ghost use Rattle.std.specs.Option.{option_copied};
 ghost use Rattle.std.specs.Str.{bytes_eq};
@@ -8,6 +8,7 @@ ghost use Rattle.pod_workers.specs.Join.{first_repeat_after, joined, plan_unless
 ghost use Rattle.pod_workers.specs.Laws.{JoinedPlansAreWellFormed};
 ghost use Rattle.pod_workers.specs.declared.plan.Plan.{Plan};
 ghost use Rattle.pod_file.specs.Commands.{is_of_network};
+ghost use Rattle.pod_file.specs.Rounds.{file_limit};
 ghost use Rattle.pod_workers.specs.Plans.{commands_of, list_in, list_named, placed_from};
 
 use crate::plan::{Plan, PlanError};
@@ -19,8 +20,8 @@ impl Plan {
     /// The plan of these lists and this pod file. Refused are, in this order, the first list that has the name of an
     /// earlier one, and the first command of a network that no list has.
     pub fn join(lists: Items<NetList>, pods: Pods, stop_at: Option<u32>) -> Result<Plan, PlanError>
-        requires few_lists { length lists ≤ 64 }
-        requires few_commands { length (commands_of (record { lists = lists; pods = pods; stop_at = stop_at })) ≤ 65536 }
+        requires few_lists { length lists < 2 ^ 32 }
+        requires few_commands { length (commands_of (record { lists = lists; pods = pods; stop_at = stop_at })) ≤ file_limit }
         ensures { result ≡ joined (record { lists = lists; pods = pods; stop_at = stop_at }) }
     {
         match refusal(lists.as_slice(), pods.rounds.as_slice()) {
@@ -64,8 +65,8 @@ fn lacks_list(lists: &[NetList], command: &Command) -> bool
 
 /// Why these make no plan, if they don't.
 fn refusal(lists: &[NetList], rounds: &[Items<Command>]) -> Option<PlanError>
-    requires few_lists { length lists.now ≤ 64 }
-    requires few_commands { length (placed_from 0 rounds.now) ≤ 65536 }
+    requires few_lists { length lists.now < 2 ^ 32 }
+    requires few_commands { length (placed_from 0 rounds.now) ≤ file_limit }
     ensures { (p : Plan) → p.lists ≡ lists.now → p.pods.rounds ≡ rounds.now → joined p ≡ plan_unless result p }
 {
     if let Some(list) = first_repeat(lists) {
@@ -87,7 +88,7 @@ fn without_list_in(lists: &[NetList], commands: &[Command]) -> Option<usize>
 
 /// The place of the first command of a network that no list has.
 fn first_without_list(lists: &[NetList], rounds: &[Items<Command>]) -> Option<u32>
-    requires { length (placed_from 0 rounds.now) ≤ 65536 }
+    requires { length (placed_from 0 rounds.now) ≤ file_limit }
     ensures { result ≡ position (λ c. is_of_network c.command.verb && not (is_some (list_in lists.now c.command))) (placed_from 0 rounds.now) }
 {
     let mut before: u32 = 0;
@@ -109,7 +110,7 @@ fn has_name(lists: &[NetList], name: &Text) -> bool
 
 /// The place of the first list that has the name of an earlier one.
 fn first_repeat(lists: &[NetList]) -> Option<u32>
-    requires { length lists.now ≤ 64 }
+    requires { length lists.now < 2 ^ 32 }
     ensures { result ≡ first_repeat_after [] 0 lists.now }
 {
     for (place, list) in lists.iter().enumerate() {

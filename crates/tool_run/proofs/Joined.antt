@@ -6,6 +6,7 @@ use Rattle.net_conf.specs.List.{list_of}
 use Rattle.net_conf.specs.WellFormed.{IsWellFormedList}
 use Rattle.net_conf.specs.declared.list.NetList.{NetList}
 use Rattle.pod_file.specs.PodFile.{pods_of}
+use Rattle.pod_file.specs.Rounds.{file_limit}
 use Rattle.pod_file.specs.WellFormed.{IsWellFormedPods}
 use Rattle.pod_file.specs.declared.pods.Pods.{Pods}
 use Rattle.pod_workers.specs.Join.{joined}
@@ -27,7 +28,7 @@ lists_formed law (list ∷ lists) all =
     let read = All-get_or IsReadList (list ∷ lists) 0 list (omega arith) all in
     All-cons IsWellFormedList list lists (law read.0 list read.1) (lists_formed law lists (All-drop IsReadList 1 (list ∷ lists) all))
 
-pub read_pods_are_few : PodsLaw → (p : Plan) → IsReadPods p.pods → length (commands_of p) ≤ 65536
+pub read_pods_are_few : PodsLaw → (p : Plan) → IsReadPods p.pods → length (commands_of p) ≤ file_limit
 read_pods_are_few law p read = few_commands p (law read.0 p.pods read.1)
 
 pub read_plan_is_well_formed : ListLaw → PodsLaw → JoinedPlansAreWellFormed → (p q : Plan) → All IsReadList p.lists → IsReadPods p.pods → joined p ≡ Ok q → IsWellFormed q

@@ -1,6 +1,7 @@
 //! What lists and pods that were read make. The function does nothing: a caller gets the law by calling it.
 
 ghost use Rattle.std.specs.Prelude.{◌≡◌, ◌≤◌, All, Ok, length};
+ghost use Rattle.pod_file.specs.Rounds.{file_limit};
 ghost use Rattle.pod_workers.specs.Join.{joined};
 ghost use Rattle.pod_workers.specs.Plans.{IsWellFormed, commands_of};
 ghost use Rattle.pod_workers.specs.declared.plan.Plan.{Plan};
@@ -12,7 +13,7 @@ use pod_workers::joined_plans_are_well_formed;
 
 /// Lists and pods that were read have few commands, and make a well-formed plan where they make one.
 pub(crate) fn read_plans_are_well_formed()
-    ensures few { (p : Plan) → IsReadPods p.pods → length (commands_of p) ≤ 65536 }
+    ensures few { (p : Plan) → IsReadPods p.pods → length (commands_of p) ≤ file_limit }
     ensures well_formed { (p q : Plan) → All IsReadList p.lists → IsReadPods p.pods → joined p ≡ Ok q → IsWellFormed q }
 {
     network_list_laws();

@@ -2,6 +2,7 @@
 
 ghost use Rattle.std.specs.Prelude.{◌≡◌, ◌≤◌, ◌<◌, ◌^◌, ◌∷◌, [], IfOk, IfErr, All, length};
 ghost use Rattle.pod_workers.specs.Plans.{IsWellFormed};
+ghost use Rattle.tool_words.specs.Command.{most_lists};
 ghost use Rattle.tool_run.specs.Causes.{GivesTold, IsReadList, IsReadPods, Steps, StopsUnread, StopsWith};
 ghost use Rattle.tool_run.specs.Lines.{error_line, unread_line, word_line};
 ghost use Rattle.tool_run.specs.Verdict.{bytes_in, list_in, lists_in, plan_of, pods_in, told_list, told_plan, told_pods};
@@ -35,7 +36,7 @@ pub(crate) enum Stop {
 /// Reads the pod file, then each network list in order, and joins them.
 #[tactic(auto, using(crate::proofs::Stopping::stopping), unfolding(crate::specs::Verdict::plan_of))]
 pub(crate) fn read_plan<F: Files>(alloc: Global, files: &mut F, words: &Words) -> Result<Plan, Stop>
-    requires { length words.now.lists ≤ 64 }
+    requires { length words.now.lists ≤ most_lists }
     ensures gives { Steps (λ plan. plan) (F.files files.old) (F.faults files.old) (F.faults files.new)
         (words.now.pods ∷ words.now.lists) (λ stored. plan_of stored words.now) result }
     ensures well_formed { IfOk result IsWellFormed }
@@ -50,7 +51,7 @@ pub(crate) fn read_plan<F: Files>(alloc: Global, files: &mut F, words: &Words) -
 
 #[tactic(auto, using(crate::proofs::Stopping::stopping), unfolding(crate::specs::Verdict::told_plan))]
 fn join(alloc: Global, words: &Words, pods: Pods, lists: Items<NetList>) -> Result<Plan, Stop>
-    requires few { length lists ≤ 64 }
+    requires few { length lists ≤ most_lists }
     requires pods_read { IsReadPods pods }
     requires lists_read { All IsReadList lists }
     ensures gives { GivesTold result (told_plan words.now pods lists) }

@@ -2,6 +2,7 @@
 //! files and the sink of the other tests.
 
 ghost use Rattle.std.specs.Prelude.{◌≤◌, IfOk, length};
+ghost use Rattle.tool_words.specs.Command.{most_lists};
 
 use crate::carry::begin;
 use crate::plan::read_plan;
@@ -69,7 +70,7 @@ pub(crate) fn sink_of(alloc: Global) -> Result<MemSink, Fail> {
 }
 
 fn words(alloc: Global) -> Result<Words, NoMemory>
-    ensures { IfOk result (λ words. length words.lists ≤ 64) }
+    ensures { IfOk result (λ words. length words.lists ≤ most_lists) }
 {
     let mut lists = Items::new(alloc);
     lists.push(Text::of(alloc, "net.json")?)?;

@@ -1,4 +1,5 @@
 use Rattle.std.proofs.Common.{◌∙◌}
+use Rattle.pod_file.specs.Rounds.{file_limit}
 use Rattle.pod_workers.proofs.Indexed.{index-fits, index-is-whole, index-nothing, index-round-more}
 use Rattle.pod_workers.proofs.index.index_of.Goals as goal
 
@@ -7,7 +8,7 @@ loop-round-init c = rw c.new-places.ensures.items (index-nothing c.args.rounds.n
 
 pub index_round-requires : goal.index_round-requires
 index_round-requires c =
-    index-fits c.args.rounds.now c.loop-round.round c.as_slice.result.now c.index-rounds-round.result c.loop-round.places.items 65536 c.loop-round.invariant c.loop-round-test.true
+    index-fits c.args.rounds.now c.loop-round.round c.as_slice.result.now c.index-rounds-round.result c.loop-round.places.items file_limit c.loop-round.invariant c.loop-round-test.true
     (c.as_slice.ensures ∙ c.index-rounds-round.is) c.requires.few_commands
 
 pub loop-round-preserved : goal.loop-round-preserved
