@@ -6,11 +6,11 @@ ghost use Rattle.pod_file.specs.WellFormed.{IsWellFormedPods};
 ghost use Rattle.pod_workers.specs.Plans.{IsWellFormed};
 
 use crate::{Gate, OpenGate, Rounded, round_threads};
-use cni_addr::{Duplicate, Items};
+use cni_addr::Items;
 use kernel_model::ListKernel;
 use net_conf::{NetList, network_list_laws, read_list};
 use pod_file::{Pods, pod_file_laws, read_pods};
-use pod_workers::{Book, Plan, joined_plans_are_well_formed};
+use pod_workers::{Book, Plan, begin_on_lists, joined_plans_are_well_formed};
 use std::alloc::Global;
 use std::sync::Wait;
 use std::sync::atomic::{AtomicBool, AtomicU64, Ordering};
@@ -101,8 +101,7 @@ fn plan_of(alloc: Global, text: &str) -> Result<Plan, Fail>
 /// The book of these pods as it is begun.
 fn book_of(alloc: Global, text: &str) -> Result<Book<ListKernel>, Fail> {
     let plan = plan_of(alloc, text)?;
-    let opening = plan.pods.opening.copy()?;
-    Ok(Book::begin(alloc, plan, ListKernel::of_host(opening))?)
+    Ok(begin_on_lists(alloc, plan)?)
 }
 
 /// The book after its round, and the workers' counts.

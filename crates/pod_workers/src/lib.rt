@@ -17,6 +17,7 @@
 //! ```
 #![tactic(auto)]
 
+pub mod begun;
 pub mod book;
 mod index;
 mod join;
@@ -25,6 +26,7 @@ pub mod plan;
 mod slots;
 mod task;
 
+pub use begun::begin_on_lists;
 pub use book::Book;
 pub use join::joined_plans_are_well_formed;
 pub use laws::{

@@ -4,12 +4,11 @@ ghost use Rattle.std.specs.Prelude.{◌≡◌, ◌≤◌, IfOk, length};
 ghost use Rattle.pod_workers.specs.Legal.{Legal};
 ghost use Rattle.pod_workers.specs.Order.{IsInFileOrder};
 ghost use Rattle.pod_workers.specs.Plans.{IsWellFormed};
-ghost use Rattle.pod_workers.specs.World.{begun};
 ghost use Rattle.tool_run.specs.Rounds.{KeepsFileOrder, MakesRounds};
 
-use cni_addr::{Duplicate, NoMemory};
+use cni_addr::NoMemory;
 use kernel_model::ListKernel;
-use pod_workers::{Book, Plan};
+use pod_workers::{Book, Plan, begin_on_lists};
 use std::alloc::Global;
 
 /// The plan's book over the kernel of lists, with every round made by a function that is handed in.
@@ -28,20 +27,9 @@ pub(crate) fn carry_out<M: Fn(Book<ListKernel>, u8) -> Book<ListKernel>>(
     ensures legal { IfOk result Legal }
     ensures order { IfOk result (λ book. KeepsFileOrder M.Fn make.now threads → IsInFileOrder book) }
 {
-    let book = begin(alloc, plan)?;
+    let book = begin_on_lists(alloc, plan)?;
     let book = make_rounds(make, book, threads);
     book.is_legal();
-    Ok(book)
-}
-
-/// The plan's book over the kernel of lists, as it is begun.
-pub(crate) fn begin(alloc: Global, plan: Plan) -> Result<Book<ListKernel>, NoMemory>
-    requires { IsWellFormed plan }
-    ensures begun { IfOk result (λ book. book ≡ begun plan) }
-    ensures order { IfOk result IsInFileOrder }
-{
-    let opening = plan.pods.opening.copy()?;
-    let book = Book::begin(alloc, plan, ListKernel::of_host(opening))?;
     Ok(book)
 }
 

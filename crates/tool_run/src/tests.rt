@@ -4,14 +4,13 @@
 ghost use Rattle.std.specs.Prelude.{◌≤◌, IfOk, length};
 ghost use Rattle.tool_words.specs.Command.{most_lists};
 
-use crate::carry::begin;
 use crate::plan::read_plan;
 use cni_addr::{Items, NoMemory, Text};
 use cni_io::{MemFiles, MemSink};
 use cni_verbs::Answer;
 use kernel_model::ListKernel;
 use kernel_text::reply_text;
-use pod_workers::{Book, Entry};
+use pod_workers::{Book, Entry, begin_on_lists};
 use std::alloc::Global;
 use std::mem::size_of;
 use std::test::Fail;
@@ -89,7 +88,7 @@ fn book_of(alloc: Global, pods: &str) -> Result<Book<ListKernel>, Fail> {
     let mut files = files_of(alloc, pods)?;
     let words = words(alloc)?;
     match read_plan(alloc, &mut files, &words) {
-        Ok(plan) => Ok(begin(alloc, plan)?),
+        Ok(plan) => Ok(begin_on_lists(alloc, plan)?),
         Err(_) => Err("the files make no plan".into()),
     }
 }
