@@ -41,7 +41,6 @@ pub fn round_threads<R: Threads + Wait + Sync, K: Kernel + Send + Drop, G: Gate>
     gate: &G,
 ) -> Result<Rounded<K>, Book<K>>
     requires some { 1 ≤ n }
-    requires few { n ≤ 16 }
     requires left { book.round < length book.plan.pods.rounds }
     ensures rounds { IfOk result (λ r. Rounds book r.book) }
     ensures many { IfOk result (λ r. length r.counts ≡ n) }

@@ -112,7 +112,7 @@ fn round<R: Threads + Wait + Sync, G: Gate>(
     workers: u8,
     gate: &G,
 ) -> Result<Rounded<ListKernel>, Fail> {
-    if book.ended() || workers == 0 || 16 < workers {
+    if book.ended() || workers == 0 {
         return Err("there is no such round".into());
     }
     match round_threads(rt, alloc, book, workers, gate) {

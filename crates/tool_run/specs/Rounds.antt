@@ -7,7 +7,7 @@ use Rattle.pod_workers.specs.World.{World}
 
 -- a function of a book, and of how many threads are asked for, that makes the book's current round
 pub record MakesRounds {M : Type 0} (calls : Shared M (World × (ℕ × Unit {0})) World) (make : M) : Type 0 where
-  pub can : (book : World) (threads : ℕ) → 1 ≤ threads → threads ≤ 16 → book.round < length book.plan.pods.rounds → calls.pre make (book, (threads, tt))
+  pub can : (book : World) (threads : ℕ) → 1 ≤ threads → book.round < length book.plan.pods.rounds → calls.pre make (book, (threads, tt))
   pub makes : (book made : World) (threads : ℕ) → calls.post make (book, (threads, tt)) made → Rounds book made
 
 -- the rounds that it makes go in the order of the file, with so many threads asked for

@@ -20,7 +20,6 @@ pub(crate) fn carry_out<M: Fn(Book<ListKernel>, u8) -> Book<ListKernel>>(
 ) -> Result<Book<ListKernel>, NoMemory>
     requires well_formed { IsWellFormed plan }
     requires some { 1 ≤ threads }
-    requires few { threads ≤ 16 }
     requires makes { MakesRounds M.Fn make.now }
     ensures plan { IfOk result (λ book. book.plan ≡ plan) }
     ensures over { IfOk result (λ book. length plan.pods.rounds ≤ book.round) }
@@ -40,7 +39,6 @@ fn make_rounds<M: Fn(Book<ListKernel>, u8) -> Book<ListKernel>>(
     threads: u8,
 ) -> Book<ListKernel>
     requires some { 1 ≤ threads }
-    requires few { threads ≤ 16 }
     requires makes { MakesRounds M.Fn make.now }
     ensures plan { result.plan ≡ book.plan }
     ensures over { length book.plan.pods.rounds ≤ result.round }

@@ -21,7 +21,6 @@ pub(crate) fn make_round<R: Threads + Wait + Sync, G: Gate>(
     gate: &G,
 ) -> Book<ListKernel>
     requires some { 1 ≤ threads }
-    requires few { threads ≤ 16 }
     requires left { book.round < length book.plan.pods.rounds }
     ensures rounds { Rounds book result }
     ensures order { threads ≡ 1 → IsInFileOrder book → IsInFileOrder result }

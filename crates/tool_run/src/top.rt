@@ -56,7 +56,7 @@ pub fn run<R: Threads + Wait + Sync, F: Files, S: Sink, G: Gate>(
 {
     run_by(
         &|book: Book<ListKernel>, threads: u8|
-            requires { IsSync R.row × IsSync G.row × (1 ≤ threads) × (threads ≤ 16) × (book.round < length book.plan.pods.rounds) }
+            requires { IsSync R.row × IsSync G.row × (1 ≤ threads) × (book.round < length book.plan.pods.rounds) }
             ensures rounds { Rounds book result }
             ensures order { threads ≡ 1 → IsInFileOrder book → IsInFileOrder result }
         { make_round(rt, alloc, book, threads, gate) },
