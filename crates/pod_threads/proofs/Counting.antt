@@ -49,16 +49,15 @@ rounds-after u v w e r = record { last = r.last; legal = r.legal; extends = exte
 pub rounds-more : (u w : World) → Rounds u w → entries_of_round u.plan u.round w.history + length u.history ≡ entries_of_round u.plan u.round u.history + length w.history
 rounds-more u w r = subst (λ (v : World). entries_of_round u.plan u.round v.history + length u.history ≡ entries_of_round u.plan u.round u.history + length v.history) (sym r.next_is) (entries-more u r.last r.extends)
 
-no-shorter : (u w : World) → Rounds u w → length u.history ≤ length w.history
+pub no-shorter : (u w : World) → Rounds u w → length u.history ≤ length w.history
 no-shorter u w r =
     let long = ap length r.extends.entries.1 ∙ length-append u.history r.extends.entries.0 in
     let same = ap (λ (v : World). length v.history) r.next_is in
     omega (arith, long, same)
 
 -- the workers made so many entries, so many stood before, and the rest was made at the end
-pub whole-count : (u v w : World) (made before short long total : ℕ) → Extends u v → Rounds v w → length v.history ≡ length u.history + made → before ≡ entries_of_round u.plan u.round u.history
-    → short ≡ length v.history → long ≡ length w.history → total ≡ made + (before + (long - short)) → total ≡ entries_of_round u.plan u.round w.history
-whole-count u v w made before short long total e r made_is before_is short_is long_is total_is =
+pub whole-count : (u v w : World) (made before rest total : ℕ) → Extends u v → Rounds v w → length v.history ≡ length u.history + made → before ≡ entries_of_round u.plan u.round u.history
+    → length w.history ≡ length v.history + rest → total ≡ made + (before + rest) → total ≡ entries_of_round u.plan u.round w.history
+whole-count u v w made before rest total e r made_is before_is rest_is total_is =
     let more = rounds-more u w (rounds-after u v w e r) in
-    let least = no-shorter v w r in
-    omega (arith, more, least, made_is, before_is, short_is, long_is, total_is)
+    omega (arith, more, made_is, before_is, rest_is, total_is)

@@ -17,6 +17,7 @@
 #![tactic(auto)]
 
 mod counts;
+mod crew;
 pub mod gate;
 mod owners;
 pub mod round;

@@ -1,14 +1,13 @@
 //! A round by several workers.
 
-ghost use Rattle.std.specs.Prelude.{◌≡◌, ◌<◌, ◌≤◌, length, sum, IfOk, IfErr};
+ghost use Rattle.std.specs.Prelude.{◌≡◌, ◌+◌, ◌<◌, ◌≤◌, length, sum, IfOk, IfErr};
 ghost use Rattle.pod_workers.specs.Extends.{Rounds};
 ghost use Rattle.pod_threads.specs.Counted.{entries_of_round};
 
 use crate::counts::{add_first, entries_of_current};
+use crate::crew::Crew;
 use crate::gate::Gate;
-use crate::owners::share_out;
 use crate::shared::{Origin, Shared};
-use crate::workers::{gather, places, work};
 use cni_addr::Items;
 use kernel_model::Kernel;
 use pod_workers::Book;
@@ -16,7 +15,6 @@ use std::alloc::Global;
 use std::marker::Brand;
 use std::sync::ledger::{Blank, Ledger};
 use std::sync::{Mutex, Wait};
-use std::thread;
 use std::thread::Threads;
 
 /// The book after a round, and for each worker how many entries it made. The first worker's count has besides the
@@ -76,28 +74,14 @@ fn round_as<
     ensures err { IfErr result (λ b. b ≡ book) }
 {
     let (made, all) = blank.open::<L>();
-    let Some(owned) = share_out(alloc, &book, n) else {
-        return Err(book);
-    };
-    let Some((mut workers, all)) = places(alloc, n, all) else {
-        return Err(book);
-    };
-    let Ok(counts) = Vec::with_capacity(alloc, n as usize) else {
+    let Some(crew) = Crew::new(alloc, &book, n, all) else {
         return Err(book);
     };
     let before = entries_of_current(&book);
     let shared = Mutex::new(Shared::<J, L, K>::new(book, made));
-    thread::for_each_mut(
-        rt,
-        workers.as_mut_slice(),
-        n as usize,
-        &|i, worker| { work(rt, &shared, worker, i, owned.as_slice(), gate) },
-    );
-    let (mut all, mut counts) = gather(workers, all, counts);
+    let (mut all, mut counts) = crew.work(rt, &shared, gate);
     let mut book = shared.into_inner().into_book(&mut all);
-    let made = book.history().len();
-    end_round(&mut book);
-    let rest = book.history().len() - made;
+    let rest = end_round(&mut book);
     add_first(&mut counts, (before + rest) as u64);
     Ok(Rounded {
         book,
@@ -105,10 +89,13 @@ fn round_as<
     })
 }
 
-/// Steps what is left of the current round, and makes the next one current.
-fn end_round<K: Kernel + Drop>(book: &mut Book<K>)
+/// Steps what is left of the current round, makes the next one current, and tells how many entries that made.
+fn end_round<K: Kernel + Drop>(book: &mut Book<K>) -> usize
     requires { book.old.round < length book.old.plan.pods.rounds }
-    ensures { Rounds book.old book.new }
+    ensures rounds { Rounds book.old book.new }
+    ensures entries { length book.new.history ≡ length book.old.history + result }
 {
+    let before = book.history().len();
     book.round_alone();
+    book.history().len() - before
 }

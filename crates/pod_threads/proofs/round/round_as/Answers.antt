@@ -6,12 +6,12 @@ use Rattle.pod_threads.proofs.round.round_as.Goals as goal
 
 pub returns-clause-rounds : goal.returns-clause-rounds
 returns-clause-rounds g c =
-    subst (λ (u : World). Rounds u c.end_round.new.book) (sym c.requires.from) (rounds-after _ _ _ c.into_book-book.ensures.extends c.end_round.ensures)
+    subst (λ (u : World). Rounds u c.end_round-rest.new.book) (sym c.requires.from) (rounds-after _ _ _ c.into_book-book.ensures.extends c.end_round-rest.ensures.rounds)
 
 pub returns-clause-counts : goal.returns-clause-counts
 returns-clause-counts g c =
     let went = subst (λ (u : World). Extends u c.into_book-book.result) (sym c.requires.from) c.into_book-book.ensures.extends in
-    let long = c.into_book-book.ensures.entries ∙ ap (λ (w : World). length w.history + c.gather-all.result.0.amount) (sym c.requires.from) in
-    let made = c.gather-all.ensures.amount in
-    whole-count c.args.book c.into_book-book.result c.end_round.new.book (sum c.gather-all.result.1.items) c.entries_of_current-before.result _ _ _ went c.end_round.ensures
-    (long ∙ ap (λ k. length c.args.book.history + k) made) c.entries_of_current-before.ensures (ap length c.history-made.ensures) (ap length c.history.ensures) (ap sum c.of_vec.ensures ∙ c.add_first.ensures.sum)
+    let long = c.into_book-book.ensures.entries ∙ ap (λ (w : World). length w.history + c.work-all.result.0.amount) (sym c.requires.from) in
+    let made = c.work-all.ensures.amount in
+    whole-count c.args.book c.into_book-book.result c.end_round-rest.new.book (sum c.work-all.result.1.items) c.entries_of_current-before.result _ _ went c.end_round-rest.ensures.rounds
+    (long ∙ ap (λ k. length c.args.book.history + k) made) c.entries_of_current-before.ensures c.end_round-rest.ensures.entries (ap sum c.of_vec.ensures ∙ c.add_first.ensures.sum)
