@@ -1,18 +1,7 @@
 -- A world that no round begins in.
 use Rattle.std.specs.Prelude.{[], None}
-use Rattle.pod_workers.specs.World.{World}
+use Rattle.kernel_types.specs.Opening.{opening_of}
+use Rattle.pod_workers.specs.World.{World, begun}
 
 abbrev pub nowhere : World
-nowhere = record {
-  plan = record {
-    lists = [];
-    pods = record {
-      opening = record { namespaces = []; links = []; addresses = []; routes = []; rules = []; settings = []; leases = []; cached = []; lasts = [] };
-      rounds = [];
-    };
-    stop_at = None;
-  };
-  history = [];
-  answers = [];
-  round = 0;
-}
+nowhere = begun (record { lists = []; pods = record { opening = opening_of []; rounds = [] }; stop_at = None })
