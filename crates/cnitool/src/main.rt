@@ -15,7 +15,7 @@ use pod_threads::OpenGate;
 use std::env;
 use std::io::ErrorKind;
 use std::process::ExitCode;
-use tool_run::run;
+use tool_run::{MEMORY_STATUS, run};
 
 /// Why there are no words.
 #[derive(Clone, Copy)]
@@ -27,7 +27,7 @@ enum NoWords {
 impl NoWords {
     fn status(self) -> u8 {
         match self {
-            NoWords::Memory => 6,
+            NoWords::Memory => MEMORY_STATUS,
             NoWords::Unreadable => 7,
         }
     }

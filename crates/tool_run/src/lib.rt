@@ -32,4 +32,4 @@ mod tests;
 mod thread_tests;
 pub mod top;
 
-pub use top::{Outcome, run, run_alone};
+pub use top::{MEMORY_STATUS, Outcome, run, run_alone};

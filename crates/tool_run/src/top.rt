@@ -23,6 +23,9 @@ use std::alloc::Global;
 use std::sync::Wait;
 use std::thread::Threads;
 
+/// The exit status where memory runs out outside a command.
+pub const MEMORY_STATUS: u8 = 6;
+
 /// How a run ended.
 #[derive(Drop)]
 pub struct Outcome {
@@ -131,7 +134,7 @@ fn report<S: Sink>(sink: &mut S, due: Due) -> Outcome
             book: Some(book),
         },
         Due::NoMemory => Outcome {
-            status: 6,
+            status: MEMORY_STATUS,
             book: None,
         },
     }
