@@ -17,20 +17,22 @@ sys.path.insert(0, str(pathlib.Path(__file__).resolve().parent.parent / "tests")
 
 from program import bridge, compact, in_folder, network_list, program_of
 
+# the most bytes of a file, and the most commands or range sets in it
 LIMIT = 16_777_216
+MOST = 65_536
 
 
 def pod_file(size):
-    """A pod file of 65,536 commands of a network that no list has, of nearly that many bytes."""
+    """A pod file of as many commands as there may be, of a network that no list has, of nearly that many bytes."""
     command = {"verb": "DEL", "network": "none", "container": "c", "netns": "/ns/a"}
-    fill = (size - 65_536 * (len(compact(command)) + 16) - 64) // 65_536
-    rounds = [[{**command, "args": "A=" + "b" * max(fill, 0)}] for _ in range(65_536)]
+    fill = (size - MOST * (len(compact(command)) + 16) - 64) // MOST
+    rounds = [[{**command, "args": "A=" + "b" * max(fill, 0)}] for _ in range(MOST)]
     return compact({"rounds": rounds}).encode()
 
 
 def list_of_sets():
-    """A list of 65,536 sets of one range each."""
-    sets = [[{"subnet": f"10.{i // 256}.{i % 256}.0/24"}] for i in range(65_536)]
+    """A list of as many sets as there may be, of one range each."""
+    sets = [[{"subnet": f"10.{i // 256}.{i % 256}.0/24"}] for i in range(MOST)]
     return compact(network_list("many", bridge(ranges=sets))).encode()
 
 

@@ -18,8 +18,8 @@ sys.dont_write_bytecode = True
 
 import examples
 import index
+from index import TOP
 
-TOP = pathlib.Path(__file__).resolve().parent.parent.parent
 CRATES = {it.name: it for it in (TOP / "crates").iterdir() if (it / "src").is_dir()}
 SUFFIXES = (".antt", ".rt", ".md", ".json", ".py", ".txt", ".edit")
 ON_THE_CODE = ("ARCHITECTURE.md", "DECISIONS.md", "DEFINITIONS.md", "GUARANTEES.md")
