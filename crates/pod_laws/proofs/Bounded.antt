@@ -11,7 +11,6 @@ use Rattle.kernel_types.specs.declared.call.Call.{Call}
 use Rattle.kernel_types.specs.declared.call.Reply.{Reply}
 use Rattle.plan_words.specs.Share.{Share, share_of}
 use Rattle.cni_verbs.specs.CommandWords.{att_of}
-use Rattle.cni_verbs.proofs.AfterReplies.{after_replies-keeps}
 use Rattle.cni_verbs.specs.Script.{State, Changing, Over, Calls, turn, advance, start_state, outside_advance, outside_after, outside_start}
 use Rattle.pod_workers.specs.CallsLeft.{AddsInAtMost, calls_left}
 use Rattle.pod_workers.specs.Legal.{Legal}
@@ -169,58 +168,3 @@ made-below w legal n c list most bound at listed in_most none few = elim (first-
       let left = few (share_of (att_of c.command) (after w.plan.pods.opening is.0)) in
       omega arith
 ]
-
--- ---- a change from outside
-
-abbrev IsOver : State → Type 0
-IsOver (Over ending given) = Unit {0}
-IsOver _ = ⊥
-
-over-advance : (number : ℕ) (s : State) (r : Reply) → LeftIsOutside s → IsOver (outside_advance number s r)
-over-advance number (Changing change) r left = tt
-over-advance number (Over ending given) r left = tt
-over-advance number _ r left = absurd left
-
-over-stays : (number : ℕ) (s : State) (r : Reply) → IsOver s → IsOver (outside_advance number s r)
-over-stays number (Over ending given) r is = tt
-over-stays number _ r is = absurd is
-
-over-calls : (c : Command) (s : State) (call : Call) → IsOver s → turn c s ≡ Calls call → ⊥
-unfolding turn
-over-calls c (Over ending given) call is calls = cc
-over-calls c _ call is calls = absurd is
-
--- its first call is its last
-only-call : (c : Command) (rs : List Reply) (call : Call) → turn c (outside_after c rs) ≡ Calls call → rs ≡ []
-only-call c [] call is = refl
-only-call c (r ∷ rs) call is = absurd (over-calls c (outside_after c (r ∷ rs)) call (after_replies-keeps IsOver outside_advance 1 (outside_advance 1 (outside_start c) r) rs over-stays (over-advance 1 (outside_start c) r (left-is-outside c []))) is)
-
-abbrev OneCall : Plan → List Entry → Type 0
-OneCall p h = (n : ℕ) (c : Placed) → slice_get (commands_of p) n ≡ Some c → list_for p c.command ≡ None → length (own_entries n h) ≤ 1
-
-one-other : (n : ℕ) (h : List Entry) (x : Entry) → is_of n x ≡ false → length (own_entries n h) ≤ 1 → length (own_entries n (h ++ x ∷ [])) ≤ 1
-one-other n h x far few = let same = ap length (own_entries-other n h x far) in omega arith
-
-one-entered : IsKept OneCall
-one-entered w n c list call faulty on was = λ m d at unlisted. elim (eqb_tells m n) [
-  | inl t ↦ absurd (none-some list (sym unlisted ∙ ap (λ (y : Placed). list_for w.plan y.command) (ready_is w n m c d on.ready t.1 at) ∙ on.listed))
-  | inr f ↦ one-other m w.history (entry_of (host_of w) n call faulty) (other-number m n (host_of w) call faulty f.1) (was m d at unlisted)
-]
-
-one-changed : IsKeptOutside OneCall
-one-changed w n c call faulty on was = λ m d at unlisted.
-    let x = entry_of (host_of w) n call faulty in
-    elim (eqb_tells m n) [
-      | inl t ↦
-          let none : own_entries n w.history ≡ [] = no-entries (own_entries n w.history) (sym (replies-own_entries n w.history) ∙ only-call c.command (own_replies w n) call on.turn_is) in
-          let one : length (own_entries n (w.history ++ x ∷ [])) ≡ 1 = ap length (own_entries-own n w.history x (is_of-own n x refl) ∙ ap (λ l. l ++ x ∷ []) none) in
-          subst (λ j. length (own_entries j (w.history ++ x ∷ [])) ≤ 1) (sym t.1) (omega arith)
-      | inr f ↦ one-other m w.history x (other-number m n (host_of w) call faulty f.1) (was m d at unlisted)
-    ]
-
-pub one-call : (w : World) → Legal w → (n : ℕ) (c : Placed) → slice_get (commands_of w.plan) n ≡ Some c → list_for w.plan c.command ≡ None → length (own_replies w n) ≤ 1
-one-call w legal n c at unlisted =
-    let few = by-entries OneCall (λ p well m d there none. omega arith) one-entered one-changed w legal n c at unlisted in
-    let same = ap length (replies-own_entries n w.history) in
-    let long = length-map (own_entries n w.history) (λ (y : Entry). y.reply) in
-    omega arith

@@ -35,7 +35,8 @@ use Rattle.pod_workers.proofs.MostCalls.{adds_in_most_calls}
 use Rattle.pod_workers.proofs.StepsLeft.{IsNoCollection}
 use Rattle.pod_workers.proofs.Replies.{by-either, by-unless, by-unless_old}
 use Rattle.pod_laws.specs.Bounded.{EachAddHasMost, EachChangeIsOneCall, EachRunIsBounded, IsFirst, asked_of, had_after}
-use Rattle.pod_laws.proofs.Bounded.{made-below, made-within, one-call}
+use Rattle.pod_laws.proofs.Bounded.{made-below, made-within}
+use Rattle.pod_laws.proofs.ChangedRuns.{one-call}
 
 -- ---- questions
 
