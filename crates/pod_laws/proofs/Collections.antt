@@ -37,57 +37,31 @@ use Rattle.cni_verbs.specs.declared.answer.Ending.TheVariants.{Skipped}
 use Rattle.cni_verbs.specs.declared.answer.Skip.TheVariants as skips
 use Rattle.pod_file.specs.Commands.{is_of_network}
 use Rattle.gc_sweep.specs.Keep.{stays}
-use Rattle.gc_sweep.proofs.Owners.{is_stale, own_goes}
+use Rattle.gc_sweep.specs.Bound.{stale_owners}
+use Rattle.gc_sweep.proofs.Deletions.{deletes}
+use Rattle.gc_sweep.proofs.Owners.{is_stale, own_goes, owners_stale}
 use Rattle.plan_words.proofs.KeyLists.{list_all-each_key_once}
 use Rattle.pod_workers.specs.Plans.{Placed, commands_of}
 use Rattle.pod_workers.specs.World.{World, after, entry_of, host_of, host_on, reply_to}
 use Rattle.pod_workers.specs.declared.plan.Entry.{Entry}
 use Rattle.pod_workers.specs.declared.plan.Plan.{Plan}
-use Rattle.pod_workers.proofs.Histories.{after-append}
-use Rattle.pod_workers.proofs.Order.{ready_is}
 use Rattle.pod_workers.proofs.Replies.{by-either, by-unless_old}
 use Rattle.pod_workers.proofs.Sound.{sound_host}
-use Rattle.pod_workers.proofs.Splits.{split_nil, split_snoc}
 use Rattle.pod_laws.specs.Apart.{EachCollectionTakesTheStaleAlone}
 use Rattle.pod_laws.specs.Moments.{own_entries}
 use Rattle.pod_laws.proofs.Runs.{StartsWith, IsRunFact, every-run-now, own-state}
-use Rattle.pod_laws.proofs.Steps.{Changes, GoesOn, by-entries, on-entry}
-use Rattle.pod_laws.proofs.Turns.{change-of}
-use Rattle.pod_laws.proofs.Entries.{same-place}
-
--- ---- the owners that the kernel lists are of the network
-
-abbrev is_in : List ℕ → Att → Bool
-is_in network att = bytes_eq att.network network
-
-owner-if : (network : List ℕ) (b : Bool) (a : Att) (xs : List Att) → is_in network a ≡ b → list_all (is_in network) xs ≡ true → list_all (is_in network) (cons_option (if b then Some a else None) xs) ≡ true
-owner-if network true a xs is h = grind (arith, is, h)
-owner-if network false a xs is h = h
-
-owners-cons : (network : List ℕ) (t : Tag) (xs : List Att) → list_all (is_in network) xs ≡ true → list_all (is_in network) (cons_option (owner_in network t) xs) ≡ true
-owners-cons network tags.Outside xs h = h
-owners-cons network tags.Base xs h = h
-owners-cons network (tags.Own a) xs h = owner-if network (bytes_eq a.network network) a xs refl h
-
-owners-in : (network : List ℕ) (ts : List Tag) → list_all (is_in network) (filter_map (owner_in network) ts) ≡ true
-owners-in network [] = refl
-owners-in network (t ∷ ts) = owners-cons network t (filter_map (owner_in network) ts) (owners-in network ts)
+use Rattle.pod_laws.proofs.EachEntry.{DoesByVerb, each-entry_of}
+use Rattle.pod_laws.proofs.Steps.{on-entry}
 
 -- ---- the owners that are left to a collection are stale
 
 abbrev AllStale : Command → List Job → Type 0
 AllStale c jobs = list_all (λ j. is_stale c.network c.valid j.att) jobs ≡ true
 
-jobs-stale : (c : Command) (s : Sweep) (owners : List Att) → list_all (is_in c.network) owners ≡ true → AllStale c (jobs_of c.valid s owners)
-jobs-stale c s owners h =
-    list_all-map (λ j. is_stale c.network c.valid j.att) (job_of s) (filter (λ a. not (is_valid c.valid a)) owners)
-    ∙ list_all-kept (is_in c.network) (is_stale c.network c.valid) (λ a. not (is_valid c.valid a)) (λ a near named. grind (arith, near, named)) owners h
-
 swept-stale : (list : NetList) (c : Command) (s : Sweep) (sweeps : List Sweep) (k : Host) (faulty : Bool) → AllStale c (work_after (gc_of list c) [] (s ∷ sweeps) (reply_to k (OwnersOf c.network s.kind) faulty)).jobs
 swept-stale list c s sweeps k true = refl
 swept-stale list c s sweeps k false =
-    jobs-stale c s (each_key_once att_eq (filter_map (owner_in c.network) (tags_of k s.kind)))
-    (list_all-each_key_once (is_in c.network) att_eq (filter_map (owner_in c.network) (tags_of k s.kind)) (owners-in c.network (tags_of k s.kind)))
+    list_all-map (λ j. is_stale c.network c.valid j.att) (job_of s) (stale_owners c.network c.valid (tags_of k s.kind)) ∙ owners_stale c.network c.valid (tags_of k s.kind)
 
 stale-step : (c : Command) (att : Att) (more : List Step) (jobs : List Job) → is_stale c.network c.valid att ≡ true → AllStale c jobs → AllStale c (after_step att more jobs)
 stale-step c att [] jobs stale h = h
@@ -158,16 +132,9 @@ KeepsBy c k call = IsAllowed k call → Keeps c k (apply k call).0
 owned-stale : (c : Command) (att : Att) → is_stale c.network c.valid att ≡ true → (t : Tag) → is_own att t ≡ true → stays c.network c.valid t ≡ false
 owned-stale c att stale t own = let gone = own_goes c.network c.valid att stale t own in grind (arith, gone)
 
-touches-deletion : (att : Att) (k : Host) (kind : Kind) → IsSound k → IsAllowed k (deletion att kind) → TouchesOwnAlone att k (apply k (deletion att kind)).0
-touches-deletion att k kinds.Links sound allowed = Touches-apply k (LinkDel att) sound allowed
-touches-deletion att k kinds.Rules sound allowed = Touches-apply k (RuleDel att) sound allowed
-touches-deletion att k kinds.Settings sound allowed = Touches-apply k (SettingDel att) sound allowed
-touches-deletion att k kinds.Leases sound allowed = Touches-apply k (LeaseDel att) sound allowed
-touches-deletion att k kinds.Cached sound allowed = Touches-apply k (CacheDel att) sound allowed
-
 step-keeps : (c : Command) (att : Att) (k : Host) (step : Step) → IsSound k → is_stale c.network c.valid att ≡ true → KeepsBy c k (step_call att step)
 step-keeps c att k AskCached sound stale = λ allowed. KeepsWhere-nothing (stays c.network c.valid) k
-step-keeps c att k (Delete kind) sound stale = λ allowed. KeepsWhere-TouchesOwn (stays c.network c.valid) att k (apply k (deletion att kind)).0 (owned-stale c att stale) (touches-deletion att k kind sound allowed).own
+step-keeps c att k (Delete kind) sound stale = λ allowed. KeepsWhere-TouchesOwn (stays c.network c.valid) att k (apply k (deletion att kind)).0 (owned-stale c att stale) (deletes att kind k sound).touch
 
 work-keeps : (c : Command) (jobs : List Job) (sweeps : List Sweep) (faults : List ℕ) (k : Host) (call : Call) → IsSound k → AllStale c jobs → turn_of_work c.network jobs sweeps faults ≡ Calls call → KeepsBy c k call
 work-keeps c [] [] faults k call sound h is = cc
@@ -180,7 +147,7 @@ turn-keeps c (Collecting work faults) k call sound h is = work-keeps c work.jobs
 turn-keeps c (Over ending given) k call sound h is = cc
 turn-keeps c _ k call sound h is = absurd h
 
-collection-keeps : (w : World) (n : ℕ) (c : Placed) (list : NetList) (call : Call) (faulty : Bool) → GoesOn w n c list call faulty → c.command.verb ≡ verbs.Gc → Keeps c.command (host_of w) (host_on (host_of w) (entry_of (host_of w) n call faulty))
+collection-keeps : DoesByVerb (λ v. v ≡ verbs.Gc) Keeps
 collection-keeps w n c list call faulty on gc =
     let left = every-run-now Collects collects-start collects-step w n c list call faulty on gc in
     on-entry (Keeps c.command (host_of w)) (host_of w) n call faulty (KeepsWhere-nothing (stays c.command.network c.command.valid) (host_of w))
@@ -188,38 +155,5 @@ collection-keeps w n c list call faulty on gc =
 
 -- ---- every history
 
-abbrev KeepsAt : Plan → List Entry → Entry → Placed → Type 0
-KeepsAt p before e c = Keeps c.command (after p.pods.opening before) (after p.pods.opening (before ++ e ∷ []))
-
-abbrev AllKept : Plan → List Entry → Type 0
-AllKept p h = (n : ℕ) (c : Placed) (before later : List Entry) (e : Entry) → slice_get (commands_of p) n ≡ Some c → e.command ≡ n + 1 → c.command.verb ≡ verbs.Gc → h ≡ before ++ e ∷ later → KeepsAt p before e c
-
-collection-kept : (w : World) (n : ℕ) (c : Placed) (list : NetList) (call : Call) (faulty : Bool) → GoesOn w n c list call faulty → AllKept w.plan w.history → AllKept w.plan (w.history ++ entry_of (host_of w) n call faulty ∷ [])
-collection-kept w n c list call faulty on was = λ m d before later e at number gc is.
-    let x = entry_of (host_of w) n call faulty in
-    elim (split_snoc w.history before later x e is) [
-      | inl t ↦
-          let same : d ≡ c = ready_is w n m c d on.ready (same-place n m e x number t.2 refl) at in
-          let now = collection-keeps w n c list call faulty on (ap (λ (y : Placed). y.command.verb) (sym same) ∙ gc) in
-          let at_host : KeepsAt w.plan w.history x c = subst (Keeps c.command (host_of w)) (sym (after-append w.plan.pods.opening w.history x)) now in
-          subst (λ h. KeepsAt w.plan h e d) t.1 (subst (λ y. KeepsAt w.plan w.history y d) t.2 (subst (KeepsAt w.plan w.history x) (sym same) at_host))
-      | inr t ↦ was m d before t.0 e at number gc t.2
-    ]
-
-not-gc : (v : Verb) → v ≡ verbs.Gc → is_of_network v ≡ false → ⊥
-not-gc v is outside = let e : true ≡ false = sym (ap is_of_network is) ∙ outside in cc
-
--- the world outside makes no entry of a collection
-collection-changed : (w : World) (n : ℕ) (c : Placed) (call : Call) (faulty : Bool) → Changes w n c call faulty → AllKept w.plan w.history → AllKept w.plan (w.history ++ entry_of (host_of w) n call faulty ∷ [])
-collection-changed w n c call faulty on was = λ m d before later e at number gc is.
-    let x = entry_of (host_of w) n call faulty in
-    elim (split_snoc w.history before later x e is) [
-      | inl t ↦
-          let same : d ≡ c = ready_is w n m c d on.ready (same-place n m e x number t.2 refl) at in
-          absurd (not-gc c.command.verb (ap (λ (y : Placed). y.command.verb) (sym same) ∙ gc) (change-of w n c call faulty on).verb_is)
-      | inr t ↦ was m d before t.0 e at number gc t.2
-    ]
-
 pub each_collection_takes_the_stale_alone : EachCollectionTakesTheStaleAlone
-each_collection_takes_the_stale_alone w legal n c before later e at number gc is =
-    by-entries AllKept (λ p well m d b l x at_m num verb split. absurd (split_nil b l x split)) collection-kept collection-changed w legal n c before later e at number gc is
+each_collection_takes_the_stale_alone = each-entry_of (λ v. v ≡ verbs.Gc) Keeps (λ v is. ap is_of_network is) collection-keeps

@@ -27,21 +27,16 @@ use Rattle.cni_verbs.specs.Script.{State, AtBegin, BeforeLeases, Leasing, AfterL
 use Rattle.cni_verbs.specs.Wanted.{deletion}
 use Rattle.gc_sweep.proofs.Deletions.{any-found}
 use Rattle.pod_file.specs.Commands.{is_of_network}
-use Rattle.pod_workers.specs.Plans.{Placed, commands_of}
-use Rattle.pod_workers.specs.World.{World, after, entry_of, host_of, host_on}
+use Rattle.pod_workers.specs.World.{host_of}
 use Rattle.pod_workers.specs.declared.plan.Entry.{Entry}
-use Rattle.pod_workers.specs.declared.plan.Plan.{Plan}
-use Rattle.pod_workers.proofs.Histories.{after-append}
-use Rattle.pod_workers.proofs.Order.{ready_is}
 use Rattle.pod_workers.proofs.Sound.{sound_host}
-use Rattle.pod_workers.proofs.Splits.{split_nil, split_snoc}
 use Rattle.pod_laws.specs.Deleted.{DeletesOwnAlone, EachDeletionIsOwn}
 use Rattle.pod_laws.specs.Moments.{own_entries}
+use Rattle.pod_laws.proofs.EachEntry.{DoesByVerb, each-entry_of}
 use Rattle.pod_laws.proofs.Removes.{deletes-deletion}
 use Rattle.pod_laws.proofs.Runs.{every-run-now, own-state}
 use Rattle.pod_laws.proofs.States.{IsOtherVerb, not-both}
-use Rattle.pod_laws.proofs.Steps.{Changes, GoesOn, by-entries, on-entry}
-use Rattle.pod_laws.proofs.Turns.{change-of}
+use Rattle.pod_laws.proofs.Steps.{on-entry}
 use Rattle.pod_laws.proofs.Undoing.{Undoing, undone-start, undone-step}
 
 -- ---- one entry
@@ -81,48 +76,11 @@ turn-deletes list c es _ s k call verb sound is was = absurd (subst IsOtherVerb 
 
 -- ---- every history
 
-abbrev Deletes : Plan → List Entry → List Entry → Entry → Placed → Type 0
-Deletes p before h e c = DeletesOwnAlone (att_of c.command) (after p.pods.opening before) (after p.pods.opening (before ++ e ∷ []))
-
-abbrev AllDelete : Plan → List Entry → Type 0
-AllDelete p h = (n : ℕ) (c : Placed) (before later : List Entry) (e : Entry) → slice_get (commands_of p) n ≡ Some c → c.command.verb ≡ verbs.Del → e.command ≡ n + 1 → h ≡ before ++ e ∷ later → Deletes p before h e c
-
-deletes-now : (w : World) (n : ℕ) (c : Placed) (list : NetList) (call : Call) (faulty : Bool) → GoesOn w n c list call faulty → c.command.verb ≡ verbs.Del
-    → DeletesOwnAlone (att_of c.command) (host_of w) (host_on (host_of w) (entry_of (host_of w) n call faulty))
+deletes-now : DoesByVerb (λ v. v ≡ verbs.Del) (λ c. DeletesOwnAlone (att_of c))
 deletes-now w n c list call faulty on verb =
     let own = own-state w n c list call faulty on in
     on-entry (λ k. DeletesOwnAlone (att_of c.command) (host_of w) k) (host_of w) n call faulty (deletes-nothing (att_of c.command) (host_of w))
     (λ f. turn-deletes list c.command (own_entries n w.history) _ (share_of (att_of c.command) (host_of w)) (host_of w) call verb (sound_host w on.legal) own.turn_is (every-run-now Undoing undone-start undone-step w n c list call faulty on))
 
-delete-kept : (w : World) (n : ℕ) (c : Placed) (list : NetList) (call : Call) (faulty : Bool) → GoesOn w n c list call faulty → AllDelete w.plan w.history → AllDelete w.plan (w.history ++ entry_of (host_of w) n call faulty ∷ [])
-delete-kept w n c list call faulty on was = λ m d before later e at verb number is.
-    let x = entry_of (host_of w) n call faulty in
-    let opening = w.plan.pods.opening in
-    elim (split_snoc w.history before later x e is) [
-      | inl t ↦
-          let place : m ≡ n = let a : e.command ≡ m + 1 = number in let b : n + 1 ≡ e.command = ap (λ (y : Entry). y.command) t.2 in omega (arith, a, b) in
-          let same : d ≡ c = same_Some d c (sym at ∙ ap (slice_get (commands_of w.plan)) place ∙ on.ready.there) in
-          let now = deletes-now w n c list call faulty on (ap (λ (y : Placed). y.command.verb) (sym same) ∙ verb) in
-          let at_host : DeletesOwnAlone (att_of c.command) (after opening w.history) (after opening (w.history ++ x ∷ [])) = subst (DeletesOwnAlone (att_of c.command) (host_of w)) (sym (after-append opening w.history x)) now in
-          let P : List Entry → Entry → Placed → Type 0 = λ h y z. DeletesOwnAlone (att_of z.command) (after opening h) (after opening (h ++ y ∷ [])) in
-          subst (λ h. P h e d) t.1 (subst (λ y. P w.history y d) t.2 (subst (P w.history x) (sym same) at_host))
-      | inr t ↦ was m d before t.0 e at verb number t.2
-    ]
-
-not-del : (v : Verb) → v ≡ verbs.Del → is_of_network v ≡ false → ⊥
-not-del v is outside = let e : true ≡ false = sym (ap is_of_network is) ∙ outside in cc
-
--- the world outside makes no entry of a DEL
-delete-changed : (w : World) (n : ℕ) (c : Placed) (call : Call) (faulty : Bool) → Changes w n c call faulty → AllDelete w.plan w.history → AllDelete w.plan (w.history ++ entry_of (host_of w) n call faulty ∷ [])
-delete-changed w n c call faulty on was = λ m d before later e at verb number is.
-    let x = entry_of (host_of w) n call faulty in
-    elim (split_snoc w.history before later x e is) [
-      | inl t ↦
-          let place : m ≡ n = let a : e.command ≡ m + 1 = number in let b : n + 1 ≡ e.command = ap (λ (y : Entry). y.command) t.2 in omega (arith, a, b) in
-          absurd (not-del c.command.verb (ap (λ (y : Placed). y.command.verb) (sym (ready_is w n m c d on.ready place at)) ∙ verb) (change-of w n c call faulty on).verb_is)
-      | inr t ↦ was m d before t.0 e at verb number t.2
-    ]
-
 pub each_deletion_is_own : EachDeletionIsOwn
-each_deletion_is_own w legal n c before later e at verb number is =
-    by-entries AllDelete (λ p well m d b l x at_m v num split. absurd (split_nil b l x split)) delete-kept delete-changed w legal n c before later e at verb number is
+each_deletion_is_own = each-entry_of (λ v. v ≡ verbs.Del) (λ c. DeletesOwnAlone (att_of c)) (λ v is. ap is_of_network is) deletes-now

@@ -16,6 +16,7 @@ pub mod Collections
 pub mod CutOff
 pub mod DeletedEntries
 pub mod Due
+pub mod EachEntry
 pub mod Entries
 pub mod Footing
 pub mod Fronts

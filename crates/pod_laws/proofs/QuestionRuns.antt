@@ -1,5 +1,5 @@
 -- A CHECK and a STATUS only ask.
-use Rattle.std.proofs.Common.{◌≡◌, ℕ, ◌+◌, Bool, true, List, [], ◌∷◌, ◌++◌, Some, slice_get, refl, sym, ◌∙◌, ap, subst, inl, inr}
+use Rattle.std.proofs.Common.{◌≡◌, ℕ, Bool, true, List, refl, ◌∙◌, ap}
 use Rattle.std.proofs.lemmas.Bool.{both_ways}
 use Rattle.net_conf.specs.declared.list.NetList.{NetList}
 use Rattle.pod_file.specs.declared.command.Command.{Command}
@@ -11,19 +11,14 @@ use Rattle.plan_words.specs.Share.{Share}
 use Rattle.cni_verbs.specs.CommandWords.{att_of}
 use Rattle.cni_verbs.specs.Script.{State, FindingEntry, Asking, Changing, Collecting, Over, Calls, turn}
 use Rattle.pod_file.specs.Commands.{is_of_network}
-use Rattle.pod_workers.specs.Plans.{Placed, commands_of}
-use Rattle.pod_workers.specs.World.{World, after, entry_of, host_of, host_on}
+use Rattle.pod_workers.specs.Plans.{Placed}
+use Rattle.pod_workers.specs.World.{World, host_of}
 use Rattle.pod_workers.specs.declared.plan.Entry.{Entry}
-use Rattle.pod_workers.specs.declared.plan.Plan.{Plan}
-use Rattle.pod_workers.proofs.Histories.{after-append}
-use Rattle.pod_workers.proofs.Order.{ready_is}
-use Rattle.pod_workers.proofs.Splits.{split_nil, split_snoc}
 use Rattle.pod_laws.specs.Granted.{EachQuestionLeavesTheHost, only_asks}
 use Rattle.pod_laws.proofs.Runs.{IsRunFact, StartsWith, every-run-now, own-state}
 use Rattle.pod_laws.proofs.States.{IsAside, IsOtherVerb, LeftFit, aside-advance, aside-start, is_question, question-leaves, asked-is_question}
-use Rattle.pod_laws.proofs.Steps.{Changes, GoesOn, by-entries, on-entry}
-use Rattle.pod_laws.proofs.Turns.{change-of}
-use Rattle.pod_laws.proofs.Entries.{same-place}
+use Rattle.pod_laws.proofs.EachEntry.{DoesByVerb, each-entry_of}
+use Rattle.pod_laws.proofs.Steps.{GoesOn, on-entry}
 
 -- ---- its calls
 
@@ -56,29 +51,11 @@ question-turn w n c list call faulty on only =
     asking-turn list c.command _ call only (every-run-now StaysAside aside-begun aside-step w n c list call faulty on (other-verb c.command.verb only)) own.fits own.turn_is
 
 -- its entry leaves the host
-pub question-entered : (w : World) (n : ℕ) (c : Placed) (list : NetList) (call : Call) (faulty : Bool) → GoesOn w n c list call faulty → only_asks c.command.verb ≡ true → host_on (host_of w) (entry_of (host_of w) n call faulty) ≡ host_of w
+pub question-entered : DoesByVerb (λ v. only_asks v ≡ true) (λ c old new. new ≡ old)
 question-entered w n c list call faulty on only =
     on-entry (λ k. k ≡ host_of w) (host_of w) n call faulty refl (λ f. question-leaves (host_of w) call (question-turn w n c list call faulty on only))
 
 -- ---- every history
-
-abbrev Leaves : Plan → List Entry → Entry → Type 0
-Leaves p before e = after p.pods.opening (before ++ e ∷ []) ≡ after p.pods.opening before
-
-abbrev AllLeave : Plan → List Entry → Type 0
-AllLeave p h = (m : ℕ) (d : Placed) (before later : List Entry) (e : Entry) → slice_get (commands_of p) m ≡ Some d → only_asks d.command.verb ≡ true → e.command ≡ m + 1 → h ≡ before ++ e ∷ later → Leaves p before e
-
-leave-kept : (w : World) (n : ℕ) (c : Placed) (list : NetList) (call : Call) (faulty : Bool) → GoesOn w n c list call faulty → AllLeave w.plan w.history → AllLeave w.plan (w.history ++ entry_of (host_of w) n call faulty ∷ [])
-leave-kept w n c list call faulty on was = λ m d before later e at only number is.
-    let x = entry_of (host_of w) n call faulty in
-    elim (split_snoc w.history before later x e is) [
-      | inl t ↦
-          let same : d ≡ c = ready_is w n m c d on.ready (same-place n m e x number t.2 refl) at in
-          let mine : only_asks c.command.verb ≡ true = ap (λ (y : Placed). only_asks y.command.verb) (sym same) ∙ only in
-          let now : Leaves w.plan w.history x = after-append w.plan.pods.opening w.history x ∙ question-entered w n c list call faulty on mine in
-          subst (λ h. Leaves w.plan h e) t.1 (subst (Leaves w.plan w.history) t.2 now)
-      | inr t ↦ was m d before t.0 e at only number t.2
-    ]
 
 of-network : (v : Verb) → only_asks v ≡ true → is_of_network v ≡ true
 of-network verbs.Check is = refl
@@ -86,16 +63,5 @@ of-network verbs.Status is = refl
 of-network verbs.Version is = refl
 of-network _ is = cc
 
-leave-changed : (w : World) (n : ℕ) (c : Placed) (call : Call) (faulty : Bool) → Changes w n c call faulty → AllLeave w.plan w.history → AllLeave w.plan (w.history ++ entry_of (host_of w) n call faulty ∷ [])
-leave-changed w n c call faulty on was = λ m d before later e at only number is.
-    let x = entry_of (host_of w) n call faulty in
-    elim (split_snoc w.history before later x e is) [
-      | inl t ↦
-          let same : d ≡ c = ready_is w n m c d on.ready (same-place n m e x number t.2 refl) at in
-          absurd (both_ways (is_of_network c.command.verb) (change-of w n c call faulty on).verb_is (ap (λ (y : Placed). is_of_network y.command.verb) (sym same) ∙ of-network d.command.verb only))
-      | inr t ↦ was m d before t.0 e at only number t.2
-    ]
-
 pub each_question_leaves_the_host : EachQuestionLeavesTheHost
-each_question_leaves_the_host w legal n c before later e at only number is =
-    by-entries AllLeave (λ p well m d b l x at_m o num split. absurd (split_nil b l x split)) leave-kept leave-changed w legal n c before later e at only number is
+each_question_leaves_the_host = each-entry_of (λ v. only_asks v ≡ true) (λ c old new. new ≡ old) of-network question-entered

@@ -23,19 +23,19 @@ use Rattle.pod_workers.specs.Plans.{Placed}
 use Rattle.pod_workers.specs.World.{World, entry_of, host_of, host_on}
 use Rattle.pod_workers.specs.declared.plan.Entry.{Entry}
 use Rattle.pod_workers.specs.declared.plan.Plan.{Plan}
-use Rattle.pod_workers.proofs.Histories.{after-append}
 use Rattle.pod_workers.proofs.Sound.{sound_host}
-use Rattle.pod_workers.proofs.Splits.{split_nil, split_snoc}
 use Rattle.pod_laws.specs.Moments.{is_of, own_entries, until_last}
+use Rattle.pod_laws.specs.Single.{EachEntry}
 use Rattle.pod_laws.specs.Repeated.{GoneStaysGone, IsGone, IsWithoutAdd, RepeatedDeletionsLeave}
 use Rattle.pod_laws.proofs.DeletedEntries.{each_deletion_is_own}
+use Rattle.pod_laws.proofs.EachEntry.{DoesNow, DoesOutside, each-entry}
 use Rattle.pod_laws.proofs.Entries.{is_of-own, own_entries-own}
 use Rattle.pod_laws.proofs.OfAnswers.{was_deleted}
 use Rattle.pod_laws.proofs.OfKinds.{share-removes_none}
 use Rattle.pod_laws.proofs.Removes.{OnlyRemoves, removes-deletion, removes-nothing}
 use Rattle.pod_laws.proofs.Runs.{every-run-now, own-state}
 use Rattle.pod_laws.proofs.States.{LeftFit, is_question, question-leaves, asked-is_question}
-use Rattle.pod_laws.proofs.Steps.{Changes, GoesOn, by-entries, on-entry}
+use Rattle.pod_laws.proofs.Steps.{GoesOn, on-entry}
 use Rattle.pod_laws.proofs.Turns.{AsksOrCollects, other-entered, removes-changed, work-turn}
 use Rattle.pod_laws.proofs.Undoing.{Undoing, undone-start, undone-step}
 
@@ -81,11 +81,11 @@ not-adding : (c : Command) → c.verb ≡ verbs.Gc → c.verb ≢ verbs.Add
 not-adding c gc = λ add. let e : verbs.Add ≡ verbs.Gc = sym add ∙ gc in cc
 
 -- an attachment that has nothing has nothing after the entry, unless it is of an ADD of it
-abbrev StaysGone : Att → World → Entry → Type 0
-StaysGone att w x = IsWithoutAdd w.plan att (x ∷ []) → share_of att (host_of w) ≡ no_objects → share_of att (host_on (host_of w) x) ≡ no_objects
+abbrev StaysGone : Plan → Entry → Host → Host → Type 0
+StaysGone p e old new = (att : Att) → IsWithoutAdd p att (e ∷ []) → share_of att old ≡ no_objects → share_of att new ≡ no_objects
 
-gone-entered : (w : World) (n : ℕ) (c : Placed) (list : NetList) (call : Call) (faulty : Bool) (att : Att) → GoesOn w n c list call faulty → StaysGone att w (entry_of (host_of w) n call faulty)
-gone-entered w n c list call faulty att on = λ without gone.
+gone-now : DoesNow StaysGone
+gone-now w n c list call faulty on = λ att without gone.
     let k = host_of w in
     let x = entry_of k n call faulty in
     let removed : c.command.verb ≢ verbs.Add → share_of att (host_on k x) ≡ no_objects = λ not. share-removes_none att k (host_on k x) (removes-entered w n c list call faulty on not) gone in
@@ -97,34 +97,11 @@ gone-entered w n c list call faulty att on = λ without gone.
       ]
     ]
 
-gone-changed : (w : World) (n : ℕ) (c : Placed) (call : Call) (faulty : Bool) (att : Att) → Changes w n c call faulty → StaysGone att w (entry_of (host_of w) n call faulty)
-gone-changed w n c call faulty att on = λ without gone. share-removes_none att (host_of w) (host_on (host_of w) (entry_of (host_of w) n call faulty)) (removes-changed w n c call faulty on) gone
+gone-outside : DoesOutside StaysGone
+gone-outside w n c call faulty on = λ att without gone. share-removes_none att (host_of w) (host_on (host_of w) (entry_of (host_of w) n call faulty)) (removes-changed w n c call faulty on) gone
 
--- ---- every history
-
-abbrev StaysAt : Plan → Att → List Entry → Entry → Type 0
-StaysAt p att before e = IsWithoutAdd p att (e ∷ []) → IsGone p att before → IsGone p att (before ++ e ∷ [])
-
-abbrev AllStay : Plan → List Entry → Type 0
-AllStay p h = (att : Att) (before later : List Entry) (e : Entry) → h ≡ before ++ e ∷ later → StaysAt p att before e
-
-stays-more : (w : World) (x : Entry) → ((att : Att) → StaysGone att w x) → AllStay w.plan w.history → AllStay w.plan (w.history ++ x ∷ [])
-stays-more w x stays was = λ att before later e is.
-    elim (split_snoc w.history before later x e is) [
-      | inl t ↦
-          let now : StaysAt w.plan att w.history x = λ without gone. ap (share_of att) (after-append w.plan.pods.opening w.history x) ∙ stays att without gone in
-          subst (λ h. StaysAt w.plan att h e) t.1 (subst (StaysAt w.plan att w.history) t.2 now)
-      | inr t ↦ was att before t.0 e t.2
-    ]
-
-stay-kept : (w : World) (n : ℕ) (c : Placed) (list : NetList) (call : Call) (faulty : Bool) → GoesOn w n c list call faulty → AllStay w.plan w.history → AllStay w.plan (w.history ++ entry_of (host_of w) n call faulty ∷ [])
-stay-kept w n c list call faulty on was = stays-more w (entry_of (host_of w) n call faulty) (λ att. gone-entered w n c list call faulty att on) was
-
-stay-changed : (w : World) (n : ℕ) (c : Placed) (call : Call) (faulty : Bool) → Changes w n c call faulty → AllStay w.plan w.history → AllStay w.plan (w.history ++ entry_of (host_of w) n call faulty ∷ [])
-stay-changed w n c call faulty on was = stays-more w (entry_of (host_of w) n call faulty) (λ att. gone-changed w n c call faulty att on) was
-
-each-stays : (w : World) → Legal w → AllStay w.plan w.history
-each-stays w legal = by-entries AllStay (λ p well att b l x split. absurd (split_nil b l x split)) stay-kept stay-changed w legal
+each-stays : EachEntry StaysGone
+each-stays = each-entry StaysGone gone-now gone-outside
 
 -- ---- entry by entry
 
@@ -139,7 +116,7 @@ stays-through : (w : World) → Legal w → (att : Att) (before between later : 
 stays-through w legal att before [] later is without gone = subst (IsGone w.plan att) (sym (append-nil before)) gone
 stays-through w legal att before (e ∷ es) later is without gone =
     let more = append_assoc before (e ∷ []) es in
-    let one = each-stays w legal att before (es ++ later) e (is ∙ append_assoc before (e ∷ es) later) (λ n c at add same. (none-parts n e es (without n c at add same)).0) gone in
+    let one = each-stays w legal before (es ++ later) e (is ∙ append_assoc before (e ∷ es) later) att (λ n c at add same. (none-parts n e es (without n c at add same)).0) gone in
     subst (IsGone w.plan att) more (stays-through w legal att (before ++ e ∷ []) es later (is ∙ ap (λ h. h ++ later) (sym more)) (λ n c at add same. (none-parts n e es (without n c at add same)).1) one)
 
 pub gone_stays_gone : GoneStaysGone
@@ -152,5 +129,5 @@ repeated_deletions_leave w legal n m c d between later e at verb answer there ag
     let past = until_last n w.history in
     let gone : IsGone w.plan (att_of c.command) past = (was_deleted w legal n c at verb answer).gone in
     let still : IsGone w.plan (att_of c.command) (past ++ between) = gone_stays_gone w legal (att_of c.command) past between (e ∷ later) is without gone in
-    let own = each_deletion_is_own w legal m d (past ++ between) later e there again number is in
+    let own = each_deletion_is_own w legal (past ++ between) later e is m d there number again in
     own.repeated (subst (λ a. IsGone w.plan a (past ++ between)) (sym same) still)

@@ -1,7 +1,6 @@
 -- Each entry leaves what was made outside, and removes nothing that is shared.
 use Rattle.std.proofs.Common.{◌≡◌, ℕ, ◌+◌, Bool, true, false, not, List, [], ◌∷◌, ◌++◌, refl, sym, ◌∙◌, ap, subst, inl, inr, arith, ◌⊎◌}
 use Rattle.std.proofs.lemmas.List.{append-nil}
-use Rattle.std.proofs.lemmas.Bool.{both_ways}
 use Rattle.std.specs.Prelude.{filter}
 use Rattle.net_conf.specs.declared.list.NetList.{NetList}
 use Rattle.kernel_types.specs.Allowed.{IsAllowed}
@@ -27,13 +26,11 @@ use Rattle.pod_workers.specs.Plans.{Placed}
 use Rattle.pod_workers.specs.World.{World, after, entry_of, host_of, host_on}
 use Rattle.pod_workers.specs.declared.plan.Entry.{Entry}
 use Rattle.pod_workers.specs.declared.plan.Plan.{Plan}
-use Rattle.pod_workers.proofs.Histories.{after-append}
-use Rattle.pod_workers.proofs.Order.{ready_is}
 use Rattle.pod_workers.proofs.Sound.{sound_host}
-use Rattle.pod_workers.proofs.Splits.{split_nil, split_snoc}
 use Rattle.pod_laws.specs.Apart.{is_outside, GrowsAtEnd, KeepsShared, KeepsTheRest, EachEntryKeepsTheRest}
 use Rattle.pod_laws.proofs.Bridges.{turn-inside}
-use Rattle.pod_laws.proofs.Steps.{Changes, GoesOn, by-entries, on-entry}
+use Rattle.pod_laws.proofs.EachEntry.{DoesNow, DoesOutside, by-outside, each-entry}
+use Rattle.pod_laws.proofs.Steps.{on-entry}
 use Rattle.pod_laws.proofs.Turns.{change-of, turn-of}
 
 -- ---- what is unowned is the same
@@ -157,42 +154,18 @@ shared-outside host _ sound allowed is = cc
 
 -- ---- each entry
 
-abbrev KeepsAfter : Plan → List Entry → Entry → Type 0
-KeepsAfter p h e = KeepsTheRest p e (after p.pods.opening h) (after p.pods.opening (h ++ e ∷ []))
-
-abbrev AllKeep : Plan → List Entry → Type 0
-AllKeep p h = (before later : List Entry) (e : Entry) → h ≡ before ++ e ∷ later → KeepsAfter p before e
-
--- one entry more
-keep-next : (w : World) (x : Entry) → KeepsTheRest w.plan x (host_of w) (host_on (host_of w) x) → AllKeep w.plan w.history → AllKeep w.plan (w.history ++ x ∷ [])
-keep-next w x now was = λ before later e is. elim (split_snoc w.history before later x e is) [
-  | inl t ↦
-      let at_host : KeepsAfter w.plan w.history x = subst (KeepsTheRest w.plan x (host_of w)) (sym (after-append w.plan.pods.opening w.history x)) now in
-      subst (λ h. KeepsAfter w.plan h e) t.1 (subst (KeepsAfter w.plan w.history) t.2 at_host)
-  | inr t ↦ was before t.0 e t.2
-]
-
-keep-kept : (w : World) (n : ℕ) (c : Placed) (list : NetList) (call : Call) (faulty : Bool) → GoesOn w n c list call faulty → AllKeep w.plan w.history → AllKeep w.plan (w.history ++ entry_of (host_of w) n call faulty ∷ [])
-keep-kept w n c list call faulty on was =
+keep-now : DoesNow KeepsTheRest
+keep-now w n c list call faulty on =
     let x = entry_of (host_of w) n call faulty in
     let both : KeepsBoth (host_of w) (host_on (host_of w) x) = on-entry (λ k. KeepsBoth (host_of w) k) (host_of w) n call faulty (rest-nothing (host_of w))
     (λ f. rest-call (host_of w) call (sound_host w on.legal) (on.allowed f) (turn-inside c.command call (turn-of w n c list call faulty on))) in
-    keep-next w x (record { outside = λ m d at number verb. both.outside; shared = both.shared }) was
+    record { outside = λ m d at number verb. both.outside; shared = both.shared }
 
-keep-changed : (w : World) (n : ℕ) (c : Placed) (call : Call) (faulty : Bool) → Changes w n c call faulty → AllKeep w.plan w.history → AllKeep w.plan (w.history ++ entry_of (host_of w) n call faulty ∷ [])
-keep-changed w n c call faulty on was =
-    let x = entry_of (host_of w) n call faulty in
-    let change = change-of w n c call faulty on in
-    let shared : KeepsShared (host_of w) (host_on (host_of w) x) = on-entry (λ k. KeepsShared (host_of w) k) (host_of w) n call faulty (shared-nothing (host_of w))
-    (λ f. shared-outside (host_of w) call (sound_host w on.legal) (on.allowed f) change.call_is) in
-    keep-next w x
-    (record {
-      outside = λ m d at number verb.
-          let place : m ≡ n = let a : n + 1 ≡ m + 1 = number in omega (arith, a) in
-          let same : d ≡ c = ready_is w n m c d on.ready place at in
-          absurd (both_ways (is_of_network c.command.verb) change.verb_is (ap (λ (z : Placed). is_of_network z.command.verb) (sym same) ∙ verb));
-      shared = shared;
-    }) was
+keep-outside : DoesOutside KeepsTheRest
+keep-outside w n c call faulty on = record {
+  outside = by-outside (λ v. is_of_network v ≡ true) (λ d. KeepsWhere is_outside) (λ v is. is) w n c call faulty on;
+  shared = on-entry (λ k. KeepsShared (host_of w) k) (host_of w) n call faulty (shared-nothing (host_of w)) (λ f. shared-outside (host_of w) call (sound_host w on.legal) (on.allowed f) (change-of w n c call faulty on).call_is);
+}
 
 pub each_entry_keeps_the_rest : EachEntryKeepsTheRest
-each_entry_keeps_the_rest w legal before later e is = by-entries AllKeep (λ p well b l x split. absurd (split_nil b l x split)) keep-kept keep-changed w legal before later e is
+each_entry_keeps_the_rest = each-entry KeepsTheRest keep-now keep-outside

@@ -1,5 +1,5 @@
 -- An entry of one attachment leaves all others alone, and what none owns.
-use Rattle.std.specs.Prelude.{◌≡◌, ℕ, ◌+◌, Bool, true, false, List, [], ◌∷◌, ◌++◌, filter, Some, slice_get}
+use Rattle.std.specs.Prelude.{◌≡◌, Bool, true, false, List, ◌++◌, filter}
 use Rattle.cni_verbs.specs.CommandWords.{att_of}
 use Rattle.kernel_types.specs.Equal.{att_eq}
 use Rattle.kernel_types.specs.Isolation.{KeepsWhere}
@@ -9,15 +9,14 @@ use Rattle.kernel_types.specs.declared.object.Host.{Host}
 use Rattle.kernel_types.specs.declared.object.Tag.{Tag}
 use Rattle.kernel_types.specs.declared.object.Tag.TheVariants.{Outside, Base, Own}
 use Rattle.plan_words.specs.Share.{share_of}
+use Rattle.pod_file.specs.declared.command.Command.{Command}
 use Rattle.pod_file.specs.declared.command.Verb.{Verb}
 use Rattle.pod_file.specs.declared.command.Verb.TheVariants as verbs
 use Rattle.gc_sweep.specs.Keep.{stays}
-use Rattle.pod_workers.specs.Legal.{Legal}
 use Rattle.pod_file.specs.Commands.{is_of_network}
-use Rattle.pod_workers.specs.Plans.{Placed, commands_of}
-use Rattle.pod_workers.specs.World.{World, after}
 use Rattle.pod_workers.specs.declared.plan.Entry.{Entry}
 use Rattle.pod_workers.specs.declared.plan.Plan.{Plan}
+use Rattle.pod_laws.specs.Single.{EachEntry, ByVerb}
 
 -- a garbage collection and the world outside may take from any attachment; each other verb changes its own at most
 abbrev pub leaves_others : Verb → Bool
@@ -28,19 +27,18 @@ leaves_others verbs.Drop = false
 leaves_others verbs.Flush = false
 leaves_others verb = true
 
+abbrev pub LeavesOthers : Command → Host → Host → Type 0
+LeavesOthers c old new = (other : Att) → att_eq (att_of c) other ≡ false → share_of other new ≡ share_of other old
+
 -- each entry of an ADD, a DEL, a CHECK or a STATUS leaves the objects of every other attachment, from the start of its
 -- run
 abbrev pub EachEntryLeavesOthers : Type 0
-EachEntryLeavesOthers = (w : World) → Legal w → (n : ℕ) (c : Placed) (before later : List Entry) (e : Entry) (other : Att)
-    → slice_get (commands_of w.plan) n ≡ Some c → e.command ≡ n + 1 → leaves_others c.command.verb ≡ true → att_eq (att_of c.command) other ≡ false → w.history ≡ before ++ e ∷ later
-    → share_of other (after w.plan.pods.opening (before ++ e ∷ [])) ≡ share_of other (after w.plan.pods.opening before)
+EachEntryLeavesOthers = EachEntry (ByVerb (λ v. leaves_others v ≡ true) LeavesOthers)
 
 -- each entry of a garbage collection leaves all that it keeps, list by list (CNI specification, section 3,
 -- "Garbage-collecting unused resources")
 abbrev pub EachCollectionTakesTheStaleAlone : Type 0
-EachCollectionTakesTheStaleAlone = (w : World) → Legal w → (n : ℕ) (c : Placed) (before later : List Entry) (e : Entry)
-    → slice_get (commands_of w.plan) n ≡ Some c → e.command ≡ n + 1 → c.command.verb ≡ verbs.Gc → w.history ≡ before ++ e ∷ later
-    → KeepsWhere (stays c.command.network c.command.valid) (after w.plan.pods.opening before) (after w.plan.pods.opening (before ++ e ∷ []))
+EachCollectionTakesTheStaleAlone = EachEntry (ByVerb (λ v. v ≡ verbs.Gc) (λ c. KeepsWhere (stays c.network c.valid)))
 
 -- ---- what no attachment owns
 
@@ -64,16 +62,11 @@ pub record KeepsShared (old new : Host) : Type 0 where
   pub leases : GrowsAtEnd (filter (λ l. is_base l.tag) old.leases) (filter (λ l. is_base l.tag) new.leases)
   pub cached : GrowsAtEnd (filter (λ c. is_base c.tag) old.cached) (filter (λ c. is_base c.tag) new.cached)
 
--- where the entry is of a verb of the CNI specification, what was made outside is the same, list by list
-abbrev pub KeepsOutside : Plan → Entry → Host → Host → Type 0
-KeepsOutside p e old new = (n : ℕ) (c : Placed) → slice_get (commands_of p) n ≡ Some c → e.command ≡ n + 1 → is_of_network c.command.verb ≡ true → KeepsWhere is_outside old new
-
--- nothing shared goes, and what was made outside goes by the world outside alone
+-- nothing shared goes; and where the entry is of a verb of the CNI specification, what was made outside is the same,
+-- list by list
 pub record KeepsTheRest (p : Plan) (e : Entry) (old new : Host) : Type 0 where
-  pub outside : KeepsOutside p e old new
+  pub outside : ByVerb (λ v. is_of_network v ≡ true) (λ c. KeepsWhere is_outside) p e old new
   pub shared : KeepsShared old new
 
--- each entry of a history
 abbrev pub EachEntryKeepsTheRest : Type 0
-EachEntryKeepsTheRest = (w : World) → Legal w → (before later : List Entry) (e : Entry) → w.history ≡ before ++ e ∷ later
-    → KeepsTheRest w.plan e (after w.plan.pods.opening before) (after w.plan.pods.opening (before ++ e ∷ []))
+EachEntryKeepsTheRest = EachEntry KeepsTheRest

@@ -17,10 +17,11 @@ use Rattle.pod_file.specs.declared.command.Command.{Command}
 use Rattle.pod_file.specs.declared.command.Verb.TheVariants as verbs
 use Rattle.pod_workers.specs.Legal.{Legal}
 use Rattle.pod_workers.specs.Plans.{Placed, commands_of, list_for}
-use Rattle.pod_workers.specs.World.{World, after}
+use Rattle.pod_workers.specs.World.{World}
 use Rattle.pod_workers.specs.declared.plan.Entry.{Entry}
 use Rattle.pod_laws.specs.Moments.{has_fault, host_at_end, own_entries}
 use Rattle.pod_laws.specs.Answers.{IsRefusal, is_cut_off}
+use Rattle.pod_laws.specs.Single.{EachEntry, ByVerb}
 
 -- its words were good and no entry was a fault, and nothing of the attachment is left at its last entry
 pub record HasDeleted (c : Command) (entries : List Entry) (objects : Share) : Type 0 where
@@ -80,6 +81,4 @@ pub record DeletesOwnAlone (att : Att) (old new : Host) : Type 0 where
 
 -- each entry of a DEL, from the start of its run
 abbrev pub EachDeletionIsOwn : Type 0
-EachDeletionIsOwn = (w : World) → Legal w → (n : ℕ) (c : Placed) (before later : List Entry) (e : Entry)
-    → slice_get (commands_of w.plan) n ≡ Some c → c.command.verb ≡ verbs.Del → e.command ≡ n + 1 → w.history ≡ before ++ e ∷ later
-    → DeletesOwnAlone (att_of c.command) (after w.plan.pods.opening before) (after w.plan.pods.opening (before ++ e ∷ []))
+EachDeletionIsOwn = EachEntry (ByVerb (λ v. v ≡ verbs.Del) (λ c. DeletesOwnAlone (att_of c)))

@@ -1,6 +1,6 @@
 -- What a kernel grants of questions, and that asking changes nothing (CNI specification, section 3, "Checking
 -- attachment" and "Status").
-use Rattle.std.specs.Prelude.{◌≡◌, ℕ, ◌+◌, Bool, true, false, List, [], ◌∷◌, ◌++◌, Some, slice_get}
+use Rattle.std.specs.Prelude.{◌≡◌, Bool, true, false, List, ◌∷◌, ◌++◌}
 use Rattle.std.specs.List.{list_all}
 use Rattle.cni_verbs.specs.declared.answer.Question.{Question}
 use Rattle.kernel_types.specs.Apply.{apply}
@@ -9,10 +9,7 @@ use Rattle.kernel_types.specs.declared.call.Reply.{Reply}
 use Rattle.kernel_types.specs.declared.call.Reply.TheVariants.{Has}
 use Rattle.pod_file.specs.declared.command.Verb.{Verb}
 use Rattle.pod_file.specs.declared.command.Verb.TheVariants as verbs
-use Rattle.pod_workers.specs.Legal.{Legal}
-use Rattle.pod_workers.specs.Plans.{Placed, commands_of}
-use Rattle.pod_workers.specs.World.{World, after}
-use Rattle.pod_workers.specs.declared.plan.Entry.{Entry}
+use Rattle.pod_laws.specs.Single.{EachEntry, ByVerb}
 
 abbrev pub is_yes : Reply → Bool
 is_yes (Has has) = has
@@ -41,6 +38,4 @@ only_asks verb = false
 
 -- each entry of a CHECK or a STATUS leaves the whole host
 abbrev pub EachQuestionLeavesTheHost : Type 0
-EachQuestionLeavesTheHost = (w : World) → Legal w → (n : ℕ) (c : Placed) (before later : List Entry) (e : Entry)
-    → slice_get (commands_of w.plan) n ≡ Some c → only_asks c.command.verb ≡ true → e.command ≡ n + 1 → w.history ≡ before ++ e ∷ later
-    → after w.plan.pods.opening (before ++ e ∷ []) ≡ after w.plan.pods.opening before
+EachQuestionLeavesTheHost = EachEntry (ByVerb (λ v. only_asks v ≡ true) (λ c old new. new ≡ old))

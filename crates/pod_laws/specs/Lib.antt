@@ -13,3 +13,4 @@ pub mod Lasts
 pub mod Moments
 pub mod Refused
 pub mod Repeated
+pub mod Single
