@@ -6,7 +6,7 @@ use Rattle.pod_file.specs.declared.command.Verb.{Verb}
 use Rattle.pod_file.specs.declared.command.Verb.TheVariants as verbs
 use Rattle.kernel_types.specs.declared.call.Reply.{Reply}
 use Rattle.cni_verbs.specs.Answers.{answer_of, answer_outside}
-use Rattle.cni_verbs.specs.Script.{State, Turn, Finish, turn, script, state_after, advance, outside_after, outside_advance}
+use Rattle.cni_verbs.specs.Script.{State, Turn, Finish, turn, state_after, advance, outside_after, outside_advance}
 use Rattle.cni_verbs.specs.declared.answer.Answer.{Answer}
 
 -- a garbage collection, which keeps more than a run does
@@ -45,8 +45,7 @@ advanced p r = record {
 
 -- the script of a command
 abbrev pub turn_by : Option NetList → Command → List Reply → Turn
-turn_by None c rs = turn c (outside_after c rs)
-turn_by (Some list) c rs = script list c rs
+turn_by list c rs = turn c (state_by list c rs)
 
 -- the answer of a command whose script ends so
 abbrev pub answer_by : Option NetList → Command → Finish → Answer

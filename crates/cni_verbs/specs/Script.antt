@@ -293,9 +293,6 @@ turn c (Changing change) = Calls change
 turn c (Collecting work faults) = turn_of_work c.network work.jobs work.sweeps faults
 turn c (Over ending given) = Finishes (record { ending = ending; given = given })
 
-abbrev pub script : NetList → Command → List Reply → Turn
-script list c rs = turn c (state_after list c rs)
-
 abbrev pub IsWork : List Job → List Sweep → Type 0
 IsWork [] [] = ⊥
 IsWork jobs sweeps = ⊤
