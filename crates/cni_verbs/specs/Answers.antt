@@ -7,6 +7,7 @@ use Rattle.serde_json.specs.Written.{compact_text}
 use Rattle.cni_addr.specs.AddrText.{addr_text}
 use Rattle.cni_addr.specs.CidrText.{cidr_text}
 use Rattle.cni_addr.specs.declared.address.Addr.{Addr}
+use Rattle.cni_addr.specs.declared.address.Cidr.{Cidr}
 use Rattle.cni_result.specs.declared.error.CniError.{CniError}
 use Rattle.cni_result.specs.Versions.{version_text}
 use Rattle.cni_result.specs.declared.version.Version.{Version}
@@ -91,14 +92,25 @@ place_text ns = if is_host_ns ns then codes "-" else ns
 abbrev pub call_text : ℕ → List ℕ
 call_text number = codes "call " ++ decimal number
 
+abbrev pub set_text : ℕ → List ℕ
+set_text set = codes "set " ++ decimal set
+
+-- what has a name of its own in a namespace, after the word for what it is
+abbrev pub named_text : List ℕ → List ℕ → List ℕ → List ℕ
+named_text word ns name = word ++ codes " " ++ place_text ns ++ codes " " ++ name
+
+-- what a link has of a network, after the word for what it is
+abbrev pub on_link_text : List ℕ → List ℕ → List ℕ → Cidr → List ℕ
+on_link_text word ns link cidr = named_text word ns link ++ codes " " ++ cidr_text cidr
+
 -- an object by its key, a rule by its place
 abbrev pub missed_text : Missed → List ℕ
 missed_text (missed.Bridge name) = codes "bridge " ++ name
-missed_text (missed.Link ns name) = codes "link " ++ place_text ns ++ codes " " ++ name
-missed_text (missed.Address ns link cidr) = codes "address " ++ place_text ns ++ codes " " ++ link ++ codes " " ++ cidr_text cidr
-missed_text (missed.Route ns link dst) = codes "route " ++ place_text ns ++ codes " " ++ link ++ codes " " ++ cidr_text dst
+missed_text (missed.Link ns name) = named_text (codes "link") ns name
+missed_text (missed.Address ns link cidr) = on_link_text (codes "address") ns link cidr
+missed_text (missed.Route ns link dst) = on_link_text (codes "route") ns link dst
 missed_text (missed.Rule table chain number) = codes "rule " ++ table_text table ++ codes " " ++ chain_text chain ++ codes " " ++ decimal number
-missed_text (missed.Setting ns key) = codes "setting " ++ place_text ns ++ codes " " ++ key
+missed_text (missed.Setting ns key) = named_text (codes "setting") ns key
 missed_text (missed.Lease addr) = codes "lease " ++ addr_text addr
 
 abbrev pub details_of : Command → Cause → List ℕ
@@ -107,13 +119,13 @@ details_of c (IpArgument value) = []
 details_of c BadMapping = []
 details_of c NoNamespace = c.netns
 details_of c (NameTaken tag) = tag_text tag
-details_of c (PoolEmpty set) = codes "set " ++ decimal set
+details_of c (PoolEmpty set) = set_text set
 details_of c NoMaster = []
 details_of c (Fault call) = call_text call
 details_of c (Faults calls) = joined_by_comma (map call_text calls)
 details_of c (TooOld version) = verb_text c.verb
 details_of c Unknown = attachment_text (att_of c)
-details_of c (NoFreeAddress set) = codes "set " ++ decimal set
+details_of c (NoFreeAddress set) = set_text set
 details_of c (MasterAbsent name) = codes "master " ++ name
 details_of c NothingThere = c.ifname
 details_of c (Missing what) = missed_text what

@@ -1,6 +1,6 @@
 //! The errors of refusals (CNI specification, section 5, "Error").
 
-ghost use Rattle.std.specs.Prelude.{◌≡◌, ◌++◌, codes, decimal, map, string_bytes, IfOk, OnOk};
+ghost use Rattle.std.specs.Prelude.{◌≡◌, ◌++◌, codes, map, string_bytes, IfOk, OnOk};
 ghost use Rattle.serde_json.specs.Data.{string};
 ghost use Rattle.serde_json.specs.Written.{compact_text};
 ghost use Rattle.cni_verbs.specs.Answers as answers;
@@ -129,7 +129,7 @@ fn message_of(alloc: Global, cause: &Cause) -> Result<Text, NoMemory>
 // ---- details
 
 fn set_text(alloc: Global, set: u32) -> Result<Text, NoMemory>
-    ensures { IfOk result (λ text. text ≡ codes "set " ++ decimal set) }
+    ensures { IfOk result (λ text. text ≡ answers.set_text set) }
 {
     Text::of(alloc, format!(in alloc; "set {set}")?.as_str())
 }

@@ -1,7 +1,6 @@
 //! What a check missed, as its error names it.
 
 ghost use Rattle.std.specs.Prelude.{◌≡◌, ◌++◌, codes, IfOk};
-ghost use Rattle.cni_addr.specs.CidrText.{cidr_text};
 ghost use Rattle.cni_verbs.specs.Answers as answers;
 
 use crate::answer::Missed;
@@ -25,7 +24,7 @@ fn bridge_text(alloc: Global, name: &Text) -> Result<Text, NoMemory>
 
 /// What has a name of its own in a namespace, after the word for what it is.
 fn named_text(alloc: Global, word: &str, ns: &Text, name: &Text) -> Result<Text, NoMemory>
-    ensures { IfOk result (λ text. text ≡ word.now ++ codes " " ++ answers.place_text ns.now ++ codes " " ++ name.now) }
+    ensures { IfOk result (λ text. text ≡ answers.named_text word.now ns.now name.now) }
 {
     let place = place_text(ns.as_str());
     let name = name.as_str();
@@ -40,7 +39,7 @@ fn on_link_text(
     link: &Text,
     cidr: &Cidr,
 ) -> Result<Text, NoMemory>
-    ensures { IfOk result (λ text. text ≡ word.now ++ codes " " ++ answers.place_text ns.now ++ codes " " ++ link.now ++ codes " " ++ cidr_text cidr.now) }
+    ensures { IfOk result (λ text. text ≡ answers.on_link_text word.now ns.now link.now cidr.now) }
 {
     let place = place_text(ns.as_str());
     let link = link.as_str();
