@@ -20,6 +20,14 @@ use kernel_types::{Att, Call, Given, Kind};
 use net_conf::{Chained, First, HostLocalConf, NetList};
 use std::alloc::Global;
 
+fn push_all<T: Drop>(list: &mut Vec<T>, more: Items<T>) -> Result<(), NoMemory>
+    ensures { OnOk result (list.new.items ≡ list.old.items ++ more) }
+{
+    let mut more = more.into_vec();
+    list.append(&mut more)?;
+    Ok(())
+}
+
 // ---- the first plugin
 
 /// The calls of the first plugin before an address is leased.
@@ -196,14 +204,6 @@ struct ChainPlan {
     last: AddResult,
 }
 
-fn push_all(calls: &mut Vec<Call>, more: Items<Call>) -> Result<(), NoMemory>
-    ensures { OnOk result (calls.new.items ≡ calls.old.items ++ more) }
-{
-    let mut more = more.into_vec();
-    calls.append(&mut more)?;
-    Ok(())
-}
-
 fn chain(
     alloc: Global,
     chained: &[Chained],
@@ -313,22 +313,13 @@ fn chained_kinds_reversed(alloc: Global, chained: &[Chained]) -> Result<Vec<Kind
     Ok(kinds)
 }
 
-fn push_kinds(kinds: &mut Vec<Kind>, more: &[Kind]) -> Result<(), NoMemory>
-    ensures { OnOk result (kinds.new.items ≡ kinds.old.items ++ more.now) }
-{
-    for kind in more {
-        kinds.push(*kind)?;
-    }
-    Ok(())
-}
-
 /// The kinds of objects that are taken back, the last plugin's first, and the cached entry at the end. A kind may come
 /// twice.
 pub fn kinds_of(alloc: Global, list: &NetList) -> Result<Items<Kind>, NoMemory>
     ensures { IfOk result (λ kinds. kinds ≡ wanted.kinds_of list.now) }
 {
     let mut kinds = chained_kinds_reversed(alloc, list.chained.as_slice())?;
-    push_kinds(&mut kinds, first_kinds(alloc, &list.first)?.as_slice())?;
+    push_all(&mut kinds, first_kinds(alloc, &list.first)?)?;
     kinds.push(Kind::Cached)?;
     Ok(Items::of_vec(kinds))
 }
