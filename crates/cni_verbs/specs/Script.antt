@@ -1,5 +1,5 @@
 -- What a verb calls and what it answers, as a function of the list, the command and all replies so far.
-use Rattle.std.specs.Prelude.{ℕ, ◌+◌, Bool, true, false, List, [], ◌∷◌, ◌++◌, length, filter_map, Option, Some, None, ⊤, if◌then◌else◌}
+use Rattle.std.specs.Prelude.{ℕ, ◌+◌, Bool, true, false, List, [], ◌∷◌, ◌++◌, length, filter_map, Option, Some, None, option_map, unwrap_or, is_some, MatchOption, ⊤, if◌then◌else◌}
 use Rattle.cni_addr.specs.declared.address.Addr.{Addr}
 use Rattle.cni_addr.specs.declared.range.RangeSet.{RangeSet}
 use Rattle.cni_result.specs.declared.cached.Cached.{Cached}
@@ -233,42 +233,65 @@ outside_after c rs = outside_from 0 (outside_start c) rs
 
 -- ---- the next call, or the answer
 
--- a collection that met no fault is answered without an error
-abbrev pub swept : List ℕ → Ending
-swept [] = Yes
-swept (number ∷ numbers) = Refused (causes.Faults (number ∷ numbers))
-
-abbrev pub call_of_work : List ℕ → List Job → List Sweep → Option Call
-call_of_work network [] [] = None
-call_of_work network [] (s ∷ sweeps) = Some (OwnersOf network s.kind)
-call_of_work network (j ∷ jobs) sweeps = Some (step_call j.att j.step)
-
-unfoldable pub next_call : Command → State → Option Call
-next_call c AtBegin = Some (Begin (att_of c) c.netns)
-next_call c (BeforeLeases next left) = Some next
-next_call c (Leasing next left given) = Some (LeaseNext (att_of c) (length given) next)
-next_call c (AfterLeases next left given) = Some next
-next_call c (ReadingCache ending) = Some (CacheGet (att_of c))
-next_call c (Deleting next left ending) = Some (deletion (att_of c) next)
-next_call c FindingEntry = Some (CacheGet (att_of c))
-next_call c (Asking next left) = Some next.call
-next_call c (Changing change) = Some change
-next_call c (Collecting work faults) = call_of_work c.network work.jobs work.sweeps
-next_call c (Over ending given) = None
-
 -- how the script ends, and with which addresses
 pub record Finish : Type 0 where
   pub ending : Ending
   pub given : List Addr
 
+-- what a run does in a state: it makes a call of its command, goes on with its collection, or ends
+pub data Act : Type 0 where
+  Makes : (call_of : Command → Call) → Act
+  Collects : (work : Work) (faults : List ℕ) → Act
+  Ends : (finish : Finish) → Act
+
+abbrev pub act_of : State → Act
+act_of AtBegin = Makes (λ c. Begin (att_of c) c.netns)
+act_of (BeforeLeases next left) = Makes (λ c. next)
+act_of (Leasing next left given) = Makes (λ c. LeaseNext (att_of c) (length given) next)
+act_of (AfterLeases next left given) = Makes (λ c. next)
+act_of (ReadingCache ending) = Makes (λ c. CacheGet (att_of c))
+act_of (Deleting next left ending) = Makes (λ c. deletion (att_of c) next)
+act_of FindingEntry = Makes (λ c. CacheGet (att_of c))
+act_of (Asking next left) = Makes (λ c. next.call)
+act_of (Changing change) = Makes (λ c. change)
+act_of (Collecting work faults) = Collects work faults
+act_of (Over ending given) = Ends (record { ending = ending; given = given })
+
+-- what a collection calls next, by the name of its network, where work is left
+abbrev pub collected_by : List Job → List Sweep → Option (List ℕ → Call)
+collected_by [] [] = None
+collected_by [] (s ∷ sweeps) = Some (λ network. OwnersOf network s.kind)
+collected_by (j ∷ jobs) sweeps = Some (λ network. step_call j.att j.step)
+
+-- a collection that met no fault is answered without an error
+abbrev pub swept : List ℕ → Ending
+swept [] = Yes
+swept (number ∷ numbers) = Refused (causes.Faults (number ∷ numbers))
+
+abbrev pub swept_finish : List ℕ → Finish
+swept_finish faults = record { ending = swept faults; given = [] }
+
+abbrev pub call_of_work : List ℕ → List Job → List Sweep → Option Call
+call_of_work network jobs sweeps = option_map (λ call_of. call_of network) (collected_by jobs sweeps)
+
+abbrev pub call_by : Command → Act → Option Call
+call_by c (Makes call_of) = Some (call_of c)
+call_by c (Collects work faults) = call_of_work c.network work.jobs work.sweeps
+call_by c (Ends finish) = None
+
+unfoldable pub next_call : Command → State → Option Call
+next_call c s = call_by c (act_of s)
+
 abbrev pub finish_of_work : List Job → List Sweep → List ℕ → Option Finish
-finish_of_work [] [] faults = Some (record { ending = swept faults; given = [] })
-finish_of_work jobs sweeps faults = None
+finish_of_work jobs sweeps faults = if is_some (collected_by jobs sweeps) then None else Some (swept_finish faults)
+
+abbrev pub finish_by : Act → Option Finish
+finish_by (Makes call_of) = None
+finish_by (Collects work faults) = finish_of_work work.jobs work.sweeps faults
+finish_by (Ends finish) = Some finish
 
 unfoldable pub finish_of : State → Option Finish
-finish_of (Collecting work faults) = finish_of_work work.jobs work.sweeps faults
-finish_of (Over ending given) = Some (record { ending = ending; given = given })
-finish_of s = None
+finish_of s = finish_by (act_of s)
 
 -- the next call, or the end
 pub data Turn : Type 0 where
@@ -276,32 +299,27 @@ pub data Turn : Type 0 where
   Finishes : (finish : Finish) → Turn
 
 abbrev pub turn_of_work : List ℕ → List Job → List Sweep → List ℕ → Turn
-turn_of_work network [] [] faults = Finishes (record { ending = swept faults; given = [] })
-turn_of_work network [] (s ∷ sweeps) faults = Calls (OwnersOf network s.kind)
-turn_of_work network (j ∷ jobs) sweeps faults = Calls (step_call j.att j.step)
+turn_of_work network jobs sweeps faults = unwrap_or (option_map Calls (call_of_work network jobs sweeps)) (Finishes (swept_finish faults))
+
+abbrev pub turn_by_act : Command → Act → Turn
+turn_by_act c (Makes call_of) = Calls (call_of c)
+turn_by_act c (Collects work faults) = turn_of_work c.network work.jobs work.sweeps faults
+turn_by_act c (Ends finish) = Finishes finish
 
 unfoldable pub turn : Command → State → Turn
-turn c AtBegin = Calls (Begin (att_of c) c.netns)
-turn c (BeforeLeases next left) = Calls next
-turn c (Leasing next left given) = Calls (LeaseNext (att_of c) (length given) next)
-turn c (AfterLeases next left given) = Calls next
-turn c (ReadingCache ending) = Calls (CacheGet (att_of c))
-turn c (Deleting next left ending) = Calls (deletion (att_of c) next)
-turn c FindingEntry = Calls (CacheGet (att_of c))
-turn c (Asking next left) = Calls next.call
-turn c (Changing change) = Calls change
-turn c (Collecting work faults) = turn_of_work c.network work.jobs work.sweeps faults
-turn c (Over ending given) = Finishes (record { ending = ending; given = given })
+turn c s = turn_by_act c (act_of s)
 
 abbrev pub IsWork : List Job → List Sweep → Type 0
-IsWork [] [] = ⊥
-IsWork jobs sweeps = ⊤
+IsWork jobs sweeps = MatchOption (collected_by jobs sweeps) ⊥ (λ call_of. ⊤)
+
+abbrev pub IsUnended : Act → Type 0
+IsUnended (Makes call_of) = ⊤
+IsUnended (Collects work faults) = IsWork work.jobs work.sweeps
+IsUnended (Ends finish) = ⊥
 
 -- a run in this state has a call to make
 abbrev pub IsOpen : State → Type 0
-IsOpen (Collecting work faults) = IsWork work.jobs work.sweeps
-IsOpen (Over ending given) = ⊥
-IsOpen s = ⊤
+IsOpen s = IsUnended (act_of s)
 
 -- ---- the leases of a run
 
