@@ -197,37 +197,28 @@ fn all_chained_results(
     Ok(prev)
 }
 
-/// What the chained plugins call, and the result of the last.
-#[derive(Drop)]
-struct ChainPlan {
-    calls: Items<Call>,
-    last: AddResult,
-}
-
-fn chain(
+/// Puts what the chained plugins call at the end, and gives the result of the last.
+fn push_chained(
     alloc: Global,
+    calls: &mut Vec<Call>,
     chained: &[Chained],
     att: &Att,
     netns: &Text,
     mappings: &[PortMapping],
     first: AddResult,
-) -> Result<ChainPlan, NoMemory>
-    ensures calls { IfOk result (λ all. all.calls ≡ wanted.all_chained_calls chained.now att.now netns.now mappings.now first) }
-    ensures last { IfOk result (λ all. all.last ≡ wanted.all_chained_results chained.now first) }
+) -> Result<AddResult, NoMemory>
+    ensures calls { OnOk result (calls.new.items ≡ calls.old.items ++ wanted.all_chained_calls chained.now att.now netns.now mappings.now first) }
+    ensures last { IfOk result (λ last. last ≡ wanted.all_chained_results chained.now first) }
 {
-    let mut calls = Vec::new(alloc);
-    let mut prev = first;
+    let mut last = first;
     for plugin in chained {
         push_all(
-            &mut calls,
-            chained_calls(alloc, plugin, att, netns, mappings, &prev)?,
+            calls,
+            chained_calls(alloc, plugin, att, netns, mappings, &last)?,
         )?;
-        prev = chained_result(alloc, plugin, &prev)?;
+        last = chained_result(alloc, plugin, &last)?;
     }
-    Ok(ChainPlan {
-        calls: Items::of_vec(calls),
-        last: prev,
-    })
+    Ok(last)
 }
 
 // ---- the result
@@ -284,17 +275,17 @@ pub fn back_calls(
     let given = given_of(alloc, sets_of(list), addrs)?;
     let first = first_plugin_result(alloc, list, att, netns, given.as_slice())?;
     let after = calls_after(alloc, &list.first, att, netns, given.as_slice())?;
-    let chain = chain(
+    let mut calls = after.into_vec();
+    let last = push_chained(
         alloc,
+        &mut calls,
         list.chained.as_slice(),
         att,
         netns,
         mappings.as_slice(),
         first,
     )?;
-    let mut calls = after.into_vec();
-    push_all(&mut calls, chain.calls)?;
-    calls.push(cache_put(att, netns, mappings, chain.last)?)?;
+    calls.push(cache_put(att, netns, mappings, last)?)?;
     Ok(Items::of_vec(calls))
 }
 
