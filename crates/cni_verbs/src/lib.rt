@@ -43,5 +43,3 @@ pub use answer::{Answer, Cause, Ending, Missed, Question, Skip, WordFaults};
 pub use error_kind::{ErrorKind, memory_error, message_of_field, plain_error, titled_error};
 pub use run::Run;
 
-#[cfg(test)]
-mod tests;

@@ -1,5 +1,5 @@
-//! Two ADDs of one round, stepped in turn by hand, and the room that an entry of the history takes; and the words, the
-//! files and the sink of the other tests.
+//! Two ADDs of one round, stepped in turn by hand, the room that an entry of the history takes, and the codes of errors;
+//! and the words, the files and the sink of the other tests.
 
 ghost use Rattle.std.specs.Prelude.{◌≤◌, IfOk, length};
 ghost use Rattle.tool_words.specs.Command.{most_lists};
@@ -7,7 +7,7 @@ ghost use Rattle.tool_words.specs.Command.{most_lists};
 use crate::plan::read_plan;
 use cni_addr::{Items, NoMemory, Text};
 use cni_io::{MemFiles, MemSink};
-use cni_verbs::Answer;
+use cni_verbs::{Answer, ErrorKind};
 use kernel_model::ListKernel;
 use kernel_text::reply_text;
 use pod_workers::{Book, Entry, begin_on_lists};
@@ -159,5 +159,18 @@ fn the_second_finds_the_name_taken(rt: HostRuntime) -> Result<(), Fail> {
 #[test]
 fn an_entry_takes_so_many_bytes(rt: HostRuntime) -> Result<(), Fail> {
     assert_eq!(rt; size_of::<Entry>(), 528);
+    Ok(())
+}
+
+/// The codes that the CNI specification names (section 5, "Error").
+#[test]
+fn codes_are_those_of_the_specification(rt: HostRuntime) -> Result<(), Fail> {
+    assert_eq!(rt; ErrorKind::IncompatibleVersion.code(), 1);
+    assert_eq!(rt; ErrorKind::UnsupportedField.code(), 2);
+    assert_eq!(rt; ErrorKind::ContainerUnknown.code(), 3);
+    assert_eq!(rt; ErrorKind::InvalidVariables.code(), 4);
+    assert_eq!(rt; ErrorKind::DecodingFailed.code(), 6);
+    assert_eq!(rt; ErrorKind::InvalidList.code(), 7);
+    assert_eq!(rt; ErrorKind::NotAvailable.code(), 50);
     Ok(())
 }
