@@ -121,6 +121,55 @@ fn round<R: Threads + Wait + Sync, G: Gate>(
     }
 }
 
+/// What is looked at of a book after a round.
+#[derive(Drop)]
+struct Made {
+    /// The entries that each worker made.
+    counts: Items<u64>,
+    entries: u64,
+    round: u32,
+    has_ended: bool,
+}
+
+fn made_of(book: &Book<ListKernel>, counts: Items<u64>) -> Made {
+    Made {
+        counts,
+        entries: book.history().len() as u64,
+        round: book.round(),
+        has_ended: book.ended(),
+    }
+}
+
+/// What so many workers make of the first round of these pods.
+fn first_round<R: Threads + Wait + Sync>(
+    rt: &R,
+    alloc: Global,
+    text: &str,
+    workers: u8,
+) -> Result<Made, Fail> {
+    let book = book_of(alloc, text)?;
+    let Rounded { book, counts } = round(rt, alloc, book, workers, &OpenGate)?;
+    let made = made_of(&book, counts);
+    drop(book);
+    Ok(made)
+}
+
+/// What two workers make of both rounds, behind a gate each.
+fn both_rounds<R: Threads + Wait + Sync>(
+    rt: &R,
+    alloc: Global,
+    adding: &Turns,
+    deleting: &Turns,
+) -> Result<[Made; 2], Fail> {
+    let book = book_of(alloc, TWO_ADDED)?;
+    let Rounded { book, counts } = round(rt, alloc, book, 2, adding)?;
+    let added = made_of(&book, counts);
+    let Rounded { book, counts } = round(rt, alloc, book, 2, deleting)?;
+    let deleted = made_of(&book, counts);
+    drop(book);
+    Ok([added, deleted])
+}
+
 /// Holds the first command back before its first step until the second has made one. It counts who passes.
 #[derive(Drop)]
 struct Turns {
@@ -164,48 +213,41 @@ impl Turns {
 /// The gate is passed once for each call and once for each answer, and for commands of the current round alone.
 #[test]
 fn two_workers_step_at_one_time(rt: HostRuntime) -> Result<(), Fail> {
-    let alloc = rt.alloc();
-    let gate = nobody_passed();
-    let added = round(&rt, alloc, book_of(alloc, TWO_ADDED)?, 2, &gate)?;
-    assert!(rt; !gate.gave_up.load(Ordering::SeqCst));
-    assert_eq!(rt; gate.passed.load(Ordering::SeqCst), 14);
+    let adding = nobody_passed();
+    let deleting = nobody_passed();
+    let [added, deleted] = both_rounds(&rt, rt.alloc(), &adding, &deleting)?;
+    assert!(rt; !adding.gave_up.load(Ordering::SeqCst));
+    assert_eq!(rt; adding.passed.load(Ordering::SeqCst), 14);
     assert_eq!(rt; added.counts.as_slice(), [6, 6].as_slice());
-    assert_eq!(rt; added.book.round(), 1);
-    let gate = nobody_passed();
-    let deleted = round(&rt, alloc, added.book, 2, &gate)?;
-    assert!(rt; deleted.book.ended());
-    let made = deleted.book.history().len().saturating_sub(12);
-    assert_eq!(rt; gate.passed.load(Ordering::SeqCst), made as u64 + 2);
+    assert_eq!(rt; added.round, 1);
+    assert!(rt; deleted.has_ended);
+    let made = deleted.entries.saturating_sub(12);
+    assert_eq!(rt; deleting.passed.load(Ordering::SeqCst), made + 2);
     Ok(())
 }
 
 #[test]
 fn one_worker_makes_every_entry(rt: HostRuntime) -> Result<(), Fail> {
-    let alloc = rt.alloc();
-    let rounded = round(&rt, alloc, book_of(alloc, THREE_OF_TWO)?, 1, &OpenGate)?;
-    let made = rounded.book.history().len() as u64;
-    assert_eq!(rt; rounded.counts.as_slice(), [made].as_slice());
-    assert!(rt; rounded.book.ended());
+    let made = first_round(&rt, rt.alloc(), THREE_OF_TWO, 1)?;
+    assert_eq!(rt; made.counts.as_slice(), [made.entries].as_slice());
+    assert!(rt; made.has_ended);
     Ok(())
 }
 
 /// A container goes to one worker with all its commands, and a worker without one makes no entry.
 #[test]
 fn each_container_has_its_worker(rt: HostRuntime) -> Result<(), Fail> {
-    let alloc = rt.alloc();
-    let rounded = round(&rt, alloc, book_of(alloc, THREE_OF_TWO)?, 4, &OpenGate)?;
-    let made = rounded.book.history().len() as u64;
-    let counts = rounded.counts.as_slice();
-    assert!(rt; counts.len() == 4 && 6 < made);
-    assert_eq!(rt; counts, [made - 6, 6, 0, 0].as_slice());
+    let made = first_round(&rt, rt.alloc(), THREE_OF_TWO, 4)?;
+    let counts = made.counts.as_slice();
+    assert!(rt; counts.len() == 4 && 6 < made.entries);
+    assert_eq!(rt; counts, [made.entries - 6, 6, 0, 0].as_slice());
     Ok(())
 }
 
 /// Containers go to workers in turn, so each of four makes the entries of two ADDs.
 #[test]
 fn each_of_four_makes_a_quarter(rt: HostRuntime) -> Result<(), Fail> {
-    let alloc = rt.alloc();
-    let rounded = round(&rt, alloc, book_of(alloc, EIGHT_ADDED)?, 4, &OpenGate)?;
-    assert_eq!(rt; rounded.counts.as_slice(), [12, 12, 12, 12].as_slice());
+    let made = first_round(&rt, rt.alloc(), EIGHT_ADDED, 4)?;
+    assert_eq!(rt; made.counts.as_slice(), [12, 12, 12, 12].as_slice());
     Ok(())
 }
