@@ -42,4 +42,3 @@ pub mod words;
 pub use answer::{Answer, Cause, Ending, Missed, Question, Skip, WordFaults};
 pub use error_kind::{ErrorKind, memory_error, message_of_field, plain_error, titled_error};
 pub use run::Run;
-
