@@ -121,3 +121,8 @@ asking-finish list c inquiry addrs phase f is over =
     subst (λ p. Some (f (record { ending = Yes; given = [] })) ≡ option_map f (finish_of (state_in list c addrs p))) (sym is)
     (finish-listed script.asking (questions_left list c inquiry) (record { ending = Yes; given = [] }) f refl (λ question questions. tt)
     (subst (λ p. IsOpen (state_in list c addrs p) → ⊥) is over))
+
+pub over-finish : {A : Type 0} (list : NetList) (c : Command) (ending : Ending) (addrs : List Addr) (phase : Phase) (f : Finish → A) → phase ≡ phases.Over ending
+    → Some (f (record { ending = ending; given = [] })) ≡ option_map f (finish_of (state_in list c addrs phase))
+unfolding finish_of
+over-finish list c ending addrs phase f is = sym (ap (λ p. option_map f (finish_of (state_in list c addrs p))) is)

@@ -196,9 +196,9 @@ pub goes_deleting : (list : NetList) (c : Command) (made passed : ℕ) (ending :
     → ((kind : Kind) → drop passed (kinds_of list) ≡ kind ∷ drop (passed + 1) (kinds_of list)
     → IsPhaseOf list c (made + 1) addrs next (script.at_deletion (made + 1) kind (drop (passed + 1) (kinds_of list)) ending r))
     → Goes list c made addrs addrs phase r next
-goes_deleting list c made passed ending addrs phase r next is open h =
+goes_deleting list c made passed ending addrs phase r next is opens h =
     let O : Phase → Type 0 = λ p. IsOpen (state_in list c addrs p) in
-    let left = item_left (λ kinds. script.deleting kinds ending) (kinds_of list) passed (λ h. h) (subst O is open) in
+    let left = item_left (λ kinds. script.deleting kinds ending) (kinds_of list) passed (λ h. h) (subst O is opens) in
     let F : Phase → Type 0 = λ p. Goes list c made addrs addrs p r next in
     subst F (sym is) (at_state list c (made + 1) addrs next (steps_deletion list c (made + 1) passed left.0 ending r left.1) (h left.0 left.1))
 
@@ -213,10 +213,10 @@ pub goes_asking : (list : NetList) (c : Command) (made : ℕ) (inquiry : Inquiry
     → ((question : Question) → IsReady list c inquiry → questions_left list c inquiry ≡ question ∷ drop (inquiry.passed + 1) (questions_about list c inquiry.about)
     → IsPhaseOf list c (made + 1) addrs next (script.at_question (made + 1) question (drop (inquiry.passed + 1) (questions_about list c inquiry.about)) r))
     → Goes list c made addrs addrs phase r next
-goes_asking list c made inquiry addrs phase r next is prepared open h =
+goes_asking list c made inquiry addrs phase r next is prepared opens h =
     let R : Phase → Type 0 = λ p. IsPrepared list c addrs p in
     let O : Phase → Type 0 = λ p. IsOpen (state_in list c addrs p) in
-    let left = item_left script.asking (questions_about list c inquiry.about) inquiry.passed (λ h. h) (subst O is open) in
+    let left = item_left script.asking (questions_about list c inquiry.about) inquiry.passed (λ h. h) (subst O is opens) in
     let F : Phase → Type 0 = λ p. Goes list c made addrs addrs p r next in
     subst F (sym is) (at_state list c (made + 1) addrs next (steps_question list c (made + 1) left.0 inquiry r left.1) (h left.0 (subst R is prepared) left.1))
 
