@@ -21,6 +21,7 @@ pub(crate) struct Crew<L: Ledger> {
     workers: Vec<Worker<L>>,
     rest: Share<L>,
     counts: Vec<u64>,
+    ghost some: { 0 < length workers.items },
     ghost nothing_left: { (rest.parts ≡ 0) × (rest.amount ≡ 0) },
     ghost no_counts: { counts.items ≡ [] },
     ghost room: { length workers.items ≤ vec_capacity counts },

@@ -1,6 +1,6 @@
 //! A round by several workers.
 
-ghost use Rattle.std.specs.Prelude.{◌≡◌, ◌+◌, ◌<◌, ◌≤◌, length, sum, IfOk, IfErr};
+ghost use Rattle.std.specs.Prelude.{◌≡◌, ◌+◌, ◌<◌, ◌≤◌, ◌^◌, length, sum, IfOk, IfErr};
 ghost use Rattle.pod_workers.specs.Extends.{Rounds};
 ghost use Rattle.pod_threads.specs.Counted.{entries_of_round};
 
@@ -94,6 +94,7 @@ fn end_round<K: Kernel + Drop>(book: &mut Book<K>) -> usize
     requires { book.old.round < length book.old.plan.pods.rounds }
     ensures rounds { Rounds book.old book.new }
     ensures entries { length book.new.history ≡ length book.old.history + result }
+    ensures fits { length book.new.history < 2 ^ 64 }
 {
     let before = book.history().len();
     book.round_alone();
