@@ -1,13 +1,12 @@
 -- The owners that a kernel names are all that there are.
-use Rattle.std.proofs.Common.{◌≡◌, ℕ, Bool, true, false, not, cond, List, [], ◌∷◌, Some, None, refl, ◌∙◌, arith}
-use Rattle.std.specs.Prelude.{filter, ◌&&◌, ◌||◌}
+use Rattle.std.proofs.Common.{◌≡◌, ℕ, Bool, true, false, not, cond, List, [], ◌∷◌, Some, None, refl, ap, ◌∙◌, arith}
+use Rattle.std.specs.Prelude.{filter, ◌&&◌, ◌||◌, is_some}
 use Rattle.std.specs.List.{list_any, list_all, filter_map, cons_option}
 use Rattle.std.specs.Str.{bytes_eq}
 use Rattle.kernel_types.specs.Equal.{att_eq}
 use Rattle.cni_addr.specs.Lists.{each_key_once}
 use Rattle.kernel_types.specs.Words.{is_own}
 use Rattle.kernel_types.specs.Apply.Calls.{owner_in}
-use Rattle.kernel_types.specs.Sound.{is_of_network}
 use Rattle.kernel_types.specs.declared.object.Att.{Att}
 use Rattle.kernel_types.specs.declared.object.Tag.{Tag}
 use Rattle.kernel_types.specs.declared.object.Tag.TheVariants.{Outside, Base, Own}
@@ -37,14 +36,14 @@ own_goes network valid a stale t h = rw (is_own-one a t h) (goes_own network val
 abbrev pub has_att : List Att → Tag → Bool
 has_att atts t = list_any (λ a. is_own a t) atts
 
-more_owners : (x : Att) (xs : List Att) (network : List ℕ) (ts : List Tag) → list_all (λ t. not (is_of_network network t) || has_att xs t) ts ≡ true → list_all (λ t. not (is_of_network network t) || has_att (x ∷ xs) t) ts ≡ true
-more_owners x xs network ts h = list_all-weaker (λ t. not (is_of_network network t) || has_att xs t) (λ t. not (is_of_network network t) || has_att (x ∷ xs) t) (λ t g. grind (arith, g)) ts h
+more_owners : (x : Att) (xs : List Att) (network : List ℕ) (ts : List Tag) → list_all (λ t. not (is_some (owner_in network t)) || has_att xs t) ts ≡ true → list_all (λ t. not (is_some (owner_in network t)) || has_att (x ∷ xs) t) ts ≡ true
+more_owners x xs network ts h = list_all-weaker (λ t. not (is_some (owner_in network t)) || has_att xs t) (λ t. not (is_some (owner_in network t)) || has_att (x ∷ xs) t) (λ t g. grind (arith, g)) ts h
 
 abbrev owned_by : List Att → List ℕ → Tag → Bool
-owned_by xs network t = not (is_of_network network t) || has_att xs t
+owned_by xs network t = not (is_some (owner_in network t)) || has_att xs t
 
 own_case : (b : Bool) (a : Att) (network : List ℕ) (xs : List Att) (ts : List Tag) → list_all (owned_by xs network) ts ≡ true
-    → ((not b || has_att (cons_option (cond b (Some a) None) xs) (Own a)) && list_all (owned_by (cons_option (cond b (Some a) None) xs) network) ts) ≡ true
+    → ((not (is_some (cond b (Some a) None)) || has_att (cons_option (cond b (Some a) None) xs) (Own a)) && list_all (owned_by (cons_option (cond b (Some a) None) xs) network) ts) ≡ true
 own_case true a network xs ts h = grind (arith, att_eq-refl a, more_owners a xs network ts h)
 own_case false a network xs ts h = h
 
@@ -67,10 +66,12 @@ stale_has : (network : List ℕ) (valid : List ValidAtt) (xs : List Att) (t : Ta
 stale_has network valid xs t stale h =
     list_any-kept_all (λ a. is_own a t) (λ a. not (is_valid valid a)) (λ a own. let here : goes network valid (Own a) ≡ true = rw (is_own-one a t own) at stale in grind (arith, here, goes_own network valid a)) xs h
 
-goes_of : (network : List ℕ) (valid : List ValidAtt) (t : Tag) → goes network valid t ≡ true → is_of_network network t ≡ true
+goes_of : (network : List ℕ) (valid : List ValidAtt) (t : Tag) → goes network valid t ≡ true → is_some (owner_in network t) ≡ true
 goes_of network valid Outside h = cc
 goes_of network valid Base h = cc
-goes_of network valid (Own a) h = grind (arith, h, goes_own network valid a)
+goes_of network valid (Own a) h =
+    let of : bytes_eq a.network network ≡ true = grind (arith, h, goes_own network valid a) in
+    ap (λ b. is_some (cond b (Some a) None)) of
 
 owned_or_stays : (network : List ℕ) (valid : List ValidAtt) (xs : List Att) (t : Tag) → owned_by xs network t ≡ true → (not (goes network valid t) || has_att (filter (λ a. not (is_valid valid a)) (each_key_once att_eq xs)) t) ≡ true
 owned_or_stays network valid xs t h =
