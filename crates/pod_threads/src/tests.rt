@@ -160,14 +160,14 @@ fn both_rounds<R: Threads + Wait + Sync>(
     alloc: Global,
     adding: &Turns,
     deleting: &Turns,
-) -> Result<[Made; 2], Fail> {
+) -> Result<(Made, Made), Fail> {
     let book = book_of(alloc, TWO_ADDED)?;
     let Rounded { book, counts } = round(rt, alloc, book, 2, adding)?;
     let added = made_of(&book, counts);
     let Rounded { book, counts } = round(rt, alloc, book, 2, deleting)?;
     let deleted = made_of(&book, counts);
     drop(book);
-    Ok([added, deleted])
+    Ok((added, deleted))
 }
 
 /// Holds the first command back before its first step until the second has made one. It counts who passes.
@@ -215,7 +215,7 @@ impl Turns {
 fn two_workers_step_at_one_time(rt: HostRuntime) -> Result<(), Fail> {
     let adding = nobody_passed();
     let deleting = nobody_passed();
-    let [added, deleted] = both_rounds(&rt, rt.alloc(), &adding, &deleting)?;
+    let (added, deleted) = both_rounds(&rt, rt.alloc(), &adding, &deleting)?;
     assert!(rt; !adding.gave_up.load(Ordering::SeqCst));
     assert_eq!(rt; adding.passed.load(Ordering::SeqCst), 14);
     assert_eq!(rt; added.counts.as_slice(), [6, 6].as_slice());
