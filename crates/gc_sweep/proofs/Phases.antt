@@ -17,13 +17,11 @@ use Rattle.cni_verbs.specs.Script.{State, Collecting, IsOpen, start_state, start
 use Rattle.cni_verbs.specs.Sweep.{Job, Sweep, Work, start_work, work_after}
 use Rattle.cni_verbs.specs.Wanted.{kinds_of}
 use Rattle.cni_verbs.specs.declared.answer.Answer.{Answer}
-use Rattle.cni_verbs.specs.declared.answer.Answer.TheVariants.{Yes, Refused}
+use Rattle.cni_verbs.specs.declared.answer.Answer.TheVariants.{Yes, Skipped, Refused}
 use Rattle.cni_verbs.specs.declared.answer.Cause.TheVariants as causes
+use Rattle.cni_verbs.specs.declared.answer.Skip.TheVariants as skips
 use Rattle.pod_file.specs.declared.command.ValidAtt.{ValidAtt}
-use Rattle.gc_sweep.specs.View.{moved, move_by}
-use Rattle.gc_sweep.specs.declared.place.Move.{Move}
-use Rattle.gc_sweep.proofs.Places.{work_taken}
-use Rattle.gc_sweep.specs.View.{state_by, is_early, early_answer, progress_of, work_of, has_no_work, IsPlace, jobs_left, sweeps_after}
+use Rattle.gc_sweep.specs.View.{HasTaken, state_by, is_early, progress_of, work_of, has_no_work, jobs_left, sweeps_after}
 use Rattle.gc_sweep.specs.declared.place.Place.{Place}
 
 -- ---- the start
@@ -99,44 +97,41 @@ advances list c made w v faults more r opened work note =
     ap s now
 
 -- the progress after a reply, by what its steps ensure
-pub taken : (list : NetList) (c : Command) (made : ℕ) (ks ls : List Kind) (valid : List ValidAtt) (p q : Place) (faults more : List ℕ) (r : Reply) (move : Move) (b : Bool)
-    → IsOpen (state_by list.version list.disable_gc (work_of (kinds_of list) p) faults) → ks ≡ kinds_of list → IsPlace ks p → ls ≡ ks → valid ≡ c.valid
-    → b ≡ nat_lt p.at (length p.owners.items) → move ≡ move_by b r → work_of ls q ≡ moved valid (jobs_left ls p) (sweeps_after ls p.stage) move → more ≡ faults_after (made + 1) faults (is_fault r)
+pub taken : (list : NetList) (c : Command) (made : ℕ) (ks ls : List Kind) (valid : List ValidAtt) (p q : Place) (faults more : List ℕ) (r : Reply)
+    → IsOpen (state_by list.version list.disable_gc (work_of (kinds_of list) p) faults) → ks ≡ kinds_of list → ls ≡ ks → valid ≡ c.valid → HasTaken ls valid r p q → more ≡ faults_after (made + 1) faults (is_fault r)
     → progress_of list c (made + 1) q more ≡ advanced (progress_of list c made p faults) r
-taken list c made ks ls valid p q faults more r move b opened ks_is within ls_is valid_is has is work note =
-    let P : List Kind → List ValidAtt → Type 0 = λ k v. work_of k q ≡ moved v (jobs_left k p) (sweeps_after k p.stage) move in
-    let moves : P (kinds_of list) c.valid = subst (P (kinds_of list)) valid_is (subst (λ k. P k valid) (ls_is ∙ ks_is) work) in
-    let place : IsPlace (kinds_of list) p = subst (λ k. IsPlace k p) ks_is within in
-    advances list c made (work_of (kinds_of list) p) (work_of (kinds_of list) q) faults more r opened (work_taken (gc_of list c) p q r move b place has is moves) note
+taken list c made ks ls valid p q faults more r opened ks_is ls_is valid_is work note =
+    let goes : HasTaken (kinds_of list) c.valid r p q = subst (λ v. HasTaken (kinds_of list) v r p q) valid_is (subst (λ k. HasTaken k valid r p q) (ls_is ∙ ks_is) work) in
+    advances list c made (work_of (kinds_of list) p) (work_of (kinds_of list) q) faults more r opened (goes c.network) note
 
 -- ---- the answer
 
-answers_early : (version : Version) (disabled : Bool) (list : NetList) (c : Command) (w : Work) (faults : List ℕ) (a : Answer) → version ≡ list.version → early_answer version disabled c ≡ Some a
-    → Some a ≡ option_map (answer_by (Some list) c) (finish_of (state_by version disabled w faults))
-unfolding finish_of answer_of
-answers_early V1_0 disabled list c w faults a is h = sym h ∙ ap (λ v. Some (Refused (error_of v c (causes.TooOld V1_0)))) is
-answers_early V1_1 true list c w faults a is h = sym h
-answers_early V1_1 false list c w faults a is h = cc
+abbrev answer_in : NetList → Command → State → Option Answer
+answer_in list c s = option_map (answer_by (Some list) c) (finish_of s)
 
-pub answers_before : (list : NetList) (c : Command) (w : Work) (faults : List ℕ) (a : Answer) → Some a ≡ early_answer list.version list.disable_gc c
-    → Some a ≡ option_map (answer_by (Some list) c) (finish_of (state_by list.version list.disable_gc w faults))
-answers_before list c w faults a h = answers_early list.version list.disable_gc list c w faults a refl (sym h)
+pub answers_old : (list : NetList) (c : Command) (w : Work) (faults : List ℕ) (version : Version) (disabled : Bool) → version ≡ V1_0
+    → Some (Refused (error_of list.version c (causes.TooOld V1_0))) ≡ answer_in list c (state_by version disabled w faults)
+unfolding finish_of answer_of
+answers_old list c w faults V1_0 disabled is = refl
+answers_old list c w faults V1_1 disabled is = cc
+
+pub answers_disabled : (list : NetList) (c : Command) (w : Work) (faults : List ℕ) (version : Version) (disabled : Bool) → version ≡ V1_1 → is_early version disabled ≡ true
+    → Some (Skipped skips.Gc) ≡ answer_in list c (state_by version disabled w faults)
+unfolding finish_of answer_of
+answers_disabled list c w faults V1_0 disabled is early = cc
+answers_disabled list c w faults V1_1 true is early = refl
+answers_disabled list c w faults V1_1 false is early = cc
 
 pub finish_working : (w : Work) (faults : List ℕ) → finish_of (Collecting w faults) ≡ finish_of_work w.jobs w.sweeps faults
 unfolding finish_of
 finish_working w faults = refl
 
-none_early : (version : Version) (disabled : Bool) (c : Command) → None ≡ early_answer version disabled c → is_early version disabled ≡ false
-none_early V1_0 disabled c h = cc
-none_early V1_1 true c h = cc
-none_early V1_1 false c h = refl
-
-pub answers_after : (list : NetList) (c : Command) (p : Place) (faults : List ℕ) (ks : List Kind) → ks ≡ kinds_of list → None ≡ early_answer list.version list.disable_gc c
-    → option_map (answer_by (Some list) c) (finish_of_work (jobs_left ks p) (sweeps_after ks p.stage) faults) ≡ option_map (answer_by (Some list) c) (finish_of (state_by list.version list.disable_gc (work_of (kinds_of list) p) faults))
-answers_after list c p faults ks same h =
+pub answers_late : (list : NetList) (c : Command) (p : Place) (faults : List ℕ) (ks : List Kind) → ks ≡ kinds_of list → is_early list.version list.disable_gc ≡ false
+    → option_map (answer_by (Some list) c) (finish_of_work (jobs_left ks p) (sweeps_after ks p.stage) faults) ≡ answer_in list c (state_by list.version list.disable_gc (work_of (kinds_of list) p) faults)
+answers_late list c p faults ks same h =
     let w = work_of (kinds_of list) p in
     ap (λ k. option_map (answer_by (Some list) c) (finish_of_work (jobs_left k p) (sweeps_after k p.stage) faults)) same
-    ∙ ap (option_map (answer_by (Some list) c)) (sym (ap finish_of (late list.version list.disable_gc w faults (none_early list.version list.disable_gc c h)) ∙ finish_working w faults))
+    ∙ ap (option_map (answer_by (Some list) c)) (sym (ap finish_of (late list.version list.disable_gc w faults h) ∙ finish_working w faults))
 
 no_length : (k : ℕ) (ks : List ℕ) → (length (k ∷ ks) == 0) ≡ true → ⊥
 no_length k ks h = let n : length (k ∷ ks) ≡ 0 = grind (arith, nat_tests, h) in omega arith

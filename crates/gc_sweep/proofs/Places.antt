@@ -5,19 +5,16 @@ use Rattle.std.proofs.Math.ListN.{drop_of_length-le}
 use Rattle.std.proofs.lemmas.Option.{same_Some, none-some}
 use Rattle.std.proofs.lemmas.Bool.Decides.{nat_tests}
 use Rattle.std.proofs.lemmas.Bool.{cases_lt}
+use Rattle.cni_result.specs.declared.cached.Cached.{Cached}
 use Rattle.kernel_types.specs.declared.object.Att.{Att}
 use Rattle.kernel_types.specs.declared.call.Kind.{Kind}
-use Rattle.kernel_types.specs.declared.call.Kind.TheVariants as kinds
 use Rattle.kernel_types.specs.declared.call.Reply.{Reply}
-use Rattle.kernel_types.specs.declared.call.Reply.TheVariants.{Done, NoNs, NoLink, Taken, Empty, Leased, Gone, Has, Owners, Entry, Fault}
-use Rattle.pod_file.specs.declared.command.ValidAtt.{ValidAtt}
+use Rattle.kernel_types.specs.declared.call.Reply.TheVariants.{Gone, Owners, Entry, Fault}
 use Rattle.cni_verbs.specs.Script.{call_of_work}
 use Rattle.cni_verbs.specs.Sweep.{Gc, Step, Delete, Sweep, Job, Work, step_call, is_valid, job_of, after_step, first_sweep, work_after}
-use Rattle.gc_sweep.specs.View.{steps_of, jobs_at, jobs_left, sweeps_after, sweep_of, IsPlace, work_of, step_done, owner_done, has_job, has_no_work, move_by, moved, stage_after, asked}
-use Rattle.gc_sweep.specs.declared.place.Move.{Move}
+use Rattle.gc_sweep.specs.View.{steps_of, jobs_at, jobs_left, sweeps_after, sweeps_from, sweep_of, IsPlace, has_no_work}
 use Rattle.gc_sweep.specs.declared.place.Place.{Place}
 use Rattle.gc_sweep.specs.declared.place.Stage.{Stage}
-use Rattle.gc_sweep.specs.declared.place.Stage.TheVariants as stages
 
 -- ---- the steps of the first sweep
 
@@ -34,6 +31,9 @@ pub first_kind : (ks : List Kind) (step : ℕ) (k : Kind) → 0 < step → slice
 first_kind ks step k lt h = later_step ks step (Delete k) lt (kind_step ks (step - 1) k h)
 
 -- ---- the owner at hand
+
+abbrev pub work : List Job → List Sweep → Work
+work jobs sweeps = record { jobs = jobs; sweeps = sweeps }
 
 drop_here : {X : Type 0} (xs : List X) (i : ℕ) → i < length xs → (x : X) × (drop i xs ≡ x ∷ drop (i + 1) xs) × (slice_get xs i ≡ Some x)
 drop_here [] i h = absurd (omega arith)
@@ -52,24 +52,31 @@ jobs_here : (s : Sweep) (step : ℕ) (a : Att) (more : List Att) (x : Step) → 
     → jobs_at s step (a ∷ more) ≡ record { att = a; step = x; more = drop (step + 1) (steps_of s) } ∷ map (job_of s) more
 jobs_here s step a more x h = ap (λ l. after_step a l (map (job_of s) more)) h
 
-pub done_next : (s : Sweep) (step at : ℕ) (owners : List Att) → at < length owners → step < length (steps_of s) → jobs_at s (step + 1) (drop at owners) ≡ step_done (jobs_at s step (drop at owners))
-done_next s step at owners here within =
+-- the work where an owner is at hand, after a step that leaves others of it, after its last step, and after a fault
+pub done_next : (gc : Gc) (s : Sweep) (step at : ℕ) (owners : List Att) (sweeps : List Sweep) → at < length owners → step < length (steps_of s)
+    → work (jobs_at s (step + 1) (drop at owners)) sweeps ≡ work_after gc (jobs_at s step (drop at owners)) sweeps (Gone false)
+done_next gc s step at owners sweeps here within =
     let o = drop_here owners at here in
     let x = drop_here (steps_of s) step within in
-    rw o.1 (sym (ap step_done (jobs_here s step o.0 (drop (at + 1) owners) x.0 x.1)))
+    rw o.1 (sym (ap (λ jobs. work_after gc jobs sweeps (Gone false)) (jobs_here s step o.0 (drop (at + 1) owners) x.0 x.1)))
 
-pub done_last : (s : Sweep) (step at : ℕ) (owners : List Att) → at < length owners → step < length (steps_of s) → length (steps_of s) ≤ step + 1 → jobs_at s 0 (drop (at + 1) owners) ≡ step_done (jobs_at s step (drop at owners))
-done_last s step at owners here within last =
+pub done_last : (gc : Gc) (s : Sweep) (step at : ℕ) (owners : List Att) (sweeps : List Sweep) → at < length owners → step < length (steps_of s) → length (steps_of s) ≤ step + 1
+    → work_after gc (jobs_at s step (drop at owners)) sweeps Fault ≡ work_after gc (jobs_at s step (drop at owners)) sweeps (Gone false)
+done_last gc s step at owners sweeps here within last =
     let o = drop_here owners at here in
     let x = drop_here (steps_of s) step within in
     let none : drop (step + 1) (steps_of s) ≡ [] = drop_of_length-le (steps_of s) last in
-    rw o.1 (fresh s (drop (at + 1) owners) ∙ ap (λ l. after_step o.0 l (map (job_of s) (drop (at + 1) owners))) (sym none) ∙ sym (ap step_done (jobs_here s step o.0 (drop (at + 1) owners) x.0 x.1)))
+    let more = drop (at + 1) owners in
+    let jobs : jobs_at s step (o.0 ∷ more) ≡ record { att = o.0; step = x.0; more = [] } ∷ map (job_of s) more =
+    jobs_here s step o.0 more x.0 x.1 ∙ ap (λ l. record { att = o.0; step = x.0; more = l } ∷ map (job_of s) more) none in
+    rw o.1 (ap (λ l. work_after gc l sweeps Fault) jobs ∙ sym (ap (λ l. work_after gc l sweeps (Gone false)) jobs))
 
-pub done_owner : (s : Sweep) (step at : ℕ) (owners : List Att) → at < length owners → step < length (steps_of s) → jobs_at s 0 (drop (at + 1) owners) ≡ owner_done (jobs_at s step (drop at owners))
-done_owner s step at owners here within =
+pub done_owner : (gc : Gc) (s : Sweep) (step at : ℕ) (owners : List Att) (sweeps : List Sweep) → at < length owners → step < length (steps_of s)
+    → work (jobs_at s 0 (drop (at + 1) owners)) sweeps ≡ work_after gc (jobs_at s step (drop at owners)) sweeps Fault
+done_owner gc s step at owners sweeps here within =
     let o = drop_here owners at here in
     let x = drop_here (steps_of s) step within in
-    rw o.1 (fresh s (drop (at + 1) owners) ∙ sym (ap owner_done (jobs_here s step o.0 (drop (at + 1) owners) x.0 x.1)))
+    rw o.1 (ap (λ jobs. work jobs sweeps) (fresh s (drop (at + 1) owners)) ∙ sym (ap (λ jobs. work_after gc jobs sweeps Fault) (jobs_here s step o.0 (drop (at + 1) owners) x.0 x.1)))
 
 -- the call of the owner and step at hand
 pub next_here : (network : List ℕ) (s : Sweep) (step at : ℕ) (owners : List Att) (sweeps : List Sweep) (a : Att) (x : Step) → slice_get owners at ≡ Some a → slice_get (steps_of s) step ≡ Some x → at < length owners → step < length (steps_of s)
@@ -81,45 +88,11 @@ next_here network s step at owners sweeps a x is_a is_x here within =
     let same_x : y.0 ≡ x = same_Some y.0 x (sym y.2 ∙ is_x) in
     rw o.1 (ap (λ l. call_of_work network l sweeps) (jobs_here s step o.0 (drop (at + 1) owners) y.0 y.1) ∙ ap Some (ap (λ z. step_call z y.0) same_a ∙ ap (step_call a) same_x))
 
--- ---- a reply, as a move
+-- ---- whether an owner is at hand
 
-pub worked_moved : (gc : Gc) (jobs : List Job) (sweeps : List Sweep) (r : Reply) → work_after gc jobs sweeps r ≡ moved gc.valid jobs sweeps (move_by (has_job jobs) r)
-worked_moved gc [] [] Done = refl
-worked_moved gc [] [] NoNs = refl
-worked_moved gc [] [] NoLink = refl
-worked_moved gc [] [] (Taken tag) = refl
-worked_moved gc [] [] Empty = refl
-worked_moved gc [] [] (Leased addr) = refl
-worked_moved gc [] [] (Gone true) = refl
-worked_moved gc [] [] (Gone false) = refl
-worked_moved gc [] [] (Has has) = refl
-worked_moved gc [] [] (Owners owners) = refl
-worked_moved gc [] [] (Entry cached) = refl
-worked_moved gc [] [] Fault = refl
-worked_moved gc [] (s ∷ sweeps) Done = refl
-worked_moved gc [] (s ∷ sweeps) NoNs = refl
-worked_moved gc [] (s ∷ sweeps) NoLink = refl
-worked_moved gc [] (s ∷ sweeps) (Taken tag) = refl
-worked_moved gc [] (s ∷ sweeps) Empty = refl
-worked_moved gc [] (s ∷ sweeps) (Leased addr) = refl
-worked_moved gc [] (s ∷ sweeps) (Gone true) = refl
-worked_moved gc [] (s ∷ sweeps) (Gone false) = refl
-worked_moved gc [] (s ∷ sweeps) (Has has) = refl
-worked_moved gc [] (s ∷ sweeps) (Owners owners) = refl
-worked_moved gc [] (s ∷ sweeps) (Entry cached) = refl
-worked_moved gc [] (s ∷ sweeps) Fault = refl
-worked_moved gc (j ∷ jobs) sweeps Done = refl
-worked_moved gc (j ∷ jobs) sweeps NoNs = refl
-worked_moved gc (j ∷ jobs) sweeps NoLink = refl
-worked_moved gc (j ∷ jobs) sweeps (Taken tag) = refl
-worked_moved gc (j ∷ jobs) sweeps Empty = refl
-worked_moved gc (j ∷ jobs) sweeps (Leased addr) = refl
-worked_moved gc (j ∷ jobs) sweeps (Gone true) = refl
-worked_moved gc (j ∷ jobs) sweeps (Gone false) = refl
-worked_moved gc (j ∷ jobs) sweeps (Has has) = refl
-worked_moved gc (j ∷ jobs) sweeps (Owners owners) = refl
-worked_moved gc (j ∷ jobs) sweeps (Entry cached) = refl
-worked_moved gc (j ∷ jobs) sweeps Fault = refl
+abbrev has_job : List Job → Bool
+has_job [] = false
+has_job (j ∷ jobs) = true
 
 pub has_job_left : (s : Sweep) (step at : ℕ) (owners : List Att) → step < length (steps_of s) → has_job (jobs_at s step (drop at owners)) ≡ nat_lt at (length owners)
 has_job_left s step at owners within = elim (cases_lt at (length owners)) [
@@ -134,16 +107,6 @@ has_job_left s step at owners within = elim (cases_lt at (length owners)) [
       rw (none, off) refl
 ]
 
--- the work after a reply, by the owner at hand and the move that the reply means
-pub work_taken : (gc : Gc) (p q : Place) (r : Reply) (move : Move) (b : Bool) → IsPlace gc.kinds p → b ≡ nat_lt p.at (length p.owners.items) → move ≡ move_by b r
-    → work_of gc.kinds q ≡ moved gc.valid (jobs_left gc.kinds p) (sweeps_after gc.kinds p.stage) move → work_of gc.kinds q ≡ work_after gc (jobs_left gc.kinds p) (sweeps_after gc.kinds p.stage) r
-work_taken gc p q r move b within has is work =
-    let jobs = jobs_left gc.kinds p in
-    let sweeps = sweeps_after gc.kinds p.stage in
-    let here : b ≡ has_job jobs = has ∙ sym (has_job_left (sweep_of gc.kinds p.stage) p.step p.at p.owners.items within) in
-    let move_is : move ≡ move_by (has_job jobs) r = is ∙ ap (λ x. move_by x r) here in
-    work ∙ ap (moved gc.valid jobs sweeps) move_is ∙ sym (worked_moved gc jobs sweeps r)
-
 no_work-job : (jobs : List Job) (sweeps : List Sweep) → has_job jobs ≡ true → has_no_work jobs sweeps ≡ false
 no_work-job [] sweeps h = cc
 no_work-job (j ∷ jobs) sweeps h = refl
@@ -156,24 +119,54 @@ not_done ks p b within has here =
 
 -- ---- the next sweep
 
-to_sweep : (ks : List Kind) (valid : List ValidAtt) (next : Stage) (owners kept : List Att) → kept ≡ filter (λ a. not (is_valid valid a)) owners
-    → ◌≡◌ {A = Work} (record { jobs = jobs_at (sweep_of ks next) 0 kept; sweeps = sweeps_after ks next }) (record { jobs = map (job_of (sweep_of ks next)) (filter (λ a. not (is_valid valid a)) owners); sweeps = sweeps_after ks next })
-to_sweep ks valid next owners kept e =
-    let f : List Job → Work = λ jobs. record { jobs = jobs; sweeps = sweeps_after ks next } in
-    ap f (fresh (sweep_of ks next) kept ∙ ap (map (job_of (sweep_of ks next))) e)
+pub no_jobs : (s : Sweep) (step at : ℕ) (owners : List Att) → length owners ≤ at → jobs_at s step (drop at owners) ≡ []
+no_jobs s step at owners past = ap (jobs_at s step) (drop_of_length-le owners past)
 
-abbrev GoesOn : List Kind → List ValidAtt → Stage → List Att → List Att → Stage → Type 0
-GoesOn ks valid old owners kept next = ◌≡◌ {A = Work} (record { jobs = jobs_at (sweep_of ks next) 0 kept; sweeps = sweeps_after ks next }) (asked valid (sweeps_after ks old) owners)
+-- the work at the begin of a sweep with these owners
+pub asked_next : (gc : Gc) (next : Stage) (sweeps : List Sweep) (jobs : List Job) (owners kept : List Att) → sweeps_from gc.kinds (Some next) ≡ sweeps → jobs ≡ [] → kept ≡ filter (λ a. not (is_valid gc.valid a)) owners
+    → work (jobs_at (sweep_of gc.kinds next) 0 kept) (sweeps_after gc.kinds next) ≡ work_after gc jobs sweeps (Owners owners)
+asked_next gc next sweeps jobs owners kept is none kept_is =
+    let P : List Job → List Sweep → Type 0 = λ js ss. work (jobs_at (sweep_of gc.kinds next) 0 kept) (sweeps_after gc.kinds next) ≡ work_after gc js ss (Owners owners) in
+    subst (λ js. P js sweeps) (sym none) (subst (P []) is (ap (λ js. work js (sweeps_after gc.kinds next)) (fresh (sweep_of gc.kinds next) kept ∙ ap (map (job_of (sweep_of gc.kinds next))) kept_is)))
 
-stage_is : (a b : Stage) (k l : Kind) → ◌≡◌ {A = Option (Stage × Kind)} (Some (a, k)) (Some (b, l)) → a ≡ b
-stage_is a b k l e = ap (λ (x : Stage × Kind). x.0) (same_Some (a, k) (b, l) e)
+skip : (gc : Gc) (sweeps : List Sweep) → work_after gc [] sweeps (Owners []) ≡ work_after gc [] sweeps Fault
+skip gc [] = refl
+skip gc (s ∷ sweeps) = refl
 
-pub asked_next : (ks : List Kind) (valid : List ValidAtt) (old next : Stage) (kind : Kind) (owners kept : List Att) → stage_after old ≡ Some (next, kind) → kept ≡ filter (λ a. not (is_valid valid a)) owners
-    → GoesOn ks valid old owners kept next
-asked_next ks valid stages.Start next kind owners kept is e = subst (GoesOn ks valid stages.Start owners kept) (stage_is stages.First next kinds.Cached kind is) (to_sweep ks valid stages.First owners kept e)
-asked_next ks valid stages.First next kind owners kept is e = subst (GoesOn ks valid stages.First owners kept) (stage_is stages.Links next kinds.Links kind is) (to_sweep ks valid stages.Links owners kept e)
-asked_next ks valid stages.Links next kind owners kept is e = subst (GoesOn ks valid stages.Links owners kept) (stage_is stages.Rules next kinds.Rules kind is) (to_sweep ks valid stages.Rules owners kept e)
-asked_next ks valid stages.Rules next kind owners kept is e = subst (GoesOn ks valid stages.Rules owners kept) (stage_is stages.Settings next kinds.Settings kind is) (to_sweep ks valid stages.Settings owners kept e)
-asked_next ks valid stages.Settings next kind owners kept is e = subst (GoesOn ks valid stages.Settings owners kept) (stage_is stages.Leases next kinds.Leases kind is) (to_sweep ks valid stages.Leases owners kept e)
-asked_next ks valid stages.Leases next kind owners kept is e = subst (GoesOn ks valid stages.Leases owners kept) (stage_is stages.Cached next kinds.Cached kind is) (to_sweep ks valid stages.Cached owners kept e)
-asked_next ks valid stages.Cached next kind owners kept is e = absurd (none-some (next, kind) is)
+-- a sweep whose owners can't be asked for has none
+pub skipped : (gc : Gc) (jobs : List Job) (sweeps : List Sweep) (owners : List Att) (r : Reply) → jobs ≡ [] → owners ≡ [] → r ≡ Fault → work_after gc jobs sweeps (Owners owners) ≡ work_after gc jobs sweeps r
+skipped gc jobs sweeps owners r none empty is =
+    ap (λ js. work_after gc js sweeps (Owners owners)) none ∙ ap (λ o. work_after gc [] sweeps (Owners o)) empty ∙ skip gc sweeps
+    ∙ sym (ap (λ js. work_after gc js sweeps r) none ∙ ap (λ x. work_after gc [] sweeps x) is)
+
+-- ---- the replies about an owner
+
+abbrev pub ends_step : Reply → Bool
+ends_step (Gone false) = true
+ends_step (Entry cached) = true
+ends_step r = false
+
+abbrev pub leaves_owner : Reply → Bool
+leaves_owner (Gone false) = false
+leaves_owner (Entry cached) = false
+leaves_owner Fault = false
+leaves_owner r = true
+
+entry_ends : (gc : Gc) (jobs : List Job) (sweeps : List Sweep) (cached : Option Cached) → work_after gc jobs sweeps (Gone false) ≡ work_after gc jobs sweeps (Entry cached)
+entry_ends gc [] [] cached = refl
+entry_ends gc [] (s ∷ sweeps) cached = refl
+entry_ends gc (j ∷ jobs) sweeps cached = refl
+
+pub step_ends : (gc : Gc) (jobs : List Job) (sweeps : List Sweep) (r : Reply) → ends_step r ≡ true → work_after gc jobs sweeps (Gone false) ≡ work_after gc jobs sweeps r
+step_ends gc jobs sweeps (Gone false) h = refl
+step_ends gc jobs sweeps (Gone true) h = cc
+step_ends gc jobs sweeps (Entry cached) h = entry_ends gc jobs sweeps cached
+step_ends gc jobs sweeps _ h = cc
+
+pub owner_stays : (gc : Gc) (jobs : List Job) (sweeps : List Sweep) (r : Reply) → has_job jobs ≡ true → leaves_owner r ≡ true → work jobs sweeps ≡ work_after gc jobs sweeps r
+owner_stays gc [] sweeps r some h = cc
+owner_stays gc (j ∷ jobs) sweeps (Gone false) some h = cc
+owner_stays gc (j ∷ jobs) sweeps (Gone true) some h = refl
+owner_stays gc (j ∷ jobs) sweeps (Entry cached) some h = cc
+owner_stays gc (j ∷ jobs) sweeps Fault some h = cc
+owner_stays gc (j ∷ jobs) sweeps _ some h = refl

@@ -1,11 +1,11 @@
 //! Where a collection is: the sweep at hand, its owners, and the step of the one at hand.
 
-ghost use Rattle.std.specs.Prelude.{◌≡◌, ◌<◌, ◌+◌, not, true, List, filter, length, slice_get, Option, Some, nat_le, nat_lt, [], IfOk};
+ghost use Rattle.std.specs.Prelude.{◌≡◌, ◌<◌, ◌≤◌, ◌+◌, not, false, List, filter, length, slice_get, Some, nat_le, nat_lt, [], IfOk};
 ghost use Rattle.kernel_types.specs.declared.call.Kind.{Kind};
+ghost use Rattle.pod_file.specs.declared.command.ValidAtt.{ValidAtt};
 ghost use Rattle.cni_verbs.specs.Script.{call_of_work};
 ghost use Rattle.cni_verbs.specs.Sweep.{first_sweep, all_sweeps, is_valid, step_call};
-ghost use Rattle.gc_sweep.specs.View.{stage_after, sweep_of, sweeps_after, steps_of, jobs_left, IsPlace, work_of, move_by, step_done, owner_done, asked, moved, step_of, has_no_work};
-ghost use Rattle.gc_sweep.specs.declared.place.Move.TheVariants.{SkipSweep};
+ghost use Rattle.gc_sweep.specs.View.{HasTaken, IsPlace, has_no_work, jobs_left, step_of, steps_of, sweep_of, sweeps_after, sweeps_from, work_of};
 
 use cni_addr::{Duplicate, Items, NoMemory, Text};
 use cni_verbs::wanted::deletion;
@@ -13,16 +13,12 @@ use kernel_types::{Att, Call, Kind, Reply};
 use pod_file::ValidAtt;
 use std::alloc::Global;
 
-/// The sweep at hand.
+/// The sweep at hand: none yet, that of the cached entries, or that of a kind.
 #[derive(Clone, Copy, Drop)]
 pub(crate) enum Stage {
     Start,
     First,
-    Links,
-    Rules,
-    Settings,
-    Leases,
-    Cached,
+    Of(Kind),
 }
 
 /// What is done about one owner: its cached entry is read, or a kind is deleted until nothing of it is left.
@@ -69,18 +65,18 @@ impl Place {
     }
 }
 
-/// The sweep after this one, and the kind whose owners it asks for.
-fn next_stage(stage: Stage) -> Option<(Stage, Kind)>
-    ensures { result ≡ stage_after stage }
+/// The sweep after this one.
+fn next_stage(stage: Stage) -> Option<Stage>
+    ensures { (kinds : List Kind) → sweeps_from kinds result ≡ sweeps_after kinds stage }
 {
     match stage {
-        Stage::Start => Some((Stage::First, Kind::Cached)),
-        Stage::First => Some((Stage::Links, Kind::Links)),
-        Stage::Links => Some((Stage::Rules, Kind::Rules)),
-        Stage::Rules => Some((Stage::Settings, Kind::Settings)),
-        Stage::Settings => Some((Stage::Leases, Kind::Leases)),
-        Stage::Leases => Some((Stage::Cached, Kind::Cached)),
-        Stage::Cached => None,
+        Stage::Start => Some(Stage::First),
+        Stage::First => Some(Stage::Of(Kind::Links)),
+        Stage::Of(Kind::Links) => Some(Stage::Of(Kind::Rules)),
+        Stage::Of(Kind::Rules) => Some(Stage::Of(Kind::Settings)),
+        Stage::Of(Kind::Settings) => Some(Stage::Of(Kind::Leases)),
+        Stage::Of(Kind::Leases) => Some(Stage::Of(Kind::Cached)),
+        Stage::Of(Kind::Cached) => None,
     }
 }
 
@@ -111,11 +107,17 @@ fn task_at(kinds: &[Kind], stage: Stage, step: usize) -> Task
 {
     match stage {
         Stage::Start | Stage::First => first_task(kinds, step),
-        Stage::Links => Task::Delete(Kind::Links),
-        Stage::Rules => Task::Delete(Kind::Rules),
-        Stage::Settings => Task::Delete(Kind::Settings),
-        Stage::Leases => Task::Delete(Kind::Leases),
-        Stage::Cached => Task::Delete(Kind::Cached),
+        Stage::Of(kind) => Task::Delete(kind),
+    }
+}
+
+/// The kind whose owners a sweep asks for.
+fn kind_of(stage: Stage) -> Kind
+    ensures { (kinds : List Kind) → result ≡ (sweep_of kinds stage).kind }
+{
+    match stage {
+        Stage::Start | Stage::First => Kind::Cached,
+        Stage::Of(kind) => kind,
     }
 }
 
@@ -143,9 +145,9 @@ pub(crate) fn next_call(
         Ok(Some(call_of(&place.owners[place.at], task)?))
     } else {
         match next_stage(place.stage) {
-            Some((_, kind)) => Ok(Some(Call::OwnersOf {
+            Some(stage) => Ok(Some(Call::OwnersOf {
                 network: network.copy()?,
-                kind,
+                kind: kind_of(stage),
             })),
             None => Ok(None),
         }
@@ -153,34 +155,6 @@ pub(crate) fn next_call(
 }
 
 // ---- one reply
-
-/// What a reply means for the work.
-#[derive(Drop)]
-pub(crate) enum Move {
-    Stay,
-    StepDone,
-    OwnerDone,
-    Ask(Items<Att>),
-    SkipSweep,
-}
-
-pub(crate) fn move_of(at_owner: bool, reply: Reply) -> Move
-    ensures { result ≡ move_by at_owner reply }
-{
-    if at_owner {
-        match reply {
-            Reply::Gone(false) | Reply::Entry(_) => Move::StepDone,
-            Reply::Fault => Move::OwnerDone,
-            _ => Move::Stay,
-        }
-    } else {
-        match reply {
-            Reply::Owners(owners) => Move::Ask(owners),
-            Reply::Fault => Move::SkipSweep,
-            _ => Move::Stay,
-        }
-    }
-}
 
 fn is_valid(valid: &[ValidAtt], att: &Att) -> bool
     ensures { result ≡ is_valid valid.now att.now }
@@ -206,44 +180,42 @@ fn is_last(kinds: &[Kind], stage: Stage, step: usize) -> bool
     }
 }
 
+/// Goes on to the owner's next step, or to the next owner.
 fn step_done(kinds: &[Kind], place: &mut Place)
-    requires { IsPlace kinds.now place.old }
-    ensures jobs { jobs_left kinds.now place.new ≡ step_done (jobs_left kinds.now place.old) }
-    ensures stage { place.new.stage ≡ place.old.stage }
+    requires range { IsPlace kinds.now place.old }
+    requires here { place.old.at < length place.old.owners.items }
+    ensures work { (valid : List ValidAtt) → HasTaken kinds.now valid (Reply.Gone false) place.old place.new }
     ensures range { IsPlace kinds.now place.new }
 {
-    if place.at < place.owners.len() {
-        if is_last(kinds, place.stage, place.step) {
-            place.at += 1;
-            place.step = 0;
-        } else {
-            place.step += 1;
-        }
+    if is_last(kinds, place.stage, place.step) {
+        owner_done(kinds, place);
+    } else {
+        place.step += 1;
     }
 }
 
+/// Goes on to the next owner.
 fn owner_done(kinds: &[Kind], place: &mut Place)
-    requires { IsPlace kinds.now place.old }
-    ensures jobs { jobs_left kinds.now place.new ≡ owner_done (jobs_left kinds.now place.old) }
-    ensures stage { place.new.stage ≡ place.old.stage }
+    requires range { IsPlace kinds.now place.old }
+    requires here { place.old.at < length place.old.owners.items }
+    ensures work { (valid : List ValidAtt) → HasTaken kinds.now valid Reply.Fault place.old place.new }
     ensures range { IsPlace kinds.now place.new }
 {
-    if place.at < place.owners.len() {
-        place.at += 1;
-        place.step = 0;
-    }
+    place.at += 1;
+    place.step = 0;
 }
 
 /// Goes on to the next sweep, with these owners.
-fn ask(kinds: &[Kind], valid: &[ValidAtt], place: &mut Place, owners: Items<Att>)
-    ensures work { work_of kinds.now place.new ≡ asked valid.now (sweeps_after kinds.now place.old.stage) owners }
+fn next_sweep(kinds: &[Kind], valid: &[ValidAtt], place: &mut Place, owners: Items<Att>)
+    requires past { length place.old.owners.items ≤ place.old.at }
+    ensures work { HasTaken kinds.now valid.now (Reply.Owners owners) place.old place.new }
     ensures range { IsPlace kinds.now place.new }
 {
     let mut owners = owners.into_vec();
     place.at = 0;
     place.step = 0;
     match next_stage(place.stage) {
-        Some((stage, _)) => {
+        Some(stage) => {
             drop_valid(&mut owners, valid);
             place.owners = owners;
             place.stage = stage;
@@ -252,29 +224,26 @@ fn ask(kinds: &[Kind], valid: &[ValidAtt], place: &mut Place, owners: Items<Att>
     }
 }
 
-/// Goes on to the next sweep, without owners.
-fn skip(kinds: &[Kind], valid: &[ValidAtt], place: &mut Place)
-    ensures work { work_of kinds.now place.new ≡ moved valid.now (jobs_left kinds.now place.old) (sweeps_after kinds.now place.old.stage) SkipSweep }
-    ensures range { IsPlace kinds.now place.new }
-{
-    place.at = 0;
-    place.step = 0;
-    place.owners.clear();
-    if let Some((stage, _)) = next_stage(place.stage) {
-        place.stage = stage;
-    }
-}
-
-pub(crate) fn go(kinds: &[Kind], valid: &[ValidAtt], place: &mut Place, go: Move)
+/// Goes on as a reply to the next call says.
+pub(crate) fn take(kinds: &[Kind], valid: &[ValidAtt], place: &mut Place, reply: Reply)
     requires { IsPlace kinds.now place.old }
-    ensures work { work_of kinds.now place.new ≡ moved valid.now (jobs_left kinds.now place.old) (sweeps_after kinds.now place.old.stage) go }
+    ensures work { HasTaken kinds.now valid.now reply place.old place.new }
     ensures range { IsPlace kinds.now place.new }
 {
-    match go {
-        Move::Stay => {}
-        Move::StepDone => step_done(kinds, place),
-        Move::OwnerDone => owner_done(kinds, place),
-        Move::Ask(owners) => ask(kinds, valid, place, owners),
-        Move::SkipSweep => skip(kinds, valid, place),
+    if place.has_owner() {
+        match reply {
+            Reply::Gone(false) | Reply::Entry(_) => step_done(kinds, place),
+            Reply::Fault => owner_done(kinds, place),
+            _ => {}
+        }
+    } else {
+        match reply {
+            Reply::Owners(owners) => next_sweep(kinds, valid, place, owners),
+            Reply::Fault => {
+                let alloc = *place.owners.allocator();
+                next_sweep(kinds, valid, place, Items::new(alloc));
+            }
+            _ => {}
+        }
     }
 }

@@ -1,18 +1,18 @@
 //! The run of a garbage collection, a call at a time.
 
-ghost use Rattle.std.specs.Prelude.{◌≡◌, ◌+◌, ◌<◌, ◌^◌, IfOk, OnOk, OnErr, IsOk, MatchBool, Some, None, [], false, true, option_map};
+ghost use Rattle.std.specs.Prelude.{◌≡◌, ◌+◌, ◌<◌, ◌^◌, ℕ, List, IfOk, OnOk, OnErr, IsOk, MatchBool, Some, None, [], false, true, option_map};
 ghost use Rattle.kernel_types.specs.Replies.{is_fault};
-ghost use Rattle.cni_verbs.specs.Answers.{error_of};
 ghost use Rattle.cni_verbs.specs.Progress.{is_gc, progress, advanced, answer_by};
 ghost use Rattle.cni_verbs.specs.Script.{IsOpen, next_call, finish_of, finish_of_work, faults_after};
-ghost use Rattle.cni_verbs.specs.declared.answer.Answer.TheVariants.{Refused};
-ghost use Rattle.gc_sweep.specs.View.{is_early, early_answer, jobs_left, sweeps_after, IsPlace};
+ghost use Rattle.cni_verbs.specs.Sweep.{Work};
+ghost use Rattle.gc_sweep.specs.View.{is_early, state_by, jobs_left, sweeps_after, IsPlace};
 
-use crate::place::{Place, go, move_of, next_call};
+use crate::place::{Place, next_call, take};
 use cni_addr::{Duplicate, Items, NoMemory};
 use cni_result::Version;
+use cni_verbs::errors::refused;
 use cni_verbs::wanted::kinds_of;
-use cni_verbs::{Answer, Cause, Skip, errors};
+use cni_verbs::{Answer, Cause, Skip};
 use kernel_types::{Call, Kind, Reply};
 use net_conf::NetList;
 use pod_file::Command;
@@ -86,8 +86,7 @@ impl GcRun {
         let faulty = is_fault(&reply);
         note(&mut self.faults, self.made + 1, faulty)?;
         self.made += 1;
-        let reply = move_of(self.place.has_owner(), reply);
-        go(
+        take(
             self.kinds.as_slice(),
             self.command.valid.as_slice(),
             &mut self.place,
@@ -109,16 +108,17 @@ impl GcRun {
         ensures { IfOk result (λ answer. answer ≡ option_map (answer_by self.now.list self.now.command) (finish_of self.now.state)) }
     {
         let alloc = *self.place.owners.allocator();
-        match early_answer(alloc, &self.list, &self.command)? {
-            Some(answer) => Ok(Some(answer)),
-            None => work_answer(
+        if is_early(&self.list) {
+            Ok(Some(early_answer(alloc, &self.list, &self.command)?))
+        } else {
+            work_answer(
                 alloc,
                 &self.list,
                 &self.command,
                 self.kinds.as_slice(),
                 &self.place,
                 &self.faults,
-            ),
+            )
         }
     }
 }
@@ -133,34 +133,14 @@ fn is_early(list: &NetList) -> bool
     }
 }
 
-fn refused(
-    alloc: Global,
-    list: &NetList,
-    command: &Command,
-    cause: Cause,
-) -> Result<Option<Answer>, NoMemory>
-    ensures { IfOk result (λ answer. answer ≡ Some (Refused (error_of list.now.version command.now cause))) }
-{
-    Ok(Some(errors::refused(alloc, list.version, command, &cause)?))
-}
-
-/// The answer that the list gives before any call, if it gives one.
-fn early_answer(
-    alloc: Global,
-    list: &NetList,
-    command: &Command,
-) -> Result<Option<Answer>, NoMemory>
-    ensures { IfOk result (λ answer. answer ≡ early_answer list.now.version list.now.disable_gc command.now) }
+/// The answer that a list gives before any call.
+fn early_answer(alloc: Global, list: &NetList, command: &Command) -> Result<Answer, NoMemory>
+    requires { is_early list.now.version list.now.disable_gc ≡ true }
+    ensures { IfOk result (λ answer. (work : Work) (faults : List ℕ) → Some answer ≡ option_map (answer_by (Some list.now) command.now) (finish_of (state_by list.now.version list.now.disable_gc work faults))) }
 {
     match list.version {
-        Version::V1_0 => refused(alloc, list, command, Cause::TooOld(Version::V1_0)),
-        Version::V1_1 => {
-            if list.disable_gc {
-                Ok(Some(Answer::Skipped(Skip::Gc)))
-            } else {
-                Ok(None)
-            }
-        }
+        Version::V1_0 => refused(alloc, list.version, command, &Cause::TooOld(Version::V1_0)),
+        Version::V1_1 => Ok(Answer::Skipped(Skip::Gc)),
     }
 }
 
@@ -181,8 +161,8 @@ fn work_answer(
         if faults.as_slice().is_empty() {
             Ok(Some(Answer::Yes))
         } else {
-            let faults = faults.copy()?;
-            refused(alloc, list, command, Cause::Faults(faults))
+            let cause = Cause::Faults(faults.copy()?);
+            Ok(Some(refused(alloc, list.version, command, &cause)?))
         }
     } else {
         Ok(None)

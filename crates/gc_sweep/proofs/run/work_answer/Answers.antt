@@ -16,12 +16,11 @@ returns-then-is_empty c =
     let clean = ap (λ (l : List ℕ). length l == 0) (sym c.as_slice.ensures) ∙ sym c.is_empty.ensures ∙ c.if-is_empty.true in
     ends_clean c.args.list.now c.args.command.now (jobs_left ks p) (sweeps_after ks p.stage) c.args.faults.now over clean
 
-pub returns-in_ok-faults : goal.returns-in_ok-faults
-returns-in_ok-faults c =
+pub returns-in_ok-refused : goal.returns-in_ok-refused
+returns-in_ok-refused c =
     let ks = c.args.kinds.now in
     let p = c.args.place.now in
     let over = sym (c.is_done.ensures ks c.requires) ∙ c.if-is_done.true in
     let some = ap (λ (l : List ℕ). length l == 0) (sym c.as_slice.ensures) ∙ sym c.is_empty.ensures ∙ c.if-is_empty.false in
-    let P : Option Answer → Type 0 = λ x. IfOk c.refused.result (λ (answer : Option Answer). answer ≡ x) in
-    let told = ap (λ (l : List ℕ). Some (Refused (error_of c.args.list.now.version c.args.command.now (causes.Faults l)))) c.in_ok-faults.ensures in
-    subst P (told ∙ ends_faulty c.args.list.now c.args.command.now (jobs_left ks p) (sweeps_after ks p.stage) c.args.faults.now over some) c.refused.ensures
+    let told = ap (λ (l : List ℕ). Refused (error_of c.args.list.now.version c.args.command.now (causes.Faults l))) c.in_ok-copy.ensures in
+    ap Some (c.in_ok-refused.ensures ∙ told) ∙ ends_faulty c.args.list.now c.args.command.now (jobs_left ks p) (sweeps_after ks p.stage) c.args.faults.now over some

@@ -10,5 +10,5 @@ returns-clause-ok c =
     let opened = subst (λ (p : Progress). IsOpen p.state) (sym c.self.view_is) c.requires.open in
     let note = c.in_ok-note.ensures.ok ∙ ap (faults_after (r.made + 1) r.faults) c.is_fault-faulty.ensures in
     rw (← c.self.view_is)
-    (taken r.list r.command r.made r.kinds c.as_slice.result.now c.as_slice-2.result.now r.place c.go.new.place r.faults c.note.new.faults c.args.reply c.move_of-reply.result c.has_owner.result opened c.self.invariant.0 c.self.invariant.1
-    c.as_slice.ensures c.as_slice-2.ensures c.has_owner.ensures c.move_of-reply.ensures c.go.ensures.work note)
+    (taken r.list r.command r.made r.kinds c.as_slice.result.now c.as_slice-2.result.now r.place c.take.new.place r.faults c.note.new.faults c.args.reply opened c.self.invariant.0
+    c.as_slice.ensures c.as_slice-2.ensures c.take.ensures.work note)
