@@ -1,6 +1,5 @@
-use Rattle.std.proofs.Common.{◌≡◌, ◌∙◌, ◌≤◌, Bool, true, List, ℕ, length, sym, arith, rules}
+use Rattle.std.proofs.Common.{◌≡◌, ◌∙◌, ◌≤◌, true, length, sym, arith, rules}
 use Rattle.std.proofs.lemmas.Bool.Decides.{nat_tests}
-use Rattle.cni_verbs.specs.Sweep.{Gc}
 use Rattle.gc_sweep.specs.View.{sweep_of, sweeps_after, jobs_left}
 use Rattle.gc_sweep.proofs.Places.{ends_step, has_job_left, leaves_owner, no_jobs, owner_stays, skipped, step_ends}
 use Rattle.gc_sweep.proofs.place.take.Goals as goal

@@ -1,7 +1,6 @@
-use Rattle.std.proofs.Common.{◌≡◌, ◌∙◌, ap, sym, subst, Option, Some, List, length}
-use Rattle.std.specs.Prelude.{IfOk, ℕ, ◌==◌}
+use Rattle.std.proofs.Common.{◌∙◌, ap, sym, Some, List, length}
+use Rattle.std.specs.Prelude.{ℕ, ◌==◌}
 use Rattle.cni_verbs.specs.Answers.{error_of}
-use Rattle.cni_verbs.specs.declared.answer.Answer.{Answer}
 use Rattle.cni_verbs.specs.declared.answer.Answer.TheVariants.{Refused}
 use Rattle.cni_verbs.specs.declared.answer.Cause.TheVariants as causes
 use Rattle.gc_sweep.specs.View.{jobs_left, sweeps_after}
