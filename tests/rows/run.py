@@ -13,6 +13,7 @@ A row has the files that lie where the program runs, the words, and what is expe
     leased      the addresses that the results have, in any order; the answers write each as `<LEASED>`
     dump        the lines of the dump, or the kinds of its objects where they are single words
     later       instead of what is printed: the file is read, so a refusal is one that comes after reading
+    stdout_to   the file that standard output goes to, in place of a pipe that is read
 
 A file is a JSON value that is written compactly, or `@NAME`, one of the lists; or {"text": ..}, {"size": N} or {"directory": true}.
 In a line `<HV N/C/I>`, `<MH N/C/I>` and `<MC N/C/I>` are the host end's name, its MAC and the container end's MAC of the
