@@ -9,6 +9,26 @@ use Rattle.clap.specs.declared.builder.arg.Arg.{Arg}
 use Rattle.clap.specs.declared.builder.value_parser.ValueParser.{ValueParser}
 use Rattle.clap.specs.declared.builder.value_parser.ValueParser.TheVariants as parser
 
+-- ---- what the command line calls its options, flags and words
+
+abbrev pub threads_option : Text
+threads_option = codes "threads"
+
+abbrev pub stop_at_option : Text
+stop_at_option = codes "stop-at"
+
+abbrev pub trace_flag : Text
+trace_flag = codes "trace"
+
+abbrev pub dump_flag : Text
+dump_flag = codes "dump"
+
+abbrev pub pods_word : Text
+pods_word = codes "PODS"
+
+abbrev pub lists_word : Text
+lists_word = codes "LIST"
+
 -- ---- limits
 
 -- how many threads may be asked for
@@ -33,26 +53,26 @@ abbrev pub number_rule : Text → ℕ → Rule
 number_rule name most = record (new_rule name) { long = Some name; parser = Some (counts_to most) }
 
 abbrev pub threads_rule : Rule
-threads_rule = number_rule (codes "threads") most_threads
+threads_rule = number_rule threads_option most_threads
 
 abbrev pub stop_rule : Rule
-stop_rule = number_rule (codes "stop-at") greatest_entry
+stop_rule = number_rule stop_at_option greatest_entry
 
 abbrev pub flag_rule : Text → Rule
 flag_rule name = record (new_rule name) { long = Some name; action = Some SetTrue; parser = Some parser.Bool }
 
 abbrev pub pods_rule : Rule
-pods_rule = record (new_rule (codes "PODS")) { required = true }
+pods_rule = record (new_rule pods_word) { required = true }
 
 abbrev pub list_rule : Rule
-list_rule = record (new_rule (codes "LIST")) { range = Some (record { start_inclusive = 0; end_inclusive = usize_max }) }
+list_rule = record (new_rule lists_word) { range = Some (record { start_inclusive = 0; end_inclusive = usize_max }) }
 
 abbrev pub bare_app : App
 bare_app = on_top (λ s. record s { no_binary_name = true; disable_help_flag = true; disable_version_flag = true }) (new_app (codes "cnitool"))
 
 abbrev pub the_app : App
 the_app = with_rule (with_rule (with_rule (with_rule (with_rule (with_rule bare_app threads_rule) stop_rule)
-    (flag_rule (codes "trace"))) (flag_rule (codes "dump"))) pods_rule) list_rule
+    (flag_rule trace_flag)) (flag_rule dump_flag)) pods_rule) list_rule
 
 -- the argument has these rules, and is its command's own
 abbrev pub IsArg : Arg → Rule → Type 0

@@ -1,12 +1,12 @@
 -- What is known of a parse that succeeds.
-use Rattle.std.specs.Prelude.{◌≡◌, true, List, codes, Some, Result, Ok, Err, false, ⊤}
+use Rattle.std.specs.Prelude.{◌≡◌, true, List, Some, Result, Ok, Err, false, ⊤}
 use Rattle.clap.specs.Matches.{found_of, one_text}
 use Rattle.clap.specs.Values.{Accepts, read_as, reading_of}
 use Rattle.clap.specs.Walk.{Text, rows_of}
 use Rattle.clap.specs.declared.builder.value_parser.ValueParser.{ValueParser}
 use Rattle.clap.specs.declared.builder.value_parser.ValueParser.TheVariants as parser
 use Rattle.clap.specs.declared.parser.matches.ArgMatches.{ArgMatches}
-use Rattle.tool_words.specs.Command.{fits, rows, counts_to, most_threads, greatest_entry}
+use Rattle.tool_words.specs.Command.{fits, rows, counts_to, most_threads, greatest_entry, threads_option, stop_at_option, trace_flag, dump_flag}
 use Rattle.tool_words.specs.declared.words.WordsEnd.{WordsEnd}
 use Rattle.tool_words.specs.declared.words.WordsEnd.TheVariants.{Usage, NoMemory}
 
@@ -18,10 +18,10 @@ Passes m name q = (text : Text) → one_text (found_of m) name ≡ Some text
 pub record IsParseOf (words : List Text) (m : ArgMatches) : Type 0 where
   pub fit : fits words ≡ true
   pub rows_are : rows_of (found_of m) ≡ rows words
-  pub threads : Passes m (codes "threads") (counts_to most_threads)
-  pub stop_at : Passes m (codes "stop-at") (counts_to greatest_entry)
-  pub trace : Passes m (codes "trace") parser.Bool
-  pub dump : Passes m (codes "dump") parser.Bool
+  pub threads : Passes m threads_option (counts_to most_threads)
+  pub stop_at : Passes m stop_at_option (counts_to greatest_entry)
+  pub trace : Passes m trace_flag parser.Bool
+  pub dump : Passes m dump_flag parser.Bool
 
 -- a parse of the words; or the command does not take them; or memory ran out
 abbrev pub Parses : List Text → Result ArgMatches WordsEnd → Type 0

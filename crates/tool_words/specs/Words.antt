@@ -5,7 +5,7 @@ use Rattle.std.specs.Option.{option_map_or}
 use Rattle.std.specs.Str.{bytes_eq}
 use Rattle.std.specs.Str.Parse.{digits_value, without_leading_plus}
 use Rattle.clap.specs.Walk.{Row, Text, first_of, one_of, all_of}
-use Rattle.tool_words.specs.Command.{fits, rows, most_threads, greatest_entry, most_lists}
+use Rattle.tool_words.specs.Command.{fits, rows, most_threads, greatest_entry, most_lists, threads_option, stop_at_option, trace_flag, dump_flag, pods_word, lists_word}
 use Rattle.tool_words.specs.declared.words.Words.{Words}
 use Rattle.tool_words.specs.declared.words.WordsEnd.{WordsEnd}
 use Rattle.tool_words.specs.declared.words.WordsEnd.TheVariants.{Usage, NoMemory}
@@ -21,7 +21,7 @@ abbrev pub flag_at : Text → List Row → Bool
 flag_at name found = option_map_or (λ text. bytes_eq text (codes "true")) (one_of name found) false
 
 abbrev pub lists_at : List Row → List Text
-lists_at found = unwrap_or (all_of (codes "LIST") found) []
+lists_at found = unwrap_or (all_of lists_word found) []
 
 -- PODS asks for generated pods, and there is no generator
 abbrev pub asks_generator : Text → Bool
@@ -29,10 +29,10 @@ asks_generator pods = starts_with nat_eq pods (codes "gen:")
 
 abbrev pub words_at : List Row → Text → Words
 words_at found pods = record {
-  threads = unwrap_or (number_at (codes "threads") found) 1;
-  stop_at = number_at (codes "stop-at") found;
-  trace = flag_at (codes "trace") found;
-  dump = flag_at (codes "dump") found;
+  threads = unwrap_or (number_at threads_option found) 1;
+  stop_at = number_at stop_at_option found;
+  trace = flag_at trace_flag found;
+  dump = flag_at dump_flag found;
   pods = pods;
   lists = lists_at found;
 }
@@ -47,7 +47,7 @@ words_if found (Some pods) = if are_within pods (lists_at found) then Some (word
 
 -- what the words say, where they are taken
 unfoldable pub words_of : List Text → Option Words
-words_of words = if fits words then words_if (rows words) (first_of (codes "PODS") (rows words)) else None
+words_of words = if fits words then words_if (rows words) (first_of pods_word (rows words)) else None
 
 -- what the words say; or they are not taken; or memory ran out
 abbrev pub Reads : Option Words → Result Words WordsEnd → Type 0

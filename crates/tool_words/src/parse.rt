@@ -1,10 +1,10 @@
 //! A parse of the words, and what single arguments have in it.
 
-ghost use Rattle.std.specs.Prelude.{◌≡◌, ◌≤◌, IfSome, codes, map, option_map};
+ghost use Rattle.std.specs.Prelude.{◌≡◌, ◌≤◌, IfSome, map, option_map};
 ghost use Rattle.clap.specs.Matches.{found_of};
 ghost use Rattle.clap.specs.Walk.{first_of, rows_of};
 ghost use Rattle.clap.specs.declared.builder.value_parser.ValueParser.TheVariants as parser;
-ghost use Rattle.tool_words.specs.Command.{counts_to, greatest_entry, most_threads};
+ghost use Rattle.tool_words.specs.Command.{counts_to, greatest_entry, most_threads, pods_word, stop_at_option, threads_option};
 ghost use Rattle.tool_words.specs.Parse.{Parses, Passes};
 ghost use Rattle.tool_words.specs.Words.{flag_at, lists_at, number_at};
 
@@ -32,16 +32,16 @@ pub(crate) fn parse<'a>(alloc: Global, words: &'a [Text]) -> Result<ArgMatches<'
 }
 
 pub(crate) fn threads<'a>(matches: &ArgMatches<'a>) -> Option<u8>
-    requires { Passes matches.now (codes "threads") (counts_to most_threads) }
-    ensures value { result ≡ number_at (codes "threads") (rows_of (found_of matches.now)) }
+    requires { Passes matches.now threads_option (counts_to most_threads) }
+    ensures value { result ≡ number_at threads_option (rows_of (found_of matches.now)) }
     ensures range { IfSome result (λ n. (1 ≤ n) × (n ≤ most_threads)) }
 {
     matches.get_one(THREADS_OPTION)
 }
 
 pub(crate) fn stop_at<'a>(matches: &ArgMatches<'a>) -> Option<u32>
-    requires { Passes matches.now (codes "stop-at") (counts_to greatest_entry) }
-    ensures value { result ≡ number_at (codes "stop-at") (rows_of (found_of matches.now)) }
+    requires { Passes matches.now stop_at_option (counts_to greatest_entry) }
+    ensures value { result ≡ number_at stop_at_option (rows_of (found_of matches.now)) }
     ensures range { IfSome result (λ n. (1 ≤ n) × (n ≤ greatest_entry)) }
 {
     matches.get_one(STOP_AT_OPTION)
@@ -56,7 +56,7 @@ pub(crate) fn flag<'a>(matches: &ArgMatches<'a>, name: &str) -> bool
 
 pub(crate) fn pods<'a>(matches: &ArgMatches<'a>) -> Option<&'a str>
     ensures { option_map (λ s. s.now) result
-        ≡ first_of (codes "PODS") (rows_of (found_of matches.now)) }
+        ≡ first_of pods_word (rows_of (found_of matches.now)) }
 {
     matches.get_str(PODS_WORD)
 }

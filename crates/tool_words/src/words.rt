@@ -5,7 +5,6 @@ ghost use Rattle.tool_words.specs.Words.{IsWithinLimits, Reads, are_within, asks
 
 use crate::command::{DUMP_FLAG, TRACE_FLAG};
 use crate::parse::{flag, lists, parse, pods, stop_at, threads};
-use clap::ArgMatches;
 use cni_addr::{Items, NoMemory, Text};
 use std::alloc::Global;
 
