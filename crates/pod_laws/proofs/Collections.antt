@@ -1,37 +1,29 @@
 -- A garbage collection takes from stale attachments alone.
-use Rattle.std.proofs.Common.{◌≡◌, ℕ, ◌+◌, Bool, true, false, not, List, [], ◌∷◌, ◌++◌, length, Some, None, slice_get, refl, sym, ◌∙◌, ap, subst, inl, inr, arith}
-use Rattle.std.specs.Prelude.{filter, if◌then◌else◌}
-use Rattle.std.specs.List.{cons_option, filter_map, list_all}
-use Rattle.std.specs.Str.{bytes_eq}
+use Rattle.std.proofs.Common.{◌≡◌, ℕ, ◌+◌, Bool, true, false, List, [], ◌∷◌, length, refl, ◌∙◌, ap, subst, arith}
+use Rattle.std.specs.Prelude.{if◌then◌else◌}
+use Rattle.std.specs.List.{list_all}
 use Rattle.net_conf.specs.declared.list.NetList.{NetList}
 use Rattle.pod_file.specs.declared.command.Command.{Command}
 use Rattle.pod_file.specs.declared.command.Verb.{Verb}
 use Rattle.pod_file.specs.declared.command.Verb.TheVariants as verbs
 use Rattle.kernel_types.specs.Allowed.{IsAllowed}
 use Rattle.kernel_types.specs.Apply.{apply}
-use Rattle.kernel_types.specs.Apply.Calls.{owner_in, tags_of}
-use Rattle.kernel_types.specs.Equal.{att_eq}
+use Rattle.kernel_types.specs.Apply.Calls.{tags_of}
 use Rattle.kernel_types.specs.Isolation.{KeepsWhere}
-use Rattle.cni_addr.specs.Lists.{each_key_once}
 use Rattle.kernel_types.specs.Sound.{IsSound}
-use Rattle.kernel_types.specs.Touch.{TouchesOwnAlone}
 use Rattle.kernel_types.specs.Words.{is_own}
-use Rattle.kernel_types.proofs.EveryCall.{Touches-apply}
 use Rattle.kernel_types.proofs.Isolation.{KeepsWhere-TouchesOwn, KeepsWhere-nothing}
-use Rattle.kernel_types.proofs.ListLemmas.{list_all-kept, list_all-map}
+use Rattle.kernel_types.proofs.ListLemmas.{list_all-map}
 use Rattle.kernel_types.specs.declared.object.Att.{Att}
 use Rattle.kernel_types.specs.declared.object.Host.{Host}
 use Rattle.kernel_types.specs.declared.object.Tag.{Tag}
-use Rattle.kernel_types.specs.declared.object.Tag.TheVariants as tags
-use Rattle.kernel_types.specs.declared.call.Kind.{Kind}
-use Rattle.kernel_types.specs.declared.call.Kind.TheVariants as kinds
 use Rattle.kernel_types.specs.declared.call.Call.{Call}
-use Rattle.kernel_types.specs.declared.call.Call.TheVariants.{OwnersOf, LinkDel, RuleDel, SettingDel, LeaseDel, CacheDel}
+use Rattle.kernel_types.specs.declared.call.Call.TheVariants.{OwnersOf}
 use Rattle.kernel_types.specs.declared.call.Reply.{Reply}
 use Rattle.kernel_types.specs.declared.call.Reply.TheVariants.{Gone, Entry as Kept, Fault}
 use Rattle.plan_words.specs.Share.{Share}
 use Rattle.cni_verbs.specs.Script.{State, Collecting, Over, Calls, gc_of, advance, start_of, turn, turn_of_work}
-use Rattle.cni_verbs.specs.Sweep.{Job, Step, AskCached, Delete, Sweep, after_job, after_step, is_valid, job_of, jobs_of, start_work, step_call, work_after}
+use Rattle.cni_verbs.specs.Sweep.{Job, Step, AskCached, Delete, Sweep, after_job, after_step, job_of, start_work, step_call, work_after}
 use Rattle.cni_verbs.specs.Wanted.{deletion}
 use Rattle.cni_verbs.specs.declared.answer.Ending.TheVariants.{Skipped}
 use Rattle.cni_verbs.specs.declared.answer.Skip.TheVariants as skips
@@ -40,11 +32,8 @@ use Rattle.gc_sweep.specs.Keep.{stays}
 use Rattle.gc_sweep.specs.Bound.{stale_owners}
 use Rattle.gc_sweep.proofs.Deletions.{deletes}
 use Rattle.gc_sweep.proofs.Owners.{is_stale, own_goes, owners_stale}
-use Rattle.plan_words.proofs.KeyLists.{list_all-each_key_once}
-use Rattle.pod_workers.specs.Plans.{Placed, commands_of}
-use Rattle.pod_workers.specs.World.{World, after, entry_of, host_of, host_on, reply_to}
+use Rattle.pod_workers.specs.World.{host_of, reply_to}
 use Rattle.pod_workers.specs.declared.plan.Entry.{Entry}
-use Rattle.pod_workers.specs.declared.plan.Plan.{Plan}
 use Rattle.pod_workers.proofs.Replies.{by-either, by-unless_old}
 use Rattle.pod_workers.proofs.Sound.{sound_host}
 use Rattle.pod_laws.specs.Apart.{EachCollectionTakesTheStaleAlone}

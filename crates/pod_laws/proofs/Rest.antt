@@ -1,8 +1,7 @@
 -- Each entry leaves what was made outside, and removes nothing that is shared.
-use Rattle.std.proofs.Common.{◌≡◌, ℕ, ◌+◌, Bool, true, false, not, List, [], ◌∷◌, ◌++◌, refl, sym, ◌∙◌, ap, subst, inl, inr, arith, ◌⊎◌}
+use Rattle.std.proofs.Common.{◌≡◌, Bool, true, false, not, List, [], ◌∷◌, ◌++◌, refl, sym, ◌∙◌, ap, subst, inl, inr, ◌⊎◌}
 use Rattle.std.proofs.lemmas.List.{append-nil}
 use Rattle.std.specs.Prelude.{filter}
-use Rattle.net_conf.specs.declared.list.NetList.{NetList}
 use Rattle.kernel_types.specs.Allowed.{IsAllowed}
 use Rattle.kernel_types.specs.Apply.{apply}
 use Rattle.kernel_types.specs.Isolation.{KeepsWhere, KeepsUnowned, ensures_shared, is_from_outside}
@@ -22,10 +21,7 @@ use Rattle.kernel_types.specs.declared.call.Call.{Call}
 use Rattle.kernel_types.specs.declared.call.Call.TheVariants.{BridgeEnsure, GatewayEnsure, ForwardEnsure, NsChange, Outside}
 use Rattle.plan_words.proofs.KeyLists.{filter-push_dropped, filter-push_kept, filter-within}
 use Rattle.pod_file.specs.Commands.{is_of_network}
-use Rattle.pod_workers.specs.Plans.{Placed}
-use Rattle.pod_workers.specs.World.{World, after, entry_of, host_of, host_on}
-use Rattle.pod_workers.specs.declared.plan.Entry.{Entry}
-use Rattle.pod_workers.specs.declared.plan.Plan.{Plan}
+use Rattle.pod_workers.specs.World.{entry_of, host_of, host_on}
 use Rattle.pod_workers.proofs.Sound.{sound_host}
 use Rattle.pod_laws.specs.Apart.{is_outside, GrowsAtEnd, KeepsShared, KeepsTheRest, EachEntryKeepsTheRest}
 use Rattle.pod_laws.proofs.Bridges.{turn-inside}
