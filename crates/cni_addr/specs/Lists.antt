@@ -1,4 +1,4 @@
--- Words on lists that std lacks.
+-- Whether an element is in a list, and lists in which each key stands once.
 use Rattle.std.specs.Prelude.{◌≡◌, ◌⊎◌, Bool, true, not, ◌&&◌, List, [], ◌∷◌, ◌++◌, fold, if◌then◌else◌}
 use Rattle.std.specs.List.{list_any}
 

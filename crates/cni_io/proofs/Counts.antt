@@ -11,11 +11,6 @@ pub Rose-from_start : (start before now : ℕ) → start ≤ before → Rose bef
 Rose-from_start start before now earlier (inl higher) = inl (omega arith)
 Rose-from_start start before now earlier (inr last) = inr last
 
--- what rose has risen at the end
-pub Rose-to_end : (before now end : ℕ) → Rose before now → now ≤ end → end < 2 ^ 64 → Rose before end
-Rose-to_end before now end (inl higher) later fits = inl (omega arith)
-Rose-to_end before now end (inr last) later fits = inr (omega arith)
-
 -- one call, of which as many fail
 abbrev failure_of : Bool → ℕ
 failure_of fails = if fails then 1 else 0
