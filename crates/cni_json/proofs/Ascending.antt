@@ -8,12 +8,14 @@ use Rattle.std.specs.Ordering.{match_ordering, ordering_reverse}
 use Rattle.std.specs.Prelude.{IfSome, ⊤}
 use Rattle.json.specs.Json as json
 use Rattle.json.specs.Lex.{tokens}
-use Rattle.serde_json.specs.Data.{Data, number, array, object, item, Members, no_members, member, put}
+use Rattle.serde_json.specs.Data.{Data, null, boolean, number, string, array, object, item, Members, no_members, member, put}
+use Rattle.serde_json.specs.Find.{get, get_member}
 use Rattle.serde_json.specs.Read.{read, of_json, of_items, of_members, number_of, max_depth}
 use Rattle.serde_json.specs.Written.{has_float}
 use Rattle.std.specs.Str.{is_utf8}
 use Rattle.cni_json.specs.Json.{reading, whole_numbers, json_of}
 use Rattle.cni_json.specs.declared.reading.ReadEnd.TheVariants.{Number}
+use Rattle.cni_json.proofs.WholeNumbers.{found_member}
 use Rattle.cni_json.specs.WellFormed.{Everywhere, EverywhereInItems, EverywhereInMembers, keys, AreAscending, HasAscendingKeys, KeysAscend}
 
 abbrev compare : List ℕ → List ℕ → Ordering
@@ -125,3 +127,20 @@ whole_ascends (Some e) d is h = by_test (has_float e) is
 
 pub KeysAscend-json_of : (bytes : List ℕ) (d : Data) → json_of bytes ≡ Ok d → KeysAscend d
 KeysAscend-json_of bytes d is = whole_ascends (reading bytes) d is (reading_ascends bytes)
+
+-- ---- parts
+
+get_member-everywhere : (P : Data → Type 0) (key : List ℕ) (ms : Members) (e : Data) → EverywhereInMembers P ms → get_member key ms ≡ Some e → Everywhere P e
+get_member-everywhere P key no_members e h is = cc
+get_member-everywhere P key (member k d ms) e h is =
+    let rest = λ (there : get_member key ms ≡ Some e). get_member-everywhere P key ms e h.1 there in
+    found_member (Everywhere P) (compare key k) _ _ d e is rest rest h.0
+
+-- what holds everywhere in a value holds everywhere in a member of it
+pub get-everywhere : (P : Data → Type 0) (key : List ℕ) (d e : Data) → Everywhere P d → get key d ≡ Some e → Everywhere P e
+get-everywhere P key null e h is = cc
+get-everywhere P key (boolean b) e h is = cc
+get-everywhere P key (number n) e h is = cc
+get-everywhere P key (string s) e h is = cc
+get-everywhere P key (array ds) e h is = cc
+get-everywhere P key (object ms) e h is = get_member-everywhere P key ms e h.1 is

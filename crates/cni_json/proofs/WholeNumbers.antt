@@ -13,17 +13,18 @@ use Rattle.serde_json.specs.declared.value.Value.{Value}
 use Rattle.cni_json.specs.Fields.{unless_null, member_at, list_field, object_field, object_of, field_of, of_kind, in_32_bits, u32_of}
 use Rattle.cni_json.specs.declared.fields.Field.TheVariants.{Here}
 
-member_whole : (o : Ordering) (x y : Option Data) (e v : Data) → match_ordering o x (Some e) y ≡ Some v → (x ≡ Some v → has_float v ≡ false) → (y ≡ Some v → has_float v ≡ false) → has_float e ≡ false → has_float v ≡ false
-member_whole Less x y e v is first later here = first is
-member_whole Equal x y e v is first later here = let same : e ≡ v = cc in rw (← same) here
-member_whole Greater x y e v is first later here = later is
+-- what holds of each value that is looked among holds of the one that is found
+pub found_member : (P : Data → Type 0) (o : Ordering) (x y : Option Data) (e v : Data) → match_ordering o x (Some e) y ≡ Some v → (x ≡ Some v → P v) → (y ≡ Some v → P v) → P e → P v
+found_member P Less x y e v is first later here = first is
+found_member P Equal x y e v is first later here = let same : e ≡ v = cc in subst P same here
+found_member P Greater x y e v is first later here = later is
 
 get_member-whole : (key : List ℕ) (ms : Members) (v : Data) → members_have_float ms ≡ false → get_member key ms ≡ Some v → has_float v ≡ false
 get_member-whole key no_members v whole is = cc
 get_member-whole key (member k e ms) v whole is =
     let parts = or_parts (has_float e) _ whole in
     let rest = λ (h : get_member key ms ≡ Some v). get_member-whole key ms v parts.1 h in
-    member_whole (slice_cmp nat_cmp key k) _ _ e v is rest rest parts.0
+    found_member (λ d. has_float d ≡ false) (slice_cmp nat_cmp key k) _ _ e v is rest rest parts.0
 
 -- a member of a value with whole numbers has whole numbers
 pub get-whole : (key : List ℕ) (d v : Data) → has_float d ≡ false → get key d ≡ Some v → has_float v ≡ false

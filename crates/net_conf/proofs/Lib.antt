@@ -1,6 +1,5 @@
 pub mod ApartLemmas
 pub mod Endings
-pub mod JsonOrder
 pub mod ListFacts
 pub mod PluginFacts
 pub mod RangeFacts

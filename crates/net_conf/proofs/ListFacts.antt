@@ -7,8 +7,9 @@ use Rattle.cni_json.specs.declared.fields.Field.{Field}
 use Rattle.cni_json.specs.declared.fields.Field.TheVariants.{Absent, WrongKind, Here}
 use Rattle.cni_json.specs.declared.reading.ReadEnd.{ReadEnd}
 use Rattle.cni_json.specs.declared.reading.ReadEnd.TheVariants as ends
+use Rattle.cni_json.proofs.Ascending.{KeysAscend-json_of}
 use Rattle.cni_json.proofs.Endings.{goes, ok_same, passed}
-use Rattle.net_conf.proofs.JsonOrder.{IsOrdered, json_of-ordered}
+use Rattle.cni_json.specs.WellFormed.{KeysAscend}
 use Rattle.net_conf.proofs.PluginFacts.{chain_at-ok}
 use Rattle.net_conf.specs.List.{read_or_refused, version_at, name_of, name_at, switch_at, disable_check_key, disable_gc_key, list_at, list_of}
 use Rattle.net_conf.specs.Members.{object_at}
@@ -31,7 +32,7 @@ name_at-ok : (d : Data) (name : List ℕ) → name_at d ≡ Ok name → IsName n
 unfolding name_at
 name_at-ok d name is = name_of-ok (text_field (codes "name") d) name is
 
-list_at-ok : (d : Data) (list : NetList) → IsOrdered d → list_at d ≡ Ok list → IsWellFormedList list
+list_at-ok : (d : Data) (list : NetList) → KeysAscend d → list_at d ≡ Ok list → IsWellFormedList list
 unfolding list_at
 list_at-ok d list order is =
     let form = goes (object_at (codes "list") d) _ list is in
@@ -60,4 +61,4 @@ pub list_of-ok : (bytes : List ℕ) (list : NetList) → list_of bytes ≡ Ok li
 unfolding list_of
 list_of-ok bytes list is =
     let json = goes (read_or_refused (json_of bytes)) _ list is in
-    list_at-ok json.value list (json_of-ordered bytes json.value (read-ok (json_of bytes) json.value json.first)) json.rest
+    list_at-ok json.value list (KeysAscend-json_of bytes json.value (read-ok (json_of bytes) json.value json.first)) json.rest

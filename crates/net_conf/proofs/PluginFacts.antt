@@ -10,8 +10,9 @@ use Rattle.serde_json.specs.Find.{get, as_array}
 use Rattle.cni_json.specs.Fields.{member_at, u64_field, text_field, field_of}
 use Rattle.cni_json.specs.declared.fields.Field.{Field}
 use Rattle.cni_json.specs.declared.fields.Field.TheVariants.{Absent, WrongKind, Here}
+use Rattle.cni_json.proofs.Ascending.{get-everywhere}
+use Rattle.cni_json.specs.WellFormed.{EverywhereInItems, HasAscendingKeys, KeysAscend}
 use Rattle.cni_json.proofs.Endings.{goes, ok_same, passed, not_refused}
-use Rattle.net_conf.proofs.JsonOrder.{IsOrdered, AreOrdered, get-ordered}
 use Rattle.net_conf.proofs.SetFacts.{sets_at-ok, routes_at-ok}
 use Rattle.net_conf.proofs.TuningFacts.{by_test, is_mtu-true, tuning_at-ok}
 use Rattle.net_conf.specs.Bridge.{bridge_rows, bridge_name_of, bridge_name_at, gateway_role_at, mode_flags_at, not_both, modes_at, bridge_at}
@@ -214,7 +215,7 @@ first_plugin-ok (item d ds) found is = first_at-ok d found is
 abbrev IsLater : PluginType → Chained → Type 0
 IsLater type p = (type_of_chained p ≡ type) × IsWellFormedChained p
 
-later_of-ok : (type : PluginType) (d : Data) (found : Chained) → IsOrdered d → later_of type d ≡ Ok found → IsLater type found
+later_of-ok : (type : PluginType) (d : Data) (found : Chained) → KeysAscend d → later_of type d ≡ Ok found → IsLater type found
 later_of-ok plugin.Bridge d found order is = cc
 later_of-ok plugin.Ptp d found order is = cc
 later_of-ok plugin.Macvlan d found order is = cc
@@ -244,7 +245,7 @@ once_more (p ∷ before) next type is none once =
     also [] all new = (new, tt)
     also (q ∷ ps) all new = (all.0, also ps all.1 new)
 
-later_at-ok : (before : List Chained) (d : Data) (next : Chained) → IsOrdered d → AreLater before → later_at before d ≡ Ok next → AreLater (before ++ next ∷ [])
+later_at-ok : (before : List Chained) (d : Data) (next : Chained) → KeysAscend d → AreLater before → later_at before d ≡ Ok next → AreLater (before ++ next ∷ [])
 unfolding later_at not_repeated
 later_at-ok before d next order kept is =
     let form = goes (object_at (codes "plugins") d) _ next is in
@@ -257,7 +258,7 @@ later_at-ok before d next order kept is =
       once = once_more before next type.value here.0 none kept.once;
     }
 
-chained_after-ok : (before : List Chained) (ds : Items) (found : List Chained) → AreOrdered ds → AreLater before → chained_after before ds ≡ Ok found → AreLater found
+chained_after-ok : (before : List Chained) (ds : Items) (found : List Chained) → EverywhereInItems HasAscendingKeys ds → AreLater before → chained_after before ds ≡ Ok found → AreLater found
 chained_after-ok before no_items found order kept is = subst AreLater (ok_same is) kept
 chained_after-ok before (item d ds) found order kept is =
     let next = goes (later_at before d) _ found is in
@@ -267,31 +268,31 @@ none_later : AreLater []
 unfolding IsDistinct
 none_later = record { all = All-nil IsWellFormedChained; once = tt }
 
-later_plugins-ok : (ds : Items) (found : List Chained) → AreOrdered ds → later_plugins ds ≡ Ok found → AreLater found
+later_plugins-ok : (ds : Items) (found : List Chained) → EverywhereInItems HasAscendingKeys ds → later_plugins ds ≡ Ok found → AreLater found
 later_plugins-ok no_items found order is = subst AreLater (ok_same is) none_later
 later_plugins-ok (item d ds) found order is = chained_after-ok [] ds found order.1 none_later is
 
 -- ---- all plugins
 
-listed-ordered : (o : Option Data) (ds : Items) → ((d : Data) → o ≡ Some d → IsOrdered d) → plugins_of (field_of as_array o) ≡ Ok ds → AreOrdered ds
-listed-ordered None ds order is = cc
-listed-ordered (Some null) ds order is = cc
-listed-ordered (Some (boolean b)) ds order is = cc
-listed-ordered (Some (number n)) ds order is = cc
-listed-ordered (Some (string s)) ds order is = cc
-listed-ordered (Some (array es)) ds order is = subst AreOrdered (ok_same is) (order (array es) refl)
-listed-ordered (Some (object ms)) ds order is = cc
+listed-ascends : (o : Option Data) (ds : Items) → ((d : Data) → o ≡ Some d → KeysAscend d) → plugins_of (field_of as_array o) ≡ Ok ds → EverywhereInItems HasAscendingKeys ds
+listed-ascends None ds order is = cc
+listed-ascends (Some null) ds order is = cc
+listed-ascends (Some (boolean b)) ds order is = cc
+listed-ascends (Some (number n)) ds order is = cc
+listed-ascends (Some (string s)) ds order is = cc
+listed-ascends (Some (array es)) ds order is = subst (EverywhereInItems HasAscendingKeys) (ok_same is) (order (array es) refl).1
+listed-ascends (Some (object ms)) ds order is = cc
 
-plugins_at-ordered : (d : Data) (ds : Items) → IsOrdered d → plugins_at d ≡ Ok ds → AreOrdered ds
+plugins_at-ascends : (d : Data) (ds : Items) → KeysAscend d → plugins_at d ≡ Ok ds → EverywhereInItems HasAscendingKeys ds
 unfolding plugins_at
-plugins_at-ordered d ds order is = listed-ordered (get (codes "plugins") d) ds (λ e there. get-ordered (codes "plugins") d e order there) is
+plugins_at-ascends d ds order is = listed-ascends (get (codes "plugins") d) ds (λ e there. get-everywhere HasAscendingKeys (codes "plugins") d e order there) is
 
 -- what the plugins of a list keep
 pub record IsChain (chain : PluginChain) : Type 0 where
   pub first : IsWellFormedFirst chain.first
   pub later : AreLater chain.chained
 
-pub chain_at-ok : (d : Data) (chain : PluginChain) → IsOrdered d → chain_at d ≡ Ok chain → IsChain chain
+pub chain_at-ok : (d : Data) (chain : PluginChain) → KeysAscend d → chain_at d ≡ Ok chain → IsChain chain
 unfolding chain_at
 chain_at-ok d chain order is =
     let plugins = goes (plugins_at d) _ chain is in
@@ -299,5 +300,5 @@ chain_at-ok d chain order is =
     let others = goes (later_plugins plugins.value) _ chain one.rest in
     subst IsChain (ok_same others.rest) (record {
       first = first_plugin-ok plugins.value one.value one.first;
-      later = later_plugins-ok plugins.value others.value (plugins_at-ordered d plugins.value order plugins.first) others.first;
+      later = later_plugins-ok plugins.value others.value (plugins_at-ascends d plugins.value order plugins.first) others.first;
     })

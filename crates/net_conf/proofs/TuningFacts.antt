@@ -2,6 +2,7 @@
 use Rattle.std.proofs.Common.{◌≡◌, ℕ, ◌<◌, ◌^◌, Bool, true, false, List, [], codes, Option, Some, None, Result, Ok, Less, nat_cmp, nat_eq, refl, sym, ap, ◌∙◌, subst, arith}
 use Rattle.std.specs.Prelude.{All, not, map, if◌then◌else◌}
 use Rattle.std.specs.Cmp.Lexicographic.{slice_cmp}
+use Rattle.std.specs.List.Sorted.{IsStrictlySortedBy}
 use Rattle.std.specs.List.{AllByRecursion, IsDistinct, starts_with}
 use Rattle.std.specs.Str.{bytes_eq}
 use Rattle.std.proofs.lemmas.Bool.Decides.{nat_tests}
@@ -16,9 +17,10 @@ use Rattle.cni_json.specs.declared.fields.Field.TheVariants.{Absent, WrongKind, 
 use Rattle.cni_addr.proofs.MacTexts.{mac_read_is_spelled}
 use Rattle.cni_addr.specs.declared.mac.Mac.{Mac}
 use Rattle.cni_addr.specs.MacText.{IsMac, mac_of_text}
+use Rattle.cni_json.proofs.Ascending.{IsBelow, get-everywhere}
 use Rattle.cni_json.proofs.Endings.{goes, ok_same, passed}
 use Rattle.cni_json.proofs.WholeNumbers.{member_at-found, u32_of-fits}
-use Rattle.net_conf.proofs.JsonOrder.{IsBelowAll, IsOrdered, HasOrder, get-ordered}
+use Rattle.cni_json.specs.WellFormed.{keys, AreAscending, HasAscendingKeys, KeysAscend}
 use Rattle.net_conf.specs.Members.{flag_at, is_mtu}
 use Rattle.net_conf.specs.Tuning.{has_part, setting_or_refused, setting_of, is_null, settings_of, sysctl_of, sysctl_at, mac_or_refused, new_mac_of, new_mac_at, new_mtu_of, new_mtu_at, queue_length_of, queue_length_at, tuning_at}
 use Rattle.net_conf.specs.WellFormed.{IsMtu, IsOfNetwork, IsWellFormedTuning}
@@ -55,8 +57,8 @@ setting_of-ok key (string value) setting is = setting_or_refused-ok key value se
 setting_of-ok key (array ds) setting is = cc
 setting_of-ok key (object ms) setting is = cc
 
-abbrev keys : List Sysctl → List (List ℕ)
-keys settings = map (λ setting. setting.key) settings
+abbrev setting_keys : List Sysctl → List (List ℕ)
+setting_keys settings = map (λ setting. setting.key) settings
 
 abbrev Differs : List ℕ → List ℕ → Type 0
 Differs k l = bytes_eq k l ≡ false
@@ -64,49 +66,50 @@ Differs k l = bytes_eq k l ≡ false
 -- what settings keep together
 record AreSettings (settings : List Sysctl) : Type 0 where
   of_network : All IsOfNetwork settings
-  once : IsDistinct bytes_eq (keys settings)
+  once : IsDistinct bytes_eq (setting_keys settings)
 
 below_differs : (k l : List ℕ) → slice_cmp nat_cmp k l ≡ Less → Differs k l
 below_differs k l below = sym (is_eq-slice_cmp k l) ∙ ap is_eq below
 
 -- a key below all members differs from the key of each setting
-below_settings : (k : List ℕ) (ms : Members) (settings : List Sysctl) → IsBelowAll k ms → settings_of ms ≡ Ok settings → AllByRecursion (Differs k) (keys settings)
-below_settings k no_members settings below is = subst (λ found. AllByRecursion (Differs k) (keys found)) (ok_same is) tt
+below_settings : (k : List ℕ) (ms : Members) (settings : List Sysctl) → IsBelow k (keys ms) → settings_of ms ≡ Ok settings → AllByRecursion (Differs k) (setting_keys settings)
+below_settings k no_members settings below is = subst (λ found. AllByRecursion (Differs k) (setting_keys found)) (ok_same is) tt
 below_settings k (member l d ms) settings below is =
     by_test (is_null d) _ _ _ is (λ null same. below_settings k ms settings below.1 same) (λ there same.
     let one = goes (setting_of l d) _ settings same in
     let more = goes (settings_of ms) _ settings one.rest in
     let key = (setting_of-ok l d one.value one.first).0 in
     let here : Differs k one.value.key = subst (Differs k) (sym key) (below_differs k l below.0) in
-    subst (λ found. AllByRecursion (Differs k) (keys found)) (ok_same more.rest) (here, below_settings k ms more.value below.1 more.first))
+    subst (λ found. AllByRecursion (Differs k) (setting_keys found)) (ok_same more.rest) (here, below_settings k ms more.value below.1 more.first))
 
-settings_of-ok : (ms : Members) (settings : List Sysctl) → HasOrder ms → settings_of ms ≡ Ok settings → AreSettings settings
-unfolding IsDistinct
+settings_of-ok : (ms : Members) (settings : List Sysctl) → AreAscending ms → settings_of ms ≡ Ok settings → AreSettings settings
+unfolding IsDistinct IsStrictlySortedBy
 settings_of-ok no_members settings order is = subst AreSettings (ok_same is) (record { of_network = All-nil IsOfNetwork; once = tt })
 settings_of-ok (member k d ms) settings order is =
-    by_test (is_null d) _ _ _ is (λ null same. settings_of-ok ms settings order.2 same) (λ there same.
+    by_test (is_null d) _ _ _ is (λ null same. settings_of-ok ms settings order.1 same) (λ there same.
     let one = goes (setting_of k d) _ settings same in
     let more = goes (settings_of ms) _ settings one.rest in
     let setting = setting_of-ok k d one.value one.first in
-    let others = settings_of-ok ms more.value order.2 more.first in
-    let differs : AllByRecursion (Differs one.value.key) (keys more.value) = subst (λ l. AllByRecursion (Differs l) (keys more.value)) (sym setting.0) (below_settings k ms more.value order.0 more.first) in
+    let others = settings_of-ok ms more.value order.1 more.first in
+    let differs : AllByRecursion (Differs one.value.key) (setting_keys more.value) = subst (λ l. AllByRecursion (Differs l) (setting_keys more.value)) (sym setting.0) (below_settings k ms more.value order.0 more.first) in
     subst AreSettings (ok_same more.rest) (record {
       of_network = All-cons IsOfNetwork one.value more.value setting.1 others.of_network;
       once = (differs, others.once);
     }))
 
-sysctl_of-ok : (o : Option Data) (settings : List Sysctl) → ((d : Data) → o ≡ Some d → IsOrdered d) → sysctl_of o ≡ Ok settings → AreSettings settings
+sysctl_of-ok : (o : Option Data) (settings : List Sysctl) → ((d : Data) → o ≡ Some d → KeysAscend d) → sysctl_of o ≡ Ok settings → AreSettings settings
+unfolding IsStrictlySortedBy
 sysctl_of-ok None settings order is = settings_of-ok no_members settings tt is
 sysctl_of-ok (Some null) settings order is = cc
 sysctl_of-ok (Some (boolean b)) settings order is = cc
 sysctl_of-ok (Some (number n)) settings order is = cc
 sysctl_of-ok (Some (string s)) settings order is = cc
 sysctl_of-ok (Some (array ds)) settings order is = cc
-sysctl_of-ok (Some (object ms)) settings order is = settings_of-ok ms settings (order (object ms) refl) is
+sysctl_of-ok (Some (object ms)) settings order is = settings_of-ok ms settings (order (object ms) refl).0 is
 
-sysctl_at-ok : (d : Data) (settings : List Sysctl) → IsOrdered d → sysctl_at d ≡ Ok settings → AreSettings settings
+sysctl_at-ok : (d : Data) (settings : List Sysctl) → KeysAscend d → sysctl_at d ≡ Ok settings → AreSettings settings
 unfolding sysctl_at
-sysctl_at-ok d settings order is = sysctl_of-ok (member_at (codes "sysctl") d) settings (λ e there. get-ordered (codes "sysctl") d e order (member_at-found (get (codes "sysctl") d) e there)) is
+sysctl_at-ok d settings order is = sysctl_of-ok (member_at (codes "sysctl") d) settings (λ e there. get-everywhere HasAscendingKeys (codes "sysctl") d e order (member_at-found (get (codes "sysctl") d) e there)) is
 
 -- ---- numbers
 
@@ -165,7 +168,7 @@ queue_length_at-ok : (d : Data) (found : Option ℕ) → queue_length_at d ≡ O
 unfolding queue_length_at
 queue_length_at-ok d found is = queue_length_of-ok (u32_field (codes "txQLen") d) found (u32_of-fits (get (codes "txQLen") d)) is
 
-pub tuning_at-ok : (d : Data) (conf : TuningConf) → IsOrdered d → tuning_at d ≡ Ok conf → IsWellFormedTuning conf
+pub tuning_at-ok : (d : Data) (conf : TuningConf) → KeysAscend d → tuning_at d ≡ Ok conf → IsWellFormedTuning conf
 unfolding tuning_at
 tuning_at-ok d conf order is =
     let sysctl = goes (sysctl_at d) _ conf is in
