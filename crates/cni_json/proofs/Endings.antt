@@ -1,9 +1,9 @@
 -- What steps say of the value that they end with.
-use Rattle.std.proofs.Common.{◌≡◌, ℕ, ◌+◌, List, Bool, true, false, Result, Ok, Err, refl, subst}
+use Rattle.std.proofs.Common.{◌≡◌, ℕ, ◌+◌, List, [], ◌∷◌, ◌++◌, Bool, true, false, Result, Ok, Err, refl, subst}
 use Rattle.std.specs.Prelude.{if◌then◌else◌, All}
 use Rattle.std.proofs.lemmas.List.Elements.{All-nil, All-cons}
 use Rattle.serde_json.specs.Data.{Data, Items, no_items, item}
-use Rattle.cni_json.specs.Each.{each, each_from}
+use Rattle.cni_json.specs.Each.{each, each_after, each_from}
 use Rattle.cni_json.specs.Outcome.{◌>>=◌}
 
 -- the first step ends with this value, and the next step goes on from it
@@ -51,3 +51,12 @@ each_from_all read P holds place (item d ds) xs is =
     let one = goes _ _ _ is in
     let more = goes _ _ _ one.rest in
     subst (All P) (ok_same more.rest) (All-cons P one.value more.value (holds place d one.value one.first) (each_from_all read P holds (place + 1) ds more.value more.first))
+
+-- what those before keep, whatever is to follow, and keep with each that is read after them, all keep
+pub each_after_keeps : {A E : Type 0} (read : List A → Data → Result A E) (P : List A → Items → Type 0)
+    → ((before : List A) (d : Data) (ds : Items) (next : A) → P before (item d ds) → read before d ≡ Ok next → P (before ++ next ∷ []) ds)
+    → (before : List A) (ds : Items) (xs : List A) → P before ds → each_after read before ds ≡ Ok xs → P xs no_items
+each_after_keeps read P step before no_items xs kept is = subst (λ ys. P ys no_items) (ok_same is) kept
+each_after_keeps read P step before (item d ds) xs kept is =
+    let next = goes (read before d) _ xs is in
+    each_after_keeps read P step (before ++ next.value ∷ []) ds xs (step before d ds next.value kept next.first) next.rest

@@ -1,5 +1,6 @@
 pub mod Ascending
 pub mod Building
+pub mod EachLemmas
 pub mod Endings
 pub mod LineFeed
 pub mod Lines

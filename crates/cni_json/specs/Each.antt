@@ -13,6 +13,13 @@ each read (item d ds) = do
   rest ← each read ds
   Ok (first ∷ rest)
 
+-- these first, and then the members, each read after all that stand before it
+abbrev pub each_after : {A E : Type 0} → (List A → Data → Result A E) → List A → Items → Result (List A) E
+each_after read before no_items = Ok before
+each_after read before (item d ds) = do
+  next ← read before d
+  each_after read (before ++ next ∷ []) ds
+
 -- each member is read with its place, of which the first is given
 abbrev pub each_from : {A E : Type 0} → (ℕ → Data → Result A E) → ℕ → Items → Result (List A) E
 each_from read place no_items = Ok []

@@ -1,5 +1,5 @@
 -- Functions that read one member, as what their calls give.
-use Rattle.std.specs.Prelude.{ℕ, Bool, Result}
+use Rattle.std.specs.Prelude.{◌≡◌, ℕ, List, Bool, Result, All}
 use Rattle.std.specs.Fn.{Shared}
 use Rattle.serde_json.specs.Data.{Data}
 use Rattle.serde_json.specs.View.{view}
@@ -14,3 +14,11 @@ pub record IsReader {R T E : Type 0} (is_memory : E → Bool) (calls : Shared R 
 -- the same, of a function that is told the member's place too
 pub record IsPlacedReader {R T E : Type 0} (is_memory : E → Bool) (calls : Shared R (ℕ × (Bor Value × Unit {0})) (Result T E)) (read : R) (wanted : ℕ → Data → Result T E) : Type 0 where
   pub gives : (place : ℕ) (member : Bor Value) (r : Result T E) → calls.post read (place, (member, tt)) r → GivesAs is_memory (λ x. x) r (wanted place (view member.now))
+
+-- the same, of a function that is told what was read before the member
+pub record IsReaderAfter {R T E : Type 0} (is_memory : E → Bool) (calls : Shared R (Bor (List T) × (Bor Value × Unit {0})) (Result T E)) (read : R) (wanted : List T → Data → Result T E) : Type 0 where
+  pub gives : (before : Bor (List T)) (member : Bor Value) (r : Result T E) → calls.post read (before, (member, tt)) r → GivesAs is_memory (λ x. x) r (wanted before.now (view member.now))
+
+-- such a function may be called at each value of the list, whatever was read before
+abbrev pub MayReadEach : {R T E : Type 0} → Shared R (Bor (List T) × (Bor Value × Unit {0})) (Result T E) → R → List Value → Type 0
+MayReadEach {T = T} calls read list = All (λ v. (before : Bor (List T)) (member : Bor Value) → member.now ≡ v → calls.pre read (before, (member, tt))) list

@@ -7,7 +7,8 @@
 //! - `read` gives `json_of` of the bytes, in both directions: `Decode` exactly where they have no
 //!   reading, and `Number` exactly where a number of the reading is neither a `u64` nor an `i64`.
 //! - `field_str` and its kin give `text_field` and its kin of the value, and take no memory.
-//! - `read_each` gives `each` of what its function gives of a member, up to the first refusal.
+//! - `read_each` gives `each` of what its function gives of a member, up to the first refusal, and `read_each_after`
+//!   gives `each_after` of a function that is told what stands before the member.
 //! - `line` writes `line_of` of the value.
 //! - What a line was written for is what it is read as (`a_line_is_read_again`), and the keys of
 //!   each object that is read ascend (`keys_ascend`).

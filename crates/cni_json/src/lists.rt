@@ -1,11 +1,11 @@
 //! Lists of members, each read up to the first refusal.
 
-ghost use Rattle.std.specs.Prelude.{ℕ, Result};
+ghost use Rattle.std.specs.Prelude.{ℕ, List, Result};
 ghost use Rattle.serde_json.specs.Data.{Data};
 ghost use Rattle.serde_json.specs.View.{items_view};
-ghost use Rattle.cni_json.specs.Each.{each, each_from, with_front};
+ghost use Rattle.cni_json.specs.Each.{each, each_after, each_from};
 ghost use Rattle.cni_json.specs.Outcome.{GivesAs};
-ghost use Rattle.cni_json.specs.Readers.{IsPlacedReader, IsReader};
+ghost use Rattle.cni_json.specs.Readers.{IsPlacedReader, IsReader, IsReaderAfter, MayReadEach};
 
 use crate::refusal::Refusal;
 use cni_addr::Items;
@@ -14,7 +14,7 @@ use std::alloc::Global;
 
 /// The members in order, each as the function reads it, up to the first refusal. A function whose calls give as
 /// `wanted` wants reads the list as `each wanted` wants.
-#[tactic(auto, using(crate::proofs::Steps::steps))]
+#[tactic(auto, using(crate::proofs::Steps::lists))]
 pub fn read_each<T: Drop, E: Refusal, R: Fn(&Value) -> Result<T, E>>(
     alloc: Global,
     list: &[Value],
@@ -24,30 +24,12 @@ pub fn read_each<T: Drop, E: Refusal, R: Fn(&Value) -> Result<T, E>>(
     ensures { (wanted : Data → Result T E) → IsReader E.is_want_of_memory R.Fn read wanted
         → GivesAs E.is_want_of_memory (λ xs. xs) result (each wanted (items_view list.now)) }
 {
-    read_each_after(Items::new(alloc), list, read)
-}
-
-/// The items that are there already, and then the members as [`read_each`] reads them.
-#[tactic(auto, using(crate::proofs::Steps::steps))]
-pub fn read_each_after<T: Drop, E: Refusal, R: Fn(&Value) -> Result<T, E>>(
-    before: Items<T>,
-    list: &[Value],
-    read: R,
-) -> Result<Items<T>, E>
-    requires { R.IsAlwaysCallable read }
-    ensures { (wanted : Data → Result T E) → IsReader E.is_want_of_memory R.Fn read wanted
-        → GivesAs E.is_want_of_memory (λ xs. xs) result (with_front before (each wanted (items_view list.now))) }
-{
-    let mut found = before;
-    for member in list {
-        found.push(read(member)?)?;
-    }
-    Ok(found)
+    read_each_after(Items::new(alloc), list, |_, member| read(member))
 }
 
 /// The same as [`read_each`], by a function that takes the member's place from 0 too: it reads the list as
 /// `each_from wanted 0` wants.
-#[tactic(auto, using(crate::proofs::Steps::steps))]
+#[tactic(auto, using(crate::proofs::Steps::lists))]
 pub fn read_each_placed<T: Drop, E: Refusal, R: Fn(usize, &Value) -> Result<T, E>>(
     alloc: Global,
     list: &[Value],
@@ -57,9 +39,29 @@ pub fn read_each_placed<T: Drop, E: Refusal, R: Fn(usize, &Value) -> Result<T, E
     ensures { (wanted : ℕ → Data → Result T E) → IsPlacedReader E.is_want_of_memory R.Fn read wanted
         → GivesAs E.is_want_of_memory (λ xs. xs) result (each_from wanted 0 (items_view list.now)) }
 {
-    let mut found = Items::new(alloc);
-    for (place, member) in list.iter().enumerate() {
-        found.push(read(place, member)?)?;
+    read_each_after(
+        Items::new(alloc),
+        list,
+        |before, member| read(before.len(), member),
+    )
+}
+
+/// The items that are there already, and then the members in order, each as the function reads it after all that stand
+/// before it: it reads the list as `each_after wanted before` wants.
+#[tactic(auto, using(crate::proofs::Steps::steps))]
+pub fn read_each_after<T: Drop, E: Refusal, R: Fn(&[T], &Value) -> Result<T, E>>(
+    before: Items<T>,
+    list: &[Value],
+    read: R,
+) -> Result<Items<T>, E>
+    requires { MayReadEach R.Fn read list.now }
+    ensures { (wanted : List T → Data → Result T E) → IsReaderAfter E.is_want_of_memory R.Fn read wanted
+        → GivesAs E.is_want_of_memory (λ xs. xs) result (each_after wanted before (items_view list.now)) }
+{
+    let mut found = before;
+    for member in list {
+        let next = read(found.as_slice(), member)?;
+        found.push(next)?;
     }
     Ok(found)
 }

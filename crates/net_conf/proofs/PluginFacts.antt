@@ -12,7 +12,7 @@ use Rattle.cni_json.specs.declared.fields.Field.{Field}
 use Rattle.cni_json.specs.declared.fields.Field.TheVariants.{Absent, WrongKind, Here}
 use Rattle.cni_json.proofs.Ascending.{get-everywhere}
 use Rattle.cni_json.specs.WellFormed.{EverywhereInItems, HasAscendingKeys, KeysAscend}
-use Rattle.cni_json.proofs.Endings.{goes, ok_same, passed, not_refused}
+use Rattle.cni_json.proofs.Endings.{goes, ok_same, passed, not_refused, each_after_keeps}
 use Rattle.net_conf.proofs.SetFacts.{sets_at-ok, routes_at-ok}
 use Rattle.net_conf.proofs.TuningFacts.{by_test, is_mtu-true, tuning_at-ok}
 use Rattle.net_conf.specs.Bridge.{bridge_rows, bridge_name_of, bridge_name_at, gateway_role_at, mode_flags_at, not_both, modes_at, bridge_at}
@@ -24,7 +24,7 @@ use Rattle.net_conf.specs.Members.{flag_at, is_mtu, mtu_of, mtu_at, object_at, o
 use Rattle.net_conf.specs.Names.{is_interface_name}
 use Rattle.net_conf.specs.Outside.{supported, all_supported}
 use Rattle.net_conf.specs.PluginTypes.{type_eq, type_of_chained}
-use Rattle.net_conf.specs.Plugins.{type_at, first_of, first_at, first_plugin, later_of, is_of_type, not_repeated, later_at, chained_after, later_plugins, plugins_of, plugins_at, chain_at}
+use Rattle.net_conf.specs.Plugins.{type_at, first_of, first_at, first_plugin, later_of, is_of_type, not_repeated, later_at, later_plugins, plugins_of, plugins_at, chain_at}
 use Rattle.net_conf.specs.Portmap.{portmap_at}
 use Rattle.net_conf.specs.Ptp.{ipam_or_refused, ptp_at}
 use Rattle.net_conf.specs.Routes.{routes_at}
@@ -258,19 +258,20 @@ later_at-ok before d next order kept is =
       once = once_more before next type.value here.0 none kept.once;
     }
 
-chained_after-ok : (before : List Chained) (ds : Items) (found : List Chained) → EverywhereInItems HasAscendingKeys ds → AreLater before → chained_after before ds ≡ Ok found → AreLater found
-chained_after-ok before no_items found order kept is = subst AreLater (ok_same is) kept
-chained_after-ok before (item d ds) found order kept is =
-    let next = goes (later_at before d) _ found is in
-    chained_after-ok (before ++ next.value ∷ []) ds found order.1 (later_at-ok before d next.value order.0 kept next.first) next.rest
-
 none_later : AreLater []
 unfolding IsDistinct
 none_later = record { all = All-nil IsWellFormedChained; once = tt }
 
+-- the later plugins so far, and that the keys of those to follow ascend
+abbrev AreLaterSoFar : List Chained → Items → Type 0
+AreLaterSoFar before ds = AreLater before × EverywhereInItems HasAscendingKeys ds
+
+later_at-keeps : (before : List Chained) (d : Data) (ds : Items) (next : Chained) → AreLaterSoFar before (item d ds) → later_at before d ≡ Ok next → AreLaterSoFar (before ++ next ∷ []) ds
+later_at-keeps before d ds next kept is = (later_at-ok before d next kept.1.0 kept.0 is, kept.1.1)
+
 later_plugins-ok : (ds : Items) (found : List Chained) → EverywhereInItems HasAscendingKeys ds → later_plugins ds ≡ Ok found → AreLater found
 later_plugins-ok no_items found order is = subst AreLater (ok_same is) none_later
-later_plugins-ok (item d ds) found order is = chained_after-ok [] ds found order.1 none_later is
+later_plugins-ok (item d ds) found order is = (each_after_keeps later_at AreLaterSoFar later_at-keeps [] ds found (none_later, order.1) is).0
 
 -- ---- all plugins
 

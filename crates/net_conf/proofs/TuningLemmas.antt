@@ -1,9 +1,9 @@
 -- One more step through a text, and through the members of an object.
-use Rattle.std.proofs.Common.{◌≡◌, ℕ, zero, suc, ◌+◌, ◌<◌, ◌||◌, false, List, [], ◌∷◌, ◌++◌, length, drop, nat_eq, Result, Ok, Err, refl, sym, ap, arith, add-one, append_assoc}
+use Rattle.std.proofs.Common.{◌≡◌, ℕ, zero, suc, ◌+◌, ◌<◌, ◌||◌, false, List, [], ◌∷◌, ◌++◌, length, drop, nat_eq, Result, Ok, refl, sym, arith, add-one}
 use Rattle.std.proofs.lemmas.List.{take_rest}
 use Rattle.std.specs.List.{starts_with}
-use Rattle.cni_json.specs.Outcome.{◌>>=◌}
 use Rattle.serde_json.specs.Data.{Data, Members, member}
+use Rattle.cni_json.proofs.EachLemmas.{with_front-more}
 use Rattle.cni_json.specs.Each.{with_front}
 use Rattle.net_conf.specs.Tuning.{has_part, settings_of, setting_of, is_null}
 use Rattle.net_conf.specs.declared.chained.Sysctl.{Sysctl}
@@ -19,10 +19,6 @@ pub has_part-drop : (part text : List ℕ) (i : ℕ) → i < length text → has
 has_part-drop part text i within = rw add-one (has_part-suc part text i within)
 
 pub ruleset parts = (has_part-drop, take_rest)
-
-with_front-more : (front : List Sysctl) (s : Sysctl) (r : Result (List Sysctl) ConfError) → with_front (front ++ s ∷ []) r ≡ with_front front (r >>= λ rest. Ok (s ∷ rest))
-with_front-more front s (Ok rest) = ap Ok (append_assoc front (s ∷ []) rest)
-with_front-more front s (Err e) = refl
 
 -- a setting that is read joins those that were found
 pub settings-found : (front : List Sysctl) (s : Sysctl) (key : List ℕ) (d : Data) (ms : Members) → is_null d ≡ false → setting_of key d ≡ Ok s

@@ -6,9 +6,10 @@ use Rattle.serde_json.specs.Data.{array}
 use Rattle.serde_json.specs.View.{view, items_view}
 use Rattle.serde_json.specs.Written.{has_float, items_have_float}
 use Rattle.serde_json.specs.declared.value.Value.{Value}
+use Rattle.cni_json.specs.Each.{each_after}
 use Rattle.net_conf.specs.Outside.{is_empty_list}
 use Rattle.net_conf.specs.Sets.{item_count, is_set, is_object, all_items}
-use Rattle.net_conf.specs.Plugins.{later_plugins, chained_after}
+use Rattle.net_conf.specs.Plugins.{later_plugins, later_at}
 
 pub empty_items : (xs : List Value) → is_empty_list (array (items_view xs)) ≡ nat_eq (length xs) 0
 empty_items [] = refl
@@ -24,7 +25,7 @@ pub is_set-some : (xs : List Value) → 1 ≤ length xs → is_set (array (items
 is_set-some [] some = absurd (omega arith)
 is_set-some (x ∷ xs) some = refl
 
-pub later_plugins-some : (xs : List Value) → 1 ≤ length xs → later_plugins (items_view xs) ≡ chained_after [] (items_view (drop 1 xs))
+pub later_plugins-some : (xs : List Value) → 1 ≤ length xs → later_plugins (items_view xs) ≡ each_after later_at [] (items_view (drop 1 xs))
 later_plugins-some [] some = absurd (omega arith)
 later_plugins-some (x ∷ xs) some = refl
 

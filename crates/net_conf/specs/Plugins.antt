@@ -1,8 +1,9 @@
 -- The plugins of a list, and which may stand where.
-use Rattle.std.specs.Prelude.{ℕ, List, [], ◌∷◌, ◌++◌, codes, Bool, if◌then◌else◌, Result, Ok, ⊤}
+use Rattle.std.specs.Prelude.{ℕ, List, [], codes, Bool, if◌then◌else◌, Result, Ok, ⊤}
 use Rattle.std.specs.List.{list_any}
 use Rattle.std.specs.Str.{bytes_eq}
 use Rattle.serde_json.specs.Data.{Data, Items, no_items, item}
+use Rattle.cni_json.specs.Each.{each_after}
 use Rattle.cni_json.specs.Fields.{text_field, list_field}
 use Rattle.cni_json.specs.Outcome.{◌>>=◌}
 use Rattle.cni_json.specs.declared.fields.Field.{Field}
@@ -92,17 +93,10 @@ later_at before d = do
   _ ← not_repeated before type
   later_of type d
 
--- these later plugins and all after them
-abbrev pub chained_after : List Chained → Items → Result (List Chained) ConfError
-chained_after before no_items = Ok before
-chained_after before (item d ds) = do
-  next ← later_at before d
-  chained_after (before ++ next ∷ []) ds
-
 -- the plugins after the first
 abbrev pub later_plugins : Items → Result (List Chained) ConfError
 later_plugins no_items = Ok []
-later_plugins (item d ds) = chained_after [] ds
+later_plugins (item d ds) = each_after later_at [] ds
 
 -- ---- all plugins
 

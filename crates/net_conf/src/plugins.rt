@@ -4,6 +4,7 @@ ghost use Rattle.std.specs.Prelude.{◌≡◌, [], false, IfOk};
 ghost use Rattle.std.specs.List.{list_any};
 ghost use Rattle.serde_json.specs.View.{view, items_view};
 ghost use Rattle.serde_json.specs.Written.{has_float, items_have_float};
+ghost use Rattle.cni_json.specs.Each.{each_after};
 ghost use Rattle.cni_json.specs.Outcome.{GivesAs};
 ghost use Rattle.net_conf.specs.Plugins as wanted;
 ghost use Rattle.net_conf.specs.Refusals.{is_want_of_memory};
@@ -20,7 +21,7 @@ use crate::portmap::portmap;
 use crate::ptp::ptp;
 use crate::tuning::tuning;
 use cni_addr::Items;
-use cni_json::{Field, Value, field_list, field_str};
+use cni_json::{Field, Value, field_list, field_str, read_each_after};
 use std::alloc::Global;
 
 /// The plugins of a list, in order.
@@ -74,21 +75,20 @@ fn later_plugins(alloc: Global, plugins: &[Value]) -> Result<Items<Chained>, Con
 {
     match plugins {
         [] => Ok(Items::new(alloc)),
-        [_, later @ ..] => all_later(alloc, later),
+        [_, others @ ..] => all_later(alloc, others),
     }
 }
 
 #[tactic(auto, using(cni_json::proofs::Steps::steps, cni_json::proofs::WholeNumbers::parts_are_whole))]
 fn all_later(alloc: Global, plugins: &[Value]) -> Result<Items<Chained>, ConfError>
     requires { items_have_float (items_view plugins.now) ≡ false }
-    ensures { GivesAs is_want_of_memory (λ chained. chained) result (wanted.chained_after [] (items_view plugins.now)) }
+    ensures { GivesAs is_want_of_memory (λ chained. chained) result (each_after wanted.later_at [] (items_view plugins.now)) }
 {
-    let mut found = Items::new(alloc);
-    for plugin in plugins {
-        let next = later(alloc, found.as_slice(), plugin)?;
-        found.push(next)?;
-    }
-    Ok(found)
+    read_each_after(
+        Items::new(alloc),
+        plugins,
+        |before, plugin| later(alloc, before, plugin),
+    )
 }
 
 /// A plugin after the first and the later ones that are given.

@@ -19,7 +19,7 @@ use std::alloc::Global;
 pub const MOST_SETS: usize = 65_536;
 
 /// The set that the object's own `subnet` gives, and then those of its `ranges`.
-#[tactic(auto, using(cni_json::proofs::Steps::steps), unfolding(crate::specs::Sets::sets_at))]
+#[tactic(auto, using(cni_json::proofs::Steps::steps, cni_json::proofs::Steps::fronts), unfolding(crate::specs::Sets::sets_at))]
 pub fn sets(alloc: Global, object: &Value) -> Result<Items<RangeSet>, ConfError>
     ensures { GivesAs is_want_of_memory (λ sets. sets) result (wanted.sets_at (view object.now)) }
 {
@@ -27,7 +27,7 @@ pub fn sets(alloc: Global, object: &Value) -> Result<Items<RangeSet>, ConfError>
     let has_own = has_subnet(object);
     well_formed(alloc, has_own, listed)?;
     let own = own_sets(alloc, has_own, object)?;
-    let sets = read_each_after(own, listed, |member| set(alloc, member))?;
+    let sets = read_each_after(own, listed, |_, member| set(alloc, member))?;
     separate(alloc, sets.as_slice())?;
     Ok(sets)
 }

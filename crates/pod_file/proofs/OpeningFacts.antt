@@ -1,11 +1,11 @@
 -- What the opening of a pod file keeps that is read.
-use Rattle.std.proofs.Common.{◌≡◌, ℕ, ◌+◌, Bool, true, false, not, List, [], ◌∷◌, ◌++◌, codes, Some, None, Ok, refl, sym, ◌∙◌, subst}
+use Rattle.std.proofs.Common.{◌≡◌, ℕ, Bool, true, false, not, List, [], ◌∷◌, ◌++◌, length, codes, Some, None, Ok, refl, sym, ◌∙◌, subst}
 use Rattle.std.specs.Prelude.{◌&&◌, ◌||◌, if◌then◌else◌, ok_or, map, is_none}
 use Rattle.std.specs.List.{list_any}
 use Rattle.std.specs.Str.{bytes_eq}
 use Rattle.std.proofs.lemmas.Bool.{or_parts}
 use Rattle.std.proofs.lemmas.Slice.Eq.{bytes_eq-Decides}
-use Rattle.serde_json.specs.Data.{Data, null, boolean, number, string, array, object, Items, no_items, item}
+use Rattle.serde_json.specs.Data.{Data, null, boolean, number, string, array, object, Items}
 use Rattle.cni_json.specs.Fields.{text_field, list_field, object_field}
 use Rattle.cni_json.specs.declared.fields.Field.{Field}
 use Rattle.cni_json.specs.declared.fields.Field.TheVariants.{Absent, WrongKind, Here}
@@ -20,9 +20,9 @@ use Rattle.kernel_types.specs.declared.object.Link.{Link}
 use Rattle.kernel_types.specs.declared.object.LinkKind.{LinkKind}
 use Rattle.kernel_types.specs.declared.object.LinkKind.TheVariants.{Device, Bridge}
 use Rattle.kernel_types.specs.declared.object.Tag.TheVariants.{Outside}
-use Rattle.cni_json.proofs.Endings.{goes, ok_same, passed, not_refused}
-use Rattle.pod_file.specs.Links.{link_object, name_at, kind_of, kind_at, is_place, ns_of, ns_at, mtu_at, outside_link, not_taken, link_at, links_after, links_of, links_at}
-use Rattle.pod_file.specs.Opening.{namespace_at, namespaces_after, namespaces_of, namespaces_at, opening_members_at, opening_of, opening_at}
+use Rattle.cni_json.proofs.Endings.{goes, ok_same, passed, not_refused, each_after_keeps}
+use Rattle.pod_file.specs.Links.{link_object, name_at, kind_of, kind_at, is_place, ns_of, ns_at, mtu_at, outside_link, not_taken, link_at, next_link, links_of, links_at}
+use Rattle.pod_file.specs.Opening.{namespace_at, next_namespace, namespaces_of, namespaces_at, opening_members_at, opening_of, opening_at}
 use Rattle.pod_file.specs.WellFormed.{IsOpening}
 use Rattle.pod_file.specs.declared.error.PodError.{PodError}
 
@@ -53,16 +53,13 @@ names-push before name good can =
       distinct = distinct-push bytes_eq before name good.distinct (list_any-none (λ x. bytes_eq x name) (bytes_eq name) (λ x same. bytes_eq-swap x name same) before parts.1);
     }
 
-namespaces_after-ok : (before : List (List ℕ)) (index : ℕ) (ds : Items) (names : List (List ℕ)) → AreNamespaceNames before → namespaces_after before index ds ≡ Ok names → AreNamespaceNames names
-namespaces_after-ok before index no_items names good is = subst AreNamespaceNames (ok_same is) good
-namespaces_after-ok before index (item d ds) names good is =
-    let next = goes (namespace_at before index d) _ names is in
-    namespaces_after-ok (before ++ next.value ∷ []) (index + 1) ds names (names-push before next.value good (namespace_at-ok before index d next.value next.first)) next.rest
+next_namespace-keeps : (before : List (List ℕ)) (d : Data) (ds : Items) (name : List ℕ) → AreNamespaceNames before → next_namespace before d ≡ Ok name → AreNamespaceNames (before ++ name ∷ [])
+next_namespace-keeps before d ds name good is = names-push before name good (namespace_at-ok before (length before) d name is)
 
 namespaces_of-ok : (f : Field Items) (names : List (List ℕ)) → namespaces_of f ≡ Ok names → AreNamespaceNames names
 namespaces_of-ok Absent names is = subst AreNamespaceNames (ok_same is) no_host
 namespaces_of-ok WrongKind names is = cc
-namespaces_of-ok (Here ds) names is = namespaces_after-ok [] 0 ds names no_host is
+namespaces_of-ok (Here ds) names is = each_after_keeps next_namespace (λ before rest. AreNamespaceNames before) next_namespace-keeps [] ds names no_host is
 
 namespaces_at-ok : (d : Data) (names : List (List ℕ)) → namespaces_at d ≡ Ok names → AreNamespaceNames names
 unfolding namespaces_at
@@ -146,17 +143,13 @@ links-push names before link good next = record {
   keys = distinct-push (λ a b. is_at b.ns b.name a) before link good.keys next.new;
 }
 
-links_after-ok : (names : List (List ℕ)) (before : List Link) (index : ℕ) (ds : Items) (links : List Link) → AreOutsideLinks names before
-    → links_after names before index ds ≡ Ok links → AreOutsideLinks names links
-links_after-ok names before index no_items links good is = subst (AreOutsideLinks names) (ok_same is) good
-links_after-ok names before index (item d ds) links good is =
-    let next = goes (link_at names before index d) _ links is in
-    links_after-ok names (before ++ next.value ∷ []) (index + 1) ds links (links-push names before next.value good (link_at-ok names before index d next.value next.first)) next.rest
+next_link-keeps : (names : List (List ℕ)) (before : List Link) (d : Data) (ds : Items) (link : Link) → AreOutsideLinks names before → next_link names before d ≡ Ok link → AreOutsideLinks names (before ++ link ∷ [])
+next_link-keeps names before d ds link good is = links-push names before link good (link_at-ok names before (length before) d link is)
 
 links_of-ok : (names : List (List ℕ)) (f : Field Items) (links : List Link) → links_of names f ≡ Ok links → AreOutsideLinks names links
 links_of-ok names Absent links is = subst (AreOutsideLinks names) (ok_same is) (no_links names)
 links_of-ok names WrongKind links is = cc
-links_of-ok names (Here ds) links is = links_after-ok names [] 0 ds links (no_links names) is
+links_of-ok names (Here ds) links is = each_after_keeps (next_link names) (λ before rest. AreOutsideLinks names before) (next_link-keeps names) [] ds links (no_links names) is
 
 links_at-ok : (names : List (List ℕ)) (d : Data) (links : List Link) → links_at names d ≡ Ok links → AreOutsideLinks names links
 unfolding links_at

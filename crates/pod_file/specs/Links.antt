@@ -1,8 +1,9 @@
 -- The links of an opening.
-use Rattle.std.specs.Prelude.{ℕ, ◌+◌, ◌||◌, List, [], ◌∷◌, ◌++◌, codes, Bool, if◌then◌else◌, Result, Ok, ok_or, Option, find, ⊤}
+use Rattle.std.specs.Prelude.{ℕ, ◌||◌, List, [], length, codes, Bool, if◌then◌else◌, Result, Ok, ok_or, Option, find, ⊤}
 use Rattle.std.specs.List.{list_any}
 use Rattle.std.specs.Str.{bytes_eq}
-use Rattle.serde_json.specs.Data.{Data, Items, no_items, item}
+use Rattle.serde_json.specs.Data.{Data, Items}
+use Rattle.cni_json.specs.Each.{each_after}
 use Rattle.cni_json.specs.Fields.{text_field, list_field, u64_field, member_or, object_or}
 use Rattle.cni_json.specs.Outcome.{◌>>=◌}
 use Rattle.cni_json.specs.declared.fields.Field.{Field}
@@ -86,15 +87,12 @@ link_at names before index d = do
   _ ← not_taken before index ns name
   Ok (outside_link ns name kind mtu)
 
--- these links, and all that follow
-abbrev pub links_after : List (List ℕ) → List Link → ℕ → Items → Result (List Link) PodError
-links_after names before index no_items = Ok before
-links_after names before index (item d ds) = do
-  next ← link_at names before index d
-  links_after names (before ++ next ∷ []) (index + 1) ds
+-- the link that comes next, whose place is the number of those before
+abbrev pub next_link : List (List ℕ) → List Link → Data → Result Link PodError
+next_link names before d = link_at names before (length before) d
 
 abbrev pub links_of : List (List ℕ) → Field Items → Result (List Link) PodError
-links_of names f = member_or (Ok []) (wrong (codes "opening.links")) (links_after names [] 0) f
+links_of names f = member_or (Ok []) (wrong (codes "opening.links")) (each_after (next_link names) []) f
 
 -- the links, none where there is no list
 unfoldable pub links_at : List (List ℕ) → Data → Result (List Link) PodError

@@ -1,6 +1,7 @@
 -- The host as it is found.
-use Rattle.std.specs.Prelude.{ℕ, ◌+◌, List, [], ◌∷◌, ◌++◌, codes, if◌then◌else◌, Result, Ok}
-use Rattle.serde_json.specs.Data.{Data, string, Items, no_items, item}
+use Rattle.std.specs.Prelude.{ℕ, List, [], length, codes, if◌then◌else◌, Result, Ok}
+use Rattle.serde_json.specs.Data.{Data, string, Items}
+use Rattle.cni_json.specs.Each.{each_after}
 use Rattle.cni_json.specs.Fields.{list_field, object_field, member_or}
 use Rattle.cni_json.specs.Outcome.{◌>>=◌}
 use Rattle.cni_json.specs.declared.fields.Field.{Field}
@@ -23,15 +24,12 @@ abbrev pub namespace_at : List (List ℕ) → ℕ → Data → Result (List ℕ)
 namespace_at before index (string name) = name_or_refused before index name
 namespace_at before index d = wrong_namespace index
 
--- these names, and all that follow
-abbrev pub namespaces_after : List (List ℕ) → ℕ → Items → Result (List (List ℕ)) PodError
-namespaces_after before index no_items = Ok before
-namespaces_after before index (item d ds) = do
-  next ← namespace_at before index d
-  namespaces_after (before ++ next ∷ []) (index + 1) ds
+-- the name that comes next, whose place is the number of those before
+abbrev pub next_namespace : List (List ℕ) → Data → Result (List ℕ) PodError
+next_namespace before d = namespace_at before (length before) d
 
 abbrev pub namespaces_of : Field Items → Result (List (List ℕ)) PodError
-namespaces_of f = member_or (Ok []) (wrong (codes "opening.namespaces")) (namespaces_after [] 0) f
+namespaces_of f = member_or (Ok []) (wrong (codes "opening.namespaces")) (each_after next_namespace []) f
 
 -- the names of the namespaces, none where there is no list
 unfoldable pub namespaces_at : Data → Result (List (List ℕ)) PodError

@@ -1,9 +1,9 @@
 //! The reader of the opening's links.
 
-ghost use Rattle.std.specs.Prelude.{◌≡◌, [], codes};
+ghost use Rattle.std.specs.Prelude.{◌≡◌, codes};
 ghost use Rattle.std.specs.List.{list_any};
 ghost use Rattle.std.specs.Str.{bytes_eq};
-ghost use Rattle.serde_json.specs.View.{view, items_view};
+ghost use Rattle.serde_json.specs.View.{view};
 ghost use Rattle.cni_json.specs.Outcome.{GivesAs, TellsAs};
 ghost use Rattle.kernel_types.specs.Words as words;
 ghost use Rattle.pod_file.specs.Links as wanted;
@@ -12,7 +12,7 @@ ghost use Rattle.pod_file.specs.declared.error.PodError.TheVariants as refusal;
 
 use crate::error::{PodError, wrong, wrong_member};
 use cni_addr::{Items, Text};
-use cni_json::{Field, Value, field_list, field_str, field_u64};
+use cni_json::{Field, Value, field_list, field_str, field_u64, read_each_after};
 use kernel_types::words::is_at;
 use kernel_types::{Link, LinkKey, LinkKind, Tag, link_kind_text, link_mac};
 use net_conf::{DEFAULT_MTU, is_interface_name, is_mtu};
@@ -29,20 +29,25 @@ pub fn links(alloc: Global, names: &[Text], opening: &Value) -> Result<Items<Lin
     match field_list(opening, "links") {
         Field::Absent => Ok(Items::new(alloc)),
         Field::WrongKind => Err(wrong(alloc, "opening.links")),
-        Field::Here(list) => all_links(alloc, names, list),
+        Field::Here(list) => {
+            read_each_after(
+                Items::new(alloc),
+                list,
+                |before, member| next_link(alloc, names, before, member),
+            )
+        }
     }
 }
 
-#[tactic(auto, using(cni_json::proofs::Steps::steps))]
-fn all_links(alloc: Global, names: &[Text], list: &[Value]) -> Result<Items<Link>, PodError>
-    ensures { GivesAs is_want_of_memory (λ links. links) result (wanted.links_after names.now [] 0 (items_view list.now)) }
+fn next_link(
+    alloc: Global,
+    names: &[Text],
+    before: &[Link],
+    member: &Value,
+) -> Result<Link, PodError>
+    ensures { GivesAs is_want_of_memory (λ link. link) result (wanted.next_link names.now before.now (view member.now)) }
 {
-    let mut found = Items::new(alloc);
-    for (index, member) in list.iter().enumerate() {
-        let next = link(alloc, names, found.as_slice(), index, member)?;
-        found.push(next)?;
-    }
-    Ok(found)
+    link(alloc, names, before, before.len(), member)
 }
 
 #[tactic(auto, using(cni_json::proofs::Steps::steps), unfolding(crate::specs::Links::link_at))]

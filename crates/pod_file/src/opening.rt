@@ -1,7 +1,7 @@
 //! The reader of the opening.
 
-ghost use Rattle.std.specs.Prelude.{[], codes};
-ghost use Rattle.serde_json.specs.View.{view, items_view};
+ghost use Rattle.std.specs.Prelude.{codes};
+ghost use Rattle.serde_json.specs.View.{view};
 ghost use Rattle.cni_json.specs.Outcome.{GivesAs, TellsAs};
 ghost use Rattle.pod_file.specs.Opening as wanted;
 ghost use Rattle.pod_file.specs.Refusals.{is_want_of_memory, member_path};
@@ -10,7 +10,7 @@ ghost use Rattle.pod_file.specs.declared.error.PodError.TheVariants as refusal;
 use crate::error::{PodError, wrong, wrong_member};
 use crate::links::{is_place, links};
 use cni_addr::{Items, Text};
-use cni_json::{Field, Value, field_list, field_object};
+use cni_json::{Field, Value, field_list, field_object, read_each_after};
 use kernel_types::{Host, opening_with};
 use std::alloc::Global;
 
@@ -43,20 +43,20 @@ fn namespaces(alloc: Global, members: &Value) -> Result<Items<Text>, PodError>
     match field_list(members, "namespaces") {
         Field::Absent => Ok(Items::new(alloc)),
         Field::WrongKind => Err(wrong(alloc, "opening.namespaces")),
-        Field::Here(list) => all_namespaces(alloc, list),
+        Field::Here(list) => {
+            read_each_after(
+                Items::new(alloc),
+                list,
+                |before, member| next_namespace(alloc, before, member),
+            )
+        }
     }
 }
 
-#[tactic(auto, using(cni_json::proofs::Steps::steps))]
-fn all_namespaces(alloc: Global, list: &[Value]) -> Result<Items<Text>, PodError>
-    ensures { GivesAs is_want_of_memory (λ names. names) result (wanted.namespaces_after [] 0 (items_view list.now)) }
+fn next_namespace(alloc: Global, before: &[Text], member: &Value) -> Result<Text, PodError>
+    ensures { GivesAs is_want_of_memory (λ name. name) result (wanted.next_namespace before.now (view member.now)) }
 {
-    let mut found = Items::new(alloc);
-    for (index, member) in list.iter().enumerate() {
-        let next = namespace(alloc, found.as_slice(), index, member)?;
-        found.push(next)?;
-    }
-    Ok(found)
+    namespace(alloc, before, before.len(), member)
 }
 
 #[tactic(auto, using(cni_json::proofs::Steps::steps))]
