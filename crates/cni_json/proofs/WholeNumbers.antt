@@ -1,7 +1,6 @@
 -- The parts of a value in which each number is a u64 or an i64: what `line` requires of a part.
-use Rattle.std.proofs.Common.{◌≡◌, ℕ, zero, suc, ◌<◌, ◌^◌, List, [], ◌∷◌, length, get_or, Bool, true, false, Option, Some, None, Ordering, Less, Equal, Greater, nat_cmp, refl, subst, arith}
-use Rattle.std.specs.Prelude.{nat_lt, if◌then◌else◌}
-use Rattle.std.proofs.lemmas.Bool.Decides.{nat_tests}
+use Rattle.std.proofs.Common.{◌≡◌, ℕ, zero, suc, ◌<◌, List, [], ◌∷◌, length, get_or, Bool, true, false, Option, Some, None, Ordering, Less, Equal, Greater, nat_cmp, refl, subst, arith}
+use Rattle.std.specs.Prelude.{if◌then◌else◌}
 use Rattle.std.proofs.lemmas.Bool.{or_parts}
 use Rattle.std.specs.Cmp.Lexicographic.{slice_cmp}
 use Rattle.std.specs.Ordering.{match_ordering}
@@ -10,7 +9,7 @@ use Rattle.serde_json.specs.Find.{get, get_member, as_array}
 use Rattle.serde_json.specs.View.{view, items_view}
 use Rattle.serde_json.specs.Written.{has_float, items_have_float, members_have_float}
 use Rattle.serde_json.specs.declared.value.Value.{Value}
-use Rattle.cni_json.specs.Fields.{unless_null, member_at, list_field, object_field, object_of, field_of, of_kind, in_32_bits, u32_of}
+use Rattle.cni_json.specs.Fields.{unless_null, member_at, list_field, object_field, object_of, field_of, of_kind, has_32_bits, in_32_bits, u32_of}
 use Rattle.cni_json.specs.declared.fields.Field.TheVariants.{Here}
 
 -- what holds of each value that is looked among holds of the one that is found
@@ -83,15 +82,15 @@ items_have_float-at (x ∷ xs) (suc i) d whole h = items_have_float-at xs i d (o
 -- the five under one name, for a function that hands on a part
 pub ruleset parts_are_whole = (get-whole, member_at-whole, list_field-whole, object_field-whole, items_have_float-at)
 
-in_32_bits-fits : (m n : ℕ) → of_kind (in_32_bits m) ≡ Here n → n < 2 ^ 32
-in_32_bits-fits m n is = decided (nat_lt m (2 ^ 32)) refl is
+in_32_bits-fits : (m n : ℕ) → of_kind (in_32_bits m) ≡ Here n → has_32_bits n ≡ true
+in_32_bits-fits m n is = decided (has_32_bits m) refl is
   where
-    decided : (b : Bool) → nat_lt m (2 ^ 32) ≡ b → of_kind (if b then Some m else None) ≡ Here n → n < 2 ^ 32
-    decided true below same = let this : m ≡ n = cc in subst (λ k. k < 2 ^ 32) this (grind (arith, nat_tests))
-    decided false below same = cc
+    decided : (b : Bool) → has_32_bits m ≡ b → of_kind (if b then Some m else None) ≡ Here n → has_32_bits n ≡ true
+    decided true fits same = let this : m ≡ n = cc in subst (λ k. has_32_bits k ≡ true) this fits
+    decided false fits same = cc
 
--- a u32 that is there is below 2^32
-pub u32_of-fits : (o : Option Data) (n : ℕ) → field_of u32_of o ≡ Here n → n < 2 ^ 32
+-- a u32 that is there has 32 bits
+pub u32_of-fits : (o : Option Data) (n : ℕ) → field_of u32_of o ≡ Here n → has_32_bits n ≡ true
 u32_of-fits None n is = cc
 u32_of-fits (Some null) n is = cc
 u32_of-fits (Some (boolean b)) n is = cc

@@ -40,8 +40,11 @@ abbrev pub u64_of : Data → Option ℕ
 u64_of d = option_and_then as_u64 (as_number d)
 
 -- a number of 32 bits
+abbrev pub has_32_bits : ℕ → Bool
+has_32_bits n = nat_lt n (2 ^ 32)
+
 abbrev pub in_32_bits : ℕ → Option ℕ
-in_32_bits n = if nat_lt n (2 ^ 32) then Some n else None
+in_32_bits n = if has_32_bits n then Some n else None
 
 -- the number, where it is a u32
 abbrev pub u32_of : Data → Option ℕ

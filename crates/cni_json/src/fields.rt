@@ -2,7 +2,7 @@
 
 ghost use Rattle.std.specs.Prelude.{◌≡◌, option_map};
 ghost use Rattle.serde_json.specs.View.{view, items_view};
-ghost use Rattle.cni_json.specs.Fields.{field_map, member_at, text_field, bool_field, u64_field, u32_field, list_field, object_field};
+ghost use Rattle.cni_json.specs.Fields.{field_map, member_at, text_field, bool_field, u64_field, u32_field, has_32_bits, list_field, object_field};
 
 use serde_json::Value;
 
@@ -69,10 +69,17 @@ pub fn field_u32(object: &Value, key: &str) -> Field<u32>
     match member(object, key) {
         None => Field::Absent,
         Some(value) => match value.as_u64() {
-            Some(number @ 0..=4_294_967_295) => Field::Here(number as u32),
+            Some(number) if has_32_bits(number) => Field::Here(number as u32),
             _ => Field::WrongKind,
         },
     }
+}
+
+/// Whether the number has 32 bits.
+pub fn has_32_bits(number: u64) -> bool
+    ensures { result ≡ has_32_bits number }
+{
+    number <= 4_294_967_295
 }
 
 /// The member that is a list, as the slice of its items.

@@ -38,7 +38,8 @@ mod tests;
 mod writing;
 
 pub use fields::{
-    Field, field_bool, field_list, field_object, field_str, field_u32, field_u64, member,
+    Field, field_bool, field_list, field_object, field_str, field_u32, field_u64, has_32_bits,
+    member,
 };
 pub use laws::{a_line_feed_is_space, a_line_is_read_again, keys_ascend};
 pub use lists::{read_each, read_each_after, read_each_placed};

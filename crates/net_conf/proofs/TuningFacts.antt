@@ -1,5 +1,5 @@
 -- What the configuration of `tuning` keeps that is read.
-use Rattle.std.proofs.Common.{◌≡◌, ℕ, ◌<◌, ◌^◌, Bool, true, false, List, [], codes, Option, Some, None, Result, Ok, Less, nat_cmp, nat_eq, refl, sym, ap, ◌∙◌, subst, arith}
+use Rattle.std.proofs.Common.{◌≡◌, ℕ, Bool, true, false, List, [], codes, Option, Some, None, Result, Ok, Less, nat_cmp, nat_eq, refl, sym, ap, ◌∙◌, subst, arith}
 use Rattle.std.specs.Prelude.{All, not, map, if◌then◌else◌}
 use Rattle.std.specs.Cmp.Lexicographic.{slice_cmp}
 use Rattle.std.specs.List.Sorted.{IsStrictlySortedBy}
@@ -11,7 +11,7 @@ use Rattle.std.specs.Ordering.{is_eq}
 use Rattle.std.proofs.lemmas.List.Elements.{All-nil, All-cons}
 use Rattle.serde_json.specs.Data.{Data, null, boolean, number, string, array, object, Members, no_members, member}
 use Rattle.serde_json.specs.Find.{get}
-use Rattle.cni_json.specs.Fields.{member_at, u64_field, u32_field}
+use Rattle.cni_json.specs.Fields.{member_at, u64_field, u32_field, has_32_bits}
 use Rattle.cni_json.specs.declared.fields.Field.{Field}
 use Rattle.cni_json.specs.declared.fields.Field.TheVariants.{Absent, WrongKind, Here}
 use Rattle.cni_addr.proofs.MacTexts.{mac_read_is_spelled}
@@ -157,7 +157,7 @@ unfolding new_mtu_at
 new_mtu_at-ok d found is = new_mtu_of-ok (u64_field (codes "mtu") d) found is
 
 abbrev HasWord : ℕ → Type 0
-HasWord n = n < 2 ^ 32
+HasWord n = has_32_bits n ≡ true
 
 queue_length_of-ok : (f : Field ℕ) (found : Option ℕ) → ((n : ℕ) → f ≡ Here n → HasWord n) → queue_length_of f ≡ Ok found → IsNew HasWord found
 queue_length_of-ok Absent found fits is = subst (IsNew HasWord) (ok_same is) (none_new HasWord)

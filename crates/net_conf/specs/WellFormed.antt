@@ -1,5 +1,5 @@
 -- What every network list that is read keeps.
-use Rattle.std.specs.Prelude.{◌≡◌, ℕ, ◌<◌, ◌≤◌, ◌^◌, ◌&&◌, length, codes, IsTrue, false, nat_eq, All, Option, Some, None, map, ⊤}
+use Rattle.std.specs.Prelude.{◌≡◌, ℕ, ◌<◌, ◌≤◌, ◌&&◌, length, codes, IsTrue, false, nat_eq, All, Option, Some, None, map, ⊤}
 use Rattle.std.specs.List.{IsDistinct, starts_with}
 use Rattle.std.specs.Str.{bytes_eq}
 use Rattle.cni_addr.specs.declared.address.Addr.{Addr}
@@ -9,6 +9,7 @@ use Rattle.cni_addr.specs.declared.range.RangeSet.{RangeSet}
 use Rattle.cni_addr.specs.MacText.{IsMac}
 use Rattle.cni_addr.specs.Network.{IsCidr, network_of, contains}
 use Rattle.cni_addr.specs.Value.{IsAddr}
+use Rattle.cni_json.specs.Fields.{has_32_bits}
 use Rattle.cni_result.specs.declared.result.RouteEntry.{RouteEntry}
 use Rattle.ip_pool.specs.Pool.{are_apart}
 use Rattle.net_conf.specs.Names.{is_network_name, is_interface_name}
@@ -104,7 +105,7 @@ pub record IsWellFormedTuning (conf : TuningConf) : Type 0 where
   pub keys_once : IsDistinct bytes_eq (map (λ setting. setting.key) conf.sysctl)
   pub mac : (mac : Mac) → conf.mac ≡ Some mac → IsMac mac
   pub mtu : (n : ℕ) → conf.mtu ≡ Some n → IsMtu n
-  pub queue_length : (n : ℕ) → conf.tx_qlen ≡ Some n → n < 2 ^ 32
+  pub queue_length : (n : ℕ) → conf.tx_qlen ≡ Some n → IsTrue (has_32_bits n)
 
 abbrev pub IsWellFormedChained : Chained → Type 0
 IsWellFormedChained (later.Portmap conf) = ⊤

@@ -1,5 +1,5 @@
 -- What the rounds of a pod file keep that are read.
-use Rattle.std.proofs.Common.{◌≡◌, ℕ, zero, suc, ◌+◌, ◌≤◌, ◌<◌, ◌^◌, Bool, true, false, not, List, [], ◌∷◌, ◌++◌, length, codes, Option, Some, None, Ok, Err, refl, sym, ap, ◌∙◌, subst, arith}
+use Rattle.std.proofs.Common.{◌≡◌, ℕ, zero, suc, ◌+◌, ◌≤◌, Bool, true, false, not, List, [], ◌∷◌, ◌++◌, length, codes, Option, Some, None, Ok, Err, refl, sym, ap, ◌∙◌, subst, arith}
 use Rattle.std.specs.Prelude.{◌||◌, if◌then◌else◌, nat_le, is_some, All, slice_get}
 use Rattle.std.specs.List.{list_any}
 use Rattle.std.proofs.lemmas.Bool.Decides.{nat_tests}
@@ -8,7 +8,7 @@ use Rattle.std.proofs.lemmas.List.Elements.{All-nil, All-cons, All-head, All-tai
 use Rattle.serde_json.specs.Data.{Data, null, boolean, number, string, array, object, Items}
 use Rattle.serde_json.specs.Find.{get}
 use Rattle.cni_json.specs.Each.{list_or}
-use Rattle.cni_json.specs.Fields.{text_field, list_field, u32_field, u64_of}
+use Rattle.cni_json.specs.Fields.{text_field, list_field, u32_field, u64_of, has_32_bits}
 use Rattle.cni_json.specs.declared.fields.Field.{Field}
 use Rattle.cni_json.specs.declared.fields.Field.TheVariants.{Absent, WrongKind, Here}
 use Rattle.kernel_types.specs.Texts.{table_named}
@@ -51,29 +51,23 @@ table_at-ok place verb d table is = table_of-ok place verb (text_field (codes "t
 
 -- a number of 32 bits, if any
 abbrev IsStop : Option ℕ → Type 0
-IsStop stop = (n : ℕ) → stop ≡ Some n → n ≤ 4294967295
+IsStop stop = (n : ℕ) → stop ≡ Some n → has_32_bits n ≡ true
 
-some_stop : (n : ℕ) → n ≤ 4294967295 → IsStop (Some n)
-some_stop n most m same = let e : n ≡ m = cc in subst (λ k. k ≤ 4294967295) e most
+some_stop : (n : ℕ) → has_32_bits n ≡ true → IsStop (Some n)
+some_stop n fits m same = let e : n ≡ m = cc in subst (λ k. has_32_bits k ≡ true) e fits
 
-stop_of-ok : (place : CommandPlace) (f : Field ℕ) (stop : Option ℕ) → ((n : ℕ) → f ≡ Here n → n < 2 ^ 32) → stop_of place f ≡ Ok stop → IsStop stop
+stop_of-ok : (place : CommandPlace) (f : Field ℕ) (stop : Option ℕ) → ((n : ℕ) → f ≡ Here n → has_32_bits n ≡ true) → stop_of place f ≡ Ok stop → IsStop stop
 stop_of-ok place Absent stop fits is = subst IsStop (ok_same is) (λ n same. cc)
 stop_of-ok place WrongKind stop fits is = cc
-stop_of-ok place (Here n) stop fits is =
-    let below : n < 4294967296 = fits n refl in
-    let most : n ≤ 4294967295 = grind (arith, below) in
-    subst IsStop (ok_same is) (some_stop n most)
+stop_of-ok place (Here n) stop fits is = subst IsStop (ok_same is) (some_stop n (fits n refl))
 
 stop_at-ok : (place : CommandPlace) (d : Data) (stop : Option ℕ) → stop_at place d ≡ Ok stop → IsStop stop
 unfolding stop_at
 stop_at-ok place d stop is = stop_of-ok place (u32_field (codes "stop") d) stop (u32_of-fits (get (codes "stop") d)) is
 
-is_call_number-true : (n : ℕ) → is_call_number n ≡ true → IsCallNumber n
-is_call_number-true n is = record { least = grind (arith, nat_tests); most = grind (arith, nat_tests) }
-
 fault_of-ok : (place : CommandPlace) (o : Option ℕ) (n : ℕ) → fault_of place o ≡ Ok n → IsCallNumber n
 fault_of-ok place None n is = cc
-fault_of-ok place (Some m) n is = let test = passed (is_call_number m) m n _ is in subst IsCallNumber test.1 (is_call_number-true m test.0)
+fault_of-ok place (Some m) n is = let test = passed (is_call_number m) m n _ is in subst IsCallNumber test.1 test.0
 
 faults_of-ok : (place : CommandPlace) (f : Field Items) (faults : List ℕ) → list_or (wrong_key place (codes "faults")) (fault_at place) f ≡ Ok faults → All IsCallNumber faults
 faults_of-ok place Absent faults is = subst (All IsCallNumber) (ok_same is) (All-nil IsCallNumber)

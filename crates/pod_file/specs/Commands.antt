@@ -2,7 +2,7 @@
 use Rattle.std.specs.Prelude.{ℕ, ◌&&◌, List, [], codes, Bool, true, false, nat_le, if◌then◌else◌, Result, Ok, ok_or, Option, Some, None, find, ⊤}
 use Rattle.std.specs.Str.{bytes_eq}
 use Rattle.serde_json.specs.Data.{Data}
-use Rattle.cni_json.specs.Fields.{text_field, u32_field, u64_of, member_or, object_or}
+use Rattle.cni_json.specs.Fields.{text_field, u32_field, u64_of, has_32_bits, member_or, object_or}
 use Rattle.cni_json.specs.Outcome.{◌>>=◌}
 use Rattle.cni_json.specs.declared.fields.Field.{Field}
 use Rattle.kernel_types.specs.Texts.{table_named}
@@ -104,9 +104,9 @@ stop_of place f = member_or (Ok None) (wrong_key place (codes "stop")) (λ n. Ok
 unfoldable pub stop_at : CommandPlace → Data → Result (Option ℕ) PodError
 stop_at place d = stop_of place (u32_field (codes "stop") d)
 
--- calls are numbered from 1
+-- calls are numbered from 1, in 32 bits
 abbrev pub is_call_number : ℕ → Bool
-is_call_number n = nat_le 1 n && nat_le n 4294967295
+is_call_number n = nat_le 1 n && has_32_bits n
 
 abbrev pub fault_of : CommandPlace → Option ℕ → Result ℕ PodError
 fault_of place None = wrong_key place (codes "faults")

@@ -1,10 +1,12 @@
 -- What every pod file that is read keeps.
-use Rattle.std.specs.Prelude.{◌≡◌, ℕ, ◌+◌, ◌≤◌, List, [], ◌∷◌, ◌++◌, length, true, All, Some, is_some, slice_get}
+use Rattle.std.specs.Prelude.{◌≡◌, ℕ, ◌+◌, ◌≤◌, List, [], ◌∷◌, ◌++◌, length, true, IsTrue, All, Some, is_some, slice_get}
 use Rattle.std.specs.List.{list_any}
+use Rattle.cni_json.specs.Fields.{has_32_bits}
 use Rattle.kernel_types.specs.Equal.{tag_eq}
 use Rattle.kernel_types.specs.Sound.{AllPassTest, IsSound}
 use Rattle.kernel_types.specs.declared.object.Host.{Host}
 use Rattle.kernel_types.specs.declared.object.Tag.TheVariants.{Outside}
+use Rattle.pod_file.specs.Commands.{is_call_number}
 use Rattle.pod_file.specs.Rounds.{file_limit, is_exclusive}
 use Rattle.pod_file.specs.declared.command.Command.{Command}
 use Rattle.pod_file.specs.declared.command.Verb.TheVariants.{Flush}
@@ -24,15 +26,13 @@ pub record IsOpening (host : Host) : Type 0 where
 
 -- ---- commands
 
--- calls are counted from 1, in 32 bits
-pub record IsCallNumber (n : ℕ) : Type 0 where
-  pub least : 1 ≤ n
-  pub most : n ≤ 4294967295
+abbrev pub IsCallNumber : ℕ → Type 0
+IsCallNumber n = IsTrue (is_call_number n)
 
 -- a flush has its table, and the numbers of calls are in their bounds
 pub record IsWellFormedCommand (command : Command) : Type 0 where
   pub table : command.verb ≡ Flush → is_some command.table ≡ true
-  pub stop : (n : ℕ) → command.stop ≡ Some n → n ≤ 4294967295
+  pub stop : (n : ℕ) → command.stop ≡ Some n → IsTrue (has_32_bits n)
   pub faults : All IsCallNumber command.faults
 
 -- a command that must stand alone is the only one

@@ -11,7 +11,7 @@ use crate::error::{PodError, wrong_command, wrong_key};
 use crate::members::{list, mappings, needed_text, text, valid_attachments};
 use crate::place::CommandPlace;
 use cni_addr::{Items, Text};
-use cni_json::{Field, Value, field_str, field_u32};
+use cni_json::{Field, Value, field_str, field_u32, has_32_bits};
 use kernel_types::{Table, table_named};
 use std::alloc::Global;
 
@@ -172,7 +172,14 @@ fn fault(alloc: Global, place: CommandPlace, member: &Value) -> Result<u32, PodE
     ensures { GivesAs is_want_of_memory (λ number. number) result (wanted.fault_at place (view member.now)) }
 {
     match member.as_u64() {
-        Some(number @ 1..=4_294_967_295) => Ok(number as u32),
+        Some(number) if is_call_number(number) => Ok(number as u32),
         Some(_) | None => Err(wrong_key(alloc, place, "faults")),
     }
+}
+
+/// Whether a call may have the number: calls are counted from 1.
+fn is_call_number(number: u64) -> bool
+    ensures { result ≡ wanted.is_call_number number }
+{
+    number != 0 && has_32_bits(number)
 }
