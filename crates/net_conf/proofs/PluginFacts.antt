@@ -1,26 +1,26 @@
 -- What the plugins of a list keep that is read.
-use Rattle.std.proofs.Common.{◌≡◌, ℕ, ◌&&◌, true, false, List, [], ◌∷◌, ◌++◌, codes, Option, Some, None, Ok, nat_eq, refl, sym, subst}
-use Rattle.std.specs.Prelude.{All, map, if◌then◌else◌}
+use Rattle.std.proofs.Common.{◌≡◌, ℕ, ◌&&◌, true, false, List, [], ◌∷◌, ◌++◌, codes, Option, Some, None, Ok, refl, sym, subst}
+use Rattle.std.specs.Prelude.{All, map, unwrap_or, if◌then◌else◌}
 use Rattle.std.specs.List.{AllByRecursion, IsDistinct, list_any}
 use Rattle.std.specs.Str.{chars}
 use Rattle.std.proofs.lemmas.Bool.{or_parts, or_right}
 use Rattle.std.proofs.lemmas.List.Elements.{All-nil, All-cons, All-append}
 use Rattle.serde_json.specs.Data.{Data, null, boolean, number, string, array, object, Items, no_items, item}
 use Rattle.serde_json.specs.Find.{get, as_array}
-use Rattle.cni_json.specs.Fields.{member_at, u64_field, text_field, field_of}
+use Rattle.cni_json.specs.Fields.{member_at, text_field, field_of}
 use Rattle.cni_json.specs.declared.fields.Field.{Field}
 use Rattle.cni_json.specs.declared.fields.Field.TheVariants.{Absent, WrongKind, Here}
 use Rattle.cni_json.proofs.Ascending.{get-everywhere}
 use Rattle.cni_json.specs.WellFormed.{EverywhereInItems, HasAscendingKeys, KeysAscend}
 use Rattle.cni_json.proofs.Endings.{goes, ok_same, passed, not_refused, each_after_keeps}
 use Rattle.net_conf.proofs.SetFacts.{sets_at-ok, routes_at-ok}
-use Rattle.net_conf.proofs.TuningFacts.{by_test, is_mtu-true, tuning_at-ok}
+use Rattle.net_conf.proofs.TuningFacts.{IsNew, by_test, is_mtu-true, given_mtu_at-ok, tuning_at-ok}
 use Rattle.net_conf.specs.Bridge.{bridge_rows, bridge_name_of, bridge_name_at, gateway_role_at, mode_flags_at, not_both, modes_at, bridge_at}
 use Rattle.net_conf.specs.Dns.{dns_at}
 use Rattle.net_conf.specs.Firewall.{firewall_at}
 use Rattle.net_conf.specs.Ipam.{manager_at, host_local_at, is_empty, ipam_of, ipam_at, addressing_at}
 use Rattle.net_conf.specs.Macvlan.{macvlan_rows, master_of, master_at, mode_at, macvlan_at}
-use Rattle.net_conf.specs.Members.{flag_at, is_mtu, mtu_of, mtu_at, object_at, of_kind}
+use Rattle.net_conf.specs.Members.{flag_at, default_mtu, given_mtu_at, mtu_at, object_at, of_kind}
 use Rattle.net_conf.specs.Names.{is_interface_name}
 use Rattle.net_conf.specs.Outside.{supported, all_supported}
 use Rattle.net_conf.specs.PluginTypes.{type_eq, type_of_chained}
@@ -47,17 +47,15 @@ use Rattle.net_conf.specs.declared.plugins.PluginChain.{PluginChain}
 
 -- ---- members that several plugins have
 
-mtu_of-ok : (f : Field ℕ) (n : ℕ) → mtu_of f ≡ Ok n → IsMtu n
-mtu_of-ok Absent n is = subst IsMtu (ok_same is) (is_mtu-true 1500 refl)
-mtu_of-ok WrongKind n is = cc
-mtu_of-ok (Here m) n is =
-    by_test (nat_eq m 0) _ _ _ is
-    (λ zero same. subst IsMtu (ok_same same) (is_mtu-true 1500 refl))
-    (λ some same. let test = passed (is_mtu m) m n _ same in subst IsMtu test.1 (is_mtu-true m test.0))
+or_default : (given : Option ℕ) → IsNew IsMtu given → IsMtu (unwrap_or given default_mtu)
+or_default None kept = is_mtu-true default_mtu refl
+or_default (Some n) kept = kept n refl
 
 mtu_at-ok : (d : Data) (n : ℕ) → mtu_at d ≡ Ok n → IsMtu n
 unfolding mtu_at
-mtu_at-ok d n is = mtu_of-ok (u64_field (codes "mtu") d) n is
+mtu_at-ok d n is =
+    let given = goes (given_mtu_at d) _ n is in
+    subst IsMtu (ok_same given.rest) (or_default given.value (given_mtu_at-ok d given.value given.first))
 
 host_local_at-ok : (d : Data) (conf : HostLocalConf) → host_local_at d ≡ Ok conf → IsWellFormedHostLocal conf
 unfolding host_local_at

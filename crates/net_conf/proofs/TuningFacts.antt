@@ -21,8 +21,8 @@ use Rattle.cni_json.proofs.Ascending.{IsBelow, get-everywhere}
 use Rattle.cni_json.proofs.Endings.{goes, ok_same, passed}
 use Rattle.cni_json.proofs.WholeNumbers.{member_at-found, u32_of-fits}
 use Rattle.cni_json.specs.WellFormed.{keys, AreAscending, HasAscendingKeys, KeysAscend}
-use Rattle.net_conf.specs.Members.{flag_at, is_mtu}
-use Rattle.net_conf.specs.Tuning.{has_part, setting_or_refused, setting_of, is_null, settings_of, sysctl_of, sysctl_at, mac_or_refused, new_mac_of, new_mac_at, new_mtu_of, new_mtu_at, queue_length_of, queue_length_at, tuning_at}
+use Rattle.net_conf.specs.Members.{flag_at, is_mtu, given_mtu_of, given_mtu_at}
+use Rattle.net_conf.specs.Tuning.{has_part, setting_or_refused, setting_of, is_null, settings_of, sysctl_of, sysctl_at, mac_or_refused, new_mac_of, new_mac_at, queue_length_of, queue_length_at, tuning_at}
 use Rattle.net_conf.specs.WellFormed.{IsMtu, IsOfNetwork, IsWellFormedTuning}
 use Rattle.net_conf.specs.declared.chained.Sysctl.{Sysctl}
 use Rattle.net_conf.specs.declared.chained.TuningConf.{TuningConf}
@@ -135,7 +135,7 @@ new_mac_at-ok d found is = new_mac_of-ok _ found is
 pub is_mtu-true : (n : ℕ) → is_mtu n ≡ true → IsMtu n
 is_mtu-true n is = record { least = grind (arith, nat_tests); most = grind (arith, nat_tests) }
 
-abbrev IsNew : (ℕ → Type 0) → Option ℕ → Type 0
+abbrev pub IsNew : (ℕ → Type 0) → Option ℕ → Type 0
 IsNew P o = (n : ℕ) → o ≡ Some n → P n
 
 none_new : (P : ℕ → Type 0) → IsNew P None
@@ -144,17 +144,17 @@ none_new P n same = cc
 some_new : (P : ℕ → Type 0) (m : ℕ) → P m → IsNew P (Some m)
 some_new P m holds n same = let this : m ≡ n = cc in subst P this holds
 
-new_mtu_of-ok : (f : Field ℕ) (found : Option ℕ) → new_mtu_of f ≡ Ok found → IsNew IsMtu found
-new_mtu_of-ok Absent found is = subst (IsNew IsMtu) (ok_same is) (none_new IsMtu)
-new_mtu_of-ok WrongKind found is = cc
-new_mtu_of-ok (Here n) found is =
+given_mtu_of-ok : (f : Field ℕ) (found : Option ℕ) → given_mtu_of f ≡ Ok found → IsNew IsMtu found
+given_mtu_of-ok Absent found is = subst (IsNew IsMtu) (ok_same is) (none_new IsMtu)
+given_mtu_of-ok WrongKind found is = cc
+given_mtu_of-ok (Here n) found is =
     by_test (nat_eq n 0) _ _ _ is
     (λ zero same. subst (IsNew IsMtu) (ok_same same) (none_new IsMtu))
     (λ some same. let test = passed (is_mtu n) (Some n) found _ same in subst (IsNew IsMtu) test.1 (some_new IsMtu n (is_mtu-true n test.0)))
 
-new_mtu_at-ok : (d : Data) (found : Option ℕ) → new_mtu_at d ≡ Ok found → IsNew IsMtu found
-unfolding new_mtu_at
-new_mtu_at-ok d found is = new_mtu_of-ok (u64_field (codes "mtu") d) found is
+pub given_mtu_at-ok : (d : Data) (found : Option ℕ) → given_mtu_at d ≡ Ok found → IsNew IsMtu found
+unfolding given_mtu_at
+given_mtu_at-ok d found is = given_mtu_of-ok (u64_field (codes "mtu") d) found is
 
 abbrev HasWord : ℕ → Type 0
 HasWord n = has_32_bits n ≡ true
@@ -173,7 +173,7 @@ unfolding tuning_at
 tuning_at-ok d conf order is =
     let sysctl = goes (sysctl_at d) _ conf is in
     let mac = goes (new_mac_at d) _ conf sysctl.rest in
-    let mtu = goes (new_mtu_at d) _ conf mac.rest in
+    let mtu = goes (given_mtu_at d) _ conf mac.rest in
     let promisc = goes (flag_at (codes "promisc") false d) _ conf mtu.rest in
     let allmulti = goes (flag_at (codes "allmulti") false d) _ conf promisc.rest in
     let queue = goes (queue_length_at d) _ conf allmulti.rest in
@@ -182,6 +182,6 @@ tuning_at-ok d conf order is =
       settings = settings.of_network;
       keys_once = settings.once;
       mac = new_mac_at-ok d mac.value mac.first;
-      mtu = new_mtu_at-ok d mtu.value mtu.first;
+      mtu = given_mtu_at-ok d mtu.value mtu.first;
       queue_length = queue_length_at-ok d queue.value queue.first;
     })

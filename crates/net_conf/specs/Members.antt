@@ -1,5 +1,5 @@
 -- Members of a plugin's object, each with its refusal.
-use Rattle.std.specs.Prelude.{◌==◌, ◌&&◌, ℕ, List, codes, Bool, nat_le, if◌then◌else◌, Result, Ok, ⊤}
+use Rattle.std.specs.Prelude.{◌==◌, ◌&&◌, ℕ, List, codes, Bool, nat_le, if◌then◌else◌, Result, Ok, Option, Some, None, unwrap_or, ⊤}
 use Rattle.serde_json.specs.Data.{Data}
 use Rattle.cni_json.specs.Fields.{bool_field, u64_field, member_or, object_or}
 use Rattle.cni_json.specs.Outcome.{◌>>=◌}
@@ -46,13 +46,19 @@ is_mtu n = nat_le 68 n && nat_le n 65535
 abbrev pub default_mtu : ℕ
 default_mtu = 1500
 
--- an MTU, where 0 stands for the default
-abbrev pub mtu_value : ℕ → Result ℕ ConfError
-mtu_value n = if n == 0 then Ok default_mtu else if is_mtu n then Ok n else invalid (codes "mtu")
+-- an MTU, where 0 stands for none
+abbrev pub mtu_value : ℕ → Result (Option ℕ) ConfError
+mtu_value n = if n == 0 then Ok None else if is_mtu n then Ok (Some n) else invalid (codes "mtu")
 
-abbrev pub mtu_of : Field ℕ → Result ℕ ConfError
-mtu_of f = optional (codes "mtu") default_mtu mtu_value f
+abbrev pub given_mtu_of : Field ℕ → Result (Option ℕ) ConfError
+given_mtu_of f = optional (codes "mtu") None mtu_value f
+
+-- the MTU that the object gives, if it gives one
+unfoldable pub given_mtu_at : Data → Result (Option ℕ) ConfError
+given_mtu_at d = given_mtu_of (u64_field (codes "mtu") d)
 
 -- the MTU of the links that a plugin makes
 unfoldable pub mtu_at : Data → Result ℕ ConfError
-mtu_at d = mtu_of (u64_field (codes "mtu") d)
+mtu_at d = do
+  given ← given_mtu_at d
+  Ok (unwrap_or given default_mtu)

@@ -1,15 +1,15 @@
 -- The configuration of the `tuning` plugin, key by key in the order of its refusals.
-use Rattle.std.specs.Prelude.{◌==◌, ◌||◌, ℕ, List, [], ◌∷◌, codes, Bool, true, false, nat_eq, not, if◌then◌else◌, Result, Ok, Err, Option, Some, None}
+use Rattle.std.specs.Prelude.{◌||◌, ℕ, List, [], ◌∷◌, codes, Bool, true, false, nat_eq, not, if◌then◌else◌, Result, Ok, Err, Option, Some, None}
 use Rattle.std.specs.List.{starts_with}
 use Rattle.std.specs.Str.{bytes_eq}
 use Rattle.serde_json.specs.Data.{Data, null, string, object, Members, no_members, member}
 use Rattle.serde_json.specs.Written.{compact_text}
-use Rattle.cni_json.specs.Fields.{member_at, text_field, u64_field, u32_field}
+use Rattle.cni_json.specs.Fields.{member_at, text_field, u32_field}
 use Rattle.cni_json.specs.Outcome.{◌>>=◌}
 use Rattle.cni_json.specs.declared.fields.Field.{Field}
 use Rattle.cni_addr.specs.declared.mac.Mac.{Mac}
 use Rattle.cni_addr.specs.MacText.{mac_of_text}
-use Rattle.net_conf.specs.Members.{optional, flag_at, is_mtu}
+use Rattle.net_conf.specs.Members.{optional, flag_at, given_mtu_at}
 use Rattle.net_conf.specs.Refusals.{invalid}
 use Rattle.net_conf.specs.declared.chained.Sysctl.{Sysctl}
 use Rattle.net_conf.specs.declared.chained.TuningConf.{TuningConf}
@@ -67,16 +67,6 @@ new_mac_of f = optional (codes "mac") None new_mac_value f
 unfoldable pub new_mac_at : Data → Result (Option Mac) ConfError
 new_mac_at d = new_mac_of (text_field (codes "mac") d)
 
-abbrev pub new_mtu_value : ℕ → Result (Option ℕ) ConfError
-new_mtu_value n = if n == 0 then Ok None else if is_mtu n then Ok (Some n) else invalid (codes "mtu")
-
-abbrev pub new_mtu_of : Field ℕ → Result (Option ℕ) ConfError
-new_mtu_of f = optional (codes "mtu") None new_mtu_value f
-
--- the new MTU; 0 is none
-unfoldable pub new_mtu_at : Data → Result (Option ℕ) ConfError
-new_mtu_at d = new_mtu_of (u64_field (codes "mtu") d)
-
 abbrev pub queue_length_of : Field ℕ → Result (Option ℕ) ConfError
 queue_length_of f = optional (codes "txQLen") None (λ n. Ok (Some n)) f
 
@@ -89,7 +79,7 @@ unfoldable pub tuning_at : Data → Result TuningConf ConfError
 tuning_at d = do
   sysctl ← sysctl_at d
   mac ← new_mac_at d
-  mtu ← new_mtu_at d
+  mtu ← given_mtu_at d
   promisc ← flag_at (codes "promisc") false d
   allmulti ← flag_at (codes "allmulti") false d
   queue ← queue_length_at d

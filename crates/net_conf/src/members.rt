@@ -59,14 +59,23 @@ pub fn is_mtu(number: u64) -> bool
 /// The MTU of links whose own is not given, in bytes.
 pub const DEFAULT_MTU: u32 = 1500;
 
-/// The MTU of links, in bytes. 0 stands for the default, as does an absent one.
+/// The MTU that the object gives, in bytes. 0 stands for none, as does an absent one.
+#[tactic(auto, using(cni_json::proofs::Steps::steps), unfolding(crate::specs::Members::given_mtu_at))]
+pub fn given_mtu(alloc: Global, object: &Value) -> Result<Option<u32>, ConfError>
+    ensures { GivesAs is_want_of_memory (λ given. given) result (members.given_mtu_at (view object.now)) }
+{
+    match field_u64(object, "mtu") {
+        Field::Absent | Field::Here(0) => Ok(None),
+        Field::Here(number) if is_mtu(number) => Ok(Some(number as u32)),
+        Field::Here(_) | Field::WrongKind => Err(invalid(alloc, "mtu")),
+    }
+}
+
+/// The MTU of links, in bytes, which is the default where none is given.
 #[tactic(auto, using(cni_json::proofs::Steps::steps), unfolding(crate::specs::Members::mtu_at))]
 pub fn mtu(alloc: Global, object: &Value) -> Result<u32, ConfError>
     ensures { GivesAs is_want_of_memory (λ n. n) result (members.mtu_at (view object.now)) }
 {
-    match field_u64(object, "mtu") {
-        Field::Absent | Field::Here(0) => Ok(DEFAULT_MTU),
-        Field::Here(number) if is_mtu(number) => Ok(number as u32),
-        Field::Here(_) | Field::WrongKind => Err(invalid(alloc, "mtu")),
-    }
+    let given = given_mtu(alloc, object)?;
+    Ok(given.unwrap_or(DEFAULT_MTU))
 }

@@ -9,9 +9,9 @@ ghost use Rattle.net_conf.specs.Tuning as wanted;
 
 use crate::chained::{Sysctl, TuningConf};
 use crate::error::{ConfError, invalid, unsupported};
-use crate::members::{flag, is_mtu};
+use crate::members::{flag, given_mtu};
 use cni_addr::{Items, Mac, Text, read_mac};
-use cni_json::{Field, Map, Value, field_str, field_u32, field_u64, member};
+use cni_json::{Field, Map, Value, field_str, field_u32, member};
 use std::alloc::Global;
 
 /// The configuration of the `tuning` plugin, from its object in a list.
@@ -21,7 +21,7 @@ pub fn tuning(alloc: Global, object: &Value) -> Result<TuningConf, ConfError>
 {
     let sysctl = sysctl(alloc, object)?;
     let mac = new_mac(alloc, object)?;
-    let mtu = new_mtu(alloc, object)?;
+    let mtu = given_mtu(alloc, object)?;
     let promisc = flag(alloc, object, "promisc", false)?;
     let allmulti = flag(alloc, object, "allmulti", false)?;
     let tx_qlen = queue_length(alloc, object)?;
@@ -123,17 +123,6 @@ fn new_mac(alloc: Global, object: &Value) -> Result<Option<Mac>, ConfError>
             None => Err(invalid(alloc, "mac")),
         },
         Field::WrongKind => Err(invalid(alloc, "mac")),
-    }
-}
-
-#[tactic(auto, using(cni_json::proofs::Steps::steps), unfolding(crate::specs::Tuning::new_mtu_at))]
-fn new_mtu(alloc: Global, object: &Value) -> Result<Option<u32>, ConfError>
-    ensures { GivesAs is_want_of_memory (λ mtu. mtu) result (wanted.new_mtu_at (view object.now)) }
-{
-    match field_u64(object, "mtu") {
-        Field::Absent | Field::Here(0) => Ok(None),
-        Field::Here(number) if is_mtu(number) => Ok(Some(number as u32)),
-        Field::Here(_) | Field::WrongKind => Err(invalid(alloc, "mtu")),
     }
 }
 
