@@ -1,5 +1,5 @@
 -- What the plugins of a list keep that is read.
-use Rattle.std.proofs.Common.{◌≡◌, ℕ, ◌&&◌, true, false, List, [], ◌∷◌, ◌++◌, codes, Option, Some, None, Ok, refl, sym, subst}
+use Rattle.std.proofs.Common.{◌≡◌, ℕ, true, false, List, [], ◌∷◌, ◌++◌, codes, Option, Some, None, Ok, refl, sym, subst}
 use Rattle.std.specs.Prelude.{All, map, unwrap_or, if◌then◌else◌}
 use Rattle.std.specs.List.{AllByRecursion, IsDistinct, list_any}
 use Rattle.std.specs.Str.{chars}
@@ -14,8 +14,8 @@ use Rattle.cni_json.proofs.Ascending.{get-everywhere}
 use Rattle.cni_json.specs.WellFormed.{EverywhereInItems, HasAscendingKeys, KeysAscend}
 use Rattle.cni_json.proofs.Endings.{goes, ok_same, passed, not_refused, each_after_keeps}
 use Rattle.net_conf.proofs.SetFacts.{sets_at-ok, routes_at-ok}
-use Rattle.net_conf.proofs.TuningFacts.{IsNew, by_test, is_mtu-true, given_mtu_at-ok, tuning_at-ok}
-use Rattle.net_conf.specs.Bridge.{bridge_rows, bridge_name_of, bridge_name_at, gateway_role_at, mode_flags_at, not_both, modes_at, bridge_at}
+use Rattle.net_conf.proofs.TuningFacts.{IsNew, by_test, given_mtu_at-ok, tuning_at-ok}
+use Rattle.net_conf.specs.Bridge.{bridge_rows, bridge_name_of, bridge_name_at, gateway_role_at, mode_flags_at, is_one_mode, not_both, modes_at, bridge_at}
 use Rattle.net_conf.specs.Dns.{dns_at}
 use Rattle.net_conf.specs.Firewall.{firewall_at}
 use Rattle.net_conf.specs.Ipam.{manager_at, host_local_at, is_empty, ipam_of, ipam_at, addressing_at}
@@ -48,7 +48,7 @@ use Rattle.net_conf.specs.declared.plugins.PluginChain.{PluginChain}
 -- ---- members that several plugins have
 
 or_default : (given : Option ℕ) → IsNew IsMtu given → IsMtu (unwrap_or given default_mtu)
-or_default None kept = is_mtu-true default_mtu refl
+or_default None kept = refl
 or_default (Some n) kept = kept n refl
 
 mtu_at-ok : (d : Data) (n : ℕ) → mtu_at d ≡ Ok n → IsMtu n
@@ -67,8 +67,7 @@ host_local_at-ok d conf is =
     let routes = goes (routes_at d) _ conf sets.rest in
     let kept = sets_at-ok d sets.value sets.first in
     subst IsWellFormedHostLocal (ok_same routes.rest) (record {
-      some = kept.some;
-      few = kept.few;
+      count = kept.count;
       sets = kept.each_set;
       apart = kept.apart;
       routes = routes_at-ok d routes.value routes.first;
@@ -131,14 +130,14 @@ gateway_role_at-ok d role is =
     subst IsRole (ok_same default.rest) (or_right gateway.value default.value)
 
 abbrev IsOneMode : BridgeModes → Type 0
-IsOneMode modes = (modes.hairpin && modes.promisc) ≡ false
+IsOneMode modes = is_one_mode modes.hairpin modes.promisc ≡ true
 
 modes_at-ok : (d : Data) (found : BridgeModes) → modes_at d ≡ Ok found → IsOneMode found
 unfolding modes_at not_both
 modes_at-ok d found is =
     let modes = goes (mode_flags_at d) _ found is in
     let test = goes (not_both modes.value) _ found modes.rest in
-    subst IsOneMode (ok_same test.rest) (not_refused (modes.value.hairpin && modes.value.promisc) _ _ _ test.first).0
+    subst IsOneMode (ok_same test.rest) (passed (is_one_mode modes.value.hairpin modes.value.promisc) tt test.value _ test.first).0
 
 bridge_at-ok : (d : Data) (conf : BridgeConf) → bridge_at d ≡ Ok conf → IsWellFormedBridge conf
 unfolding bridge_at

@@ -1,7 +1,5 @@
 -- What a range keeps that is read.
 use Rattle.std.proofs.Common.{◌≡◌, ℕ, ◌-◌, ◌≤◌, ◌<◌, true, List, Option, Some, None, Ok, refl, sym, ◌∙◌, subst, arith}
-use Rattle.std.specs.Prelude.{nat_lt}
-use Rattle.std.proofs.lemmas.Bool.Decides.{nat_tests}
 use Rattle.serde_json.specs.Data.{Data}
 use Rattle.cni_json.specs.declared.fields.Field.{Field}
 use Rattle.cni_json.specs.declared.fields.Field.TheVariants.{Absent, WrongKind, Here}
@@ -13,9 +11,9 @@ use Rattle.cni_addr.specs.AddrText.{addr_of_text}
 use Rattle.cni_addr.specs.CidrText.{cidr_of_text}
 use Rattle.cni_addr.specs.Network.{IsCidr, network_of, last_of, contains}
 use Rattle.cni_addr.specs.Value.{AddrValue, CidrValue, IsAddr, bits_below}
-use Rattle.cni_json.proofs.Endings.{goes, ok_same, passed, not_refused}
-use Rattle.net_conf.proofs.RangeLemmas.{subnet_says, subnet_room, same_family}
-use Rattle.net_conf.specs.Ranges.{is_subnet, subnet_or_refused, subnet_of, subnet_at, bound_or_refused, bound_of, bound_at, first_host, last_host, in_order, gateway_or_refused, gateway_of, gateway_at, range_at}
+use Rattle.cni_json.proofs.Endings.{goes, ok_same, passed}
+use Rattle.net_conf.proofs.RangeLemmas.{subnet_room, same_family}
+use Rattle.net_conf.specs.Ranges.{is_subnet, subnet_or_refused, subnet_of, subnet_at, bound_or_refused, bound_of, bound_at, first_host, last_host, is_in_order, in_order, gateway_or_refused, gateway_of, gateway_at, range_at}
 use Rattle.net_conf.specs.WellFormed.{IsWellFormedRange}
 
 -- ---- what the readers of texts keep
@@ -88,11 +86,10 @@ bound_at-ok : (key : List ℕ) (c : CidrValue) (default : AddrValue) (d : Data) 
 unfolding bound_at
 bound_at-ok key c default d a inside is = bound_of-ok key c default _ a inside is
 
-in_order-ok : (start end : AddrValue) → in_order start end ≡ Ok tt → start.bits ≤ end.bits
+in_order-ok : (start end : AddrValue) → in_order start end ≡ Ok tt → is_in_order start end ≡ true
 unfolding in_order
 in_order-ok start end is =
-    let above = (not_refused (nat_lt end.bits start.bits) _ _ _ is).0 in
-    grind (arith, nat_tests)
+    (passed (is_in_order start end) tt tt _ is).0
 
 abbrev IsGatewayOf : CidrValue → AddrValue → Type 0
 IsGatewayOf c a = IsAddr a × (a.family ≡ c.addr.family)
@@ -125,15 +122,12 @@ range_at-ok d r is =
     let gateway = goes _ _ _ order.rest in
     let c = subnet.value in
     let kept = subnet_at-ok d c subnet.first in
-    let says = subnet_says c kept.0 in
     let start_inside = bound_at-ok _ c _ d start.value (first_host_inside c kept.0) start.first in
     let end_inside = bound_at-ok _ c _ d end.value (last_host_inside c kept.0) end.first in
     let gateway_kept = gateway_at-ok c d gateway.value kept gateway.first in
     subst IsWellFormedRange (ok_same gateway.rest) (record {
       is_cidr = kept.1;
-      no_host_bits = says.own;
-      prefix_least = says.least;
-      prefix_most = says.most;
+      subnet = kept.0;
       start_is_addr = contained_is_addr c start.value kept.1 start_inside;
       start_inside = start_inside;
       end_is_addr = contained_is_addr c end.value kept.1 end_inside;

@@ -3,7 +3,6 @@ use Rattle.std.proofs.Common.{◌≡◌, ℕ, suc, ◌+◌, ◌≤◌, ◌<◌, 
 use Rattle.std.specs.Prelude.{All}
 use Rattle.std.specs.List.{list_all}
 use Rattle.std.proofs.lemmas.Bool.{and_parts}
-use Rattle.std.proofs.lemmas.Bool.Decides.{nat_tests}
 use Rattle.std.proofs.lemmas.List.Elements.{All-nil, All-cons, All-append}
 use Rattle.std.proofs.lemmas.List.Folds.{list_all-append}
 use Rattle.serde_json.specs.Data.{Data, null, boolean, number, string, array, object, Items, no_items, item}
@@ -26,7 +25,7 @@ use Rattle.net_conf.proofs.RangeLemmas.{same_family}
 use Rattle.cni_json.specs.Each.{each, with_front}
 use Rattle.net_conf.specs.Ranges.{range_at}
 use Rattle.net_conf.specs.Routes.{destination_or_refused, destination_of, destination_at, hop_or_refused, hop_of, hop_at, route_at, routes_of, routes_at}
-use Rattle.net_conf.specs.Sets.{set_of, is_set, all_items, is_of_one_family, ranges_of, has_subnet, listed_at, item_count, most_sets, is_set_count, one_if, well_formed, own_sets_of, separate, sets_at}
+use Rattle.net_conf.specs.Sets.{set_of, is_set, all_items, is_of_one_family, ranges_of, has_subnet, listed_at, item_count, is_set_count, one_if, well_formed, own_sets_of, separate, sets_at}
 use Rattle.net_conf.specs.WellFormed.{IsWellFormedRange, IsWellFormedSet, IsWellFormedRoute}
 
 -- ---- a set
@@ -79,8 +78,7 @@ all_sets (set ∷ sets) apart one filled =
 
 -- what sets keep together
 pub record AreWellFormedSets (sets : List RangeSet) : Type 0 where
-  pub some : 0 < length sets
-  pub few : length sets ≤ most_sets
+  pub count : is_set_count (length sets) ≡ true
   pub each_set : All IsWellFormedSet sets
   pub apart : are_apart (ranges_of sets) ≡ true
 
@@ -95,9 +93,6 @@ own_sets_of-ok true d sets is =
     subst (λ (found : List RangeSet). (length found ≡ 1) × All IsFilled found) (ok_same read.rest)
     (refl, All-cons IsFilled set [] (filled, ranges) (All-nil IsFilled))
 
-counted : (n : ℕ) → is_set_count n ≡ true → (0 < n) × (n ≤ most_sets)
-counted n h = (grind (arith, nat_tests), grind (arith, nat_tests))
-
 pub sets_at-ok : (d : Data) (sets : List RangeSet) → sets_at d ≡ Ok sets → AreWellFormedSets sets
 unfolding sets_at
 sets_at-ok d sets is =
@@ -111,14 +106,13 @@ sets_at-ok d sets is =
     let all = ok_same {x = own.value ++ others.value} {y = found.value} others.rest in
     let form_tests = and_parts (is_set_count (one_if has_own + item_count listed.value)) (all_items is_set listed.value) (passed _ tt form.value _ form.first).0 in
     let separate_tests = and_parts (are_apart (ranges_of found.value)) (list_all is_of_one_family found.value) (passed _ tt tests.value _ tests.first).0 in
-    let count = counted (one_if has_own + item_count listed.value) form_tests.0 in
     let own_filled = own_sets_of-ok has_own d own.value own.first in
     let other_count = each_count set_of listed.value others.value others.first in
     let others_filled = each_tested is_set set_of IsFilled set_of-ok listed.value others.value form_tests.1 others.first in
     let filled : All IsFilled found.value = subst (All IsFilled) all (All-append IsFilled own.value others.value own_filled.1 others_filled) in
     let size : length found.value ≡ one_if has_own + item_count listed.value = sym (ap length all) ∙ (length-append own.value others.value ∙ sum_same own_filled.0 other_count) in
     subst AreWellFormedSets (ok_same tests.rest)
-    (record { some = omega arith; few = omega arith; each_set = all_sets found.value separate_tests.0 separate_tests.1 filled; apart = separate_tests.0 })
+    (record { count = ap is_set_count size ∙ form_tests.0; each_set = all_sets found.value separate_tests.0 separate_tests.1 filled; apart = separate_tests.0 })
   where
     sum_same : {a b c d : ℕ} → a ≡ c → b ≡ d → a + b ≡ c + d
     sum_same p q = cc

@@ -3,9 +3,8 @@ use Rattle.std.proofs.Common.{◌≡◌, ℕ, Bool, true, false, List, [], codes
 use Rattle.std.specs.Prelude.{All, not, map, if◌then◌else◌}
 use Rattle.std.specs.Cmp.Lexicographic.{slice_cmp}
 use Rattle.std.specs.List.Sorted.{IsStrictlySortedBy}
-use Rattle.std.specs.List.{AllByRecursion, IsDistinct, starts_with}
+use Rattle.std.specs.List.{AllByRecursion, IsDistinct}
 use Rattle.std.specs.Str.{bytes_eq}
-use Rattle.std.proofs.lemmas.Bool.Decides.{nat_tests}
 use Rattle.std.proofs.lemmas.Map.Text.{is_eq-slice_cmp}
 use Rattle.std.specs.Ordering.{is_eq}
 use Rattle.std.proofs.lemmas.List.Elements.{All-nil, All-cons}
@@ -22,7 +21,7 @@ use Rattle.cni_json.proofs.Endings.{goes, ok_same, passed}
 use Rattle.cni_json.proofs.WholeNumbers.{member_at-found, u32_of-fits}
 use Rattle.cni_json.specs.WellFormed.{keys, AreAscending, HasAscendingKeys, KeysAscend}
 use Rattle.net_conf.specs.Members.{flag_at, is_mtu, given_mtu_of, given_mtu_at}
-use Rattle.net_conf.specs.Tuning.{has_part, setting_or_refused, setting_of, is_null, settings_of, sysctl_of, sysctl_at, mac_or_refused, new_mac_of, new_mac_at, queue_length_of, queue_length_at, tuning_at}
+use Rattle.net_conf.specs.Tuning.{has_part, is_of_network, setting_or_refused, setting_of, is_null, settings_of, sysctl_of, sysctl_at, mac_or_refused, new_mac_of, new_mac_at, queue_length_of, queue_length_at, tuning_at}
 use Rattle.net_conf.specs.WellFormed.{IsMtu, IsOfNetwork, IsWellFormedTuning}
 use Rattle.net_conf.specs.declared.chained.Sysctl.{Sysctl}
 use Rattle.net_conf.specs.declared.chained.TuningConf.{TuningConf}
@@ -45,9 +44,9 @@ from_not false is = cc
 
 setting_or_refused-ok : (key value : List ℕ) (setting : Sysctl) → setting_or_refused key value ≡ Ok setting → IsSettingOf key setting
 setting_or_refused-ok key value setting is =
-    by_test (not (starts_with nat_eq key (codes "net."))) _ _ _ is (λ other same. cc)
+    by_test (not (is_of_network key)) _ _ _ is (λ other same. cc)
     (λ net same. by_test (has_part (codes "IFNAME") key) _ _ _ same (λ name refused. cc)
-    (λ plain read. subst (IsSettingOf key) (ok_same read) (refl, from_not (starts_with nat_eq key (codes "net.")) net)))
+    (λ plain read. subst (IsSettingOf key) (ok_same read) (refl, from_not (is_of_network key) net)))
 
 setting_of-ok : (key : List ℕ) (d : Data) (setting : Sysctl) → setting_of key d ≡ Ok setting → IsSettingOf key setting
 setting_of-ok key null setting is = cc
@@ -132,9 +131,6 @@ new_mac_at-ok : (d : Data) (found : Option Mac) → new_mac_at d ≡ Ok found �
 unfolding new_mac_at
 new_mac_at-ok d found is = new_mac_of-ok _ found is
 
-pub is_mtu-true : (n : ℕ) → is_mtu n ≡ true → IsMtu n
-is_mtu-true n is = record { least = grind (arith, nat_tests); most = grind (arith, nat_tests) }
-
 abbrev pub IsNew : (ℕ → Type 0) → Option ℕ → Type 0
 IsNew P o = (n : ℕ) → o ≡ Some n → P n
 
@@ -150,7 +146,7 @@ given_mtu_of-ok WrongKind found is = cc
 given_mtu_of-ok (Here n) found is =
     by_test (nat_eq n 0) _ _ _ is
     (λ zero same. subst (IsNew IsMtu) (ok_same same) (none_new IsMtu))
-    (λ some same. let test = passed (is_mtu n) (Some n) found _ same in subst (IsNew IsMtu) test.1 (some_new IsMtu n (is_mtu-true n test.0)))
+    (λ some same. let test = passed (is_mtu n) (Some n) found _ same in subst (IsNew IsMtu) test.1 (some_new IsMtu n test.0))
 
 pub given_mtu_at-ok : (d : Data) (found : Option ℕ) → given_mtu_at d ≡ Ok found → IsNew IsMtu found
 unfolding given_mtu_at

@@ -1,5 +1,5 @@
 -- The configuration of the `bridge` plugin, key by key in the order of its refusals.
-use Rattle.std.specs.Prelude.{◌&&◌, ◌||◌, ℕ, List, [], ◌∷◌, codes, Bool, true, false, if◌then◌else◌, Result, Ok, ⊤}
+use Rattle.std.specs.Prelude.{◌&&◌, ◌||◌, ℕ, List, [], ◌∷◌, codes, Bool, true, false, not, if◌then◌else◌, Result, Ok, ⊤}
 use Rattle.serde_json.specs.Data.{Data}
 use Rattle.cni_json.specs.Fields.{text_field}
 use Rattle.cni_json.specs.Outcome.{◌>>=◌}
@@ -48,8 +48,11 @@ mode_flags_at d = do
   Ok (record { hairpin = hairpin; promisc = promisc })
 
 -- a bridge in promiscuous mode needs no hairpin
+abbrev pub is_one_mode : Bool → Bool → Bool
+is_one_mode hairpin promisc = not (hairpin && promisc)
+
 unfoldable pub not_both : BridgeModes → Result ⊤ ConfError
-not_both modes = if modes.hairpin && modes.promisc then invalid (codes "hairpinMode") else Ok tt
+not_both modes = if is_one_mode modes.hairpin modes.promisc then Ok tt else invalid (codes "hairpinMode")
 
 unfoldable pub modes_at : Data → Result BridgeModes ConfError
 modes_at d = do

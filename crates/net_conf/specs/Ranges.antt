@@ -1,5 +1,5 @@
 -- A range of addresses (the `host-local` plugin, `subnet`, `rangeStart`, `rangeEnd` and `gateway`).
-use Rattle.std.specs.Prelude.{◌+◌, ◌-◌, ◌&&◌, ℕ, List, codes, Bool, nat_le, nat_lt, if◌then◌else◌, Result, Ok, Option, Some, None, ⊤}
+use Rattle.std.specs.Prelude.{◌+◌, ◌-◌, ◌&&◌, ℕ, List, codes, Bool, nat_le, if◌then◌else◌, Result, Ok, Option, Some, None, ⊤}
 use Rattle.serde_json.specs.Data.{Data}
 use Rattle.cni_json.specs.Fields.{text_field}
 use Rattle.cni_json.specs.Outcome.{◌>>=◌}
@@ -53,8 +53,11 @@ unfoldable pub last_host : Cidr → Addr
 last_host subnet = record { family = (last_of subnet).family; bits = (last_of subnet).bits - 1 }
 
 -- the end is not below the start
+abbrev pub is_in_order : Addr → Addr → Bool
+is_in_order start end = nat_le start.bits end.bits
+
 unfoldable pub in_order : Addr → Addr → Result ⊤ ConfError
-in_order start end = if nat_lt end.bits start.bits then invalid (codes "rangeStart") else Ok tt
+in_order start end = if is_in_order start end then Ok tt else invalid (codes "rangeStart")
 
 -- an address of the family; it need not be of the subnet
 abbrev pub gateway_or_refused : Family → Option Addr → Result Addr ConfError

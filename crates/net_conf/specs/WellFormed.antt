@@ -1,6 +1,6 @@
 -- What every network list that is read keeps.
-use Rattle.std.specs.Prelude.{◌≡◌, ℕ, ◌<◌, ◌≤◌, ◌&&◌, length, codes, IsTrue, false, nat_eq, All, Option, Some, None, map, ⊤}
-use Rattle.std.specs.List.{IsDistinct, starts_with}
+use Rattle.std.specs.Prelude.{◌≡◌, ℕ, ◌<◌, length, IsTrue, All, Option, Some, None, map, ⊤}
+use Rattle.std.specs.List.{IsDistinct}
 use Rattle.std.specs.Str.{bytes_eq}
 use Rattle.cni_addr.specs.declared.address.Addr.{Addr}
 use Rattle.cni_addr.specs.declared.mac.Mac.{Mac}
@@ -12,9 +12,13 @@ use Rattle.cni_addr.specs.Value.{IsAddr}
 use Rattle.cni_json.specs.Fields.{has_32_bits}
 use Rattle.cni_result.specs.declared.result.RouteEntry.{RouteEntry}
 use Rattle.ip_pool.specs.Pool.{are_apart}
+use Rattle.net_conf.specs.Bridge.{is_one_mode}
+use Rattle.net_conf.specs.Members.{is_mtu}
 use Rattle.net_conf.specs.Names.{is_network_name, is_interface_name}
 use Rattle.net_conf.specs.PluginTypes.{type_eq, type_of_chained}
-use Rattle.net_conf.specs.Sets.{ranges_of, is_of_one_family, most_sets}
+use Rattle.net_conf.specs.Ranges.{is_subnet, is_in_order}
+use Rattle.net_conf.specs.Sets.{ranges_of, is_of_one_family, is_set_count}
+use Rattle.net_conf.specs.Tuning.{is_of_network}
 use Rattle.net_conf.specs.declared.chained.Chained.{Chained}
 use Rattle.net_conf.specs.declared.chained.Chained.TheVariants as later
 use Rattle.net_conf.specs.declared.chained.Sysctl.{Sysctl}
@@ -32,14 +36,12 @@ use Rattle.net_conf.specs.declared.list.NetList.{NetList}
 -- the subnet has no host bits, the range is in it and in order, and the gateway has its family
 pub record IsWellFormedRange (r : Range) : Type 0 where
   pub is_cidr : IsCidr r.subnet
-  pub no_host_bits : network_of r.subnet ≡ r.subnet
-  pub prefix_least : 8 ≤ r.subnet.prefix
-  pub prefix_most : r.subnet.prefix ≤ 30
+  pub subnet : IsTrue (is_subnet r.subnet)
   pub start_is_addr : IsAddr r.start
   pub start_inside : IsTrue (contains r.subnet r.start)
   pub end_is_addr : IsAddr r.end
   pub end_inside : IsTrue (contains r.subnet r.end)
-  pub in_order : r.start.bits ≤ r.end.bits
+  pub in_order : IsTrue (is_in_order r.start r.end)
   pub gateway_is_addr : IsAddr r.gateway
   pub gateway_family : r.gateway.family ≡ r.subnet.addr.family
 
@@ -59,8 +61,7 @@ pub record IsWellFormedRoute (route : RouteEntry) : Type 0 where
 
 -- there are sets, not too many, and no two ranges of any two sets share an address
 pub record IsWellFormedHostLocal (conf : HostLocalConf) : Type 0 where
-  pub some : 0 < length conf.sets
-  pub few : length conf.sets ≤ most_sets
+  pub count : IsTrue (is_set_count (length conf.sets))
   pub sets : All IsWellFormedSet conf.sets
   pub apart : IsTrue (are_apart (ranges_of conf.sets))
   pub routes : All IsWellFormedRoute conf.routes
@@ -71,15 +72,14 @@ IsWellFormedIpam (Some conf) = IsWellFormedHostLocal conf
 
 -- ---- plugins
 
-pub record IsMtu (n : ℕ) : Type 0 where
-  pub least : 68 ≤ n
-  pub most : n ≤ 65535
+abbrev pub IsMtu : ℕ → Type 0
+IsMtu n = IsTrue (is_mtu n)
 
 pub record IsWellFormedBridge (conf : BridgeConf) : Type 0 where
   pub name : IsTrue (is_interface_name conf.bridge)
   pub default_is_gateway : IsTrue conf.is_default_gateway → IsTrue conf.is_gateway
   pub mtu : IsMtu conf.mtu
-  pub one_mode : (conf.hairpin && conf.promisc) ≡ false
+  pub one_mode : IsTrue (is_one_mode conf.hairpin conf.promisc)
   pub ipam : IsWellFormedIpam conf.ipam
 
 pub record IsWellFormedPtp (conf : PtpConf) : Type 0 where
@@ -98,7 +98,7 @@ IsWellFormedFirst (first.Macvlan conf) = IsWellFormedMacvlan conf
 
 -- a setting of the network
 abbrev pub IsOfNetwork : Sysctl → Type 0
-IsOfNetwork setting = IsTrue (starts_with nat_eq setting.key (codes "net."))
+IsOfNetwork setting = IsTrue (is_of_network setting.key)
 
 pub record IsWellFormedTuning (conf : TuningConf) : Type 0 where
   pub settings : All IsOfNetwork conf.sysctl

@@ -103,10 +103,10 @@ fn bound(
 fn in_order(alloc: Global, start: &Addr, end: &Addr) -> Result<(), ConfError>
     ensures { GivesAs is_want_of_memory (λ t. t) result (ranges.in_order start.now end.now) }
 {
-    if end.bits < start.bits {
-        Err(invalid(alloc, "rangeStart"))
-    } else {
+    if start.bits <= end.bits {
         Ok(())
+    } else {
+        Err(invalid(alloc, "rangeStart"))
     }
 }
 

@@ -1,7 +1,6 @@
 //! The `tuning` plugin.
 
-ghost use Rattle.std.specs.Prelude.{◌≡◌, codes, nat_eq};
-ghost use Rattle.std.specs.List.{starts_with};
+ghost use Rattle.std.specs.Prelude.{◌≡◌, codes};
 ghost use Rattle.serde_json.specs.View.{view, members_view};
 ghost use Rattle.cni_json.specs.Outcome.{GivesAs};
 ghost use Rattle.net_conf.specs.Refusals.{is_want_of_memory};
@@ -88,7 +87,7 @@ fn setting(alloc: Global, key: &str, member: &Value) -> Result<Sysctl, ConfError
 }
 
 fn is_of_network(key: &str) -> bool
-    ensures { result ≡ starts_with nat_eq key.now (codes "net.") }
+    ensures { result ≡ wanted.is_of_network key.now }
 {
     key.as_bytes().starts_with(b"net.")
 }
