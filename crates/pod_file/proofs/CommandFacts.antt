@@ -1,5 +1,5 @@
 -- What the rounds of a pod file keep that are read.
-use Rattle.std.proofs.Common.{◌≡◌, ℕ, zero, suc, ◌+◌, ◌≤◌, Bool, true, false, not, List, [], ◌∷◌, ◌++◌, length, codes, Option, Some, None, Ok, Err, refl, sym, ap, ◌∙◌, subst, arith}
+use Rattle.std.proofs.Common.{◌≡◌, ℕ, zero, suc, ◌+◌, ◌≤◌, Bool, true, false, not, List, [], ◌∷◌, ◌++◌, length, codes, Option, Some, None, Ok, Err, refl, ap, ap₂, ◌∙◌, subst, arith}
 use Rattle.std.specs.Prelude.{◌||◌, if◌then◌else◌, nat_le, is_some, All, slice_get}
 use Rattle.std.specs.List.{list_any}
 use Rattle.std.proofs.lemmas.Bool.Decides.{nat_tests}
@@ -22,26 +22,25 @@ use Rattle.pod_file.specs.Rounds.{command_in, round_at, rounds_of, rounds_at, co
 use Rattle.pod_file.specs.WellFormed.{IsCallNumber, IsWellFormedCommand, IsWellFormedRound, in_file_order}
 use Rattle.pod_file.specs.declared.command.Command.{Command}
 use Rattle.pod_file.specs.declared.command.Verb.{Verb}
-use Rattle.pod_file.specs.declared.command.Verb.TheVariants as verbs
 use Rattle.pod_file.specs.declared.error.PodError.{PodError}
 use Rattle.pod_file.specs.declared.place.CommandPlace.{CommandPlace}
 
 -- ---- one command
 
--- a flush has a table
+-- a verb that needs a table has one
 abbrev HasTable : Verb → Option Table → Type 0
-HasTable verb table = verb ≡ verbs.Flush → is_some table ≡ true
+HasTable verb table = needs_table verb ≡ true → is_some table ≡ true
 
 table_or_wrong-ok : (place : CommandPlace) (named : Option Table) (verb : Verb) (table : Option Table) → table_or_wrong place named ≡ Ok table → HasTable verb table
 table_or_wrong-ok place None verb table is = cc
 table_or_wrong-ok place (Some named) verb table is = subst (HasTable verb) (ok_same is) (λ flush. refl)
 
-no_table-ok : (verb : Verb) (e : PodError) (table : Option Table) → (if needs_table verb then Err e else Ok None) ≡ Ok table → HasTable verb table
-no_table-ok verbs.Flush e table is = cc
-no_table-ok verb e table is = λ flush. cc
+no_table-ok : (needed : Bool) (e : PodError) (table : Option Table) → (if needed then Err e else Ok None) ≡ Ok table → needed ≡ true → is_some table ≡ true
+no_table-ok true e table is holds = cc
+no_table-ok false e table is holds = cc
 
 table_of-ok : (place : CommandPlace) (verb : Verb) (f : Field (List ℕ)) (table : Option Table) → table_of place verb f ≡ Ok table → HasTable verb table
-table_of-ok place verb Absent table is = no_table-ok verb _ table is
+table_of-ok place verb Absent table is = no_table-ok (needs_table verb) _ table is
 table_of-ok place verb WrongKind table is = cc
 table_of-ok place verb (Here text) table is = table_or_wrong-ok place (table_named text) verb table is
 
@@ -141,7 +140,8 @@ short_by true some either is = refl
 short_by false true either is = cc
 short_by false false either is = cc
 
-one_alone : (commands : List Command) → is_alone commands ≡ true → list_any is_exclusive commands ≡ true → length commands ≡ 1
+-- an exclusive command that is alone is the only one
+pub one_alone : (commands : List Command) → is_alone commands ≡ true → list_any is_exclusive commands ≡ true → length commands ≡ 1
 one_alone [] alone some = cc
 one_alone (c ∷ cs) alone some =
     let short : suc (length cs) ≤ 1 = grind (arith, nat_tests, short_by (nat_le (suc (length cs)) 1) (list_any is_exclusive (c ∷ cs)) alone some) in
@@ -150,7 +150,7 @@ one_alone (c ∷ cs) alone some =
 pub round_numbered-ok : (first : ℕ) (commands : List Command) → AreCommands commands → is_alone commands ≡ true → IsWellFormedRound (round_numbered first commands)
 round_numbered-ok first commands good alone = record {
   each = commands-round_numbered first commands good;
-  alone = λ some. length-round_numbered first commands ∙ one_alone commands alone (sym (exclusive-round_numbered first commands) ∙ some);
+  alone = ap₂ (λ n some. nat_le n 1 || not some) (length-round_numbered first commands) (exclusive-round_numbered first commands) ∙ alone;
 }
 
 pub all_numbered-ok : (first place : ℕ) (rounds : List (List Command)) → All AreCommands rounds → each_alone place rounds ≡ Ok tt → All IsWellFormedRound (all_numbered first rounds)

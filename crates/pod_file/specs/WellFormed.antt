@@ -1,15 +1,13 @@
 -- What every pod file that is read keeps.
-use Rattle.std.specs.Prelude.{◌≡◌, ℕ, ◌+◌, ◌≤◌, List, [], ◌∷◌, ◌++◌, length, true, IsTrue, All, Some, is_some, slice_get}
-use Rattle.std.specs.List.{list_any}
+use Rattle.std.specs.Prelude.{◌≡◌, ℕ, ◌+◌, ◌≤◌, List, [], ◌∷◌, ◌++◌, length, IsTrue, All, Some, is_some, slice_get}
 use Rattle.cni_json.specs.Fields.{has_32_bits}
 use Rattle.kernel_types.specs.Equal.{tag_eq}
 use Rattle.kernel_types.specs.Sound.{AllPassTest, IsSound}
 use Rattle.kernel_types.specs.declared.object.Host.{Host}
 use Rattle.kernel_types.specs.declared.object.Tag.TheVariants.{Outside}
-use Rattle.pod_file.specs.Commands.{is_call_number}
-use Rattle.pod_file.specs.Rounds.{file_limit, is_exclusive}
+use Rattle.pod_file.specs.Commands.{is_call_number, needs_table}
+use Rattle.pod_file.specs.Rounds.{file_limit, is_alone}
 use Rattle.pod_file.specs.declared.command.Command.{Command}
-use Rattle.pod_file.specs.declared.command.Verb.TheVariants.{Flush}
 use Rattle.pod_file.specs.declared.pods.Pods.{Pods}
 
 -- the host is sound, its links were made outside, and besides namespaces it has nothing else
@@ -29,16 +27,16 @@ pub record IsOpening (host : Host) : Type 0 where
 abbrev pub IsCallNumber : ℕ → Type 0
 IsCallNumber n = IsTrue (is_call_number n)
 
--- a flush has its table, and the numbers of calls are in their bounds
+-- a verb that needs a table has one, and the numbers of calls are in their bounds
 pub record IsWellFormedCommand (command : Command) : Type 0 where
-  pub table : command.verb ≡ Flush → is_some command.table ≡ true
+  pub table : IsTrue (needs_table command.verb) → IsTrue (is_some command.table)
   pub stop : (n : ℕ) → command.stop ≡ Some n → IsTrue (has_32_bits n)
   pub faults : All IsCallNumber command.faults
 
 -- a command that must stand alone is the only one
 pub record IsWellFormedRound (commands : List Command) : Type 0 where
   pub each : All IsWellFormedCommand commands
-  pub alone : list_any is_exclusive commands ≡ true → length commands ≡ 1
+  pub alone : IsTrue (is_alone commands)
 
 -- the commands of all rounds, in file order
 abbrev pub in_file_order : List (List Command) → List Command

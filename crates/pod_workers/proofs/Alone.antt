@@ -3,6 +3,7 @@ use Rattle.std.proofs.Common.{◌≡◌, ◌+◌, ◌-◌, ◌<◌, ◌≤◌, �
 use Rattle.std.specs.List.{All, list_any}
 use Rattle.std.proofs.lemmas.List.Elements.{All-drop, All-get_or}
 use Rattle.std.proofs.lemmas.Option.{same_Some, none-some}
+use Rattle.pod_file.proofs.CommandFacts.{one_alone}
 use Rattle.pod_file.specs.Rounds.{is_exclusive}
 use Rattle.pod_file.specs.WellFormed.{IsWellFormedPods, IsWellFormedRound}
 use Rattle.pod_file.specs.declared.command.Command.{Command}
@@ -53,7 +54,7 @@ alone_from round (commands ∷ rounds) all m n d c at_m at_n same exclusive =
     elim (first_or_later round commands rest m d at_m) [
       | inl f ↦ elim (first_or_later round commands rest n c at_n) [
         | inl g ↦
-            let one = (All-get_or IsWellFormedRound (commands ∷ rounds) 0 commands (omega arith) all).alone (any_at commands n c.command g.there exclusive) in
+            let one = one_alone commands (All-get_or IsWellFormedRound (commands ∷ rounds) 0 commands (omega arith) all).alone (any_at commands n c.command g.there exclusive) in
             let a = f.within in
             let b = g.within in
             omega arith
