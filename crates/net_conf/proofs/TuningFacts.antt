@@ -20,8 +20,8 @@ use Rattle.cni_json.proofs.Ascending.{IsBelow, get-everywhere}
 use Rattle.cni_json.proofs.Endings.{goes, ok_same, passed}
 use Rattle.cni_json.proofs.WholeNumbers.{member_at-found, u32_of-fits}
 use Rattle.cni_json.specs.WellFormed.{keys, AreAscending, HasAscendingKeys, KeysAscend}
-use Rattle.net_conf.specs.Members.{flag_at, is_mtu, given_mtu_of, given_mtu_at}
-use Rattle.net_conf.specs.Tuning.{has_part, is_of_network, setting_or_refused, setting_of, is_null, settings_of, sysctl_of, sysctl_at, mac_or_refused, new_mac_of, new_mac_at, queue_length_of, queue_length_at, tuning_at}
+use Rattle.net_conf.specs.Members.{is_null, flag_at, is_mtu, given_mtu_of, given_mtu_at}
+use Rattle.net_conf.specs.Tuning.{has_part, is_of_network, setting_or_refused, setting_of, settings_of, sysctl_of, sysctl_at, mac_or_refused, new_mac_of, new_mac_at, queue_length_of, queue_length_at, tuning_at}
 use Rattle.net_conf.specs.WellFormed.{IsMtu, IsOfNetwork, IsWellFormedTuning}
 use Rattle.net_conf.specs.declared.chained.Sysctl.{Sysctl}
 use Rattle.net_conf.specs.declared.chained.TuningConf.{TuningConf}

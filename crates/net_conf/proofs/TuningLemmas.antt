@@ -5,7 +5,8 @@ use Rattle.std.specs.List.{starts_with}
 use Rattle.serde_json.specs.Data.{Data, Members, member}
 use Rattle.cni_json.proofs.EachLemmas.{with_front-more}
 use Rattle.cni_json.specs.Each.{with_front}
-use Rattle.net_conf.specs.Tuning.{has_part, settings_of, setting_of, is_null}
+use Rattle.net_conf.specs.Members.{is_null}
+use Rattle.net_conf.specs.Tuning.{has_part, settings_of, setting_of}
 use Rattle.net_conf.specs.declared.chained.Sysctl.{Sysctl}
 use Rattle.net_conf.specs.declared.error.ConfError.{ConfError}
 

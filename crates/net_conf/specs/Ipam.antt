@@ -1,13 +1,13 @@
 -- The configuration of address management (CNI specification 1.1.0, section 1, `ipam`; the `host-local` plugin).
-use Rattle.std.specs.Prelude.{codes, Bool, true, false, if◌then◌else◌, Result, Ok, Err, Option, Some, None, ⊤}
+use Rattle.std.specs.Prelude.{◌&&◌, codes, Bool, true, false, if◌then◌else◌, Result, Ok, Err, Option, Some, None, ⊤}
 use Rattle.std.specs.Str.{bytes_eq}
-use Rattle.serde_json.specs.Data.{Data, null, string, object, Members, no_members, member}
+use Rattle.serde_json.specs.Data.{Data, string, object, Members, no_members, member}
 use Rattle.serde_json.specs.Find.{get}
 use Rattle.serde_json.specs.Written.{compact_text}
 use Rattle.cni_json.specs.Fields.{member_at}
 use Rattle.cni_json.specs.Outcome.{◌>>=◌}
 use Rattle.net_conf.specs.Dns.{dns_at}
-use Rattle.net_conf.specs.Members.{object_at, of_kind}
+use Rattle.net_conf.specs.Members.{is_null, object_at, of_kind}
 use Rattle.net_conf.specs.Outside.{supported}
 use Rattle.net_conf.specs.Refusals.{invalid}
 use Rattle.net_conf.specs.Routes.{routes_at}
@@ -41,8 +41,7 @@ host_local_at d = do
 -- each member is null
 abbrev pub all_null : Members → Bool
 all_null no_members = true
-all_null (member key null ms) = all_null ms
-all_null (member key d ms) = false
+all_null (member key d ms) = is_null d && all_null ms
 
 -- an object without members
 abbrev pub is_empty : Data → Bool

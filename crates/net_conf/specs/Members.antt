@@ -1,12 +1,16 @@
 -- Members of a plugin's object, each with its refusal.
-use Rattle.std.specs.Prelude.{◌==◌, ◌&&◌, ℕ, List, codes, Bool, nat_le, if◌then◌else◌, Result, Ok, Option, Some, None, unwrap_or, ⊤}
+use Rattle.std.specs.Prelude.{◌==◌, ◌&&◌, ℕ, List, codes, Bool, nat_le, if◌then◌else◌, Result, Ok, Option, Some, None, unwrap_or, is_some, ⊤}
 use Rattle.serde_json.specs.Data.{Data}
+use Rattle.serde_json.specs.Find.{as_null}
 use Rattle.cni_json.specs.Fields.{bool_field, u64_field, member_or, object_or}
 use Rattle.cni_json.specs.Outcome.{◌>>=◌}
 use Rattle.cni_json.specs.declared.fields.Field.{Field}
 use Rattle.net_conf.specs.Names.{is_interface_name}
 use Rattle.net_conf.specs.Refusals.{invalid}
 use Rattle.net_conf.specs.declared.error.ConfError.{ConfError}
+
+abbrev pub is_null : Data → Bool
+is_null d = is_some (as_null d)
 
 -- the value is an object; else this key or part is to blame
 abbrev pub object_at : List ℕ → Data → Result ⊤ ConfError

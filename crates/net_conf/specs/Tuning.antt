@@ -2,14 +2,14 @@
 use Rattle.std.specs.Prelude.{◌||◌, ℕ, List, [], ◌∷◌, codes, Bool, true, false, nat_eq, not, if◌then◌else◌, Result, Ok, Err, Option, Some, None}
 use Rattle.std.specs.List.{starts_with}
 use Rattle.std.specs.Str.{bytes_eq}
-use Rattle.serde_json.specs.Data.{Data, null, string, object, Members, no_members, member}
+use Rattle.serde_json.specs.Data.{Data, string, object, Members, no_members, member}
 use Rattle.serde_json.specs.Written.{compact_text}
 use Rattle.cni_json.specs.Fields.{member_at, text_field, u32_field}
 use Rattle.cni_json.specs.Outcome.{◌>>=◌}
 use Rattle.cni_json.specs.declared.fields.Field.{Field}
 use Rattle.cni_addr.specs.declared.mac.Mac.{Mac}
 use Rattle.cni_addr.specs.MacText.{mac_of_text}
-use Rattle.net_conf.specs.Members.{optional, flag_at, given_mtu_at}
+use Rattle.net_conf.specs.Members.{is_null, optional, flag_at, given_mtu_at}
 use Rattle.net_conf.specs.Refusals.{invalid}
 use Rattle.net_conf.specs.declared.chained.Sysctl.{Sysctl}
 use Rattle.net_conf.specs.declared.chained.TuningConf.{TuningConf}
@@ -35,10 +35,6 @@ setting_or_refused key value =
 abbrev pub setting_of : List ℕ → Data → Result Sysctl ConfError
 setting_of key (string value) = setting_or_refused key value
 setting_of key d = invalid (codes "sysctl")
-
-abbrev pub is_null : Data → Bool
-is_null null = true
-is_null d = false
 
 -- the settings in the order of their keys; a member that is null is as an absent one
 abbrev pub settings_of : Members → Result (List Sysctl) ConfError

@@ -51,18 +51,12 @@ fn settings(alloc: Global, members: &Map<String, Value>) -> Result<Items<Sysctl>
 {
     let mut found = Items::new(alloc);
     for (key, member) in members.iter() {
-        if !is_null(member) {
+        if !member.is_null() {
             let setting = setting(alloc, key.as_str(), member)?;
             found.push(setting)?;
         }
     }
     Ok(found)
-}
-
-fn is_null(member: &Value) -> bool
-    ensures { result ≡ wanted.is_null (view member.now) }
-{
-    matches!(member, Value::Null)
 }
 
 #[tactic(auto, using(cni_json::proofs::Steps::steps))]
