@@ -1,11 +1,12 @@
 -- What a range keeps that is read.
-use Rattle.std.proofs.Common.{◌≡◌, ℕ, ◌-◌, ◌≤◌, ◌<◌, true, List, Option, Some, None, Ok, refl, sym, ◌∙◌, subst, arith}
+use Rattle.std.proofs.Common.{◌≡◌, ℕ, ◌-◌, ◌≤◌, ◌<◌, true, List, codes, Option, Some, None, Ok, refl, sym, ◌∙◌, subst, arith}
 use Rattle.serde_json.specs.Data.{Data}
 use Rattle.cni_json.specs.declared.fields.Field.{Field}
 use Rattle.cni_json.specs.declared.fields.Field.TheVariants.{Absent, WrongKind, Here}
 use Rattle.cni_addr.proofs.AddrTexts.{read_is_spelled}
 use Rattle.cni_addr.proofs.CidrTexts.{network_read_is_spelled, spelled_is_cidr}
 use Rattle.cni_addr.proofs.Networks.{contains_between, IsAddr-last_of}
+use Rattle.cni_addr.specs.declared.address.Family.{Family}
 use Rattle.cni_addr.specs.declared.range.Range.{Range}
 use Rattle.cni_addr.specs.AddrText.{addr_of_text}
 use Rattle.cni_addr.specs.CidrText.{cidr_of_text}
@@ -13,7 +14,7 @@ use Rattle.cni_addr.specs.Network.{IsCidr, network_of, last_of, contains}
 use Rattle.cni_addr.specs.Value.{AddrValue, CidrValue, IsAddr, bits_below}
 use Rattle.cni_json.proofs.Endings.{goes, ok_same, passed}
 use Rattle.net_conf.proofs.RangeLemmas.{subnet_room, same_family}
-use Rattle.net_conf.specs.Ranges.{is_subnet, subnet_or_refused, subnet_of, subnet_at, bound_or_refused, bound_of, bound_at, first_host, last_host, is_in_order, in_order, gateway_or_refused, gateway_of, gateway_at, range_at}
+use Rattle.net_conf.specs.Ranges.{is_subnet, subnet_or_refused, subnet_of, subnet_at, bound_or_refused, bound_of, bound_at, first_host, last_host, is_in_order, in_order, of_family, gateway_of, gateway_at, range_at}
 use Rattle.net_conf.specs.WellFormed.{IsWellFormedRange}
 
 -- ---- what the readers of texts keep
@@ -91,24 +92,24 @@ unfolding in_order
 in_order-ok start end is =
     (passed (is_in_order start end) tt tt _ is).0
 
-abbrev IsGatewayOf : CidrValue → AddrValue → Type 0
-IsGatewayOf c a = IsAddr a × (a.family ≡ c.addr.family)
+abbrev pub IsOfFamily : Family → AddrValue → Type 0
+IsOfFamily family a = IsAddr a × (a.family ≡ family)
 
-gateway_or_refused-ok : (c : CidrValue) (o : Option AddrValue) (a : AddrValue) → ((v : AddrValue) → o ≡ Some v → IsAddr v) → gateway_or_refused c.addr.family o ≡ Ok a → IsGatewayOf c a
-gateway_or_refused-ok c None a kept is = cc
-gateway_or_refused-ok c (Some v) a kept is =
+pub of_family-ok : (blamed : List ℕ) (family : Family) (o : Option AddrValue) (a : AddrValue) → ((v : AddrValue) → o ≡ Some v → IsAddr v) → of_family blamed family o ≡ Ok a → IsOfFamily family a
+of_family-ok blamed family None a kept is = cc
+of_family-ok blamed family (Some v) a kept is =
     let test = passed _ v a _ is in
-    subst (IsGatewayOf c) test.1 (kept v refl, same_family v.family c.addr.family test.0)
+    subst (IsOfFamily family) test.1 (kept v refl, same_family v.family family test.0)
 
-gateway_of-ok : (c : CidrValue) (f : Field (List ℕ)) (a : AddrValue) → IsSubnet c → gateway_of c f ≡ Ok a → IsGatewayOf c a
+gateway_of-ok : (c : CidrValue) (f : Field (List ℕ)) (a : AddrValue) → IsSubnet c → gateway_of c f ≡ Ok a → IsOfFamily c.addr.family a
 unfolding first_host
 gateway_of-ok c Absent a subnet is =
     let inside = first_host_inside c subnet.0 in
-    subst (IsGatewayOf c) (ok_same is) (contained_is_addr c (first_host c) subnet.1 inside, refl)
+    subst (IsOfFamily c.addr.family) (ok_same is) (contained_is_addr c (first_host c) subnet.1 inside, refl)
 gateway_of-ok c WrongKind a subnet is = cc
-gateway_of-ok c (Here text) a subnet is = gateway_or_refused-ok c (addr_of_text text) a (read_is_addr text) is
+gateway_of-ok c (Here text) a subnet is = of_family-ok (codes "gateway") c.addr.family (addr_of_text text) a (read_is_addr text) is
 
-gateway_at-ok : (c : CidrValue) (d : Data) (a : AddrValue) → IsSubnet c → gateway_at c d ≡ Ok a → IsGatewayOf c a
+gateway_at-ok : (c : CidrValue) (d : Data) (a : AddrValue) → IsSubnet c → gateway_at c d ≡ Ok a → IsOfFamily c.addr.family a
 unfolding gateway_at
 gateway_at-ok c d a subnet is = gateway_of-ok c _ a subnet is
 

@@ -1,5 +1,5 @@
 -- What sets of ranges and routes keep that are read.
-use Rattle.std.proofs.Common.{◌≡◌, ℕ, suc, ◌+◌, ◌≤◌, ◌<◌, ◌&&◌, Bool, true, false, List, [], ◌∷◌, ◌++◌, length, Option, Some, None, Ok, refl, sym, ap, ◌∙◌, subst, arith, length-append}
+use Rattle.std.proofs.Common.{◌≡◌, ℕ, suc, ◌+◌, ◌≤◌, ◌<◌, ◌&&◌, Bool, true, false, List, [], ◌∷◌, ◌++◌, length, codes, Option, Some, None, Ok, refl, sym, ap, ◌∙◌, subst, arith, length-append}
 use Rattle.std.specs.Prelude.{All}
 use Rattle.std.specs.List.{list_all}
 use Rattle.std.proofs.lemmas.Bool.{and_parts}
@@ -20,11 +20,10 @@ use Rattle.cni_result.specs.declared.result.RouteEntry.{RouteEntry}
 use Rattle.ip_pool.specs.Pool.{is_apart, are_apart}
 use Rattle.net_conf.proofs.Endings.{each_tested, each_count}
 use Rattle.cni_json.proofs.Endings.{goes, ok_same, passed, each_all}
-use Rattle.net_conf.proofs.RangeFacts.{range_at-ok, read_is_addr, read_is_cidr}
-use Rattle.net_conf.proofs.RangeLemmas.{same_family}
+use Rattle.net_conf.proofs.RangeFacts.{IsOfFamily, of_family-ok, range_at-ok, read_is_addr, read_is_cidr}
 use Rattle.cni_json.specs.Each.{each, with_front}
-use Rattle.net_conf.specs.Ranges.{range_at}
-use Rattle.net_conf.specs.Routes.{destination_or_refused, destination_of, destination_at, hop_or_refused, hop_of, hop_at, route_at, routes_of, routes_at}
+use Rattle.net_conf.specs.Ranges.{of_family, range_at}
+use Rattle.net_conf.specs.Routes.{destination_or_refused, destination_of, destination_at, hop_of, hop_at, route_at, routes_of, routes_at}
 use Rattle.net_conf.specs.Sets.{set_of, is_set, all_items, is_of_one_family, ranges_of, has_subnet, listed_at, item_count, is_set_count, one_if, well_formed, own_sets_of, separate, sets_at}
 use Rattle.net_conf.specs.WellFormed.{IsWellFormedRange, IsWellFormedSet, IsWellFormedRoute}
 
@@ -135,20 +134,17 @@ destination_at-ok d c is = destination_of-ok _ c is
 
 -- the hop, if there is one, has the family
 abbrev IsHop : Family → Option AddrValue → Type 0
-IsHop family o = (gw : AddrValue) → o ≡ Some gw → IsAddr gw × (gw.family ≡ family)
+IsHop family o = (gw : AddrValue) → o ≡ Some gw → IsOfFamily family gw
 
-hop_or_refused-ok : (family : Family) (o found : Option AddrValue) → ((v : AddrValue) → o ≡ Some v → IsAddr v) → hop_or_refused family o ≡ Ok found → IsHop family found
-hop_or_refused-ok family None found kept is = cc
-hop_or_refused-ok family (Some v) found kept is =
-    let test = passed _ (Some v) found _ is in
-    subst (IsHop family) test.1 (λ gw same.
-    let this : v ≡ gw = cc in
-    subst (λ g. IsAddr g × (g.family ≡ family)) this (kept v refl, same_family v.family family test.0))
+some_hop : (family : Family) (v : AddrValue) → IsOfFamily family v → IsHop family (Some v)
+some_hop family v kept gw same = let this : v ≡ gw = cc in subst (IsOfFamily family) this kept
 
 hop_of-ok : (family : Family) (f : Field (List ℕ)) (found : Option AddrValue) → hop_of family f ≡ Ok found → IsHop family found
 hop_of-ok family Absent found is = subst (IsHop family) (ok_same is) (λ gw same. cc)
 hop_of-ok family WrongKind found is = cc
-hop_of-ok family (Here text) found is = hop_or_refused-ok family (addr_of_text text) found (read_is_addr text) is
+hop_of-ok family (Here text) found is =
+    let gw = goes (of_family (codes "routes") family (addr_of_text text)) _ found is in
+    subst (IsHop family) (ok_same gw.rest) (some_hop family gw.value (of_family-ok (codes "routes") family (addr_of_text text) gw.value (read_is_addr text) gw.first))
 
 hop_at-ok : (family : Family) (d : Data) (found : Option AddrValue) → hop_at family d ≡ Ok found → IsHop family found
 unfolding hop_at

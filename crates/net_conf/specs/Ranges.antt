@@ -59,14 +59,15 @@ is_in_order start end = nat_le start.bits end.bits
 unfoldable pub in_order : Addr → Addr → Result ⊤ ConfError
 in_order start end = if is_in_order start end then Ok tt else invalid (codes "rangeStart")
 
--- an address of the family; it need not be of the subnet
-abbrev pub gateway_or_refused : Family → Option Addr → Result Addr ConfError
-gateway_or_refused family None = invalid (codes "gateway")
-gateway_or_refused family (Some addr) = if family_eq addr.family family then Ok addr else invalid (codes "gateway")
+-- an address of the family; else this key or part is to blame
+abbrev pub of_family : List ℕ → Family → Option Addr → Result Addr ConfError
+of_family blamed family None = invalid blamed
+of_family blamed family (Some addr) = if family_eq addr.family family then Ok addr else invalid blamed
 
+-- an address of the family, which need not be of the subnet
 abbrev pub gateway_of : Cidr → Field (List ℕ) → Result Addr ConfError
 gateway_of subnet f =
-    optional (codes "gateway") (first_host subnet) (λ text. gateway_or_refused subnet.addr.family (addr_of_text text)) f
+    optional (codes "gateway") (first_host subnet) (λ text. of_family (codes "gateway") subnet.addr.family (addr_of_text text)) f
 
 -- the gateway of a range, or the subnet's first address
 unfoldable pub gateway_at : Cidr → Data → Result Addr ConfError

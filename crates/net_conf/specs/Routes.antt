@@ -1,5 +1,5 @@
 -- Configured routes (the `host-local` plugin, `routes`).
-use Rattle.std.specs.Prelude.{ℕ, List, codes, if◌then◌else◌, Result, Ok, Option, Some, None}
+use Rattle.std.specs.Prelude.{ℕ, List, codes, Result, Ok, Option, Some, None}
 use Rattle.serde_json.specs.Data.{Data, Items}
 use Rattle.cni_json.specs.Fields.{text_field, list_field}
 use Rattle.cni_json.specs.Outcome.{◌>>=◌}
@@ -9,11 +9,11 @@ use Rattle.cni_addr.specs.declared.address.Addr.{Addr}
 use Rattle.cni_addr.specs.declared.address.Cidr.{Cidr}
 use Rattle.cni_addr.specs.AddrText.{addr_of_text}
 use Rattle.cni_addr.specs.CidrText.{cidr_of_text}
-use Rattle.cni_addr.specs.Codes.{family_eq}
 use Rattle.cni_addr.specs.Network.{network_of}
 use Rattle.cni_result.specs.declared.result.RouteEntry.{RouteEntry}
 use Rattle.cni_json.specs.Each.{list_or}
-use Rattle.net_conf.specs.Members.{needed, optional}
+use Rattle.net_conf.specs.Members.{needed, optional, of_kind}
+use Rattle.net_conf.specs.Ranges.{of_family}
 use Rattle.net_conf.specs.Refusals.{invalid}
 use Rattle.net_conf.specs.declared.error.ConfError.{ConfError}
 
@@ -31,12 +31,9 @@ destination_of f = needed (codes "routes") (λ text. destination_or_refused (cid
 unfoldable pub destination_at : Data → Result Cidr ConfError
 destination_at d = destination_of (text_field (codes "dst") d)
 
-abbrev pub hop_or_refused : Family → Option Addr → Result (Option Addr) ConfError
-hop_or_refused family None = wrong_routes
-hop_or_refused family (Some addr) = if family_eq addr.family family then Ok (Some addr) else wrong_routes
-
 abbrev pub hop_of : Family → Field (List ℕ) → Result (Option Addr) ConfError
-hop_of family f = optional (codes "routes") None (λ text. hop_or_refused family (addr_of_text text)) f
+hop_of family f =
+    optional (codes "routes") None (λ text. of_kind Some (of_family (codes "routes") family (addr_of_text text))) f
 
 -- the next hop, of the destination's family, if one is given
 unfoldable pub hop_at : Family → Data → Result (Option Addr) ConfError
