@@ -6,6 +6,7 @@ use Rattle.std.specs.List.Sorted.{IsNonDecreasingBy}
 use Rattle.std.proofs.lemmas.Bool.{cases_eq, cases_Bool, and_parts, or_from, or_right}
 use Rattle.std.proofs.lemmas.Bool.Decides.{nat_tests}
 use Rattle.std.proofs.lemmas.List.Edits.{Swapped, swapped_from_swap, length-swap}
+use Rattle.std.proofs.lemmas.List.Sums.{AllPass-from_list_all, list_all-from_AllPass}
 use Rattle.std.proofs.lemmas.List.Sorted.{IsPermutation-keeps, IsPermutation-sym, All-permutation, length_permutation}
 use Rattle.cni_addr.specs.Codes.{family_code, family_eq}
 use Rattle.cni_addr.specs.declared.address.Family.{Family}
@@ -96,26 +97,17 @@ swapped-apart r s =
     swap_eq : (a b : ℕ) → (a == b) ≡ (b == a)
     swap_eq a b = grind (arith, nat_tests)
 
-test-each : (p : Range → Bool) (rs : List Range) (j : ℕ) (d : Range) → list_all p rs ≡ true → j < length rs → p (get_or rs j d) ≡ true
-test-each p [] j d all within = absurd (omega arith)
-test-each p (s ∷ rs) zero d all within = (and_parts (p s) (list_all p rs) all).0
-test-each p (s ∷ rs) (suc j) d all within = test-each p rs j d (and_parts (p s) (list_all p rs) all).1 (omega arith)
-
-test-all : (p : Range → Bool) (rs : List Range) → ((j : ℕ) (d : Range) → j < length rs → p (get_or rs j d) ≡ true) → list_all p rs ≡ true
-test-all p [] each = refl
-test-all p (s ∷ rs) each = rw (each 0 s (omega arith)) (test-all p rs (λ j d within. each (suc j) d (omega arith)))
-
 apart_at : (rs : List Range) → are_apart rs ≡ true → AreApartAt rs
 apart_at [] apart i j d up within = absurd (omega arith)
 apart_at (r ∷ rs) apart zero zero d up within = absurd (omega arith)
-apart_at (r ∷ rs) apart zero (suc j) d up within = test-each (is_apart r) rs j d (and_parts (list_all (is_apart r) rs) (are_apart rs) apart).0 (omega arith)
+apart_at (r ∷ rs) apart zero (suc j) d up within = AllPass-from_list_all (is_apart r) rs (and_parts (list_all (is_apart r) rs) (are_apart rs) apart).0 j d (omega arith)
 apart_at (r ∷ rs) apart (suc i) zero d up within = absurd (omega arith)
 apart_at (r ∷ rs) apart (suc i) (suc j) d up within = apart_at rs (and_parts (list_all (is_apart r) rs) (are_apart rs) apart).1 i j d (omega arith) (omega arith)
 
 apart_from_places : (rs : List Range) → AreApartAt rs → are_apart rs ≡ true
 apart_from_places [] each = refl
 apart_from_places (r ∷ rs) each =
-    let first = test-all (is_apart r) rs (λ j d within. each 0 (suc j) d (omega arith) (omega arith)) in
+    let first = list_all-from_AllPass (is_apart r) rs (λ j d within. each 0 (suc j) d (omega arith) (omega arith)) in
     rw first (apart_from_places rs (λ i j d up within. each (suc i) (suc j) d (omega arith) (omega arith)))
 
 either_way : (rs : List Range) → AreApartAt rs → (i j : ℕ) (d : Range) → i < length rs → j < length rs → i ≢ j → is_apart (get_or rs i d) (get_or rs j d) ≡ true
@@ -157,8 +149,8 @@ are_apart-permutation xs ys moved =
 
 family-permutation : (f : Family) (xs ys : List Range) → IsPermutation xs ys → list_all (has_address_of f) xs ≡ true → list_all (has_address_of f) ys ≡ true
 family-permutation f xs ys moved all =
-    let each = All-permutation (λ r. has_address_of f r ≡ true) xs ys moved (λ k d within. test-each (has_address_of f) xs k d all within) in
-    test-all (has_address_of f) ys each
+    let each = All-permutation (λ r. has_address_of f r ≡ true) xs ys moved (AllPass-from_list_all (has_address_of f) xs all) in
+    list_all-from_AllPass (has_address_of f) ys each
 
 in_order-of_family : (xs ys : List Range) → IsPermutation xs ys → have_addresses_of_one_family xs ≡ true → IsNonDecreasingBy (λ r. r.start.bits) ys → ascends ys ≡ are_apart ys
 in_order-of_family [] ys moved some order =

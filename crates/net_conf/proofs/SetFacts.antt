@@ -2,7 +2,7 @@
 use Rattle.std.proofs.Common.{◌≡◌, ℕ, suc, ◌+◌, ◌≤◌, ◌<◌, ◌&&◌, Bool, true, false, List, [], ◌∷◌, ◌++◌, length, codes, Option, Some, None, Ok, refl, sym, ap, ◌∙◌, subst, arith, length-append}
 use Rattle.std.specs.Prelude.{All}
 use Rattle.std.specs.List.{list_all}
-use Rattle.std.proofs.lemmas.Bool.{and_parts}
+use Rattle.std.proofs.lemmas.Bool.{and_parts, and_from}
 use Rattle.std.proofs.lemmas.List.Elements.{All-nil, All-cons, All-append}
 use Rattle.std.proofs.lemmas.List.Folds.{list_all-append}
 use Rattle.serde_json.specs.Data.{Data, null, boolean, number, string, array, object, Items, no_items, item}
@@ -58,10 +58,7 @@ apart-append (x ∷ xs) ys h =
     let here = and_parts (list_all (is_apart x) (xs ++ ys)) (are_apart (xs ++ ys)) h in
     let more = apart-append xs ys here.1 in
     let front = and_parts (list_all (is_apart x) xs) (list_all (is_apart x) ys) (sym (list_all-append (is_apart x) xs ys) ∙ here.0) in
-    (and_both front.0 more.0, more.1)
-  where
-    and_both : {a b : Bool} → a ≡ true → b ≡ true → (a && b) ≡ true
-    and_both p q = cc
+    (and_from (list_all (is_apart x) xs) (are_apart xs) front.0 more.0, more.1)
 
 -- where the sets are separate and each is filled, each is well formed
 all_sets : (sets : List RangeSet) → are_apart (ranges_of sets) ≡ true → list_all is_of_one_family sets ≡ true → All IsFilled sets → All IsWellFormedSet sets

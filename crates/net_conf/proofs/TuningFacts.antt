@@ -5,6 +5,7 @@ use Rattle.std.specs.Cmp.Lexicographic.{slice_cmp}
 use Rattle.std.specs.List.Sorted.{IsStrictlySortedBy}
 use Rattle.std.specs.List.{AllByRecursion, IsDistinct}
 use Rattle.std.specs.Str.{bytes_eq}
+use Rattle.std.proofs.lemmas.Bool.{not-false}
 use Rattle.std.proofs.lemmas.Map.Text.{is_eq-slice_cmp}
 use Rattle.std.specs.Ordering.{is_eq}
 use Rattle.std.proofs.lemmas.List.Elements.{All-nil, All-cons}
@@ -38,15 +39,11 @@ pub by_test : {A P : Type 0} (b : Bool) (x y : Result A ConfError) (z : Result A
 by_test true x y z is first second = first refl is
 by_test false x y z is first second = second refl is
 
-from_not : (b : Bool) → not b ≡ false → b ≡ true
-from_not true is = refl
-from_not false is = cc
-
 setting_or_refused-ok : (key value : List ℕ) (setting : Sysctl) → setting_or_refused key value ≡ Ok setting → IsSettingOf key setting
 setting_or_refused-ok key value setting is =
     by_test (not (is_of_network key)) _ _ _ is (λ other same. cc)
     (λ net same. by_test (has_part (codes "IFNAME") key) _ _ _ same (λ name refused. cc)
-    (λ plain read. subst (IsSettingOf key) (ok_same read) (refl, from_not (is_of_network key) net)))
+    (λ plain read. subst (IsSettingOf key) (ok_same read) (refl, not-false (is_of_network key) net)))
 
 setting_of-ok : (key : List ℕ) (d : Data) (setting : Sysctl) → setting_of key d ≡ Ok setting → IsSettingOf key setting
 setting_of-ok key null setting is = cc
