@@ -1,11 +1,12 @@
--- What is read of lists whose items pass a test first, and how many are read.
-use Rattle.std.proofs.Common.{◌≡◌, suc, List, [], ◌∷◌, length, Bool, true, Result, Ok, sym, ap, ◌∙◌, subst}
+-- What is read of lists whose items pass a test first, how many are read, and what passes a test itself.
+use Rattle.std.proofs.Common.{◌≡◌, ℕ, suc, List, [], ◌∷◌, length, Bool, true, Option, Some, None, Result, Ok, refl, sym, ap, ◌∙◌, subst}
 use Rattle.std.specs.Prelude.{All}
 use Rattle.std.proofs.lemmas.Bool.{and_parts}
 use Rattle.std.proofs.lemmas.List.Elements.{All-nil, All-cons}
 use Rattle.serde_json.specs.Data.{Data, Items, no_items, item}
-use Rattle.cni_json.proofs.Endings.{goes, ok_same}
+use Rattle.cni_json.proofs.Endings.{goes, ok_same, passed}
 use Rattle.cni_json.specs.Each.{each}
+use Rattle.net_conf.specs.Members.{passing}
 use Rattle.net_conf.specs.Sets.{all_items, item_count}
 use Rattle.net_conf.specs.declared.error.ConfError.{ConfError}
 
@@ -26,3 +27,10 @@ each_count read (item d ds) xs is =
     let one = goes (read d) _ xs is in
     let more = goes (each read ds) _ xs one.rest in
     ap length (sym (ok_same {x = one.value ∷ more.value} {y = xs} more.rest)) ∙ ap suc (each_count read ds more.value more.first)
+
+-- what was found and passed the test
+pub passing-ok : {A : Type 0} (blamed : List ℕ) (test : A → Bool) (o : Option A) (x : A) → passing blamed test o ≡ Ok x → (test x ≡ true) × (o ≡ Some x)
+passing-ok blamed test None x is = cc
+passing-ok blamed test (Some y) x is =
+    let this = passed (test y) y x _ is in
+    subst (λ z. (test z ≡ true) × (Some y ≡ Some z)) this.1 (this.0, refl)

@@ -13,8 +13,10 @@ use Rattle.cni_addr.specs.CidrText.{cidr_of_text}
 use Rattle.cni_addr.specs.Network.{IsCidr, network_of, last_of, contains}
 use Rattle.cni_addr.specs.Value.{AddrValue, CidrValue, IsAddr, bits_below}
 use Rattle.cni_json.proofs.Endings.{goes, ok_same, passed}
+use Rattle.net_conf.proofs.Endings.{passing-ok}
 use Rattle.net_conf.proofs.RangeLemmas.{subnet_room, same_family}
-use Rattle.net_conf.specs.Ranges.{is_subnet, subnet_or_refused, subnet_of, subnet_at, bound_or_refused, bound_of, bound_at, first_host, last_host, is_in_order, in_order, of_family, gateway_of, gateway_at, range_at}
+use Rattle.net_conf.specs.Members.{passing}
+use Rattle.net_conf.specs.Ranges.{is_subnet, subnet_of, subnet_at, bound_of, bound_at, first_host, last_host, is_in_order, in_order, is_of_family, gateway_of, gateway_at, range_at}
 use Rattle.net_conf.specs.WellFormed.{IsWellFormedRange}
 
 -- ---- what the readers of texts keep
@@ -59,29 +61,21 @@ last_host_inside c is =
 abbrev IsSubnet : CidrValue → Type 0
 IsSubnet c = (is_subnet c ≡ true) × IsCidr c
 
-subnet_or_refused-ok : (o : Option CidrValue) (c : CidrValue) → ((v : CidrValue) → o ≡ Some v → IsCidr v) → subnet_or_refused o ≡ Ok c → IsSubnet c
-subnet_or_refused-ok None c kept is = cc
-subnet_or_refused-ok (Some v) c kept is =
-    let test = passed (is_subnet v) v c _ is in
-    subst IsSubnet test.1 (test.0, kept v refl)
-
 subnet_of-ok : (f : Field (List ℕ)) (c : CidrValue) → subnet_of f ≡ Ok c → IsSubnet c
 subnet_of-ok Absent c is = cc
 subnet_of-ok WrongKind c is = cc
-subnet_of-ok (Here text) c is = subnet_or_refused-ok (cidr_of_text text) c (read_is_cidr text) is
+subnet_of-ok (Here text) c is =
+    let found = passing-ok (codes "subnet") is_subnet (cidr_of_text text) c is in
+    (found.0, read_is_cidr text c found.1)
 
 subnet_at-ok : (d : Data) (c : CidrValue) → subnet_at d ≡ Ok c → IsSubnet c
 unfolding subnet_at
 subnet_at-ok d c is = subnet_of-ok _ c is
 
-bound_or_refused-ok : (key : List ℕ) (c : CidrValue) (o : Option AddrValue) (a : AddrValue) → bound_or_refused key c o ≡ Ok a → contains c a ≡ true
-bound_or_refused-ok key c None a is = cc
-bound_or_refused-ok key c (Some v) a is = let test = passed (contains c v) v a _ is in subst (λ w. contains c w ≡ true) test.1 test.0
-
 bound_of-ok : (key : List ℕ) (c : CidrValue) (default : AddrValue) (f : Field (List ℕ)) (a : AddrValue) → contains c default ≡ true → bound_of key c default f ≡ Ok a → contains c a ≡ true
 bound_of-ok key c default Absent a inside is = subst (λ w. contains c w ≡ true) (ok_same is) inside
 bound_of-ok key c default WrongKind a inside is = cc
-bound_of-ok key c default (Here text) a inside is = bound_or_refused-ok key c (addr_of_text text) a is
+bound_of-ok key c default (Here text) a inside is = (passing-ok key (contains c) (addr_of_text text) a is).0
 
 bound_at-ok : (key : List ℕ) (c : CidrValue) (default : AddrValue) (d : Data) (a : AddrValue) → contains c default ≡ true → bound_at key c default d ≡ Ok a → contains c a ≡ true
 unfolding bound_at
@@ -95,11 +89,10 @@ in_order-ok start end is =
 abbrev pub IsOfFamily : Family → AddrValue → Type 0
 IsOfFamily family a = IsAddr a × (a.family ≡ family)
 
-pub of_family-ok : (blamed : List ℕ) (family : Family) (o : Option AddrValue) (a : AddrValue) → ((v : AddrValue) → o ≡ Some v → IsAddr v) → of_family blamed family o ≡ Ok a → IsOfFamily family a
-of_family-ok blamed family None a kept is = cc
-of_family-ok blamed family (Some v) a kept is =
-    let test = passed _ v a _ is in
-    subst (IsOfFamily family) test.1 (kept v refl, same_family v.family family test.0)
+pub of_family-ok : (blamed : List ℕ) (family : Family) (text : List ℕ) (a : AddrValue) → passing blamed (is_of_family family) (addr_of_text text) ≡ Ok a → IsOfFamily family a
+of_family-ok blamed family text a is =
+    let found = passing-ok blamed (is_of_family family) (addr_of_text text) a is in
+    (read_is_addr text a found.1, same_family a.family family found.0)
 
 gateway_of-ok : (c : CidrValue) (f : Field (List ℕ)) (a : AddrValue) → IsSubnet c → gateway_of c f ≡ Ok a → IsOfFamily c.addr.family a
 unfolding first_host
@@ -107,7 +100,7 @@ gateway_of-ok c Absent a subnet is =
     let inside = first_host_inside c subnet.0 in
     subst (IsOfFamily c.addr.family) (ok_same is) (contained_is_addr c (first_host c) subnet.1 inside, refl)
 gateway_of-ok c WrongKind a subnet is = cc
-gateway_of-ok c (Here text) a subnet is = of_family-ok (codes "gateway") c.addr.family (addr_of_text text) a (read_is_addr text) is
+gateway_of-ok c (Here text) a subnet is = of_family-ok (codes "gateway") c.addr.family text a is
 
 gateway_at-ok : (c : CidrValue) (d : Data) (a : AddrValue) → IsSubnet c → gateway_at c d ≡ Ok a → IsOfFamily c.addr.family a
 unfolding gateway_at

@@ -24,6 +24,11 @@ needed blamed read f = member_or (invalid blamed) (invalid blamed) read f
 abbrev pub optional : {A B : Type 0} → List ℕ → B → (A → Result B ConfError) → Field A → Result B ConfError
 optional blamed default read f = member_or (Ok default) (invalid blamed) read f
 
+-- a value that was found and passes the test; else this key or part is to blame
+abbrev pub passing : {A : Type 0} → List ℕ → (A → Bool) → Option A → Result A ConfError
+passing blamed test None = invalid blamed
+passing blamed test (Some x) = if test x then Ok x else invalid blamed
+
 -- the configuration, as one of a kind
 abbrev pub of_kind : {A B : Type 0} → (A → B) → Result A ConfError → Result B ConfError
 of_kind kind r = do

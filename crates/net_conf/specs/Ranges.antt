@@ -1,5 +1,5 @@
 -- A range of addresses (the `host-local` plugin, `subnet`, `rangeStart`, `rangeEnd` and `gateway`).
-use Rattle.std.specs.Prelude.{◌+◌, ◌-◌, ◌&&◌, ℕ, List, codes, Bool, nat_le, if◌then◌else◌, Result, Ok, Option, Some, None, ⊤}
+use Rattle.std.specs.Prelude.{◌+◌, ◌-◌, ◌&&◌, ℕ, List, codes, Bool, nat_le, if◌then◌else◌, Result, Ok, ⊤}
 use Rattle.serde_json.specs.Data.{Data}
 use Rattle.cni_json.specs.Fields.{text_field}
 use Rattle.cni_json.specs.Outcome.{◌>>=◌}
@@ -13,7 +13,7 @@ use Rattle.cni_addr.specs.CidrText.{cidr_of_text}
 use Rattle.cni_addr.specs.Codes.{family_eq}
 use Rattle.cni_addr.specs.Equal.{cidr_eq}
 use Rattle.cni_addr.specs.Network.{network_of, last_of, contains}
-use Rattle.net_conf.specs.Members.{needed, optional}
+use Rattle.net_conf.specs.Members.{needed, optional, passing}
 use Rattle.net_conf.specs.Refusals.{invalid}
 use Rattle.net_conf.specs.declared.error.ConfError.{ConfError}
 
@@ -21,24 +21,16 @@ use Rattle.net_conf.specs.declared.error.ConfError.{ConfError}
 unfoldable pub is_subnet : Cidr → Bool
 is_subnet subnet = cidr_eq subnet (network_of subnet) && (nat_le 8 subnet.prefix && nat_le subnet.prefix 30)
 
-abbrev pub subnet_or_refused : Option Cidr → Result Cidr ConfError
-subnet_or_refused None = invalid (codes "subnet")
-subnet_or_refused (Some subnet) = if is_subnet subnet then Ok subnet else invalid (codes "subnet")
-
 abbrev pub subnet_of : Field (List ℕ) → Result Cidr ConfError
-subnet_of f = needed (codes "subnet") (λ text. subnet_or_refused (cidr_of_text text)) f
+subnet_of f = needed (codes "subnet") (λ text. passing (codes "subnet") is_subnet (cidr_of_text text)) f
 
 -- the subnet of a range
 unfoldable pub subnet_at : Data → Result Cidr ConfError
 subnet_at d = subnet_of (text_field (codes "subnet") d)
 
 -- an address of the subnet that the key gives
-abbrev pub bound_or_refused : List ℕ → Cidr → Option Addr → Result Addr ConfError
-bound_or_refused key subnet None = invalid key
-bound_or_refused key subnet (Some addr) = if contains subnet addr then Ok addr else invalid key
-
 abbrev pub bound_of : List ℕ → Cidr → Addr → Field (List ℕ) → Result Addr ConfError
-bound_of key subnet default f = optional key default (λ text. bound_or_refused key subnet (addr_of_text text)) f
+bound_of key subnet default f = optional key default (λ text. passing key (contains subnet) (addr_of_text text)) f
 
 -- the first or the last address to lease, or the default
 unfoldable pub bound_at : List ℕ → Cidr → Addr → Data → Result Addr ConfError
@@ -59,15 +51,14 @@ is_in_order start end = nat_le start.bits end.bits
 unfoldable pub in_order : Addr → Addr → Result ⊤ ConfError
 in_order start end = if is_in_order start end then Ok tt else invalid (codes "rangeStart")
 
--- an address of the family; else this key or part is to blame
-abbrev pub of_family : List ℕ → Family → Option Addr → Result Addr ConfError
-of_family blamed family None = invalid blamed
-of_family blamed family (Some addr) = if family_eq addr.family family then Ok addr else invalid blamed
+abbrev pub is_of_family : Family → Addr → Bool
+is_of_family family addr = family_eq addr.family family
 
 -- an address of the family, which need not be of the subnet
 abbrev pub gateway_of : Cidr → Field (List ℕ) → Result Addr ConfError
 gateway_of subnet f =
-    optional (codes "gateway") (first_host subnet) (λ text. of_family (codes "gateway") subnet.addr.family (addr_of_text text)) f
+    optional (codes "gateway") (first_host subnet)
+    (λ text. passing (codes "gateway") (is_of_family subnet.addr.family) (addr_of_text text)) f
 
 -- the gateway of a range, or the subnet's first address
 unfoldable pub gateway_at : Cidr → Data → Result Addr ConfError

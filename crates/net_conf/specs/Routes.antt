@@ -12,8 +12,8 @@ use Rattle.cni_addr.specs.CidrText.{cidr_of_text}
 use Rattle.cni_addr.specs.Network.{network_of}
 use Rattle.cni_result.specs.declared.result.RouteEntry.{RouteEntry}
 use Rattle.cni_json.specs.Each.{list_or}
-use Rattle.net_conf.specs.Members.{needed, optional, of_kind}
-use Rattle.net_conf.specs.Ranges.{of_family}
+use Rattle.net_conf.specs.Members.{needed, optional, of_kind, passing}
+use Rattle.net_conf.specs.Ranges.{is_of_family}
 use Rattle.net_conf.specs.Refusals.{invalid}
 use Rattle.net_conf.specs.declared.error.ConfError.{ConfError}
 
@@ -33,7 +33,8 @@ destination_at d = destination_of (text_field (codes "dst") d)
 
 abbrev pub hop_of : Family → Field (List ℕ) → Result (Option Addr) ConfError
 hop_of family f =
-    optional (codes "routes") None (λ text. of_kind Some (of_family (codes "routes") family (addr_of_text text))) f
+    optional (codes "routes") None
+    (λ text. of_kind Some (passing (codes "routes") (is_of_family family) (addr_of_text text))) f
 
 -- the next hop, of the destination's family, if one is given
 unfoldable pub hop_at : Family → Data → Result (Option Addr) ConfError

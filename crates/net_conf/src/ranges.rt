@@ -4,6 +4,7 @@ ghost use Rattle.std.specs.Prelude.{◌≡◌, ◌+◌, ◌-◌, true, IfOk};
 ghost use Rattle.serde_json.specs.View.{view};
 ghost use Rattle.cni_addr.specs.AddrText.{addr_of_text};
 ghost use Rattle.cni_json.specs.Outcome.{GivesAs};
+ghost use Rattle.net_conf.specs.Members.{passing};
 ghost use Rattle.net_conf.specs.Ranges as ranges;
 ghost use Rattle.net_conf.specs.Refusals.{is_want_of_memory};
 
@@ -130,7 +131,7 @@ pub fn addr_of_family(
     family: Family,
     text: &str,
 ) -> Result<Addr, ConfError>
-    ensures { GivesAs is_want_of_memory (λ addr. addr) result (ranges.of_family blamed.now family (addr_of_text text.now)) }
+    ensures { GivesAs is_want_of_memory (λ addr. addr) result (passing blamed.now (ranges.is_of_family family) (addr_of_text text.now)) }
 {
     match read_addr(text.as_bytes()) {
         Some(addr) if addr.family == family => Ok(addr),
