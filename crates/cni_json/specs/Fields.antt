@@ -84,6 +84,10 @@ member_or absent wrong read Absent = absent
 member_or absent wrong read WrongKind = wrong
 member_or absent wrong read (Here x) = read x
 
+-- what is read of a member that must be there, where one that is absent or of another kind gives this
+abbrev pub needed : {A B E : Type 0} → Result B E → (A → Result B E) → Field A → Result B E
+needed wrong read f = member_or wrong wrong read f
+
 -- the value is an object, or is refused
 abbrev pub object_or : {E : Type 0} → Result ⊤ E → Data → Result ⊤ E
 object_or wrong (object ms) = Ok tt

@@ -1,10 +1,10 @@
--- Functions that read one member, as what their calls give.
+-- Functions that read one member or make a refusal, as what their calls give.
 use Rattle.std.specs.Prelude.{◌≡◌, ℕ, List, Bool, Result, All}
-use Rattle.std.specs.Fn.{Shared}
+use Rattle.std.specs.Fn.{Once, Shared}
 use Rattle.serde_json.specs.Data.{Data}
 use Rattle.serde_json.specs.View.{view}
 use Rattle.serde_json.specs.declared.value.Value.{Value}
-use Rattle.cni_json.specs.Outcome.{GivesAs}
+use Rattle.cni_json.specs.Outcome.{GivesAs, TellsAs}
 use denote.Ref.{Bor}
 
 -- each call gives what is wanted of its member
@@ -22,3 +22,7 @@ pub record IsReaderAfter {R T E : Type 0} (is_memory : E → Bool) (calls : Shar
 -- such a function may be called at each value of the list, whatever was read before
 abbrev pub MayReadEach : {R T E : Type 0} → Shared R (Bor (List T) × (Bor Value × Unit {0})) (Result T E) → R → List Value → Type 0
 MayReadEach {T = T} calls read list = All (λ v. (before : Bor (List T)) (member : Bor Value) → member.now ≡ v → calls.pre read (before, (member, tt))) list
+
+-- the call makes the wanted error
+pub record IsRefusal {R E : Type 0} (is_memory : E → Bool) (calls : Once R (Unit {0}) E) (refusal : R) (wanted : E) : Type 0 where
+  pub tells : (e : E) → calls.post refusal tt e → TellsAs is_memory e wanted

@@ -1,9 +1,12 @@
 //! Members of an object, each asked for by its key and the kind that it is to have.
 
-ghost use Rattle.std.specs.Prelude.{◌≡◌, option_map};
+ghost use Rattle.std.specs.Prelude.{◌≡◌, Err, option_map};
 ghost use Rattle.serde_json.specs.View.{view, items_view};
-ghost use Rattle.cni_json.specs.Fields.{field_map, member_at, text_field, bool_field, u64_field, u32_field, has_32_bits, list_field, object_field};
+ghost use Rattle.cni_json.specs.Fields.{field_map, member_at, text_field, bool_field, u64_field, u32_field, has_32_bits, list_field, object_field, object_or};
+ghost use Rattle.cni_json.specs.Outcome.{GivesAs};
+ghost use Rattle.cni_json.specs.Readers.{IsRefusal};
 
+use crate::refusal::Refusal;
 use serde_json::Value;
 
 /// What an object has under a key, by the kind that was asked for.
@@ -101,5 +104,19 @@ pub fn field_object<'a>(object: &'a Value, key: &str) -> Field<&'a Value>
         None => Field::Absent,
         Some(value) if value.is_object() => Field::Here(value),
         Some(_) => Field::WrongKind,
+    }
+}
+
+/// Refuses a value that is no object.
+#[tactic(auto, using(crate::proofs::Steps::steps))]
+pub fn need_object<E: Refusal, W: FnOnce() -> E>(value: &Value, refusal: W) -> Result<(), E>
+    requires { W.IsAlwaysCallable refusal }
+    ensures { (wanted : E) → IsRefusal E.is_want_of_memory W.FnOnce refusal wanted
+        → GivesAs E.is_want_of_memory (λ t. t) result (object_or (Err wanted) (view value.now)) }
+{
+    if value.is_object() {
+        Ok(())
+    } else {
+        Err(refusal())
     }
 }

@@ -8,7 +8,8 @@
 //!   reading, and `Number` exactly where a number of the reading is neither a `u64` nor an `i64`.
 //! - `field_str` and its kin give `text_field` and its kin of the value, and take no memory.
 //! - `read_each` gives `each` of what its function gives of a member, up to the first refusal, and `read_each_after`
-//!   gives `each_after` of a function that is told what stands before the member.
+//!   gives `each_after` of a function that is told what stands before the member; `read_list_or` reads the list under a
+//!   key, and `need_object` refuses a value that is no object.
 //! - `line` writes `line_of` of the value.
 //! - What a line was written for is what it is read as (`a_line_is_read_again`), and the keys of
 //!   each object that is read ascend (`keys_ascend`).
@@ -39,10 +40,10 @@ mod writing;
 
 pub use fields::{
     Field, field_bool, field_list, field_object, field_str, field_u32, field_u64, has_32_bits,
-    member,
+    member, need_object,
 };
 pub use laws::{a_line_feed_is_space, a_line_is_read_again, keys_ascend};
-pub use lists::{read_each, read_each_after, read_each_placed};
+pub use lists::{read_each, read_each_after, read_each_placed, read_list_or};
 pub use reading::{ReadEnd, read};
 pub use refusal::Refusal;
 pub use serde_json::{Map, Value};

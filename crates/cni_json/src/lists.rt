@@ -1,12 +1,14 @@
 //! Lists of members, each read up to the first refusal.
 
-ghost use Rattle.std.specs.Prelude.{ℕ, List, Result};
+ghost use Rattle.std.specs.Prelude.{ℕ, List, Result, Err};
 ghost use Rattle.serde_json.specs.Data.{Data};
-ghost use Rattle.serde_json.specs.View.{items_view};
-ghost use Rattle.cni_json.specs.Each.{each, each_after, each_from};
+ghost use Rattle.serde_json.specs.View.{view, items_view};
+ghost use Rattle.cni_json.specs.Each.{each, each_after, each_from, list_or};
+ghost use Rattle.cni_json.specs.Fields.{list_field};
 ghost use Rattle.cni_json.specs.Outcome.{GivesAs};
-ghost use Rattle.cni_json.specs.Readers.{IsPlacedReader, IsReader, IsReaderAfter, MayReadEach};
+ghost use Rattle.cni_json.specs.Readers.{IsPlacedReader, IsReader, IsReaderAfter, IsRefusal, MayReadEach};
 
+use crate::fields::{Field, field_list};
 use crate::refusal::Refusal;
 use cni_addr::Items;
 use serde_json::Value;
@@ -64,4 +66,27 @@ pub fn read_each_after<T: Drop, E: Refusal, R: Fn(&[T], &Value) -> Result<T, E>>
         found.push(next)?;
     }
     Ok(found)
+}
+
+/// The list under the key as [`read_each`] reads it. It is empty where there is none, and a member of another kind is
+/// refused.
+#[tactic(auto, using(crate::proofs::Steps::steps))]
+pub fn read_list_or<T: Drop, E: Refusal, W: FnOnce() -> E, R: Fn(&Value) -> Result<T, E>>(
+    alloc: Global,
+    object: &Value,
+    key: &str,
+    refusal: W,
+    read: R,
+) -> Result<Items<T>, E>
+    requires refuses { W.IsAlwaysCallable refusal }
+    requires reads { R.IsAlwaysCallable read }
+    ensures { (wrong : E) → IsRefusal E.is_want_of_memory W.FnOnce refusal wrong
+        → (wanted : Data → Result T E) → IsReader E.is_want_of_memory R.Fn read wanted
+        → GivesAs E.is_want_of_memory (λ xs. xs) result (list_or (Err wrong) wanted (list_field key.now (view object.now))) }
+{
+    match field_list(object, key) {
+        Field::Absent => Ok(Items::new(alloc)),
+        Field::WrongKind => Err(refusal()),
+        Field::Here(list) => read_each(alloc, list, read),
+    }
 }
