@@ -118,9 +118,6 @@ dns_at d = dns_or_refused (dns_of_object d)
 
 -- ---- the whole
 
-abbrev pub object_at : Data → Result ⊤ ResultError
-object_at d = object_or (invalid (codes "result")) d
-
 -- the address is on an interface of the list, or on none
 abbrev pub is_on_one_of : ℕ → Option ℕ → Bool
 is_on_one_of count None = true
@@ -136,7 +133,7 @@ indexes_at count ips = if are_on count ips then Ok tt else invalid (codes "inter
 -- the members in the order in which they are tested
 unfoldable pub result_at : Data → Result AddResult ResultError
 result_at d = do
-  _ ← object_at d
+  _ ← object_or (invalid (codes "result")) d
   version ← version_at d
   interfaces ← interfaces_at version d
   ips ← ips_at d

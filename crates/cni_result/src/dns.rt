@@ -10,7 +10,7 @@ ghost use Rattle.cni_result.specs.declared.dns.DnsError.TheVariants as ends;
 
 use crate::result::Dns;
 use cni_addr::{Items, NoMemory, Text};
-use cni_json::{Field, Refusal, Value, field_list, field_object, field_str, read_each};
+use cni_json::{Field, Refusal, Value, field_object, field_str, read_list_or};
 use std::alloc::Global;
 
 /// Why a configuration of name resolution is not read.
@@ -92,11 +92,13 @@ fn domain(alloc: Global, members: &Value) -> Result<Text, DnsError>
 fn words(alloc: Global, members: &Value, key: &str) -> Result<Items<Text>, DnsError>
     ensures { GivesAs is_want_of_memory (λ words. words) result (wanted.words_at key.now (view members.now)) }
 {
-    match field_list(members, key) {
-        Field::Absent => Ok(Items::new(alloc)),
-        Field::WrongKind => Err(DnsError::Invalid),
-        Field::Here(list) => read_each(alloc, list, |entry| word(alloc, entry)),
-    }
+    read_list_or(
+        alloc,
+        members,
+        key,
+        || DnsError::Invalid,
+        |entry| word(alloc, entry),
+    )
 }
 
 #[tactic(auto, using(cni_json::proofs::Steps::steps))]

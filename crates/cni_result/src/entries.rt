@@ -15,7 +15,7 @@ use crate::refusal::{ResultError, invalid};
 use crate::result::{Interface, IpEntry, RouteEntry};
 use crate::version::Version;
 use cni_addr::Items;
-use cni_json::{Field, Value, field_list, read_each};
+use cni_json::{Value, read_list_or};
 use std::alloc::Global;
 
 /// The list under this key, each entry as the function reads it; it is empty where it is absent.
@@ -30,11 +30,7 @@ fn list<T: Drop, R: Fn(&Value) -> Result<T, ResultError>>(
     ensures { (wanted : Data → Result T ResultError) → IsReader is_want_of_memory R.Fn read wanted
         → GivesAs is_want_of_memory (λ xs. xs) result (list_at key.now wanted (view top.now)) }
 {
-    match field_list(top, key) {
-        Field::Absent => Ok(Items::new(alloc)),
-        Field::WrongKind => Err(invalid(alloc, key)),
-        Field::Here(entries) => read_each(alloc, entries, read),
-    }
+    read_list_or(alloc, top, key, || invalid(alloc, key), read)
 }
 
 /// The interfaces, none where there is no list of them.

@@ -4,7 +4,7 @@ ghost use Rattle.std.specs.Prelude.{◌≡◌};
 ghost use Rattle.serde_json.specs.View.{view};
 ghost use Rattle.cni_json.specs.Json.{json_of};
 ghost use Rattle.cni_json.specs.Outcome.{GivesAs};
-ghost use Rattle.cni_result.specs.Reading.{object_at, version_at, is_on_one_of, are_on, indexes_at, result_at, dns_at, decoded, result_of_bytes};
+ghost use Rattle.cni_result.specs.Reading.{version_at, is_on_one_of, are_on, indexes_at, result_at, dns_at, decoded, result_of_bytes};
 ghost use Rattle.cni_result.specs.Refusals.{is_want_of_memory};
 
 use crate::dns::{DnsError, read_dns};
@@ -12,7 +12,7 @@ use crate::entries::{interfaces, ips, routes};
 use crate::refusal::{ResultError, invalid, version_refused};
 use crate::result::{AddResult, Dns, IpEntry};
 use crate::version::{Version, version_named};
-use cni_json::{Field, ReadEnd, Value, field_str, read};
+use cni_json::{Field, ReadEnd, Value, field_str, need_object, read};
 use std::alloc::Global;
 
 /// The result that the bytes are as JSON.
@@ -45,7 +45,7 @@ fn decode(alloc: Global, bytes: &[u8]) -> Result<Value, ResultError>
 fn result_of(alloc: Global, top: &Value) -> Result<AddResult, ResultError>
     ensures { GivesAs is_want_of_memory (λ found. found) result (result_at (view top.now)) }
 {
-    object(alloc, top)?;
+    need_object(top, || invalid(alloc, "result"))?;
     let version = version(alloc, top)?;
     let interfaces = interfaces(alloc, version, top)?;
     let ips = ips(alloc, top)?;
@@ -59,16 +59,6 @@ fn result_of(alloc: Global, top: &Value) -> Result<AddResult, ResultError>
         routes,
         dns,
     })
-}
-
-#[tactic(auto, using(cni_json::proofs::Steps::steps))]
-fn object(alloc: Global, top: &Value) -> Result<(), ResultError>
-    ensures { GivesAs is_want_of_memory (λ unit. unit) result (object_at (view top.now)) }
-{
-    match top {
-        Value::Object(_) => Ok(()),
-        _ => Err(invalid(alloc, "result")),
-    }
 }
 
 #[tactic(auto, using(cni_json::proofs::Steps::steps), unfolding(crate::specs::Reading::version_at))]
