@@ -1,5 +1,5 @@
 -- The entries of a result that were printed are read again.
-use Rattle.std.proofs.Common.{◌≡◌, ℕ, List, Option, Some, None, Ok, refl, ap, sym, ◌∙◌}
+use Rattle.std.proofs.Common.{◌≡◌, ℕ, ◌^◌, ◌<◌, List, Option, Some, None, Ok, refl, ap, ◌∙◌}
 use Rattle.std.specs.Prelude.{codes, IfSome}
 use Rattle.serde_json.specs.Data.{Members, no_members, put}
 use Rattle.serde_json.specs.Find.{as_str}
@@ -16,7 +16,7 @@ use Rattle.cni_json.specs.Fields.{field_of, u32_of}
 use Rattle.cni_result.proofs.Lookups.{at_other, at_other_if, at_key, at_key_if}
 use Rattle.cni_result.proofs.ReadAgain.{needed_again, optional_again, number_again}
 use Rattle.cni_result.specs.Fields.{needed, optional, as_it_is}
-use Rattle.cni_result.specs.Laws.{HasMtuOf, IsInterfaceOf, IsIpEntry, IsRouteEntry}
+use Rattle.cni_result.specs.Laws.{IsInterfaceOf, IsIpEntry, IsRouteEntry}
 use Rattle.cni_result.specs.Members.{text_data, number_data, ◌▷◌, put_if}
 use Rattle.cni_result.specs.Reading.{text_at, text_if_at, cidr_at, addr_if_at, mac_if_at, number_if_at, mtu_if_at, interface_at, ip_at, route_at}
 use Rattle.cni_result.specs.Results.{mac_data, addr_data, cidr_data, interface_data, ip_data, route_data}
@@ -82,20 +82,20 @@ sandbox_again version i =
     ∙ at_other_if mac_data (codes "sandbox") (codes "mac") i.mac no_members refl))
     ∙ optional_again (codes "interfaces") as_it_is (λ t. t) i.sandbox (text_if_read i.sandbox)
 
-mtu_again : (version : Version) (i : Interface) → HasMtuOf version i → mtu_if_at version (interface_data version i) ≡ Ok i.mtu
+mtu_again : (version : Version) (i : Interface) → IfSome i.mtu (λ n. n < 2 ^ 32) → mtu_since_1_1 version i.mtu ≡ i.mtu → mtu_if_at version (interface_data version i) ≡ Ok i.mtu
 unfolding number_if_at interface_data
-mtu_again V1_0 i has = ap Ok (sym has)
-mtu_again V1_1 i has =
+mtu_again V1_0 i fits told = ap Ok told
+mtu_again V1_1 i fits told =
     ap (λ g. optional (codes "interfaces") as_it_is (field_of u32_of g))
     (at_other_if text_data (codes "mtu") (codes "sandbox") i.sandbox (up_to_name V1_1 i) refl
     ∙ at_other (codes "mtu") (codes "name") (text_data i.name) (up_to_mtu V1_1 i) refl
     ∙ at_key_if number_data (codes "mtu") i.mtu (up_to_mac i) (at_other_if mac_data (codes "mtu") (codes "mac") i.mac no_members refl))
-    ∙ number_again (codes "interfaces") i.mtu has
+    ∙ number_again (codes "interfaces") i.mtu fits
 
 pub interface_again : (version : Version) (i : Interface) → IsInterfaceOf version i → interface_at version (interface_data version i) ≡ Ok i
 unfolding interface_at
 interface_again version i kept =
-    rw (name_again version i, mac_again version i kept.mac, mtu_again version i kept.mtu, sandbox_again version i) refl
+    rw (name_again version i, mac_again version i kept.mac, mtu_again version i kept.mtu kept.told, sandbox_again version i) refl
 
 -- ---- an address
 

@@ -1,27 +1,23 @@
 -- When a result that was printed is read again as the same result.
-use Rattle.std.specs.Prelude.{◌≡◌, ◌^◌, ◌<◌, length, true, IfSome, None, Ok}
+use Rattle.std.specs.Prelude.{◌≡◌, ◌^◌, ◌<◌, length, true, IfSome, Ok}
 use Rattle.std.specs.List.{AllByRecursion}
 use Rattle.cni_addr.specs.MacText.{IsMac}
 use Rattle.cni_addr.specs.Network.{IsCidr}
 use Rattle.cni_addr.specs.Value.{IsAddr}
 use Rattle.cni_result.specs.Reading.{are_on, result_at}
 use Rattle.cni_result.specs.Results.{result_data}
+use Rattle.cni_result.specs.Versions.{mtu_since_1_1}
 use Rattle.cni_result.specs.declared.result.AddResult.{AddResult}
 use Rattle.cni_result.specs.declared.result.Interface.{Interface}
 use Rattle.cni_result.specs.declared.result.IpEntry.{IpEntry}
 use Rattle.cni_result.specs.declared.result.RouteEntry.{RouteEntry}
 use Rattle.cni_result.specs.declared.version.Version.{Version}
-use Rattle.cni_result.specs.declared.version.Version.TheVariants.{V1_0, V1_1}
 
--- there is no `mtu` before 1.1.0, and from then on one of 32 bits
-abbrev pub HasMtuOf : Version → Interface → Type 0
-HasMtuOf V1_0 i = i.mtu ≡ None
-HasMtuOf V1_1 i = IfSome i.mtu (λ n. n < 2 ^ 32)
-
--- an interface as its type keeps it, with no `mtu` that its version doesn't have
+-- an interface as its type keeps it, with no `mtu` that its version doesn't tell
 pub record IsInterfaceOf (version : Version) (i : Interface) : Type 0 where
   pub mac : IfSome i.mac IsMac
-  pub mtu : HasMtuOf version i
+  pub mtu : IfSome i.mtu (λ n. n < 2 ^ 32)
+  pub told : mtu_since_1_1 version i.mtu ≡ i.mtu
 
 -- an address as its type keeps it
 pub record IsIpEntry (ip : IpEntry) : Type 0 where
@@ -34,7 +30,7 @@ pub record IsRouteEntry (route : RouteEntry) : Type 0 where
   pub dst : IsCidr route.dst
   pub gw : IfSome route.gw IsAddr
 
--- a result as its type keeps it, with no `mtu` that its version doesn't have, and with each address on an interface of
+-- a result as its type keeps it, with no `mtu` that its version doesn't tell, and with each address on an interface of
 -- its list or on none
 pub record IsReadable (r : AddResult) : Type 0 where
   pub interfaces : AllByRecursion (IsInterfaceOf r.version) r.interfaces

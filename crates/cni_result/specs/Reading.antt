@@ -17,7 +17,7 @@ use Rattle.cni_json.specs.declared.reading.ReadEnd.TheVariants as reading
 use Rattle.cni_result.specs.Dns.{dns_of_object}
 use Rattle.cni_result.specs.Fields.{needed, optional, list_at, as_it_is}
 use Rattle.cni_result.specs.Refusals.{invalid}
-use Rattle.cni_result.specs.Versions.{version_named}
+use Rattle.cni_result.specs.Versions.{version_named, tells_mtu}
 use Rattle.cni_result.specs.declared.dns.DnsError.{DnsError}
 use Rattle.cni_result.specs.declared.dns.DnsError.TheVariants as ends
 use Rattle.cni_result.specs.declared.refusal.ResultError.{ResultError}
@@ -28,7 +28,6 @@ use Rattle.cni_result.specs.declared.result.Interface.{Interface}
 use Rattle.cni_result.specs.declared.result.IpEntry.{IpEntry}
 use Rattle.cni_result.specs.declared.result.RouteEntry.{RouteEntry}
 use Rattle.cni_result.specs.declared.version.Version.{Version}
-use Rattle.cni_result.specs.declared.version.Version.TheVariants.{V1_0, V1_1}
 
 -- ---- the version
 
@@ -68,10 +67,9 @@ mac_if_at blamed key d = optional blamed mac_of_text (text_field key d)
 unfoldable pub number_if_at : List ℕ → List ℕ → Data → Result (Option ℕ) ResultError
 number_if_at blamed key d = optional blamed as_it_is (u32_field key d)
 
--- `mtu` came to results with 1.1.0, and is passed over before
+-- `mtu` is passed over where the version doesn't tell it
 abbrev pub mtu_if_at : Version → Data → Result (Option ℕ) ResultError
-mtu_if_at V1_0 d = Ok None
-mtu_if_at V1_1 d = number_if_at (codes "interfaces") (codes "mtu") d
+mtu_if_at version d = if tells_mtu version then number_if_at (codes "interfaces") (codes "mtu") d else Ok None
 
 -- ---- the lists; an entry that is no object lacks what must be there
 

@@ -13,7 +13,7 @@ ghost use Rattle.cni_result.specs.declared.refusal.ResultError.{ResultError};
 use crate::fields::{addr_if, cidr, mac_if, number_if, text, text_if};
 use crate::refusal::{ResultError, invalid};
 use crate::result::{Interface, IpEntry, RouteEntry};
-use crate::version::Version;
+use crate::version::{Version, tells_mtu};
 use cni_addr::Items;
 use cni_json::{Value, read_list_or};
 use std::alloc::Global;
@@ -69,9 +69,10 @@ fn interface(alloc: Global, version: Version, entry: &Value) -> Result<Interface
 fn mtu_if(alloc: Global, version: Version, entry: &Value) -> Result<Option<u32>, ResultError>
     ensures { GivesAs is_want_of_memory (λ mtu. mtu) result (mtu_if_at version (view entry.now)) }
 {
-    match version {
-        Version::V1_0 => Ok(None),
-        Version::V1_1 => number_if(alloc, entry, "mtu", "interfaces"),
+    if tells_mtu(version) {
+        number_if(alloc, entry, "mtu", "interfaces")
+    } else {
+        Ok(None)
     }
 }
 

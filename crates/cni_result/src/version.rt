@@ -1,7 +1,7 @@
 //! Versions of the specification, by their texts, and what a result tells by its version.
 
 ghost use Rattle.std.specs.Prelude.{◌≡◌, Some};
-ghost use Rattle.cni_result.specs.Versions.{version_text, version_named, mtu_since_1_1};
+ghost use Rattle.cni_result.specs.Versions.{version_text, version_named, tells_mtu, mtu_since_1_1};
 
 /// A version of the CNI specification that a network list may have (`cniVersion`).
 #[derive(Clone, Copy, Debug)]
@@ -56,12 +56,19 @@ pub fn version_named(text: &str) -> Option<Version>
         .find(|version| text == version_text(*version))
 }
 
+/// Whether a result of the version tells the MTU of its interfaces (CNI specification, section 5).
+pub(crate) fn tells_mtu(version: Version) -> bool
+    ensures { result ≡ tells_mtu version }
+{
+    match version {
+        Version::V1_0 => false,
+        Version::V1_1 => true,
+    }
+}
+
 /// The MTU of an interface, in bytes, which a result tells since version 1.1.0 (CNI specification, section 5).
 pub fn mtu_since_1_1(version: Version, mtu: Option<u32>) -> Option<u32>
     ensures { result ≡ mtu_since_1_1 version mtu }
 {
-    match version {
-        Version::V1_0 => None,
-        Version::V1_1 => mtu,
-    }
+    if tells_mtu(version) { mtu } else { None }
 }
