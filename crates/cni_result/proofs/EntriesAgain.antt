@@ -12,13 +12,14 @@ use Rattle.cni_addr.specs.MacText.{mac_text, mac_of_text, IsMac}
 use Rattle.cni_addr.specs.Network.{IsCidr}
 use Rattle.cni_addr.specs.Value.{AddrValue, CidrValue, IsAddr}
 use Rattle.cni_addr.specs.declared.mac.Mac.{Mac}
-use Rattle.cni_json.specs.Fields.{field_of, u32_of}
+use Rattle.cni_json.specs.Fields.{field_of, u32_of, needed}
 use Rattle.cni_result.proofs.Lookups.{at_other, at_other_if, at_key, at_key_if}
-use Rattle.cni_result.proofs.ReadAgain.{needed_again, optional_again, number_again}
-use Rattle.cni_result.specs.Fields.{needed, optional, as_it_is}
+use Rattle.cni_result.proofs.ReadAgain.{cidr_again, optional_again, number_again}
+use Rattle.cni_result.specs.Fields.{optional, as_it_is}
 use Rattle.cni_result.specs.Laws.{IsInterfaceOf, IsIpEntry, IsRouteEntry}
 use Rattle.cni_result.specs.Members.{text_data, number_data, ◌▷◌, put_if}
-use Rattle.cni_result.specs.Reading.{text_at, text_if_at, cidr_at, addr_if_at, mac_if_at, number_if_at, mtu_if_at, interface_at, ip_at, route_at}
+use Rattle.cni_result.specs.Reading.{text_at, text_if_at, cidr_of, cidr_at, addr_if_at, mac_if_at, number_if_at, mtu_if_at, interface_at, ip_at, route_at}
+use Rattle.cni_result.specs.Refusals.{invalid}
 use Rattle.cni_result.specs.Results.{mac_data, addr_data, cidr_data, interface_data, ip_data, route_data}
 use Rattle.cni_result.specs.Versions.{mtu_since_1_1}
 use Rattle.cni_result.specs.declared.result.Interface.{Interface}
@@ -59,7 +60,7 @@ up_to_name version i = up_to_mtu version i ▷ put (codes "name") (text_data i.n
 name_again : (version : Version) (i : Interface) → text_at (codes "interfaces") (codes "name") (interface_data version i) ≡ Ok i.name
 unfolding text_at interface_data
 name_again version i =
-    ap (λ g. needed (codes "interfaces") as_it_is (field_of as_str g))
+    ap (λ g. needed (invalid (codes "interfaces")) Ok (field_of as_str g))
     (at_other_if text_data (codes "name") (codes "sandbox") i.sandbox (up_to_name version i) refl ∙ at_key (codes "name") (text_data i.name) (up_to_mtu version i))
 
 mac_again : (version : Version) (i : Interface) → IfSome i.mac IsMac → mac_if_at (codes "interfaces") (codes "mac") (interface_data version i) ≡ Ok i.mac
@@ -108,11 +109,11 @@ up_to_gateway ip = up_to_address ip ▷ put_if addr_data (codes "gateway") ip.ga
 address_again : (ip : IpEntry) → IsCidr ip.address → cidr_at (codes "ips") (codes "address") (ip_data ip) ≡ Ok ip.address
 unfolding cidr_at ip_data
 address_again ip kept =
-    ap (λ g. needed (codes "ips") cidr_of_text (field_of as_str g))
+    ap (λ g. cidr_of (codes "ips") (field_of as_str g))
     (at_other_if number_data (codes "address") (codes "interface") ip.interface (up_to_gateway ip) refl
     ∙ at_other_if addr_data (codes "address") (codes "gateway") ip.gateway (up_to_address ip) refl
     ∙ at_key (codes "address") (cidr_data ip.address) no_members)
-    ∙ needed_again (codes "ips") cidr_of_text (cidr_text ip.address) ip.address (cidr_read ip.address kept)
+    ∙ cidr_again (codes "ips") (cidr_text ip.address) ip.address (cidr_read ip.address kept)
 
 gateway_again : (ip : IpEntry) → IfSome ip.gateway IsAddr → addr_if_at (codes "ips") (codes "gateway") (ip_data ip) ≡ Ok ip.gateway
 unfolding addr_if_at ip_data
@@ -143,9 +144,9 @@ up_to_dst route = no_members ▷ put (codes "dst") (cidr_data route.dst)
 dst_again : (route : RouteEntry) → IsCidr route.dst → cidr_at (codes "routes") (codes "dst") (route_data route) ≡ Ok route.dst
 unfolding cidr_at route_data
 dst_again route kept =
-    ap (λ g. needed (codes "routes") cidr_of_text (field_of as_str g))
+    ap (λ g. cidr_of (codes "routes") (field_of as_str g))
     (at_other_if addr_data (codes "dst") (codes "gw") route.gw (up_to_dst route) refl ∙ at_key (codes "dst") (cidr_data route.dst) no_members)
-    ∙ needed_again (codes "routes") cidr_of_text (cidr_text route.dst) route.dst (cidr_read route.dst kept)
+    ∙ cidr_again (codes "routes") (cidr_text route.dst) route.dst (cidr_read route.dst kept)
 
 gw_again : (route : RouteEntry) → IfSome route.gw IsAddr → addr_if_at (codes "routes") (codes "gw") (route_data route) ≡ Ok route.gw
 unfolding addr_if_at route_data

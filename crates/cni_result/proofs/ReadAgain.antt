@@ -9,16 +9,19 @@ use Rattle.serde_json.specs.View.{items_of}
 use Rattle.std.specs.Prelude.{map, Result}
 use Rattle.cni_json.specs.Fields.{field_of, u32_of, object_of}
 use Rattle.cni_result.proofs.Lookups.{text_member, list_member, object_member}
-use Rattle.cni_result.specs.Fields.{needed, optional, list_of, as_it_is}
+use Rattle.cni_result.specs.Fields.{optional, list_of, as_it_is}
 use Rattle.cni_json.specs.Each.{each}
+use Rattle.cni_addr.specs.CidrText.{cidr_of_text}
+use Rattle.cni_addr.specs.Value.{CidrValue}
+use Rattle.cni_result.specs.Reading.{cidr_of}
 use Rattle.cni_result.specs.Members.{text_data, number_data}
 use Rattle.cni_result.specs.Dns.{domain_of, dns_of, words_at, domain_at, dns_members_at}
 use Rattle.cni_result.specs.declared.refusal.ResultError.{ResultError}
 use Rattle.cni_result.specs.declared.result.Dns.{Dns}
 
--- a text that must be there, and is read as x
-pub needed_again : {B : Type 0} (blamed : List ℕ) (read : List ℕ → Option B) (text : List ℕ) (x : B) → read text ≡ Some x → needed blamed read (field_of as_str (Some (text_data text))) ≡ Ok x
-needed_again blamed read text x is = rw is refl
+-- a network that must be there
+pub cidr_again : (blamed : List ℕ) (text : List ℕ) (c : CidrValue) → cidr_of_text text ≡ Some c → cidr_of blamed (field_of as_str (Some (text_data text))) ≡ Ok c
+cidr_again blamed text c is = rw is refl
 
 -- a value that may be absent, printed as a text
 pub optional_again : {B : Type 0} (blamed : List ℕ) (read : List ℕ → Option B) (write : B → List ℕ) (o : Option B) → IfSome o (λ x. read (write x) ≡ Some x) → optional blamed read (field_of as_str (option_map (λ x. text_data (write x)) o)) ≡ Ok o

@@ -1,5 +1,5 @@
 -- Members of an object that is read, each with the key that is to blame where it is wrong.
-use Rattle.std.specs.Prelude.{ℕ, List, Option, Some, None, Result, Ok}
+use Rattle.std.specs.Prelude.{ℕ, List, Option, Some, None, Result, Ok, ok_or}
 use Rattle.serde_json.specs.Data.{Data, Items}
 use Rattle.cni_json.specs.Each.{list_or}
 use Rattle.cni_json.specs.Fields.{list_field, member_or}
@@ -7,21 +7,13 @@ use Rattle.cni_json.specs.Outcome.{◌>>=◌}
 use Rattle.cni_json.specs.declared.fields.Field.{Field}
 use Rattle.cni_result.specs.Refusals.{invalid}
 use Rattle.cni_result.specs.declared.refusal.ResultError.{ResultError}
+use Rattle.cni_result.specs.declared.refusal.ResultError.TheVariants as refusal
 
--- the value that was read, if one was
-abbrev pub read_or : {A : Type 0} → List ℕ → Option A → Result A ResultError
-read_or blamed None = invalid blamed
-read_or blamed (Some x) = Ok x
-
--- the same of a member that is there
+-- the value that was read of a member that is there
 abbrev pub given : {A : Type 0} → List ℕ → Option A → Result (Option A) ResultError
 given blamed found = do
-  x ← read_or blamed found
+  x ← ok_or found (refusal.Invalid blamed)
   Ok (Some x)
-
--- a member that must be there
-abbrev pub needed : {A B : Type 0} → List ℕ → (A → Option B) → Field A → Result B ResultError
-needed blamed read f = member_or (invalid blamed) (invalid blamed) (λ x. read_or blamed (read x)) f
 
 -- a member that may be absent
 abbrev pub optional : {A B : Type 0} → List ℕ → (A → Option B) → Field A → Result (Option B) ResultError

@@ -8,14 +8,14 @@ use Rattle.cni_addr.specs.CidrText.{cidr_of_text}
 use Rattle.cni_addr.specs.MacText.{mac_of_text}
 use Rattle.cni_addr.specs.Value.{AddrValue, CidrValue}
 use Rattle.cni_addr.specs.declared.mac.Mac.{Mac}
-use Rattle.cni_json.specs.Fields.{text_field, u32_field, member_or, object_or}
+use Rattle.cni_json.specs.Fields.{text_field, u32_field, needed, object_or}
 use Rattle.cni_json.specs.Json.{json_of}
 use Rattle.cni_json.specs.Outcome.{◌>>=◌}
 use Rattle.cni_json.specs.declared.fields.Field.{Field}
 use Rattle.cni_json.specs.declared.reading.ReadEnd.{ReadEnd}
 use Rattle.cni_json.specs.declared.reading.ReadEnd.TheVariants as reading
 use Rattle.cni_result.specs.Dns.{dns_of_object}
-use Rattle.cni_result.specs.Fields.{needed, optional, list_at, as_it_is}
+use Rattle.cni_result.specs.Fields.{optional, list_at, as_it_is}
 use Rattle.cni_result.specs.Refusals.{invalid}
 use Rattle.cni_result.specs.Versions.{version_named, tells_mtu}
 use Rattle.cni_result.specs.declared.dns.DnsError.{DnsError}
@@ -36,7 +36,7 @@ known_version text = ok_or (version_named text) (refusal.Version text)
 
 -- the version that `cniVersion` names
 abbrev pub version_of : Field (List ℕ) → Result Version ResultError
-version_of f = member_or (Err (refusal.Version [])) (Err (refusal.Version [])) known_version f
+version_of f = needed (Err (refusal.Version [])) known_version f
 
 unfoldable pub version_at : Data → Result Version ResultError
 version_at d = version_of (text_field (codes "cniVersion") d)
@@ -45,15 +45,18 @@ version_at d = version_of (text_field (codes "cniVersion") d)
 
 -- a text that must be there
 unfoldable pub text_at : List ℕ → List ℕ → Data → Result (List ℕ) ResultError
-text_at blamed key d = needed blamed as_it_is (text_field key d)
+text_at blamed key d = needed (invalid blamed) Ok (text_field key d)
 
 -- a text that may be absent
 unfoldable pub text_if_at : List ℕ → List ℕ → Data → Result (Option (List ℕ)) ResultError
 text_if_at blamed key d = optional blamed as_it_is (text_field key d)
 
+abbrev pub cidr_of : List ℕ → Field (List ℕ) → Result CidrValue ResultError
+cidr_of blamed f = needed (invalid blamed) (λ text. ok_or (cidr_of_text text) (refusal.Invalid blamed)) f
+
 -- a network that must be there
 unfoldable pub cidr_at : List ℕ → List ℕ → Data → Result CidrValue ResultError
-cidr_at blamed key d = needed blamed cidr_of_text (text_field key d)
+cidr_at blamed key d = cidr_of blamed (text_field key d)
 
 -- an address that may be absent
 unfoldable pub addr_if_at : List ℕ → List ℕ → Data → Result (Option AddrValue) ResultError

@@ -56,10 +56,7 @@ pub(crate) fn cidr(
     let Field::Here(text) = field_str(object, key) else {
         return Err(invalid(alloc, blamed));
     };
-    match read_cidr(text.as_bytes()) {
-        Some(cidr) => Ok(cidr),
-        None => Err(invalid(alloc, blamed)),
-    }
+    read_cidr(text.as_bytes()).ok_or_else(|| invalid(alloc, blamed))
 }
 
 /// An address that may be absent.

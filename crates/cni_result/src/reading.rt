@@ -67,10 +67,7 @@ fn version(alloc: Global, top: &Value) -> Result<Version, ResultError>
 {
     match field_str(top, "cniVersion") {
         Field::Absent | Field::WrongKind => Err(version_refused(alloc, "")),
-        Field::Here(found) => match version_named(found) {
-            Some(version) => Ok(version),
-            None => Err(version_refused(alloc, found)),
-        },
+        Field::Here(found) => version_named(found).ok_or_else(|| version_refused(alloc, found)),
     }
 }
 
