@@ -4,7 +4,7 @@ ghost use Rattle.std.specs.Prelude.{◌≡◌, ◌+◌, ◌*◌, ◌^◌, ◌≤
 ghost use Rattle.std.specs.Str.{bytes_eq};
 ghost use Rattle.cni_result.specs.declared.result.AddResult.{AddResult};
 ghost use Rattle.cni_result.specs.declared.result.IpEntry.{IpEntry};
-ghost use Rattle.kernel_types.specs.Names.{digest_of, host_name_of};
+ghost use Rattle.kernel_types.specs.Names.{host_name_of};
 ghost use Rattle.kernel_types.specs.declared.object.Att.{Att};
 ghost use Rattle.plan_words.specs.Rows.{present};
 ghost use Rattle.host_local.specs.Leases.{given_row};
@@ -20,36 +20,21 @@ use cni_addr::{Addr, Text};
 use cni_result::PortMapping;
 use firewall_tuning::{firewall_count, tuning_count};
 use host_local::GivenBySets;
-use kernel_types::digest_of;
+use kernel_types::host_name_bytes;
 use net_conf::{Chained, First, NetList};
 use pod_file::{Command, RawMapping};
 use portmap::MappingRow;
 
 // ---- the ends of a pair
 
-fn digest(command: &Command) -> [u8; 32]
-    ensures { result ≡ digest_of (words.att_of command.now) }
-{
-    digest_of(
-        command.network.as_str(),
-        command.container.as_str(),
-        command.ifname.as_str(),
-    )
-}
-
-fn host_name(command: &Command) -> [u8; 12]
-    ensures { result ≡ host_name_of (words.att_of command.now) }
-{
-    let digest = digest(command);
-    let mut name = *b"veth00000000";
-    let _ = hex::encode_to_slice(&digest[..4], &mut name[4..]);
-    name
-}
-
 fn is_named_as_host_end(command: &Command) -> bool
     ensures { result ≡ bytes_eq command.now.ifname (host_name_of (words.att_of command.now)) }
 {
-    let name = host_name(command);
+    let name = host_name_bytes(
+        command.network.as_str(),
+        command.container.as_str(),
+        command.ifname.as_str(),
+    );
     command.ifname.as_str().as_bytes() == name.as_slice()
 }
 

@@ -3,7 +3,7 @@
 //! Two attachments may derive one host name; the later ADD is then told that the name is taken.
 
 ghost use Rattle.std.specs.Prelude.{◌≡◌, IfOk};
-ghost use Rattle.kernel_types.specs.Names.{digest_of, link_mac_of};
+ghost use Rattle.kernel_types.specs.Names.{digest_of, host_name_of, link_mac_of};
 
 use crate::object::Att;
 use cni_addr::{Mac, NoMemory, Text};
@@ -24,6 +24,17 @@ pub fn digest_of(network: &str, container: &str, ifname: &str) -> [u8; 32]
     hasher.finalize()
 }
 
+/// The name of the host's end of a veth pair, by the three names of its attachment: twelve bytes, so within the
+/// kernel's fifteen. Takes no memory.
+pub fn host_name_bytes(network: &str, container: &str, ifname: &str) -> [u8; 12]
+    ensures { result ≡ host_name_of (record { network = network.now; container = container.now; ifname = ifname.now }) }
+{
+    let digest = digest_of(network, container, ifname);
+    let mut name = *b"veth00000000";
+    let _ = hex::encode_to_slice(&digest[..4], &mut name[4..]);
+    name
+}
+
 impl Att {
     ghost use Rattle.kernel_types.specs.Names.{digest_of, host_name_of, host_mac_of, inner_mac_of};
 
@@ -38,15 +49,19 @@ impl Att {
         )
     }
 
-    /// The name of the host's end of the attachment's veth pair: twelve bytes, so within the kernel's fifteen.
+    /// The name of the host's end of the attachment's veth pair, as by [`host_name_bytes`].
     pub fn host_name(&self, alloc: Global) -> Result<Text, NoMemory>
         ensures { IfOk result (λ name. name ≡ host_name_of self.now) }
     {
-        let digest = self.digest();
-        let digits = hex::encode(alloc, &digest[..4])?;
-        let mut name = String::from_str(alloc, "veth")?;
-        name.push_str(digits.as_str())?;
-        Text::of(alloc, name.as_str())
+        let name = host_name_bytes(
+            self.network.as_str(),
+            self.container.as_str(),
+            self.ifname.as_str(),
+        );
+        match str::from_utf8(&name) {
+            Ok(text) => Text::of(alloc, text),
+            Err(_) => unreachable!(),
+        }
     }
 
     /// The hardware address of the host's end.
