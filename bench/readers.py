@@ -15,11 +15,12 @@ import time
 sys.dont_write_bytecode = True
 sys.path.insert(0, str(pathlib.Path(__file__).resolve().parent.parent / "tests"))
 
-from program import bridge, compact, in_folder, network_list, program_of
+from program import bridge, compact, in_folder, least, network_list, program_of
 
 # the most bytes of a file, and the most commands or range sets in it
 LIMIT = 16_777_216
 MOST = 65_536
+RUNS = 3
 
 
 def pod_file(size):
@@ -36,23 +37,22 @@ def list_of_sets():
     return compact(network_list("many", bridge(ranges=sets))).encode()
 
 
-def least(program, words, folder, runs=3):
-    times, most = [], 0
-    for _ in range(runs):
-        start = time.perf_counter()
-        made = subprocess.Popen([program, *words], cwd=folder, stdout=subprocess.DEVNULL)
-        _, _, used = os.wait4(made.pid, 0)
-        times.append(time.perf_counter() - start)
-        most = max(most, used.ru_maxrss * 1024)
-    return min(times), most
+def measured(program, words, folder):
+    """The seconds of one run, and the most bytes of memory that it takes."""
+    start = time.perf_counter()
+    made = subprocess.Popen([program, *words], cwd=folder, stdout=subprocess.DEVNULL)
+    _, _, used = os.wait4(made.pid, 0)
+    return time.perf_counter() - start, used.ru_maxrss * 1024
 
 
 def row(name, program, before, file, whole):
     """Times the file behind the files before it, as it is and in brackets."""
+    words = [*before, file]
     with in_folder({**before, file: b"[" + whole[: LIMIT - 2] + b"]"}) as folder:
-        alone, _ = least(program, [*before, file], folder)
+        alone = least(RUNS, lambda: measured(program, words, folder)[0])
     with in_folder({**before, file: whole}) as folder:
-        read, most = least(program, [*before, file], folder)
+        read = least(RUNS, lambda: measured(program, words, folder)[0])
+        _, most = measured(program, words, folder)
     print(
         f"{name:13} {len(whole):9} bytes {read:8.3f} s: x{read / alone:.2f} of reading the JSON alone, "
         f"peak memory x{most / len(whole):.1f} of the file",

@@ -21,7 +21,7 @@ import sys
 sys.dont_write_bytecode = True
 sys.path.insert(0, str(pathlib.Path(__file__).resolve().parent.parent / "tests"))
 
-from program import LIMIT, bridge, in_folder, network_list, program_of, run
+from program import LIMIT, bridge, in_folder, least, network_list, program_of, run
 
 RUNS = 25
 NET = network_list("pods", bridge(subnet="10.0.0.0/8"))
@@ -47,26 +47,27 @@ def used():
     return children.ru_utime + children.ru_stime
 
 
-def seconds(program, pods):
-    """The least time of the runs, fewer where they take long; none where one isn't over in time."""
-    times = []
+def seconds(program, words, folder):
+    """The processor's time for one run; none where it isn't over in time."""
+    start = used()
+    try:
+        run(program, words, folder, subprocess.DEVNULL)
+    except subprocess.TimeoutExpired:
+        return None
+    return used() - start
+
+
+def least_of(program, pods):
     files = {"pods.json": pods, "net.json": NET}
     with in_folder(files) as folder:
-        while len(times) < RUNS and sum(times) < LIMIT / 8:
-            start = used()
-            try:
-                run(program, files, folder, subprocess.DEVNULL)
-            except subprocess.TimeoutExpired:
-                return None
-            times.append(used() - start)
-    return min(times)
+        return least(RUNS, lambda: seconds(program, files, folder))
 
 
 def timed(program, kind, count):
     whole, without = files(kind, count)
-    most = seconds(program, whole)
-    least = None if most is None else seconds(program, without)
-    return None if least is None else most - least
+    most = least_of(program, whole)
+    rest = None if most is None else least_of(program, without)
+    return None if rest is None else most - rest
 
 
 def main():

@@ -42,6 +42,17 @@ def run(program, words, folder, stdout=subprocess.PIPE):
     return subprocess.run([program, *words], cwd=folder, stdout=stdout, check=False, timeout=LIMIT)
 
 
+def least(runs, seconds):
+    """The least of the seconds that so many runs give, fewer where they take long; none where one isn't over in time."""
+    times = []
+    while len(times) < runs and sum(times) < LIMIT / 8:
+        taken = seconds()
+        if taken is None:
+            return None
+        times.append(taken)
+    return min(times)
+
+
 def count_failed(found):
     """Prints what is other than expected, each text behind the name that it is found of, and counts the names that have one."""
     failed = 0

@@ -18,7 +18,7 @@ sys.dont_write_bytecode = True
 
 import examples
 import index
-from index import TOP
+from program import TOP
 
 CRATES = {it.name: it for it in (TOP / "crates").iterdir() if (it / "src").is_dir()}
 SUFFIXES = (".antt", ".rt", ".md", ".json", ".py", ".txt", ".edit")

@@ -11,7 +11,11 @@ import pathlib
 import re
 import sys
 
-TOP = pathlib.Path(__file__).resolve().parent.parent.parent
+sys.dont_write_bytecode = True
+sys.path.insert(0, str(pathlib.Path(__file__).resolve().parent.parent))
+
+from program import TOP
+
 INDEX = TOP / "docs" / "INDEX.md"
 DEFINITION = re.compile(r"^(?:(?:abbrev|unfoldable) pub|pub (?:record|data)) (\S+)", re.MULTILINE)
 ITEM = re.compile(r"^ *pub (?:fn|struct|enum|trait|const) (\w+)", re.MULTILINE)
