@@ -36,6 +36,6 @@ only_asks verbs.Status = true
 only_asks verbs.Version = true
 only_asks verb = false
 
--- each entry of a CHECK or a STATUS leaves the whole host
+-- each entry of a CHECK, a STATUS or a VERSION leaves the whole host
 abbrev pub EachQuestionLeavesTheHost : Type 0
 EachQuestionLeavesTheHost = EachEntry (ByVerb (λ v. only_asks v ≡ true) (λ c old new. new ≡ old))

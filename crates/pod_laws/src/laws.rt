@@ -128,8 +128,8 @@ pub fn each_link_is_wanted()
     ensures { EachLinkIsWanted }
 {}
 
-/// Each entry of an ADD, a DEL, a CHECK or a STATUS leaves the objects of every other attachment as they are, list by
-/// list.
+/// Each entry of an ADD, a DEL, a CHECK, a STATUS or a VERSION leaves the objects of every other attachment as they are,
+/// list by list.
 pub fn each_entry_leaves_others()
     ensures { EachEntryLeavesOthers }
 {}
@@ -193,7 +193,7 @@ pub fn each_change_is_answered_by_its_reply()
 
 // ---- CHECK and STATUS
 
-/// Each entry of a CHECK or a STATUS leaves the host as it is.
+/// Each entry of a CHECK, a STATUS or a VERSION leaves the host as it is.
 pub fn each_question_leaves_the_host()
     ensures { EachQuestionLeavesTheHost }
 {}
