@@ -1,7 +1,7 @@
 -- The keys of what `bridge` makes after the leases.
-use Rattle.std.proofs.Common.{◌≡◌, ℕ, ◌+◌, ◌-◌, ◌<◌, Bool, true, false, cond, List, [], ◌∷◌, ◌++◌, map, length, Option, Some, None, refl, sym, ◌∙◌, ap, arith}
-use Rattle.std.specs.Prelude.{slice_get, option_map, option_to_list, if◌then◌else◌}
-use Rattle.std.proofs.lemmas.List.{length-append, length-map, map-append, append-nil}
+use Rattle.std.proofs.Common.{◌≡◌, ℕ, ◌+◌, ◌-◌, ◌<◌, Bool, true, false, not, cond, List, [], ◌∷◌, ◌++◌, map, length, Option, Some, None, refl, sym, ◌∙◌, ap, arith}
+use Rattle.std.specs.Prelude.{◌&&◌, slice_get, option_map, option_to_list, if◌then◌else◌}
+use Rattle.std.proofs.lemmas.List.{length-append, length-map, map-append}
 use Rattle.std.proofs.lemmas.Option.{slice_get-map, slice_get_read}
 use Rattle.cni_addr.specs.declared.address.Cidr.{Cidr}
 use Rattle.cni_addr.specs.declared.address.Family.{Family}
@@ -14,7 +14,7 @@ use Rattle.plan_words.specs.Rows.{present}
 use Rattle.plan_words.specs.Shapes.{default_route}
 use Rattle.plan_words.proofs.RowLemmas.{slice_get-before, slice_get-behind, present-append, present-keys}
 use Rattle.host_local.specs.Results.{ip_of}
-use Rattle.bridge_ptp.specs.Results.{has_destination, default_unless_there, missing_default, added_default, bridge_routes}
+use Rattle.bridge_ptp.specs.Results.{has_destination, added_default, bridge_routes}
 
 -- ---- the default routes
 
@@ -27,20 +27,20 @@ pub find-ips : (family : Family) (given : List Given) → first_of_family family
 find-ips family [] = refl
 find-ips family (g ∷ gs) = find-step (is_of_family family g.address) g (first_given family gs) (first_of_family family (map ip_of gs)) (find-ips family gs)
 
-by-there : (b : Bool) (r : RouteEntry) → map (λ x. x.dst) (if b then [] else r ∷ []) ≡ (if b then [] else r.dst ∷ [])
-by-there true r = refl
-by-there false r = refl
+by-added : (b : Bool) (r : RouteEntry) → map (λ x. x.dst) (if b then r ∷ [] else []) ≡ (if b then r.dst ∷ [] else [])
+by-added true r = refl
+by-added false r = refl
 
-pub default-found : (family : Family) (configured : List RouteEntry) (given : List Given) (g : Given) (keys : List Cidr) → first_given family given ≡ Some g
-    → keys ≡ (if has_destination configured (default_route g.address.addr.family) then [] else default_route g.address.addr.family ∷ [])
-    → keys ≡ map (λ r. r.dst) (missing_default family configured (map ip_of given))
-default-found family configured given g keys at is =
+pub default-found : (b : Bool) (family : Family) (configured : List RouteEntry) (given : List Given) (g : Given) (keys : List Cidr) → first_given family given ≡ Some g
+    → keys ≡ (if b && not (has_destination configured (default_route g.address.addr.family)) then default_route g.address.addr.family ∷ [] else [])
+    → keys ≡ map (λ r. r.dst) (added_default b configured (first_of_family family (map ip_of given)))
+default-found b family configured given g keys at is =
     is
-    ∙ sym (by-there (has_destination configured (default_route g.address.addr.family)) (record { dst = default_route g.address.addr.family; gw = Some g.gateway }))
-    ∙ sym (ap (λ o. map (λ r. r.dst) (default_unless_there configured o)) (find-ips family given ∙ ap (option_map ip_of) at))
+    ∙ sym (by-added (b && not (has_destination configured (default_route g.address.addr.family))) (record { dst = default_route g.address.addr.family; gw = Some g.gateway }))
+    ∙ sym (ap (λ o. map (λ r. r.dst) (added_default b configured o)) (find-ips family given ∙ ap (option_map ip_of) at))
 
-pub default-none : (family : Family) (configured : List RouteEntry) (given : List Given) → first_given family given ≡ None → [] ≡ map (λ r. r.dst) (missing_default family configured (map ip_of given))
-default-none family configured given at = sym (ap (λ o. map (λ r. r.dst) (default_unless_there configured o)) (find-ips family given ∙ ap (option_map ip_of) at))
+pub default-none : (b : Bool) (family : Family) (configured : List RouteEntry) (given : List Given) → first_given family given ≡ None → [] ≡ map (λ r. r.dst) (added_default b configured (first_of_family family (map ip_of given)))
+default-none b family configured given at = sym (ap (λ o. map (λ r. r.dst) (added_default b configured o)) (find-ips family given ∙ ap (option_map ip_of) at))
 
 pub ruleset default_steps = (default-found, default-none)
 
@@ -50,21 +50,17 @@ present-two None (Some y) = refl
 present-two (Some x) None = refl
 present-two (Some x) (Some y) = refl
 
-bridge_routes-added : (b : Bool) (configured : List RouteEntry) (ips : List IpEntry) → bridge_routes b configured ips ≡ configured ++ (added_default b V4 configured ips ++ added_default b V6 configured ips)
-bridge_routes-added true configured ips = refl
-bridge_routes-added false configured ips = sym (append-nil configured)
-
 -- the keys are the destinations
-pub present-routes : (b : Bool) (configured : List RouteEntry) (ips : List IpEntry) (v4 v6 : Option Cidr) → option_to_list v4 ≡ map (λ r. r.dst) (added_default b V4 configured ips) → option_to_list v6 ≡ map (λ r. r.dst) (added_default b V6 configured ips)
+pub present-routes : (b : Bool) (configured : List RouteEntry) (ips : List IpEntry) (v4 v6 : Option Cidr)
+    → option_to_list v4 ≡ map (λ r. r.dst) (added_default b configured (first_of_family V4 ips)) → option_to_list v6 ≡ map (λ r. r.dst) (added_default b configured (first_of_family V6 ips))
     → present (map (λ r. Some r.dst) configured ++ v4 ∷ v6 ∷ []) ≡ map (λ r. r.dst) (bridge_routes b configured ips)
 present-routes b configured ips v4 v6 is4 is6 =
-    let a4 = added_default b V4 configured ips in
-    let a6 = added_default b V6 configured ips in
+    let a4 = added_default b configured (first_of_family V4 ips) in
+    let a6 = added_default b configured (first_of_family V6 ips) in
     present-append (map (λ r. Some r.dst) configured) (v4 ∷ v6 ∷ [])
     ∙ ap (λ l. l ++ present (v4 ∷ v6 ∷ [])) (present-keys (λ (r : RouteEntry). r.dst) configured)
     ∙ ap (λ l. map (λ (r : RouteEntry). r.dst) configured ++ l) (present-two v4 v6 ∙ ap (λ l. l ++ option_to_list v6) is4 ∙ ap (λ l. map (λ (r : RouteEntry). r.dst) a4 ++ l) is6 ∙ sym (map-append (λ (r : RouteEntry). r.dst) a4 a6))
     ∙ sym (map-append (λ (r : RouteEntry). r.dst) configured (a4 ++ a6))
-    ∙ sym (ap (map (λ (r : RouteEntry). r.dst)) (bridge_routes-added b configured ips))
 
 -- ---- places
 

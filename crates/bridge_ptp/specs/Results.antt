@@ -1,9 +1,8 @@
 -- What `bridge` and `ptp` answer (CNI specification, section 5, ADD Success).
-use Rattle.std.specs.Prelude.{ℕ, Bool, List, [], ◌∷◌, ◌++◌, map, Option, Some, None, if◌then◌else◌}
+use Rattle.std.specs.Prelude.{ℕ, Bool, not, ◌&&◌, List, [], ◌∷◌, ◌++◌, map, Option, Some, None, if◌then◌else◌}
 use Rattle.std.specs.List.{list_any}
 use Rattle.cni_addr.specs.Equal.{cidr_eq}
 use Rattle.cni_addr.specs.declared.address.Cidr.{Cidr}
-use Rattle.cni_addr.specs.declared.address.Family.{Family}
 use Rattle.cni_addr.specs.declared.address.Family.TheVariants.{V4, V6}
 use Rattle.cni_result.specs.Versions.{mtu_since_1_1}
 use Rattle.cni_result.specs.declared.version.Version.{Version}
@@ -44,25 +43,19 @@ at_interface index ip = record { address = ip.address; gateway = ip.gateway; int
 abbrev pub has_destination : List RouteEntry → Cidr → Bool
 has_destination routes dst = list_any (λ r. cidr_eq r.dst dst) routes
 
-abbrev pub default_unless_there : List RouteEntry → Option IpEntry → List RouteEntry
-default_unless_there routes None = []
-default_unless_there routes (Some ip) =
-    if has_destination routes (default_route ip.address.addr.family)
-    then []
-    else record { dst = default_route ip.address.addr.family; gw = ip.gateway } ∷ []
+-- what `isDefaultGateway` adds where this is a family's first address: the default route by its gateway, unless one is
+-- configured
+abbrev pub added_default : Bool → List RouteEntry → Option IpEntry → List RouteEntry
+added_default is_default_gateway routes None = []
+added_default is_default_gateway routes (Some ip) =
+    if is_default_gateway && not (has_destination routes (default_route ip.address.addr.family))
+    then record { dst = default_route ip.address.addr.family; gw = ip.gateway } ∷ []
+    else []
 
--- the default route by the gateway of the family's first address, unless one is configured
-abbrev pub missing_default : Family → List RouteEntry → List IpEntry → List RouteEntry
-missing_default family routes ips = default_unless_there routes (first_of_family family ips)
-
--- what `isDefaultGateway` adds for a family
-abbrev pub added_default : Bool → Family → List RouteEntry → List IpEntry → List RouteEntry
-added_default is_default_gateway family routes ips = if is_default_gateway then missing_default family routes ips else []
-
--- `isDefaultGateway` adds the default routes at the end, IPv4 first
+-- the default routes at the end, IPv4 first
 abbrev pub bridge_routes : Bool → List RouteEntry → List IpEntry → List RouteEntry
 bridge_routes is_default_gateway routes ips =
-    if is_default_gateway then routes ++ (missing_default V4 routes ips ++ missing_default V6 routes ips) else routes
+    routes ++ (added_default is_default_gateway routes (first_of_family V4 ips) ++ added_default is_default_gateway routes (first_of_family V6 ips))
 
 -- ---- the results
 

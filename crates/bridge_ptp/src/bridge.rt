@@ -1,6 +1,7 @@
 //! The `bridge` plugin.
 
-ghost use Rattle.std.specs.Prelude.{◌≡◌, ◌++◌, ◌∷◌, [], option_to_list, Some, IfOk, OnOk, if◌then◌else◌};
+ghost use Rattle.std.specs.Prelude.{◌≡◌, ◌++◌, ◌∷◌, [], not, ◌&&◌, option_to_list, Some, IfOk, OnOk, if◌then◌else◌};
+ghost use Rattle.plan_words.specs.Families.{first_of_family};
 ghost use Rattle.plan_words.specs.Shapes as shapes;
 ghost use Rattle.bridge_ptp.specs.Bridge as plan;
 ghost use Rattle.bridge_ptp.specs.Gateways as gateways;
@@ -51,52 +52,52 @@ fn has_destination(entries: &[RouteEntry], dst: &Cidr) -> bool
     entries.iter().any(|r| r.dst == *dst)
 }
 
-/// The default route of the address's family, unless one is configured.
-pub(crate) fn missing_default_route(configured: &[RouteEntry], addr: &Addr) -> Option<Cidr>
-    ensures { let dst = shapes.default_route addr.now.family in option_to_list result ≡ (if results.has_destination configured.now dst then [] else dst ∷ []) }
+/// The default route of the address's family, where `isDefaultGateway` adds it: unless one is configured.
+pub(crate) fn added_default(
+    is_default_gateway: bool,
+    configured: &[RouteEntry],
+    addr: &Addr,
+) -> Option<Cidr>
+    ensures { let dst = shapes.default_route addr.now.family in option_to_list result ≡ (if is_default_gateway && not (results.has_destination configured.now dst) then dst ∷ [] else []) }
 {
     let dst = default_route(addr.family);
-    if has_destination(configured, &dst) {
-        None
-    } else {
+    if is_default_gateway && !has_destination(configured, &dst) {
         Some(dst)
+    } else {
+        None
     }
 }
 
-fn push_route(entries: &mut Items<RouteEntry>, dst: Cidr, ip: &IpEntry) -> Result<(), NoMemory>
-    ensures { OnOk result (entries.new ≡ entries.old ++ record { dst = dst; gw = ip.now.gateway } ∷ []) }
-{
-    entries.push(RouteEntry {
-        dst,
-        gw: ip.gateway,
-    })
-}
-
-/// Puts the default route by the address's gateway at the end, unless one is configured.
+/// Puts the default route by the address's gateway at the end, where `isDefaultGateway` adds it.
 fn push_default_by(
     entries: &mut Items<RouteEntry>,
+    is_default_gateway: bool,
     configured: &[RouteEntry],
     ip: &IpEntry,
 ) -> Result<(), NoMemory>
-    ensures { OnOk result (entries.new ≡ entries.old ++ results.default_unless_there configured.now (Some ip.now)) }
+    ensures { OnOk result (entries.new ≡ entries.old ++ results.added_default is_default_gateway configured.now (Some ip.now)) }
 {
-    match missing_default_route(configured, &ip.address.addr) {
-        Some(dst) => push_route(entries, dst, ip),
+    match added_default(is_default_gateway, configured, &ip.address.addr) {
+        Some(dst) => entries.push(RouteEntry {
+            dst,
+            gw: ip.gateway,
+        }),
         None => Ok(()),
     }
 }
 
-/// Puts the family's default route at the end, unless one is configured.
+/// Puts the family's default route at the end, where `isDefaultGateway` adds it.
 fn push_default(
     entries: &mut Items<RouteEntry>,
+    is_default_gateway: bool,
     configured: &[RouteEntry],
     family: Family,
     ips: &[IpEntry],
 ) -> Result<(), NoMemory>
-    ensures { OnOk result (entries.new ≡ entries.old ++ results.missing_default family configured.now ips.now) }
+    ensures { OnOk result (entries.new ≡ entries.old ++ results.added_default is_default_gateway configured.now (first_of_family family ips.now)) }
 {
     match first_of_family(ips, family) {
-        Some(ip) => push_default_by(entries, configured, ip),
+        Some(ip) => push_default_by(entries, is_default_gateway, configured, ip),
         None => Ok(()),
     }
 }
@@ -111,10 +112,20 @@ fn result_routes(
     ensures { IfOk result (λ entries. entries ≡ results.bridge_routes is_default_gateway configured.now ips.now) }
 {
     let mut entries = copies(alloc, configured)?;
-    if is_default_gateway {
-        push_default(&mut entries, configured, Family::V4, ips)?;
-        push_default(&mut entries, configured, Family::V6, ips)?;
-    }
+    push_default(
+        &mut entries,
+        is_default_gateway,
+        configured,
+        Family::V4,
+        ips,
+    )?;
+    push_default(
+        &mut entries,
+        is_default_gateway,
+        configured,
+        Family::V6,
+        ips,
+    )?;
     Ok(entries)
 }
 

@@ -3,13 +3,14 @@
 ghost use Rattle.std.specs.Prelude.{◌≡◌, ◌+◌, ◌*◌, ◌≤◌, ℕ, List, map, length, option_to_list};
 ghost use Rattle.kernel_types.specs.declared.object.Att.{Att};
 ghost use Rattle.kernel_types.specs.declared.call.Given.{Given};
+ghost use Rattle.plan_words.specs.Families.{first_of_family};
 ghost use Rattle.plan_words.specs.Rows.{present};
 ghost use Rattle.plan_words.specs.Shapes as shapes;
 ghost use Rattle.host_local.specs.Results.{ip_of};
 ghost use Rattle.bridge_ptp.specs.Bridge as plan;
 ghost use Rattle.bridge_ptp.specs.Results as results;
 
-use crate::bridge::missing_default_route;
+use crate::bridge::added_default;
 use cni_addr::{Addr, Cidr, Family};
 use cni_result::RouteEntry;
 use host_local::routes_of;
@@ -21,17 +22,18 @@ use plan_words::{
 
 // ---- routes
 
-/// The default route of the family that is added to the configured ones, if one is.
+/// The family's default route, where `isDefaultGateway` adds it.
 #[tactic(auto, using(crate::proofs::CountLemmas::default_steps))]
-fn missing_default<G: GivenRow>(
+fn default_of_family<G: GivenRow>(
+    is_default_gateway: bool,
     configured: &[RouteEntry],
     family: Family,
     given: &G,
 ) -> Option<Cidr>
-    ensures { option_to_list result ≡ map (λ r. r.dst) (results.missing_default family configured.now (map ip_of (present (G.values given.now)))) }
+    ensures { option_to_list result ≡ map (λ r. r.dst) (results.added_default is_default_gateway configured.now (first_of_family family (map ip_of (present (G.values given.now))))) }
 {
     match first_given(given, family) {
-        Some(g) => missing_default_route(configured, &g.address.addr),
+        Some(g) => added_default(is_default_gateway, configured, &g.address.addr),
         None => None,
     }
 }
@@ -66,21 +68,6 @@ impl<'a> Row<Cidr> for RouteKeys<'a> {
     }
 }
 
-fn added_default<G: GivenRow>(
-    is_default_gateway: bool,
-    configured: &[RouteEntry],
-    family: Family,
-    given: &G,
-) -> Option<Cidr>
-    ensures { option_to_list result ≡ map (λ r. r.dst) (results.added_default is_default_gateway family configured.now (map ip_of (present (G.values given.now)))) }
-{
-    if is_default_gateway {
-        missing_default(configured, family, given)
-    } else {
-        None
-    }
-}
-
 fn count_routes<G: GivenRow>(
     is_default_gateway: bool,
     configured: &[RouteEntry],
@@ -90,8 +77,8 @@ fn count_routes<G: GivenRow>(
         → result ≡ length (shapes.routes_on att netns all (results.bridge_routes is_default_gateway configured.now (map ip_of (present (G.values given.now))))) }
     ensures most { result ≤ length configured.now + 2 }
 {
-    let v4 = added_default(is_default_gateway, configured, Family::V4, given);
-    let v6 = added_default(is_default_gateway, configured, Family::V6, given);
+    let v4 = default_of_family(is_default_gateway, configured, Family::V4, given);
+    let v6 = default_of_family(is_default_gateway, configured, Family::V6, given);
     count_keys(&RouteKeys { configured, v4, v6 })
 }
 

@@ -17,7 +17,7 @@ use Rattle.cni_result.specs.declared.result.RouteEntry.{RouteEntry}
 use Rattle.bridge_ptp.specs.Bridge.{gateway_calls, gateway_on, gateways}
 use Rattle.bridge_ptp.specs.Ptp as ptp
 use Rattle.bridge_ptp.specs.declared.ptp.AddressOrRoute.TheVariants.{Route}
-use Rattle.bridge_ptp.specs.Results.{at_interface, bridge_routes, default_unless_there, missing_default}
+use Rattle.bridge_ptp.specs.Results.{added_default, at_interface, bridge_routes}
 use Rattle.firewall_tuning.specs.Firewall.{forward_of}
 use Rattle.firewall_tuning.specs.Tuning.{link_set_calls, setting_of, sets_any, tuning_settings}
 use Rattle.host_local.specs.Conf.{ipam_of, routes_of}
@@ -112,25 +112,21 @@ length-forward gs =
     let c = length-append (forward_for families.V4 gs) (forward_for families.V6 gs) in
     omega arith
 
-length-unless : {X : Type 0} (b : Bool) (x : X) → length (if b then [] else x ∷ []) ≤ 1
-length-unless true x = omega arith
-length-unless false x = omega arith
+length-one : {X : Type 0} (b : Bool) (x : X) → length (if b then x ∷ [] else []) ≤ 1
+length-one true x = omega arith
+length-one false x = omega arith
 
-length-default : (routes : List RouteEntry) (o : Option IpEntry) → length (default_unless_there routes o) ≤ 1
-length-default routes None = omega arith
-length-default routes (Some ip) = length-unless _ _
-
-length-by : {X : Type 0} (b : Bool) (xs ys : List X) (most : ℕ) → length xs ≤ most → length ys ≤ most → length (if b then xs else ys) ≤ most
-length-by true xs ys most h g = h
-length-by false xs ys most h g = g
+length-added : (b : Bool) (routes : List RouteEntry) (o : Option IpEntry) → length (added_default b routes o) ≤ 1
+length-added b routes None = omega arith
+length-added b routes (Some ip) = length-one _ _
 
 length-bridge_routes : (b : Bool) (routes : List RouteEntry) (ips : List IpEntry) → length (bridge_routes b routes ips) ≤ length routes + 2
 length-bridge_routes b routes ips =
-    let v4 = length-default routes (first_of_family families.V4 ips) in
-    let v6 = length-default routes (first_of_family families.V6 ips) in
-    let both = length-append (missing_default families.V4 routes ips) (missing_default families.V6 routes ips) in
-    let all = length-append routes (missing_default families.V4 routes ips ++ missing_default families.V6 routes ips) in
-    length-by b (routes ++ (missing_default families.V4 routes ips ++ missing_default families.V6 routes ips)) routes (length routes + 2) (omega arith) (omega arith)
+    let v4 = length-added b routes (first_of_family families.V4 ips) in
+    let v6 = length-added b routes (first_of_family families.V6 ips) in
+    let both = length-append (added_default b routes (first_of_family families.V4 ips)) (added_default b routes (first_of_family families.V6 ips)) in
+    let all = length-append routes (added_default b routes (first_of_family families.V4 ips) ++ added_default b routes (first_of_family families.V6 ips)) in
+    omega arith
 
 length-gateways : (conf : _) (gs : List Given) → length (gateway_calls conf gs) ≤ length gs + 2
 length-gateways conf gs =

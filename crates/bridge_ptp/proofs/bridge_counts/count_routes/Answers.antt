@@ -14,5 +14,5 @@ pub returns-clause-count : goal.returns-clause-count
 returns-clause-count g c = λ att netns all.
     let ips = map ip_of (present (g.G.GivenRow.values c.args.given.now)) in
     count-keys (λ (r : RouteEntry). r.dst) (route_on att netns all) _ is_same_route (bridge_routes c.args.is_default_gateway c.args.configured.now ips) _ c.count_keys.result c.count_keys.ensures.count
-    (present-routes c.args.is_default_gateway c.args.configured.now ips c.added_default-v4.result c.added_default-v6.result c.added_default-v4.ensures c.added_default-v6.ensures)
+    (present-routes c.args.is_default_gateway c.args.configured.now ips c.default_of_family-v4.result c.default_of_family-v6.result c.default_of_family-v4.ensures c.default_of_family-v6.ensures)
     (same-route att netns all)
