@@ -8,12 +8,15 @@ use Rattle.cni_addr.specs.declared.address.Family.{Family}
 use Rattle.cni_addr.specs.declared.address.Family.TheVariants.{V4, V6}
 use Rattle.cni_result.specs.declared.result.IpEntry.{IpEntry}
 use Rattle.cni_result.specs.declared.result.RouteEntry.{RouteEntry}
+use Rattle.net_conf.specs.declared.first.BridgeConf.{BridgeConf}
 use Rattle.kernel_types.specs.declared.call.Given.{Given}
 use Rattle.plan_words.specs.Families.{is_of_family, first_given, first_of_family}
 use Rattle.plan_words.specs.Rows.{present}
-use Rattle.plan_words.specs.Shapes.{default_route}
+use Rattle.plan_words.specs.Shapes.{default_route, forward_calls}
 use Rattle.plan_words.proofs.RowLemmas.{slice_get-before, slice_get-behind, present-append, present-keys}
 use Rattle.host_local.specs.Results.{ip_of}
+use Rattle.bridge_ptp.specs.Bridge.{gateway_calls}
+use Rattle.bridge_ptp.specs.Gateways.{gateway_call, gateways_on}
 use Rattle.bridge_ptp.specs.Results.{has_destination, added_default, bridge_routes}
 
 -- ---- the default routes
@@ -61,6 +64,16 @@ present-routes b configured ips v4 v6 is4 is6 =
     ∙ ap (λ l. l ++ present (v4 ∷ v6 ∷ [])) (present-keys (λ (r : RouteEntry). r.dst) configured)
     ∙ ap (λ l. map (λ (r : RouteEntry). r.dst) configured ++ l) (present-two v4 v6 ∙ ap (λ l. l ++ option_to_list v6) is4 ∙ ap (λ l. map (λ (r : RouteEntry). r.dst) a4 ++ l) is6 ∙ sym (map-append (λ (r : RouteEntry). r.dst) a4 a6))
     ∙ sym (map-append (λ (r : RouteEntry). r.dst) configured (a4 ++ a6))
+
+-- ---- the gateways
+
+pub gateway_calls_counted : (conf : BridgeConf) (given : List Given) (n m : ℕ) → ((bridge : List ℕ) → n ≡ length (gateways_on bridge given)) → m ≡ length (forward_calls given) → conf.is_gateway ≡ true
+    → n + m ≡ length (gateway_calls conf given)
+gateway_calls_counted conf given n m counted forward is =
+    let asked = map gateway_call (gateways_on conf.bridge given) in
+    let all : n + m ≡ length (asked ++ forward_calls given) =
+    omega (arith, length-append asked (forward_calls given), length-map (gateways_on conf.bridge given) gateway_call, counted conf.bridge, forward) in
+    all ∙ ap (λ b. length (if b then asked ++ forward_calls given else [])) (sym is)
 
 -- ---- places
 

@@ -1,4 +1,3 @@
 pub mod CountLemmas
-pub mod GatewayLemmas
 pub mod PtpLemmas
 pub mod Shares

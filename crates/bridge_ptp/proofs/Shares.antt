@@ -3,22 +3,26 @@ use Rattle.std.proofs.Common.{◌≡◌, ℕ, Bool, true, false, ap, List, [], �
 use Rattle.std.proofs.lemmas.List.{append-nil}
 use Rattle.std.specs.Prelude.{filter_map, flat_map}
 use Rattle.std.specs.List.{list_all}
+use Rattle.std.specs.Str.{bytes_eq}
+use Rattle.std.specs.Cmp.Lexicographic.{nat_list_eq_equiv}
 use Rattle.net_conf.specs.declared.first.BridgeConf.{BridgeConf}
 use Rattle.net_conf.specs.declared.first.PtpConf.{PtpConf}
 use Rattle.kernel_types.specs.Words.{is_own}
 use Rattle.kernel_types.proofs.Cases.{att_eq-refl}
 use Rattle.kernel_types.specs.declared.object.Att.{Att}
-use Rattle.kernel_types.specs.declared.call.Call.TheVariants.{GatewayEnsure, AddrAdd, RouteAdd, RuleAppend}
+use Rattle.kernel_types.specs.declared.call.Call.TheVariants.{AddrAdd, RouteAdd, RuleAppend}
 use Rattle.kernel_types.specs.declared.call.Given.{Given}
 use Rattle.plan_words.specs.PlanCalls.{is_plan_call_of, AppendsShare}
 use Rattle.plan_words.specs.Shapes.{host_end, inner_end, route_on, addresses_on, routes_on, masquerade_rules, forward_calls}
 use Rattle.plan_words.specs.Share.{Share, share_after_call, share_after_calls}
 use Rattle.plan_words.proofs.Appends.{AreOwnCalls, own-calls, own-append, own-if, own-each, own-address_calls, own-route_calls, own-rule_calls, own-forward_calls, own-addresses, own-routes, own-masquerades, share-laid_on, appends-share}
-use Rattle.plan_words.proofs.CallLists.{share_after_calls-append, share_after_calls-gateways, share_after_calls-forward, share_after_calls-if, share_after_calls-rules, share_plus-links, share_plus-laid_on}
+use Rattle.plan_words.proofs.CallLists.{share_after_calls-append, share_after_calls-forward, share_after_calls-if, share_after_calls-rules, share_plus-links, share_plus-laid_on}
 use Rattle.plan_words.proofs.KeyLists.{list_all-append, list_all-every, list_all-map, list_all-flat, list_all-each_key_once}
 use Rattle.host_local.specs.Conf.{routes_of}
 use Rattle.host_local.specs.Results.{ip_of}
-use Rattle.bridge_ptp.specs.Bridge.{bridge_share_before, bridge_share_after, gateways, gateway_calls, bridge_calls_before, bridge_calls_after}
+use Rattle.bridge_ptp.specs.Bridge.{bridge_share_before, bridge_share_after, gateway_calls, bridge_calls_before, bridge_calls_after}
+use Rattle.bridge_ptp.specs.declared.bridge.Gateway.{Gateway}
+use Rattle.bridge_ptp.specs.Gateways.{gateway_call, gateway_of, gateways_on, is_same_gateway}
 use Rattle.bridge_ptp.specs.Ptp.{AddressOrRoute, Address, Route, same_key, address_in, route_in, call_for, ptp_objects_for, ptp_objects, ptp_share_before, ptp_share_after, ptp_calls_before, ptp_calls_after}
 use Rattle.bridge_ptp.specs.Results.{bridge_routes}
 
@@ -33,7 +37,7 @@ bridge-appends_before conf att netns =
     (λ s. sym (share_plus-links s (host_end att netns _ conf.mtu conf.hairpin ∷ inner_end att netns conf.mtu ∷ [])))
 
 own-gateway_calls : (att : Att) (conf : BridgeConf) (given : List Given) → AreOwnCalls att (gateway_calls conf given)
-own-gateway_calls att conf given = own-if conf.is_gateway (own-append (own-each att (GatewayEnsure conf.bridge) (λ g. refl) (gateways given)) (own-forward_calls att given))
+own-gateway_calls att conf given = own-if conf.is_gateway (own-append (own-each att gateway_call (λ g. refl) (gateways_on conf.bridge given)) (own-forward_calls att given))
 
 pub own-bridge_after : (conf : BridgeConf) (att : Att) (netns : List ℕ) (given : List Given) → AreOwnCalls att (bridge_calls_after conf att netns given)
 own-bridge_after conf att netns given =
@@ -42,11 +46,22 @@ own-bridge_after conf att netns given =
     (own-append (own-route_calls att _ (own-routes att netns given entries))
     (own-append (own-gateway_calls att conf given) (own-rule_calls att _ (own-masquerades conf.ip_masq att given))))
 
+-- each gateway is one of its bridge
+pub gateways-of_bridge : (bridge : List ℕ) (given : List Given) → list_all (λ (g : Gateway). bytes_eq g.bridge bridge) (gateways_on bridge given) ≡ true
+gateways-of_bridge bridge given =
+    list_all-each_key_once (λ (g : Gateway). bytes_eq g.bridge bridge) is_same_gateway (map (gateway_of bridge) given)
+    (list_all-every (λ (g : Gateway). bytes_eq g.bridge bridge) (gateway_of bridge) (λ g. nat_list_eq_equiv.refl bridge) given)
+
+share-asked : (s : Share) (xs : List Gateway) → share_after_calls s (map gateway_call xs) ≡ s
+share-asked s [] = refl
+share-asked s (x ∷ xs) = share-asked s xs
+
 share-gateways : (conf : BridgeConf) (given : List Given) (s : Share) → share_after_calls s (gateway_calls conf given) ≡ s
 share-gateways conf given s =
-    share_after_calls-if s conf.is_gateway (map (GatewayEnsure conf.bridge) (gateways given) ++ forward_calls given)
-    (share_after_calls-append s (map (GatewayEnsure conf.bridge) (gateways given)) (forward_calls given)
-    ∙ ap (λ t. share_after_calls t (forward_calls given)) (share_after_calls-gateways s conf.bridge (gateways given))
+    let asked = map gateway_call (gateways_on conf.bridge given) in
+    share_after_calls-if s conf.is_gateway (asked ++ forward_calls given)
+    (share_after_calls-append s asked (forward_calls given)
+    ∙ ap (λ t. share_after_calls t (forward_calls given)) (share-asked s (gateways_on conf.bridge given))
     ∙ share_after_calls-forward s given)
 
 -- what the calls after the leases add to a share

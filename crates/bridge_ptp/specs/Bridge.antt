@@ -1,8 +1,6 @@
 -- The plan of the `bridge` plugin: the container's end of a veth pair, whose other end has a bridge of the host as
 -- master.
 use Rattle.std.specs.Prelude.{ℕ, Bool, List, [], ◌∷◌, ◌++◌, map, Option, Some, None, if◌then◌else◌}
-use Rattle.cni_addr.specs.Equal.{addr_eq}
-use Rattle.cni_addr.specs.declared.address.Cidr.{Cidr}
 use Rattle.net_conf.specs.declared.first.BridgeConf.{BridgeConf}
 use Rattle.net_conf.specs.declared.first.HostLocalConf.{HostLocalConf}
 use Rattle.kernel_types.specs.declared.object.Att.{Att}
@@ -10,12 +8,12 @@ use Rattle.kernel_types.specs.declared.call.Given.{Given}
 use Rattle.kernel_types.specs.declared.call.Kind.{Kind}
 use Rattle.kernel_types.specs.declared.call.Kind.TheVariants.{Links, Rules, Leases}
 use Rattle.kernel_types.specs.declared.call.Call.{Call}
-use Rattle.kernel_types.specs.declared.call.Call.TheVariants.{BridgeEnsure, GatewayEnsure, AddrAdd, RouteAdd, RuleAppend}
-use Rattle.cni_addr.specs.Lists.{each_key_once}
+use Rattle.kernel_types.specs.declared.call.Call.TheVariants.{BridgeEnsure, AddrAdd, RouteAdd, RuleAppend}
 use Rattle.plan_words.specs.Shapes.{addresses_on, routes_on, masquerade_rules, forward_calls}
 use Rattle.plan_words.specs.Share.{Share, no_objects}
 use Rattle.host_local.specs.Conf.{routes_of}
 use Rattle.host_local.specs.Results.{ip_of}
+use Rattle.bridge_ptp.specs.Gateways.{gateway_call, gateways_on}
 use Rattle.bridge_ptp.specs.Results.{bridge_routes}
 use Rattle.bridge_ptp.specs.Veth.{veth_share, veth_pair}
 
@@ -33,15 +31,8 @@ bridge_share_after conf att netns given = record no_objects {
 
 -- ---- the calls
 
--- each gateway once, with its subnet's prefix
-abbrev pub gateway_on : Given → Cidr
-gateway_on g = record { addr = g.gateway; prefix = g.subnet.prefix }
-
-abbrev pub gateways : List Given → List Cidr
-gateways given = each_key_once (λ x y. addr_eq x.addr y.addr) (map gateway_on given)
-
 abbrev pub gateway_calls : BridgeConf → List Given → List Call
-gateway_calls conf given = if conf.is_gateway then map (GatewayEnsure conf.bridge) (gateways given) ++ forward_calls given else []
+gateway_calls conf given = if conf.is_gateway then map gateway_call (gateways_on conf.bridge given) ++ forward_calls given else []
 
 abbrev pub bridge_calls_before : BridgeConf → Att → List ℕ → List Call
 bridge_calls_before conf att netns =

@@ -1,22 +1,23 @@
--- The gateways on a bridge as objects that a call asks for.
+-- The gateways on a bridge, as objects that a call asks for.
 use Rattle.std.specs.Prelude.{ℕ, Bool, List, map}
 use Rattle.cni_addr.specs.Equal.{addr_eq}
 use Rattle.kernel_types.specs.declared.call.Call.{Call}
 use Rattle.kernel_types.specs.declared.call.Call.TheVariants.{GatewayEnsure}
 use Rattle.kernel_types.specs.declared.call.Given.{Given}
 use Rattle.cni_addr.specs.Lists.{each_key_once}
-use Rattle.bridge_ptp.specs.Bridge.{gateway_on}
 use Rattle.bridge_ptp.specs.declared.bridge.Gateway.{Gateway}
 
+-- with its subnet's prefix
 abbrev pub gateway_of : List ℕ → Given → Gateway
-gateway_of bridge g = record { bridge = bridge; cidr = gateway_on g }
+gateway_of bridge g = record { bridge = bridge; cidr = record { addr = g.gateway; prefix = g.subnet.prefix } }
 
 -- told apart by the address alone
 abbrev pub is_same_gateway : Gateway → Gateway → Bool
 is_same_gateway x y = addr_eq x.cidr.addr y.cidr.addr
 
-abbrev pub call_for : Gateway → Call
-call_for x = GatewayEnsure x.bridge x.cidr
+abbrev pub gateway_call : Gateway → Call
+gateway_call x = GatewayEnsure x.bridge x.cidr
 
+-- each once
 abbrev pub gateways_on : List ℕ → List Given → List Gateway
 gateways_on bridge given = each_key_once is_same_gateway (map (gateway_of bridge) given)

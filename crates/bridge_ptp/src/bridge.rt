@@ -131,15 +131,6 @@ fn result_routes(
 
 // ---- gateways
 
-fn gateway_on(given: &Given) -> Cidr
-    ensures { result ≡ plan.gateway_on given.now }
-{
-    Cidr {
-        addr: given.gateway,
-        prefix: given.subnet.prefix,
-    }
-}
-
 /// A gateway, and the bridge that has it as an address.
 #[derive(Drop)]
 pub struct Gateway {
@@ -161,7 +152,7 @@ impl Asked for Gateway {
 
     ghost same_key = { gateways.is_same_gateway };
 
-    ghost call_for = { gateways.call_for };
+    ghost call_for = { gateways.gateway_call };
 
     fn has_key(&self, other: &Gateway) -> bool {
         self.cidr.addr == other.cidr.addr
@@ -175,16 +166,24 @@ impl Asked for Gateway {
     }
 }
 
+fn gateway_of(bridge: &Text, given: &Given) -> Result<Gateway, NoMemory>
+    ensures { IfOk result (λ gateway. gateway ≡ gateways.gateway_of bridge.now given.now) }
+{
+    Ok(Gateway {
+        bridge: bridge.copy()?,
+        cidr: Cidr {
+            addr: given.gateway,
+            prefix: given.subnet.prefix,
+        },
+    })
+}
+
 fn gateways_on(alloc: Global, bridge: &Text, given: &[Given]) -> Result<Vec<Gateway>, NoMemory>
     ensures { IfOk result (λ all. all.items ≡ gateways.gateways_on bridge.now given.now) }
 {
     let mut all = Vec::new(alloc);
     for g in given {
-        let gateway = Gateway {
-            bridge: bridge.copy()?,
-            cidr: gateway_on(g),
-        };
-        push_unless_there(&mut all, gateway)?;
+        push_unless_there(&mut all, gateway_of(bridge, g)?)?;
     }
     Ok(all)
 }

@@ -8,6 +8,7 @@ ghost use Rattle.plan_words.specs.Rows.{present};
 ghost use Rattle.plan_words.specs.Shapes as shapes;
 ghost use Rattle.host_local.specs.Results.{ip_of};
 ghost use Rattle.bridge_ptp.specs.Bridge as plan;
+ghost use Rattle.bridge_ptp.specs.Gateways as gateways;
 ghost use Rattle.bridge_ptp.specs.Results as results;
 
 use crate::bridge::added_default;
@@ -107,12 +108,13 @@ impl<G: GivenRow> Row<Addr> for GatewayKeys<G> {
 }
 
 fn count_gateways<G: GivenRow + Copy>(given: G) -> usize
-    ensures count { result ≡ length (plan.gateways (present (G.values given))) }
+    ensures count { (bridge : List ℕ) → result ≡ length (gateways.gateways_on bridge (present (G.values given))) }
     ensures most { result ≤ length (G.values given) }
 {
     count_keys(&GatewayKeys(given))
 }
 
+#[tactic(auto, using(crate::proofs::CountLemmas::gateway_calls_counted))]
 fn count_gateway_calls<G: GivenRow + Copy>(conf: &BridgeConf, given: G) -> usize
     ensures count { result ≡ length (plan.gateway_calls conf.now (present (G.values given))) }
     ensures most { result ≤ length (G.values given) + 2 }

@@ -47,7 +47,8 @@ use Rattle.plan_words.specs.Share.{Share, share_of, share_after_call, share_afte
 use Rattle.plan_words.proofs.KeyLists.{list_all-append, list_all-every, list_all-map, list_all-flat, list_all-each_key_once, list_all-if}
 use Rattle.host_local.specs.Conf.{routes_of}
 use Rattle.host_local.specs.Results.{ip_of}
-use Rattle.bridge_ptp.specs.Bridge.{gateways, gateway_calls}
+use Rattle.bridge_ptp.specs.Bridge.{gateway_calls}
+use Rattle.bridge_ptp.specs.Gateways.{gateway_call, gateways_on}
 use Rattle.bridge_ptp.specs.declared.ptp.AddressOrRoute.{AddressOrRoute}
 use Rattle.bridge_ptp.specs.declared.ptp.AddressOrRoute.TheVariants.{Address, Route}
 use Rattle.bridge_ptp.specs.Ptp.{same_key, call_for, ptp_objects_for, ptp_objects}
@@ -192,8 +193,8 @@ lie-forward links given =
 
 lie-gateways : (links : List Link) (conf : BridgeConf) (given : List Given) → AllLie links (gateway_calls conf given)
 lie-gateways links conf given =
-    list_all-if (lies_on links) conf.is_gateway (map (GatewayEnsure conf.bridge) (gateways given) ++ forward_calls given)
-    (list_all-append (lies_on links) (map (GatewayEnsure conf.bridge) (gateways given)) (forward_calls given) (list_all-every (lies_on links) (GatewayEnsure conf.bridge) (λ g. refl) (gateways given)) (lie-forward links given))
+    list_all-if (lies_on links) conf.is_gateway (map gateway_call (gateways_on conf.bridge given) ++ forward_calls given)
+    (list_all-append (lies_on links) (map gateway_call (gateways_on conf.bridge given)) (forward_calls given) (list_all-every (lies_on links) gateway_call (λ g. refl) (gateways_on conf.bridge given)) (lie-forward links given))
 
 link-there : (ns name : List ℕ) (tag : Tag) (l : Link) → l.ns ≡ ns → l.name ≡ name → l.tag ≡ tag → is_link_of ns name tag l ≡ true
 link-there ns name tag l a b t =

@@ -27,7 +27,7 @@ use Rattle.kernel_types.specs.declared.call.Given.{Given}
 use Rattle.kernel_types.specs.declared.call.Kind.{Kind}
 use Rattle.kernel_types.specs.declared.call.Kind.TheVariants as kinds
 use Rattle.kernel_types.specs.declared.call.Call.{Call}
-use Rattle.kernel_types.specs.declared.call.Call.TheVariants.{GatewayEnsure, ForwardEnsure, VethAdd, MacvlanAdd, LinkSet, AddrAdd, RouteAdd, RuleAppend, SettingSet, CachePut}
+use Rattle.kernel_types.specs.declared.call.Call.TheVariants.{ForwardEnsure, VethAdd, MacvlanAdd, LinkSet, AddrAdd, RouteAdd, RuleAppend, SettingSet, CachePut}
 use Rattle.plan_words.specs.Families.{has_family}
 use Rattle.plan_words.specs.Shapes.{addresses_on, routes_on, masquerade_rules, forward_calls, forward_for}
 use Rattle.plan_words.specs.Share.{Share, share_of, no_objects, share_after_call}
@@ -35,7 +35,8 @@ use Rattle.plan_words.proofs.Deletions.{empty_none}
 use Rattle.plan_words.proofs.KeyLists.{filter-none, list_all-append, list_all-every, list_all-if}
 use Rattle.host_local.specs.Conf.{ipam_of, range_sets_of, routes_of}
 use Rattle.host_local.specs.Results.{ip_of}
-use Rattle.bridge_ptp.specs.Bridge.{gateways, gateway_calls, rule_kinds, lease_kinds}
+use Rattle.bridge_ptp.specs.Bridge.{gateway_calls, rule_kinds, lease_kinds}
+use Rattle.bridge_ptp.specs.Gateways.{gateway_call, gateways_on}
 use Rattle.bridge_ptp.specs.Results.{bridge_routes}
 use Rattle.bridge_ptp.specs.declared.ptp.AddressOrRoute.{AddressOrRoute}
 use Rattle.bridge_ptp.specs.declared.ptp.AddressOrRoute.TheVariants.{Address, Route}
@@ -127,8 +128,8 @@ fit-forward ks given =
 
 fit-gateways : (ks : List Kind) (conf : BridgeConf) (given : List Given) → AllFit ks (gateway_calls conf given)
 fit-gateways ks conf given =
-    list_all-if (call_fits ks) conf.is_gateway (map (GatewayEnsure conf.bridge) (gateways given) ++ forward_calls given)
-    (list_all-append (call_fits ks) (map (GatewayEnsure conf.bridge) (gateways given)) (forward_calls given) (list_all-every (call_fits ks) (GatewayEnsure conf.bridge) (λ g. refl) (gateways given)) (fit-forward ks given))
+    list_all-if (call_fits ks) conf.is_gateway (map gateway_call (gateways_on conf.bridge given) ++ forward_calls given)
+    (list_all-append (call_fits ks) (map gateway_call (gateways_on conf.bridge given)) (forward_calls given) (list_all-every (call_fits ks) gateway_call (λ g. refl) (gateways_on conf.bridge given)) (fit-forward ks given))
 
 fit-call_for : (ks : List Kind) (x : AddressOrRoute) → call_fits ks (call_for x) ≡ true
 fit-call_for ks (Address obj) = refl

@@ -4,7 +4,6 @@ use Rattle.std.proofs.lemmas.Slice.Eq.{bytes_eq-Decides}
 use Rattle.std.specs.Prelude.{if◌then◌else◌}
 use Rattle.std.specs.List.{list_any, list_all}
 use Rattle.std.specs.Str.{bytes_eq}
-use Rattle.std.specs.Cmp.Lexicographic.{nat_list_eq_equiv}
 use Rattle.cni_addr.specs.declared.address.Addr.{Addr}
 use Rattle.cni_addr.specs.declared.address.Family.TheVariants as families
 use Rattle.cni_result.specs.declared.cached.PortMapping.{PortMapping}
@@ -23,7 +22,7 @@ use Rattle.kernel_types.specs.Words.{has_host_bridge}
 use Rattle.kernel_types.specs.declared.object.Att.{Att}
 use Rattle.kernel_types.specs.declared.object.Host.{Host}
 use Rattle.kernel_types.specs.declared.call.Call.{Call}
-use Rattle.kernel_types.specs.declared.call.Call.TheVariants.{Begin, BridgeEnsure, VethAdd, MacvlanAdd, GatewayEnsure, ForwardEnsure, LinkSet, AddrAdd, RouteAdd, RuleAppend, SettingSet, LeaseNext, CachePut, CacheGet, HasObj, OwnersOf, PoolFree}
+use Rattle.kernel_types.specs.declared.call.Call.TheVariants.{Begin, BridgeEnsure, VethAdd, MacvlanAdd, ForwardEnsure, LinkSet, AddrAdd, RouteAdd, RuleAppend, SettingSet, LeaseNext, CachePut, CacheGet, HasObj, OwnersOf, PoolFree}
 use Rattle.kernel_types.specs.declared.call.Given.{Given}
 use Rattle.kernel_types.specs.declared.call.Kind.{Kind}
 use Rattle.kernel_types.specs.declared.call.Kind.TheVariants as kinds
@@ -32,10 +31,12 @@ use Rattle.plan_words.specs.Families.{has_family}
 use Rattle.plan_words.specs.PlanCalls.{is_plan_call_of}
 use Rattle.plan_words.specs.Shapes.{host_end, inner_end, macvlan_link, addresses_on, routes_on, masquerade_rules, forward_for, forward_calls}
 use Rattle.plan_words.specs.Share.{Share, share_of}
-use Rattle.plan_words.proofs.KeyLists.{list_all-append, list_all-every}
+use Rattle.plan_words.proofs.KeyLists.{list_all-append, list_all-every, list_all-map}
 use Rattle.host_local.specs.Conf.{routes_of}
 use Rattle.host_local.specs.Results.{ip_of}
-use Rattle.bridge_ptp.specs.Bridge.{gateways, gateway_calls}
+use Rattle.bridge_ptp.proofs.Shares.{gateways-of_bridge}
+use Rattle.bridge_ptp.specs.Bridge.{gateway_calls}
+use Rattle.bridge_ptp.specs.Gateways.{gateway_call, gateways_on}
 use Rattle.bridge_ptp.specs.declared.ptp.AddressOrRoute.{AddressOrRoute}
 use Rattle.bridge_ptp.specs.declared.ptp.AddressOrRoute.TheVariants.{Address, Route}
 use Rattle.bridge_ptp.specs.Ptp.{call_for, ptp_objects}
@@ -98,9 +99,9 @@ bridged-forward first given =
 
 bridged-gateways : (conf : BridgeConf) (given : List Given) → AllBridged (Bridge conf) (gateway_calls conf given)
 bridged-gateways conf given =
-    bridged-if (Bridge conf) conf.is_gateway (map (GatewayEnsure conf.bridge) (gateways given) ++ forward_calls given)
-    (bridged-append (Bridge conf) (map (GatewayEnsure conf.bridge) (gateways given)) (forward_calls given)
-    (bridged-every (Bridge conf) (GatewayEnsure conf.bridge) (λ g. nat_list_eq_equiv.refl conf.bridge) (gateways given)) (bridged-forward (Bridge conf) given))
+    bridged-if (Bridge conf) conf.is_gateway (map gateway_call (gateways_on conf.bridge given) ++ forward_calls given)
+    (bridged-append (Bridge conf) (map gateway_call (gateways_on conf.bridge given)) (forward_calls given)
+    (list_all-map (is_bridged (Bridge conf)) gateway_call (λ g. bytes_eq g.bridge conf.bridge) (λ g h. h) (gateways_on conf.bridge given) (gateways-of_bridge conf.bridge given)) (bridged-forward (Bridge conf) given))
 
 bridged-call_for : (first : First) (x : AddressOrRoute) → is_bridged first (call_for x) ≡ true
 bridged-call_for first (Address obj) = refl

@@ -18,7 +18,7 @@ use Rattle.kernel_types.proofs.ListLemmas.{list_any-append_none}
 use Rattle.cni_addr.specs.Lists.{IsAmong}
 use Rattle.kernel_types.specs.declared.object.Att.{Att}
 use Rattle.kernel_types.specs.declared.call.Call.{Call}
-use Rattle.kernel_types.specs.declared.call.Call.TheVariants.{GatewayEnsure, ForwardEnsure, VethAdd, MacvlanAdd, LinkSet, AddrAdd, RouteAdd, RuleAppend, SettingSet, CachePut}
+use Rattle.kernel_types.specs.declared.call.Call.TheVariants.{ForwardEnsure, VethAdd, MacvlanAdd, LinkSet, AddrAdd, RouteAdd, RuleAppend, SettingSet, CachePut}
 use Rattle.kernel_types.specs.declared.call.Given.{Given}
 use Rattle.plan_words.specs.Families.{has_family}
 use Rattle.plan_words.specs.Shapes.{addresses_on, routes_on, masquerade_rules, forward_for, forward_calls}
@@ -26,7 +26,8 @@ use Rattle.plan_words.specs.Share.{Share, no_objects, share_after_call, share_af
 use Rattle.plan_words.proofs.CallLists.{share_after_calls-append}
 use Rattle.host_local.specs.Conf.{routes_of}
 use Rattle.host_local.specs.Results.{ip_of}
-use Rattle.bridge_ptp.specs.Bridge.{gateways, gateway_calls}
+use Rattle.bridge_ptp.specs.Bridge.{gateway_calls}
+use Rattle.bridge_ptp.specs.Gateways.{gateway_call, gateways_on}
 use Rattle.bridge_ptp.specs.declared.ptp.AddressOrRoute.{AddressOrRoute}
 use Rattle.bridge_ptp.specs.declared.ptp.AddressOrRoute.TheVariants.{Address, Route}
 use Rattle.bridge_ptp.specs.Ptp.{call_for, ptp_objects}
@@ -124,8 +125,8 @@ none-forward given =
 
 none-gateways : (conf : BridgeConf) (given : List Given) → NoneChange (gateway_calls conf given)
 none-gateways conf given =
-    none-if conf.is_gateway (map (GatewayEnsure conf.bridge) (gateways given) ++ forward_calls given)
-    (none-append (map (GatewayEnsure conf.bridge) (gateways given)) (forward_calls given) (none-every (GatewayEnsure conf.bridge) (λ g. refl) (gateways given)) (none-forward given))
+    none-if conf.is_gateway (map gateway_call (gateways_on conf.bridge given) ++ forward_calls given)
+    (none-append (map gateway_call (gateways_on conf.bridge given)) (forward_calls given) (none-every gateway_call (λ g. refl) (gateways_on conf.bridge given)) (none-forward given))
 
 none-call_for : (x : AddressOrRoute) → changes_links (call_for x) ≡ false
 none-call_for (Address obj) = refl

@@ -14,7 +14,8 @@ use Rattle.cni_result.specs.declared.cached.PortMapping.{PortMapping}
 use Rattle.cni_result.specs.declared.result.AddResult.{AddResult}
 use Rattle.cni_result.specs.declared.result.IpEntry.{IpEntry}
 use Rattle.cni_result.specs.declared.result.RouteEntry.{RouteEntry}
-use Rattle.bridge_ptp.specs.Bridge.{gateway_calls, gateway_on, gateways}
+use Rattle.bridge_ptp.specs.Bridge.{gateway_calls}
+use Rattle.bridge_ptp.specs.Gateways.{gateway_call, gateway_of, gateways_on, is_same_gateway}
 use Rattle.bridge_ptp.specs.Ptp as ptp
 use Rattle.bridge_ptp.specs.declared.ptp.AddressOrRoute.TheVariants.{Route}
 use Rattle.bridge_ptp.specs.Results.{added_default, at_interface, bridge_routes}
@@ -26,9 +27,9 @@ use Rattle.host_local.proofs.RowLemmas.{given_of-cons}
 use Rattle.host_local.specs.Results.{ip_of, ipam_result_of}
 use Rattle.ip_pool.specs.NextAddress.{is_between}
 use Rattle.kernel_types.specs.Apply.Calls.{is_same_addr, is_same_route, is_same_setting}
-use Rattle.kernel_types.specs.Equal.{addr_eq, rule_eq}
+use Rattle.kernel_types.specs.Equal.{rule_eq}
 use Rattle.kernel_types.specs.declared.object.Att.{Att}
-use Rattle.kernel_types.specs.declared.call.Call.TheVariants.{AddrAdd, CachePut, ForwardEnsure, GatewayEnsure, LinkSet, RouteAdd, RuleAppend, SettingSet}
+use Rattle.kernel_types.specs.declared.call.Call.TheVariants.{AddrAdd, CachePut, ForwardEnsure, LinkSet, RouteAdd, RuleAppend, SettingSet}
 use Rattle.kernel_types.specs.declared.call.Given.{Given}
 use Rattle.net_conf.specs.declared.chained.Chained.{Chained}
 use Rattle.net_conf.specs.declared.chained.Chained.TheVariants.{Portmap, Firewall, Tuning}
@@ -130,12 +131,13 @@ length-bridge_routes b routes ips =
 
 length-gateways : (conf : _) (gs : List Given) → length (gateway_calls conf gs) ≤ length gs + 2
 length-gateways conf gs =
-    let a = length-map (gateways gs) (GatewayEnsure conf.bridge) in
-    let b = length-each_key_once (λ x y. addr_eq x.addr y.addr) (map gateway_on gs) in
-    let c = length-map gs gateway_on in
+    let asked = map gateway_call (gateways_on conf.bridge gs) in
+    let a = length-map (gateways_on conf.bridge gs) gateway_call in
+    let b = length-each_key_once is_same_gateway (map (gateway_of conf.bridge) gs) in
+    let c = length-map gs (gateway_of conf.bridge) in
     let d = length-forward gs in
-    let e = length-append (map (GatewayEnsure conf.bridge) (gateways gs)) (forward_calls gs) in
-    length-if conf.is_gateway (map (GatewayEnsure conf.bridge) (gateways gs) ++ forward_calls gs) (length gs + 2) (omega arith)
+    let e = length-append asked (forward_calls gs) in
+    length-if conf.is_gateway (asked ++ forward_calls gs) (length gs + 2) (omega arith)
 
 -- ---- the first plugin
 

@@ -28,7 +28,7 @@ use Rattle.kernel_types.specs.declared.object.RouteObj.{RouteObj}
 use Rattle.kernel_types.specs.declared.object.Rule.{Rule}
 use Rattle.kernel_types.specs.declared.call.Given.{Given}
 use Rattle.kernel_types.specs.declared.call.Call.{Call}
-use Rattle.kernel_types.specs.declared.call.Call.TheVariants.{GatewayEnsure, ForwardEnsure, VethAdd, MacvlanAdd, LinkSet, AddrAdd, RouteAdd, RuleAppend, SettingSet, CachePut}
+use Rattle.kernel_types.specs.declared.call.Call.TheVariants.{ForwardEnsure, VethAdd, MacvlanAdd, LinkSet, AddrAdd, RouteAdd, RuleAppend, SettingSet, CachePut}
 use Rattle.plan_words.specs.Families.{has_family}
 use Rattle.plan_words.specs.PlanCalls.{is_plan_call_of}
 use Rattle.plan_words.specs.Shapes.{host_end, inner_end, addresses_on, routes_on, masquerade_rules, forward_for, forward_calls}
@@ -37,6 +37,7 @@ use Rattle.plan_words.proofs.KeyLists.{list_all-each_key_once, list_all-every}
 use Rattle.host_local.specs.Conf.{routes_of}
 use Rattle.host_local.specs.Results.{ip_of}
 use Rattle.bridge_ptp.specs.Bridge as bridge
+use Rattle.bridge_ptp.specs.Gateways.{gateway_call, gateways_on}
 use Rattle.bridge_ptp.specs.Ptp as ptp
 use Rattle.bridge_ptp.specs.declared.ptp.AddressOrRoute.{AddressOrRoute}
 use Rattle.bridge_ptp.specs.declared.ptp.AddressOrRoute.TheVariants.{Address, Route}
@@ -121,9 +122,10 @@ planned-forward att gs =
 
 planned-gateways : (conf : BridgeConf) (att : Att) (gs : List Given) → AllPlanned att (bridge.gateway_calls conf gs)
 planned-gateways conf att gs =
-    planned-if att conf.is_gateway (map (GatewayEnsure conf.bridge) (bridge.gateways gs) ++ forward_calls gs)
-    (planned-append att (map (GatewayEnsure conf.bridge) (bridge.gateways gs)) (forward_calls gs)
-    (planned-map att (GatewayEnsure conf.bridge) (λ c. true) (λ c t. (refl, tt)) (bridge.gateways gs) (all_true (λ c. true) (λ c. refl) (bridge.gateways gs))) (planned-forward att gs))
+    let gateways = gateways_on conf.bridge gs in
+    planned-if att conf.is_gateway (map gateway_call gateways ++ forward_calls gs)
+    (planned-append att (map gateway_call gateways) (forward_calls gs)
+    (planned-map att gateway_call (λ g. true) (λ g t. (refl, tt)) gateways (all_true (λ g. true) (λ g. refl) gateways)) (planned-forward att gs))
 
 planned-object : (att : Att) (x : AddressOrRoute) → is_own_object att x ≡ true → IsPlanned att (ptp.call_for x)
 planned-object att (Address obj) own = (own, tt)
