@@ -4,8 +4,9 @@ use Rattle.std.specs.Prelude.{◌&&◌, flat_map, filter_map, slice_get}
 use Rattle.std.specs.Option.{option_eq}
 use Rattle.std.specs.Str.{bytes_eq}
 use Rattle.std.specs.Cmp.Lexicographic.{nat_list_eq_equiv}
-use Rattle.std.proofs.Math.Bool.{beq}
+use Rattle.std.proofs.Math.Bool.{beq, and-false}
 use Rattle.std.proofs.lemmas.List.{length-append, length-map, map-append}
+use Rattle.std.proofs.lemmas.Simd.{map-map}
 use Rattle.std.proofs.lemmas.Option.{slice_get-map, slice_get_read, slice_get_within}
 use Rattle.cni_addr.specs.Equal.{addr_eq, cidr_eq}
 use Rattle.cni_addr.specs.Network.{whole}
@@ -82,14 +83,10 @@ lying_for g =
 abbrev pub lying : List Given → List RouteEntry → List Lying
 lying given entries = flat_map lying_for given ++ map (λ r. RouteAt false r.dst (gateway_for given r)) entries
 
-map-map : {X Y Z : Type 0} (f : X → Y) (h : Y → Z) (xs : List X) → map h (map f xs) ≡ map (λ x. h (f x)) xs
-map-map f h [] = refl
-map-map f h (x ∷ xs) = ap (λ l. h (f x) ∷ l) (map-map f h xs)
-
 pub objects-lying : (att : Att) (netns : List ℕ) (given : List Given) (entries : List RouteEntry) → flat_map (ptp_objects_for att netns) given ++ map (λ r. Route (route_on att netns given r)) entries ≡ map (object_at att netns) (lying given entries)
 objects-lying att netns given entries =
     ap (λ l. l ++ map (λ r. Route (route_on att netns given r)) entries) (flat_map-made lying_for (ptp_objects_for att netns) (object_at att netns) (λ g. refl) given)
-    ∙ ap (λ l. map (object_at att netns) (flat_map lying_for given) ++ l) (sym (map-map (λ (r : RouteEntry). RouteAt false r.dst (gateway_for given r)) (object_at att netns) entries))
+    ∙ ap (λ l. map (object_at att netns) (flat_map lying_for given) ++ l) (sym (map-map (object_at att netns) (λ (r : RouteEntry). RouteAt false r.dst (gateway_for given r)) entries))
     ∙ sym (map-append (object_at att netns) (flat_map lying_for given) (map (λ r. RouteAt false r.dst (gateway_for given r)) entries))
 
 pub keys-lying : (b : Bool) (row : List (Option Given)) (entries : List RouteEntry) → present (spread (ptp_keys b) 5 row ++ map (λ r. Some (route_key false r.dst)) entries) ≡ map (key_of b) (lying (present row) entries)
@@ -97,7 +94,7 @@ keys-lying b row entries =
     let given = present row in
     present-append (spread (ptp_keys b) 5 row) (map (λ r. Some (route_key false r.dst)) entries)
     ∙ ap (λ l. l ++ present (map (λ r. Some (route_key false r.dst)) entries)) (present-spread (ptp_keys b) 5 row ∙ flat_map-made lying_for (ptp_keys b) (key_of b) (λ g. refl) given)
-    ∙ ap (λ l. map (key_of b) (flat_map lying_for given) ++ l) (present-keys (λ (r : RouteEntry). route_key false r.dst) entries ∙ sym (map-map (λ (r : RouteEntry). RouteAt false r.dst (gateway_for given r)) (key_of b) entries))
+    ∙ ap (λ l. map (key_of b) (flat_map lying_for given) ++ l) (present-keys (λ (r : RouteEntry). route_key false r.dst) entries ∙ sym (map-map (key_of b) (λ (r : RouteEntry). RouteAt false r.dst (gateway_for given r)) entries))
     ∙ sym (map-append (key_of b) (flat_map lying_for given) (map (λ r. RouteAt false r.dst (gateway_for given r)) entries))
 
 -- ---- the same keys
@@ -124,18 +121,14 @@ and-true true true = refl
 and-true true false = refl
 and-true false b = refl
 
-and-false : (a : Bool) → false ≡ (a && false)
-and-false true = refl
-and-false false = refl
-
 abbrev pub key_eq : PtpKey → PtpKey → Bool
 key_eq k l = beq k.on_host l.on_host && (option_eq addr_eq k.address l.address && option_eq cidr_eq k.destination l.destination)
 
 pub same-lying : (att : Att) (netns : List ℕ) (b : Bool) → has_two_ends att netns ≡ b → (x y : Lying) → same_key (object_at att netns x) (object_at att netns y) ≡ key_eq (key_of b x) (key_of b y)
 same-lying att netns b e (AddressAt h c) (AddressAt k d) =
     ap (λ t. t && addr_eq d.addr c.addr) (ends-by netns att.ifname (host_name_of att) b h k e) ∙ ap (λ t. beq (h && b) (k && b) && t) (addr_eq-symm d.addr c.addr) ∙ and-true (beq (h && b) (k && b)) (addr_eq c.addr d.addr)
-same-lying att netns b e (AddressAt h c) (RouteAt k dst gw) = and-false (beq (h && b) (k && b))
-same-lying att netns b e (RouteAt h dst gw) (AddressAt k c) = and-false (beq (h && b) (k && b))
+same-lying att netns b e (AddressAt h c) (RouteAt k dst gw) = sym (and-false (beq (h && b) (k && b)))
+same-lying att netns b e (RouteAt h dst gw) (AddressAt k c) = sym (and-false (beq (h && b) (k && b)))
 same-lying att netns b e (RouteAt h dst gw) (RouteAt k d v) =
     and-with (bytes_eq (ns_at netns k) (ns_at netns h)) (cidr_eq d dst) (bytes_eq (name_at att.ifname (host_name_of att) k) (name_at att.ifname (host_name_of att) h))
     ∙ ap (λ t. t && cidr_eq d dst) (ends-by netns att.ifname (host_name_of att) b h k e)
