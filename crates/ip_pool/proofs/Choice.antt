@@ -11,9 +11,9 @@ use Rattle.cni_addr.specs.declared.range.RangeSet.{RangeSet}
 use Rattle.cni_addr.specs.Equal.{addr_eq}
 use Rattle.cni_addr.specs.Lists.{distinct}
 use Rattle.ip_pool.specs.NextAddress.{is_between, is_in, is_candidate, is_candidate_or_none, is_below, is_passed, is_taken, range_place, HasFree, IsNextAddress, IsExhausted, IsPick}
-use Rattle.ip_pool.specs.Pool.{candidates_of, after_last_first, is_free, pick_of, has_free_of, is_apart, are_apart}
+use Rattle.ip_pool.specs.Pool.{all_pairs, candidates_of, after_last_first, is_free, pick_of, has_free_of, is_apart, are_apart}
 use Rattle.ip_pool.proofs.Addresses.{same-address, addr_eq-itself}
-use Rattle.ip_pool.proofs.InOrder.{in_order, find-none, find-passes, find-member, find-in_order, member-passes}
+use Rattle.ip_pool.proofs.InOrder.{find-none, find-passes, find-member, find-in_order, member-passes}
 use Rattle.ip_pool.proofs.Membership.{list_any-candidates}
 use Rattle.ip_pool.proofs.Passing.{never_passes, passed-not_itself, tried-in_order}
 use Rattle.ip_pool.proofs.Places.{below_in, candidates-ascend}
@@ -191,7 +191,7 @@ next-one set last taken (Some a) (Some b) one other =
 
 -- ---- each candidate once
 
-distinct-in_order : (R : Addr → Addr → Bool) (xs : List Addr) → ((a : Addr) → R a a ≡ false) → in_order R xs ≡ true → distinct addr_eq xs ≡ true
+distinct-in_order : (R : Addr → Addr → Bool) (xs : List Addr) → ((a : Addr) → R a a ≡ false) → all_pairs R xs ≡ true → distinct addr_eq xs ≡ true
 distinct-in_order R [] itself order = refl
 distinct-in_order R (x ∷ xs) itself order =
     let once : list_any (addr_eq x) xs ≡ false = once-step (list_any (addr_eq x) xs) refl in

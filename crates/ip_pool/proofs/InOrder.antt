@@ -4,11 +4,8 @@ use Rattle.std.specs.List.{list_any, list_all}
 use Rattle.std.proofs.lemmas.List.Folds.{list_all-append}
 use Rattle.cni_addr.specs.declared.address.Addr.{Addr}
 use Rattle.cni_addr.specs.Equal.{addr_eq}
+use Rattle.ip_pool.specs.Pool.{all_pairs}
 use Rattle.ip_pool.proofs.Addresses.{same-address, addr_eq-itself}
-
-abbrev pub in_order : {X : Type 0} → (X → X → Bool) → List X → Bool
-in_order R [] = true
-in_order R (x ∷ xs) = list_all (R x) xs && in_order R xs
 
 -- ---- what each element passes
 
@@ -40,43 +37,43 @@ list_all-related p R S weaker x (y ∷ ys) px ps rs = grind (arith, weaker x y, 
 
 -- ---- order
 
-pub in_order-weaker : {X : Type 0} (p : X → Bool) (R S : X → X → Bool) → ((x y : X) → p x ≡ true → p y ≡ true → R x y ≡ true → S x y ≡ true) → (xs : List X) → list_all p xs ≡ true → in_order R xs ≡ true → in_order S xs ≡ true
-in_order-weaker p R S weaker [] ps rs = refl
-in_order-weaker p R S weaker (x ∷ xs) ps rs =
+pub all_pairs-weaker : {X : Type 0} (p : X → Bool) (R S : X → X → Bool) → ((x y : X) → p x ≡ true → p y ≡ true → R x y ≡ true → S x y ≡ true) → (xs : List X) → list_all p xs ≡ true → all_pairs R xs ≡ true → all_pairs S xs ≡ true
+all_pairs-weaker p R S weaker [] ps rs = refl
+all_pairs-weaker p R S weaker (x ∷ xs) ps rs =
     let here : list_all (S x) xs ≡ true = list_all-related p R S weaker x xs (grind arith) (grind arith) (grind arith) in
-    let there : in_order S xs ≡ true = in_order-weaker p R S weaker xs (grind arith) (grind arith) in
+    let there : all_pairs S xs ≡ true = all_pairs-weaker p R S weaker xs (grind arith) (grind arith) in
     grind arith
 
 -- each of the first list to each of the second
 abbrev pub all_before : {X : Type 0} → (X → X → Bool) → List X → List X → Bool
 all_before R xs ys = list_all (λ x. list_all (R x) ys) xs
 
-pub in_order-append : {X : Type 0} (R : X → X → Bool) (xs ys : List X) → in_order R xs ≡ true → all_before R xs ys ≡ true → in_order R ys ≡ true → in_order R (xs ++ ys) ≡ true
-in_order-append R [] ys left across right = right
-in_order-append R (x ∷ xs) ys left across right =
-    let there : in_order R (xs ++ ys) ≡ true = in_order-append R xs ys (grind arith) (grind arith) right in
+pub all_pairs-append : {X : Type 0} (R : X → X → Bool) (xs ys : List X) → all_pairs R xs ≡ true → all_before R xs ys ≡ true → all_pairs R ys ≡ true → all_pairs R (xs ++ ys) ≡ true
+all_pairs-append R [] ys left across right = right
+all_pairs-append R (x ∷ xs) ys left across right =
+    let there : all_pairs R (xs ++ ys) ≡ true = all_pairs-append R xs ys (grind arith) (grind arith) right in
     let joined = list_all-append (R x) xs ys in
     grind (arith, joined)
 
-pub in_order-left : {X : Type 0} (R : X → X → Bool) (xs ys : List X) → in_order R (xs ++ ys) ≡ true → in_order R xs ≡ true
-in_order-left R [] ys h = refl
-in_order-left R (x ∷ xs) ys h = grind (arith, list_all-append (R x) xs ys, in_order-left R xs ys)
+pub all_pairs-left : {X : Type 0} (R : X → X → Bool) (xs ys : List X) → all_pairs R (xs ++ ys) ≡ true → all_pairs R xs ≡ true
+all_pairs-left R [] ys h = refl
+all_pairs-left R (x ∷ xs) ys h = grind (arith, list_all-append (R x) xs ys, all_pairs-left R xs ys)
 
-pub in_order-across : {X : Type 0} (R : X → X → Bool) (xs ys : List X) → in_order R (xs ++ ys) ≡ true → all_before R xs ys ≡ true
-in_order-across R [] ys h = refl
-in_order-across R (x ∷ xs) ys h = grind (arith, list_all-append (R x) xs ys, in_order-across R xs ys)
+pub all_pairs-across : {X : Type 0} (R : X → X → Bool) (xs ys : List X) → all_pairs R (xs ++ ys) ≡ true → all_before R xs ys ≡ true
+all_pairs-across R [] ys h = refl
+all_pairs-across R (x ∷ xs) ys h = grind (arith, list_all-append (R x) xs ys, all_pairs-across R xs ys)
 
-pub in_order-right : {X : Type 0} (R : X → X → Bool) (xs ys : List X) → in_order R (xs ++ ys) ≡ true → in_order R ys ≡ true
-in_order-right R [] ys h = h
-in_order-right R (x ∷ xs) ys h = grind (arith, in_order-right R xs ys)
+pub all_pairs-right : {X : Type 0} (R : X → X → Bool) (xs ys : List X) → all_pairs R (xs ++ ys) ≡ true → all_pairs R ys ≡ true
+all_pairs-right R [] ys h = h
+all_pairs-right R (x ∷ xs) ys h = grind (arith, all_pairs-right R xs ys)
 
 list_all-filter : {X : Type 0} (p keep : X → Bool) (xs : List X) → list_all p xs ≡ true → list_all p (filter keep xs) ≡ true
 list_all-filter p keep [] h = refl
 list_all-filter p keep (x ∷ xs) h = grind (arith, list_all-filter p keep xs)
 
-pub in_order-filter : {X : Type 0} (R : X → X → Bool) (keep : X → Bool) (xs : List X) → in_order R xs ≡ true → in_order R (filter keep xs) ≡ true
-in_order-filter R keep [] h = refl
-in_order-filter R keep (x ∷ xs) h = grind (arith, list_all-filter (R x) keep xs, in_order-filter R keep xs)
+pub all_pairs-filter : {X : Type 0} (R : X → X → Bool) (keep : X → Bool) (xs : List X) → all_pairs R xs ≡ true → all_pairs R (filter keep xs) ≡ true
+all_pairs-filter R keep [] h = refl
+all_pairs-filter R keep (x ∷ xs) h = grind (arith, list_all-filter (R x) keep xs, all_pairs-filter R keep xs)
 
 -- ---- the first that passes
 
@@ -93,12 +90,12 @@ find-member p [] a h = cc
 find-member p (x ∷ xs) a h = grind (arith, addr_eq-itself a, find-member p xs a)
 
 -- what the relation never puts after the one that is found, and is in the list, does not pass
-pub find-in_order : (p : Addr → Bool) (R : Addr → Addr → Bool) (xs : List Addr) (a b : Addr) → in_order R xs ≡ true → find p xs ≡ Some a → list_any (addr_eq b) xs ≡ true → addr_eq b a ≡ false → R a b ≡ false → p b ≡ false
+pub find-in_order : (p : Addr → Bool) (R : Addr → Addr → Bool) (xs : List Addr) (a b : Addr) → all_pairs R xs ≡ true → find p xs ≡ Some a → list_any (addr_eq b) xs ≡ true → addr_eq b a ≡ false → R a b ≡ false → p b ≡ false
 find-in_order p R [] a b order found there other unrelated = cc
 find-in_order p R (x ∷ xs) a b order found there other unrelated =
     find-in_order_step p R x xs a b (p x) (addr_eq b x) refl refl order found there other unrelated (find-in_order p R xs a b)
   where
-    find-in_order_step : (p : Addr → Bool) (R : Addr → Addr → Bool) (x : Addr) (xs : List Addr) (a b : Addr) (hit same : Bool) → p x ≡ hit → addr_eq b x ≡ same → (list_all (R x) xs && in_order R xs) ≡ true → cond hit (Some x) (find p xs) ≡ Some a → (same || list_any (addr_eq b) xs) ≡ true → addr_eq b a ≡ false → R a b ≡ false → (in_order R xs ≡ true → find p xs ≡ Some a → list_any (addr_eq b) xs ≡ true → addr_eq b a ≡ false → R a b ≡ false → p b ≡ false) → p b ≡ false
+    find-in_order_step : (p : Addr → Bool) (R : Addr → Addr → Bool) (x : Addr) (xs : List Addr) (a b : Addr) (hit same : Bool) → p x ≡ hit → addr_eq b x ≡ same → (list_all (R x) xs && all_pairs R xs) ≡ true → cond hit (Some x) (find p xs) ≡ Some a → (same || list_any (addr_eq b) xs) ≡ true → addr_eq b a ≡ false → R a b ≡ false → (all_pairs R xs ≡ true → find p xs ≡ Some a → list_any (addr_eq b) xs ≡ true → addr_eq b a ≡ false → R a b ≡ false → p b ≡ false) → p b ≡ false
     find-in_order_step p R x xs a b true true is-hit is-same order found there other unrelated next =
         let here : x ≡ a = cc in
         let clash : addr_eq b a ≡ true = ap (addr_eq b) (sym here) ∙ is-same in

@@ -7,8 +7,8 @@ use Rattle.cni_addr.specs.declared.address.Addr.{Addr}
 use Rattle.cni_addr.specs.declared.range.Range.{Range}
 use Rattle.cni_addr.specs.Equal.{addr_eq}
 use Rattle.ip_pool.specs.NextAddress.{is_in}
-use Rattle.ip_pool.specs.Pool.{run_of, candidates_in, is_apart, are_apart}
-use Rattle.ip_pool.proofs.InOrder.{in_order, list_all-members, list_all-weaker, in_order-weaker, in_order-append, in_order-filter, all_before}
+use Rattle.ip_pool.specs.Pool.{all_pairs, run_of, candidates_in, is_apart, are_apart}
+use Rattle.ip_pool.proofs.InOrder.{list_all-members, list_all-weaker, all_pairs-weaker, all_pairs-append, all_pairs-filter, all_before}
 use Rattle.ip_pool.proofs.Membership.{list_any-candidates_in, list_any-candidates}
 
 -- an earlier range, or the same and a lower number
@@ -26,7 +26,7 @@ run_of-above f a low (suc n) below =
     let rest = run_of-above f a (low + 1) n (omega arith) in
     grind (arith, nat_tests)
 
-run_of-ascends : (f : Family) (low n : ℕ) → in_order lower (run_of f low n) ≡ true
+run_of-ascends : (f : Family) (low n : ℕ) → all_pairs lower (run_of f low n) ≡ true
 run_of-ascends f low zero = refl
 run_of-ascends f low (suc n) =
     let here = run_of-above f (record { family = f; bits = low }) (low + 1) n (omega arith) in
@@ -72,11 +72,11 @@ first-all_before : (r : Range) (rs : List Range) → list_all (is_apart r) rs �
 first-all_before r rs apart =
     list_all-weaker (λ a. is_in a r) (λ a. list_all (below_in (r ∷ rs) a) (flat_map candidates_in rs)) (λ a here. list_all-weaker (λ b. not (is_in b r)) (below_in (r ∷ rs) a) (λ b later. first-below_later r rs a b here (grind arith)) (flat_map candidates_in rs) (candidates-outside r rs apart)) (candidates_in r) (candidates_in-inside r)
 
-pub candidates-ascend : (rs : List Range) → are_apart rs ≡ true → in_order (below_in rs) (flat_map candidates_in rs) ≡ true
+pub candidates-ascend : (rs : List Range) → are_apart rs ≡ true → all_pairs (below_in rs) (flat_map candidates_in rs) ≡ true
 candidates-ascend [] apart = refl
 candidates-ascend (r ∷ rs) apart =
     let others : list_all (is_apart r) rs ≡ true = grind arith in
-    let numbers : in_order lower (candidates_in r) ≡ true = in_order-filter lower (λ a. not (addr_eq a r.gateway)) (run_of r.start.family r.start.bits (r.end.bits + 1 - r.start.bits)) (run_of-ascends r.start.family r.start.bits (r.end.bits + 1 - r.start.bits)) in
-    let first : in_order (below_in (r ∷ rs)) (candidates_in r) ≡ true = in_order-weaker (λ a. is_in a r) lower (below_in (r ∷ rs)) (first-below_first r rs) (candidates_in r) (candidates_in-inside r) numbers in
-    let later : in_order (below_in (r ∷ rs)) (flat_map candidates_in rs) ≡ true = in_order-weaker (λ a. not (is_in a r)) (below_in rs) (below_in (r ∷ rs)) (λ a b here there less. later-below_later r rs a b (grind arith) (grind arith) less) (flat_map candidates_in rs) (candidates-outside r rs others) (candidates-ascend rs (grind arith)) in
-    in_order-append (below_in (r ∷ rs)) (candidates_in r) (flat_map candidates_in rs) first (first-all_before r rs others) later
+    let numbers : all_pairs lower (candidates_in r) ≡ true = all_pairs-filter lower (λ a. not (addr_eq a r.gateway)) (run_of r.start.family r.start.bits (r.end.bits + 1 - r.start.bits)) (run_of-ascends r.start.family r.start.bits (r.end.bits + 1 - r.start.bits)) in
+    let first : all_pairs (below_in (r ∷ rs)) (candidates_in r) ≡ true = all_pairs-weaker (λ a. is_in a r) lower (below_in (r ∷ rs)) (first-below_first r rs) (candidates_in r) (candidates_in-inside r) numbers in
+    let later : all_pairs (below_in (r ∷ rs)) (flat_map candidates_in rs) ≡ true = all_pairs-weaker (λ a. not (is_in a r)) (below_in rs) (below_in (r ∷ rs)) (λ a b here there less. later-below_later r rs a b (grind arith) (grind arith) less) (flat_map candidates_in rs) (candidates-outside r rs others) (candidates-ascend rs (grind arith)) in
+    all_pairs-append (below_in (r ∷ rs)) (candidates_in r) (flat_map candidates_in rs) first (first-all_before r rs others) later

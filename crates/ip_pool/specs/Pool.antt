@@ -1,7 +1,7 @@
 -- The candidates of a range set, and the one that is leased next (the `host-local` plugin: `ranges`, `rangeStart`,
 -- `rangeEnd`, `gateway`).
-use Rattle.std.specs.Prelude.{ℕ, zero, suc, ◌+◌, ◌-◌, Bool, true, not, ◌&&◌, ◌||◌, nat_lt, min, max, List, [], ◌∷◌, ◌++◌, filter, find, take, Option, Some, None}
-use Rattle.std.specs.List.{list_any, list_all, flat_map, after_first, position_or_len}
+use Rattle.std.specs.Prelude.{ℕ, ◌+◌, ◌-◌, Bool, true, not, ◌&&◌, ◌||◌, nat_lt, min, max, List, [], ◌∷◌, ◌++◌, map, filter, find, take, Option, Some, None}
+use Rattle.std.specs.List.{list_any, list_all, flat_map, after_first, position_or_len, range_with_len}
 use Rattle.cni_addr.specs.declared.address.Family.{Family}
 use Rattle.cni_addr.specs.declared.address.Addr.{Addr}
 use Rattle.cni_addr.specs.declared.range.Range.{Range}
@@ -12,8 +12,7 @@ use Rattle.ip_pool.specs.NextAddress.{is_taken}
 
 -- so many addresses from this one on
 abbrev pub run_of : Family → ℕ → ℕ → List Addr
-run_of family bits zero = []
-run_of family bits (suc n) = record { family = family; bits = bits } ∷ run_of family (bits + 1) n
+run_of family bits n = map (λ number. record { family = family; bits = number }) (range_with_len bits n)
 
 -- the range's family's addresses from the number low to below high, without the range's gateway
 abbrev pub candidates_between : Range → ℕ → ℕ → List Addr
@@ -50,7 +49,11 @@ has_free_of set taken = list_any (is_free taken) (candidates_of set)
 abbrev pub is_apart : Range → Range → Bool
 is_apart r s = not (family_eq r.start.family s.start.family) || nat_lt (min r.end.bits s.end.bits) (max r.start.bits s.start.bits)
 
+-- the test holds of each element and each later one
+abbrev pub all_pairs : {X : Type 0} → (X → X → Bool) → List X → Bool
+all_pairs R [] = true
+all_pairs R (x ∷ xs) = list_all (R x) xs && all_pairs R xs
+
 -- no two ranges share an address
 abbrev pub are_apart : List Range → Bool
-are_apart [] = true
-are_apart (r ∷ rs) = list_all (is_apart r) rs && are_apart rs
+are_apart ranges = all_pairs is_apart ranges

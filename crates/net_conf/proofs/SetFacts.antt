@@ -1,22 +1,21 @@
 -- What sets of ranges and routes keep that are read.
-use Rattle.std.proofs.Common.{◌≡◌, ℕ, suc, ◌+◌, ◌≤◌, ◌<◌, ◌&&◌, Bool, true, false, List, [], ◌∷◌, ◌++◌, length, codes, Option, Some, None, Ok, refl, sym, ap, ◌∙◌, subst, arith, length-append}
+use Rattle.std.proofs.Common.{◌≡◌, ℕ, suc, ◌+◌, ◌≤◌, ◌<◌, Bool, true, false, List, [], ◌∷◌, ◌++◌, length, codes, Option, Some, None, Ok, refl, sym, ap, ◌∙◌, subst, arith, length-append}
 use Rattle.std.specs.Prelude.{All}
 use Rattle.std.specs.List.{list_all}
 use Rattle.std.proofs.lemmas.Bool.{and_parts, and_from}
 use Rattle.std.proofs.lemmas.List.Elements.{All-nil, All-cons, All-append}
-use Rattle.std.proofs.lemmas.List.Folds.{list_all-append}
 use Rattle.serde_json.specs.Data.{Data, null, boolean, number, string, array, object, Items, no_items, item}
 use Rattle.cni_json.specs.declared.fields.Field.{Field}
 use Rattle.cni_json.specs.declared.fields.Field.TheVariants.{Absent, WrongKind, Here}
 use Rattle.cni_addr.proofs.Networks.{IsCidr-network_of, network_of_network}
 use Rattle.cni_addr.specs.declared.address.Family.{Family}
-use Rattle.cni_addr.specs.declared.range.Range.{Range}
 use Rattle.cni_addr.specs.declared.range.RangeSet.{RangeSet}
 use Rattle.cni_addr.specs.AddrText.{addr_of_text}
 use Rattle.cni_addr.specs.CidrText.{cidr_of_text}
 use Rattle.cni_addr.specs.Network.{IsCidr, network_of}
 use Rattle.cni_addr.specs.Value.{AddrValue, CidrValue, IsAddr}
 use Rattle.cni_result.specs.declared.result.RouteEntry.{RouteEntry}
+use Rattle.ip_pool.proofs.InOrder.{all_pairs-left, all_pairs-right}
 use Rattle.ip_pool.specs.Pool.{is_apart, are_apart}
 use Rattle.net_conf.proofs.Endings.{each_tested, each_count}
 use Rattle.cni_json.proofs.Endings.{goes, ok_same, passed, each_all}
@@ -53,23 +52,16 @@ set_of-ok (array ds) set form is =
 
 -- ---- ranges that are apart
 
-apart-append : (xs ys : List Range) → are_apart (xs ++ ys) ≡ true → (are_apart xs ≡ true) × (are_apart ys ≡ true)
-apart-append [] ys h = (refl, h)
-apart-append (x ∷ xs) ys h =
-    let here = and_parts (list_all (is_apart x) (xs ++ ys)) (are_apart (xs ++ ys)) h in
-    let more = apart-append xs ys here.1 in
-    let front = and_parts (list_all (is_apart x) xs) (list_all (is_apart x) ys) (sym (list_all-append (is_apart x) xs ys) ∙ here.0) in
-    (and_from (list_all (is_apart x) xs) (are_apart xs) front.0 more.0, more.1)
-
 -- where the sets are separate and each is filled, each is well formed
 all_sets : (sets : List RangeSet) → are_apart (ranges_of sets) ≡ true → list_all is_of_one_family sets ≡ true → All IsFilled sets → All IsWellFormedSet sets
 all_sets [] apart one filled = All-nil IsWellFormedSet
 all_sets (set ∷ sets) apart one filled =
-    let parts = apart-append set.ranges (ranges_of sets) apart in
+    let first = all_pairs-left is_apart set.ranges (ranges_of sets) apart in
+    let others = all_pairs-right is_apart set.ranges (ranges_of sets) apart in
     let families = and_parts (is_of_one_family set) (list_all is_of_one_family sets) one in
     let here = filled 0 set (omega arith) in
     let later : All IsFilled sets = λ k d h. filled (suc k) d (omega arith) in
-    All-cons IsWellFormedSet set sets (record { some = here.0; ranges = here.1; apart = parts.0; one_family = families.0 }) (all_sets sets parts.1 families.1 later)
+    All-cons IsWellFormedSet set sets (record { some = here.0; ranges = here.1; apart = first; one_family = families.0 }) (all_sets sets others families.1 later)
 
 -- ---- all sets
 
