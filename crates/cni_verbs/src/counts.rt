@@ -1,6 +1,6 @@
 //! How many calls an ADD makes after its last lease. Nothing here takes memory.
 
-ghost use Rattle.std.specs.Prelude.{◌≡◌, ◌+◌, ◌*◌, ◌^◌, ◌≤◌, ℕ, List, length, map, filter_map};
+ghost use Rattle.std.specs.Prelude.{◌≡◌, ◌+◌, ◌*◌, ◌^◌, ◌≤◌, ℕ, List, length, map};
 ghost use Rattle.std.specs.Str.{bytes_eq};
 ghost use Rattle.cni_result.specs.declared.result.AddResult.{AddResult};
 ghost use Rattle.cni_result.specs.declared.result.IpEntry.{IpEntry};
@@ -14,7 +14,7 @@ ghost use Rattle.cni_verbs.specs.Script.{back_of};
 ghost use Rattle.cni_verbs.specs.Wanted as wanted;
 
 use crate::wanted::sets_of;
-use crate::words::{mapping_of, some_takes};
+use crate::words::{mapping_of, raw_mappings};
 use bridge_ptp::{bridge_after_count, ptp_after_count};
 use cni_addr::{Addr, Text};
 use cni_result::PortMapping;
@@ -67,17 +67,6 @@ impl<'a> MappingRow for TakenMappings<'a> {
     }
 }
 
-#[tactic(auto, unfolding(crate::specs::CommandWords::mappings_of))]
-fn taken<'a>(list: &NetList, command: &'a Command) -> &'a [RawMapping]
-    ensures { filter_map words.mapping_of result.now ≡ words.mappings_of list.now command.now }
-{
-    if some_takes(list.chained.as_slice()) {
-        command.mappings.as_slice()
-    } else {
-        &[]
-    }
-}
-
 // ---- the plugins
 
 fn count_after(first: &First, two_ends: bool, given: GivenBySets) -> usize
@@ -125,7 +114,7 @@ pub(crate) fn back_count(list: &NetList, command: &Command, given: &[Addr]) -> u
         addrs: given,
     };
     let _few = 2 * list.chained.as_slice().len();
-    let mappings = TakenMappings(taken(list, command));
+    let mappings = TakenMappings(raw_mappings(list, command));
     let after = count_after(&list.first, ends_are_two(command, &command.netns), row);
     let chained = count_all_chained(list.chained.as_slice(), mappings, row);
     after as u128 + chained + 1

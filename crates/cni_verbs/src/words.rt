@@ -183,7 +183,7 @@ fn takes_mappings(chained: &Chained) -> bool
 }
 
 /// Whether some `portmap` is handed the mappings.
-pub(crate) fn some_takes(chained: &[Chained]) -> bool
+fn some_takes(chained: &[Chained]) -> bool
     ensures { result ≡ list_any words.takes_mappings chained.now }
 {
     chained.iter().any(|plugin| takes_mappings(plugin))
@@ -199,8 +199,20 @@ fn all_mappings(alloc: Global, raws: &[RawMapping]) -> Result<Vec<PortMapping>, 
     )
 }
 
-/// The mappings that reach the plugins of the list: none where no `portmap` is handed them.
+/// What the command gives of the mappings that reach the plugins of the list: nothing where no `portmap` is handed
+/// them. Takes no memory.
 #[tactic(auto, unfolding(crate::specs::CommandWords::mappings_of))]
+pub(crate) fn raw_mappings<'a>(list: &NetList, command: &'a Command) -> &'a [RawMapping]
+    ensures { filter_map words.mapping_of result.now ≡ words.mappings_of list.now command.now }
+{
+    if some_takes(list.chained.as_slice()) {
+        command.mappings.as_slice()
+    } else {
+        &[]
+    }
+}
+
+/// The mappings that reach the plugins of the list: none where no `portmap` is handed them.
 pub fn mappings_of(
     alloc: Global,
     list: &NetList,
@@ -208,12 +220,8 @@ pub fn mappings_of(
 ) -> Result<Items<PortMapping>, NoMemory>
     ensures { IfOk result (λ mappings. mappings ≡ words.mappings_of list.now command.now) }
 {
-    if some_takes(list.chained.as_slice()) {
-        let mappings = all_mappings(alloc, command.mappings.as_slice())?;
-        Ok(Items::of_vec(mappings))
-    } else {
-        Ok(Items::new(alloc))
-    }
+    let mappings = all_mappings(alloc, raw_mappings(list, command))?;
+    Ok(Items::of_vec(mappings))
 }
 
 // ---- the tests, in order
