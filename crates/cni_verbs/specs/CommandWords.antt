@@ -2,6 +2,7 @@
 -- codes of section 5).
 use Rattle.std.specs.Prelude.{ℕ, Bool, true, false, not, ◌&&◌, ◌||◌, ◌==◌, nat_lt, List, [], ◌∷◌, length, find, filter_map, codes, Option, Some, None, option_map, is_some, if◌then◌else◌}
 use Rattle.std.specs.List.{list_any, list_all, slice_split}
+use Rattle.std.specs.Option.{option_or}
 use Rattle.std.specs.Str.{byte, bytes_eq}
 use Rattle.cni_addr.specs.AddrText.{addr_of_text}
 use Rattle.cni_addr.specs.declared.address.Addr.{Addr}
@@ -121,10 +122,7 @@ by_ip_argument c None = by_mappings (list_all (λ raw. is_some (mapping_of raw))
 
 -- why an ADD refuses its words, if it does
 unfoldable pub add_refusal : Command → Option Cause
-add_refusal c =
-    if any_fault (add_faults c)
-    then Some (BadWords (add_faults c))
-    else by_ip_argument c (value_of_argument (codes "IP") c.args)
+add_refusal c = option_or (refusal_by (add_faults c)) (by_ip_argument c (value_of_argument (codes "IP") c.args))
 
 -- why a DEL or a CHECK refuses its words, if it does
 unfoldable pub del_refusal : Command → Option Cause

@@ -286,9 +286,8 @@ fn mapping_refusal(command: &Command) -> Option<Cause>
 pub fn add_refusal(alloc: Global, command: &Command) -> Result<Option<Cause>, NoMemory>
     ensures { IfOk result (λ cause. cause ≡ words.add_refusal command.now) }
 {
-    let faults = add_faults(command);
-    if any_fault(faults) {
-        return Ok(Some(Cause::BadWords(faults)));
+    if let Some(cause) = refusal_by(add_faults(command)) {
+        return Ok(Some(cause));
     }
     match value_of_argument("IP", command.args.as_str()) {
         Some(value) => Ok(Some(Cause::IpArgument(Text::of(alloc, value)?))),

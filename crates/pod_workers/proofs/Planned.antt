@@ -4,6 +4,7 @@ use Rattle.std.proofs.Common.{◌≡◌, ℕ, ◌+◌, Bool, true, false, not, L
 use Rattle.std.proofs.lemmas.Option.{none-some}
 use Rattle.std.proofs.lemmas.List.{append_assoc, length_push}
 use Rattle.std.specs.Prelude.{if◌then◌else◌, ◌||◌}
+use Rattle.std.specs.Option.{option_or}
 use Rattle.cni_addr.specs.declared.address.Addr.{Addr}
 use Rattle.cni_addr.specs.declared.range.RangeSet.{RangeSet}
 use Rattle.net_conf.specs.Names.{is_interface_name}
@@ -94,11 +95,16 @@ if-some : {X : Type 0} (b : Bool) (x : X) (o : Option X) → (if b then Some x e
 if-some true x o h = absurd (none-some x (sym h))
 if-some false x o h = refl
 
+names-place : (f : WordFaults) → refusal_by f ≡ None → f.netns ≡ false
+names-place f none = no-fault f.container f.netns f.ifname f.args (if-some (any_fault f) _ _ none)
+
+first-none : {X : Type 0} (o p : Option X) → option_or o p ≡ None → o ≡ None
+first-none None p none = refl
+first-none (Some x) p none = none
+
 has-place : (c : Command) → add_refusal c ≡ None → HasPlace c
 unfolding add_refusal
-has-place c none =
-    let f = add_faults c in
-    no-fault f.container f.netns f.ifname f.args (if-some (any_fault f) _ _ none)
+has-place c none = names-place (add_faults c) (first-none (refusal_by (add_faults c)) _ none)
 
 -- whatever a run was replied, the calls that are left to it are planned
 pub left-are-planned : (list : NetList) (c : Command) (rs : List Reply) → LeftArePlanned list c (state_after list c rs)
@@ -119,9 +125,6 @@ abbrev pub LeftIsOutside : State → Type 0
 LeftIsOutside (Changing change) = IsOutside change
 LeftIsOutside (Over ending given) = Unit {0}
 LeftIsOutside _ = ⊥
-
-names-place : (f : WordFaults) → refusal_by f ≡ None → f.netns ≡ false
-names-place f none = no-fault f.container f.netns f.ifname f.args (if-some (any_fault f) _ _ none)
 
 netns-place : (c : Command) → netns_refusal c ≡ None → HasPlace c
 unfolding netns_refusal
