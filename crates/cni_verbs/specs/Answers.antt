@@ -135,23 +135,25 @@ error_of version c cause = record { version = version; code = code_of cause; msg
 
 -- ---- answers
 
+-- the answer to an ending without a result of its own, in this version
+abbrev pub plain_answer : Version → Command → Ending → Answer
+plain_answer version c Added = answers.Yes
+plain_answer version c Yes = answers.Yes
+plain_answer version c (Skipped skip) = answers.Skipped skip
+plain_answer version c Versions = answers.Versions version
+plain_answer version c (Refused cause) = answers.Refused (error_of version c cause)
+
+-- an ADD has the result that its last plugin made
 abbrev pub answer_of_ending : NetList → Command → Ending → List Addr → Answer
 answer_of_ending list c Added given = answers.Added (result_of_add list (att_of c) c.netns given)
-answer_of_ending list c Yes given = answers.Yes
-answer_of_ending list c (Skipped skip) given = answers.Skipped skip
-answer_of_ending list c Versions given = answers.Versions list.version
-answer_of_ending list c (Refused cause) given = answers.Refused (error_of list.version c cause)
+answer_of_ending list c ending given = plain_answer list.version c ending
 
 unfoldable pub answer_of : NetList → Command → Finish → Answer
 answer_of list c finish = answer_of_ending list c finish.ending finish.given
 
--- a change from outside has no list; its errors are of the newest version
+-- a change from outside has no list, and its errors are of the newest version
 abbrev pub outside_by : Command → Ending → Answer
-outside_by c Added = answers.Yes
-outside_by c Yes = answers.Yes
-outside_by c (Skipped skip) = answers.Skipped skip
-outside_by c Versions = answers.Versions V1_1
-outside_by c (Refused cause) = answers.Refused (error_of V1_1 c cause)
+outside_by c ending = plain_answer V1_1 c ending
 
 unfoldable pub answer_outside : Command → Finish → Answer
 answer_outside c finish = outside_by c finish.ending

@@ -5,7 +5,7 @@ ghost use Rattle.std.specs.Option.{option_copied};
 ghost use Rattle.kernel_types.specs.declared.call.Call.{Call};
 ghost use Rattle.kernel_types.specs.declared.call.Kind.{Kind};
 ghost use Rattle.cni_verbs.specs.Script.{IsOpen, finish_of};
-ghost use Rattle.cni_verbs.specs.Answers.{answer_of_ending, outside_by};
+ghost use Rattle.cni_verbs.specs.Answers.{answer_of_ending, plain_answer};
 ghost use Rattle.cni_verbs.specs.Progress as progress;
 ghost use Rattle.cni_verbs.specs.Phases.{IsKept, IsReady, denied, questions_left, state_in, state_outside};
 
@@ -23,7 +23,37 @@ use net_conf::NetList;
 use pod_file::Command;
 use std::alloc::Global;
 
+/// The answer to an ending without a result of its own, in this version.
+fn plain_answer(
+    alloc: Global,
+    version: Version,
+    command: &Command,
+    ending: &Ending,
+) -> Result<Answer, NoMemory>
+    ensures { IfOk result (λ answer. answer ≡ plain_answer version command.now ending.now) }
+{
+    match ending {
+        Ending::Added | Ending::Yes => Ok(Answer::Yes),
+        Ending::Skipped(skip) => Ok(Answer::Skipped(*skip)),
+        Ending::Versions => Ok(Answer::Versions(version)),
+        Ending::Refused(cause) => refused(alloc, version, command, cause),
+    }
+}
+
 // ---- a verb of a network
+
+fn added(
+    alloc: Global,
+    list: &NetList,
+    command: &Command,
+    given: &[Addr],
+) -> Result<Answer, NoMemory>
+    ensures { IfOk result (λ answer. answer ≡ answer_of_ending list.now command.now Ending.Added given.now) }
+{
+    let att = att_of(command)?;
+    let added = result_of_add(alloc, list, &att, &command.netns, given)?;
+    Ok(Answer::Added(added))
+}
 
 fn ended(
     alloc: Global,
@@ -35,15 +65,10 @@ fn ended(
     ensures { IfOk result (λ answer. answer ≡ answer_of_ending list.now command.now ending.now given.now) }
 {
     match ending {
-        Ending::Added => {
-            let att = att_of(command)?;
-            let added = result_of_add(alloc, list, &att, &command.netns, given)?;
-            Ok(Answer::Added(added))
+        Ending::Added => added(alloc, list, command, given),
+        Ending::Yes | Ending::Skipped(_) | Ending::Versions | Ending::Refused(_) => {
+            plain_answer(alloc, list.version, command, ending)
         }
-        Ending::Yes => Ok(Answer::Yes),
-        Ending::Skipped(skip) => Ok(Answer::Skipped(*skip)),
-        Ending::Versions => Ok(Answer::Versions(list.version)),
-        Ending::Refused(cause) => refused(alloc, list.version, command, cause),
     }
 }
 
@@ -133,17 +158,6 @@ pub(crate) fn answer_of(
 
 // ---- a change from outside
 
-fn ended_outside(alloc: Global, command: &Command, ending: &Ending) -> Result<Answer, NoMemory>
-    ensures { IfOk result (λ answer. answer ≡ outside_by command.now ending.now) }
-{
-    match ending {
-        Ending::Added | Ending::Yes => Ok(Answer::Yes),
-        Ending::Skipped(skip) => Ok(Answer::Skipped(*skip)),
-        Ending::Versions => Ok(Answer::Versions(Version::V1_1)),
-        Ending::Refused(cause) => refused(alloc, Version::V1_1, command, cause),
-    }
-}
-
 /// What the run of no network answers, where it is over.
 #[tactic(auto, unfolding(crate::specs::Answers::answer_outside, crate::specs::Script::finish_of))]
 pub(crate) fn answer_outside(
@@ -157,7 +171,7 @@ pub(crate) fn answer_outside(
         return Ok(None);
     }
     match phase {
-        Phase::Over(ending) => Ok(Some(ended_outside(alloc, command, ending)?)),
+        Phase::Over(ending) => Ok(Some(plain_answer(alloc, Version::V1_1, command, ending)?)),
         _ => Ok(Some(Answer::Yes)),
     }
 }
