@@ -179,50 +179,38 @@ not_same a b is e = true≢false (sym ((bytes_eq-Decides a b).1 e) ∙ is)
 apart : {X : Type 0} → false ≡ true → X
 apart h = absurd (true≢false (sym h))
 
+-- the argument at this place of the command has this name, which no other has, and this parser
+passes_at : (c : Command) (m : ArgMatches) → IsParsedFrom c m → app_of c ≡ the_app → (k : ℕ) (name : Text) (q : ValueParser) → k < 6
+    → ((d : Arg) → (slice_index_or the_rules k (rule_of d)).id ≡ name) → ((d : Arg) → (slice_index_or the_rules k (rule_of d)).parser ≡ Some q)
+    → ((d : Arg) → (slice_index_or the_rules k (rule_of d)).ignore_case ≡ false)
+    → ((e : Arg) (j : ℕ) → j < 6 → bytes_eq (slice_index_or the_rules j (rule_of e)).id name ≡ true → j ≡ k)
+    → bytes_eq name (codes "help") ≡ false → bytes_eq name (codes "version") ≡ false → bytes_eq name [] ≡ false → Passes m name q
+passes_at c m p is k name q inside id parser exact only no_help no_version named = passes c m p is k name q (record {
+  inside = subst (λ n. k < n) (sym (arg_count c is)) inside;
+  id = λ d. id_at c is k d ∙ id d;
+  parser = λ d. ap (λ r. r.parser) (sym (rule_at c is k d)) ∙ parser d;
+  exact = λ d. ap (λ r. r.ignore_case) (sym (rule_at c is k d)) ∙ exact d;
+  only = only_at c is k name only;
+  no_help = not_same name (codes "help") no_help;
+  no_version = not_same name (codes "version") no_version;
+}) (not_same name [] named)
+
 pub passes-threads : (c : Command) (m : ArgMatches) → IsParsedFrom c m → app_of c ≡ the_app → Passes m (codes "threads") (counts_to most_threads)
-passes-threads c m p is = passes c m p is 0 (codes "threads") (counts_to most_threads) (record {
-  inside = subst (λ n. 0 < n) (sym (arg_count c is)) (omega arith);
-  id = id_at c is 0;
-  parser = λ d. ap (λ r. r.parser) (sym (rule_at c is 0 d));
-  exact = λ d. ap (λ r. r.ignore_case) (sym (rule_at c is 0 d));
-  only = only_at c is 0 (codes "threads") (λ e. six (λ j. bytes_eq (slice_index_or the_rules j (rule_of e)).id (codes "threads") ≡ true → j ≡ 0)
-      (λ h. refl) apart apart apart apart apart);
-  no_help = not_same (codes "threads") (codes "help") refl;
-  no_version = not_same (codes "threads") (codes "version") refl;
-}) (not_same (codes "threads") [] refl)
+passes-threads c m p is =
+    passes_at c m p is 0 (codes "threads") (counts_to most_threads) (omega arith) (λ d. refl) (λ d. refl) (λ d. refl)
+    (λ e. six (λ j. bytes_eq (slice_index_or the_rules j (rule_of e)).id (codes "threads") ≡ true → j ≡ 0) (λ h. refl) apart apart apart apart apart) refl refl refl
 
 pub passes-stop_at : (c : Command) (m : ArgMatches) → IsParsedFrom c m → app_of c ≡ the_app → Passes m (codes "stop-at") (counts_to greatest_entry)
-passes-stop_at c m p is = passes c m p is 1 (codes "stop-at") (counts_to greatest_entry) (record {
-  inside = subst (λ n. 1 < n) (sym (arg_count c is)) (omega arith);
-  id = id_at c is 1;
-  parser = λ d. ap (λ r. r.parser) (sym (rule_at c is 1 d));
-  exact = λ d. ap (λ r. r.ignore_case) (sym (rule_at c is 1 d));
-  only = only_at c is 1 (codes "stop-at") (λ e. six (λ j. bytes_eq (slice_index_or the_rules j (rule_of e)).id (codes "stop-at") ≡ true → j ≡ 1)
-      apart (λ h. refl) apart apart apart apart);
-  no_help = not_same (codes "stop-at") (codes "help") refl;
-  no_version = not_same (codes "stop-at") (codes "version") refl;
-}) (not_same (codes "stop-at") [] refl)
+passes-stop_at c m p is =
+    passes_at c m p is 1 (codes "stop-at") (counts_to greatest_entry) (omega arith) (λ d. refl) (λ d. refl) (λ d. refl)
+    (λ e. six (λ j. bytes_eq (slice_index_or the_rules j (rule_of e)).id (codes "stop-at") ≡ true → j ≡ 1) apart (λ h. refl) apart apart apart apart) refl refl refl
 
 pub passes-trace : (c : Command) (m : ArgMatches) → IsParsedFrom c m → app_of c ≡ the_app → Passes m (codes "trace") parser.Bool
-passes-trace c m p is = passes c m p is 2 (codes "trace") parser.Bool (record {
-  inside = subst (λ n. 2 < n) (sym (arg_count c is)) (omega arith);
-  id = id_at c is 2;
-  parser = λ d. ap (λ r. r.parser) (sym (rule_at c is 2 d));
-  exact = λ d. ap (λ r. r.ignore_case) (sym (rule_at c is 2 d));
-  only = only_at c is 2 (codes "trace") (λ e. six (λ j. bytes_eq (slice_index_or the_rules j (rule_of e)).id (codes "trace") ≡ true → j ≡ 2)
-      apart apart (λ h. refl) apart apart apart);
-  no_help = not_same (codes "trace") (codes "help") refl;
-  no_version = not_same (codes "trace") (codes "version") refl;
-}) (not_same (codes "trace") [] refl)
+passes-trace c m p is =
+    passes_at c m p is 2 (codes "trace") parser.Bool (omega arith) (λ d. refl) (λ d. refl) (λ d. refl)
+    (λ e. six (λ j. bytes_eq (slice_index_or the_rules j (rule_of e)).id (codes "trace") ≡ true → j ≡ 2) apart apart (λ h. refl) apart apart apart) refl refl refl
 
 pub passes-dump : (c : Command) (m : ArgMatches) → IsParsedFrom c m → app_of c ≡ the_app → Passes m (codes "dump") parser.Bool
-passes-dump c m p is = passes c m p is 3 (codes "dump") parser.Bool (record {
-  inside = subst (λ n. 3 < n) (sym (arg_count c is)) (omega arith);
-  id = id_at c is 3;
-  parser = λ d. ap (λ r. r.parser) (sym (rule_at c is 3 d));
-  exact = λ d. ap (λ r. r.ignore_case) (sym (rule_at c is 3 d));
-  only = only_at c is 3 (codes "dump") (λ e. six (λ j. bytes_eq (slice_index_or the_rules j (rule_of e)).id (codes "dump") ≡ true → j ≡ 3)
-      apart apart apart (λ h. refl) apart apart);
-  no_help = not_same (codes "dump") (codes "help") refl;
-  no_version = not_same (codes "dump") (codes "version") refl;
-}) (not_same (codes "dump") [] refl)
+passes-dump c m p is =
+    passes_at c m p is 3 (codes "dump") parser.Bool (omega arith) (λ d. refl) (λ d. refl) (λ d. refl)
+    (λ e. six (λ j. bytes_eq (slice_index_or the_rules j (rule_of e)).id (codes "dump") ≡ true → j ≡ 3) apart apart apart (λ h. refl) apart apart) refl refl refl
