@@ -11,7 +11,7 @@ ghost use Rattle.cni_verbs.specs.Phases.{IsKept, IsReady, denied, questions_left
 
 use crate::answer::{Answer, Ending, Question};
 use crate::errors::refused;
-use crate::inquiry::{Inquiry, questions_about};
+use crate::inquiry::{Inquiry, questions_of};
 use crate::over::{is_over, is_over_outside};
 use crate::phase::Phase;
 use crate::wanted::result_of_add;
@@ -102,13 +102,8 @@ fn denied(
     requires { IsReady list.now command.now inquiry.now }
     ensures { IfOk result (λ answer. Some answer ≡ option_map (progress.answer_by (Some list.now) command.now) (finish_of (denied (questions_left list.now command.now inquiry.now)))) }
 {
-    match &inquiry.questions {
-        Some(questions) => denied_at(alloc, list, command, questions.as_slice(), inquiry.passed),
-        None => {
-            let questions = questions_about(alloc, list, command, &inquiry.about)?;
-            denied_at(alloc, list, command, questions.as_slice(), inquiry.passed)
-        }
-    }
+    let questions = questions_of(alloc, list, command, inquiry)?;
+    denied_at(alloc, list, command, questions.as_slice(), inquiry.passed)
 }
 
 fn answer_at_end(

@@ -1,9 +1,11 @@
 //! What a CHECK or a STATUS asks, one question at a time.
 
 ghost use Rattle.std.specs.Prelude.{◌≡◌, IfOk, option_map, slice_get};
+ghost use Rattle.std.specs.Cow.{cow_slice_items};
 ghost use Rattle.cni_verbs.specs.Phases.{IsReady, questions_about};
 
 use crate::answer::Question;
+use crate::prepare::prepared_or_made;
 use crate::questions::{check_questions, status_questions};
 use cni_addr::{Duplicate, Items, NoMemory};
 use cni_result::Cached;
@@ -11,6 +13,7 @@ use kernel_types::Call;
 use net_conf::NetList;
 use pod_file::Command;
 use std::alloc::Global;
+use std::borrow::CowSlice;
 
 /// What is asked, and how far. A CHECK has the cached entry that it asks about, a STATUS has none.
 #[derive(Drop)]
@@ -59,6 +62,21 @@ fn call_of(questions: &[Question], place: usize) -> Result<Option<Call>, NoMemor
     }
 }
 
+/// The questions of what is asked.
+pub(crate) fn questions_of<'a>(
+    alloc: Global,
+    list: &NetList,
+    command: &Command,
+    inquiry: &'a Inquiry,
+) -> Result<CowSlice<'a, Question>, NoMemory>
+    requires { IsReady list.now command.now inquiry.now }
+    ensures { IfOk result (λ questions. cow_slice_items questions ≡ questions_about list.now command.now inquiry.entry.now.about) }
+{
+    prepared_or_made(&inquiry.questions, || {
+        questions_about(alloc, list, command, &inquiry.about)
+    })
+}
+
 /// The call of the question that is asked next, or none where all were answered.
 pub(crate) fn call_asked(
     alloc: Global,
@@ -69,11 +87,6 @@ pub(crate) fn call_asked(
     requires { IsReady list.now command.now inquiry.now }
     ensures { IfOk result (λ next. next ≡ option_map (λ question. question.call) (slice_get (questions_about list.now command.now inquiry.now.about) inquiry.now.passed)) }
 {
-    match &inquiry.questions {
-        Some(questions) => call_of(questions.as_slice(), inquiry.passed),
-        None => {
-            let questions = questions_about(alloc, list, command, &inquiry.about)?;
-            call_of(questions.as_slice(), inquiry.passed)
-        }
-    }
+    let questions = questions_of(alloc, list, command, inquiry)?;
+    call_of(questions.as_slice(), inquiry.passed)
 }

@@ -9,6 +9,7 @@ ghost use Rattle.cni_verbs.specs.Phases.{IsKept, state_in, state_outside};
 
 use crate::inquiry::call_asked;
 use crate::phase::Phase;
+use crate::prepare::prepared_or_made;
 use crate::wanted::{back_calls, calls_before, deletion, sets_of};
 use crate::words::{att_of, mappings_of};
 use cni_addr::{Addr, Duplicate, Items, NoMemory, RangeSet};
@@ -90,10 +91,8 @@ fn call_after(
     requires { MatchOption calls.now ⊤ (λ all. all ≡ back_of list.now command.now given.now) }
     ensures { IfOk result (λ next. next ≡ slice_get (back_of list.now command.now given.now) place) }
 {
-    match calls {
-        Some(calls) => call_at(calls.as_slice(), place),
-        None => call_at(back_of(alloc, list, command, given)?.as_slice(), place),
-    }
+    let calls = prepared_or_made(calls, || back_of(alloc, list, command, given))?;
+    call_at(calls.as_slice(), place)
 }
 
 fn cache_get(command: &Command) -> Result<Option<Call>, NoMemory>

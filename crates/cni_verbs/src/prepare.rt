@@ -1,15 +1,31 @@
 //! What the next call is looked up in, made ahead.
 
-ghost use Rattle.std.specs.Prelude.{◌≡◌};
+ghost use Rattle.std.specs.Prelude.{◌≡◌, Ok, IfOk, MatchOption};
+ghost use Rattle.std.specs.Cow.{cow_slice_items};
 ghost use Rattle.cni_verbs.specs.Phases.{IsReady, IsSameButPrepared};
 
 use crate::inquiry::{Inquiry, questions_about};
 use crate::next::back_of;
 use crate::phase::Phase;
-use cni_addr::{Addr, NoMemory};
+use cni_addr::{Addr, Items, NoMemory};
 use net_conf::NetList;
 use pod_file::Command;
 use std::alloc::Global;
+use std::borrow::CowSlice;
+
+/// What was prepared, or else what is made now.
+pub(crate) fn prepared_or_made<'a, T: Drop, F: FnOnce() -> Result<Items<T>, NoMemory>>(
+    prepared: &'a Option<Items<T>>,
+    make: F,
+) -> Result<CowSlice<'a, T>, NoMemory>
+    requires { F.IsAlwaysCallable make }
+    ensures { IfOk result (λ items. MatchOption prepared.entry.now (F.post make (Ok (cow_slice_items items))) (λ all. cow_slice_items items ≡ all)) }
+{
+    match prepared {
+        Some(all) => Ok(CowSlice::Borrowed(all.as_slice())),
+        None => Ok(CowSlice::Owned(make()?.into_vec())),
+    }
+}
 
 fn prepare_inquiry(
     alloc: Global,
