@@ -8,5 +8,4 @@ pub mod Ends
 pub mod Gathered
 pub mod NextCalls
 pub mod PhaseSteps
-pub mod Spaced
 pub mod WantedShare

@@ -95,23 +95,27 @@ call_text number = codes "call " ++ decimal number
 abbrev pub set_text : ℕ → List ℕ
 set_text set = codes "set " ++ decimal set
 
+-- two texts with a space between them
+abbrev pub spaced : List ℕ → List ℕ → List ℕ
+spaced word text = word ++ (codes " " ++ text)
+
 -- what has a name of its own in a namespace, after the word for what it is
 abbrev pub named_text : List ℕ → List ℕ → List ℕ → List ℕ
-named_text word ns name = word ++ codes " " ++ place_text ns ++ codes " " ++ name
+named_text word ns name = spaced word (spaced (place_text ns) name)
 
 -- what a link has of a network, after the word for what it is
 abbrev pub on_link_text : List ℕ → List ℕ → List ℕ → Cidr → List ℕ
-on_link_text word ns link cidr = named_text word ns link ++ codes " " ++ cidr_text cidr
+on_link_text word ns link cidr = named_text word ns (spaced link (cidr_text cidr))
 
 -- an object by its key, a rule by its place
 abbrev pub missed_text : Missed → List ℕ
-missed_text (missed.Bridge name) = codes "bridge " ++ name
+missed_text (missed.Bridge name) = spaced (codes "bridge") name
 missed_text (missed.Link ns name) = named_text (codes "link") ns name
 missed_text (missed.Address ns link cidr) = on_link_text (codes "address") ns link cidr
 missed_text (missed.Route ns link dst) = on_link_text (codes "route") ns link dst
 missed_text (missed.Rule table chain number) = codes "rule " ++ table_text table ++ codes " " ++ chain_text chain ++ codes " " ++ decimal number
 missed_text (missed.Setting ns key) = named_text (codes "setting") ns key
-missed_text (missed.Lease addr) = codes "lease " ++ addr_text addr
+missed_text (missed.Lease addr) = spaced (codes "lease") (addr_text addr)
 
 abbrev pub details_of : Command → Cause → List ℕ
 details_of c (BadWords faults) = []
@@ -126,7 +130,7 @@ details_of c (Faults calls) = joined_by_comma (map call_text calls)
 details_of c (TooOld version) = verb_text c.verb
 details_of c Unknown = attachment_text (att_of c)
 details_of c (NoFreeAddress set) = set_text set
-details_of c (MasterAbsent name) = codes "master " ++ name
+details_of c (MasterAbsent name) = spaced (codes "master") name
 details_of c NothingThere = c.ifname
 details_of c (Missing what) = missed_text what
 

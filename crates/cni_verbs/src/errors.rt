@@ -1,13 +1,13 @@
 //! The errors of refusals (CNI specification, section 5, "Error").
 
-ghost use Rattle.std.specs.Prelude.{◌≡◌, ◌++◌, codes, map, string_bytes, IfOk, OnOk};
+ghost use Rattle.std.specs.Prelude.{◌≡◌, ◌++◌, map, string_bytes, IfOk, OnOk};
 ghost use Rattle.serde_json.specs.Data.{string};
 ghost use Rattle.serde_json.specs.Written.{compact_text};
 ghost use Rattle.cni_verbs.specs.Answers as answers;
 
 use crate::answer::{Answer, Cause, WordFaults};
 use crate::error_kind::{ErrorKind, message_of_field};
-use crate::missed::missed_text;
+use crate::missed::{missed_text, spaced};
 use crate::words::att_of;
 use cni_addr::{Duplicate, Items, NoMemory, Text};
 use cni_result::{CniError, Version, version_text};
@@ -157,13 +157,6 @@ fn calls_text(alloc: Global, numbers: &[u64]) -> Result<Text, NoMemory>
     joined(alloc, texts.as_slice())
 }
 
-fn master_text(alloc: Global, name: &Text) -> Result<Text, NoMemory>
-    ensures { IfOk result (λ text. text ≡ codes "master " ++ name.now) }
-{
-    let name = name.as_str();
-    Text::of(alloc, format!(in alloc; "master {name}")?.as_str())
-}
-
 fn details_of(alloc: Global, command: &Command, cause: &Cause) -> Result<Text, NoMemory>
     ensures { IfOk result (λ text. text ≡ answers.details_of command.now cause.now) }
 {
@@ -175,7 +168,7 @@ fn details_of(alloc: Global, command: &Command, cause: &Cause) -> Result<Text, N
         Cause::Faults(numbers) => calls_text(alloc, numbers.as_slice()),
         Cause::TooOld(_) => Text::of(alloc, verb_text(command.verb)),
         Cause::Unknown => attachment_text(alloc, &att_of(command)?),
-        Cause::MasterAbsent(name) => master_text(alloc, name),
+        Cause::MasterAbsent(name) => spaced(alloc, "master", name.as_str()),
         Cause::NothingThere => command.ifname.copy(),
         Cause::Missing(missed) => missed_text(alloc, missed),
         Cause::BadWords(_) | Cause::IpArgument(_) | Cause::BadMapping | Cause::NoMaster => {

@@ -1,6 +1,6 @@
 //! What a check missed, as its error names it.
 
-ghost use Rattle.std.specs.Prelude.{◌≡◌, ◌++◌, codes, IfOk};
+ghost use Rattle.std.specs.Prelude.{◌≡◌, IfOk};
 ghost use Rattle.cni_verbs.specs.Answers as answers;
 
 use crate::answer::Missed;
@@ -15,20 +15,19 @@ fn place_text(ns: &str) -> &str
     if ns.is_empty() { "-" } else { ns }
 }
 
-fn bridge_text(alloc: Global, name: &Text) -> Result<Text, NoMemory>
-    ensures { IfOk result (λ text. text ≡ codes "bridge " ++ name.now) }
+/// Two texts with a space between them.
+pub(crate) fn spaced(alloc: Global, word: &str, text: &str) -> Result<Text, NoMemory>
+    ensures { IfOk result (λ both. both ≡ answers.spaced word.now text.now) }
 {
-    let name = name.as_str();
-    Text::of(alloc, format!(in alloc; "bridge {name}")?.as_str())
+    Text::of(alloc, format!(in alloc; "{word} {text}")?.as_str())
 }
 
 /// What has a name of its own in a namespace, after the word for what it is.
 fn named_text(alloc: Global, word: &str, ns: &Text, name: &Text) -> Result<Text, NoMemory>
     ensures { IfOk result (λ text. text ≡ answers.named_text word.now ns.now name.now) }
 {
-    let place = place_text(ns.as_str());
-    let name = name.as_str();
-    Text::of(alloc, format!(in alloc; "{word} {place} {name}")?.as_str())
+    let there = spaced(alloc, place_text(ns.as_str()), name.as_str())?;
+    spaced(alloc, word, there.as_str())
 }
 
 /// What a link has of a network, after the word for what it is.
@@ -41,14 +40,9 @@ fn on_link_text(
 ) -> Result<Text, NoMemory>
     ensures { IfOk result (λ text. text ≡ answers.on_link_text word.now ns.now link.now cidr.now) }
 {
-    let place = place_text(ns.as_str());
-    let link = link.as_str();
-    let cidr = write_cidr(alloc, cidr)?;
-    let network = cidr.as_str();
-    Text::of(
-        alloc,
-        format!(in alloc; "{word} {place} {link} {network}")?.as_str(),
-    )
+    let network = write_cidr(alloc, cidr)?;
+    let on_link = spaced(alloc, link.as_str(), network.as_str())?;
+    named_text(alloc, word, ns, &on_link)
 }
 
 fn rule_text(alloc: Global, table: Table, chain: Chain, number: u64) -> Result<Text, NoMemory>
@@ -65,9 +59,8 @@ fn rule_text(alloc: Global, table: Table, chain: Chain, number: u64) -> Result<T
 fn lease_text(alloc: Global, addr: &Addr) -> Result<Text, NoMemory>
     ensures { IfOk result (λ text. text ≡ answers.missed_text (Missed.Lease addr.now)) }
 {
-    let addr = write_addr(alloc, addr)?;
-    let address = addr.as_str();
-    Text::of(alloc, format!(in alloc; "lease {address}")?.as_str())
+    let address = write_addr(alloc, addr)?;
+    spaced(alloc, "lease", address.as_str())
 }
 
 /// What was missed: an object by its key, a rule by its place. The host's namespace is written `-`. The spelling is
@@ -76,7 +69,7 @@ pub(crate) fn missed_text(alloc: Global, missed: &Missed) -> Result<Text, NoMemo
     ensures { IfOk result (λ text. text ≡ answers.missed_text missed.now) }
 {
     match missed {
-        Missed::Bridge(name) => bridge_text(alloc, name),
+        Missed::Bridge(name) => spaced(alloc, "bridge", name.as_str()),
         Missed::Link { ns, name } => named_text(alloc, "link", ns, name),
         Missed::Address { ns, link, cidr } => on_link_text(alloc, "address", ns, link, cidr),
         Missed::Route { ns, link, dst } => on_link_text(alloc, "route", ns, link, dst),
