@@ -214,12 +214,14 @@ fn ask_bridge(
 fn addresses_in(alloc: Global, added: &AddResult) -> Result<Vec<Addr>, NoMemory>
     ensures { IfOk result (λ addrs. addrs.items ≡ asked.addresses_in added.now) }
 {
-    let ips = added.ips.as_slice();
-    let mut addrs = Vec::with_capacity(alloc, ips.len())?;
-    for ip in ips {
-        addrs.push(ip.address.addr)?;
-    }
-    Ok(addrs)
+    Ok(
+        added
+            .ips
+            .as_slice()
+            .iter()
+            .map(|ip| ip.address.addr)
+            .collect(alloc)?,
+    )
 }
 
 fn cached_share(
