@@ -11,11 +11,9 @@ use Rattle.net_conf.specs.declared.chained.Chained.TheVariants.{Portmap, Firewal
 use Rattle.net_conf.specs.declared.chained.FirewallConf.{FirewallConf}
 use Rattle.net_conf.specs.declared.chained.PortmapConf.{PortmapConf}
 use Rattle.net_conf.specs.declared.chained.TuningConf.{TuningConf}
-use Rattle.net_conf.specs.declared.first.BridgeConf.{BridgeConf}
 use Rattle.net_conf.specs.declared.first.First.{First}
 use Rattle.net_conf.specs.declared.first.First.TheVariants as firsts
 use Rattle.net_conf.specs.declared.first.MacvlanConf.{MacvlanConf}
-use Rattle.net_conf.specs.declared.first.PtpConf.{PtpConf}
 use Rattle.net_conf.specs.declared.list.NetList.{NetList}
 use Rattle.pod_file.specs.declared.command.Command.{Command}
 use Rattle.kernel_types.specs.Apply.Calls.{set_link}
@@ -28,8 +26,6 @@ use Rattle.plan_words.specs.Share.{Share}
 use Rattle.kernel_types.specs.Words.{lease_of}
 use Rattle.plan_words.specs.Rows.{present}
 use Rattle.plan_words.proofs.RowLemmas.{present-map_some}
-use Rattle.bridge_ptp.specs.Bridge.{bridge_share_after}
-use Rattle.bridge_ptp.specs.Ptp.{ptp_share_after}
 use Rattle.macvlan.specs.Macvlan.{macvlan_share_after, macvlan_calls_after}
 use Rattle.portmap.specs.Portmap.{portmap_rules, portmap_calls_of}
 use Rattle.firewall_tuning.specs.Firewall.{firewall_rules, firewall_calls_of}
@@ -44,13 +40,10 @@ use Rattle.cni_verbs.specs.Wanted.{sets_of, share_before, share_after, rules_of,
 abbrev pub count_in : Share → ℕ
 count_in s = length s.addresses + length s.routes + length s.rules
 
-pub bridge-objects : (first : First) (conf : BridgeConf) (att : Att) (netns : List ℕ) (given : List Given) (n : ℕ) → first ≡ firsts.Bridge conf
-    → count_in (bridge_share_after conf att netns given) ≡ n → n ≡ count_in (share_after first att netns given)
-bridge-objects first conf att netns given n is h = sym h ∙ ap (λ f. count_in (share_after f att netns given)) (sym is)
-
-pub ptp-objects : (first : First) (conf : PtpConf) (att : Att) (netns : List ℕ) (given : List Given) (n : ℕ) → first ≡ firsts.Ptp conf
-    → count_in (ptp_share_after conf att netns given) ≡ n → n ≡ count_in (share_after first att netns given)
-ptp-objects first conf att netns given n is h = sym h ∙ ap (λ f. count_in (share_after f att netns given)) (sym is)
+-- a count of the objects of the plugin that was seen is one of the first plugin's
+pub first-objects : (first seen : First) (att : Att) (netns : List ℕ) (given : List Given) (n : ℕ) → first ≡ seen
+    → count_in (share_after seen att netns given) ≡ n → n ≡ count_in (share_after first att netns given)
+first-objects first seen att netns given n is h = sym h ∙ ap (λ f. count_in (share_after f att netns given)) (sym is)
 
 macvlan-counted : (conf : MacvlanConf) (att : Att) (netns : List ℕ) (given : List Given) → length (macvlan_calls_after conf att netns given) ≡ count_in (macvlan_share_after conf att netns given)
 macvlan-counted conf att netns given =
@@ -60,7 +53,7 @@ macvlan-counted conf att netns given =
 -- all that `macvlan` makes is an address or a route
 pub macvlan-objects : (first : First) (conf : MacvlanConf) (att : Att) (netns : List ℕ) (given : List Given) (n : ℕ) → first ≡ firsts.Macvlan conf
     → length (macvlan_calls_after conf att netns given) ≡ n → n ≡ count_in (share_after first att netns given)
-macvlan-objects first conf att netns given n is h = sym h ∙ macvlan-counted conf att netns given ∙ ap (λ f. count_in (share_after f att netns given)) (sym is)
+macvlan-objects first conf att netns given n is h = first-objects first (firsts.Macvlan conf) att netns given n is (sym (macvlan-counted conf att netns given) ∙ h)
 
 -- rules and settings
 abbrev pub count_made : Chained → Att → List ℕ → List PortMapping → List IpEntry → ℕ

@@ -1,7 +1,8 @@
-use Rattle.std.proofs.Common.{◌≡◌, ◌+◌, ◌≤◌, [], ◌∷◌, length, drop, sym, ◌∙◌, ap, arith}
+use Rattle.std.proofs.Common.{◌≡◌, ◌+◌, ◌≤◌, [], ◌∷◌, length, drop, ap, arith}
 use Rattle.std.specs.Prelude.{flat_map}
-use Rattle.std.proofs.lemmas.List.{drop_all, drop_more}
+use Rattle.std.proofs.lemmas.List.{drop_all}
 use Rattle.cni_verbs.specs.Wanted.{rules_of, settings_of}
+use Rattle.cni_verbs.proofs.Asked.{left_from}
 use Rattle.cni_verbs.proofs.CheckCounts.{length-made}
 use Rattle.cni_verbs.proofs.check_counts.count_all_made.Goals as goal
 
@@ -12,7 +13,7 @@ loop-plugin-preserved c = record {
       let plugin = c.plugin-item.result in
       let place = c.loop-plugin.plugin-index in
       let rest = drop (place + 1) c.args.chained.now in
-      let split : drop place c.args.chained.now ≡ plugin ∷ rest = drop_more c.args.chained.now place plugin c.loop-plugin-test.true ∙ ap (λ p. p ∷ rest) (sym c.plugin-item.is) in
+      let split : drop place c.args.chained.now ≡ plugin ∷ rest = left_from c.args.chained.now place plugin c.loop-plugin-test.true c.plugin-item.is in
       omega (
         arith,
         c.loop-plugin.invariant.so_far att netns ips same,

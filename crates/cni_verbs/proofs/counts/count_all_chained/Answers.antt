@@ -1,8 +1,8 @@
-use Rattle.std.proofs.Common.{◌≡◌, ◌+◌, ◌∷◌, length, map, drop, sym, ◌∙◌, ap, arith}
-use Rattle.std.proofs.lemmas.List.{drop_more}
+use Rattle.std.proofs.Common.{◌≡◌, ◌+◌, ◌∷◌, length, map, drop, ap, arith}
 use Rattle.plan_words.specs.Rows.{present}
 use Rattle.cni_verbs.specs.CommandWords.{mapping_of}
 use Rattle.cni_verbs.specs.Wanted.{all_chained_calls}
+use Rattle.cni_verbs.proofs.Asked.{left_from}
 use Rattle.cni_verbs.proofs.BackCounts.{length-chained}
 use Rattle.cni_verbs.proofs.counts.count_all_chained.Goals as goal
 
@@ -13,7 +13,7 @@ loop-plugin-preserved c = record {
       let plugin = c.plugin-item.result in
       let place = c.loop-plugin.plugin-index in
       let rest = drop (place + 1) c.args.chained.now in
-      let split : drop place c.args.chained.now ≡ plugin ∷ rest = drop_more c.args.chained.now place plugin c.loop-plugin-test.true ∙ ap (λ p. p ∷ rest) (sym c.plugin-item.is) in
+      let split : drop place c.args.chained.now ≡ plugin ∷ rest = left_from c.args.chained.now place plugin c.loop-plugin-test.true c.plugin-item.is in
       omega (
         arith,
         c.loop-plugin.invariant.so_far att netns prev same,
