@@ -41,12 +41,6 @@ turn-finishes c s f is = elim (calls_or_over c s) [
   | inr o ↦ o.turn_is ∙ ap Finishes (same_Some o.finish f (sym o.finish_is ∙ is))
 ]
 
-over-finishes : (c : Command) (s : State) → next_call c s ≡ None → (f : Finish) × (finish_of s ≡ Some f)
-over-finishes c s is = elim (calls_or_over c s) [
-  | inl k ↦ absurd (none-some k.call (sym is ∙ k.next_is))
-  | inr o ↦ (o.finish, o.finish_is)
-]
-
 open-where : (c : Command) (s : State) (call : Call) → turn c s ≡ Calls call → IsOpen s
 open-where c s call is = elim (calls_or_over c s) [
   | inl k ↦ k.is_open
@@ -69,21 +63,17 @@ stop-by : (made : ℕ) (n : Next) (b : Bool) → b ≡ true → (if b then next.
 stop-by made n true reached = refl
 stop-by made n false reached = absurd (false≢true reached)
 
-unfinished : (c : Command) (s : State) → finish_of s ≡ None → (call : Call) × (next_call c s ≡ Some call)
-unfinished c s is = elim (calls_or_over c s) [
+open-calls : (c : Command) (s : State) → IsOpen s → (call : Call) × (next_call c s ≡ Some call)
+open-calls c s is_open = elim (calls_or_over c s) [
   | inl k ↦ (k.call, k.next_is)
-  | inr o ↦ absurd (none-some o.finish (sym is ∙ o.finish_is))
+  | inr o ↦ absurd (o.not_open is_open)
 ]
 
-none-of : (list : Option NetList) (c : Command) (o : Option Finish) → option_map (answer_by list c) o ≡ None → o ≡ None
-none-of list c None is = refl
-none-of list c (Some f) is = absurd (none-some _ (sym is))
-
-pub look-stop : (s : Slot) (c : Command) (cut stopped : Bool) → s.run.command ≡ c → stopped ≡ (is_stop c.stop s.made || cut) → stopped ≡ true → option_map (answer_by s.run.list s.run.command) (finish_of s.run.state) ≡ None
+pub look-stop : (s : Slot) (c : Command) (cut stopped : Bool) → s.run.command ≡ c → stopped ≡ (is_stop c.stop s.made || cut) → stopped ≡ true → IsOpen s.run.state
     → next.Answer (Stopped s.made) ≡ next_in c cut s
 unfolding next_in
-look-stop s c cut stopped of_command stop reached no_answer =
-    let u = unfinished c s.run.state (none-of s.run.list s.run.command (finish_of s.run.state) no_answer) in
+look-stop s c cut stopped of_command stop reached is_open =
+    let u = open-calls c s.run.state is_open in
     sym (ap (next_by s.run.list c s.made cut) (turn-calls c s.run.state u.0 u.1) ∙ stop-by s.made (next.Call u.0 (is_faulty c s.made)) _ (sym stop ∙ reached))
 
 call-open : (list : Option NetList) (c : Command) (made : ℕ) (cut : Bool) (s : State) (t : Turn) (call : Call) (faulty : Bool) → turn c s ≡ t → next_by list c made cut t ≡ next.Call call faulty → IsOpen s
@@ -105,11 +95,16 @@ unfolding next_in
 look-answer s c cut a of_command is =
     answer-by s.run.list c (finish_of s.run.state) s.run.state s.made cut a refl (ap (λ k. option_map (answer_by s.run.list k) (finish_of s.run.state)) (sym of_command) ∙ is)
 
--- a run without a call has an answer
-pub look-either : (s : Slot) → next_call s.run.command s.run.state ≡ None → option_map (answer_by s.run.list s.run.command) (finish_of s.run.state) ≡ None → ⊥
-look-either s none no_answer =
-    let f = over-finishes s.run.command s.run.state none in
-    none-some _ (sym no_answer ∙ ap (option_map (answer_by s.run.list s.run.command)) f.1)
+-- a run that is over has an answer
+pub over-answers : (s : Slot) → (IsOpen s.run.state → ⊥) → option_map (answer_by s.run.list s.run.command) (finish_of s.run.state) ≡ None → ⊥
+over-answers s over no_answer = elim (calls_or_over s.run.command s.run.state) [
+  | inl k ↦ over k.is_open
+  | inr o ↦ none-some _ (sym no_answer ∙ ap (option_map (answer_by s.run.list s.run.command)) o.finish_is)
+]
+
+-- a run that isn't has a call
+pub open-has-next : (s : Slot) → IsOpen s.run.state → next_call s.run.command s.run.state ≡ None → ⊥
+open-has-next s is_open none = let u = open-calls s.run.command s.run.state is_open in none-some _ (sym none ∙ u.1)
 
 -- ---- what was done
 

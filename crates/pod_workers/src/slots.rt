@@ -142,17 +142,17 @@ fn look(slot: &mut Slot, command: &Command, cut: bool) -> Result<Next, NoMemory>
 {
     slot.run.prepare()?;
     let made = slot.made;
-    match slot.run.answer()? {
-        Some(answer) => Ok(Next::Answer(answer)),
-        None => {
-            if is_stopped(command.stop, cut, made) {
-                Ok(Next::Answer(Answer::Stopped { calls: made as u32 }))
-            } else {
-                match slot.run.next()? {
-                    Some(call) => Ok(Next::Call(call, is_faulty(command.faults.as_slice(), made))),
-                    None => unreachable!(),
-                }
-            }
+    if slot.run.over() {
+        match slot.run.answer()? {
+            Some(answer) => Ok(Next::Answer(answer)),
+            None => unreachable!(),
+        }
+    } else if is_stopped(command.stop, cut, made) {
+        Ok(Next::Answer(Answer::Stopped { calls: made as u32 }))
+    } else {
+        match slot.run.next()? {
+            Some(call) => Ok(Next::Call(call, is_faulty(command.faults.as_slice(), made))),
+            None => unreachable!(),
         }
     }
 }

@@ -1,6 +1,6 @@
 //! What carries a command on: the run of a verb, or of a garbage collection.
 
-ghost use Rattle.std.specs.Prelude.{◌≡◌, ◌+◌, ◌<◌, ◌^◌, [], false, true, IfOk, IsOk, OnErr, OnOk, is_some, option_map};
+ghost use Rattle.std.specs.Prelude.{◌≡◌, ◌+◌, ◌<◌, ◌^◌, [], false, true, IfOk, IsOk, MatchBool, OnErr, OnOk, is_some, option_map};
 ghost use Rattle.std.specs.Option.{option_copied};
 ghost use Rattle.cni_verbs.specs.Progress.{advanced, answer_by, is_gc, progress};
 ghost use Rattle.cni_verbs.specs.Script.{IsOpen, finish_of, next_call};
@@ -71,6 +71,16 @@ impl Task {
         match &mut self.run {
             Carried::Verb(run) => run.prepare(),
             Carried::Collection(_) => Ok(()),
+        }
+    }
+
+    /// Whether no call is left to make. Takes no memory.
+    pub fn over(&self) -> bool
+        ensures { MatchBool result (IsOpen self.now.state → ⊥) (IsOpen self.now.state) }
+    {
+        match &self.run {
+            Carried::Verb(run) => run.over(),
+            Carried::Collection(run) => run.over(),
         }
     }
 
