@@ -1,8 +1,8 @@
 //! The plugins `bridge` and `ptp`: a veth pair between a container and the host.
 //!
-//! To the verbs each promises four values: the calls before an address is leased, the calls after it, the result, and
-//! the kinds of objects that DEL takes back. They are those of `specs/Bridge.antt`, `specs/Ptp.antt` and
-//! `specs/Results.antt`.
+//! To the verbs each promises the calls before an address is leased, the calls after it, the result, and the kinds of
+//! objects that DEL takes back; and how many calls and how many objects come after the leases. They are those of
+//! `specs/Bridge.antt`, `specs/Ptp.antt` and `specs/Results.antt`.
 //!
 //! ```text
 //! bridge_before(alloc, &conf, &att, &netns)?        // BridgeEnsure, VethAdd

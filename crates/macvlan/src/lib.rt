@@ -1,7 +1,7 @@
 //! The `macvlan` plugin: a link of the container over a link of the host.
 //!
-//! To the verbs it promises four values: the calls before an address is leased, the calls after it, the result, and
-//! the kinds of objects that DEL takes back. They are those of `specs/Macvlan.antt`.
+//! To the verbs it promises the calls before an address is leased, the calls after it and their number, the result,
+//! and the kinds of objects that DEL takes back. They are those of `specs/Macvlan.antt`.
 //!
 //! ```text
 //! macvlan::before(alloc, &conf, &att, &netns)?        // MacvlanAdd

@@ -1,4 +1,4 @@
-//! Ranges of addresses and sets of them.
+//! The reader of one range of addresses.
 
 ghost use Rattle.std.specs.Prelude.{◌≡◌, ◌+◌, ◌-◌, true, IfOk};
 ghost use Rattle.serde_json.specs.View.{view};
@@ -9,9 +9,7 @@ ghost use Rattle.net_conf.specs.Ranges as ranges;
 ghost use Rattle.net_conf.specs.Refusals.{is_want_of_memory};
 
 use crate::error::{ConfError, invalid};
-use cni_addr::{
-    Addr, Cidr, Family, Items, Range, RangeSet, contains, last_of, network_of, read_addr, read_cidr,
-};
+use cni_addr::{Addr, Cidr, Range, contains, last_of, network_of, read_addr, read_cidr};
 use cni_json::{Field, Value, field_str};
 use std::alloc::Global;
 
