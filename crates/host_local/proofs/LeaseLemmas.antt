@@ -1,14 +1,12 @@
 -- A candidate of a set has a range that holds it.
 use Rattle.std.proofs.Common.{◌≡◌, Bool, true, false, cond, List, [], ◌∷◌, map, Option, Some, refl, ◌∙◌, ap, arith}
-use Rattle.std.specs.Prelude.{find, option_map, option_to_list}
+use Rattle.std.specs.Prelude.{find, option_map}
 use Rattle.std.specs.List.{list_any}
 use Rattle.cni_addr.specs.declared.address.Addr.{Addr}
 use Rattle.cni_addr.specs.declared.range.Range.{Range}
-use Rattle.cni_addr.specs.declared.range.RangeSet.{RangeSet}
-use Rattle.ip_pool.specs.NextAddress.{is_between, is_in, is_candidate}
-use Rattle.kernel_types.specs.declared.call.Given.{Given}
+use Rattle.ip_pool.specs.NextAddress.{is_between, is_in}
 use Rattle.host_local.specs.Laws.{CandidatesAreGiven}
-use Rattle.host_local.specs.Leases.{given_by, given_by_set, given_in, given_row}
+use Rattle.host_local.specs.Leases.{given_by, given_by_set, given_row}
 use Rattle.plan_words.specs.Rows.{present}
 
 found-step : {X : Type 0} (b : Bool) (x : X) (o : Option X) → (b ≡ false → (y : X) × (o ≡ Some y)) → (y : X) × (cond b (Some x) o ≡ Some y)
@@ -23,12 +21,6 @@ range-found a [] h = absurd (grind (arith, h))
 range-found a (r ∷ rs) h =
     found-step (is_between a r) r (find (is_between a) rs)
     (λ no_r. range-found a rs (grind (arith, h, no_r, is_in-is_between a r)))
-
--- what a candidate is given
-pub given_in-candidate : (set : RangeSet) (a : Addr) → is_candidate set a ≡ true → (g : Given) × (given_in set a ≡ g ∷ [])
-given_in-candidate set a h =
-    let f = range-found a set.ranges h in
-    (given_by a f.0, ap (λ o. option_to_list (option_map (given_by a) o)) f.1)
 
 -- candidates are all given, in order
 pub given_candidates : CandidatesAreGiven

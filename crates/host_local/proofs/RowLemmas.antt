@@ -1,5 +1,5 @@
 -- What is at the places of a row of given addresses.
-use Rattle.std.proofs.Common.{◌≡◌, ℕ, zero, suc, ◌+◌, List, [], ◌∷◌, ◌++◌, map, length, Option, Some, None, refl, ◌∙◌, ap, arith}
+use Rattle.std.proofs.Common.{◌≡◌, ℕ, zero, suc, ◌+◌, List, [], ◌∷◌, ◌++◌, map, length, Option, Some, None, refl, sym, ◌∙◌, ap, arith}
 use Rattle.std.specs.Prelude.{slice_get, option_to_list, min}
 use Rattle.std.proofs.lemmas.List.{length-map, take_all}
 use Rattle.std.proofs.lemmas.Option.{slice_get-map, slice_get_read}
@@ -28,20 +28,14 @@ given_row-places [] addrs = omega arith
 given_row-places (s ∷ ss) [] = omega arith
 given_row-places (s ∷ ss) (a ∷ as_left) = omega (arith, given_row-places ss as_left)
 
-same_list : {X : Type 0} (o p : Option X) → option_to_list o ≡ option_to_list p → p ≡ o
-same_list None None h = refl
-same_list None (Some y) h = cc
-same_list (Some x) None h = cc
-same_list (Some x) (Some y) h = grind (arith, h)
-
 given_row-found : (sets : List RangeSet) (addrs : List Addr) (i : ℕ) (s : RangeSet) (a : Addr) → slice_get sets i ≡ Some s → slice_get addrs i ≡ Some a → slice_get (given_row sets addrs) i ≡ Some (given_by_set s a)
 given_row-found [] addrs i s a h k = cc
 given_row-found (t ∷ ts) [] i s a h k = cc
 given_row-found (t ∷ ts) (b ∷ bs) zero s a h k = grind (arith, h, k)
 given_row-found (t ∷ ts) (b ∷ bs) (suc i) s a h k = given_row-found ts bs i s a h k
 
-pub given_row-at : (sets : List RangeSet) (addrs : List Addr) (i : ℕ) (s : RangeSet) (a : Addr) (o : Option Given) → slice_get sets i ≡ Some s → slice_get addrs i ≡ Some a → option_to_list o ≡ given_in s a → slice_get (given_row sets addrs) i ≡ Some o
-given_row-at sets addrs i s a o h k is = given_row-found sets addrs i s a h k ∙ ap (λ p. Some p) (same_list o (given_by_set s a) is)
+pub given_row-at : (sets : List RangeSet) (addrs : List Addr) (i : ℕ) (s : RangeSet) (a : Addr) (o : Option Given) → slice_get sets i ≡ Some s → slice_get addrs i ≡ Some a → o ≡ given_by_set s a → slice_get (given_row sets addrs) i ≡ Some o
+given_row-at sets addrs i s a o h k is = given_row-found sets addrs i s a h k ∙ ap (λ p. Some p) (sym is)
 
 pub ruleset row_steps = (given_row-places, given_row-at, slice_get_read)
 

@@ -1,35 +1,29 @@
 //! Leases and given addresses.
 
-ghost use Rattle.std.specs.Prelude.{◌≡◌, ◌+◌, ◌∷◌, [], ◌≤◌, ◌<◌, true, find, length, option_to_list, slice_get, Some, IfOk};
+ghost use Rattle.std.specs.Prelude.{◌≡◌, ◌∷◌, [], ◌<◌, ◌^◌, find, option_map, slice_get, IfOk};
 ghost use Rattle.std.specs.Option.{option_copied};
-ghost use Rattle.ip_pool.specs.NextAddress.{is_between, is_candidate};
-ghost use Rattle.cni_addr.specs.declared.range.RangeSet.{RangeSet};
+ghost use Rattle.ip_pool.specs.NextAddress.{is_between};
+ghost use Rattle.kernel_types.specs.declared.call.Call.TheVariants.{LeaseNext};
 ghost use Rattle.kernel_types.specs.declared.call.Kind.TheVariants.{Leases};
-ghost use Rattle.net_conf.specs.Sets.{most_sets};
 ghost use Rattle.host_local.specs.Leases as leases;
 
-use cni_addr::{Addr, Cidr, Duplicate, Items, NoMemory, Range, RangeSet};
+use cni_addr::{Addr, Cidr, Duplicate, NoMemory, Range, RangeSet};
 use ip_pool::is_between;
 use kernel_types::{Att, Call, Given, Kind};
-use net_conf::HostLocalConf;
-use std::alloc::Global;
 
-/// One lease of each set of the configuration, in order.
-pub fn lease_calls(alloc: Global, conf: &HostLocalConf, att: &Att) -> Result<Items<Call>, NoMemory>
-    requires { length conf.now.sets ≤ most_sets }
-    ensures { IfOk result (λ calls. calls ≡ leases.lease_calls_of conf.now.sets att.now) }
+/// The lease from the set at this place, if there is one.
+pub fn lease_at(sets: &[RangeSet], att: Att, place: usize) -> Result<Option<Call>, NoMemory>
+    requires { place < 2 ^ 32 }
+    ensures { IfOk result (λ next. next ≡ option_map (LeaseNext att place) (slice_get sets.now place)) }
 {
-    let mut calls = Items::new(alloc);
-    let mut number = 0;
-    for set in conf.sets.as_slice() {
-        calls.push(Call::LeaseNext {
-            att: att.copy()?,
-            number,
+    match sets.get(place) {
+        Some(set) => Ok(Some(Call::LeaseNext {
+            att,
+            number: place as u32,
             set: set.copy()?,
-        })?;
-        number += 1;
+        })),
+        None => Ok(None),
     }
-    Ok(calls)
 }
 
 fn range_with<'a>(ranges: &'a [Range], addr: &Addr) -> Option<&'a Range>
@@ -55,24 +49,11 @@ fn given_by(addr: &Addr, range: &Range) -> Given
 
 /// What the address means by the first range of the set that holds it, if one does.
 pub(crate) fn find_given(set: &RangeSet, addr: &Addr) -> Option<Given>
-    ensures { option_to_list result ≡ leases.given_in set.now addr.now }
+    ensures { result ≡ leases.given_by_set set.now addr.now }
 {
     match range_with(set.ranges.as_slice(), addr) {
         Some(range) => Some(given_by(addr, range)),
         None => None,
-    }
-}
-
-/// The address of the set of this number, with its subnet's prefix, and its range's gateway and subnet. Takes no
-/// memory; linear in the set's ranges.
-pub fn given(conf: &HostLocalConf, set: u32, addr: &Addr) -> Given
-    requires set { set < length conf.now.sets }
-    requires candidate { (s : RangeSet) → slice_get conf.now.sets set ≡ Some s → is_candidate s addr.now ≡ true }
-    ensures { (s : RangeSet) → slice_get conf.now.sets set ≡ Some s → leases.given_in s addr.now ≡ result ∷ [] }
-{
-    match find_given(&conf.sets.as_slice()[set as usize], addr) {
-        Some(given) => given,
-        None => unreachable!(),
     }
 }
 

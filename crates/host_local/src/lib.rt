@@ -6,8 +6,8 @@
 //! (`specs/Laws.antt`).
 //!
 //! ```text
-//! lease_calls(alloc, &conf, &att)? // one LeaseNext for each set, in order
-//! given(&conf, 0, &addr)           // 10.88.0.2/16, by the gateway 10.88.0.1, of the subnet 10.88.0.0/16
+//! lease_at(sets, att, 0)?        // the LeaseNext of the first set
+//! given_of(alloc, sets, &addrs)? // 10.88.0.2/16, by the gateway 10.88.0.1, of the subnet 10.88.0.0/16
 //! ```
 #![tactic(auto)]
 
@@ -18,6 +18,6 @@ pub mod rows;
 #[cfg(test)]
 mod tests;
 
-pub use leases::{given, lease_calls, release_kinds};
+pub use leases::{lease_at, release_kinds};
 pub use results::{ipam_result, ips_of};
 pub use rows::{GivenByIps, GivenBySets, given_of, routes_of};

@@ -3,13 +3,11 @@
 ghost use Rattle.std.specs.Prelude.{◌≡◌, IfOk, length};
 ghost use Rattle.cni_addr.specs.declared.address.Family.TheVariants.{V4};
 
-use super::{given, given_of, lease_calls, release_kinds};
-use cni_addr::{Addr, Cidr, Family, Items, NoMemory, Range, RangeSet, Text};
-use ip_pool::contains_candidate;
+use super::{given_of, lease_at, release_kinds};
+use cni_addr::{Addr, Cidr, Duplicate, Family, Items, NoMemory, Range, RangeSet, Text};
 use kernel_types::{Att, Call, Given, Kind};
 use net_conf::HostLocalConf;
 use std::alloc::Global;
-use std::process::Abort;
 use std::test::Fail;
 
 const TEN_88: u32 = 0x0a58_0000;
@@ -78,23 +76,16 @@ fn means(network: u32, number: u32) -> Given {
     }
 }
 
-/// What the address means, where it is a candidate of the set.
-fn given_candidate(rt: &impl Abort, conf: &HostLocalConf, number: u32, addr: &Addr) -> Given {
-    let sets = conf.sets.as_slice();
-    let place = number as usize;
-    assert!(rt; place < sets.len());
-    assert!(rt; contains_candidate(&sets[place], addr));
-    given(conf, number, addr)
-}
-
 /// Whether the call leases from this set for the container.
-fn leases(call: &Call, att: &Att, number: u32, set: &RangeSet) -> bool {
+fn leases(call: &Option<Call>, att: &Att, number: u32, set: &RangeSet) -> bool {
     match call {
-        Call::LeaseNext {
-            att: owner,
-            number: place,
-            set: from,
-        } => owner == att && *place == number && from == set,
+        Some(
+            Call::LeaseNext {
+                att: owner,
+                number: place,
+                set: from,
+            },
+        ) => owner == att && *place == number && from == set,
         _ => false,
     }
 }
@@ -102,15 +93,14 @@ fn leases(call: &Call, att: &Att, number: u32, set: &RangeSet) -> bool {
 #[test]
 fn each_set_is_leased_from_once(rt: HostRuntime) -> Result<(), Fail> {
     let conf = two_sets(rt.alloc())?;
-    let att = container(rt.alloc())?;
-    let found = lease_calls(rt.alloc(), &conf, &att)?;
-    let calls = found.as_slice();
     let sets = conf.sets.as_slice();
-    let is_each = calls.len() == 2
-        && leases(&calls[0], &att, 0, &sets[0])
-        && leases(&calls[1], &att, 1, &sets[1]);
-    drop(found);
-    assert!(rt; is_each);
+    let att = container(rt.alloc())?;
+    let first = lease_at(sets, att.copy()?, 0)?;
+    let second = lease_at(sets, att.copy()?, 1)?;
+    let third = lease_at(sets, att.copy()?, 2)?;
+    assert!(rt; leases(&first, &att, 0, &sets[0]));
+    assert!(rt; leases(&second, &att, 1, &sets[1]));
+    assert!(rt; third.is_none());
     assert!(rt; release_kinds() == [Kind::Leases]);
     Ok(())
 }
@@ -118,12 +108,9 @@ fn each_set_is_leased_from_once(rt: HostRuntime) -> Result<(), Fail> {
 #[test]
 fn an_address_is_given_by_the_range_of_its_set(rt: HostRuntime) -> Result<(), Fail> {
     let conf = two_sets(rt.alloc())?;
-    let first = given_candidate(&rt, &conf, 0, &address(TEN_88, 9));
-    assert!(rt; first == means(TEN_88, 9));
-    let second = given_candidate(&rt, &conf, 1, &address(TEN_89, 2));
-    assert!(rt; second == means(TEN_89, 2));
     let addrs = [address(TEN_88, 9), address(TEN_89, 2)];
     let both = given_of(rt.alloc(), conf.sets.as_slice(), &addrs)?;
-    assert!(rt; both.as_slice() == [first, second].as_slice());
+    let meant = [means(TEN_88, 9), means(TEN_89, 2)];
+    assert!(rt; both.as_slice() == meant.as_slice());
     Ok(())
 }
