@@ -1,5 +1,5 @@
 -- The calls of `macvlan` are of their attachment and append its share.
-use Rattle.std.proofs.Common.{◌≡◌, ℕ, ap, List, [], ◌∷◌, ◌++◌, map, sym, ◌∙◌}
+use Rattle.std.proofs.Common.{◌≡◌, ℕ, ap, List, [], ◌∷◌, ◌++◌, map, refl, sym, ◌∙◌}
 use Rattle.std.proofs.lemmas.List.{append-nil}
 use Rattle.net_conf.specs.declared.first.MacvlanConf.{MacvlanConf}
 use Rattle.kernel_types.proofs.Cases.{att_eq-refl}
@@ -9,8 +9,8 @@ use Rattle.kernel_types.specs.declared.call.Given.{Given}
 use Rattle.plan_words.specs.PlanCalls.{AppendsShare}
 use Rattle.plan_words.specs.Shapes.{macvlan_link, addresses_on, routes_on}
 use Rattle.plan_words.specs.Share.{Share, share_after_calls}
-use Rattle.plan_words.proofs.Appends.{AreOwnCalls, own-one, own-append, own-address_calls, own-route_calls, own-addresses, own-routes, appends-share}
-use Rattle.plan_words.proofs.CallLists.{share_after_calls-append, share_after_calls-addresses, share_after_calls-routes, share_plus-links, share_plus-laid_on}
+use Rattle.plan_words.proofs.Appends.{AreOwnCalls, own-one, own-append, own-address_calls, own-route_calls, own-addresses, own-routes, share-laid_on, appends-share}
+use Rattle.plan_words.proofs.CallLists.{share_plus-links, share_plus-laid_on}
 use Rattle.host_local.specs.Conf.{routes_of}
 use Rattle.macvlan.specs.Macvlan.{macvlan_share_before, macvlan_share_after, macvlan_calls_before, macvlan_calls_after}
 
@@ -33,10 +33,7 @@ pub share-macvlan_after : (conf : MacvlanConf) (att : Att) (netns : List ℕ) (g
 share-macvlan_after conf att netns given s =
     let addresses = addresses_on att netns given in
     let routes = routes_on att netns given (routes_of conf.ipam) in
-    share_after_calls-append s (map AddrAdd addresses) (map RouteAdd routes)
-    ∙ ap (λ t. share_after_calls t (map RouteAdd routes)) (share_after_calls-addresses s addresses)
-    ∙ share_after_calls-routes (record s { addresses = s.addresses ++ addresses }) routes
-    ∙ ap (λ l. record s { addresses = s.addresses ++ addresses; routes = s.routes ++ routes; rules = l }) (sym (append-nil s.rules))
+    ap (λ calls. share_after_calls s (map AddrAdd addresses ++ calls)) (sym (append-nil (map RouteAdd routes))) ∙ share-laid_on s addresses routes [] [] (λ t. refl)
 
 pub macvlan-appends_after : (conf : MacvlanConf) (att : Att) (netns : List ℕ) (given : List Given) → AppendsShare att (macvlan_calls_after conf att netns given) (macvlan_share_after conf att netns given)
 macvlan-appends_after conf att netns given =
