@@ -1,9 +1,10 @@
 -- A call leaves the objects that are not its attachment's, list by list and in order.
-use Rattle.std.proofs.Common.{◌≡◌, ℕ, Bool, true, false, not, List, [], ◌∷◌, ◌++◌, inl, inr, refl, sym, ◌∙◌, ap, subst, arith}
+use Rattle.std.proofs.Common.{◌≡◌, ℕ, Bool, true, false, not, ◌&&◌, List, [], ◌∷◌, ◌++◌, inl, inr, refl, sym, ◌∙◌, ap, subst, arith}
 use Rattle.std.specs.Prelude.{filter}
 use Rattle.std.specs.Cmp.{IsPartialEquivalence}
 use Rattle.std.specs.Cmp.Lexicographic.{nat_list_eq_equiv}
 use Rattle.std.proofs.lemmas.Slice.Eq.{bytes_eq-Decides}
+use Rattle.kernel_types.specs.Allowed.{IsAllowed}
 use Rattle.kernel_types.specs.Equal.{att_eq}
 use Rattle.kernel_types.specs.Isolation.{KeepsWhere, KeepsPart, KeepsUnowned, names_att, is_from_outside, ensures_shared}
 use Rattle.kernel_types.specs.Words.{is_own, is_owned}
@@ -109,31 +110,35 @@ KeepsPart-TouchesTag tags.Outside other old new differ touches = KeepsWhere-same
 KeepsPart-TouchesTag tags.Base other old new differ touches = KeepsWhere-same (is_own other) old new touches
 KeepsPart-TouchesTag (tags.Own att) other old new differ touches = KeepsPart-TouchesOwn att other old new differ touches.own
 
-pub KeepsPart-Touches : (call : Call) (other : Att) (old new : Host) → is_from_outside call ≡ false → names_att other call ≡ false → Touches call old new → KeepsPart other old new
-KeepsPart-Touches (Begin att netns) other old new inside differ touches = KeepsWhere-same (is_own other) old new touches
-KeepsPart-Touches (BridgeEnsure name mtu promisc) other old new inside differ touches = KeepsWhere-AddsBridge (is_own other) old new refl touches
-KeepsPart-Touches (GatewayEnsure bridge cidr) other old new inside differ touches = KeepsWhere-AddsAddress (is_own other) old new refl touches
-KeepsPart-Touches (ForwardEnsure family) other old new inside differ touches = KeepsWhere-AddsSetting (is_own other) old new refl touches
-KeepsPart-Touches (VethAdd host_end inner_end) other old new inside differ touches = KeepsPart-TouchesTag host_end.tag other old new differ touches
-KeepsPart-Touches (MacvlanAdd link) other old new inside differ touches = KeepsPart-TouchesTag link.tag other old new differ touches
-KeepsPart-Touches (LinkSet att key mac mtu tx_qlen promisc allmulti) other old new inside differ touches = KeepsPart-TouchesOwn att other old new differ touches.own
-KeepsPart-Touches (AddrAdd obj) other old new inside differ touches = KeepsPart-TouchesTag obj.tag other old new differ touches
-KeepsPart-Touches (RouteAdd obj) other old new inside differ touches = KeepsPart-TouchesTag obj.tag other old new differ touches
-KeepsPart-Touches (RuleAppend rule) other old new inside differ touches = KeepsPart-TouchesTag rule.tag other old new differ touches
-KeepsPart-Touches (SettingSet setting) other old new inside differ touches = KeepsPart-TouchesTag setting.tag other old new differ touches
-KeepsPart-Touches (LeaseNext att number set) other old new inside differ touches = KeepsPart-TouchesOwn att other old new differ touches.own
-KeepsPart-Touches (CachePut att cached) other old new inside differ touches = KeepsPart-TouchesOwn att other old new differ touches.own
-KeepsPart-Touches (LinkDel att) other old new inside differ touches = KeepsPart-TouchesOwn att other old new differ touches.own
-KeepsPart-Touches (RuleDel att) other old new inside differ touches = KeepsPart-TouchesOwn att other old new differ touches.own
-KeepsPart-Touches (SettingDel att) other old new inside differ touches = KeepsPart-TouchesOwn att other old new differ touches.own
-KeepsPart-Touches (LeaseDel att) other old new inside differ touches = KeepsPart-TouchesOwn att other old new differ touches.own
-KeepsPart-Touches (CacheDel att) other old new inside differ touches = KeepsPart-TouchesOwn att other old new differ touches.own
-KeepsPart-Touches (HasObj probe) other old new inside differ touches = KeepsWhere-same (is_own other) old new touches
-KeepsPart-Touches (CacheGet att) other old new inside differ touches = KeepsWhere-same (is_own other) old new touches
-KeepsPart-Touches (OwnersOf network kind) other old new inside differ touches = KeepsWhere-same (is_own other) old new touches
-KeepsPart-Touches (PoolFree network set) other old new inside differ touches = KeepsWhere-same (is_own other) old new touches
-KeepsPart-Touches (NsChange name add) other old new inside differ touches = cc
-KeepsPart-Touches (Outside change) other old new inside differ touches = cc
+both_same : (a b : Bool) → b ≡ a → (a && b) ≡ false → a ≡ false
+both_same true b same h = sym same ∙ h
+both_same false b same h = refl
+
+pub KeepsPart-Touches : (call : Call) (other : Att) (old new : Host) → IsAllowed old call → is_from_outside call ≡ false → names_att other call ≡ false → Touches call old new → KeepsPart other old new
+KeepsPart-Touches (Begin att netns) other old new allowed inside differ touches = KeepsWhere-same (is_own other) old new touches
+KeepsPart-Touches (BridgeEnsure name mtu promisc) other old new allowed inside differ touches = KeepsWhere-AddsBridge (is_own other) old new refl touches
+KeepsPart-Touches (GatewayEnsure bridge cidr) other old new allowed inside differ touches = KeepsWhere-AddsAddress (is_own other) old new refl touches
+KeepsPart-Touches (ForwardEnsure family) other old new allowed inside differ touches = KeepsWhere-AddsSetting (is_own other) old new refl touches
+KeepsPart-Touches (VethAdd host_end inner_end) other old new allowed inside differ touches = KeepsPart-TouchesTag host_end.tag other old new (both_same (is_own other host_end.tag) (is_own other inner_end.tag) (ap (is_own other) allowed.same_tag) differ) touches
+KeepsPart-Touches (MacvlanAdd link) other old new allowed inside differ touches = KeepsPart-TouchesTag link.tag other old new differ touches
+KeepsPart-Touches (LinkSet att key mac mtu tx_qlen promisc allmulti) other old new allowed inside differ touches = KeepsPart-TouchesOwn att other old new differ touches.own
+KeepsPart-Touches (AddrAdd obj) other old new allowed inside differ touches = KeepsPart-TouchesTag obj.tag other old new differ touches
+KeepsPart-Touches (RouteAdd obj) other old new allowed inside differ touches = KeepsPart-TouchesTag obj.tag other old new differ touches
+KeepsPart-Touches (RuleAppend rule) other old new allowed inside differ touches = KeepsPart-TouchesTag rule.tag other old new differ touches
+KeepsPart-Touches (SettingSet setting) other old new allowed inside differ touches = KeepsPart-TouchesTag setting.tag other old new differ touches
+KeepsPart-Touches (LeaseNext att number set) other old new allowed inside differ touches = KeepsPart-TouchesOwn att other old new differ touches.own
+KeepsPart-Touches (CachePut att cached) other old new allowed inside differ touches = KeepsPart-TouchesOwn att other old new differ touches.own
+KeepsPart-Touches (LinkDel att) other old new allowed inside differ touches = KeepsPart-TouchesOwn att other old new differ touches.own
+KeepsPart-Touches (RuleDel att) other old new allowed inside differ touches = KeepsPart-TouchesOwn att other old new differ touches.own
+KeepsPart-Touches (SettingDel att) other old new allowed inside differ touches = KeepsPart-TouchesOwn att other old new differ touches.own
+KeepsPart-Touches (LeaseDel att) other old new allowed inside differ touches = KeepsPart-TouchesOwn att other old new differ touches.own
+KeepsPart-Touches (CacheDel att) other old new allowed inside differ touches = KeepsPart-TouchesOwn att other old new differ touches.own
+KeepsPart-Touches (HasObj probe) other old new allowed inside differ touches = KeepsWhere-same (is_own other) old new touches
+KeepsPart-Touches (CacheGet att) other old new allowed inside differ touches = KeepsWhere-same (is_own other) old new touches
+KeepsPart-Touches (OwnersOf network kind) other old new allowed inside differ touches = KeepsWhere-same (is_own other) old new touches
+KeepsPart-Touches (PoolFree network set) other old new allowed inside differ touches = KeepsWhere-same (is_own other) old new touches
+KeepsPart-Touches (NsChange name add) other old new allowed inside differ touches = cc
+KeepsPart-Touches (Outside change) other old new allowed inside differ touches = cc
 
 -- ---- what no attachment owns
 

@@ -1,5 +1,5 @@
 -- What a call leaves of the objects that are not its attachment's.
-use Rattle.std.specs.Prelude.{◌≡◌, Bool, true, false, not, filter, Option, Some, None}
+use Rattle.std.specs.Prelude.{◌≡◌, Bool, true, false, not, ◌&&◌, filter, Option, Some, None}
 use Rattle.kernel_types.specs.Equal.{att_eq}
 use Rattle.kernel_types.specs.Touch.{DropsOnly}
 use Rattle.kernel_types.specs.Words.{is_own, is_owned}
@@ -28,10 +28,10 @@ KeepsPart att old new = KeepsWhere (is_own att) old new
 abbrev pub KeepsUnowned : Host → Host → Type 0
 KeepsUnowned old new = KeepsWhere (λ t. not (is_owned t)) old new
 
--- the call names this attachment, itself or by the tag of what it makes
+-- the call names this attachment, itself or by the tag of all that it makes
 abbrev pub names_att : Att → Call → Bool
 names_att att (Begin a netns) = att_eq a att
-names_att att (VethAdd host_end inner_end) = is_own att host_end.tag
+names_att att (VethAdd host_end inner_end) = is_own att host_end.tag && is_own att inner_end.tag
 names_att att (MacvlanAdd link) = is_own att link.tag
 names_att att (LinkSet a key mac mtu tx_qlen promisc allmulti) = att_eq a att
 names_att att (AddrAdd obj) = is_own att obj.tag

@@ -1,5 +1,5 @@
 -- A call of one attachment leaves the share of every other.
-use Rattle.std.proofs.Common.{◌≡◌, true, false, refl, ◌∙◌, ap}
+use Rattle.std.proofs.Common.{◌≡◌, true, false, not, ◌&&◌, refl, ◌∙◌, ap}
 use Rattle.std.proofs.lemmas.Bool.{and_parts}
 use Rattle.kernel_types.specs.Allowed.{IsAllowed}
 use Rattle.kernel_types.specs.Apply.{apply}
@@ -13,7 +13,7 @@ use Rattle.kernel_types.specs.declared.object.Att.{Att}
 use Rattle.kernel_types.specs.declared.object.Host.{Host}
 use Rattle.kernel_types.specs.declared.call.Call.{Call}
 use Rattle.kernel_types.specs.declared.call.Call.TheVariants.{Begin, BridgeEnsure, GatewayEnsure, ForwardEnsure, VethAdd, MacvlanAdd, LinkSet, AddrAdd, RouteAdd, RuleAppend, SettingSet, LeaseNext, CachePut, LinkDel, RuleDel, SettingDel, LeaseDel, CacheDel, HasObj, CacheGet, OwnersOf, PoolFree, NsChange, Outside}
-use Rattle.plan_words.specs.PlanCalls.{is_plan_call_of, is_call_of}
+use Rattle.plan_words.specs.PlanCalls.{is_beside_plans, is_plan_call_of, is_call_of}
 use Rattle.plan_words.specs.Share.{share_of}
 
 -- the same objects of the attachment are the same share
@@ -33,7 +33,7 @@ call-apart att other (Begin a netns) differ is = record { inside = refl; unnamed
 call-apart att other (BridgeEnsure name mtu promisc) differ is = record { inside = refl; unnamed = refl }
 call-apart att other (GatewayEnsure bridge cidr) differ is = record { inside = refl; unnamed = refl }
 call-apart att other (ForwardEnsure family) differ is = record { inside = refl; unnamed = refl }
-call-apart att other (VethAdd h i) differ is = record { inside = refl; unnamed = own_apart att other differ h.tag (and_parts (is_own att h.tag) (is_own att i.tag) is).0 }
+call-apart att other (VethAdd h i) differ is = record { inside = refl; unnamed = ap (λ b. b && is_own other i.tag) (own_apart att other differ h.tag (and_parts (is_own att h.tag) (is_own att i.tag) is).0) }
 call-apart att other (MacvlanAdd link) differ is = record { inside = refl; unnamed = own_apart att other differ link.tag is }
 call-apart att other (LinkSet a key mac mtu tx_qlen promisc allmulti) differ is = record { inside = refl; unnamed = apart_att att other a differ is }
 call-apart att other (AddrAdd obj) differ is = record { inside = refl; unnamed = own_apart att other differ obj.tag is }
@@ -58,31 +58,8 @@ call-apart att other (Outside change) differ is = cc
 pub share-other : (att other : Att) (host : Host) (call : Call) → att_eq att other ≡ false → IsSound host → IsAllowed host call → is_call_of att call ≡ true → share_of other (apply host call).0 ≡ share_of other host
 share-other att other host call differ sound allowed is =
     let apart = call-apart att other call differ is in
-    share-KeepsPart other host (apply host call).0 (KeepsPart-Touches call other host (apply host call).0 apart.inside apart.unnamed (Touches-apply host call sound allowed))
+    share-KeepsPart other host (apply host call).0 (KeepsPart-Touches call other host (apply host call).0 allowed apart.inside apart.unnamed (Touches-apply host call sound allowed))
 
 -- a plugin's call is one of the attachment
 pub call-plan : (att : Att) (call : Call) → is_plan_call_of att call ≡ true → is_call_of att call ≡ true
-call-plan att (BridgeEnsure name mtu promisc) is = is
-call-plan att (GatewayEnsure bridge cidr) is = is
-call-plan att (ForwardEnsure family) is = is
-call-plan att (VethAdd h i) is = is
-call-plan att (MacvlanAdd link) is = is
-call-plan att (LinkSet a key mac mtu tx_qlen promisc allmulti) is = is
-call-plan att (AddrAdd obj) is = is
-call-plan att (RouteAdd obj) is = is
-call-plan att (RuleAppend rule) is = is
-call-plan att (SettingSet setting) is = is
-call-plan att (CachePut a cached) is = is
-call-plan att (Begin a netns) is = cc
-call-plan att (LeaseNext a number set) is = cc
-call-plan att (LinkDel a) is = cc
-call-plan att (RuleDel a) is = cc
-call-plan att (SettingDel a) is = cc
-call-plan att (LeaseDel a) is = cc
-call-plan att (CacheDel a) is = cc
-call-plan att (HasObj probe) is = cc
-call-plan att (CacheGet a) is = cc
-call-plan att (OwnersOf network kind) is = cc
-call-plan att (PoolFree network set) is = cc
-call-plan att (NsChange name add) is = cc
-call-plan att (Outside change) is = cc
+call-plan att call is = (and_parts (not (is_beside_plans call)) (is_call_of att call) is).1

@@ -1,42 +1,30 @@
 -- What the calls of a plan are, and that they append a share.
-use Rattle.std.specs.Prelude.{◌≡◌, Bool, true, false, ◌&&◌, List, [], ◌∷◌}
-use Rattle.kernel_types.specs.Words.{is_own}
-use Rattle.kernel_types.specs.Equal.{att_eq}
+use Rattle.std.specs.Prelude.{◌≡◌, Bool, true, not, ◌&&◌, ◌||◌, List, [], ◌∷◌, is_some}
 use Rattle.kernel_types.specs.Apply.{apply}
+use Rattle.kernel_types.specs.Isolation.{names_att, ensures_shared, deletes_for}
 use Rattle.kernel_types.specs.Sound.{IsSound}
 use Rattle.kernel_types.specs.declared.object.Att.{Att}
 use Rattle.kernel_types.specs.declared.object.Host.{Host}
 use Rattle.kernel_types.specs.declared.call.Call.{Call}
-use Rattle.kernel_types.specs.declared.call.Call.TheVariants.{Begin, BridgeEnsure, GatewayEnsure, ForwardEnsure, VethAdd, MacvlanAdd, LinkSet, AddrAdd, RouteAdd, RuleAppend, SettingSet, LeaseNext, CachePut, LinkDel, RuleDel, SettingDel, LeaseDel, CacheDel, CacheGet}
+use Rattle.kernel_types.specs.declared.call.Call.TheVariants.{Begin, LeaseNext, CacheGet}
 use Rattle.kernel_types.specs.declared.call.Reply.TheVariants.{Done}
 use Rattle.plan_words.specs.Share.{Share, share_of, share_plus}
 
--- the call makes objects of this attachment, or what all attachments share
-abbrev pub is_plan_call_of : Att → Call → Bool
-is_plan_call_of att (BridgeEnsure name mtu promisc) = true
-is_plan_call_of att (GatewayEnsure bridge cidr) = true
-is_plan_call_of att (ForwardEnsure family) = true
-is_plan_call_of att (VethAdd host_end inner_end) = is_own att host_end.tag && is_own att inner_end.tag
-is_plan_call_of att (MacvlanAdd link) = is_own att link.tag
-is_plan_call_of att (LinkSet own key mac mtu tx_qlen promisc allmulti) = att_eq own att
-is_plan_call_of att (AddrAdd obj) = is_own att obj.tag
-is_plan_call_of att (RouteAdd obj) = is_own att obj.tag
-is_plan_call_of att (RuleAppend rule) = is_own att rule.tag
-is_plan_call_of att (SettingSet setting) = is_own att setting.tag
-is_plan_call_of att (CachePut own cached) = att_eq own att
-is_plan_call_of att call = false
-
--- the call is one that an ADD or a DEL of this attachment makes
+-- the call is one that an ADD or a DEL of this attachment makes: it names it, or ensures what all attachments share
 abbrev pub is_call_of : Att → Call → Bool
-is_call_of att (Begin own netns) = att_eq own att
-is_call_of att (LeaseNext own number set) = att_eq own att
-is_call_of att (LinkDel own) = att_eq own att
-is_call_of att (RuleDel own) = att_eq own att
-is_call_of att (SettingDel own) = att_eq own att
-is_call_of att (LeaseDel own) = att_eq own att
-is_call_of att (CacheDel own) = att_eq own att
-is_call_of att (CacheGet own) = att_eq own att
-is_call_of att call = is_plan_call_of att call
+is_call_of att call = ensures_shared call || names_att att call
+
+-- of an attachment's calls, one that stands in no plugin's plan: it begins, an address is leased, objects are deleted,
+-- or the kept result is asked for
+abbrev pub is_beside_plans : Call → Bool
+is_beside_plans (Begin att netns) = true
+is_beside_plans (LeaseNext att number set) = true
+is_beside_plans (CacheGet att) = true
+is_beside_plans call = is_some (deletes_for call)
+
+-- the call is one that a plugin plans for this attachment: it makes its objects, or what all attachments share
+abbrev pub is_plan_call_of : Att → Call → Bool
+is_plan_call_of att call = not (is_beside_plans call) && is_call_of att call
 
 -- each of the calls, applied in order, replies Done
 abbrev pub AllDone : Host → List Call → Type 0
