@@ -7,9 +7,9 @@ use Rattle.std.specs.Str.{bytes_eq}
 use Rattle.cni_result.specs.declared.cached.Cached.{Cached}
 use Rattle.cni_addr.specs.declared.address.Cidr.{Cidr}
 use Rattle.cni_addr.specs.declared.address.Family.{Family}
-use Rattle.kernel_types.specs.Equal.{addr_eq, rule_eq, tag_eq}
-use Rattle.kernel_types.specs.Words.{is_host_ns, is_host_bridge, is_own, is_owned, is_link_of, has_named_ns, has_host_bridge}
-use Rattle.kernel_types.specs.Apply.Calls.{cache_put_of, addr_add_of, route_add_of, rule_append_of, setting_set_of, gateway_ensure_of, forward_ensure_of, forward_key, is_same_addr, is_same_route, is_same_setting, has_link_of}
+use Rattle.kernel_types.specs.Equal.{rule_eq, tag_eq}
+use Rattle.kernel_types.specs.Words.{is_host_bridge, is_own, is_owned, is_link_of, has_named_ns, has_host_bridge}
+use Rattle.kernel_types.specs.Apply.Calls.{cache_put_of, addr_add_of, route_add_of, rule_append_of, setting_set_of, gateway_ensure_of, forward_ensure_of, is_same_addr, is_same_route, is_same_setting, has_link_of, new_gateway, new_forward}
 use Rattle.kernel_types.specs.Sound.{IsSound, address_fits_tag, is_bridge_at, setting_fits_tag}
 use Rattle.kernel_types.specs.Touch.{AddsAddress, AddsSetting, TouchesOwnAlone, TouchesTag}
 use Rattle.kernel_types.proofs.Cases.{by_test, by_way, none-option_map, tag_eq-own, own-own, TouchesTag-owned, host_ns-eq}
@@ -159,37 +159,35 @@ TouchesTag-setting_set host setting owned = TouchesTag-owned setting.tag host (s
 pub IsSound-gateway_ensure : (host : Host) (bridge : List ℕ) (cidr : Cidr) → IsSound host → IsSound (gateway_ensure_of host bridge cidr).0
 IsSound-gateway_ensure host bridge cidr sound =
     by_test (λ (step : Host × Reply). IsSound step.0) (has_host_bridge host bridge) _ _
-    (λ there. by_test (λ (step : Host × Reply). IsSound step.0) (list_any (λ a. is_host_ns a.ns && bytes_eq a.link bridge && addr_eq a.cidr.addr cidr.addr) host.addresses) _ _
+    (λ there. by_test (λ (step : Host × Reply). IsSound step.0) (list_any (is_same_addr (new_gateway bridge cidr)) host.addresses) _ _
     (λ _. sound)
     (λ free.
     let at : list_any (is_bridge_at [] bridge) host.links ≡ true = list_any-weaker (is_host_bridge bridge) (is_bridge_at [] bridge) (λ l h. grind (arith, h, host_ns-eq l.ns)) host.links there in
     IsSound-with_addresses host _ sound (record {
-      keys = distinct-push (λ a b. is_same_addr b a) host.addresses (record { ns = []; link = bridge; cidr = cidr; tag = Base }) sound.addresses.keys
-          (list_any-none (λ a. bytes_eq a.ns [] && bytes_eq a.link bridge && addr_eq a.cidr.addr cidr.addr) (λ a. is_host_ns a.ns && bytes_eq a.link bridge && addr_eq a.cidr.addr cidr.addr) (λ a h. grind (arith, h, host_ns-eq a.ns)) host.addresses free);
-      lie = list_all-push (λ a. address_fits_tag host.links a a.tag) host.addresses (record { ns = []; link = bridge; cidr = cidr; tag = Base }) sound.addresses.lie at;
+      keys = distinct-push (λ a b. is_same_addr b a) host.addresses (new_gateway bridge cidr) sound.addresses.keys free;
+      lie = list_all-push (λ a. address_fits_tag host.links a a.tag) host.addresses (new_gateway bridge cidr) sound.addresses.lie at;
     })))
     (λ _. sound)
 
 pub AddsAddress-gateway_ensure : (host : Host) (bridge : List ℕ) (cidr : Cidr) → AddsAddress host (gateway_ensure_of host bridge cidr).0
 AddsAddress-gateway_ensure host bridge cidr =
     by_test (λ (step : Host × Reply). AddsAddress host step.0) (has_host_bridge host bridge) _ _
-    (λ there. by_test (λ (step : Host × Reply). AddsAddress host step.0) (list_any (λ a. is_host_ns a.ns && bytes_eq a.link bridge && addr_eq a.cidr.addr cidr.addr) host.addresses) _ _
+    (λ there. by_test (λ (step : Host × Reply). AddsAddress host step.0) (list_any (is_same_addr (new_gateway bridge cidr)) host.addresses) _ _
     (λ _. inl refl)
-    (λ free. inr (record { ns = []; link = bridge; cidr = cidr; tag = Base }, refl, refl)))
+    (λ free. inr (new_gateway bridge cidr, refl, refl)))
     (λ _. inl refl)
 
 pub IsSound-forward_ensure : (host : Host) (family : Family) → IsSound host → IsSound (forward_ensure_of host family).0
 IsSound-forward_ensure host family sound =
-    by_test (λ (step : Host × Reply). IsSound step.0) (list_any (λ s. is_host_ns s.ns && bytes_eq s.key (forward_key family)) host.settings) _ _
+    by_test (λ (step : Host × Reply). IsSound step.0) (list_any (is_same_setting (new_forward family)) host.settings) _ _
     (λ _. sound)
     (λ free. IsSound-with_settings host _ sound (record {
-      keys = distinct-push (λ a b. is_same_setting b a) host.settings _ sound.settings.keys
-          (list_any-none (λ s. bytes_eq s.ns [] && bytes_eq s.key (forward_key family)) (λ s. is_host_ns s.ns && bytes_eq s.key (forward_key family)) (λ s h. grind (arith, h, host_ns-eq s.ns)) host.settings free);
-      tags = list_all-push (λ s. setting_fits_tag host.namespaces s s.tag) host.settings _ sound.settings.tags refl;
+      keys = distinct-push (λ a b. is_same_setting b a) host.settings (new_forward family) sound.settings.keys free;
+      tags = list_all-push (λ s. setting_fits_tag host.namespaces s s.tag) host.settings (new_forward family) sound.settings.tags refl;
     }))
 
 pub AddsSetting-forward_ensure : (host : Host) (family : Family) → AddsSetting host (forward_ensure_of host family).0
 AddsSetting-forward_ensure host family =
-    by_test (λ (step : Host × Reply). AddsSetting host step.0) (list_any (λ s. is_host_ns s.ns && bytes_eq s.key (forward_key family)) host.settings) _ _
+    by_test (λ (step : Host × Reply). AddsSetting host step.0) (list_any (is_same_setting (new_forward family)) host.settings) _ _
     (λ _. inl refl)
-    (λ free. inr (_, refl, refl))
+    (λ free. inr (new_forward family, refl, refl))

@@ -5,9 +5,9 @@ use Rattle.std.specs.List.{list_any, list_all}
 use Rattle.std.specs.Str.{bytes_eq}
 use Rattle.cni_addr.specs.Lists.{distinct}
 use Rattle.kernel_types.specs.Equal.{tag_eq}
-use Rattle.kernel_types.specs.Words.{is_host_ns, is_veth}
+use Rattle.kernel_types.specs.Words.{is_host_ns, is_veth, outside_namespace}
 use Rattle.kernel_types.specs.Sound.{IsSound, link_fits_tag, peer_fits, is_shared_kind}
-use Rattle.kernel_types.specs.Opening.{opening_of, opening_with, outside_namespace, AreNamespaceNames, AreOutsideLinks, is_outside_link}
+use Rattle.kernel_types.specs.Opening.{opening_of, opening_with, AreNamespaceNames, AreOutsideLinks, is_outside_link}
 use Rattle.kernel_types.proofs.ListLemmas.{list_any-map, list_all-map, list_all-weaker}
 use Rattle.kernel_types.specs.declared.object.LinkKey.{LinkKey}
 use Rattle.kernel_types.specs.declared.object.LinkKind.{LinkKind}

@@ -1,14 +1,13 @@
 -- No call replies with a fault, and a reply that holds a text or a list leaves the host.
 use Rattle.std.proofs.Common.{◌≡◌, ℕ, true, false, List, Option, Some, None, refl}
-use Rattle.std.specs.Prelude.{find, if◌then◌else◌, ◌&&◌}
+use Rattle.std.specs.Prelude.{find, if◌then◌else◌}
 use Rattle.std.specs.List.{list_any}
 use Rattle.std.specs.Option.{option_map, option_or}
-use Rattle.std.specs.Str.{bytes_eq}
 use Rattle.cni_addr.specs.declared.address.Addr.{Addr}
-use Rattle.kernel_types.specs.Equal.{addr_eq, rule_eq}
-use Rattle.kernel_types.specs.Words.{is_host_ns, is_host_or_ns, is_host_link, is_bridge, is_own, has_named_ns, has_host_bridge, has_objects, link_at}
+use Rattle.kernel_types.specs.Equal.{rule_eq}
+use Rattle.kernel_types.specs.Words.{is_host_or_ns, is_host_link, is_bridge, is_own, has_named_ns, has_host_bridge, has_objects, link_at}
 use Rattle.kernel_types.specs.Apply as apply
-use Rattle.kernel_types.specs.Apply.Calls.{append_unless_taken, bridge_or_new, has_bridge_as_master, has_master, has_link_of, is_own_at, is_same_addr, is_same_route, is_same_setting, forward_key, lease_taken, leased_addresses, last_leased, new_bridge, without_link}
+use Rattle.kernel_types.specs.Apply.Calls.{append_unless_taken, bridge_or_new, has_bridge_as_master, has_master, has_link_of, is_own_at, is_same_addr, is_same_route, is_same_setting, lease_taken, leased_addresses, last_leased, new_bridge, without_link}
 use Rattle.ip_pool.specs.Pool.{pick_of}
 use Rattle.kernel_types.specs.Replies.{is_fault, holds_text_or_list}
 use Rattle.kernel_types.proofs.Cases.{by_test}
@@ -62,11 +61,11 @@ IsReplyOf-apply host (Begin att netns) = in_place host _ (begin_reply host att n
 IsReplyOf-apply host (BridgeEnsure name mtu promisc) = bridge_reply host (find (is_host_link name) host.links) (new_bridge name mtu promisc)
 IsReplyOf-apply host (GatewayEnsure bridge cidr) =
     by_test (IsReplyOf host) (has_host_bridge host bridge) _ _
-    (λ _. by_test (IsReplyOf host) (list_any (λ a. is_host_ns a.ns && bytes_eq a.link bridge && addr_eq a.cidr.addr cidr.addr) host.addresses) _ _
+    (λ _. by_test (IsReplyOf host) (list_any _ host.addresses) _ _
     (λ _. in_place host _ refl) (λ _. changed host _ _ refl refl))
     (λ _. in_place host _ refl)
 IsReplyOf-apply host (ForwardEnsure family) =
-    by_test (IsReplyOf host) (list_any (λ s. is_host_ns s.ns && bytes_eq s.key (forward_key family)) host.settings) _ _ (λ _. in_place host _ refl) (λ _. changed host _ _ refl refl)
+    by_test (IsReplyOf host) (list_any _ host.settings) _ _ (λ _. in_place host _ refl) (λ _. changed host _ _ refl refl)
 IsReplyOf-apply host (VethAdd host_end inner_end) =
     by_test (IsReplyOf host) (has_named_ns host inner_end.ns) _ _
     (λ _. by_test (IsReplyOf host) (has_bridge_as_master host host_end.master) _ _

@@ -2,15 +2,11 @@
 use Rattle.std.specs.Prelude.{ℕ, Bool, not, ◌&&◌, List, [], map, is_none}
 use Rattle.std.specs.Str.{bytes_eq}
 use Rattle.kernel_types.specs.Equal.{tag_eq}
-use Rattle.kernel_types.specs.Words.{is_host_ns, is_host_or_ns, is_at}
+use Rattle.kernel_types.specs.Words.{is_host_ns, is_host_or_ns, is_at, outside_namespace}
 use Rattle.kernel_types.specs.Sound.{HasDistinct, AllPassTest, is_shared_kind}
 use Rattle.kernel_types.specs.declared.object.Host.{Host}
 use Rattle.kernel_types.specs.declared.object.Link.{Link}
-use Rattle.kernel_types.specs.declared.object.NsObj.{NsObj}
 use Rattle.kernel_types.specs.declared.object.Tag.TheVariants.{Outside}
-
-abbrev pub outside_namespace : List ℕ → NsObj
-outside_namespace name = record { name = name; tag = Outside }
 
 -- namespaces of these names, these links, and nothing else
 abbrev pub opening_with : List (List ℕ) → List Link → Host

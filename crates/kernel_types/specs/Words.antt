@@ -9,7 +9,7 @@ use Rattle.kernel_types.specs.Equal.{att_eq, tag_eq}
 use Rattle.kernel_types.specs.declared.object.Att.{Att}
 use Rattle.kernel_types.specs.declared.object.LinkKey.{LinkKey}
 use Rattle.kernel_types.specs.declared.object.Tag.{Tag}
-use Rattle.kernel_types.specs.declared.object.Tag.TheVariants.{Own}
+use Rattle.kernel_types.specs.declared.object.Tag.TheVariants.{Outside, Own}
 use Rattle.kernel_types.specs.declared.object.LinkKind.{LinkKind}
 use Rattle.kernel_types.specs.declared.object.LinkKind.TheVariants.{Bridge, Veth}
 use Rattle.kernel_types.specs.declared.object.Link.{Link}
@@ -62,6 +62,10 @@ is_at ns name link = bytes_eq link.ns ns && bytes_eq link.name name
 abbrev pub is_peer_at : List ℕ → List ℕ → Option LinkKey → Bool
 is_peer_at ns name None = false
 is_peer_at ns name (Some key) = bytes_eq key.ns ns && bytes_eq key.name name
+
+-- a namespace that was made outside
+abbrev pub outside_namespace : List ℕ → NsObj
+outside_namespace name = record { name = name; tag = Outside }
 
 -- a namespace of this name
 abbrev pub has_named_ns : Host → List ℕ → Bool

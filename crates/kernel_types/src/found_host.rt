@@ -1,7 +1,8 @@
 //! The host as it is found.
 
 ghost use Rattle.std.specs.Prelude.{◌≡◌, IfOk, map};
-ghost use Rattle.kernel_types.specs.Opening.{opening_with, outside_namespace};
+ghost use Rattle.kernel_types.specs.Opening.{opening_with};
+ghost use Rattle.kernel_types.specs.Words.{outside_namespace};
 
 use crate::object::{Host, Link, NsObj, Tag};
 use cni_addr::{Duplicate, Items, NoMemory, Text};

@@ -12,9 +12,9 @@ use Rattle.cni_json.specs.declared.fields.Field.TheVariants.{Absent, WrongKind, 
 use Rattle.kernel_types.proofs.ListLemmas.{list_all-push, list_all-weaker, list_any-map, list_any-none, list_any-weaker, distinct-push}
 use Rattle.kernel_types.proofs.Opening.{IsSound-opening_with}
 use Rattle.kernel_types.specs.Equal.{tag_eq}
-use Rattle.kernel_types.specs.Opening.{opening_with, outside_namespace, AreNamespaceNames, AreOutsideLinks, is_outside_link}
+use Rattle.kernel_types.specs.Opening.{opening_with, AreNamespaceNames, AreOutsideLinks, is_outside_link}
 use Rattle.kernel_types.specs.Sound.{is_shared_kind}
-use Rattle.kernel_types.specs.Words.{is_at, is_host_ns, is_host_or_ns}
+use Rattle.kernel_types.specs.Words.{is_at, is_host_ns, is_host_or_ns, outside_namespace}
 use Rattle.kernel_types.specs.declared.object.Host.{Host}
 use Rattle.kernel_types.specs.declared.object.Link.{Link}
 use Rattle.kernel_types.specs.declared.object.LinkKind.{LinkKind}

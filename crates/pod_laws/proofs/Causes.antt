@@ -1,16 +1,15 @@
 -- What a reply that refuses an ADD means.
 use Rattle.std.proofs.Common.{◌≡◌, ℕ, Bool, true, false, List, Option, Some, None, refl, sym, subst}
-use Rattle.std.specs.Prelude.{find, if◌then◌else◌, ◌&&◌}
+use Rattle.std.specs.Prelude.{find, if◌then◌else◌}
 use Rattle.std.specs.List.{list_any}
 use Rattle.std.specs.Option.{option_map, option_or}
-use Rattle.std.specs.Str.{bytes_eq}
 use Rattle.cni_addr.specs.declared.address.Addr.{Addr}
 use Rattle.cni_addr.specs.declared.range.RangeSet.{RangeSet}
 use Rattle.ip_pool.specs.Pool.{pick_of}
-use Rattle.kernel_types.specs.Equal.{addr_eq, rule_eq}
-use Rattle.kernel_types.specs.Words.{is_host_ns, is_host_or_ns, is_host_link, is_bridge, is_own, has_named_ns, has_host_bridge, has_objects, link_at}
+use Rattle.kernel_types.specs.Equal.{rule_eq}
+use Rattle.kernel_types.specs.Words.{is_host_or_ns, is_host_link, is_bridge, is_own, has_named_ns, has_host_bridge, has_objects, link_at}
 use Rattle.kernel_types.specs.Apply.{apply}
-use Rattle.kernel_types.specs.Apply.Calls.{append_unless_taken, begin_of, bridge_or_new, has_bridge_as_master, has_master, has_link_of, is_own_at, is_same_addr, is_same_route, is_same_setting, forward_key, lease_taken, leased_addresses, last_leased, new_bridge}
+use Rattle.kernel_types.specs.Apply.Calls.{append_unless_taken, begin_of, bridge_or_new, has_bridge_as_master, has_master, has_link_of, is_own_at, is_same_addr, is_same_route, is_same_setting, lease_taken, leased_addresses, last_leased, new_bridge, new_gateway, new_forward}
 use Rattle.kernel_types.proofs.Cases.{by_test}
 use Rattle.kernel_types.specs.declared.object.Att.{Att}
 use Rattle.kernel_types.specs.declared.object.Host.{Host}
@@ -63,8 +62,8 @@ plan-reply : (att : Att) (host : Host) (call : Call) → is_plan_call_of att cal
 plan-reply att host (BridgeEnsure name mtu promisc) is = bridge-reply host (find (is_host_link name) host.links) (new_bridge name mtu promisc)
 plan-reply att host (GatewayEnsure bridge cidr) is =
     by_test IsPlanStep (has_host_bridge host bridge) _ _
-    (λ _. by_test IsPlanStep (list_any (λ a. is_host_ns a.ns && bytes_eq a.link bridge && addr_eq a.cidr.addr cidr.addr) host.addresses) _ _ (λ _. tt) (λ _. tt)) (λ _. tt)
-plan-reply att host (ForwardEnsure family) is = by_test IsPlanStep (list_any (λ s. is_host_ns s.ns && bytes_eq s.key (forward_key family)) host.settings) _ _ (λ _. tt) (λ _. tt)
+    (λ _. by_test IsPlanStep (list_any (is_same_addr (new_gateway bridge cidr)) host.addresses) _ _ (λ _. tt) (λ _. tt)) (λ _. tt)
+plan-reply att host (ForwardEnsure family) is = by_test IsPlanStep (list_any (is_same_setting (new_forward family)) host.settings) _ _ (λ _. tt) (λ _. tt)
 plan-reply att host (VethAdd h i) is =
     by_test IsPlanStep (has_named_ns host i.ns) _ _
     (λ _. by_test IsPlanStep (has_bridge_as_master host h.master) _ _

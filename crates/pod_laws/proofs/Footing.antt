@@ -1,9 +1,8 @@
 -- A plan's call finds what it stands on, unless it is `macvlan`'s: its links are there, and so is the list's bridge.
 use Rattle.std.proofs.Common.{◌≡◌, ℕ, Bool, true, false, List, [], ◌∷◌, ◌++◌, map, Option, Some, None, refl, ◌∙◌, arith}
-use Rattle.std.specs.Prelude.{find, flat_map, ◌&&◌, if◌then◌else◌}
+use Rattle.std.specs.Prelude.{find, flat_map, if◌then◌else◌}
 use Rattle.std.specs.List.{list_any, list_all}
 use Rattle.std.specs.Option.{option_map, option_or}
-use Rattle.std.specs.Str.{bytes_eq}
 use Rattle.std.specs.Cmp.Lexicographic.{nat_list_eq_equiv}
 use Rattle.std.proofs.lemmas.Bool.{both_ways}
 use Rattle.cni_addr.specs.declared.address.Addr.{Addr}
@@ -21,10 +20,10 @@ use Rattle.net_conf.specs.declared.chained.Chained.{Chained}
 use Rattle.net_conf.specs.declared.chained.Chained.TheVariants.{Portmap, Firewall, Tuning}
 use Rattle.net_conf.specs.declared.list.NetList.{NetList}
 use Rattle.kernel_types.specs.Apply.{apply}
-use Rattle.kernel_types.specs.Apply.Calls.{append_unless_taken, bridge_or_new, new_bridge, has_bridge_as_master, has_link_of, is_own_at, is_same_addr, is_same_route, is_same_setting, forward_key, set_link, with_values}
-use Rattle.kernel_types.specs.Equal.{addr_eq, rule_eq}
+use Rattle.kernel_types.specs.Apply.Calls.{append_unless_taken, bridge_or_new, new_bridge, has_bridge_as_master, has_link_of, is_own_at, is_same_addr, is_same_route, is_same_setting, set_link, with_values, new_gateway, new_forward}
+use Rattle.kernel_types.specs.Equal.{rule_eq}
 use Rattle.kernel_types.specs.Names.{host_name_of}
-use Rattle.kernel_types.specs.Words.{is_own, is_host_ns, is_host_link, is_bridge, is_link_of, has_named_ns, has_host_bridge, link_at}
+use Rattle.kernel_types.specs.Words.{is_own, is_host_link, is_bridge, is_link_of, has_named_ns, has_host_bridge, link_at}
 use Rattle.kernel_types.proofs.Cases.{by_test, tag_eq-refl, tag_eq-own}
 use Rattle.kernel_types.proofs.ListLemmas.{list_any-append_left, list_any-map, list_any-same_test, list_any-weaker}
 use Rattle.kernel_types.specs.declared.object.Att.{Att}
@@ -92,10 +91,10 @@ no_link-macvlan att host (MacvlanAdd link) is lies bridge got = (link, refl)
 no_link-macvlan att host (BridgeEnsure name mtu promisc) is lies bridge got = absurd (bridge-found host (find (is_host_link name) host.links) (new_bridge name mtu promisc) got)
 no_link-macvlan att host (GatewayEnsure name cidr) is lies bridge got =
     absurd (by_test NeverNoLink (has_host_bridge host name) _ _
-    (λ _. by_test NeverNoLink (list_any (λ a. is_host_ns a.ns && bytes_eq a.link name && addr_eq a.cidr.addr cidr.addr) host.addresses) _ _ (λ _ e. cc) (λ _ e. cc))
+    (λ _. by_test NeverNoLink (list_any (is_same_addr (new_gateway name cidr)) host.addresses) _ _ (λ _ e. cc) (λ _ e. cc))
     (λ not e. both_ways (has_host_bridge host name) not bridge) got)
 no_link-macvlan att host (ForwardEnsure family) is lies bridge got =
-    absurd (by_test NeverNoLink (list_any (λ s. is_host_ns s.ns && bytes_eq s.key (forward_key family)) host.settings) _ _ (λ _ e. cc) (λ _ e. cc) got)
+    absurd (by_test NeverNoLink (list_any (is_same_setting (new_forward family)) host.settings) _ _ (λ _ e. cc) (λ _ e. cc) got)
 no_link-macvlan att host (VethAdd h i) is lies bridge got =
     absurd (by_test NeverNoLink (has_named_ns host i.ns) _ _
     (λ _. by_test NeverNoLink (has_bridge_as_master host h.master) _ _

@@ -1,16 +1,13 @@
 //! What the attachments of a host share.
 
-ghost use Rattle.std.specs.Prelude.{◌≡◌, ◌&&◌, IfOk, OnErr};
+ghost use Rattle.std.specs.Prelude.{◌≡◌, IfOk, OnErr};
 ghost use Rattle.std.specs.List.{list_any};
-ghost use Rattle.std.specs.Str.{bytes_eq};
-ghost use Rattle.cni_addr.specs.Equal.{addr_eq};
-ghost use Rattle.kernel_types.specs.Words.{is_host_ns};
-ghost use Rattle.kernel_types.specs.Apply.Calls.{bridge_ensure_of, new_bridge, gateway_ensure_of, forward_ensure_of, forward_key};
+ghost use Rattle.kernel_types.specs.Apply.Calls.{bridge_ensure_of, new_bridge, gateway_ensure_of, new_gateway, is_same_addr, forward_ensure_of, forward_key, new_forward, is_same_setting};
 
 use super::ListKernel;
 use crate::words::{has_host_bridge, host_link};
-use cni_addr::{Addr, Cidr, Duplicate, Family, NoMemory, Text};
-use kernel_types::words::is_host_ns;
+use cni_addr::{Cidr, Duplicate, Family, NoMemory, Text};
+use kernel_types::words::{is_same_addr, is_same_setting};
 use kernel_types::{AddrObj, Link, LinkKey, LinkKind, Reply, Setting, Tag, link_mac};
 use std::alloc::Global;
 
@@ -34,11 +31,23 @@ fn new_bridge(alloc: Global, name: &Text, mtu: u32, promisc: bool) -> Result<Lin
     })
 }
 
-/// Whether the host has this address on this link.
-fn has_host_address(addresses: &[AddrObj], link: &Text, addr: &Addr) -> bool
-    ensures { result ≡ list_any (λ a. is_host_ns a.ns && bytes_eq a.link link.now && addr_eq a.cidr.addr addr.now) addresses.now }
+/// The address of the gateway on a bridge, which belongs to no attachment.
+fn new_gateway(alloc: Global, bridge: &Text, cidr: Cidr) -> Result<AddrObj, NoMemory>
+    ensures { IfOk result (λ gateway. gateway ≡ new_gateway bridge.now cidr) }
 {
-    addresses.iter().any(|a| is_host_ns(&a.ns) && a.link == *link && a.cidr.addr == *addr)
+    Ok(AddrObj {
+        ns: Text::of(alloc, "")?,
+        link: bridge.copy()?,
+        cidr,
+        tag: Tag::Base,
+    })
+}
+
+/// Whether an address of the same place and number is there.
+fn has_same_addr(addresses: &[AddrObj], obj: &AddrObj) -> bool
+    ensures { result ≡ list_any (is_same_addr obj.now) addresses.now }
+{
+    addresses.iter().any(|a| is_same_addr(obj, a))
 }
 
 /// The host's switch that lets it forward packets of the family (Linux, `ip-sysctl`).
@@ -51,13 +60,23 @@ fn forward_key(family: Family) -> &'static str
     }
 }
 
-/// Whether the host has a setting of this key.
-fn has_host_setting(settings: &[Setting], key: &str) -> bool
-    ensures { result ≡ list_any (λ s. is_host_ns s.ns && bytes_eq s.key key.now) settings.now }
+/// The setting by which the host forwards packets of the family, which belongs to no attachment.
+fn new_forward(alloc: Global, family: Family) -> Result<Setting, NoMemory>
+    ensures { IfOk result (λ forward. forward ≡ new_forward family) }
 {
-    settings
-        .iter()
-        .any(|s| is_host_ns(&s.ns) && s.key.as_str() == key)
+    Ok(Setting {
+        ns: Text::of(alloc, "")?,
+        key: Text::of(alloc, forward_key(family))?,
+        value: Text::of(alloc, "1")?,
+        tag: Tag::Base,
+    })
+}
+
+/// Whether a setting of the same place and key is there.
+fn has_same_setting(settings: &[Setting], obj: &Setting) -> bool
+    ensures { result ≡ list_any (is_same_setting obj.now) settings.now }
+{
+    settings.iter().any(|s| is_same_setting(obj, s))
 }
 
 impl ListKernel {
@@ -95,15 +114,10 @@ impl ListKernel {
         if !has_host_bridge(&self.links, bridge) {
             return Ok(Reply::NoLink);
         }
-        if has_host_address(&self.addresses, bridge, &cidr.addr) {
+        let gateway = new_gateway(alloc, bridge, cidr)?;
+        if has_same_addr(&self.addresses, &gateway) {
             return Ok(Reply::Done);
         }
-        let gateway = AddrObj {
-            ns: Text::of(alloc, "")?,
-            link: bridge.copy()?,
-            cidr,
-            tag: Tag::Base,
-        };
         self.addresses.push(gateway)?;
         Ok(Reply::Done)
     }
@@ -116,16 +130,10 @@ impl ListKernel {
         ensures ok { IfOk result (λ reply. (self.new, reply) ≡ forward_ensure_of self.old family) }
         ensures err { OnErr result (self.new ≡ self.old) }
     {
-        let key = forward_key(family);
-        if has_host_setting(&self.settings, key) {
+        let forward = new_forward(alloc, family)?;
+        if has_same_setting(&self.settings, &forward) {
             return Ok(Reply::Done);
         }
-        let forward = Setting {
-            ns: Text::of(alloc, "")?,
-            key: Text::of(alloc, key)?,
-            value: Text::of(alloc, "1")?,
-            tag: Tag::Base,
-        };
         self.settings.push(forward)?;
         Ok(Reply::Done)
     }

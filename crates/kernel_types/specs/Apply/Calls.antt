@@ -14,7 +14,7 @@ use Rattle.kernel_types.specs.Equal.{att_eq, addr_eq, cidr_eq, mac_eq, link_eq, 
 use Rattle.cni_addr.specs.Lists.{each_key_once, without_first}
 use Rattle.ip_pool.specs.Pool.{pick_of, has_free_of}
 use Rattle.kernel_types.specs.Names.{link_mac_of}
-use Rattle.kernel_types.specs.Words.{is_host_ns, is_host_or_ns, is_own, is_owned, is_bridge, is_at, is_peer_at, has_named_ns, link_at, is_host_link, is_host_bridge, has_host_bridge, has_objects, is_link_of, new_link, lease_of, cached_in}
+use Rattle.kernel_types.specs.Words.{is_host_or_ns, is_own, is_owned, is_bridge, is_at, is_peer_at, has_named_ns, link_at, is_host_link, is_host_bridge, has_host_bridge, has_objects, is_link_of, new_link, lease_of, cached_in, outside_namespace}
 use Rattle.kernel_types.specs.declared.object.Att.{Att}
 use Rattle.kernel_types.specs.declared.object.LinkKey.{LinkKey}
 use Rattle.kernel_types.specs.declared.object.Tag.{Tag}
@@ -26,6 +26,8 @@ use Rattle.kernel_types.specs.declared.object.AddrObj.{AddrObj}
 use Rattle.kernel_types.specs.declared.object.RouteObj.{RouteObj}
 use Rattle.kernel_types.specs.declared.object.Rule.{Rule}
 use Rattle.kernel_types.specs.declared.object.Setting.{Setting}
+use Rattle.kernel_types.specs.declared.object.Lease.{Lease}
+use Rattle.kernel_types.specs.declared.object.CachedObj.{CachedObj}
 use Rattle.kernel_types.specs.declared.object.Last.{Last}
 use Rattle.kernel_types.specs.declared.object.Host.{Host}
 use Rattle.kernel_types.specs.declared.call.Kind.{Kind}
@@ -40,6 +42,21 @@ use Rattle.kernel_types.specs.declared.call.Reply.TheVariants.{Done, NoNs, NoLin
 abbrev pub append_unless_taken : Option Tag → Host → Host → Host × Reply
 append_unless_taken None host next = (next, Done)
 append_unless_taken (Some tag) host next = (host, Taken tag)
+
+-- where it is there already, the host stays and this is the reply; else the host goes on to the next
+abbrev pub unless_there : Bool → Reply → Host → Host → Host × Reply
+unless_there there reply host next = if there then (host, reply) else (next, Done)
+
+-- ---- keys: what stands in the way of a new object
+
+abbrev pub is_same_addr : AddrObj → AddrObj → Bool
+is_same_addr new a = bytes_eq a.ns new.ns && bytes_eq a.link new.link && addr_eq a.cidr.addr new.cidr.addr
+
+abbrev pub is_same_route : RouteObj → RouteObj → Bool
+is_same_route new r = bytes_eq r.ns new.ns && cidr_eq r.dst new.dst && bytes_eq r.link new.link
+
+abbrev pub is_same_setting : Setting → Setting → Bool
+is_same_setting new s = bytes_eq s.ns new.ns && bytes_eq s.key new.key
 
 -- ---- before an attachment
 
@@ -59,12 +76,13 @@ bridge_or_new host None bridge = (record host { links = host.links ++ bridge ∷
 abbrev pub bridge_ensure_of : Host → List ℕ → ℕ → Bool → Host × Reply
 bridge_ensure_of host name mtu promisc = bridge_or_new host (find (is_host_link name) host.links) (new_bridge name mtu promisc)
 
+abbrev pub new_gateway : List ℕ → Cidr → AddrObj
+new_gateway bridge cidr = record { ns = []; link = bridge; cidr = cidr; tag = Base }
+
 abbrev pub gateway_ensure_of : Host → List ℕ → Cidr → Host × Reply
 gateway_ensure_of host bridge cidr =
     if has_host_bridge host bridge
-    then (if list_any (λ a. is_host_ns a.ns && bytes_eq a.link bridge && addr_eq a.cidr.addr cidr.addr) host.addresses
-    then (host, Done)
-    else (record host { addresses = host.addresses ++ record { ns = []; link = bridge; cidr = cidr; tag = Base } ∷ [] }, Done))
+    then unless_there (list_any (is_same_addr (new_gateway bridge cidr)) host.addresses) Done host (record host { addresses = host.addresses ++ new_gateway bridge cidr ∷ [] })
     else (host, NoLink)
 
 -- the switch that lets the host forward between its links (Linux `ip-sysctl`)
@@ -72,11 +90,12 @@ abbrev pub forward_key : Family → List ℕ
 forward_key V4 = codes "net.ipv4.ip_forward"
 forward_key V6 = codes "net.ipv6.conf.all.forwarding"
 
+abbrev pub new_forward : Family → Setting
+new_forward family = record { ns = []; key = forward_key family; value = codes "1"; tag = Base }
+
 abbrev pub forward_ensure_of : Host → Family → Host × Reply
 forward_ensure_of host family =
-    if list_any (λ s. is_host_ns s.ns && bytes_eq s.key (forward_key family)) host.settings
-    then (host, Done)
-    else (record host { settings = host.settings ++ record { ns = []; key = forward_key family; value = codes "1"; tag = Base } ∷ [] }, Done)
+    unless_there (list_any (is_same_setting (new_forward family)) host.settings) Done host (record host { settings = host.settings ++ new_forward family ∷ [] })
 
 -- ---- the objects of one attachment
 
@@ -137,17 +156,11 @@ link_set_of host att key mac mtu tx_qlen promisc allmulti =
 abbrev pub has_link_of : Host → List ℕ → List ℕ → Tag → Bool
 has_link_of host ns name tag = list_any (is_link_of ns name tag) host.links
 
-abbrev pub is_same_addr : AddrObj → AddrObj → Bool
-is_same_addr new a = bytes_eq a.ns new.ns && bytes_eq a.link new.link && addr_eq a.cidr.addr new.cidr.addr
-
 abbrev pub addr_add_of : Host → AddrObj → Host × Reply
 addr_add_of host obj =
     if has_link_of host obj.ns obj.link obj.tag
     then append_unless_taken (option_map (λ a. a.tag) (find (is_same_addr obj) host.addresses)) host (record host { addresses = host.addresses ++ obj ∷ [] })
     else (host, NoLink)
-
-abbrev pub is_same_route : RouteObj → RouteObj → Bool
-is_same_route new r = bytes_eq r.ns new.ns && cidr_eq r.dst new.dst && bytes_eq r.link new.link
 
 abbrev pub route_add_of : Host → RouteObj → Host × Reply
 route_add_of host obj =
@@ -157,10 +170,7 @@ route_add_of host obj =
 
 abbrev pub rule_append_of : Host → Rule → Host × Reply
 rule_append_of host rule =
-    if list_any (λ r. rule_eq r rule) host.rules then (host, Taken rule.tag) else (record host { rules = host.rules ++ rule ∷ [] }, Done)
-
-abbrev pub is_same_setting : Setting → Setting → Bool
-is_same_setting new s = bytes_eq s.ns new.ns && bytes_eq s.key new.key
+    unless_there (list_any (λ r. rule_eq r rule) host.rules) (Taken rule.tag) host (record host { rules = host.rules ++ rule ∷ [] })
 
 abbrev pub setting_set_of : Host → Setting → Host × Reply
 setting_set_of host setting =
@@ -205,9 +215,7 @@ pool_free_of host network set = (host, Has (has_free_of set (leased_addresses ho
 
 abbrev pub cache_put_of : Host → Att → Cached → Host × Reply
 cache_put_of host att cached =
-    if list_any (λ c. is_own att c.tag) host.cached
-    then (host, Taken (Own att))
-    else (record host { cached = host.cached ++ record { cached = cached; tag = Own att } ∷ [] }, Done)
+    unless_there (list_any (λ c. is_own att c.tag) host.cached) (Taken (Own att)) host (record host { cached = host.cached ++ record { cached = cached; tag = Own att } ∷ [] })
 
 abbrev pub cache_get_of : Host → Att → Host × Reply
 cache_get_of host att = (host, Entry (cached_in host att))
@@ -233,17 +241,21 @@ without_link host (Some link) = (without_links (goes_with link.ns link.name) hos
 abbrev pub link_del_of : Host → Att → Host × Reply
 link_del_of host att = without_link host (find (λ l. is_own att l.tag) host.links)
 
+-- the list without its first object of the attachment, put into the host, and whether there was one
+abbrev pub without_own : {X : Type 0} → (X → Tag) → Att → List X → (List X → Host) → Host × Reply
+without_own tag_of att xs put = (put (without_first (λ x. is_own att (tag_of x)) xs), Gone (list_any (λ x. is_own att (tag_of x)) xs))
+
 abbrev pub rule_del_of : Host → Att → Host × Reply
-rule_del_of host att = (record host { rules = without_first (λ r. is_own att r.tag) host.rules }, Gone (list_any (λ r. is_own att r.tag) host.rules))
+rule_del_of host att = without_own (λ (r : Rule). r.tag) att host.rules (λ rules. record host { rules = rules })
 
 abbrev pub setting_del_of : Host → Att → Host × Reply
-setting_del_of host att = (record host { settings = without_first (λ s. is_own att s.tag) host.settings }, Gone (list_any (λ s. is_own att s.tag) host.settings))
+setting_del_of host att = without_own (λ (s : Setting). s.tag) att host.settings (λ settings. record host { settings = settings })
 
 abbrev pub lease_del_of : Host → Att → Host × Reply
-lease_del_of host att = (record host { leases = without_first (λ l. is_own att l.tag) host.leases }, Gone (list_any (λ l. is_own att l.tag) host.leases))
+lease_del_of host att = without_own (λ (l : Lease). l.tag) att host.leases (λ leases. record host { leases = leases })
 
 abbrev pub cache_del_of : Host → Att → Host × Reply
-cache_del_of host att = (record host { cached = without_first (λ c. is_own att c.tag) host.cached }, Gone (list_any (λ c. is_own att c.tag) host.cached))
+cache_del_of host att = without_own (λ (c : CachedObj). c.tag) att host.cached (λ cached. record host { cached = cached })
 
 -- ---- questions
 
@@ -280,7 +292,7 @@ owners_of host network kind = (host, Owners (each_key_once att_eq (filter_map (o
 
 abbrev pub ns_add_of : Host → List ℕ → Host × Reply
 ns_add_of host name =
-    if has_named_ns host name then (host, Taken Outside) else (record host { namespaces = host.namespaces ++ record { name = name; tag = Outside } ∷ [] }, Done)
+    unless_there (has_named_ns host name) (Taken Outside) host (record host { namespaces = host.namespaces ++ outside_namespace name ∷ [] })
 
 -- the links of a namespace, and their peers
 abbrev pub has_peer_in : List ℕ → Option LinkKey → Bool
