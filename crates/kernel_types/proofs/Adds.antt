@@ -8,13 +8,13 @@ use Rattle.cni_result.specs.declared.cached.Cached.{Cached}
 use Rattle.cni_addr.specs.declared.address.Cidr.{Cidr}
 use Rattle.cni_addr.specs.declared.address.Family.{Family}
 use Rattle.kernel_types.specs.Equal.{rule_eq, tag_eq}
-use Rattle.kernel_types.specs.Words.{is_host_bridge, is_own, is_owned, is_link_of, has_named_ns, has_host_bridge}
+use Rattle.kernel_types.specs.Words.{is_own, is_owned, is_link_of, has_named_ns, has_host_bridge}
 use Rattle.kernel_types.specs.Apply.Calls.{cache_put_of, addr_add_of, route_add_of, rule_append_of, setting_set_of, gateway_ensure_of, forward_ensure_of, is_same_addr, is_same_route, is_same_setting, has_link_of, new_gateway, new_forward}
-use Rattle.kernel_types.specs.Sound.{IsSound, address_fits_tag, is_bridge_at, setting_fits_tag}
+use Rattle.kernel_types.specs.Sound.{IsSound, address_fits_tag, setting_fits_tag}
 use Rattle.kernel_types.specs.Touch.{AddsAddress, AddsSetting, TouchesOwnAlone, TouchesTag}
-use Rattle.kernel_types.proofs.Cases.{by_test, by_way, none-option_map, tag_eq-own, own-own, TouchesTag-owned, host_ns-eq}
+use Rattle.kernel_types.proofs.Cases.{by_test, by_way, none-option_map, tag_eq-own, own-own, TouchesTag-owned}
 use Rattle.kernel_types.proofs.ChangeLemmas.{ChangesOnly-append}
-use Rattle.kernel_types.proofs.ListLemmas.{list_any-none, list_any-weaker, list_any-find_none, list_all-push, distinct-push}
+use Rattle.kernel_types.proofs.ListLemmas.{list_any-none, list_any-find_none, list_all-push, distinct-push}
 use Rattle.kernel_types.proofs.OneList.{IsSound-with_cached, IsSound-with_addresses, IsSound-with_routes, IsSound-with_rules, IsSound-with_settings, TouchesOwnAlone-nothing, TouchesOwnAlone-with_cached, TouchesOwnAlone-with_addresses, TouchesOwnAlone-with_routes, TouchesOwnAlone-with_rules, TouchesOwnAlone-with_settings}
 use Rattle.kernel_types.specs.declared.object.Att.{Att}
 use Rattle.kernel_types.specs.declared.object.Tag.{Tag}
@@ -161,11 +161,9 @@ IsSound-gateway_ensure host bridge cidr sound =
     by_test (λ (step : Host × Reply). IsSound step.0) (has_host_bridge host bridge) _ _
     (λ there. by_test (λ (step : Host × Reply). IsSound step.0) (list_any (is_same_addr (new_gateway bridge cidr)) host.addresses) _ _
     (λ _. sound)
-    (λ free.
-    let at : list_any (is_bridge_at [] bridge) host.links ≡ true = list_any-weaker (is_host_bridge bridge) (is_bridge_at [] bridge) (λ l h. grind (arith, h, host_ns-eq l.ns)) host.links there in
-    IsSound-with_addresses host _ sound (record {
+    (λ free. IsSound-with_addresses host _ sound (record {
       keys = distinct-push (λ a b. is_same_addr b a) host.addresses (new_gateway bridge cidr) sound.addresses.keys free;
-      lie = list_all-push (λ a. address_fits_tag host.links a a.tag) host.addresses (new_gateway bridge cidr) sound.addresses.lie at;
+      lie = list_all-push (λ a. address_fits_tag host.links a a.tag) host.addresses (new_gateway bridge cidr) sound.addresses.lie there;
     })))
     (λ _. sound)
 

@@ -6,7 +6,7 @@ use Rattle.std.specs.Str.{bytes_eq}
 use Rattle.std.specs.Cmp.Lexicographic.{nat_list_eq_equiv}
 use Rattle.std.proofs.lemmas.Bool.Decides.{nat_tests}
 use Rattle.kernel_types.specs.Equal.{att_eq, tag_eq}
-use Rattle.kernel_types.specs.Words.{is_host_ns, is_own, is_owned, is_at}
+use Rattle.kernel_types.specs.Words.{is_host_ns, is_host_bridge, is_own, is_owned, is_at}
 use Rattle.kernel_types.specs.Apply.Calls.{append_unless_taken}
 use Rattle.kernel_types.specs.Touch.{TouchesOwnAlone, TouchesTag}
 use Rattle.kernel_types.specs.declared.object.Att.{Att}
@@ -67,6 +67,11 @@ is_at-itself l = grind (arith, nat_list_eq_equiv.refl l.ns, nat_list_eq_equiv.re
 pub host_ns-eq : (ns : List ℕ) → is_host_ns ns ≡ bytes_eq ns []
 host_ns-eq [] = refl
 host_ns-eq (x ∷ xs) = grind (arith, nat_tests)
+
+-- a bridge of the host stands at its name in the host's namespace
+pub host_bridge-at : (ns name : List ℕ) (l : Link) → is_host_ns ns ≡ true → is_host_bridge name l ≡ true → is_at ns name l ≡ true
+host_bridge-at [] name l host h = grind (arith, h, host_ns-eq l.ns)
+host_bridge-at (x ∷ xs) name l host h = grind (arith, host, nat_tests)
 
 pub other_host : (a b : List ℕ) → is_host_ns a ≡ true → is_host_ns b ≡ false → bytes_eq a b ≡ false
 other_host [] [] h g = cc

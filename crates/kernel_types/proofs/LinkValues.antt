@@ -3,9 +3,9 @@ use Rattle.std.proofs.Common.{◌≡◌, ℕ, Bool, true, not, List, ◌⊎◌, 
 use Rattle.std.specs.Prelude.{map, ◌&&◌, ◌||◌}
 use Rattle.std.specs.List.{list_any}
 use Rattle.cni_addr.specs.declared.mac.Mac.{Mac}
-use Rattle.kernel_types.specs.Words.{is_host_ns, is_host_or_ns, is_own, is_at, is_veth, is_link_of}
+use Rattle.kernel_types.specs.Words.{is_host_ns, is_host_or_ns, is_own, is_at, is_veth, is_link_of, is_host_bridge}
 use Rattle.kernel_types.specs.Apply.Calls.{link_set_of, set_link, is_own_at}
-use Rattle.kernel_types.specs.Sound.{IsSound, peer_fits, peers_back, address_fits_tag, is_bridge_at, link_fits_tag}
+use Rattle.kernel_types.specs.Sound.{IsSound, peer_fits, peers_back, address_fits_tag, link_fits_tag}
 use Rattle.kernel_types.specs.Touch.{TouchesOwnAlone}
 use Rattle.kernel_types.proofs.Cases.{by_test}
 use Rattle.kernel_types.proofs.ChangeLemmas.{ChangesOnly-map}
@@ -39,8 +39,8 @@ same_place-kept f keeps a b = rw (keeps.ns b, keeps.name b) (is_at-kept f keeps 
 is_link_of-kept : (f : Link → Link) → KeepsPlaces f → (ns name : List ℕ) (t : Tag) (l : Link) → is_link_of ns name t (f l) ≡ is_link_of ns name t l
 is_link_of-kept f keeps ns name t l = rw (keeps.ns l, keeps.name l, keeps.tag l) refl
 
-is_bridge_at-kept : (f : Link → Link) → KeepsPlaces f → (ns name : List ℕ) (l : Link) → is_bridge_at ns name (f l) ≡ is_bridge_at ns name l
-is_bridge_at-kept f keeps ns name l = rw (keeps.ns l, keeps.name l, keeps.kind l) refl
+is_host_bridge-kept : (f : Link → Link) → KeepsPlaces f → (name : List ℕ) (l : Link) → is_host_bridge name (f l) ≡ is_host_bridge name l
+is_host_bridge-kept f keeps name l = rw (keeps.ns l, keeps.name l, keeps.kind l) refl
 
 link_fits_tag-alike : (a b : Link) (t : Tag) → a.ns ≡ b.ns → a.kind ≡ b.kind → link_fits_tag a t ≡ link_fits_tag b t
 link_fits_tag-alike a b Outside ns kind = rw kind refl
@@ -67,7 +67,7 @@ address_fits_tag-kept : (f : Link → Link) → KeepsPlaces f → (links : List 
 address_fits_tag-kept f keeps links a Outside = refl
 address_fits_tag-kept f keeps links a Base =
     ap (λ b. is_host_ns a.ns && b)
-    (list_any-map (is_bridge_at a.ns a.link) f links ∙ list_any-same_test (λ l. is_bridge_at a.ns a.link (f l)) (is_bridge_at a.ns a.link) (is_bridge_at-kept f keeps a.ns a.link) links)
+    (list_any-map (is_host_bridge a.link) f links ∙ list_any-same_test (λ l. is_host_bridge a.link (f l)) (is_host_bridge a.link) (is_host_bridge-kept f keeps a.link) links)
 address_fits_tag-kept f keeps links a (Own att) =
     list_any-map (is_link_of a.ns a.link (Own att)) f links ∙ list_any-same_test (λ l. is_link_of a.ns a.link (Own att) (f l)) (is_link_of a.ns a.link (Own att)) (is_link_of-kept f keeps a.ns a.link (Own att)) links
 

@@ -8,9 +8,9 @@ use Rattle.std.proofs.lemmas.Slice.Eq.{bytes_eq-Decides}
 use Rattle.std.specs.Cmp.Lexicographic.{nat_list_eq_equiv}
 use Rattle.kernel_types.specs.declared.call.Reply.TheVariants.{Gone}
 use Rattle.kernel_types.specs.Equal.{tag_eq}
-use Rattle.kernel_types.specs.Words.{is_own, is_at, is_peer_at, is_bridge, is_link_of, is_host_or_ns}
+use Rattle.kernel_types.specs.Words.{is_own, is_at, is_peer_at, is_link_of, is_host_or_ns, is_host_ns, is_host_bridge}
 use Rattle.kernel_types.specs.Apply.Calls.{without_links, goes_with, without_link, link_del_of, is_same_addr, is_same_route}
-use Rattle.kernel_types.specs.Sound.{IsSound, AreLinks, AreAddresses, AreRoutes, peer_fits, peers_back, address_fits_tag, is_bridge_at, link_fits_tag}
+use Rattle.kernel_types.specs.Sound.{IsSound, AreLinks, AreAddresses, AreRoutes, peer_fits, peers_back, address_fits_tag, link_fits_tag}
 use Rattle.kernel_types.proofs.ListLemmas.{list_all-filter, list_all-kept, list_any-kept, list_any-none, distinct-filter}
 use Rattle.kernel_types.specs.declared.object.Att.{Att}
 use Rattle.kernel_types.specs.declared.object.LinkKey.{LinkKey}
@@ -20,6 +20,7 @@ use Rattle.kernel_types.specs.declared.object.NsObj.{NsObj}
 use Rattle.kernel_types.specs.declared.object.Link.{Link}
 use Rattle.kernel_types.specs.declared.object.AddrObj.{AddrObj}
 use Rattle.kernel_types.specs.declared.object.RouteObj.{RouteObj}
+use Rattle.kernel_types.proofs.Cases.{host_bridge-at}
 use Rattle.kernel_types.specs.declared.object.Host.{Host}
 
 -- a test of places, at a link and at its peer
@@ -85,7 +86,8 @@ on_kept gone p at links w some stays =
 address_fits_tag-kept : (gone : Link → Bool) (links : List Link) (a : AddrObj) (t : Tag) → address_fits_tag links a t ≡ true → not (list_any (λ l. gone l && is_at a.ns a.link l) links) ≡ true → address_fits_tag (filter (λ l. not (gone l)) links) a t ≡ true
 address_fits_tag-kept gone links a Outside h stays = h
 address_fits_tag-kept gone links a Base h stays =
-    let kept = on_kept gone (is_bridge_at a.ns a.link) (is_at a.ns a.link) links (λ l h. (and_parts (is_at a.ns a.link l) (is_bridge l.kind) h).0) (grind (arith, h)) stays in
+    let lies = and_parts (is_host_ns a.ns) (list_any (is_host_bridge a.link) links) h in
+    let kept = on_kept gone (is_host_bridge a.link) (is_at a.ns a.link) links (λ l b. host_bridge-at a.ns a.link l lies.0 b) lies.1 stays in
     grind (arith, h, kept)
 address_fits_tag-kept gone links a (Own att) h stays =
     on_kept gone (is_link_of a.ns a.link (Own att)) (is_at a.ns a.link) links (λ l h. (and_parts (is_at a.ns a.link l) (tag_eq l.tag (Own att)) h).0) h stays

@@ -7,9 +7,9 @@ use Rattle.std.specs.Cmp.Lexicographic.{nat_list_eq_equiv}
 use Rattle.std.proofs.lemmas.Slice.Eq.{bytes_eq-Decides}
 use Rattle.cni_addr.specs.Lists.{distinct}
 use Rattle.kernel_types.specs.Equal.{tag_eq}
-use Rattle.kernel_types.specs.Words.{is_host_ns, is_own, is_at, is_peer_at, is_bridge, is_link_of}
+use Rattle.kernel_types.specs.Words.{is_host_ns, is_own, is_at, is_peer_at, is_bridge, is_link_of, is_host_bridge}
 use Rattle.kernel_types.specs.Apply.Calls.{without_links, goes_with, without_link, link_del_of}
-use Rattle.kernel_types.specs.Sound.{IsSound, AreAddresses, AreRoutes, peer_fits, peers_back, address_fits_tag, is_bridge_at, link_fits_tag, is_owned_kind}
+use Rattle.kernel_types.specs.Sound.{IsSound, AreAddresses, AreRoutes, peer_fits, peers_back, address_fits_tag, link_fits_tag, is_owned_kind}
 use Rattle.kernel_types.specs.Touch.{TouchesOwnAlone}
 use Rattle.kernel_types.proofs.ChangeLemmas.{ChangesOnly-nothing, ChangesOnly-filter}
 use Rattle.kernel_types.proofs.ListLemmas.{list_any-weaker, list_all-weaker}
@@ -23,6 +23,7 @@ use Rattle.kernel_types.specs.declared.object.Tag.TheVariants.{Outside, Base, Ow
 use Rattle.kernel_types.specs.declared.object.Link.{Link}
 use Rattle.kernel_types.specs.declared.object.AddrObj.{AddrObj}
 use Rattle.kernel_types.specs.declared.object.RouteObj.{RouteObj}
+use Rattle.kernel_types.proofs.Cases.{host_bridge-at}
 use Rattle.kernel_types.specs.declared.object.Host.{Host}
 
 -- ---- lists
@@ -103,9 +104,6 @@ one_place ns name a b h g =
     let bm : b.name ≡ name = (bytes_eq-Decides b.name name).0 (grind (arith, g)) in
     rw (an, am, bn, bm) (grind (arith, nat_list_eq_equiv.refl ns, nat_list_eq_equiv.refl name))
 
-host_at : (ns name : List ℕ) (l : Link) → is_at ns name l ≡ true → is_host_ns ns ≡ true → is_host_ns l.ns ≡ true
-host_at ns name l h host = let e : l.ns ≡ ns = (bytes_eq-Decides l.ns ns).0 (grind (arith, h)) in rw e host
-
 keeps_or_owns : (g o : Bool) → (g ≡ true → o ≡ true) → (not g || o) ≡ true
 keeps_or_owns true o h = h refl
 keeps_or_owns false o h = refl
@@ -134,10 +132,11 @@ address_gone : (mine : Tag → Bool) → RespectsTags mine → (gone : Link → 
     → (a : AddrObj) (t : Tag) → address_fits_tag links a t ≡ true → list_any (λ l. gone l && is_at a.ns a.link l) links ≡ true → mine t ≡ true
 address_gone mine respects gone links keys may a Outside lies goes = cc
 address_gone mine respects gone links keys may a Base lies goes =
-    from_one (λ x. is_bridge_at a.ns a.link x && (gone x && is_at a.ns a.link x)) (λ m. not (gone m) || may_go mine m) (mine Base)
-    (λ x h w. let here : is_host_ns x.ns ≡ true = host_at a.ns a.link x (grind (arith, h)) (and_parts (is_host_ns a.ns) (list_any (is_bridge_at a.ns a.link) links) lies).0 in grind (arith, h, w, here))
+    let on = and_parts (is_host_ns a.ns) (list_any (is_host_bridge a.link) links) lies in
+    from_one (λ x. is_host_bridge a.link x && (gone x && is_at a.ns a.link x)) (λ m. not (gone m) || may_go mine m) (mine Base)
+    (λ x h w. grind (arith, h, w))
     links
-    (both_at (λ x y. is_at y.ns y.name x) (is_bridge_at a.ns a.link) (λ l. gone l && is_at a.ns a.link l) (is_at a.ns a.link) (λ x h. (and_parts (is_at a.ns a.link x) (is_bridge x.kind) h).0) (λ x h. (and_parts (gone x) (is_at a.ns a.link x) h).1) (one_place a.ns a.link) links keys (and_parts (is_host_ns a.ns) (list_any (is_bridge_at a.ns a.link) links) lies).1 goes)
+    (both_at (λ x y. is_at y.ns y.name x) (is_host_bridge a.link) (λ l. gone l && is_at a.ns a.link l) (is_at a.ns a.link) (λ x b. host_bridge-at a.ns a.link x on.0 b) (λ x h. (and_parts (gone x) (is_at a.ns a.link x) h).1) (one_place a.ns a.link) links keys on.1 goes)
     may
 address_gone mine respects gone links keys may a (Own b) lies goes = on_gone mine respects gone links a.ns a.link (Own b) keys may lies goes
 

@@ -4,7 +4,7 @@ use Rattle.std.specs.List.{list_any, list_all}
 use Rattle.std.specs.Str.{bytes_eq}
 use Rattle.cni_addr.specs.Lists.{distinct}
 use Rattle.kernel_types.specs.Equal.{addr_eq, rule_eq, tag_eq}
-use Rattle.kernel_types.specs.Words.{is_host_ns, is_host_or_ns, is_owned, is_bridge, is_veth, is_at, is_peer_at, is_link_of}
+use Rattle.kernel_types.specs.Words.{is_host_ns, is_host_or_ns, is_owned, is_host_bridge, is_veth, is_at, is_peer_at, is_link_of}
 use Rattle.kernel_types.specs.Apply.Calls.{is_same_addr, is_same_route, is_same_setting, is_of_pool, leased_addresses, owner_in}
 use Rattle.kernel_types.specs.declared.object.LinkKey.{LinkKey}
 use Rattle.kernel_types.specs.declared.object.Tag.{Tag}
@@ -75,12 +75,9 @@ pub record AreLinks (namespaces : List NsObj) (links : List Link) : Type 0 where
 
 -- ---- what lies on links
 
-abbrev pub is_bridge_at : List ℕ → List ℕ → Link → Bool
-is_bridge_at ns name l = is_at ns name l && is_bridge l.kind
-
 abbrev pub address_fits_tag : List Link → AddrObj → Tag → Bool
 address_fits_tag links a Outside = false
-address_fits_tag links a Base = is_host_ns a.ns && list_any (is_bridge_at a.ns a.link) links
+address_fits_tag links a Base = is_host_ns a.ns && list_any (is_host_bridge a.link) links
 address_fits_tag links a (Own att) = list_any (is_link_of a.ns a.link (Own att)) links
 
 pub record AreAddresses (links : List Link) (addresses : List AddrObj) : Type 0 where
