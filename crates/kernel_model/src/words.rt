@@ -2,10 +2,8 @@
 
 ghost use Rattle.std.specs.Prelude.{◌≡◌, IfOk, find};
 ghost use Rattle.std.specs.Option.{option_copied, option_map};
-ghost use Rattle.std.specs.List.{list_any};
-ghost use Rattle.std.specs.Str.{bytes_eq};
-ghost use Rattle.kernel_types.specs.Apply.Calls.{is_free_master};
-ghost use Rattle.kernel_types.specs.Words.{is_at, is_host_or_ns, is_host_link, is_host_bridge, is_link_of};
+ghost use Rattle.kernel_types.specs.Apply.Calls.{is_free_master, has_free_master, has_link_in};
+ghost use Rattle.kernel_types.specs.Words.{has_ns_in, is_host_or_ns, link_in, is_host_link, is_host_bridge, has_bridge_in, is_link_of};
 
 use crate::lists::Tagged;
 use cni_addr::{Duplicate, NoMemory, Text};
@@ -14,7 +12,7 @@ use kernel_types::{Link, NsObj, Tag};
 
 /// Whether a namespace has this name.
 pub(crate) fn has_named_ns(namespaces: &[NsObj], name: &Text) -> bool
-    ensures { result ≡ list_any (λ n. bytes_eq n.name name.now) namespaces.now }
+    ensures { result ≡ has_ns_in namespaces.now name.now }
 {
     namespaces.iter().any(|n| n.name == *name)
 }
@@ -28,7 +26,7 @@ pub(crate) fn is_host_or_ns(namespaces: &[NsObj], ns: &Text) -> bool
 
 /// The link at this place.
 pub(crate) fn link_at<'a>(links: &'a [Link], ns: &Text, name: &Text) -> Option<&'a Link>
-    ensures { option_copied result ≡ find (is_at ns.now name.now) links.now }
+    ensures { option_copied result ≡ link_in links.now ns.now name.now }
 {
     links.iter().find(|l| is_at(ns.as_str(), name.as_str(), l))
 }
@@ -56,7 +54,7 @@ pub(crate) fn is_host_bridge(name: &Text, link: &Link) -> bool
 
 /// Whether a bridge of the host has this name.
 pub(crate) fn has_host_bridge(links: &[Link], name: &Text) -> bool
-    ensures { result ≡ list_any (is_host_bridge name.now) links.now }
+    ensures { result ≡ has_bridge_in links.now name.now }
 {
     links.iter().any(|l| is_host_bridge(name, l))
 }
@@ -69,14 +67,14 @@ fn is_free_master(name: &Text, link: &Link) -> bool
 
 /// Whether a link of the host that no attachment owns has this name.
 pub(crate) fn has_free_master(links: &[Link], name: &Text) -> bool
-    ensures { result ≡ list_any (is_free_master name.now) links.now }
+    ensures { result ≡ has_free_master links.now name.now }
 {
     links.iter().any(|l| is_free_master(name, l))
 }
 
 /// Whether a link of this tag stands at this place.
 pub(crate) fn has_link_of(links: &[Link], ns: &Text, name: &Text, tag: &Tag) -> bool
-    ensures { result ≡ list_any (is_link_of ns.now name.now tag.now) links.now }
+    ensures { result ≡ has_link_in links.now ns.now name.now tag.now }
 {
     links.iter().any(|l| is_link_of(ns, name, tag, l))
 }

@@ -4,8 +4,8 @@ use Rattle.std.specs.List.{list_any, list_all}
 use Rattle.std.specs.Str.{bytes_eq}
 use Rattle.cni_addr.specs.Lists.{distinct}
 use Rattle.kernel_types.specs.Equal.{addr_eq, rule_eq, tag_eq}
-use Rattle.kernel_types.specs.Words.{is_host_ns, is_host_or_ns, is_owned, is_host_bridge, is_veth, is_at, is_peer_at, is_link_of}
-use Rattle.kernel_types.specs.Apply.Calls.{is_same_addr, is_same_route, is_same_setting, is_of_pool, leased_addresses, owner_in}
+use Rattle.kernel_types.specs.Words.{is_host_ns, is_host_or_ns, is_owned, has_bridge_in, is_veth, is_at, is_peer_at}
+use Rattle.kernel_types.specs.Apply.Calls.{has_link_in, is_same_addr, is_same_route, is_same_setting, is_of_pool, leased_addresses, owner_in}
 use Rattle.kernel_types.specs.declared.object.LinkKey.{LinkKey}
 use Rattle.kernel_types.specs.declared.object.Tag.{Tag}
 use Rattle.kernel_types.specs.declared.object.Tag.TheVariants.{Outside, Base, Own}
@@ -77,8 +77,8 @@ pub record AreLinks (namespaces : List NsObj) (links : List Link) : Type 0 where
 
 abbrev pub address_fits_tag : List Link → AddrObj → Tag → Bool
 address_fits_tag links a Outside = false
-address_fits_tag links a Base = is_host_ns a.ns && list_any (is_host_bridge a.link) links
-address_fits_tag links a (Own att) = list_any (is_link_of a.ns a.link (Own att)) links
+address_fits_tag links a Base = is_host_ns a.ns && has_bridge_in links a.link
+address_fits_tag links a (Own att) = has_link_in links a.ns a.link (Own att)
 
 pub record AreAddresses (links : List Link) (addresses : List AddrObj) : Type 0 where
   pub keys : HasDistinct (λ a b. is_same_addr b a) addresses
@@ -86,7 +86,7 @@ pub record AreAddresses (links : List Link) (addresses : List AddrObj) : Type 0 
 
 pub record AreRoutes (links : List Link) (routes : List RouteObj) : Type 0 where
   pub keys : HasDistinct (λ a b. is_same_route b a) routes
-  pub lie : AllPassTest (λ r. list_any (is_link_of r.ns r.link r.tag) links) routes
+  pub lie : AllPassTest (λ r. has_link_in links r.ns r.link r.tag) routes
 
 -- ---- the rest
 

@@ -68,15 +68,22 @@ abbrev pub outside_namespace : List ℕ → NsObj
 outside_namespace name = record { name = name; tag = Outside }
 
 -- a namespace of this name
+abbrev pub has_ns_in : List NsObj → List ℕ → Bool
+has_ns_in namespaces name = list_any (λ n. bytes_eq n.name name) namespaces
+
 abbrev pub has_named_ns : Host → List ℕ → Bool
-has_named_ns host name = list_any (λ n. bytes_eq n.name name) host.namespaces
+has_named_ns host name = has_ns_in host.namespaces name
 
 -- the host, which is always there, or a namespace of this name
 abbrev pub is_host_or_ns : List NsObj → List ℕ → Bool
-is_host_or_ns namespaces ns = is_host_ns ns || list_any (λ n. bytes_eq n.name ns) namespaces
+is_host_or_ns namespaces ns = is_host_ns ns || has_ns_in namespaces ns
+
+-- the link at this place
+abbrev pub link_in : List Link → List ℕ → List ℕ → Option Link
+link_in links ns name = find (is_at ns name) links
 
 abbrev pub link_at : Host → List ℕ → List ℕ → Option Link
-link_at host ns name = find (is_at ns name) host.links
+link_at host ns name = link_in host.links ns name
 
 -- the link stands in the host under this name
 abbrev pub is_host_link : List ℕ → Link → Bool
@@ -85,8 +92,11 @@ is_host_link name link = is_host_ns link.ns && bytes_eq link.name name
 abbrev pub is_host_bridge : List ℕ → Link → Bool
 is_host_bridge name link = is_host_link name link && is_bridge link.kind
 
+abbrev pub has_bridge_in : List Link → List ℕ → Bool
+has_bridge_in links name = list_any (is_host_bridge name) links
+
 abbrev pub has_host_bridge : Host → List ℕ → Bool
-has_host_bridge host name = list_any (is_host_bridge name) host.links
+has_host_bridge host name = has_bridge_in host.links name
 
 -- some object is the attachment's
 abbrev pub has_objects : Host → Att → Bool

@@ -1,9 +1,9 @@
 //! What is asked of objects, tags and namespaces by more than one crate. Each takes no memory.
 
 ghost use Rattle.std.specs.Prelude.{◌≡◌, find};
-ghost use Rattle.std.specs.Option.{option_copied, option_map};
+ghost use Rattle.std.specs.Option.{option_copied};
 ghost use Rattle.kernel_types.specs.Allowed.{is_macvlan};
-ghost use Rattle.kernel_types.specs.Apply.Calls.{is_of_pool, is_same_addr, is_same_route, is_same_setting};
+ghost use Rattle.kernel_types.specs.Apply.Calls.{is_of_pool, last_in, is_same_addr, is_same_route, is_same_setting};
 ghost use Rattle.kernel_types.specs.Words.{is_at, is_bridge, is_host_ns, is_owned, is_peer_at, is_veth};
 
 use crate::object::{AddrObj, Last, Link, LinkKey, LinkKind, RouteObj, Setting, Tag};
@@ -82,7 +82,7 @@ fn last_of<'a>(lasts: &'a [Last], network: &Text, number: u32) -> Option<&'a Las
 
 /// The address that was leased last of the set of this number in the network. Linear in the list.
 pub fn last_leased(lasts: &[Last], network: &Text, number: u32) -> Option<Addr>
-    ensures { result ≡ option_map (λ l. l.addr) (find (is_of_pool network.now number) lasts.now) }
+    ensures { result ≡ last_in lasts.now network.now number }
 {
     match last_of(lasts, network, number) {
         Some(last) => Some(last.addr),

@@ -24,10 +24,9 @@ struct NetworkLeases<'a> {
 }
 
 impl Taken for NetworkLeases<'_> {
-    ghost use Rattle.std.specs.Prelude.{map, filter};
-    ghost use Rattle.std.specs.Str.{bytes_eq};
+    ghost use Rattle.kernel_types.specs.Apply.Calls.{addresses_in};
 
-    ghost taken = { λ t. map (λ l. l.addr) (filter (λ l. bytes_eq l.network t.network.now) t.leases.now) };
+    ghost taken = { λ t. addresses_in t.leases.now t.network.now };
 
     fn has(&self, addr: &Addr) -> bool {
         is_leased(self.leases, self.network, addr)

@@ -118,9 +118,12 @@ veth_add_of host host_end inner_end =
 abbrev pub is_free_master : List ℕ → Link → Bool
 is_free_master name link = is_host_link name link && not (is_owned link.tag)
 
+abbrev pub has_free_master : List Link → List ℕ → Bool
+has_free_master links name = list_any (is_free_master name) links
+
 abbrev pub has_master : Host → Option (List ℕ) → Bool
 has_master host None = false
-has_master host (Some name) = list_any (is_free_master name) host.links
+has_master host (Some name) = has_free_master host.links name
 
 abbrev pub macvlan_add_of : Host → Link → Host × Reply
 macvlan_add_of host link =
@@ -153,8 +156,11 @@ link_set_of host att key mac mtu tx_qlen promisc allmulti =
     else (host, NoLink)
 
 -- a link of this tag is there to lie on
+abbrev pub has_link_in : List Link → List ℕ → List ℕ → Tag → Bool
+has_link_in links ns name tag = list_any (is_link_of ns name tag) links
+
 abbrev pub has_link_of : Host → List ℕ → List ℕ → Tag → Bool
-has_link_of host ns name tag = list_any (is_link_of ns name tag) host.links
+has_link_of host ns name tag = has_link_in host.links ns name tag
 
 abbrev pub addr_add_of : Host → AddrObj → Host × Reply
 addr_add_of host obj =
@@ -180,14 +186,20 @@ setting_set_of host setting =
 
 -- ---- addresses of a pool
 
+abbrev pub addresses_in : List Lease → List ℕ → List Addr
+addresses_in leases network = map (λ l. l.addr) (filter (λ l. bytes_eq l.network network) leases)
+
 abbrev pub leased_addresses : Host → List ℕ → List Addr
-leased_addresses host network = map (λ l. l.addr) (filter (λ l. bytes_eq l.network network) host.leases)
+leased_addresses host network = addresses_in host.leases network
 
 abbrev pub is_of_pool : List ℕ → ℕ → Last → Bool
 is_of_pool network number last = bytes_eq last.network network && last.set == number
 
+abbrev pub last_in : List Last → List ℕ → ℕ → Option Addr
+last_in lasts network number = option_map (λ l. l.addr) (find (is_of_pool network number) lasts)
+
 abbrev pub last_leased : Host → List ℕ → ℕ → Option Addr
-last_leased host network number = option_map (λ l. l.addr) (find (is_of_pool network number) host.lasts)
+last_leased host network number = last_in host.lasts network number
 
 abbrev pub moved_last : List ℕ → ℕ → Addr → Last → Last
 moved_last network number addr last = if is_of_pool network number last then record last { addr = addr } else last
@@ -267,7 +279,7 @@ has_object host (Whole (objects.Rule rule)) = list_any (λ r. rule_eq r rule) ho
 has_object host (Whole (objects.Setting setting)) = list_any (λ s. setting_eq s setting) host.settings
 has_object host (Whole (objects.Lease lease)) = list_any (λ l. lease_eq l lease) host.leases
 has_object host (BridgeAt name mac) = list_any (λ l. is_host_bridge name l && mac_eq l.mac mac) host.links
-has_object host (Master name) = list_any (is_free_master name) host.links
+has_object host (Master name) = has_free_master host.links name
 
 abbrev pub has_obj_of : Host → Probe → Host × Reply
 has_obj_of host probe = (host, Has (has_object host probe))
