@@ -4,8 +4,8 @@ ghost use Rattle.std.specs.Prelude.{◌≡◌, IfOk, map};
 ghost use Rattle.kernel_types.specs.Opening.{opening_with};
 ghost use Rattle.kernel_types.specs.Words.{outside_namespace};
 
-use crate::object::{Host, Link, NsObj, Tag};
-use cni_addr::{Duplicate, Items, NoMemory, Text};
+use crate::object::{Host, Link, NsObj};
+use cni_addr::{Items, NoMemory, Text};
 use std::alloc::Global;
 
 /// The host of these links and of namespaces of these names, which are made outside, and of nothing else.
@@ -30,10 +30,7 @@ fn outside_namespaces(alloc: Global, names: &[Text]) -> Result<Items<NsObj>, NoM
 {
     let mut namespaces = Items::new(alloc);
     for name in names {
-        namespaces.push(NsObj {
-            name: name.copy()?,
-            tag: Tag::Outside,
-        })?;
+        namespaces.push(NsObj::outside(name)?)?;
     }
     Ok(namespaces)
 }

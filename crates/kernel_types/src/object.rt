@@ -1,7 +1,7 @@
 //! The objects of the modelled kernel.
 
 ghost use Rattle.std.specs.Prelude.{◌≡◌, IfOk};
-ghost use Rattle.kernel_types.specs.Words.{is_own, lease_of};
+ghost use Rattle.kernel_types.specs.Words.{is_own, lease_of, outside_namespace};
 
 use cni_addr::{Addr, Cidr, Duplicate, Items, Mac, MacvlanMode, NoMemory, Text};
 use cni_result::{Cached, Proto};
@@ -164,6 +164,18 @@ impl Duplicate for LinkKey {
 pub struct NsObj {
     pub name: Text,
     pub tag: Tag,
+}
+
+impl NsObj {
+    /// A namespace that was made outside.
+    pub fn outside(name: &Text) -> Result<NsObj, NoMemory>
+        ensures { IfOk result (λ namespace. namespace ≡ outside_namespace name.now) }
+    {
+        Ok(NsObj {
+            name: name.copy()?,
+            tag: Tag::Outside,
+        })
+    }
 }
 
 impl Duplicate for NsObj {

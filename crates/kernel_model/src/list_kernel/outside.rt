@@ -11,7 +11,7 @@ ghost use Rattle.kernel_types.specs.declared.call.Call.TheVariants.{NsChange, Ou
 use super::ListKernel;
 use super::leaving::{AtPlace, InNamespace};
 use crate::words::{has_named_ns, link_at};
-use cni_addr::{Duplicate, NoMemory, Text};
+use cni_addr::{NoMemory, Text};
 use kernel_types::{Change, LinkKey, NsObj, Reply, Rule, Setting, Table, Tag};
 
 fn drop_namespace(namespaces: &mut Vec<NsObj>, name: &Text)
@@ -40,11 +40,7 @@ impl ListKernel {
         if has_named_ns(&self.namespaces, name) {
             return Ok(Reply::Taken(Tag::Outside));
         }
-        let namespace = NsObj {
-            name: name.copy()?,
-            tag: Tag::Outside,
-        };
-        self.namespaces.push(namespace)?;
+        self.namespaces.push(NsObj::outside(name)?)?;
         Ok(Reply::Done)
     }
 
