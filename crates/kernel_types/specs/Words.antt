@@ -5,7 +5,7 @@ use Rattle.std.specs.Str.{bytes_eq}
 use Rattle.cni_addr.specs.declared.address.Addr.{Addr}
 use Rattle.cni_addr.specs.declared.mac.Mac.{Mac}
 use Rattle.cni_result.specs.declared.cached.Cached.{Cached}
-use Rattle.kernel_types.specs.Equal.{att_eq, tag_eq}
+use Rattle.kernel_types.specs.Equal.{att_eq, mac_eq, tag_eq}
 use Rattle.kernel_types.specs.declared.object.Att.{Att}
 use Rattle.kernel_types.specs.declared.object.LinkKey.{LinkKey}
 use Rattle.kernel_types.specs.declared.object.Tag.{Tag}
@@ -91,6 +91,10 @@ is_host_link name link = is_host_ns link.ns && bytes_eq link.name name
 
 abbrev pub is_host_bridge : List ℕ → Link → Bool
 is_host_bridge name link = is_host_link name link && is_bridge link.kind
+
+-- and has this hardware address
+abbrev pub is_bridge_with : List ℕ → Mac → Link → Bool
+is_bridge_with name mac link = is_host_bridge name link && mac_eq link.mac mac
 
 abbrev pub has_bridge_in : List Link → List ℕ → Bool
 has_bridge_in links name = list_any (is_host_bridge name) links

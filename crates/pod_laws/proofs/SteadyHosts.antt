@@ -11,10 +11,9 @@ use Rattle.pod_file.specs.declared.command.Command.{Command}
 use Rattle.kernel_types.specs.Allowed.{IsAllowed}
 use Rattle.kernel_types.specs.Apply.{apply}
 use Rattle.kernel_types.specs.Apply.Calls.{has_object}
-use Rattle.kernel_types.specs.Equal.{mac_eq}
 use Rattle.kernel_types.specs.Isolation.{ensures_shared, is_from_outside}
 use Rattle.kernel_types.specs.Sound.{IsSound, link_fits_tag}
-use Rattle.kernel_types.specs.Words.{is_host_bridge, is_owned}
+use Rattle.kernel_types.specs.Words.{is_bridge_with, is_owned}
 use Rattle.kernel_types.proofs.EveryCall.{Touches-apply}
 use Rattle.kernel_types.proofs.Isolation.{KeepsUnowned-Touches}
 use Rattle.kernel_types.proofs.ListLemmas.{list_any-append_left, list_any-kept}
@@ -39,9 +38,6 @@ use Rattle.pod_laws.proofs.Tests.{any-filtered, none-by}
 use Rattle.pod_laws.proofs.Runs.{kept-between}
 
 -- ---- a bridge of the host stays, with its MAC address
-
-abbrev is_bridge_with : List ℕ → Mac → Link → Bool
-is_bridge_with name mac l = is_host_bridge name l && mac_eq l.mac mac
 
 bridge-unowned : (name : List ℕ) (mac : Mac) (l : Link) (t : Tag) → link_fits_tag l t ≡ true → (is_bridge_with name mac l && not (not (is_owned t))) ≡ false
 bridge-unowned name mac l tags.Outside h = grind arith

@@ -1,9 +1,8 @@
 //! Questions to the host, which change nothing.
 
-ghost use Rattle.std.specs.Prelude.{◌≡◌, ◌&&◌, IfOk};
+ghost use Rattle.std.specs.Prelude.{◌≡◌, IfOk};
 ghost use Rattle.std.specs.List.{list_any};
-ghost use Rattle.cni_addr.specs.Equal.{mac_eq};
-ghost use Rattle.kernel_types.specs.Words.{is_host_bridge};
+ghost use Rattle.kernel_types.specs.Words.{is_bridge_with};
 ghost use Rattle.kernel_types.specs.Apply.Calls.{has_object, has_obj_of, owners_of};
 ghost use Rattle.kernel_types.specs.declared.call.Probe.TheVariants.{Whole};
 
@@ -17,7 +16,7 @@ use std::alloc::Global;
 
 /// Whether a bridge of the host has this name and hardware address.
 fn has_bridge_at(links: &[Link], name: &Text, mac: &Mac) -> bool
-    ensures { result ≡ list_any (λ l. is_host_bridge name.now l && mac_eq l.mac mac.now) links.now }
+    ensures { result ≡ list_any (is_bridge_with name.now mac.now) links.now }
 {
     links
         .iter()

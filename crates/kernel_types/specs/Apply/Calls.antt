@@ -10,11 +10,11 @@ use Rattle.cni_addr.specs.declared.address.Family.TheVariants.{V4, V6}
 use Rattle.cni_addr.specs.declared.mac.Mac.{Mac}
 use Rattle.cni_addr.specs.declared.range.RangeSet.{RangeSet}
 use Rattle.cni_result.specs.declared.cached.Cached.{Cached}
-use Rattle.kernel_types.specs.Equal.{att_eq, addr_eq, cidr_eq, mac_eq, link_eq, addr_obj_eq, route_eq, rule_eq, setting_eq, lease_eq, table_eq}
+use Rattle.kernel_types.specs.Equal.{att_eq, addr_eq, cidr_eq, link_eq, addr_obj_eq, route_eq, rule_eq, setting_eq, lease_eq, table_eq}
 use Rattle.cni_addr.specs.Lists.{each_key_once, without_first}
 use Rattle.ip_pool.specs.Pool.{pick_of, has_free_of}
 use Rattle.kernel_types.specs.Names.{link_mac_of}
-use Rattle.kernel_types.specs.Words.{is_host_or_ns, is_own, is_owned, is_bridge, is_at, is_peer_at, has_named_ns, link_at, is_host_link, is_host_bridge, has_host_bridge, has_objects, is_link_of, new_link, lease_of, cached_in, outside_namespace}
+use Rattle.kernel_types.specs.Words.{is_host_or_ns, is_own, is_owned, is_bridge, is_at, is_peer_at, has_named_ns, link_at, is_host_link, is_bridge_with, has_host_bridge, has_objects, is_link_of, new_link, lease_of, cached_in, outside_namespace}
 use Rattle.kernel_types.specs.declared.object.Att.{Att}
 use Rattle.kernel_types.specs.declared.object.LinkKey.{LinkKey}
 use Rattle.kernel_types.specs.declared.object.Tag.{Tag}
@@ -278,7 +278,7 @@ has_object host (Whole (objects.Route route)) = list_any (λ r. route_eq r route
 has_object host (Whole (objects.Rule rule)) = list_any (λ r. rule_eq r rule) host.rules
 has_object host (Whole (objects.Setting setting)) = list_any (λ s. setting_eq s setting) host.settings
 has_object host (Whole (objects.Lease lease)) = list_any (λ l. lease_eq l lease) host.leases
-has_object host (BridgeAt name mac) = list_any (λ l. is_host_bridge name l && mac_eq l.mac mac) host.links
+has_object host (BridgeAt name mac) = list_any (is_bridge_with name mac) host.links
 has_object host (Master name) = has_free_master host.links name
 
 abbrev pub has_obj_of : Host → Probe → Host × Reply
