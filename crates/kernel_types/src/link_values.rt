@@ -5,6 +5,7 @@ ghost use Rattle.kernel_types.specs.Apply.Calls.{is_own_at, set_link, with_value
 ghost use Rattle.kernel_types.specs.Words.{new_link};
 
 use crate::object::{Att, Link, LinkKey, LinkKind, Tag};
+use crate::words::is_at;
 use cni_addr::Mac;
 
 impl Link {
@@ -33,7 +34,7 @@ impl Link {
     pub fn is_own_at(&self, att: &Att, key: &LinkKey) -> bool
         ensures { result ≡ is_own_at att.now key.now self.now }
     {
-        self.ns == key.ns && self.name == key.name && self.tag.is_own(att)
+        is_at(key.ns.as_str(), key.name.as_str(), self) && self.tag.is_own(att)
     }
 
     fn set_values(
