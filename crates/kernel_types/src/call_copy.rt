@@ -72,7 +72,7 @@ impl Duplicate for Reply {
     }
 }
 
-// A call of more than one part is put together last, so that a want of memory lets go of no half of it.
+// Parts are copied first and the call is put together last, so that a want of memory lets go of whole parts alone.
 
 fn copy_begin(att: &Att, netns: &Text) -> Result<Call, NoMemory>
     ensures { IfOk result (λ twin. twin ≡ calls.Begin att.now netns.now) }

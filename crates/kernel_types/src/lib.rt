@@ -4,8 +4,8 @@
 //! What a [`Call`] does to a host, and its [`Reply`], is the definition `apply` in `specs/Apply.antt`, one equation a
 //! call; `IsSound` says what holds of every host, `IsAllowed` when a call may be made, `Touches` what it may change.
 //! The laws that join these are carried by the functions of [`laws`].
-//! Crates above make plans of calls; the crate `kernel_model` has a kernel that carries them out. What more than one of
-//! them asks of links, tags and namespaces is in [`words`]; the words of kinds and tables are in [`texts`].
+//! The plugins' crates make plans of calls; the crate `kernel_model` has a kernel that carries calls out. What is asked
+//! of single objects is in [`words`]; the texts of link kinds and tables are in [`texts`].
 #![tactic(auto)]
 
 pub mod call;

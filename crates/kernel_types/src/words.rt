@@ -1,4 +1,5 @@
-//! What is asked of objects, tags and namespaces by more than one crate. Each takes no memory.
+//! What the crates above ask of single objects: their place, kind, owner and key; and the last address of a pool. None
+//! takes memory.
 
 ghost use Rattle.std.specs.Prelude.{◌≡◌, find};
 ghost use Rattle.std.specs.Option.{option_copied};
