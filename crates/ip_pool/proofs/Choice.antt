@@ -13,7 +13,7 @@ use Rattle.cni_addr.specs.Lists.{distinct}
 use Rattle.ip_pool.specs.NextAddress.{is_between, is_in, is_candidate, is_candidate_or_none, is_below, is_passed, is_taken, range_place, HasFree, IsNextAddress, IsExhausted, IsPick}
 use Rattle.ip_pool.specs.Pool.{all_pairs, candidates_of, after_last_first, is_free, pick_of, has_free_of, is_apart, are_apart}
 use Rattle.ip_pool.proofs.Addresses.{same-address, addr_eq-itself}
-use Rattle.ip_pool.proofs.InOrder.{find-none, find-passes, find-member, find-in_order, member-passes}
+use Rattle.ip_pool.proofs.InOrder.{find-none, passes-find, find-member, find-in_order, member-passes}
 use Rattle.ip_pool.proofs.Membership.{list_any-candidates}
 use Rattle.ip_pool.proofs.Passing.{never_passes, passed-not_itself, tried-in_order}
 use Rattle.ip_pool.proofs.Places.{below_in, candidates-ascend}
@@ -40,7 +40,7 @@ picked-candidate set last taken a found =
 
 pub picked-free : (set : RangeSet) (last : Option Addr) (taken : List Addr) (a : Addr) → pick_of set last taken ≡ Some a → is_taken taken a ≡ false
 picked-free set last taken a found =
-    not-true (is_taken taken a) (find-passes (is_free taken) (after_last_first last (candidates_of set)) a found)
+    not-true (is_taken taken a) (passes-find (is_free taken) (after_last_first last (candidates_of set)) a found)
 
 not_itself : (set : RangeSet) (last : Option Addr) (a b : Addr) (same : Bool) → addr_eq b a ≡ same → is_passed set last a b ≡ true → addr_eq b a ≡ false
 not_itself set last a b false is passed = is

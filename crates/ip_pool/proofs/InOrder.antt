@@ -67,7 +67,7 @@ pub all_pairs-right : {X : Type 0} (R : X → X → Bool) (xs ys : List X) → a
 all_pairs-right R [] ys h = h
 all_pairs-right R (x ∷ xs) ys h = grind (arith, all_pairs-right R xs ys)
 
-list_all-filter : {X : Type 0} (p keep : X → Bool) (xs : List X) → list_all p xs ≡ true → list_all p (filter keep xs) ≡ true
+pub list_all-filter : {X : Type 0} (p keep : X → Bool) (xs : List X) → list_all p xs ≡ true → list_all p (filter keep xs) ≡ true
 list_all-filter p keep [] h = refl
 list_all-filter p keep (x ∷ xs) h = grind (arith, list_all-filter p keep xs)
 
@@ -81,9 +81,9 @@ pub find-none : (p : Addr → Bool) (xs : List Addr) → find p xs ≡ None → 
 find-none p [] h = refl
 find-none p (x ∷ xs) h = grind (arith, find-none p xs)
 
-pub find-passes : {X : Type 0} (p : X → Bool) (xs : List X) (y : X) → find p xs ≡ Some y → p y ≡ true
-find-passes p [] y h = cc
-find-passes p (x ∷ xs) y h = grind (arith, find-passes p xs y)
+pub passes-find : {X : Type 0} (p : X → Bool) (xs : List X) (y : X) → find p xs ≡ Some y → p y ≡ true
+passes-find p [] y h = cc
+passes-find p (x ∷ xs) y h = grind (arith, passes-find p xs y)
 
 pub find-member : (p : Addr → Bool) (xs : List Addr) (a : Addr) → find p xs ≡ Some a → list_any (addr_eq a) xs ≡ true
 find-member p [] a h = cc

@@ -56,7 +56,7 @@ place-some : (t : Bool) (n i : ℕ) → cond t (Some n) None ≡ Some i → n �
 place-some true n i h = cc
 place-some false n i h = cc
 
-place-none : (t : Bool) (n : ℕ) → cond t (Some n) None ≡ None → t ≡ false
+pub place-none : (t : Bool) (n : ℕ) → cond t (Some n) None ≡ None → t ≡ false
 place-none true n h = cc
 place-none false n h = refl
 

@@ -6,11 +6,14 @@ use Rattle.std.specs.Str.{bytes_eq}
 use Rattle.std.specs.Cmp.Lexicographic.{nat_list_eq_equiv}
 use Rattle.std.proofs.lemmas.Bool.Decides.{nat_tests}
 use Rattle.kernel_types.specs.Equal.{att_eq, tag_eq}
-use Rattle.kernel_types.specs.Words.{is_host_ns, is_host_bridge, is_own, is_owned, is_at}
+use Rattle.kernel_types.specs.Words.{is_host_ns, is_host_bridge, is_own, is_owned, is_at, is_veth}
 use Rattle.kernel_types.specs.Apply.Calls.{append_unless_taken}
+use Rattle.kernel_types.specs.Sound.{is_shared_kind}
 use Rattle.kernel_types.specs.Touch.{TouchesOwnAlone, TouchesTag}
 use Rattle.kernel_types.specs.declared.object.Att.{Att}
 use Rattle.kernel_types.specs.declared.object.Link.{Link}
+use Rattle.kernel_types.specs.declared.object.LinkKind.{LinkKind}
+use Rattle.kernel_types.specs.declared.object.LinkKind.TheVariants.{Device, Bridge, Veth, Macvlan}
 use Rattle.kernel_types.specs.declared.object.Tag.{Tag}
 use Rattle.kernel_types.specs.declared.object.Tag.TheVariants.{Outside, Base, Own}
 use Rattle.kernel_types.specs.declared.object.Host.{Host}
@@ -72,6 +75,12 @@ host_ns-eq (x ∷ xs) = grind (arith, nat_tests)
 pub host_bridge-at : (ns name : List ℕ) (l : Link) → is_host_ns ns ≡ true → is_host_bridge name l ≡ true → is_at ns name l ≡ true
 host_bridge-at [] name l host h = grind (arith, h, host_ns-eq l.ns)
 host_bridge-at (x ∷ xs) name l host h = grind (arith, host, nat_tests)
+
+pub shared-no_veth : (k : LinkKind) → is_shared_kind k ≡ true → is_veth k ≡ false
+shared-no_veth Device h = refl
+shared-no_veth Bridge h = refl
+shared-no_veth Veth h = cc
+shared-no_veth (Macvlan mode) h = cc
 
 pub other_host : (a b : List ℕ) → is_host_ns a ≡ true → is_host_ns b ≡ false → bytes_eq a b ≡ false
 other_host [] [] h g = cc

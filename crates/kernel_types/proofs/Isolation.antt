@@ -1,5 +1,5 @@
 -- A call leaves the objects that are not its attachment's, list by list and in order.
-use Rattle.std.proofs.Common.{◌≡◌, ℕ, Bool, true, false, not, ◌&&◌, List, [], ◌∷◌, ◌++◌, inl, inr, refl, sym, ◌∙◌, ap, subst, arith}
+use Rattle.std.proofs.Common.{◌≡◌, ℕ, Bool, true, false, not, ◌&&◌, List, inl, inr, refl, sym, ◌∙◌, ap, subst, arith}
 use Rattle.std.specs.Prelude.{filter}
 use Rattle.std.specs.Cmp.{IsPartialEquivalence}
 use Rattle.std.specs.Cmp.Lexicographic.{nat_list_eq_equiv}
@@ -10,6 +10,7 @@ use Rattle.kernel_types.specs.Isolation.{KeepsWhere, KeepsPart, KeepsUnowned, na
 use Rattle.kernel_types.specs.Words.{is_own, is_owned}
 use Rattle.kernel_types.specs.Touch.{Touches, TouchesOwn, TouchesTag, AddsBridge, AddsAddress, AddsSetting, RemovesUnshared, is_base}
 use Rattle.kernel_types.proofs.ChangeLemmas.{filter-ChangesOnly, filter-DropsOnly}
+use Rattle.kernel_types.proofs.ListLemmas.{filter-push_dropped}
 use Rattle.kernel_types.specs.declared.object.Att.{Att}
 use Rattle.kernel_types.specs.declared.object.Tag.{Tag}
 use Rattle.kernel_types.specs.declared.object.Tag.TheVariants as tags
@@ -38,10 +39,6 @@ KeepsWhere-TouchesOwn test att old new apart touches = record {
   cached = filter-ChangesOnly (λ x. is_own att x.tag) (λ x. test x.tag) (λ x. apart x.tag) old.cached new.cached touches.cached;
 }
 
-filter-push_out : {X : Type 0} (p : X → Bool) (xs : List X) (y : X) → p y ≡ false → filter p (xs ++ y ∷ []) ≡ filter p xs
-filter-push_out p [] y h = grind arith
-filter-push_out p (x ∷ xs) y h = grind (arith, filter-push_out p xs y)
-
 pub KeepsWhere-AddsBridge : (test : Tag → Bool) (old new : Host) → test tags.Base ≡ false → AddsBridge old new → KeepsWhere test old new
 KeepsWhere-AddsBridge test old new fails adds =
     elim adds [
@@ -50,7 +47,7 @@ KeepsWhere-AddsBridge test old new fails adds =
           let bridge = more.0 in
           let out : test bridge.tag ≡ false = ap test more.1 ∙ fails in
           subst (KeepsWhere test old) (sym more.2)
-          (record { namespaces = refl; links = filter-push_out (λ l. test l.tag) old.links bridge out; addresses = refl; routes = refl; rules = refl; settings = refl; leases = refl; cached = refl })
+          (record { namespaces = refl; links = filter-push_dropped (λ l. test l.tag) old.links bridge out; addresses = refl; routes = refl; rules = refl; settings = refl; leases = refl; cached = refl })
     ]
 
 pub KeepsWhere-AddsAddress : (test : Tag → Bool) (old new : Host) → test tags.Base ≡ false → AddsAddress old new → KeepsWhere test old new
@@ -61,7 +58,7 @@ KeepsWhere-AddsAddress test old new fails adds =
           let addr = more.0 in
           let out : test addr.tag ≡ false = ap test more.1 ∙ fails in
           subst (KeepsWhere test old) (sym more.2)
-          (record { namespaces = refl; links = refl; addresses = filter-push_out (λ a. test a.tag) old.addresses addr out; routes = refl; rules = refl; settings = refl; leases = refl; cached = refl })
+          (record { namespaces = refl; links = refl; addresses = filter-push_dropped (λ a. test a.tag) old.addresses addr out; routes = refl; rules = refl; settings = refl; leases = refl; cached = refl })
     ]
 
 pub KeepsWhere-AddsSetting : (test : Tag → Bool) (old new : Host) → test tags.Base ≡ false → AddsSetting old new → KeepsWhere test old new
@@ -72,7 +69,7 @@ KeepsWhere-AddsSetting test old new fails adds =
           let setting = more.0 in
           let out : test setting.tag ≡ false = ap test more.1 ∙ fails in
           subst (KeepsWhere test old) (sym more.2)
-          (record { namespaces = refl; links = refl; addresses = refl; routes = refl; rules = refl; settings = filter-push_out (λ s. test s.tag) old.settings setting out; leases = refl; cached = refl })
+          (record { namespaces = refl; links = refl; addresses = refl; routes = refl; rules = refl; settings = filter-push_dropped (λ s. test s.tag) old.settings setting out; leases = refl; cached = refl })
     ]
 
 -- ---- another attachment

@@ -4,6 +4,8 @@ use Rattle.std.specs.Prelude.{filter, find, map, remove, ◌&&◌, ◌||◌, if�
 use Rattle.std.specs.List.{list_any, list_all, position_or_len}
 use Rattle.std.proofs.lemmas.Bool.Decides.{nat_tests}
 use Rattle.cni_addr.specs.Lists.{distinct, without_first}
+pub use Rattle.ip_pool.proofs.InOrder.{list_all-filter, list_all-weaker, passes-find}
+use Rattle.ip_pool.proofs.Lists.{place-none}
 
 -- ---- the first that passes
 
@@ -32,10 +34,6 @@ place-step : (t : Bool) (n i : ℕ) → cond t (Some n) None ≡ Some i → (t �
 place-step true n i h = (refl, cc)
 place-step false n i h = cc
 
-no_place-step : (t : Bool) (n : ℕ) → cond t (Some n) None ≡ None → t ≡ false
-no_place-step true n h = cc
-no_place-step false n h = refl
-
 -- what `position` and `remove` make together
 pub without_first-position : {X : Type 0} (p : X → Bool) (xs : List X) (i : ℕ) → position p xs ≡ Some i → (remove xs i ≡ without_first p xs) × (list_any p xs ≡ true)
 without_first-position p xs i h =
@@ -45,16 +43,16 @@ without_first-position p xs i h =
 
 pub without_first-no_position : {X : Type 0} (p : X → Bool) (xs : List X) → position p xs ≡ None → (without_first p xs ≡ xs) × (list_any p xs ≡ false)
 without_first-no_position p xs h =
-    let none = list_any-position_or_len p xs ∙ no_place-step (nat_lt (position_or_len p xs) (length xs)) (position_or_len p xs) h in
+    let none = list_any-position_or_len p xs ∙ place-none (nat_lt (position_or_len p xs) (length xs)) (position_or_len p xs) h in
     (without_first-none p xs none, none)
 
 pub list_any-find_none : {X : Type 0} (p : X → Bool) (xs : List X) → find p xs ≡ None → list_any p xs ≡ false
 list_any-find_none p [] h = refl
 list_any-find_none p (x ∷ xs) h = grind (arith, list_any-find_none p xs)
 
-pub passes-find : {X : Type 0} (p : X → Bool) (xs : List X) (y : X) → find p xs ≡ Some y → p y ≡ true
-passes-find p [] y h = grind arith
-passes-find p (x ∷ xs) y h = grind (arith, passes-find p xs y)
+pub filter-push_dropped : {X : Type 0} (p : X → Bool) (xs : List X) (y : X) → p y ≡ false → filter p (xs ++ y ∷ []) ≡ filter p xs
+filter-push_dropped p [] y h = grind arith
+filter-push_dropped p (x ∷ xs) y h = grind (arith, filter-push_dropped p xs y)
 
 -- ---- each element passes
 
@@ -62,18 +60,10 @@ pub list_all-push : {X : Type 0} (p : X → Bool) (xs : List X) (y : X) → list
 list_all-push p [] y h g = grind arith
 list_all-push p (x ∷ xs) y h g = grind (arith, list_all-push p xs y)
 
-pub list_all-weaker : {X : Type 0} (p q : X → Bool) → ((x : X) → p x ≡ true → q x ≡ true) → (xs : List X) → list_all p xs ≡ true → list_all q xs ≡ true
-list_all-weaker p q w [] h = refl
-list_all-weaker p q w (x ∷ xs) h = grind (arith, w x, list_all-weaker p q w xs)
-
 -- what passes and is kept passes another test
 pub list_all-kept : {X : Type 0} (p q keep : X → Bool) → ((x : X) → p x ≡ true → keep x ≡ true → q x ≡ true) → (xs : List X) → list_all p xs ≡ true → list_all q (filter keep xs) ≡ true
 list_all-kept p q keep w [] h = refl
 list_all-kept p q keep w (x ∷ xs) h = grind (arith, w x, list_all-kept p q keep w xs)
-
-pub list_all-filter : {X : Type 0} (p keep : X → Bool) (xs : List X) → list_all p xs ≡ true → list_all p (filter keep xs) ≡ true
-list_all-filter p keep [] h = refl
-list_all-filter p keep (x ∷ xs) h = grind (arith, list_all-filter p keep xs)
 
 pub list_all-without_first : {X : Type 0} (p gone : X → Bool) (xs : List X) → list_all p xs ≡ true → list_all p (without_first gone xs) ≡ true
 list_all-without_first p gone [] h = refl

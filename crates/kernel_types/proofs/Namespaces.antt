@@ -73,7 +73,7 @@ by_same : (same : Bool) (n ns name : List ℕ) → bytes_eq n ns ≡ same → by
 by_same true n ns name e h = let same : n ≡ ns = (bytes_eq-Decides n ns).0 e in rw same (grind (arith, h))
 by_same false n ns name e h = refl
 
-by_place : (inside some left : Bool) → (inside || some) ≡ true → (some ≡ true → left ≡ true) → (inside || left) ≡ true
+pub by_place : (inside some left : Bool) → (inside || some) ≡ true → (some ≡ true → left ≡ true) → (inside || left) ≡ true
 by_place true some left h w = refl
 by_place false some left h w = w h
 

@@ -1,17 +1,16 @@
 -- A host in which all was made outside is sound.
-use Rattle.std.proofs.Common.{◌≡◌, ℕ, true, false, not, List, [], ◌∷◌, Option, Some, None, refl, ◌∙◌, arith}
+use Rattle.std.proofs.Common.{◌≡◌, ℕ, true, not, List, [], ◌∷◌, Option, Some, None, refl, ◌∙◌, arith}
 use Rattle.std.specs.Prelude.{map, is_none}
 use Rattle.std.specs.List.{list_any, list_all}
 use Rattle.std.specs.Str.{bytes_eq}
 use Rattle.cni_addr.specs.Lists.{distinct}
 use Rattle.kernel_types.specs.Equal.{tag_eq}
-use Rattle.kernel_types.specs.Words.{is_host_ns, is_veth, outside_namespace}
+use Rattle.kernel_types.specs.Words.{is_host_ns, outside_namespace}
 use Rattle.kernel_types.specs.Sound.{IsSound, link_fits_tag, peer_fits, is_shared_kind}
 use Rattle.kernel_types.specs.Opening.{opening_of, opening_with, AreNamespaceNames, AreOutsideLinks, is_outside_link}
+use Rattle.kernel_types.proofs.Cases.{shared-no_veth}
 use Rattle.kernel_types.proofs.ListLemmas.{list_any-map, list_all-map, list_all-weaker}
 use Rattle.kernel_types.specs.declared.object.LinkKey.{LinkKey}
-use Rattle.kernel_types.specs.declared.object.LinkKind.{LinkKind}
-use Rattle.kernel_types.specs.declared.object.LinkKind.TheVariants.{Device, Bridge, Veth, Macvlan}
 use Rattle.kernel_types.specs.declared.object.Link.{Link}
 use Rattle.kernel_types.specs.declared.object.Tag.{Tag}
 use Rattle.kernel_types.specs.declared.object.Tag.TheVariants.{Outside, Base, Own}
@@ -30,12 +29,6 @@ shared-fits : (l : Link) (t : Tag) → tag_eq t Outside ≡ true → is_shared_k
 shared-fits l Outside h k = k
 shared-fits l Base h k = cc
 shared-fits l (Own att) h k = cc
-
-shared-no_veth : (k : LinkKind) → is_shared_kind k ≡ true → is_veth k ≡ false
-shared-no_veth Device h = refl
-shared-no_veth Bridge h = refl
-shared-no_veth Veth h = cc
-shared-no_veth (Macvlan mode) h = cc
 
 shared-alone : (links : List Link) (l : Link) (o : Option LinkKey) → is_none o ≡ true → is_shared_kind l.kind ≡ true → peer_fits links l o ≡ true
 shared-alone links l None h k = grind (arith, shared-no_veth l.kind k)

@@ -6,14 +6,14 @@ use Rattle.std.proofs.lemmas.Slice.Eq.{bytes_eq-Decides}
 use Rattle.kernel_types.specs.Equal.{rule_eq, table_eq, tag_eq}
 use Rattle.kernel_types.specs.Words.{is_host_ns, is_at, is_peer_at, is_bridge, is_owned, is_veth, has_named_ns, link_at}
 use Rattle.kernel_types.specs.Apply.Calls.{drop_link_of, flush_of, goes_with, without_link, without_links}
-use Rattle.kernel_types.specs.Sound.{IsSound, is_shared_kind, link_fits_tag, peer_fits}
+use Rattle.kernel_types.specs.Sound.{IsSound, link_fits_tag, peer_fits}
 use Rattle.kernel_types.specs.Touch.{RemovesUnshared, is_base}
-use Rattle.kernel_types.proofs.Cases.{by_test}
+use Rattle.kernel_types.proofs.Cases.{by_test, shared-no_veth}
 use Rattle.kernel_types.proofs.ChangeLemmas.{DropsOnly-nothing, DropsOnly-filter}
 use Rattle.kernel_types.proofs.ListLemmas.{list_all-filter, list_all-weaker, distinct-filter, passes-find}
 use Rattle.kernel_types.proofs.OneList.{IsSound-with_rules}
 use Rattle.kernel_types.proofs.Removal.{IsSound-without_link}
-use Rattle.kernel_types.proofs.TouchRemoval.{addresses_gone, routes_gone, may_go, RespectsTags, list_all-both}
+use Rattle.kernel_types.proofs.TouchRemoval.{addresses_gone, routes_gone, may_go, RespectsTags, keeps_or_owns, list_all-both}
 use Rattle.kernel_types.specs.declared.object.LinkKey.{LinkKey}
 use Rattle.kernel_types.specs.declared.object.LinkKind.{LinkKind}
 use Rattle.kernel_types.specs.declared.object.LinkKind.TheVariants.{Device, Bridge, Veth, Macvlan}
@@ -63,25 +63,15 @@ RemovesUnshared-nothing host = record {
   lasts = refl;
 }
 
-unless : (g o : Bool) → (g ≡ true → o ≡ true) → (not g || o) ≡ true
-unless true o h = h refl
-unless false o h = refl
-
 -- ---- links that are removed from outside
 
 -- outside the host, or the end of a pair
 abbrev pub is_loose : Link → Bool
 is_loose l = not (is_host_ns l.ns) || is_some l.peer
 
-veth_not_shared : (k : LinkKind) → is_shared_kind k ≡ true → is_veth k ≡ false
-veth_not_shared Device h = refl
-veth_not_shared Bridge h = refl
-veth_not_shared Veth h = cc
-veth_not_shared (Macvlan mode) h = refl
-
 veth-unshared : (l : Link) (t : Tag) → link_fits_tag l t ≡ true → is_veth l.kind ≡ true → is_unshared t ≡ true
 veth-unshared l Outside h v = refl
-veth-unshared l Base h v = grind (arith, h, v, veth_not_shared l.kind)
+veth-unshared l Base h v = grind (arith, h, v, shared-no_veth l.kind)
 veth-unshared l (Own att) h v = refl
 
 inner-unshared : (l : Link) (t : Tag) → link_fits_tag l t ≡ true → is_host_ns l.ns ≡ false → is_unshared t ≡ true
@@ -110,7 +100,7 @@ by_loose links l true e t p loose =
 loose-may_go : (gone : Link → Bool) (host : Host) → IsSound host → ((l : Link) → gone l ≡ true → is_loose l ≡ true) → list_all (λ l. not (gone l) || may_go is_unshared l) host.links ≡ true
 loose-may_go gone host sound loose =
     list_all-both (λ l. link_fits_tag l l.tag) (λ l. peer_fits host.links l l.peer) (λ l. not (gone l) || may_go is_unshared l)
-    (λ l t p. unless (gone l) (may_go is_unshared l) (λ g. by_loose host.links l (is_host_ns l.ns) refl t p (loose l g))) host.links sound.links.tags sound.links.peers
+    (λ l t p. keeps_or_owns (gone l) (may_go is_unshared l) (λ g. by_loose host.links l (is_host_ns l.ns) refl t p (loose l g))) host.links sound.links.tags sound.links.peers
 
 pub RemovesUnshared-without_links : (gone : Link → Bool) (host : Host) → IsSound host → ((l : Link) → gone l ≡ true → is_loose l ≡ true) → RemovesUnshared host (without_links gone host)
 RemovesUnshared-without_links gone host sound loose =

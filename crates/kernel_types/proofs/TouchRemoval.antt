@@ -104,7 +104,7 @@ one_place ns name a b h g =
     let bm : b.name ≡ name = (bytes_eq-Decides b.name name).0 (grind (arith, g)) in
     rw (an, am, bn, bm) (grind (arith, nat_list_eq_equiv.refl ns, nat_list_eq_equiv.refl name))
 
-keeps_or_owns : (g o : Bool) → (g ≡ true → o ≡ true) → (not g || o) ≡ true
+pub keeps_or_owns : (g o : Bool) → (g ≡ true → o ≡ true) → (not g || o) ≡ true
 keeps_or_owns true o h = h refl
 keeps_or_owns false o h = refl
 

@@ -9,6 +9,7 @@ use Rattle.kernel_types.specs.Apply.Calls.{without_link}
 use Rattle.kernel_types.specs.Sound.{IsSound, address_fits_tag}
 use Rattle.kernel_types.proofs.Isolation.{is_own-one}
 use Rattle.kernel_types.proofs.ListLemmas.{list_any-find_none, without_first-none}
+use Rattle.kernel_types.proofs.TouchRemoval.{by_bool}
 use Rattle.kernel_types.specs.declared.object.Att.{Att}
 use Rattle.kernel_types.specs.declared.object.Tag.TheVariants.{Own}
 use Rattle.kernel_types.specs.declared.object.Link.{Link}
@@ -20,10 +21,6 @@ use Rattle.plan_words.specs.Share.{share_of}
 use Rattle.plan_words.proofs.KeyLists.{filter-none}
 
 -- ---- deletions
-
-by_bool : {C : Type 0} (b : Bool) → (b ≡ true → C) → (b ≡ false → C) → C
-by_bool true h g = h refl
-by_bool false h g = g refl
 
 cons_nil : {X : Type 0} (x : X) (xs : List X) → x ∷ xs ≡ [] → ⊥
 cons_nil x xs h = cc

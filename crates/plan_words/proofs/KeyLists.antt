@@ -5,14 +5,11 @@ use Rattle.std.specs.List.{list_any, list_all}
 use Rattle.std.proofs.lemmas.List.{length_push}
 use Rattle.cni_addr.specs.Lists.{distinct, push_unless_there, each_key_once}
 use Rattle.kernel_types.proofs.ListLemmas.{distinct-push, list_all-push, list_any-same_test}
+pub use Rattle.kernel_types.proofs.ListLemmas.{filter-push_dropped, list_all-append}
 
 pub filter-push_kept : {X : Type 0} (p : X → Bool) (xs : List X) (y : X) → p y ≡ true → filter p (xs ++ y ∷ []) ≡ filter p xs ++ y ∷ []
 filter-push_kept p [] y h = grind arith
 filter-push_kept p (x ∷ xs) y h = grind (arith, filter-push_kept p xs y)
-
-pub filter-push_dropped : {X : Type 0} (p : X → Bool) (xs : List X) (y : X) → p y ≡ false → filter p (xs ++ y ∷ []) ≡ filter p xs
-filter-push_dropped p [] y h = grind arith
-filter-push_dropped p (x ∷ xs) y h = grind (arith, filter-push_dropped p xs y)
 
 pub filter-two_kept : {X : Type 0} (p : X → Bool) (xs : List X) (y z : X) → p y ≡ true → p z ≡ true → filter p (xs ++ y ∷ z ∷ []) ≡ filter p xs ++ y ∷ z ∷ []
 filter-two_kept p [] y z h g = grind arith
@@ -33,10 +30,6 @@ filter-within p q w [] = refl
 filter-within p q w (x ∷ xs) = grind (arith, w x, filter-within p q w xs)
 
 -- ---- each element passes
-
-pub list_all-append : {X : Type 0} (p : X → Bool) (xs ys : List X) → list_all p xs ≡ true → list_all p ys ≡ true → list_all p (xs ++ ys) ≡ true
-list_all-append p [] ys h g = g
-list_all-append p (x ∷ xs) ys h g = grind (arith, list_all-append p xs ys)
 
 pub list_all-map : {X Y : Type 0} (p : Y → Bool) (f : X → Y) (q : X → Bool) → ((x : X) → q x ≡ true → p (f x) ≡ true) → (xs : List X) → list_all q xs ≡ true → list_all p (map f xs) ≡ true
 list_all-map p f q w [] h = refl

@@ -1,6 +1,6 @@
 -- What the opening of a pod file keeps that is read.
 use Rattle.std.proofs.Common.{◌≡◌, ℕ, Bool, true, false, not, List, [], ◌∷◌, ◌++◌, length, codes, Some, None, Ok, refl, sym, ◌∙◌, subst}
-use Rattle.std.specs.Prelude.{◌&&◌, ◌||◌, if◌then◌else◌, ok_or, map, is_none}
+use Rattle.std.specs.Prelude.{◌&&◌, if◌then◌else◌, ok_or, map, is_none}
 use Rattle.std.specs.List.{list_any}
 use Rattle.std.specs.Str.{bytes_eq}
 use Rattle.std.proofs.lemmas.Bool.{or_parts}
@@ -10,6 +10,7 @@ use Rattle.cni_json.specs.Fields.{text_field, list_field, object_field}
 use Rattle.cni_json.specs.declared.fields.Field.{Field}
 use Rattle.cni_json.specs.declared.fields.Field.TheVariants.{Absent, WrongKind, Here}
 use Rattle.kernel_types.proofs.ListLemmas.{list_all-push, list_all-weaker, list_any-map, list_any-none, list_any-weaker, distinct-push}
+use Rattle.kernel_types.proofs.Namespaces.{by_place}
 use Rattle.kernel_types.proofs.Opening.{IsSound-opening_with}
 use Rattle.kernel_types.specs.Equal.{tag_eq}
 use Rattle.kernel_types.specs.Opening.{opening_with, AreNamespaceNames, AreOutsideLinks, is_outside_link}
@@ -88,13 +89,9 @@ kind_at-ok index d kind is = kind_of-ok index (text_field (codes "kind") d) kind
 abbrev IsPlace : List (List ℕ) → List ℕ → Type 0
 IsPlace names ns = is_host_or_ns (map outside_namespace names) ns ≡ true
 
-either_of : (host named other : Bool) → (host || named) ≡ true → (named ≡ true → other ≡ true) → (host || other) ≡ true
-either_of true named other is same = refl
-either_of false named other is same = same is
-
 place-ok : (names : List (List ℕ)) (ns : List ℕ) → is_place names ns ≡ true → IsPlace names ns
 place-ok names ns is =
-    either_of (is_host_ns ns) (list_any (bytes_eq ns) names) _ is
+    by_place (is_host_ns ns) (list_any (bytes_eq ns) names) _ is
     (λ named. list_any-map (λ n. bytes_eq n.name ns) outside_namespace names
     ∙ list_any-weaker (bytes_eq ns) (λ name. bytes_eq name ns) (λ name same. bytes_eq-swap ns name same) names named)
 
