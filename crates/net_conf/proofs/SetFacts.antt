@@ -19,8 +19,9 @@ use Rattle.ip_pool.proofs.InOrder.{all_pairs-left, all_pairs-right}
 use Rattle.ip_pool.specs.Pool.{is_apart, are_apart}
 use Rattle.net_conf.proofs.Endings.{each_tested, each_count}
 use Rattle.cni_json.proofs.Endings.{goes, ok_same, passed, each_all}
+use Rattle.cni_json.proofs.EachLemmas.{each_after-front}
 use Rattle.net_conf.proofs.RangeFacts.{IsOfFamily, of_family-ok, range_at-ok, read_is_cidr}
-use Rattle.cni_json.specs.Each.{each, with_front}
+use Rattle.cni_json.specs.Each.{each, each_after, with_front}
 use Rattle.net_conf.specs.Members.{passing}
 use Rattle.net_conf.specs.Ranges.{is_of_family, range_at}
 use Rattle.net_conf.specs.Routes.{destination_or_refused, destination_of, destination_at, hop_of, hop_at, route_at, routes_of, routes_at}
@@ -89,9 +90,10 @@ sets_at-ok d sets is =
     let listed = goes (listed_at d) _ sets is in
     let form = goes (well_formed has_own listed.value) _ sets listed.rest in
     let own = goes (own_sets_of has_own d) _ sets form.rest in
-    let found = goes (with_front own.value (each set_of listed.value)) _ sets own.rest in
+    let found = goes (each_after (λ _ member. set_of member) own.value listed.value) _ sets own.rest in
     let tests = goes (separate found.value) _ sets found.rest in
-    let others = goes (each set_of listed.value) _ found.value found.first in
+    let joined : with_front own.value (each set_of listed.value) ≡ Ok found.value = sym (each_after-front set_of own.value listed.value) ∙ found.first in
+    let others = goes (each set_of listed.value) _ found.value joined in
     let all = ok_same {x = own.value ++ others.value} {y = found.value} others.rest in
     let form_tests = and_parts (is_set_count (one_if has_own + item_count listed.value)) (all_items is_set listed.value) (passed _ tt form.value _ form.first).0 in
     let separate_tests = and_parts (are_apart (ranges_of found.value)) (list_all is_of_one_family found.value) (passed _ tt tests.value _ tests.first).0 in

@@ -10,7 +10,7 @@ use Rattle.cni_addr.specs.declared.range.Range.{Range}
 use Rattle.cni_addr.specs.declared.range.RangeSet.{RangeSet}
 use Rattle.cni_addr.specs.Codes.{family_eq}
 use Rattle.ip_pool.specs.Pool.{are_apart}
-use Rattle.cni_json.specs.Each.{each, with_front}
+use Rattle.cni_json.specs.Each.{each, each_after}
 use Rattle.net_conf.specs.Members.{optional}
 use Rattle.net_conf.specs.Ranges.{range_at}
 use Rattle.net_conf.specs.Refusals.{invalid}
@@ -110,6 +110,6 @@ sets_at d = do
   listed ← listed_at d
   _ ← well_formed (has_subnet d) listed
   own ← own_sets_of (has_subnet d) d
-  sets ← with_front own (each set_of listed)
+  sets ← each_after (λ _ member. set_of member) own listed
   _ ← separate sets
   Ok sets

@@ -19,7 +19,7 @@ use std::alloc::Global;
 pub const MOST_SETS: usize = 65_536;
 
 /// The set that the object's own `subnet` gives, and then those of its `ranges`.
-#[tactic(auto, using(cni_json::proofs::Steps::steps, cni_json::proofs::Steps::fronts), unfolding(crate::specs::Sets::sets_at))]
+#[tactic(auto, using(cni_json::proofs::Steps::steps), unfolding(crate::specs::Sets::sets_at))]
 pub fn sets(alloc: Global, object: &Value) -> Result<Items<RangeSet>, ConfError>
     ensures { GivesAs is_want_of_memory (λ sets. sets) result (wanted.sets_at (view object.now)) }
 {
