@@ -2,9 +2,8 @@
 
 ghost use Rattle.std.specs.Prelude.{◌≡◌, ◌+◌, ◌-◌, true, IfOk};
 ghost use Rattle.serde_json.specs.View.{view};
-ghost use Rattle.cni_addr.specs.AddrText.{addr_of_text};
+ghost use Rattle.cni_addr.specs.Codes.{family_eq};
 ghost use Rattle.cni_json.specs.Outcome.{GivesAs};
-ghost use Rattle.net_conf.specs.Members.{passing};
 ghost use Rattle.net_conf.specs.Ranges as ranges;
 ghost use Rattle.net_conf.specs.Refusals.{is_want_of_memory};
 
@@ -117,22 +116,15 @@ fn gateway(alloc: Global, object: &Value, subnet: &Cidr) -> Result<Addr, ConfErr
     match field_str(object, "gateway") {
         Field::Absent => Ok(first_host(subnet)),
         Field::WrongKind => Err(invalid(alloc, "gateway")),
-        Field::Here(text) => addr_of_family(alloc, "gateway", subnet.addr.family, text),
+        Field::Here(text) => match read_addr(text.as_bytes()) {
+            Some(addr) if has_family(&addr, subnet) => Ok(addr),
+            _ => Err(invalid(alloc, "gateway")),
+        },
     }
 }
 
-/// The address that the text spells, which must be of the family; else this key or part is to blame.
-#[tactic(auto, using(cni_json::proofs::Steps::steps))]
-pub fn addr_of_family(
-    alloc: Global,
-    blamed: &str,
-    family: Family,
-    text: &str,
-) -> Result<Addr, ConfError>
-    ensures { GivesAs is_want_of_memory (λ addr. addr) result (passing blamed.now (ranges.is_of_family family) (addr_of_text text.now)) }
+fn has_family(addr: &Addr, subnet: &Cidr) -> bool
+    ensures { result ≡ family_eq addr.now.family subnet.now.addr.family }
 {
-    match read_addr(text.as_bytes()) {
-        Some(addr) if addr.family == family => Ok(addr),
-        _ => Err(invalid(alloc, blamed)),
-    }
+    addr.family == subnet.addr.family
 }

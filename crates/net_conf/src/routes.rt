@@ -8,8 +8,7 @@ ghost use Rattle.net_conf.specs.Refusals.{is_want_of_memory};
 ghost use Rattle.net_conf.specs.declared.error.ConfError.TheVariants as refusal;
 
 use crate::error::{ConfError, invalid};
-use crate::ranges::addr_of_family;
-use cni_addr::{Addr, Cidr, Family, Items, network_of, read_cidr};
+use cni_addr::{Addr, Cidr, Family, Items, network_of, read_addr, read_cidr};
 use cni_json::{Field, Value, field_list, field_str, read_each};
 use cni_result::RouteEntry;
 use std::alloc::Global;
@@ -55,10 +54,10 @@ fn hop(alloc: Global, member: &Value, family: Family) -> Result<Option<Addr>, Co
     match field_str(member, "gw") {
         Field::Absent => Ok(None),
         Field::WrongKind => Err(wrong(alloc)),
-        Field::Here(text) => {
-            let gw = addr_of_family(alloc, "routes", family, text)?;
-            Ok(Some(gw))
-        }
+        Field::Here(text) => match read_addr(text.as_bytes()) {
+            Some(addr) if addr.family == family => Ok(Some(addr)),
+            _ => Err(wrong(alloc)),
+        },
     }
 }
 
