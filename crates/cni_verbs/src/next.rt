@@ -3,7 +3,7 @@
 ghost use Rattle.std.specs.Prelude.{◌≡◌, ℕ, ◌<◌, ◌^◌, Some, ⊤, slice_get, option_map, IfOk, MatchOption};
 ghost use Rattle.kernel_types.specs.declared.call.Call.TheVariants as call;
 ghost use Rattle.cni_verbs.specs.CommandWords.{att_of};
-ghost use Rattle.cni_verbs.specs.Wanted.{deletion};
+ghost use Rattle.cni_verbs.specs.Wanted.{deletion, sets_of};
 ghost use Rattle.cni_verbs.specs.Script.{before_of, back_of, next_call};
 ghost use Rattle.cni_verbs.specs.Phases.{IsKept, state_in, state_outside};
 
@@ -12,7 +12,8 @@ use crate::phase::Phase;
 use crate::prepare::prepared_or_made;
 use crate::wanted::{back_calls, calls_before, deletion, sets_of};
 use crate::words::{att_of, mappings_of};
-use cni_addr::{Addr, Duplicate, Items, NoMemory, RangeSet};
+use cni_addr::{Addr, Duplicate, Items, NoMemory};
+use host_local::lease_at;
 use kernel_types::{Call, Kind};
 use net_conf::NetList;
 use pod_file::Command;
@@ -66,18 +67,11 @@ fn call_at(calls: &[Call], place: usize) -> Result<Option<Call>, NoMemory>
     }
 }
 
-fn lease_at(command: &Command, sets: &[RangeSet], place: usize) -> Result<Option<Call>, NoMemory>
+fn lease_next(list: &NetList, command: &Command, place: usize) -> Result<Option<Call>, NoMemory>
     requires { place < 2 ^ 32 }
-    ensures { IfOk result (λ next. next ≡ option_map (call.LeaseNext (att_of command.now) place) (slice_get sets.now place)) }
+    ensures { IfOk result (λ next. next ≡ option_map (call.LeaseNext (att_of command.now) place) (slice_get (sets_of list.now) place)) }
 {
-    match sets.get(place) {
-        Some(set) => Ok(Some(Call::LeaseNext {
-            att: att_of(command)?,
-            number: place as u32,
-            set: set.copy()?,
-        })),
-        None => Ok(None),
-    }
+    lease_at(sets_of(list), att_of(command)?, place)
 }
 
 fn call_after(
@@ -128,7 +122,7 @@ pub(crate) fn next_of(
     match phase {
         Phase::AtBegin => begin(command),
         Phase::BeforeLeases(passed) => call_at(before, *passed),
-        Phase::Leasing => lease_at(command, sets_of(list), given.len()),
+        Phase::Leasing => lease_next(list, command, given.len()),
         Phase::AfterLeases { passed, calls } => {
             call_after(alloc, list, command, given, calls, *passed)
         }

@@ -1,7 +1,4 @@
-use Rattle.std.proofs.Common.{◌∙◌, Some, ap, length}
-use Rattle.std.specs.Prelude.{option_map, slice_get}
-use Rattle.kernel_types.specs.declared.call.Call.TheVariants.{LeaseNext}
-use Rattle.cni_verbs.specs.CommandWords.{att_of}
+use Rattle.std.proofs.Common.{◌∙◌, Some, ap}
 use Rattle.cni_verbs.proofs.NextCalls.{ok_by, next_begin, next_before, next_lease, next_after, next_cache, next_deletion, next_asking, next_change, next_over}
 use Rattle.cni_verbs.proofs.next.next_of.Goals as goal
 
@@ -17,10 +14,9 @@ returns-in-BeforeLeases c =
 
 pub returns-in-Leasing : goal.returns-in-Leasing
 returns-in-Leasing c =
-    ok_by c.lease_at.result
-    (ap (λ sets. option_map (LeaseNext (att_of c.args.command.now) (length c.args.given.now)) (slice_get sets (length c.args.given.now))) c.sets_of.ensures
-    ∙ next_lease c.args.list.now c.args.command.now c.args.before.now c.args.kinds.now c.requires.0 c.requires.1 c.args.given.now c.args.phase.now c.requires.2 c.in-Leasing.is)
-    c.lease_at.ensures
+    ok_by c.lease_next.result
+    (next_lease c.args.list.now c.args.command.now c.args.before.now c.args.kinds.now c.requires.0 c.requires.1 c.args.given.now c.args.phase.now c.requires.2 c.in-Leasing.is)
+    c.lease_next.ensures
 
 pub returns-in-AfterLeases : goal.returns-in-AfterLeases
 returns-in-AfterLeases c =
