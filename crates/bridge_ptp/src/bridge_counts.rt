@@ -148,23 +148,6 @@ fn count_of_objects<G: GivenRow + Copy>(
     addresses + routes + rules
 }
 
-fn count_of_routes<G: GivenRow + Copy>(
-    conf: &BridgeConf,
-    configured: &[RouteEntry],
-    given: G,
-) -> usize
-    ensures { (att : Att) (netns : List ℕ) (all : List Given)
-        → result ≡ length (shapes.addresses_on att netns (present (G.values given)))
-        + length (shapes.routes_on att netns all (results.bridge_routes conf.now.is_default_gateway configured.now (map ip_of (present (G.values given)))))
-        + length (plan.gateway_calls conf.now (present (G.values given)))
-        + length (shapes.masquerade_rules conf.now.ip_masq att (present (G.values given))) }
-{
-    let _places = given.places();
-    let _few = 16 * configured.len();
-    let objects = count_of_objects(conf, configured, given);
-    objects + count_gateway_calls(conf, given)
-}
-
 /// How many addresses, routes and rules `bridge` makes after the leases, for any attachment that is given these
 /// addresses: what comes twice by its key is made once. Takes no memory; quadratic in the addresses and in the routes.
 pub fn bridge_object_count<G: GivenRow + Copy>(conf: &BridgeConf, given: G) -> usize
@@ -179,5 +162,9 @@ pub fn bridge_object_count<G: GivenRow + Copy>(conf: &BridgeConf, given: G) -> u
 pub fn bridge_after_count<G: GivenRow + Copy>(conf: &BridgeConf, given: G) -> usize
     ensures { (att : Att) (netns : List ℕ) → length (plan.bridge_calls_after conf.now att netns (present (G.values given))) ≡ result }
 {
-    count_of_routes(conf, routes_of(&conf.ipam), given)
+    let configured = routes_of(&conf.ipam);
+    let _places = given.places();
+    let _few = 16 * configured.len();
+    let objects = count_of_objects(conf, configured, given);
+    objects + count_gateway_calls(conf, given)
 }

@@ -17,7 +17,7 @@ returns g c = λ att netns.
     let routes = routes_on att netns all (bridge_routes conf.is_default_gateway (routes_of conf.ipam) (map ip_of all)) in
     let gateways = gateway_calls conf all in
     let rules = masquerade_rules conf.ip_masq att all in
-    let counted : c.count_of_routes.result ≡ length addresses + length routes + length gateways + length rules = rw c.routes_of.ensures at (c.count_of_routes.ensures att netns all) in
+    let objects : c.count_of_objects-objects.result ≡ length addresses + length routes + length rules = rw c.routes_of-configured.ensures at (c.count_of_objects-objects.ensures.count att netns all) in
     length-append (map AddrAdd addresses) (map RouteAdd routes ++ (gateways ++ map RuleAppend rules))
     ∙ omega (
       arith,
@@ -26,5 +26,6 @@ returns g c = λ att netns.
       length-map addresses AddrAdd,
       length-map routes RouteAdd,
       length-map rules RuleAppend,
-      counted,
+      objects,
+      c.count_gateway_calls.ensures.count,
     )
