@@ -3,6 +3,7 @@ use Rattle.std.proofs.Common.{◌≡◌, ℕ, zero, suc, ◌<◌, Bool, true, fa
 use Rattle.std.specs.Prelude.{filter, map, ◌&&◌, ◌||◌, if◌then◌else◌}
 use Rattle.std.specs.List.{list_any, list_all, Contains, slice_index_or}
 use Rattle.std.specs.Str.{bytes_eq}
+use Rattle.std.specs.Cmp.{both_ways}
 use Rattle.std.specs.Cmp.Lexicographic.{nat_list_eq_equiv}
 use Rattle.std.proofs.lemmas.Slice.Eq.{bytes_eq-Decides}
 use Rattle.cni_addr.specs.Lists.{distinct}
@@ -146,11 +147,6 @@ peer_names_back links l m (Some key) keys at fits p =
     ap (λ y. is_peer_at l.ns l.name y.peer) (sym one) ∙ grind (arith, back))
     (grind (arith, fits))
 
-same_answer : (a b : Bool) → (a ≡ true → b ≡ true) → (b ≡ true → a ≡ true) → a ≡ b
-same_answer true b h g = sym (h refl)
-same_answer false true h g = g refl
-same_answer false false h g = refl
-
 -- in a sound host a link goes with another exactly where it stands at its place, or is its peer
 pub goes_with-sound : (host : Host) (link other : Link) → IsSound host → Contains host.links link → Contains host.links other → goes_with link.ns link.name other ≡ is_link_or_peer link other
 goes_with-sound host link other sound link_there other_there =
@@ -159,6 +155,6 @@ goes_with-sound host link other sound link_there other_there =
     let fits_link : peer_fits host.links link link.peer ≡ true = among-passes (λ l. peer_fits host.links l l.peer) link host.links at_link sound.links.peers in
     let fits_other : peer_fits host.links other other.peer ≡ true = among-passes (λ l. peer_fits host.links l l.peer) other host.links at_other sound.links.peers in
     ap (λ b. is_at link.ns link.name other || b)
-    (same_answer (is_peer_at link.ns link.name other.peer) (is_peer_at other.ns other.name link.peer)
+    (both_ways (is_peer_at link.ns link.name other.peer) (is_peer_at other.ns other.name link.peer)
     (peer_names_back host.links other link other.peer sound.links.keys at_link fits_other)
     (peer_names_back host.links link other link.peer sound.links.keys at_other fits_link))
