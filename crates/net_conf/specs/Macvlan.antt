@@ -1,5 +1,5 @@
 -- The configuration of the `macvlan` plugin, key by key in the order of its refusals.
-use Rattle.std.specs.Prelude.{ℕ, List, [], ◌∷◌, codes, false, if◌then◌else◌, Result, Ok, ok_or}
+use Rattle.std.specs.Prelude.{ℕ, List, [], ◌∷◌, codes, false, Result, Ok, ok_or}
 use Rattle.serde_json.specs.Data.{Data}
 use Rattle.cni_json.specs.Fields.{text_field}
 use Rattle.cni_json.specs.Outcome.{◌>>=◌}
