@@ -1,24 +1,23 @@
 -- How many rules `firewall` makes, and the keys of the settings of `tuning`.
-use Rattle.std.proofs.Common.{◌≡◌, ℕ, zero, suc, ◌+◌, ◌*◌, Bool, true, false, List, [], ◌∷◌, ◌++◌, map, length, take, Some, refl, sym, ◌∙◌, ap, arith}
+use Rattle.std.proofs.Common.{◌≡◌, ℕ, zero, suc, ◌+◌, ◌*◌, Bool, true, false, List, [], ◌∷◌, map, length, take, Some, refl, ◌∙◌, ap, arith}
 use Rattle.std.specs.Prelude.{flat_map, option_map, slice_get, if◌then◌else◌}
 use Rattle.std.specs.List.{list_any}
 use Rattle.std.specs.Cmp.{IsPartialEquivalence, partial_equiv_from_equiv}
 use Rattle.std.specs.Cmp.Lexicographic.{nat_list_eq_equiv}
 use Rattle.std.proofs.lemmas.List.{length-map}
 use Rattle.std.proofs.lemmas.Option.{slice_get-map}
-use Rattle.cni_result.specs.declared.result.IpEntry.{IpEntry}
+use Rattle.cni_addr.specs.declared.address.Cidr.{Cidr}
 use Rattle.net_conf.specs.declared.chained.Sysctl.{Sysctl}
 use Rattle.kernel_types.specs.Apply.Calls.{is_same_addr, is_same_setting}
 use Rattle.kernel_types.specs.Equal.{addr_eq, rule_eq}
 use Rattle.kernel_types.proofs.Cases.{att_eq-refl}
 use Rattle.kernel_types.specs.declared.object.Att.{Att}
-use Rattle.kernel_types.specs.declared.object.Rule.{Rule}
 use Rattle.kernel_types.specs.declared.call.Given.{Given}
 use Rattle.cni_addr.specs.Lists.{each_key_once}
 use Rattle.plan_words.specs.Rows.{present}
 use Rattle.plan_words.specs.Shapes.{address_on, addresses_on}
 use Rattle.plan_words.proofs.CountLemmas.{whole-same, same-address}
-use Rattle.plan_words.proofs.RowLemmas.{count-more, each_key_once-map}
+use Rattle.plan_words.proofs.RowLemmas.{count-more, each_key_once-map, lengths-made}
 use Rattle.firewall_tuning.specs.Counts.{is_same_key}
 use Rattle.firewall_tuning.specs.Firewall.{accept_replies_to, accept_from, forward_of}
 use Rattle.firewall_tuning.specs.Tuning.{setting_of}
@@ -26,41 +25,27 @@ use Rattle.firewall_tuning.proofs.PairLemmas.{length-pairs_once}
 
 -- ---- firewall
 
--- given addresses are told apart by the address alone
-abbrev pub same_address : Given → Given → Bool
-same_address x y = addr_eq x.address.addr y.address.addr
+-- told apart without their prefixes
+abbrev pub same_address : Cidr → Cidr → Bool
+same_address x y = addr_eq x.addr y.addr
 
--- the rules for a given address
-abbrev pub rules_of_given : Att → Given → List Rule
-rules_of_given att g = accept_replies_to att g.address.addr ∷ accept_from att g.address.addr ∷ []
+same-reply : (att : Att) (x y : Cidr) → rule_eq (accept_replies_to att x.addr) (accept_replies_to att y.addr) ≡ same_address x y
+same-reply att x y = grind (arith, whole-same x.addr y.addr, att_eq-refl att)
 
--- the rules of a result with these addresses
-pub rules-of_ips : (att : Att) (ips : List IpEntry) (given : List Given) → map (λ ip. ip.address) ips ≡ map (λ g. g.address) given → flat_map (rules_of_given att) given ≡ flat_map (forward_of att) ips
-rules-of_ips att [] [] h = refl
-rules-of_ips att [] (g ∷ gs) h = cc
-rules-of_ips att (ip ∷ ips) [] h = cc
-rules-of_ips att (ip ∷ ips) (g ∷ gs) h =
-    let here : g.address ≡ ip.address = cc in
-    let rest : map (λ i. i.address) ips ≡ map (λ x. x.address) gs = cc in
-    ap (λ a. (accept_replies_to att a.addr ∷ accept_from att a.addr ∷ []) ++ flat_map (rules_of_given att) gs) here ∙ ap (λ l. forward_of att ip ++ l) (rules-of_ips att ips gs rest)
+same-from : (att : Att) (x y : Cidr) → rule_eq (accept_from att x.addr) (accept_from att y.addr) ≡ same_address x y
+same-from att x y = grind (arith, whole-same x.addr y.addr, att_eq-refl att)
 
-same-reply : (att : Att) (x y : Given) → rule_eq (accept_replies_to att x.address.addr) (accept_replies_to att y.address.addr) ≡ same_address x y
-same-reply att x y = grind (arith, whole-same x.address.addr y.address.addr, att_eq-refl att)
+reply-from : (att : Att) (x y : Cidr) → rule_eq (accept_replies_to att x.addr) (accept_from att y.addr) ≡ false
+reply-from att x y = grind (arith, whole-same x.addr y.addr)
 
-same-from : (att : Att) (x y : Given) → rule_eq (accept_from att x.address.addr) (accept_from att y.address.addr) ≡ same_address x y
-same-from att x y = grind (arith, whole-same x.address.addr y.address.addr, att_eq-refl att)
-
-reply-from : (att : Att) (x y : Given) → rule_eq (accept_replies_to att x.address.addr) (accept_from att y.address.addr) ≡ false
-reply-from att x y = grind (arith, whole-same x.address.addr y.address.addr)
-
-from-reply : (att : Att) (x y : Given) → rule_eq (accept_from att x.address.addr) (accept_replies_to att y.address.addr) ≡ false
-from-reply att x y = grind (arith, whole-same x.address.addr y.address.addr)
+from-reply : (att : Att) (x y : Cidr) → rule_eq (accept_from att x.addr) (accept_replies_to att y.addr) ≡ false
+from-reply att x y = grind (arith, whole-same x.addr y.addr)
 
 -- twice as many rules as addresses
-pub rules-twice : (att : Att) (netns : List ℕ) (given : List Given) → length (each_key_once rule_eq (flat_map (rules_of_given att) given)) ≡ 2 * length (addresses_on att netns given)
+pub rules-twice : (att : Att) (netns : List ℕ) (given : List Given) → length (each_key_once rule_eq (flat_map (forward_of att) (map (λ g. g.address) given))) ≡ 2 * length (addresses_on att netns given)
 rules-twice att netns given =
-    length-pairs_once (λ (x : Given). accept_replies_to att x.address.addr) (λ (x : Given). accept_from att x.address.addr) same_address rule_eq (same-reply att) (same-from att) (reply-from att) (from-reply att) given
-    ∙ ap (λ n. 2 * n) (sym (ap length (each_key_once-map (address_on att netns) same_address is_same_addr (same-address att netns) given) ∙ length-map (each_key_once same_address given) (address_on att netns)))
+    length-pairs_once (λ (x : Cidr). accept_replies_to att x.addr) (λ (x : Cidr). accept_from att x.addr) same_address rule_eq (same-reply att) (same-from att) (reply-from att) (from-reply att) (map (λ g. g.address) given)
+    ∙ ap (λ n. 2 * n) (lengths-made (λ (g : Given). g.address) (address_on att netns) same_address is_same_addr (same-address att netns) given)
 
 -- ---- tuning
 

@@ -27,8 +27,8 @@ use Rattle.firewall_tuning.specs.Tuning.{setting_of, tuning_settings, sets_any, 
 -- each rule is its attachment's
 pub own-firewall_rules : (att : Att) (ips : List IpEntry) → list_all (λ x. is_own att x.tag) (firewall_rules att ips) ≡ true
 own-firewall_rules att ips =
-    list_all-each_key_once (λ x. is_own att x.tag) rule_eq (flat_map (forward_of att) ips)
-    (list_all-flat (λ x. is_own att x.tag) (forward_of att) (λ ip. grind (arith, att_eq-refl att)) ips)
+    list_all-each_key_once (λ x. is_own att x.tag) rule_eq (flat_map (λ ip. forward_of att ip.address) ips)
+    (list_all-flat (λ x. is_own att x.tag) (λ ip. forward_of att ip.address) (λ ip. grind (arith, att_eq-refl att)) ips)
 
 pub own-firewall : (att : Att) (ips : List IpEntry) → AreOwnCalls att (firewall_calls_of att ips)
 own-firewall att ips = own-rule_calls att (firewall_rules att ips) (own-firewall_rules att ips)

@@ -3,6 +3,7 @@
 use Rattle.std.specs.Prelude.{true, List, [], ◌∷◌, map, flat_map, Some}
 use Rattle.cni_addr.specs.Network.{whole}
 use Rattle.cni_addr.specs.declared.address.Addr.{Addr}
+use Rattle.cni_addr.specs.declared.address.Cidr.{Cidr}
 use Rattle.cni_result.specs.declared.result.IpEntry.{IpEntry}
 use Rattle.kernel_types.specs.Equal.{rule_eq}
 use Rattle.kernel_types.specs.declared.object.Att.{Att}
@@ -25,11 +26,11 @@ accept_replies_to att addr = record (rule_for_all att Filter chains.Forward targ
 abbrev pub accept_from : Att → Addr → Rule
 accept_from att addr = record (rule_for_all att Filter chains.Forward targets.Accept) { src = Some (whole addr) }
 
-abbrev pub forward_of : Att → IpEntry → List Rule
-forward_of att ip = accept_replies_to att ip.address.addr ∷ accept_from att ip.address.addr ∷ []
+abbrev pub forward_of : Att → Cidr → List Rule
+forward_of att address = accept_replies_to att address.addr ∷ accept_from att address.addr ∷ []
 
 abbrev pub firewall_rules : Att → List IpEntry → List Rule
-firewall_rules att ips = each_key_once rule_eq (flat_map (forward_of att) ips)
+firewall_rules att ips = each_key_once rule_eq (flat_map (λ ip. forward_of att ip.address) ips)
 
 abbrev pub firewall_calls_of : Att → List IpEntry → List Call
 firewall_calls_of att ips = map RuleAppend (firewall_rules att ips)

@@ -210,9 +210,9 @@ length-chained (Portmap conf) att netns mappings ips =
     let c = length-each 6 (mapping_rules conf.snat att ips) (length-mapping conf.snat att ips) mappings in
     omega arith
 length-chained (Firewall conf) att netns mappings ips =
-    let a = length-map (each_key_once rule_eq (flat_map (forward_of att) ips)) RuleAppend in
-    let b = length-each_key_once rule_eq (flat_map (forward_of att) ips) in
-    let c = length-each 2 (forward_of att) (λ ip. omega arith) ips in
+    let a = length-map (each_key_once rule_eq (flat_map (λ (ip : IpEntry). forward_of att ip.address) ips)) RuleAppend in
+    let b = length-each_key_once rule_eq (flat_map (λ (ip : IpEntry). forward_of att ip.address) ips) in
+    let c = length-each 2 (λ (ip : IpEntry). forward_of att ip.address) (λ ip. omega arith) ips in
     omega arith
 length-chained (Tuning conf) att netns mappings ips =
     let a = length-map (tuning_settings conf att netns) SettingSet in
