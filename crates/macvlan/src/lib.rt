@@ -12,17 +12,15 @@
 
 pub mod laws;
 
-ghost use Rattle.std.specs.Prelude.{◌≡◌, ◌+◌, ℕ, List, length, IfOk};
+ghost use Rattle.std.specs.Prelude.{◌≡◌, ℕ, List, length, IfOk};
 ghost use Rattle.kernel_types.specs.declared.object.Att.{Att};
-ghost use Rattle.kernel_types.specs.declared.call.Given.{Given};
 ghost use Rattle.plan_words.specs.Rows.{present};
-ghost use Rattle.plan_words.specs.Shapes.{addresses_on, routes_on};
 ghost use Rattle.macvlan.specs.Macvlan as plan;
 
 use bridge_ptp::interfaces::{completed, inner_interface};
 use bridge_ptp::kinds::interface_kinds;
 use cni_addr::{Duplicate, Items, NoMemory, Text};
-use cni_result::{AddResult, RouteEntry};
+use cni_result::AddResult;
 use host_local::routes_of;
 use kernel_types::{Att, Call, Given, Kind};
 use net_conf::MacvlanConf;
@@ -64,20 +62,15 @@ pub fn after(
     Ok(Items::of_vec(calls))
 }
 
-fn count_of_entries<G: GivenRow + Copy>(entries: &[RouteEntry], given: G) -> usize
-    ensures { (att : Att) (netns : List ℕ) (all : List Given) → result ≡ length (addresses_on att netns (present (G.values given))) + length (routes_on att netns all entries.now) }
-{
-    let _places = given.places();
-    let _few = 16 * entries.len();
-    count_addresses(given) + count_routes(entries)
-}
-
 /// How many calls there are after the leases, for any attachment that is given these addresses: an address or a
 /// destination that comes twice is asked for once. Takes no memory; quadratic in the addresses and in the routes.
 pub fn after_count<G: GivenRow + Copy>(conf: &MacvlanConf, given: G) -> usize
     ensures { (att : Att) (netns : List ℕ) → length (plan.macvlan_calls_after conf.now att netns (present (G.values given))) ≡ result }
 {
-    count_of_entries(routes_of(&conf.ipam), given)
+    let entries = routes_of(&conf.ipam);
+    let _places = given.places();
+    let _few = 16 * entries.len();
+    count_addresses(given) + count_routes(entries)
 }
 
 /// The result of the address plugin with the link and its index.

@@ -1,4 +1,4 @@
-use Rattle.std.proofs.Common.{◌≡◌, ◌+◌, length, map, ◌∙◌, arith}
+use Rattle.std.proofs.Common.{◌≡◌, length, map, ◌∙◌, arith}
 use Rattle.std.proofs.lemmas.List.{length-append, length-map}
 use Rattle.kernel_types.specs.declared.call.Call.TheVariants.{AddrAdd, RouteAdd}
 use Rattle.plan_words.specs.Rows.{present}
@@ -11,5 +11,6 @@ returns g c = λ att netns.
     let all = present (g.G.GivenRow.values c.args.given) in
     let addresses = addresses_on att netns all in
     let routes = routes_on att netns all (routes_of c.args.conf.now.ipam) in
-    let counted : c.count_of_entries.result ≡ length addresses + length routes = rw c.routes_of.ensures at (c.count_of_entries.ensures att netns all) in
-    length-append (map AddrAdd addresses) (map RouteAdd routes) ∙ omega (arith, length-map addresses AddrAdd, length-map routes RouteAdd, counted)
+    let routed : c.count_routes.result ≡ length routes = rw c.routes_of-entries.ensures at (c.count_routes.ensures.count att netns all) in
+    length-append (map AddrAdd addresses) (map RouteAdd routes)
+    ∙ omega (arith, length-map addresses AddrAdd, length-map routes RouteAdd, c.count_addresses.ensures.count att netns, routed)
