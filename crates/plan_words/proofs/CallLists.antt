@@ -1,8 +1,7 @@
 -- What lists of calls add to a share.
-use Rattle.std.proofs.Common.{◌≡◌, ℕ, Bool, true, false, ap, List, [], ◌∷◌, ◌++◌, map, refl, sym, ◌∙◌, append_assoc}
+use Rattle.std.proofs.Common.{◌≡◌, Bool, true, false, ap, List, [], ◌∷◌, ◌++◌, map, refl, sym, ◌∙◌, append_assoc}
 use Rattle.std.proofs.lemmas.List.{append-nil}
 use Rattle.std.specs.Prelude.{if◌then◌else◌}
-use Rattle.cni_addr.specs.declared.address.Cidr.{Cidr}
 use Rattle.cni_addr.specs.declared.address.Family.{Family}
 use Rattle.cni_addr.specs.declared.address.Family.TheVariants.{V4, V6}
 use Rattle.kernel_types.specs.declared.object.Link.{Link}
@@ -11,7 +10,7 @@ use Rattle.kernel_types.specs.declared.object.RouteObj.{RouteObj}
 use Rattle.kernel_types.specs.declared.object.Rule.{Rule}
 use Rattle.kernel_types.specs.declared.object.Setting.{Setting}
 use Rattle.kernel_types.specs.declared.call.Call.{Call}
-use Rattle.kernel_types.specs.declared.call.Call.TheVariants.{GatewayEnsure, ForwardEnsure, AddrAdd, RouteAdd, RuleAppend, SettingSet}
+use Rattle.kernel_types.specs.declared.call.Call.TheVariants.{ForwardEnsure, AddrAdd, RouteAdd, RuleAppend, SettingSet}
 use Rattle.kernel_types.specs.declared.call.Given.{Given}
 use Rattle.plan_words.specs.Families.{has_family}
 use Rattle.plan_words.specs.Shapes.{forward_for, forward_calls}
@@ -36,10 +35,6 @@ share_after_calls-rules s (x ∷ xs) = share_after_calls-rules (share_after_call
 pub share_after_calls-settings : (s : Share) (xs : List Setting) → share_after_calls s (map SettingSet xs) ≡ record s { settings = s.settings ++ xs }
 share_after_calls-settings s [] = ap (λ l. record s { settings = l }) (sym (append-nil s.settings))
 share_after_calls-settings s (x ∷ xs) = share_after_calls-settings (share_after_call s (SettingSet x)) xs ∙ ap (λ l. record s { settings = l }) (append_assoc s.settings (x ∷ []) xs)
-
-pub share_after_calls-gateways : (s : Share) (bridge : List ℕ) (xs : List Cidr) → share_after_calls s (map (GatewayEnsure bridge) xs) ≡ s
-share_after_calls-gateways s bridge [] = refl
-share_after_calls-gateways s bridge (x ∷ xs) = share_after_calls-gateways s bridge xs
 
 pub share_after_calls-if : (s : Share) (b : Bool) (xs : List Call) → share_after_calls s xs ≡ s → share_after_calls s (if b then xs else []) ≡ s
 share_after_calls-if s true xs h = h
