@@ -1,7 +1,7 @@
 -- What a network list keeps that is read.
 use Rattle.std.proofs.Common.{◌≡◌, ℕ, true, List, codes, Result, Ok, Err, refl, subst}
 use Rattle.serde_json.specs.Data.{Data}
-use Rattle.cni_json.specs.Fields.{text_field}
+use Rattle.cni_json.specs.Fields.{text_field, object_or}
 use Rattle.cni_json.specs.Json.{json_of}
 use Rattle.cni_json.specs.declared.fields.Field.{Field}
 use Rattle.cni_json.specs.declared.fields.Field.TheVariants.{Absent, WrongKind, Here}
@@ -12,10 +12,10 @@ use Rattle.cni_json.proofs.Endings.{goes, ok_same, passed}
 use Rattle.cni_json.specs.WellFormed.{KeysAscend}
 use Rattle.net_conf.proofs.PluginFacts.{chain_at-ok}
 use Rattle.net_conf.specs.List.{read_or_refused, version_at, name_of, name_at, switch_at, disable_check_key, disable_gc_key, list_at, list_of}
-use Rattle.net_conf.specs.Members.{object_at}
 use Rattle.net_conf.specs.Names.{is_network_name}
 use Rattle.net_conf.specs.Outside.{supported}
 use Rattle.net_conf.specs.Plugins.{chain_at}
+use Rattle.net_conf.specs.Refusals.{invalid}
 use Rattle.net_conf.specs.WellFormed.{IsWellFormedList}
 use Rattle.net_conf.specs.declared.list.NetList.{NetList}
 use Rattle.net_conf.specs.declared.outside.Accepted.TheVariants.{Nothing}
@@ -35,7 +35,7 @@ name_at-ok d name is = name_of-ok (text_field (codes "name") d) name is
 list_at-ok : (d : Data) (list : NetList) → KeysAscend d → list_at d ≡ Ok list → IsWellFormedList list
 unfolding list_at
 list_at-ok d list order is =
-    let form = goes (object_at (codes "list") d) _ list is in
+    let form = goes (object_or (invalid (codes "list")) d) _ list is in
     let version = goes (version_at d) _ list form.rest in
     let versions = goes (supported Nothing (codes "cniVersions") d) _ list version.rest in
     let name = goes (name_at d) _ list versions.rest in

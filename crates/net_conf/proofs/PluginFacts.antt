@@ -1,13 +1,13 @@
 -- What the plugins of a list keep that is read.
 use Rattle.std.proofs.Common.{◌≡◌, ℕ, true, false, List, [], ◌∷◌, ◌++◌, codes, Option, Some, None, Ok, refl, sym, subst}
-use Rattle.std.specs.Prelude.{All, map, unwrap_or, if◌then◌else◌}
+use Rattle.std.specs.Prelude.{All, map, unwrap_or, if◌then◌else◌, ok_or}
 use Rattle.std.specs.List.{AllByRecursion, IsDistinct, list_any}
 use Rattle.std.specs.Str.{chars}
 use Rattle.std.proofs.lemmas.Bool.{or_parts, or_right}
 use Rattle.std.proofs.lemmas.List.Elements.{All-nil, All-cons, All-append}
 use Rattle.serde_json.specs.Data.{Data, null, boolean, number, string, array, object, Items, no_items, item}
 use Rattle.serde_json.specs.Find.{get, as_array}
-use Rattle.cni_json.specs.Fields.{member_at, text_field, field_of}
+use Rattle.cni_json.specs.Fields.{member_at, text_field, field_of, object_or}
 use Rattle.cni_json.specs.declared.fields.Field.{Field}
 use Rattle.cni_json.specs.declared.fields.Field.TheVariants.{Absent, WrongKind, Here}
 use Rattle.cni_json.proofs.Ascending.{get-everywhere}
@@ -20,13 +20,14 @@ use Rattle.net_conf.specs.Dns.{dns_at}
 use Rattle.net_conf.specs.Firewall.{firewall_at}
 use Rattle.net_conf.specs.Ipam.{manager_at, host_local_at, is_empty, ipam_of, ipam_at, addressing_at}
 use Rattle.net_conf.specs.Macvlan.{macvlan_rows, master_of, master_at, mode_at, macvlan_at}
-use Rattle.net_conf.specs.Members.{flag_at, default_mtu, given_mtu_at, mtu_at, object_at, of_kind}
+use Rattle.net_conf.specs.Members.{flag_at, default_mtu, given_mtu_at, mtu_at, of_kind}
 use Rattle.net_conf.specs.Names.{is_interface_name}
 use Rattle.net_conf.specs.Outside.{supported, all_supported}
 use Rattle.net_conf.specs.PluginTypes.{type_eq, type_of_chained}
-use Rattle.net_conf.specs.Plugins.{type_at, first_of, first_at, first_plugin, later_of, is_of_type, not_repeated, later_at, later_plugins, plugins_of, plugins_at, chain_at}
+use Rattle.net_conf.specs.Plugins.{type_at, first_of, first_at, first_plugin, later_of, is_of_type, not_repeated, later_at, later_plugins, plugins_of, plugins_at, chain_at, wrong_plugins}
 use Rattle.net_conf.specs.Portmap.{portmap_at}
-use Rattle.net_conf.specs.Ptp.{ipam_or_refused, ptp_at}
+use Rattle.net_conf.specs.Ptp.{ptp_at}
+use Rattle.net_conf.specs.Refusals.{invalid}
 use Rattle.net_conf.specs.Routes.{routes_at}
 use Rattle.net_conf.specs.Sets.{sets_at}
 use Rattle.net_conf.specs.Tuning.{tuning_at}
@@ -34,6 +35,7 @@ use Rattle.net_conf.specs.WellFormed.{IsMtu, IsWellFormedHostLocal, IsWellFormed
 use Rattle.net_conf.specs.declared.bridge.BridgeModes.{BridgeModes}
 use Rattle.net_conf.specs.declared.bridge.GatewayRole.{GatewayRole}
 use Rattle.net_conf.specs.declared.chained.Chained.{Chained}
+use Rattle.net_conf.specs.declared.error.ConfError.TheVariants as refusal
 use Rattle.net_conf.specs.declared.first.BridgeConf.{BridgeConf}
 use Rattle.net_conf.specs.declared.first.First.{First}
 use Rattle.net_conf.specs.declared.first.HostLocalConf.{HostLocalConf}
@@ -60,7 +62,7 @@ mtu_at-ok d n is =
 host_local_at-ok : (d : Data) (conf : HostLocalConf) → host_local_at d ≡ Ok conf → IsWellFormedHostLocal conf
 unfolding host_local_at
 host_local_at-ok d conf is =
-    let form = goes (object_at (codes "ipam") d) _ conf is in
+    let form = goes (object_or (invalid (codes "ipam")) d) _ conf is in
     let manager = goes (manager_at d) _ conf form.rest in
     let resolv = goes (supported EmptyText (codes "resolvConf") d) _ conf manager.rest in
     let sets = goes (sets_at d) _ conf resolv.rest in
@@ -157,9 +159,9 @@ bridge_at-ok d conf is =
       ipam = addressing_at-ok d addressing.value addressing.first;
     })
 
-ipam_or_refused-ok : (o : Option HostLocalConf) (conf : HostLocalConf) → IsWellFormedIpam o → ipam_or_refused o ≡ Ok conf → IsWellFormedHostLocal conf
-ipam_or_refused-ok None conf kept is = cc
-ipam_or_refused-ok (Some v) conf kept is = subst IsWellFormedHostLocal (ok_same is) kept
+needed_ipam-ok : (o : Option HostLocalConf) (conf : HostLocalConf) → IsWellFormedIpam o → ok_or o (refusal.Invalid (codes "ipam")) ≡ Ok conf → IsWellFormedHostLocal conf
+needed_ipam-ok None conf kept is = cc
+needed_ipam-ok (Some v) conf kept is = subst IsWellFormedHostLocal (ok_same is) kept
 
 ptp_at-ok : (d : Data) (conf : PtpConf) → ptp_at d ≡ Ok conf → IsWellFormedPtp conf
 unfolding ptp_at
@@ -167,10 +169,10 @@ ptp_at-ok d conf is =
     let masq = goes (flag_at (codes "ipMasq") false d) _ conf is in
     let mtu = goes (mtu_at d) _ conf masq.rest in
     let addressing = goes (addressing_at d) _ conf mtu.rest in
-    let ipam = goes (ipam_or_refused addressing.value.ipam) _ conf addressing.rest in
+    let ipam = goes (ok_or addressing.value.ipam (refusal.Invalid (codes "ipam"))) _ conf addressing.rest in
     subst IsWellFormedPtp (ok_same ipam.rest) (record {
       mtu = mtu_at-ok d mtu.value mtu.first;
-      ipam = ipam_or_refused-ok addressing.value.ipam ipam.value (addressing_at-ok d addressing.value addressing.first) ipam.first;
+      ipam = needed_ipam-ok addressing.value.ipam ipam.value (addressing_at-ok d addressing.value addressing.first) ipam.first;
     })
 
 macvlan_at-ok : (d : Data) (conf : MacvlanConf) → macvlan_at d ≡ Ok conf → IsWellFormedMacvlan conf
@@ -198,7 +200,7 @@ first_of-ok plugin.Tuning d found is = cc
 first_at-ok : (d : Data) (found : First) → first_at d ≡ Ok found → IsWellFormedFirst found
 unfolding first_at
 first_at-ok d found is =
-    let form = goes (object_at (codes "plugins") d) _ found is in
+    let form = goes (object_or wrong_plugins d) _ found is in
     let type = goes (type_at d) _ found form.rest in
     first_of-ok type.value d found type.rest
 
@@ -245,7 +247,7 @@ once_more (p ∷ before) next type is none once =
 later_at-ok : (before : List Chained) (d : Data) (next : Chained) → KeysAscend d → AreLater before → later_at before d ≡ Ok next → AreLater (before ++ next ∷ [])
 unfolding later_at not_repeated
 later_at-ok before d next order kept is =
-    let form = goes (object_at (codes "plugins") d) _ next is in
+    let form = goes (object_or wrong_plugins d) _ next is in
     let type = goes (type_at d) _ next form.rest in
     let new = goes (not_repeated before type.value) _ next type.rest in
     let here = later_of-ok type.value d next order new.rest in

@@ -4,10 +4,10 @@ use Rattle.std.specs.Str.{bytes_eq}
 use Rattle.serde_json.specs.Data.{Data, string, object, Members, no_members, member}
 use Rattle.serde_json.specs.Find.{get}
 use Rattle.serde_json.specs.Written.{compact_text}
-use Rattle.cni_json.specs.Fields.{member_at}
+use Rattle.cni_json.specs.Fields.{member_at, object_or}
 use Rattle.cni_json.specs.Outcome.{◌>>=◌}
 use Rattle.net_conf.specs.Dns.{dns_at}
-use Rattle.net_conf.specs.Members.{is_null, object_at, of_kind}
+use Rattle.net_conf.specs.Members.{is_null, of_kind}
 use Rattle.net_conf.specs.Outside.{supported}
 use Rattle.net_conf.specs.Refusals.{invalid}
 use Rattle.net_conf.specs.Routes.{routes_at}
@@ -31,7 +31,7 @@ manager_at d = manager_of (get (codes "type") d)
 -- the configuration of `host-local`
 unfoldable pub host_local_at : Data → Result HostLocalConf ConfError
 host_local_at d = do
-  _ ← object_at (codes "ipam") d
+  _ ← object_or (invalid (codes "ipam")) d
   _ ← manager_at d
   _ ← supported EmptyText (codes "resolvConf") d
   sets ← sets_at d

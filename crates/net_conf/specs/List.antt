@@ -3,14 +3,13 @@ use Rattle.std.specs.Prelude.{ℕ, List, [], codes, Bool, true, false, if◌then
 use Rattle.std.specs.Str.{bytes_eq}
 use Rattle.serde_json.specs.Data.{Data, boolean, string}
 use Rattle.cni_json.specs.Json.{json_of}
-use Rattle.cni_json.specs.Fields.{member_at, text_field, member_or}
+use Rattle.cni_json.specs.Fields.{member_at, text_field, member_or, needed, object_or}
 use Rattle.cni_json.specs.Outcome.{◌>>=◌}
 use Rattle.cni_json.specs.declared.fields.Field.{Field}
 use Rattle.cni_json.specs.declared.reading.ReadEnd.{ReadEnd}
 use Rattle.cni_json.specs.declared.reading.ReadEnd.TheVariants as ends
 use Rattle.cni_result.specs.Versions.{version_named}
 use Rattle.cni_result.specs.declared.version.Version.{Version}
-use Rattle.net_conf.specs.Members.{object_at, needed}
 use Rattle.net_conf.specs.Names.{is_network_name}
 use Rattle.net_conf.specs.Outside.{supported}
 use Rattle.net_conf.specs.Plugins.{chain_at}
@@ -40,7 +39,7 @@ abbrev pub name_or_refused : List ℕ → Result (List ℕ) ConfError
 name_or_refused text = if is_network_name text then Ok text else invalid (codes "name")
 
 abbrev pub name_of : Field (List ℕ) → Result (List ℕ) ConfError
-name_of f = needed (codes "name") name_or_refused f
+name_of f = needed (invalid (codes "name")) name_or_refused f
 
 -- the name of the network
 unfoldable pub name_at : Data → Result (List ℕ) ConfError
@@ -72,7 +71,7 @@ disable_gc_key = codes "disableGC"
 -- a network list
 unfoldable pub list_at : Data → Result NetList ConfError
 list_at d = do
-  _ ← object_at (codes "list") d
+  _ ← object_or (invalid (codes "list")) d
   version ← version_at d
   _ ← supported Nothing (codes "cniVersions") d
   name ← name_at d

@@ -12,14 +12,6 @@ use Rattle.net_conf.specs.declared.error.ConfError.{ConfError}
 abbrev pub is_null : Data → Bool
 is_null d = is_some (as_null d)
 
--- the value is an object; else this key or part is to blame
-abbrev pub object_at : List ℕ → Data → Result ⊤ ConfError
-object_at blamed d = object_or (invalid blamed) d
-
--- what is read of a member that must be there; else this key or part is to blame
-abbrev pub needed : {A B : Type 0} → List ℕ → (A → Result B ConfError) → Field A → Result B ConfError
-needed blamed read f = member_or (invalid blamed) (invalid blamed) read f
-
 -- what is read of a member that may be absent, and is the default then
 abbrev pub optional : {A B : Type 0} → List ℕ → B → (A → Result B ConfError) → Field A → Result B ConfError
 optional blamed default read f = member_or (Ok default) (invalid blamed) read f

@@ -4,13 +4,13 @@ use Rattle.std.specs.List.{list_any}
 use Rattle.std.specs.Str.{bytes_eq}
 use Rattle.serde_json.specs.Data.{Data, Items, no_items, item}
 use Rattle.cni_json.specs.Each.{each_after}
-use Rattle.cni_json.specs.Fields.{text_field, list_field}
+use Rattle.cni_json.specs.Fields.{text_field, list_field, needed, object_or}
 use Rattle.cni_json.specs.Outcome.{◌>>=◌}
 use Rattle.cni_json.specs.declared.fields.Field.{Field}
 use Rattle.net_conf.specs.Bridge.{bridge_at}
 use Rattle.net_conf.specs.Firewall.{firewall_at}
 use Rattle.net_conf.specs.Macvlan.{macvlan_at}
-use Rattle.net_conf.specs.Members.{object_at, needed, of_kind}
+use Rattle.net_conf.specs.Members.{of_kind}
 use Rattle.net_conf.specs.PluginTypes.{type_eq, type_of_chained}
 use Rattle.net_conf.specs.Portmap.{portmap_at}
 use Rattle.net_conf.specs.Ptp.{ptp_at}
@@ -39,7 +39,7 @@ type_named text =
     else invalid (codes "type")
 
 abbrev pub type_of : Field (List ℕ) → Result PluginType ConfError
-type_of f = needed (codes "type") type_named f
+type_of f = needed (invalid (codes "type")) type_named f
 
 -- the type that the object names
 unfoldable pub type_at : Data → Result PluginType ConfError
@@ -58,7 +58,7 @@ first_of plugin.Tuning d = wrong_plugins
 -- a plugin in the first place
 unfoldable pub first_at : Data → Result First ConfError
 first_at d = do
-  _ ← object_at (codes "plugins") d
+  _ ← object_or wrong_plugins d
   type ← type_at d
   first_of type d
 
@@ -88,7 +88,7 @@ not_repeated before type = if list_any (is_of_type type) before then wrong_plugi
 -- a plugin after the first and these later ones
 unfoldable pub later_at : List Chained → Data → Result Chained ConfError
 later_at before d = do
-  _ ← object_at (codes "plugins") d
+  _ ← object_or wrong_plugins d
   type ← type_at d
   _ ← not_repeated before type
   later_of type d
@@ -101,7 +101,7 @@ later_plugins (item d ds) = each_after later_at [] ds
 -- ---- all plugins
 
 abbrev pub plugins_of : Field Items → Result Items ConfError
-plugins_of f = needed (codes "plugins") Ok f
+plugins_of f = needed wrong_plugins Ok f
 
 -- the plugins, not yet read
 unfoldable pub plugins_at : Data → Result Items ConfError

@@ -1,24 +1,18 @@
 -- The configuration of the `ptp` plugin, key by key in the order of its refusals.
-use Rattle.std.specs.Prelude.{codes, false, Result, Ok, Option, Some, None}
+use Rattle.std.specs.Prelude.{codes, false, Result, Ok, ok_or}
 use Rattle.serde_json.specs.Data.{Data}
 use Rattle.cni_json.specs.Outcome.{◌>>=◌}
 use Rattle.net_conf.specs.Ipam.{addressing_at}
 use Rattle.net_conf.specs.Members.{flag_at, mtu_at}
-use Rattle.net_conf.specs.Refusals.{invalid}
 use Rattle.net_conf.specs.declared.error.ConfError.{ConfError}
-use Rattle.net_conf.specs.declared.first.HostLocalConf.{HostLocalConf}
+use Rattle.net_conf.specs.declared.error.ConfError.TheVariants as refusal
 use Rattle.net_conf.specs.declared.first.PtpConf.{PtpConf}
 
--- a pair of ends without addresses would lead nowhere
-abbrev pub ipam_or_refused : Option HostLocalConf → Result HostLocalConf ConfError
-ipam_or_refused None = invalid (codes "ipam")
-ipam_or_refused (Some conf) = Ok conf
-
--- the configuration that a `ptp` plugin's object gives
+-- the configuration that a `ptp` plugin's object gives; a pair of ends without addresses would lead nowhere
 unfoldable pub ptp_at : Data → Result PtpConf ConfError
 ptp_at d = do
   masq ← flag_at (codes "ipMasq") false d
   mtu ← mtu_at d
   addressing ← addressing_at d
-  ipam ← ipam_or_refused addressing.ipam
+  ipam ← ok_or addressing.ipam (refusal.Invalid (codes "ipam"))
   Ok (record { ip_masq = masq; mtu = mtu; ipam = ipam; dns = addressing.dns })

@@ -1,7 +1,7 @@
 -- A range of addresses (the `host-local` plugin, `subnet`, `rangeStart`, `rangeEnd` and `gateway`).
 use Rattle.std.specs.Prelude.{◌+◌, ◌-◌, ◌&&◌, ℕ, List, codes, Bool, nat_le, if◌then◌else◌, Result, Ok, ⊤}
 use Rattle.serde_json.specs.Data.{Data}
-use Rattle.cni_json.specs.Fields.{text_field}
+use Rattle.cni_json.specs.Fields.{text_field, needed}
 use Rattle.cni_json.specs.Outcome.{◌>>=◌}
 use Rattle.cni_json.specs.declared.fields.Field.{Field}
 use Rattle.cni_addr.specs.declared.address.Family.{Family}
@@ -13,7 +13,7 @@ use Rattle.cni_addr.specs.CidrText.{cidr_of_text}
 use Rattle.cni_addr.specs.Codes.{family_eq}
 use Rattle.cni_addr.specs.Equal.{cidr_eq}
 use Rattle.cni_addr.specs.Network.{network_of, last_of, contains}
-use Rattle.net_conf.specs.Members.{needed, optional, passing}
+use Rattle.net_conf.specs.Members.{optional, passing}
 use Rattle.net_conf.specs.Refusals.{invalid}
 use Rattle.net_conf.specs.declared.error.ConfError.{ConfError}
 
@@ -22,7 +22,7 @@ unfoldable pub is_subnet : Cidr → Bool
 is_subnet subnet = cidr_eq subnet (network_of subnet) && (nat_le 8 subnet.prefix && nat_le subnet.prefix 30)
 
 abbrev pub subnet_of : Field (List ℕ) → Result Cidr ConfError
-subnet_of f = needed (codes "subnet") (λ text. passing (codes "subnet") is_subnet (cidr_of_text text)) f
+subnet_of f = needed (invalid (codes "subnet")) (λ text. passing (codes "subnet") is_subnet (cidr_of_text text)) f
 
 -- the subnet of a range
 unfoldable pub subnet_at : Data → Result Cidr ConfError

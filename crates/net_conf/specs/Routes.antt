@@ -1,7 +1,7 @@
 -- Configured routes (the `host-local` plugin, `routes`).
 use Rattle.std.specs.Prelude.{ℕ, List, codes, Result, Ok, Option, Some, None}
 use Rattle.serde_json.specs.Data.{Data, Items}
-use Rattle.cni_json.specs.Fields.{text_field, list_field}
+use Rattle.cni_json.specs.Fields.{text_field, list_field, needed}
 use Rattle.cni_json.specs.Outcome.{◌>>=◌}
 use Rattle.cni_json.specs.declared.fields.Field.{Field}
 use Rattle.cni_addr.specs.declared.address.Family.{Family}
@@ -12,7 +12,7 @@ use Rattle.cni_addr.specs.CidrText.{cidr_of_text}
 use Rattle.cni_addr.specs.Network.{network_of}
 use Rattle.cni_result.specs.declared.result.RouteEntry.{RouteEntry}
 use Rattle.cni_json.specs.Each.{list_or}
-use Rattle.net_conf.specs.Members.{needed, optional, of_kind, passing}
+use Rattle.net_conf.specs.Members.{optional, of_kind, passing}
 use Rattle.net_conf.specs.Ranges.{is_of_family}
 use Rattle.net_conf.specs.Refusals.{invalid}
 use Rattle.net_conf.specs.declared.error.ConfError.{ConfError}
@@ -25,7 +25,7 @@ destination_or_refused None = wrong_routes
 destination_or_refused (Some cidr) = Ok (network_of cidr)
 
 abbrev pub destination_of : Field (List ℕ) → Result Cidr ConfError
-destination_of f = needed (codes "routes") (λ text. destination_or_refused (cidr_of_text text)) f
+destination_of f = needed wrong_routes (λ text. destination_or_refused (cidr_of_text text)) f
 
 -- the destination, its host bits cleared
 unfoldable pub destination_at : Data → Result Cidr ConfError

@@ -10,11 +10,10 @@ ghost use Rattle.net_conf.specs.Refusals.{is_want_of_memory};
 use crate::dns::dns;
 use crate::error::{ConfError, invalid, unsupported};
 use crate::first::HostLocalConf;
-use crate::members::need_object;
 use crate::outside::{Accepted, supported};
 use crate::routes::routes;
 use crate::sets::sets;
-use cni_json::{Map, Value, member};
+use cni_json::{Map, Value, member, need_object};
 use cni_result::Dns;
 use std::alloc::Global;
 
@@ -81,7 +80,7 @@ fn host_local(alloc: Global, object: &Value) -> Result<HostLocalConf, ConfError>
     requires { has_float (view object.now) ≡ false }
     ensures { GivesAs is_want_of_memory (λ conf. conf) result (wanted.host_local_at (view object.now)) }
 {
-    need_object(alloc, object, "ipam")?;
+    need_object(object, || invalid(alloc, "ipam"))?;
     manager(alloc, object)?;
     supported(alloc, object, "resolvConf", Accepted::EmptyText)?;
     let sets = sets(alloc, object)?;

@@ -66,9 +66,6 @@ fn mode(alloc: Global, object: &Value) -> Result<MacvlanMode, ConfError>
     match field_str(object, "mode") {
         Field::Absent => Ok(MacvlanMode::Bridge),
         Field::WrongKind => Err(invalid(alloc, "mode")),
-        Field::Here(found) => match mode_named(found) {
-            Some(mode) => Ok(mode),
-            None => Err(invalid(alloc, "mode")),
-        },
+        Field::Here(found) => mode_named(found).ok_or_else(|| invalid(alloc, "mode")),
     }
 }

@@ -10,18 +10,6 @@ use crate::error::{ConfError, invalid};
 use cni_json::{Field, Value, field_bool, field_u64};
 use std::alloc::Global;
 
-/// Refuses a value that is no object. This key or part is to blame.
-#[tactic(auto, using(cni_json::proofs::Steps::steps))]
-pub fn need_object(alloc: Global, value: &Value, blamed: &str) -> Result<(), ConfError>
-    ensures { GivesAs is_want_of_memory (λ t. t) result (members.object_at blamed.now (view value.now)) }
-{
-    if value.is_object() {
-        Ok(())
-    } else {
-        Err(invalid(alloc, blamed))
-    }
-}
-
 /// A truth value, or the default where it is absent.
 #[tactic(auto, unfolding(crate::specs::Members::flag_at))]
 pub fn flag(alloc: Global, object: &Value, key: &str, default: bool) -> Result<bool, ConfError>

@@ -15,13 +15,12 @@ use crate::error::{ConfError, invalid};
 use crate::firewall::firewall;
 use crate::first::First;
 use crate::macvlan::macvlan;
-use crate::members::need_object;
 use crate::plugin_type::{PluginType, type_of_chained};
 use crate::portmap::portmap;
 use crate::ptp::ptp;
 use crate::tuning::tuning;
 use cni_addr::Items;
-use cni_json::{Field, Value, field_list, field_str, read_each_after};
+use cni_json::{Field, Value, field_list, field_str, read_each_after, need_object};
 use std::alloc::Global;
 
 /// The plugins of a list, in order.
@@ -97,7 +96,7 @@ fn later(alloc: Global, before: &[Chained], plugin: &Value) -> Result<Chained, C
     requires { has_float (view plugin.now) ≡ false }
     ensures { GivesAs is_want_of_memory (λ plugin. plugin) result (wanted.later_at before.now (view plugin.now)) }
 {
-    need_object(alloc, plugin, "plugins")?;
+    need_object(plugin, || invalid(alloc, "plugins"))?;
     let plugin_type = plugin_type(alloc, plugin)?;
     not_repeated(alloc, before, plugin_type)?;
     later_of(alloc, plugin_type, plugin)
@@ -131,7 +130,7 @@ fn first(alloc: Global, plugin: &Value) -> Result<First, ConfError>
     requires { has_float (view plugin.now) ≡ false }
     ensures { GivesAs is_want_of_memory (λ plugin. plugin) result (wanted.first_at (view plugin.now)) }
 {
-    need_object(alloc, plugin, "plugins")?;
+    need_object(plugin, || invalid(alloc, "plugins"))?;
     let plugin_type = plugin_type(alloc, plugin)?;
     first_of(alloc, plugin_type, plugin)
 }

@@ -1,11 +1,12 @@
 //! The `ptp` plugin.
 
-ghost use Rattle.std.specs.Prelude.{◌≡◌, false};
+ghost use Rattle.std.specs.Prelude.{◌≡◌, codes, false, ok_or};
 ghost use Rattle.serde_json.specs.View.{view};
 ghost use Rattle.serde_json.specs.Written.{has_float};
 ghost use Rattle.cni_json.specs.Outcome.{GivesAs};
 ghost use Rattle.net_conf.specs.Ptp as wanted;
 ghost use Rattle.net_conf.specs.Refusals.{is_want_of_memory};
+ghost use Rattle.net_conf.specs.declared.error.ConfError.TheVariants as refusal;
 
 use crate::error::{ConfError, invalid};
 use crate::first::{HostLocalConf, PtpConf};
@@ -34,10 +35,7 @@ pub fn ptp(alloc: Global, object: &Value) -> Result<PtpConf, ConfError>
 
 #[tactic(auto, using(cni_json::proofs::Steps::steps))]
 fn ipam_or_refused(alloc: Global, ipam: Option<HostLocalConf>) -> Result<HostLocalConf, ConfError>
-    ensures { GivesAs is_want_of_memory (λ conf. conf) result (wanted.ipam_or_refused ipam) }
+    ensures { GivesAs is_want_of_memory (λ conf. conf) result (ok_or ipam (refusal.Invalid (codes "ipam"))) }
 {
-    match ipam {
-        Some(conf) => Ok(conf),
-        None => Err(invalid(alloc, "ipam")),
-    }
+    ipam.ok_or_else(|| invalid(alloc, "ipam"))
 }

@@ -9,12 +9,11 @@ ghost use Rattle.net_conf.specs.Refusals.{is_want_of_memory};
 
 use crate::error::{ConfError, invalid, version_refused};
 use crate::list::{DISABLE_CHECK_KEY, DISABLE_GC_KEY, NetList};
-use crate::members::need_object;
 use crate::names::is_network_name;
 use crate::outside::{Accepted, supported};
 use crate::plugins::plugin_chain;
 use cni_addr::Text;
-use cni_json::{Field, ReadEnd, Value, field_str, member};
+use cni_json::{Field, ReadEnd, Value, field_str, member, need_object};
 use cni_result::{Version, version_named};
 use std::alloc::Global;
 
@@ -37,7 +36,7 @@ fn list(alloc: Global, top: &Value) -> Result<NetList, ConfError>
     requires { has_float (view top.now) ≡ false }
     ensures { GivesAs is_want_of_memory (λ list. list) result (wanted.list_at (view top.now)) }
 {
-    need_object(alloc, top, "list")?;
+    need_object(top, || invalid(alloc, "list"))?;
     let version = version(alloc, top)?;
     supported(alloc, top, "cniVersions", Accepted::Nothing)?;
     let name = name(alloc, top)?;
@@ -61,10 +60,7 @@ fn version(alloc: Global, top: &Value) -> Result<Version, ConfError>
     match field_str(top, "cniVersion") {
         Field::WrongKind => Err(invalid(alloc, "cniVersion")),
         Field::Absent => Err(version_refused(alloc, "")),
-        Field::Here(found) => match version_named(found) {
-            Some(version) => Ok(version),
-            None => Err(version_refused(alloc, found)),
-        },
+        Field::Here(found) => version_named(found).ok_or_else(|| version_refused(alloc, found)),
     }
 }
 

@@ -9,7 +9,7 @@ ghost use Rattle.net_conf.specs.declared.error.ConfError.TheVariants as refusal;
 
 use crate::error::{ConfError, invalid};
 use cni_addr::{Addr, Cidr, Family, Items, network_of, read_addr, read_cidr};
-use cni_json::{Field, Value, field_list, field_str, read_each};
+use cni_json::{Field, Value, field_str, read_list_or};
 use cni_result::RouteEntry;
 use std::alloc::Global;
 
@@ -18,11 +18,13 @@ use std::alloc::Global;
 pub fn routes(alloc: Global, object: &Value) -> Result<Items<RouteEntry>, ConfError>
     ensures { GivesAs is_want_of_memory (λ routes. routes) result (routes.routes_at (view object.now)) }
 {
-    match field_list(object, "routes") {
-        Field::Absent => Ok(Items::new(alloc)),
-        Field::WrongKind => Err(wrong(alloc)),
-        Field::Here(list) => read_each(alloc, list, |member| route(alloc, member)),
-    }
+    read_list_or(
+        alloc,
+        object,
+        "routes",
+        || wrong(alloc),
+        |member| route(alloc, member),
+    )
 }
 
 #[tactic(auto, using(cni_json::proofs::Steps::steps), unfolding(crate::specs::Routes::route_at))]
