@@ -1,8 +1,9 @@
 -- Lists of values and the data that they stand for.
-use Rattle.std.proofs.Common.{◌≡◌, ◌≤◌, suc, List, [], ◌∷◌, length, drop, false, nat_eq, ap, refl, arith}
+use Rattle.std.proofs.Common.{◌≡◌, ◌≤◌, ◌&&◌, Bool, suc, List, [], ◌∷◌, length, drop, false, nat_eq, ap, refl, arith}
 use Rattle.std.proofs.lemmas.Bool.{or_parts}
 use Rattle.std.proofs.lemmas.Grind.{common_steps}
-use Rattle.serde_json.specs.Data.{array}
+use Rattle.std.specs.List.{list_all}
+use Rattle.serde_json.specs.Data.{Data, array}
 use Rattle.serde_json.specs.View.{view, items_view}
 use Rattle.serde_json.specs.Written.{has_float, items_have_float}
 use Rattle.serde_json.specs.declared.value.Value.{Value}
@@ -20,10 +21,15 @@ pub item_count-items_view : (xs : List Value) → item_count (items_view xs) ≡
 item_count-items_view [] = refl
 item_count-items_view (x ∷ xs) = ap suc (item_count-items_view xs)
 
+-- each item of the data passes the test where each value does
+pub all_items-items_view : (test : Data → Bool) (xs : List Value) → all_items test (items_view xs) ≡ list_all (λ x. test (view x)) xs
+all_items-items_view test [] = refl
+all_items-items_view test (x ∷ xs) = ap (λ b. test (view x) && b) (all_items-items_view test xs)
+
 -- a list of values, by its length
-pub is_set-some : (xs : List Value) → 1 ≤ length xs → is_set (array (items_view xs)) ≡ all_items is_object (items_view xs)
+pub is_set-some : (xs : List Value) → 1 ≤ length xs → is_set (array (items_view xs)) ≡ list_all (λ x. is_object (view x)) xs
 is_set-some [] some = absurd (omega arith)
-is_set-some (x ∷ xs) some = refl
+is_set-some (x ∷ xs) some = all_items-items_view is_object (x ∷ xs)
 
 pub later_plugins-some : (xs : List Value) → 1 ≤ length xs → later_plugins (items_view xs) ≡ each_after later_at [] (items_view (drop 1 xs))
 later_plugins-some [] some = absurd (omega arith)
@@ -35,5 +41,7 @@ items_have_float-rest [] whole = refl
 items_have_float-rest (x ∷ xs) whole = (or_parts (has_float (view x)) _ whole).1
 
 pub ruleset counts = (item_count-items_view)
+
+pub ruleset tests = (all_items-items_view)
 
 pub ruleset by_length = (is_set-some, later_plugins-some, items_have_float-rest)

@@ -1,7 +1,8 @@
 -- The sets of ranges (the `host-local` plugin, `ranges`, and the older form `subnet`).
 use Rattle.std.specs.Prelude.{◌+◌, ◌&&◌, ℕ, suc, List, [], ◌∷◌, codes, Bool, true, false, nat_le, if◌then◌else◌, Result, Ok, is_some, ⊤}
 use Rattle.std.specs.List.{list_all, flat_map}
-use Rattle.serde_json.specs.Data.{Data, array, object, Items, no_items, item}
+use Rattle.serde_json.specs.Data.{Data, array, Items, no_items, item}
+use Rattle.serde_json.specs.Find.{as_object}
 use Rattle.cni_json.specs.Fields.{member_at, list_field}
 use Rattle.cni_json.specs.Outcome.{◌>>=◌}
 use Rattle.cni_json.specs.declared.fields.Field.{Field}
@@ -27,8 +28,7 @@ set_of (array ds) = do
 set_of d = wrong_ranges
 
 abbrev pub is_object : Data → Bool
-is_object (object ms) = true
-is_object d = false
+is_object d = is_some (as_object d)
 
 -- each item passes the test
 abbrev pub all_items : (Data → Bool) → Items → Bool

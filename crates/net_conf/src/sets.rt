@@ -49,7 +49,7 @@ fn has_subnet(object: &Value) -> bool
     member(object, "subnet").is_some()
 }
 
-#[tactic(auto, using(cni_json::proofs::Steps::steps))]
+#[tactic(auto, using(cni_json::proofs::Steps::steps, crate::proofs::ValueLemmas::tests))]
 fn well_formed(alloc: Global, has_own: bool, listed: &[Value]) -> Result<(), ConfError>
     ensures { GivesAs is_want_of_memory (λ t. t) result (wanted.well_formed has_own (items_view listed.now)) }
 {
@@ -72,14 +72,9 @@ fn is_set_count(has_own: bool, listed: &[Value]) -> bool
 }
 
 fn all_set_forms(listed: &[Value]) -> bool
-    ensures { result ≡ wanted.all_items wanted.is_set (items_view listed.now) }
+    ensures { result ≡ list_all (λ set. wanted.is_set (view set)) listed.now }
 {
-    for set in listed {
-        if !is_set_form(set) {
-            return false;
-        }
-    }
-    true
+    listed.iter().all(|set| is_set_form(set))
 }
 
 fn is_set_form(set: &Value) -> bool
@@ -102,14 +97,9 @@ fn is_set_list(ranges: &[Value]) -> bool
 }
 
 fn all_objects(ranges: &[Value]) -> bool
-    ensures { result ≡ wanted.all_items wanted.is_object (items_view ranges.now) }
+    ensures { result ≡ list_all (λ range. wanted.is_object (view range)) ranges.now }
 {
-    for range in ranges {
-        if !range.is_object() {
-            return false;
-        }
-    }
-    true
+    ranges.iter().all(|range| range.is_object())
 }
 
 #[tactic(auto, using(cni_json::proofs::Steps::steps))]
