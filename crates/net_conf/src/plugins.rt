@@ -20,7 +20,7 @@ use crate::portmap::portmap;
 use crate::ptp::ptp;
 use crate::tuning::tuning;
 use cni_addr::Items;
-use cni_json::{Field, Value, field_list, field_str, read_each_after, need_object};
+use cni_json::{Field, Value, field_list, field_str, need_object, read_each_after};
 use std::alloc::Global;
 
 /// The plugins of a list, in order.

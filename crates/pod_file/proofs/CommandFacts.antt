@@ -8,16 +8,16 @@ use Rattle.std.proofs.lemmas.List.Elements.{All-nil, All-cons, All-head, All-tai
 use Rattle.serde_json.specs.Data.{Data, null, boolean, number, string, array, object, Items}
 use Rattle.serde_json.specs.Find.{get}
 use Rattle.cni_json.specs.Each.{list_or}
-use Rattle.cni_json.specs.Fields.{text_field, list_field, u32_field, u64_of, has_32_bits}
+use Rattle.cni_json.specs.Fields.{text_field, list_field, u32_field, u64_of, has_32_bits, object_or}
 use Rattle.cni_json.specs.declared.fields.Field.{Field}
 use Rattle.cni_json.specs.declared.fields.Field.TheVariants.{Absent, WrongKind, Here}
 use Rattle.kernel_types.specs.Texts.{table_named}
 use Rattle.kernel_types.specs.declared.object.Table.{Table}
 use Rattle.cni_json.proofs.Endings.{goes, ok_same, passed, went_on, each_all, each_from_all}
 use Rattle.cni_json.proofs.WholeNumbers.{u32_of-fits}
-use Rattle.pod_file.specs.Commands.{command_object, verb_at, needs_table, texts_at, table_or_wrong, table_of, table_at, stop_of, stop_at, is_call_number, fault_of, fault_at, faults_at, command_at}
+use Rattle.pod_file.specs.Commands.{verb_at, needs_table, texts_at, table_or_wrong, table_of, table_at, stop_of, stop_at, is_call_number, fault_of, fault_at, faults_at, command_at}
 use Rattle.pod_file.specs.Members.{list_at, mappings_at, valid_at}
-use Rattle.pod_file.specs.Refusals.{wrong_key}
+use Rattle.pod_file.specs.Refusals.{wrong, wrong_key, command_path}
 use Rattle.pod_file.specs.Rounds.{command_in, round_at, rounds_of, rounds_at, command_count, is_exclusive, is_alone, each_alone, numbered, round_numbered, all_numbered}
 use Rattle.pod_file.specs.WellFormed.{IsCallNumber, IsWellFormedCommand, IsWellFormedRound, in_file_order}
 use Rattle.pod_file.specs.declared.command.Command.{Command}
@@ -80,7 +80,7 @@ faults_at-ok place d faults is = faults_of-ok place (list_field (codes "faults")
 command_at-ok : (place : CommandPlace) (d : Data) (command : Command) → command_at place d ≡ Ok command → IsWellFormedCommand command
 unfolding command_at
 command_at-ok place d command is =
-    let form = goes (command_object place d) _ command is in
+    let form = goes (object_or (wrong (command_path place)) d) _ command is in
     let verb = goes (verb_at place d) _ command form.rest in
     let texts = goes (texts_at place verb.value d) _ command verb.rest in
     let mappings = goes (mappings_at place d) _ command texts.rest in

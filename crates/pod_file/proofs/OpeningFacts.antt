@@ -6,7 +6,7 @@ use Rattle.std.specs.Str.{bytes_eq}
 use Rattle.std.proofs.lemmas.Bool.{or_parts}
 use Rattle.std.proofs.lemmas.Slice.Eq.{bytes_eq-Decides}
 use Rattle.serde_json.specs.Data.{Data, null, boolean, number, string, array, object, Items}
-use Rattle.cni_json.specs.Fields.{text_field, list_field, object_field}
+use Rattle.cni_json.specs.Fields.{text_field, list_field, object_field, object_or}
 use Rattle.cni_json.specs.declared.fields.Field.{Field}
 use Rattle.cni_json.specs.declared.fields.Field.TheVariants.{Absent, WrongKind, Here}
 use Rattle.kernel_types.proofs.ListLemmas.{list_all-push, list_all-weaker, list_any-map, list_any-none, list_any-weaker, distinct-push}
@@ -22,7 +22,7 @@ use Rattle.kernel_types.specs.declared.object.LinkKind.{LinkKind}
 use Rattle.kernel_types.specs.declared.object.LinkKind.TheVariants.{Device, Bridge}
 use Rattle.kernel_types.specs.declared.object.Tag.TheVariants.{Outside}
 use Rattle.cni_json.proofs.Endings.{goes, ok_same, passed, not_refused, each_after_keeps}
-use Rattle.pod_file.specs.Links.{link_object, name_at, kind_of, kind_at, is_place, ns_of, ns_at, mtu_at, outside_link, not_taken, link_at, next_link, links_of, links_at}
+use Rattle.pod_file.specs.Links.{name_at, kind_of, kind_at, is_place, ns_of, ns_at, mtu_at, outside_link, not_taken, link_at, next_link, links_of, links_at, wrong_link}
 use Rattle.pod_file.specs.Opening.{namespace_at, next_namespace, namespaces_of, namespaces_at, opening_members_at, opening_of, opening_at}
 use Rattle.pod_file.specs.WellFormed.{IsOpening}
 use Rattle.pod_file.specs.declared.error.PodError.{PodError}
@@ -118,7 +118,7 @@ shared-outside ns name kind mtu shared = rw shared refl
 link_at-ok : (names : List (List ℕ)) (before : List Link) (index : ℕ) (d : Data) (link : Link) → link_at names before index d ≡ Ok link → IsNewLink names before link
 unfolding link_at not_taken
 link_at-ok names before index d link is =
-    let form = goes (link_object index d) _ link is in
+    let form = goes (object_or (wrong_link index) d) _ link is in
     let name = goes (name_at index d) _ link form.rest in
     let kind = goes (kind_at index d) _ link name.rest in
     let ns = goes (ns_at names index d) _ link kind.rest in

@@ -1,15 +1,17 @@
 -- What a pod file keeps that is read.
-use Rattle.std.proofs.Common.{◌≡◌, ℕ, ◌≤◌, ◌&&◌, List, Ok, length, nat_le, subst, arith}
+use Rattle.std.proofs.Common.{◌≡◌, ℕ, ◌≤◌, ◌&&◌, List, [], Ok, length, nat_le, subst, arith}
 use Rattle.std.specs.Prelude.{⊤}
 use Rattle.std.proofs.lemmas.Bool.{and_parts}
 use Rattle.std.proofs.lemmas.Bool.Decides.{nat_tests}
 use Rattle.serde_json.specs.Data.{Data}
+use Rattle.cni_json.specs.Fields.{object_or}
 use Rattle.cni_json.specs.Json.{json_of}
 use Rattle.pod_file.proofs.CommandFacts.{rounds_at-ok, all_numbered-ok, length-all_numbered, count-all_numbered, all-from}
 use Rattle.cni_json.proofs.Endings.{goes, ok_same, passed}
 use Rattle.pod_file.proofs.OpeningFacts.{opening_at-ok}
 use Rattle.pod_file.specs.Opening.{opening_at}
-use Rattle.pod_file.specs.PodFile.{read_or_refused, top_object, pods_at, pods_of}
+use Rattle.pod_file.specs.PodFile.{read_or_refused, pods_at, pods_of}
+use Rattle.pod_file.specs.Refusals.{wrong}
 use Rattle.pod_file.specs.Rounds.{rounds_at, command_count, file_limit, are_few, few, each_alone}
 use Rattle.pod_file.specs.WellFormed.{IsWellFormedPods}
 use Rattle.pod_file.specs.declared.command.Command.{Command}
@@ -29,7 +31,7 @@ few-ok rounds t is =
 pods_at-ok : (d : Data) (pods : Pods) → pods_at d ≡ Ok pods → IsWellFormedPods pods
 unfolding pods_at
 pods_at-ok d pods is =
-    let form = goes (top_object d) _ pods is in
+    let form = goes (object_or (wrong []) d) _ pods is in
     let opening = goes (opening_at d) _ pods form.rest in
     let rounds = goes (rounds_at d) _ pods opening.rest in
     let few = goes (few rounds.value) _ pods rounds.rest in

@@ -1,9 +1,9 @@
 -- A command of a pod file, key by key in the order of its refusals. Each key is tested at every verb.
-use Rattle.std.specs.Prelude.{ℕ, ◌&&◌, List, [], codes, Bool, true, false, nat_le, if◌then◌else◌, Result, Ok, ok_or, Option, Some, None, find, ⊤}
+use Rattle.std.specs.Prelude.{ℕ, ◌&&◌, List, [], codes, Bool, true, false, nat_le, if◌then◌else◌, Result, Ok, ok_or, Option, Some, None, find}
 use Rattle.std.specs.Str.{bytes_eq}
 use Rattle.serde_json.specs.Data.{Data}
-use Rattle.cni_json.specs.Fields.{text_field, u32_field, u64_of, has_32_bits, member_or, object_or}
 use Rattle.cni_json.specs.Outcome.{◌>>=◌}
+use Rattle.cni_json.specs.Fields.{text_field, u32_field, u64_of, has_32_bits, member_or, object_or, needed}
 use Rattle.cni_json.specs.declared.fields.Field.{Field}
 use Rattle.kernel_types.specs.Texts.{table_named}
 use Rattle.kernel_types.specs.declared.object.Table.{Table}
@@ -17,9 +17,6 @@ use Rattle.pod_file.specs.declared.commands.CommandTexts.{CommandTexts}
 use Rattle.pod_file.specs.declared.error.PodError.{PodError}
 use Rattle.pod_file.specs.declared.error.PodError.TheVariants as refusal
 use Rattle.pod_file.specs.declared.place.CommandPlace.{CommandPlace}
-
-abbrev pub command_object : CommandPlace → Data → Result ⊤ PodError
-command_object place d = object_or (wrong (command_path place)) d
 
 -- ---- the verb
 
@@ -46,7 +43,7 @@ verb_named text = find (λ verb. bytes_eq text (verb_text verb)) ALL
 -- what the command does; it must be there
 unfoldable pub verb_at : CommandPlace → Data → Result Verb PodError
 verb_at place d =
-    member_or (wrong_verb place) (wrong_verb place)
+    needed (wrong_verb place)
     (λ text. ok_or (verb_named text) (refusal.Shape (key_path place (codes "verb")))) (text_field (codes "verb") d)
 
 -- the verbs of the CNI specification, which speak of a network
@@ -124,7 +121,7 @@ faults_at place d = list_at place (codes "faults") (fault_at place) d
 
 unfoldable pub command_at : CommandPlace → Data → Result Command PodError
 command_at place d = do
-  _ ← command_object place d
+  _ ← object_or (wrong (command_path place)) d
   verb ← verb_at place d
   texts ← texts_at place verb d
   mappings ← mappings_at place d

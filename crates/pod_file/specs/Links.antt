@@ -4,8 +4,8 @@ use Rattle.std.specs.List.{list_any}
 use Rattle.std.specs.Str.{bytes_eq}
 use Rattle.serde_json.specs.Data.{Data, Items}
 use Rattle.cni_json.specs.Each.{each_after}
-use Rattle.cni_json.specs.Fields.{text_field, list_field, u64_field, member_or, object_or}
 use Rattle.cni_json.specs.Outcome.{◌>>=◌}
+use Rattle.cni_json.specs.Fields.{text_field, list_field, u64_field, member_or, object_or, needed}
 use Rattle.cni_json.specs.declared.fields.Field.{Field}
 use Rattle.kernel_types.specs.Names.{link_mac_of}
 use Rattle.kernel_types.specs.Texts.{link_kind_text}
@@ -24,15 +24,12 @@ use Rattle.pod_file.specs.declared.links.TheConstants.{KINDS}
 abbrev pub wrong_link : {A : Type 0} → ℕ → Result A PodError
 wrong_link index = wrong (member_path (codes "opening.links") index)
 
-abbrev pub link_object : ℕ → Data → Result ⊤ PodError
-link_object index d = object_or (wrong_link index) d
-
 abbrev pub interface_name : ℕ → List ℕ → Result (List ℕ) PodError
 interface_name index text = if is_interface_name text then Ok text else wrong_link index
 
 -- the link's name
 unfoldable pub name_at : ℕ → Data → Result (List ℕ) PodError
-name_at index d = member_or (wrong_link index) (wrong_link index) (interface_name index) (text_field (codes "name") d)
+name_at index d = needed (wrong_link index) (interface_name index) (text_field (codes "name") d)
 
 -- the kind whose word the text is, of those that an opening may have
 abbrev pub kind_named : List ℕ → Option LinkKind
@@ -40,7 +37,7 @@ kind_named text = find (λ kind. bytes_eq text (link_kind_text kind)) KINDS
 
 abbrev pub kind_of : ℕ → Field (List ℕ) → Result LinkKind PodError
 kind_of index f =
-    member_or (wrong_link index) (wrong_link index)
+    needed (wrong_link index)
     (λ text. ok_or (kind_named text) (refusal.Shape (member_path (codes "opening.links") index))) f
 
 -- what kind of link it is
@@ -79,7 +76,7 @@ not_taken before index ns name = if list_any (is_at ns name) before then wrong_l
 -- a link after these, in the host or in a namespace of these names
 unfoldable pub link_at : List (List ℕ) → List Link → ℕ → Data → Result Link PodError
 link_at names before index d = do
-  _ ← link_object index d
+  _ ← object_or (wrong_link index) d
   name ← name_at index d
   kind ← kind_at index d
   ns ← ns_at names index d

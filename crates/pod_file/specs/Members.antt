@@ -1,8 +1,8 @@
 -- Members of a command, each with its refusal: the place is the command's, `outer` the command's key that holds the
 -- member.
-use Rattle.std.specs.Prelude.{ℕ, List, [], codes, Result, Ok, ⊤}
+use Rattle.std.specs.Prelude.{ℕ, List, [], codes, Result, Ok}
 use Rattle.serde_json.specs.Data.{Data}
-use Rattle.cni_json.specs.Fields.{text_field, list_field, u64_field, member_or, object_or}
+use Rattle.cni_json.specs.Fields.{text_field, list_field, u64_field, member_or, needed, object_or}
 use Rattle.cni_json.specs.Outcome.{◌>>=◌}
 use Rattle.cni_json.specs.Each.{list_or}
 use Rattle.pod_file.specs.Refusals.{wrong_key}
@@ -21,7 +21,7 @@ text_at place key default d = inner_text_at place key key default d
 
 -- a text that must be there
 unfoldable pub needed_text_at : CommandPlace → List ℕ → List ℕ → Data → Result (List ℕ) PodError
-needed_text_at place outer key d = member_or (wrong_key place outer) (wrong_key place outer) Ok (text_field key d)
+needed_text_at place outer key d = needed (wrong_key place outer) Ok (text_field key d)
 
 -- a port, which is any number here: an ADD tests it
 unfoldable pub port_at : CommandPlace → List ℕ → Data → Result ℕ PodError
@@ -31,9 +31,6 @@ port_at place key d = member_or (Ok 0) (wrong_key place (codes "portMappings")) 
 unfoldable pub list_at : {A : Type 0} → CommandPlace → List ℕ → (Data → Result A PodError) → Data → Result (List A) PodError
 list_at place key read d = list_or (wrong_key place key) read (list_field key d)
 
-abbrev pub inner_object : CommandPlace → List ℕ → Data → Result ⊤ PodError
-inner_object place outer d = object_or (wrong_key place outer) d
-
 -- a text of a mapping, empty where there is none
 unfoldable pub mapping_text_at : CommandPlace → List ℕ → Data → Result (List ℕ) PodError
 mapping_text_at place key d = inner_text_at place (codes "portMappings") key [] d
@@ -41,7 +38,7 @@ mapping_text_at place key d = inner_text_at place (codes "portMappings") key [] 
 -- a port mapping (the capability `portMappings` of the CNI conventions), as it is written
 unfoldable pub mapping_at : CommandPlace → Data → Result RawMapping PodError
 mapping_at place d = do
-  _ ← inner_object place (codes "portMappings") d
+  _ ← object_or (wrong_key place (codes "portMappings")) d
   host_port ← port_at place (codes "hostPort") d
   container_port ← port_at place (codes "containerPort") d
   protocol ← mapping_text_at place (codes "protocol") d

@@ -1,5 +1,5 @@
 -- A pod file, part by part in the order of its refusals. The format is this project's own.
-use Rattle.std.specs.Prelude.{ℕ, List, [], Result, Ok, Err, ⊤}
+use Rattle.std.specs.Prelude.{ℕ, List, [], Result, Ok, Err}
 use Rattle.serde_json.specs.Data.{Data}
 use Rattle.cni_json.specs.Fields.{object_or}
 use Rattle.cni_json.specs.Json.{json_of}
@@ -20,13 +20,10 @@ read_or_refused (Err ends.Decode) = Err refusal.Decode
 read_or_refused (Err ends.Number) = Err refusal.Number
 read_or_refused (Err ends.NoMemory) = Err refusal.NoMemory
 
-abbrev pub top_object : Data → Result ⊤ PodError
-top_object d = object_or (wrong []) d
-
 -- all shapes first, then the limits, and then what must stand alone
 unfoldable pub pods_at : Data → Result Pods PodError
 pods_at d = do
-  _ ← top_object d
+  _ ← object_or (wrong []) d
   opening ← opening_at d
   rounds ← rounds_at d
   _ ← few rounds

@@ -2,7 +2,7 @@
 use Rattle.std.specs.Prelude.{ℕ, ◌+◌, ◌&&◌, ◌||◌, List, [], ◌∷◌, length, codes, Bool, true, false, not, nat_le, if◌then◌else◌, Result, Ok, Err, ⊤}
 use Rattle.std.specs.List.{list_any}
 use Rattle.serde_json.specs.Data.{Data, array, Items}
-use Rattle.cni_json.specs.Fields.{list_field, member_or}
+use Rattle.cni_json.specs.Fields.{list_field, needed}
 use Rattle.cni_json.specs.declared.fields.Field.{Field}
 use Rattle.pod_file.specs.Commands.{command_at}
 use Rattle.cni_json.specs.Each.{each_from}
@@ -23,7 +23,7 @@ round_at round (array ds) = each_from (command_in round) 0 ds
 round_at round d = wrong (member_path (codes "rounds") round)
 
 abbrev pub rounds_of : Field Items → Result (List (List Command)) PodError
-rounds_of f = member_or (wrong (codes "rounds")) (wrong (codes "rounds")) (each_from round_at 0) f
+rounds_of f = needed (wrong (codes "rounds")) (each_from round_at 0) f
 
 -- the rounds, which must be there
 unfoldable pub rounds_at : Data → Result (List (List Command)) PodError

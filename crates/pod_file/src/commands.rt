@@ -11,7 +11,7 @@ use crate::error::{PodError, wrong_command, wrong_key};
 use crate::members::{list, mappings, needed_text, text, valid_attachments};
 use crate::place::CommandPlace;
 use cni_addr::{Items, Text};
-use cni_json::{Field, Value, field_str, field_u32, has_32_bits};
+use cni_json::{Field, Value, field_str, field_u32, has_32_bits, need_object};
 use kernel_types::{Table, table_named};
 use std::alloc::Global;
 
@@ -30,7 +30,7 @@ pub struct CommandTexts {
 pub fn read_command(alloc: Global, place: CommandPlace, value: &Value) -> Result<Command, PodError>
     ensures { GivesAs is_want_of_memory (λ command. command) result (wanted.command_at place (view value.now)) }
 {
-    command_object(alloc, place, value)?;
+    need_object(value, || wrong_command(alloc, place))?;
     let verb = verb(alloc, place, value)?;
     let texts = texts(alloc, place, verb, value)?;
     let mappings = mappings(alloc, place, value)?;
@@ -54,27 +54,13 @@ pub fn read_command(alloc: Global, place: CommandPlace, value: &Value) -> Result
     })
 }
 
-#[tactic(auto, using(cni_json::proofs::Steps::steps))]
-fn command_object(alloc: Global, place: CommandPlace, value: &Value) -> Result<(), PodError>
-    ensures { GivesAs is_want_of_memory (λ t. t) result (wanted.command_object place (view value.now)) }
-{
-    if value.is_object() {
-        Ok(())
-    } else {
-        Err(wrong_command(alloc, place))
-    }
-}
-
 #[tactic(auto, using(cni_json::proofs::Steps::steps), unfolding(crate::specs::Commands::verb_at))]
 fn verb(alloc: Global, place: CommandPlace, command: &Value) -> Result<Verb, PodError>
     ensures { GivesAs is_want_of_memory (λ verb. verb) result (wanted.verb_at place (view command.now)) }
 {
     match field_str(command, "verb") {
         Field::Absent | Field::WrongKind => Err(wrong_key(alloc, place, "verb")),
-        Field::Here(found) => match verb_named(found) {
-            Some(verb) => Ok(verb),
-            None => Err(wrong_key(alloc, place, "verb")),
-        },
+        Field::Here(found) => verb_named(found).ok_or_else(|| wrong_key(alloc, place, "verb")),
     }
 }
 

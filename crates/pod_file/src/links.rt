@@ -12,7 +12,7 @@ ghost use Rattle.pod_file.specs.declared.error.PodError.TheVariants as refusal;
 
 use crate::error::{PodError, wrong, wrong_member};
 use cni_addr::{Items, Text};
-use cni_json::{Field, Value, field_list, field_str, field_u64, read_each_after};
+use cni_json::{Field, Value, field_list, field_str, field_u64, need_object, read_each_after};
 use kernel_types::words::is_at;
 use kernel_types::{Link, LinkKey, LinkKind, Tag, link_kind_text, link_mac};
 use net_conf::{DEFAULT_MTU, is_interface_name, is_mtu};
@@ -60,7 +60,7 @@ fn link(
 ) -> Result<Link, PodError>
     ensures { GivesAs is_want_of_memory (λ link. link) result (wanted.link_at names.now before.now index (view member.now)) }
 {
-    link_object(alloc, index, member)?;
+    need_object(member, || wrong_link(alloc, index))?;
     let name = name(alloc, index, member)?;
     let kind = kind(alloc, index, member)?;
     let ns = ns(alloc, names, index, member)?;
@@ -75,17 +75,6 @@ fn outside_link(ns: Text, name: Text, kind: LinkKind, mtu: u32) -> Link
 {
     let mac = link_mac(name.as_str());
     Link::new(LinkKey { ns, name }, kind, mac, mtu, Tag::Outside)
-}
-
-#[tactic(auto, using(cni_json::proofs::Steps::steps))]
-fn link_object(alloc: Global, index: usize, member: &Value) -> Result<(), PodError>
-    ensures { GivesAs is_want_of_memory (λ t. t) result (wanted.link_object index (view member.now)) }
-{
-    if member.is_object() {
-        Ok(())
-    } else {
-        Err(wrong_link(alloc, index))
-    }
 }
 
 #[tactic(auto, using(cni_json::proofs::Steps::steps), unfolding(crate::specs::Links::name_at))]
@@ -104,10 +93,7 @@ fn kind(alloc: Global, index: usize, member: &Value) -> Result<LinkKind, PodErro
 {
     match field_str(member, "kind") {
         Field::Absent | Field::WrongKind => Err(wrong_link(alloc, index)),
-        Field::Here(found) => match kind_named(found) {
-            Some(kind) => Ok(kind),
-            None => Err(wrong_link(alloc, index)),
-        },
+        Field::Here(found) => kind_named(found).ok_or_else(|| wrong_link(alloc, index)),
     }
 }
 

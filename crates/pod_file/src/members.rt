@@ -4,17 +4,18 @@
 ghost use Rattle.std.specs.Prelude.{Result};
 ghost use Rattle.serde_json.specs.Data.{Data};
 ghost use Rattle.serde_json.specs.View.{view};
+ghost use Rattle.cni_json.specs.Fields.{object_or};
 ghost use Rattle.cni_json.specs.Outcome.{GivesAs};
 ghost use Rattle.cni_json.specs.Readers.{IsReader};
 ghost use Rattle.pod_file.specs.Members as wanted;
-ghost use Rattle.pod_file.specs.Refusals.{is_want_of_memory};
+ghost use Rattle.pod_file.specs.Refusals.{is_want_of_memory, wrong_key};
 ghost use Rattle.pod_file.specs.declared.error.PodError.{PodError};
 
 use crate::command::{RawMapping, ValidAtt};
 use crate::error::{PodError, wrong_key};
 use crate::place::CommandPlace;
 use cni_addr::{Items, Text};
-use cni_json::{Field, Value, field_list, field_str, field_u64, read_each};
+use cni_json::{Field, Value, field_str, field_u64, need_object, read_list_or};
 use std::alloc::Global;
 
 /// A text of the command itself, or the default where it is absent.
@@ -79,11 +80,7 @@ pub fn list<T: Drop, R: Fn(&Value) -> Result<T, PodError>>(
     ensures { (read_as : Data → Result T PodError) → IsReader is_want_of_memory R.Fn read read_as
         → GivesAs is_want_of_memory (λ xs. xs) result (wanted.list_at place key.now read_as (view command.now)) }
 {
-    match field_list(command, key) {
-        Field::Absent => Ok(Items::new(alloc)),
-        Field::WrongKind => Err(wrong_key(alloc, place, key)),
-        Field::Here(members) => read_each(alloc, members, read),
-    }
+    read_list_or(alloc, command, key, || wrong_key(alloc, place, key), read)
 }
 
 /// The port mappings, as they are written.
@@ -108,7 +105,7 @@ pub fn mappings(
 fn mapping(alloc: Global, place: CommandPlace, member: &Value) -> Result<RawMapping, PodError>
     ensures { GivesAs is_want_of_memory (λ mapping. mapping) result (wanted.mapping_at place (view member.now)) }
 {
-    inner_object(alloc, place, "portMappings", member)?;
+    need_object_in(alloc, place, "portMappings", member)?;
     let host_port = port(alloc, place, "hostPort", member)?;
     let container_port = port(alloc, place, "containerPort", member)?;
     let protocol = mapping_text(alloc, place, "protocol", member)?;
@@ -122,19 +119,15 @@ fn mapping(alloc: Global, place: CommandPlace, member: &Value) -> Result<RawMapp
 }
 
 #[tactic(auto, using(cni_json::proofs::Steps::steps))]
-fn inner_object(
+fn need_object_in(
     alloc: Global,
     place: CommandPlace,
     outer: &str,
     member: &Value,
 ) -> Result<(), PodError>
-    ensures { GivesAs is_want_of_memory (λ t. t) result (wanted.inner_object place outer.now (view member.now)) }
+    ensures { GivesAs is_want_of_memory (λ t. t) result (object_or (wrong_key place outer.now) (view member.now)) }
 {
-    if member.is_object() {
-        Ok(())
-    } else {
-        Err(wrong_key(alloc, place, outer))
-    }
+    need_object(member, || wrong_key(alloc, place, outer))
 }
 
 #[tactic(auto, using(cni_json::proofs::Steps::steps), unfolding(crate::specs::Members::port_at))]

@@ -13,7 +13,7 @@ use crate::opening::opening;
 use crate::pods::Pods;
 use crate::rounds::{are_few, each_alone, numbered, rounds};
 use cni_addr::Items;
-use cni_json::{ReadEnd, Value};
+use cni_json::{ReadEnd, Value, need_object};
 use std::alloc::Global;
 
 /// The pod file that the bytes spell, or the first refusal.
@@ -33,7 +33,7 @@ pub fn read_pods(alloc: Global, bytes: &[u8]) -> Result<Pods, PodError>
 fn pods(alloc: Global, top: &Value) -> Result<Pods, PodError>
     ensures { GivesAs is_want_of_memory (λ pods. pods) result (wanted.pods_at (view top.now)) }
 {
-    top_object(alloc, top)?;
+    need_object(top, || wrong(alloc, ""))?;
     let opening = opening(alloc, top)?;
     let rounds = rounds(alloc, top)?;
     few(alloc, rounds.as_slice())?;
@@ -42,17 +42,6 @@ fn pods(alloc: Global, top: &Value) -> Result<Pods, PodError>
         opening,
         rounds: numbered(alloc, rounds),
     })
-}
-
-#[tactic(auto, using(cni_json::proofs::Steps::steps))]
-fn top_object(alloc: Global, top: &Value) -> Result<(), PodError>
-    ensures { GivesAs is_want_of_memory (λ t. t) result (wanted.top_object (view top.now)) }
-{
-    if top.is_object() {
-        Ok(())
-    } else {
-        Err(wrong(alloc, ""))
-    }
 }
 
 /// Refuses rounds or commands beyond the limits.
