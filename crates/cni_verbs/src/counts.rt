@@ -21,6 +21,7 @@ use cni_result::PortMapping;
 use firewall_tuning::{firewall_count, tuning_count};
 use host_local::GivenBySets;
 use kernel_types::host_name_bytes;
+use kernel_types::words::is_host_ns;
 use net_conf::{Chained, First, NetList};
 use pod_file::{Command, RawMapping};
 use portmap::MappingRow;
@@ -43,7 +44,7 @@ fn is_named_as_host_end(command: &Command) -> bool
 pub(crate) fn ends_are_two(command: &Command, netns: &Text) -> bool
     ensures { result ≡ has_two_ends (words.att_of command.now) netns.now }
 {
-    !(netns.as_str() == "" && is_named_as_host_end(command))
+    !(is_host_ns(netns) && is_named_as_host_end(command))
 }
 
 // ---- the mappings

@@ -10,6 +10,7 @@ use crate::answer::{Cause, WordFaults};
 use cni_addr::{Addr, Duplicate, Items, NoMemory, Text, read_addr};
 use cni_result::{PortMapping, Proto, proto_named};
 use kernel_types::Att;
+use kernel_types::words::is_host_ns;
 use net_conf::{Chained, NetList, is_container_id, is_interface_name};
 use pod_file::{Command, RawMapping};
 use std::alloc::Global;
@@ -248,7 +249,7 @@ fn add_faults(command: &Command) -> WordFaults
 {
     WordFaults {
         container: !is_container_id(command.container.as_str()),
-        netns: command.netns.as_str().is_empty(),
+        netns: is_host_ns(&command.netns),
         ifname: !is_interface_name(command.ifname.as_str()),
         args: !are_arguments(command.args.as_str()),
     }
@@ -319,7 +320,7 @@ pub fn netns_refusal(command: &Command) -> Option<Cause>
     ensures { result ≡ words.netns_refusal command.now }
 {
     refusal_by(WordFaults {
-        netns: command.netns.as_str().is_empty(),
+        netns: is_host_ns(&command.netns),
         ..no_faults()
     })
 }
@@ -330,7 +331,7 @@ pub fn drop_refusal(command: &Command) -> Option<Cause>
     ensures { result ≡ words.drop_refusal command.now }
 {
     refusal_by(WordFaults {
-        netns: command.netns.as_str().is_empty(),
+        netns: is_host_ns(&command.netns),
         ifname: !is_interface_name(command.ifname.as_str()),
         ..no_faults()
     })

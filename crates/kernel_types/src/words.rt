@@ -10,11 +10,18 @@ ghost use Rattle.kernel_types.specs.Words.{is_at, is_bridge, is_host_ns, is_owne
 use crate::object::{AddrObj, Last, Link, LinkKey, LinkKind, RouteObj, Setting, Tag};
 use cni_addr::{Addr, Text};
 
-/// Whether this is the name of the host's own namespace, which is the empty text.
+/// Whether a text is the name of the host's own namespace, which is empty.
+pub fn names_host_ns(name: &str) -> bool
+    ensures { result ≡ is_host_ns name.now }
+{
+    name.is_empty()
+}
+
+/// Whether a namespace of this name is the host's own.
 pub fn is_host_ns(ns: &Text) -> bool
     ensures { result ≡ is_host_ns ns.now }
 {
-    ns.as_str().is_empty()
+    names_host_ns(ns.as_str())
 }
 
 /// Whether the link stands at this place.
