@@ -1,6 +1,6 @@
 -- A place's owners and steps, as the jobs that are left.
 use Rattle.std.proofs.Common.{◌≡◌, ℕ, zero, suc, ◌+◌, ◌-◌, ◌<◌, ◌≤◌, Bool, true, false, not, ap, List, [], ◌∷◌, length, drop, Option, Some, slice_get, refl, sym, ◌∙◌, subst, arith, inl, inr}
-use Rattle.std.specs.Prelude.{map, filter, nat_lt}
+use Rattle.std.specs.Prelude.{map, nat_lt}
 use Rattle.std.proofs.Math.ListN.{drop_of_length-le}
 use Rattle.std.proofs.lemmas.Option.{same_Some, none-some}
 use Rattle.std.proofs.lemmas.Bool.Decides.{nat_tests}
@@ -11,10 +11,9 @@ use Rattle.kernel_types.specs.declared.call.Kind.{Kind}
 use Rattle.kernel_types.specs.declared.call.Reply.{Reply}
 use Rattle.kernel_types.specs.declared.call.Reply.TheVariants.{Gone, Owners, Entry, Fault}
 use Rattle.cni_verbs.specs.Script.{call_of_work}
-use Rattle.cni_verbs.specs.Sweep.{Gc, Step, Delete, Sweep, Job, Work, step_call, is_valid, job_of, after_step, first_sweep, work_after}
-use Rattle.gc_sweep.specs.View.{steps_of, jobs_at, jobs_left, sweeps_after, sweeps_from, sweep_of, IsPlace, has_no_work}
+use Rattle.cni_verbs.specs.Sweep.{Gc, Step, Delete, Sweep, Job, Work, step_call, job_of, after_step, first_sweep, work_after}
+use Rattle.gc_sweep.specs.View.{steps_of, jobs_at, jobs_left, sweeps_after, sweep_of, IsPlace, has_no_work}
 use Rattle.gc_sweep.specs.declared.place.Place.{Place}
-use Rattle.gc_sweep.specs.declared.place.Stage.{Stage}
 
 -- ---- the steps of the first sweep
 
@@ -121,13 +120,6 @@ not_done ks p b within has here =
 
 pub no_jobs : (s : Sweep) (step at : ℕ) (owners : List Att) → length owners ≤ at → jobs_at s step (drop at owners) ≡ []
 no_jobs s step at owners past = ap (jobs_at s step) (drop_of_length-le owners past)
-
--- the work at the begin of a sweep with these owners
-pub asked_next : (gc : Gc) (next : Stage) (sweeps : List Sweep) (jobs : List Job) (owners kept : List Att) → sweeps_from gc.kinds (Some next) ≡ sweeps → jobs ≡ [] → kept ≡ filter (λ a. not (is_valid gc.valid a)) owners
-    → work (jobs_at (sweep_of gc.kinds next) 0 kept) (sweeps_after gc.kinds next) ≡ work_after gc jobs sweeps (Owners owners)
-asked_next gc next sweeps jobs owners kept is none kept_is =
-    let P : List Job → List Sweep → Type 0 = λ js ss. work (jobs_at (sweep_of gc.kinds next) 0 kept) (sweeps_after gc.kinds next) ≡ work_after gc js ss (Owners owners) in
-    subst (λ js. P js sweeps) (sym none) (subst (P []) is (ap (λ js. work js (sweeps_after gc.kinds next)) (fresh (sweep_of gc.kinds next) kept ∙ ap (map (job_of (sweep_of gc.kinds next))) kept_is)))
 
 skip : (gc : Gc) (sweeps : List Sweep) → work_after gc [] sweeps (Owners []) ≡ work_after gc [] sweeps Fault
 skip gc [] = refl
