@@ -1,5 +1,4 @@
 use Rattle.std.proofs.Common.{◌≡◌, true, rules}
-use Rattle.std.specs.Prelude.{find}
 use Rattle.std.specs.Option.{option_map}
 use Rattle.std.proofs.lemmas.Result.{IfOk-weaker}
 use Rattle.kernel_types.specs.Words.{has_named_ns, link_at}
