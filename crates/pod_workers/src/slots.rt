@@ -13,7 +13,7 @@ ghost use Rattle.pod_workers.specs.World.{entry_by, host_on, is_stop};
 use crate::join::list_of;
 use crate::plan::{Entry, Next};
 use crate::task::Task;
-use cni_addr::{Duplicate, NoMemory};
+use cni_addr::NoMemory;
 use cni_verbs::Answer;
 use kernel_model::Kernel;
 use kernel_types::{Call, Reply};
