@@ -1,6 +1,7 @@
 -- Ranges in the order of their starts share no address exactly where each ends before the next starts.
 use Rattle.std.proofs.Common.{◌≡◌, ◌≢◌, ℕ, zero, suc, ◌<◌, ◌≤◌, ◌⊎◌, inl, inr, List, [], ◌∷◌, length, get_or, swap, Bool, true, false, not, IsPermutation, refl, sym, ap, ap₂, ◌∙◌, arith}
 use Rattle.std.specs.Prelude.{◌&&◌, ◌||◌, ◌==◌, nat_lt, nat_le, min, max}
+use Rattle.std.specs.Cmp.{both_ways}
 use Rattle.std.specs.List.{list_all}
 use Rattle.std.specs.List.Sorted.{IsNonDecreasingBy}
 use Rattle.std.proofs.lemmas.Bool.{cases_eq, cases_Bool, and_parts, or_from, or_right}
@@ -138,14 +139,9 @@ apart-swap rs a b p q each i j d up within =
 apart-permutation : (xs ys : List Range) → IsPermutation xs ys → are_apart xs ≡ true → are_apart ys ≡ true
 apart-permutation xs ys moved apart = apart_from_places ys (IsPermutation-keeps xs AreApartAt (apart_at xs apart) apart-swap ys moved)
 
-same_test : (a b : Bool) → (a ≡ true → b ≡ true) → (b ≡ true → a ≡ true) → a ≡ b
-same_test true b there back = sym (there refl)
-same_test false true there back = back refl
-same_test false false there back = refl
-
 are_apart-permutation : (xs ys : List Range) → IsPermutation xs ys → are_apart xs ≡ are_apart ys
 are_apart-permutation xs ys moved =
-    same_test (are_apart xs) (are_apart ys) (apart-permutation xs ys moved) (apart-permutation ys xs (IsPermutation-sym xs ys moved))
+    both_ways (are_apart xs) (are_apart ys) (apart-permutation xs ys moved) (apart-permutation ys xs (IsPermutation-sym xs ys moved))
 
 family-permutation : (f : Family) (xs ys : List Range) → IsPermutation xs ys → list_all (has_address_of f) xs ≡ true → list_all (has_address_of f) ys ≡ true
 family-permutation f xs ys moved all =

@@ -1,5 +1,5 @@
 -- What a range keeps that is read.
-use Rattle.std.proofs.Common.{◌≡◌, ℕ, ◌-◌, ◌≤◌, ◌<◌, true, List, codes, Option, Some, None, Ok, refl, sym, ◌∙◌, subst, arith}
+use Rattle.std.proofs.Common.{◌≡◌, ℕ, ◌<◌, true, List, codes, Some, Ok, refl, sym, ◌∙◌, subst, arith}
 use Rattle.serde_json.specs.Data.{Data}
 use Rattle.cni_json.specs.declared.fields.Field.{Field}
 use Rattle.cni_json.specs.declared.fields.Field.TheVariants.{Absent, WrongKind, Here}

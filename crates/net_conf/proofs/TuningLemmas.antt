@@ -1,5 +1,5 @@
 -- One more step through a text, and through the members of an object.
-use Rattle.std.proofs.Common.{◌≡◌, ℕ, zero, suc, ◌+◌, ◌<◌, ◌||◌, false, List, [], ◌∷◌, ◌++◌, length, drop, nat_eq, Result, Ok, refl, sym, arith, add-one}
+use Rattle.std.proofs.Common.{◌≡◌, ℕ, zero, suc, ◌+◌, ◌<◌, ◌||◌, false, List, [], ◌∷◌, ◌++◌, length, drop, nat_eq, Ok, refl, sym, arith, add-one}
 use Rattle.std.proofs.lemmas.List.{take_rest}
 use Rattle.std.specs.List.{starts_with}
 use Rattle.serde_json.specs.Data.{Data, Members, member}
@@ -8,7 +8,6 @@ use Rattle.cni_json.specs.Each.{with_front}
 use Rattle.net_conf.specs.Members.{is_null}
 use Rattle.net_conf.specs.Tuning.{has_part, settings_of, setting_of}
 use Rattle.net_conf.specs.declared.chained.Sysctl.{Sysctl}
-use Rattle.net_conf.specs.declared.error.ConfError.{ConfError}
 
 has_part-suc : (part text : List ℕ) (i : ℕ) → i < length text → has_part part (drop i text) ≡ (starts_with nat_eq (drop i text) part || has_part part (drop (suc i) text))
 has_part-suc part [] i within = absurd (omega arith)

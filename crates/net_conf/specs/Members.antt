@@ -1,8 +1,8 @@
 -- Members of a plugin's object, each with its refusal.
-use Rattle.std.specs.Prelude.{◌==◌, ◌&&◌, ℕ, List, codes, Bool, nat_le, if◌then◌else◌, Result, Ok, Option, Some, None, unwrap_or, is_some, ⊤}
+use Rattle.std.specs.Prelude.{◌==◌, ◌&&◌, ℕ, List, codes, Bool, nat_le, if◌then◌else◌, Result, Ok, Option, Some, None, unwrap_or, is_some}
 use Rattle.serde_json.specs.Data.{Data}
 use Rattle.serde_json.specs.Find.{as_null}
-use Rattle.cni_json.specs.Fields.{bool_field, u64_field, member_or, object_or}
+use Rattle.cni_json.specs.Fields.{bool_field, u64_field, member_or}
 use Rattle.cni_json.specs.Outcome.{◌>>=◌}
 use Rattle.cni_json.specs.declared.fields.Field.{Field}
 use Rattle.net_conf.specs.Names.{is_interface_name}

@@ -1,4 +1,4 @@
-use Rattle.std.proofs.Common.{true, sym, ◌∙◌}
+use Rattle.std.proofs.Common.{sym, ◌∙◌}
 use Rattle.net_conf.proofs.ApartLemmas.{ascends_put_in_order}
 use Rattle.net_conf.proofs.apart.share_no_address.Goals as goal
 
