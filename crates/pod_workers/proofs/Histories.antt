@@ -1,5 +1,6 @@
 -- Histories with one entry more, and answers with one that is written.
-use Rattle.std.proofs.Common.{◌≡◌, ◌≢◌, ℕ, zero, suc, ◌+◌, ◌<◌, ◌≤◌, List, [], ◌∷◌, ◌++◌, length, Some, slice_get, slice_set, refl, sym, ◌∙◌, ap, inl, inr, ◌⊎◌, arith}
+use Rattle.std.proofs.Common.{◌≡◌, ◌≢◌, ℕ, zero, suc, ◌+◌, ◌-◌, ◌<◌, ◌≤◌, List, [], ◌∷◌, ◌++◌, length, Some, slice_get, slice_set, refl, sym, ◌∙◌, ap, inl, inr, ◌⊎◌, arith}
+use Rattle.std.proofs.lemmas.List.{length-append}
 use Rattle.std.proofs.lemmas.Option.{same_Some, none-some}
 use Rattle.std.proofs.lemmas.Bool.Decides.{eqb_tells}
 use Rattle.kernel_types.specs.declared.object.Host.{Host}
@@ -72,15 +73,29 @@ has_reply n h before rest e at own none =
       | inr f ↦ absurd (f.1 own)
     ]
 
+-- a history is empty, or has a last entry
+pub empty_or_last : (h : List Entry) → (h ≡ []) ⊎ ((before : List Entry) × (e : Entry) × (h ≡ before ++ e ∷ []))
+empty_or_last [] = inl refl
+empty_or_last (x ∷ xs) = elim (empty_or_last xs) [
+  | inl none ↦ inr ([], x, ap (λ l. x ∷ l) none)
+  | inr is ↦ inr (x ∷ is.0, is.1, ap (λ l. x ∷ l) is.2)
+]
+
+entry-at_end : (h : List Entry) (e : Entry) → slice_get (h ++ e ∷ []) (length h) ≡ Some e
+entry-at_end [] e = refl
+entry-at_end (x ∷ xs) e = entry-at_end xs e
+
 pub last_entry-append : (h : List Entry) (e : Entry) → last_entry (h ++ e ∷ []) ≡ Some e
-last_entry-append [] e = refl
-last_entry-append (x ∷ []) e = refl
-last_entry-append (x ∷ y ∷ ys) e = last_entry-append (y ∷ ys) e
+last_entry-append h e =
+    let long = length-append h (e ∷ []) in
+    let at : length (h ++ e ∷ []) - 1 ≡ length h = omega arith in
+    ap (slice_get (h ++ e ∷ [])) at ∙ entry-at_end h e
 
 pub last_entry-splits : (h : List Entry) (e : Entry) → last_entry h ≡ Some e → (before : List Entry) × (h ≡ before ++ e ∷ [])
-last_entry-splits [] e is = absurd (none-some e is)
-last_entry-splits (x ∷ []) e is = ([], ap (λ y. y ∷ []) (same_Some x e is))
-last_entry-splits (x ∷ y ∷ ys) e is = let s = last_entry-splits (y ∷ ys) e is in (x ∷ s.0, ap (λ l. x ∷ l) s.1)
+last_entry-splits h e is = elim (empty_or_last h) [
+  | inl none ↦ absurd (none-some e (ap last_entry (sym none) ∙ is))
+  | inr split ↦ (split.0, split.2 ∙ ap (λ x. split.0 ++ x ∷ []) (same_Some split.1 e (sym (last_entry-append split.0 split.1) ∙ ap last_entry (sym split.2) ∙ is)))
+]
 
 -- a command has an entry, or no reply
 pub entry_or_none : (n : ℕ) (h : List Entry) → (replies_of n h ≡ []) ⊎ ((before rest : List Entry) × (e : Entry) × (h ≡ before ++ e ∷ rest) × (e.command ≡ n + 1))
@@ -88,14 +103,6 @@ entry_or_none n [] = inl refl
 entry_or_none n (x ∷ xs) = elim (eqb_tells x.command (n + 1)) [
   | inl t ↦ inr ([], xs, x, refl, t.1)
   | inr f ↦ elim (entry_or_none n xs) [ inl none ↦ inl (rw f.0 none) | inr is ↦ inr (x ∷ is.0, is.1, is.2, ap (λ l. x ∷ l) is.3, is.4) ]
-]
-
--- a history is empty, or has a last entry
-pub empty_or_last : (h : List Entry) → (h ≡ []) ⊎ ((before : List Entry) × (e : Entry) × (h ≡ before ++ e ∷ []))
-empty_or_last [] = inl refl
-empty_or_last (x ∷ xs) = elim (empty_or_last xs) [
-  | inl none ↦ inr ([], x, ap (λ l. x ∷ l) none)
-  | inr is ↦ inr (x ∷ is.0, is.1, ap (λ l. x ∷ l) is.2)
 ]
 
 -- what was written is written back

@@ -1,15 +1,15 @@
 -- Who may step, by the index.
-use Rattle.std.proofs.Common.{◌≡◌, ◌≢◌, ℕ, suc, ◌+◌, ◌-◌, ◌<◌, ◌==◌, Bool, true, false, List, [], ◌∷◌, length, get_or, Option, Some, None, slice_get, refl, sym, ◌∙◌, ap, subst, arith, inl, inr}
+use Rattle.std.proofs.Common.{◌≡◌, ◌≢◌, ℕ, ◌+◌, ◌-◌, ◌<◌, ◌==◌, Bool, true, false, List, [], ◌∷◌, length, get_or, Option, Some, None, slice_get, refl, sym, ◌∙◌, ap, subst, arith, inl, inr}
 use Rattle.std.specs.Prelude.{MatchBool, ◌&&◌}
 use Rattle.std.proofs.lemmas.Bool.{false≢true, and_parts, eqb-true, eq-eqb}
 use Rattle.std.proofs.lemmas.Option.{same_Some, none-some, slice_get-get_or, slice_get_within}
 use Rattle.cni_verbs.specs.declared.answer.Answer.{Answer}
 use Rattle.kernel_types.specs.declared.object.Host.{Host}
 use Rattle.pod_file.specs.declared.command.Command.{Command}
-use Rattle.pod_workers.specs.Index.{IsIndex, IsLatest, IsPlaced, is_answered, is_cut_after, is_cut_by, is_open, is_place_in, lets_through, may_step_by}
+use Rattle.pod_workers.specs.Index.{IsIndex, IsLatest, IsPlaced, is_answered, is_cut_by, is_open, lets_through, may_step_by}
 use Rattle.pod_workers.specs.Plans.{Placed, commands_of, IsOf}
 use Rattle.pod_workers.specs.Slots.{IsKept}
-use Rattle.pod_workers.specs.World.{World, Blocks, IsAnswered, IsReady, IsReadyNumber, is_cut, is_cut_at, is_in_round, last_entry}
+use Rattle.pod_workers.specs.World.{World, Blocks, IsAnswered, IsReady, IsReadyNumber, cuts_round, is_cut, is_cut_at, is_in_round, is_there_in, last_entry}
 use Rattle.pod_workers.specs.declared.index.Place.{Place}
 use Rattle.pod_workers.specs.declared.plan.Entry.{Entry}
 use Rattle.pod_workers.specs.declared.slots.Slot.{Slot}
@@ -110,14 +110,7 @@ ready-tells b host slots places before w v n p number kept same is place tells =
 
 -- ---- where a round is stopped
 
-last-entry-is : (h : List Entry) → last_entry h ≡ slice_get h (length h - 1)
-last-entry-is [] = refl
-last-entry-is (e ∷ []) = refl
-last-entry-is (e ∷ f ∷ es) =
-    let same : suc (length (f ∷ es) - 1) ≡ length (e ∷ f ∷ es) - 1 = omega arith in
-    last-entry-is (f ∷ es) ∙ ap (slice_get (e ∷ f ∷ es)) same
-
-place-in-round : (rounds : List (List Command)) (commands : List Placed) (places : List Place) (round k : ℕ) → IsIndex rounds commands places → (o : Option Placed) → slice_get commands k ≡ o → (q : Option Place) → slice_get places k ≡ q → is_place_in round q ≡ is_in_round round o
+place-in-round : (rounds : List (List Command)) (commands : List Placed) (places : List Place) (round k : ℕ) → IsIndex rounds commands places → (o : Option Placed) → slice_get commands k ≡ o → (q : Option Place) → slice_get places k ≡ q → is_there_in (λ (p : Place). p.round) round q ≡ is_in_round round o
 place-in-round rounds commands places round k index (Some c) at_k (Some p) place_k = ap (λ r. r == round) (sym (index.each k c p at_k place_k).round_is)
 place-in-round rounds commands places round k index None at_k None place_k = refl
 place-in-round rounds commands places round k index (Some c) at_k None place_k =
@@ -125,15 +118,12 @@ place-in-round rounds commands places round k index (Some c) at_k None place_k =
 place-in-round rounds commands places round k index None at_k (Some p) place_k =
     absurd (let within = slice_get_within places k p place_k in let short : k < length commands = rw (sym index.long) within in none-some _ (sym at_k ∙ slice_get-get_or commands k (placed-default commands k short) short))
 
-cut-after : (w : World) (places : List Place) (number : ℕ) (o : Option Entry) → IsIndex w.plan.pods.rounds (commands_of w.plan) places → is_cut_after number w.history places w.round o ≡ is_cut_at (Some number) w o
-cut-after w places number None index = refl
-cut-after w places number (Some e) index =
+cut-at : (w : World) (places : List Place) (stop_at : Option ℕ) (last : Option Entry) → IsIndex w.plan.pods.rounds (commands_of w.plan) places → cuts_round (λ (p : Place). p.round) places w.round w.history stop_at last ≡ is_cut_at stop_at w last
+cut-at w places None last index = refl
+cut-at w places (Some number) None index = refl
+cut-at w places (Some number) (Some e) index =
     ap (λ b. length w.history == number && b)
     (place-in-round w.plan.pods.rounds (commands_of w.plan) places w.round (e.command - 1) index (slice_get (commands_of w.plan) (e.command - 1)) refl (slice_get places (e.command - 1)) refl)
 
-cut-at : (w : World) (places : List Place) (stop_at : Option ℕ) → IsIndex w.plan.pods.rounds (commands_of w.plan) places → is_cut_by stop_at w.history places w.round ≡ is_cut_at stop_at w (last_entry w.history)
-cut-at w places None index = refl
-cut-at w places (Some number) index = cut-after w places number (slice_get w.history (length w.history - 1)) index ∙ ap (is_cut_at (Some number) w) (sym (last-entry-is w.history))
-
 pub cut-is : (w : World) (places : List Place) (cut : Bool) → IsIndex w.plan.pods.rounds (commands_of w.plan) places → cut ≡ is_cut_by w.plan.stop_at w.history places w.round → cut ≡ is_cut w
-cut-is w places cut index tells = tells ∙ cut-at w places w.plan.stop_at index
+cut-is w places cut index tells = tells ∙ cut-at w places w.plan.stop_at (last_entry w.history) index

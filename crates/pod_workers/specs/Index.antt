@@ -1,8 +1,9 @@
 -- Where each command stands, and the command before it of its container in its round.
-use Rattle.std.specs.Prelude.{◌≡◌, ℕ, ◌+◌, ◌-◌, ◌<◌, ◌≤◌, ◌==◌, ◌&&◌, Bool, true, false, List, Option, Some, None, length, slice_get}
+use Rattle.std.specs.Prelude.{◌≡◌, ℕ, ◌+◌, ◌<◌, ◌≤◌, ◌==◌, ◌&&◌, Bool, true, false, List, Option, Some, None, length, slice_get}
 use Rattle.cni_verbs.specs.declared.answer.Answer.{Answer}
 use Rattle.pod_file.specs.declared.command.Command.{Command}
 use Rattle.pod_workers.specs.Plans.{Placed, IsOf}
+use Rattle.pod_workers.specs.World.{cuts_round, last_entry}
 use Rattle.pod_workers.specs.declared.index.Place.{Place}
 use Rattle.pod_workers.specs.declared.plan.Entry.{Entry}
 
@@ -61,14 +62,5 @@ may_step_by p answers round n = p.round == round && (is_open (slice_get answers 
 
 -- ---- where the plan stops a round, by the index
 
-abbrev pub is_place_in : ℕ → Option Place → Bool
-is_place_in round None = false
-is_place_in round (Some p) = p.round == round
-
-abbrev pub is_cut_after : ℕ → List Entry → List Place → ℕ → Option Entry → Bool
-is_cut_after number h places round None = false
-is_cut_after number h places round (Some e) = length h == number && is_place_in round (slice_get places (e.command - 1))
-
 abbrev pub is_cut_by : Option ℕ → List Entry → List Place → ℕ → Bool
-is_cut_by None h places round = false
-is_cut_by (Some number) h places round = is_cut_after number h places round (slice_get h (length h - 1))
+is_cut_by stop_at h places round = cuts_round (λ (p : Place). p.round) places round h stop_at (last_entry h)

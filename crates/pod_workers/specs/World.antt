@@ -61,19 +61,25 @@ is_stop None made = false
 is_stop (Some most) made = nat_le most made
 
 abbrev pub last_entry : List Entry → Option Entry
-last_entry [] = None
-last_entry (e ∷ []) = Some e
-last_entry (e ∷ f ∷ es) = last_entry (f ∷ es)
+last_entry h = slice_get h (length h - 1)
+
+-- something is there, and it is of this round
+abbrev pub is_there_in : {X : Type 0} → (X → ℕ) → ℕ → Option X → Bool
+is_there_in round_of round None = false
+is_there_in round_of round (Some x) = round_of x == round
 
 abbrev pub is_in_round : ℕ → Option Placed → Bool
-is_in_round round None = false
-is_in_round round (Some c) = c.round == round
+is_in_round round c = is_there_in (λ (c : Placed). c.round) round c
 
--- the entry of the plan's `stop_at` is the last one, and it is of the current round
+-- the last entry is the one that the plan's `stop_at` names, and it is of this round, by what stands at its command's
+-- place
+abbrev pub cuts_round : {X : Type 0} → (X → ℕ) → List X → ℕ → List Entry → Option ℕ → Option Entry → Bool
+cuts_round round_of items round h None last = false
+cuts_round round_of items round h (Some number) None = false
+cuts_round round_of items round h (Some number) (Some e) = length h == number && is_there_in round_of round (slice_get items (e.command - 1))
+
 abbrev pub is_cut_at : Option ℕ → World → Option Entry → Bool
-is_cut_at None w e = false
-is_cut_at (Some number) w None = false
-is_cut_at (Some number) w (Some e) = length w.history == number && is_in_round w.round (slice_get (commands_of w.plan) (e.command - 1))
+is_cut_at stop w last = cuts_round (λ (c : Placed). c.round) (commands_of w.plan) w.round w.history stop last
 
 abbrev pub is_cut : World → Bool
 is_cut w = is_cut_at w.plan.stop_at w (last_entry w.history)

@@ -4,12 +4,13 @@ ghost use Rattle.std.specs.Prelude.{◌≡◌, ◌+◌, ◌<◌, ◌^◌, ℕ, �
 ghost use Rattle.std.specs.Option.{option_copied};
 ghost use Rattle.cni_verbs.specs.declared.answer.Answer.TheVariants.{OutOfMemory};
 ghost use Rattle.pod_workers.specs.Extends.{Extends, Rounds};
-ghost use Rattle.pod_workers.specs.Index.{is_cut_by, is_place_in};
+ghost use Rattle.pod_workers.specs.Index.{is_cut_by};
 ghost use Rattle.pod_workers.specs.Legal.{Legal};
 ghost use Rattle.pod_workers.specs.Order.{EarlierAreAnswered, IsInFileOrder};
 ghost use Rattle.pod_workers.specs.Plans.{IsWellFormed, Placed, commands_of};
 ghost use Rattle.pod_workers.specs.Slots.{AreNumbersOf};
-ghost use Rattle.pod_workers.specs.World.{IsReadyNumber, IsRoundOver, answer_at, answer_in, answered, begun, end_of, host_of, next_of, next_round, own_replies, stepped};
+ghost use Rattle.pod_workers.specs.World.{IsReadyNumber, IsRoundOver, answer_at, answer_in, answered, begun, end_of, host_of, is_there_in, next_of, next_round, own_replies, stepped};
+ghost use Rattle.pod_workers.specs.declared.index.Place.{Place};
 
 use crate::index::{Place, command_at, index_of, may_step, place_at, round_at};
 use crate::plan::{Entry, Plan, StepEnd};
@@ -271,7 +272,7 @@ fn is_cut(stop_at: Option<u32>, history: &[Entry], places: &[Place], round: u32)
 }
 
 fn is_place_in(places: &[Place], command: u32, round: u32) -> bool
-    ensures { result ≡ is_place_in round (slice_get places.now (command - 1)) }
+    ensures { result ≡ is_there_in (λ (p : Place). p.round) round (slice_get places.now (command - 1)) }
 {
     match places.get(command.saturating_sub(1) as usize) {
         None => false,
