@@ -45,7 +45,7 @@ use Rattle.gc_sweep.specs.Trace.{Made, host_on}
 use Rattle.gc_sweep.proofs.Covered.{WorkKept, Next, work_step, work_start}
 use Rattle.gc_sweep.proofs.Deletions.{deletes}
 use Rattle.gc_sweep.proofs.Kept.{tags_within}
-use Rattle.gc_sweep.proofs.Lists.{list_all-none, list_all-sublist}
+use Rattle.gc_sweep.proofs.Lists.{list_all-none, list_all-drops}
 use Rattle.gc_sweep.proofs.Machine.{Point, start_point, point_after, IsTrail}
 use Rattle.gc_sweep.proofs.Owners.{is_stale, goes_own, own_goes, owners_cover, owners_stale, has_att}
 use Rattle.gc_sweep.proofs.Runs.{trail, early_or, early_makes_none}
@@ -112,7 +112,7 @@ all_of_kind p h Cached a = grind (arith, a, list_all-append {X = Tag})
 
 pub owners_at_start : (gc : Gc) (h k : Host) (kind : Kind) → IsWithin k h → length (stale_owners gc.network gc.valid (tags_of k kind)) ≤ length (stale_owners gc.network gc.valid (all_tags h))
 owners_at_start gc h k kind w =
-    fewer_owners gc.network gc.valid (tags_of k kind) (all_tags h) (λ p a. list_all-sublist p (tags_of k kind) (tags_of h kind) (tags_within k h kind w) (all_of_kind p h kind a))
+    fewer_owners gc.network gc.valid (tags_of k kind) (all_tags h) (λ p a. list_all-drops p (λ t. true) (tags_of h kind) (tags_of k kind) (tags_within k h kind w) (all_of_kind p h kind a))
 
 -- ---- each call lowers the weight
 

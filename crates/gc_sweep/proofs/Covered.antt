@@ -1,5 +1,5 @@
 -- What is left of a kind is still to be swept, or was blamed.
-use Rattle.std.proofs.Common.{◌≡◌, Bool, true, false, not, List, [], ◌∷◌, ◌++◌, Some, refl, sym, ◌∙◌, subst, arith}
+use Rattle.std.proofs.Common.{◌≡◌, ℕ, Bool, true, false, not, List, [], ◌∷◌, ◌++◌, Some, refl, sym, ◌∙◌, subst, arith}
 use Rattle.std.specs.Prelude.{map, ◌&&◌, ◌||◌}
 use Rattle.std.specs.List.{list_any, list_all}
 use Rattle.std.proofs.lemmas.Option.{same_Some, none-some}
@@ -18,6 +18,7 @@ use Rattle.kernel_types.specs.declared.call.Reply.{Reply}
 use Rattle.kernel_types.specs.declared.call.Reply.TheVariants.{Gone, Fault}
 use Rattle.kernel_types.proofs.ListLemmas.{list_all-weaker, list_any-map, list_all-map}
 use Rattle.kernel_types.proofs.TouchRemoval.{by_bool, list_all-both}
+use Rattle.pod_file.specs.declared.command.ValidAtt.{ValidAtt}
 use Rattle.cni_verbs.specs.Replies.{host_after, reply_to}
 use Rattle.cni_verbs.specs.Script.{call_of_work}
 use Rattle.cni_verbs.specs.Sweep.{Gc, Step, AskCached, Delete, Sweep, Job, step_call, job_of, after_step, work_after, all_sweeps}
@@ -26,7 +27,7 @@ use Rattle.gc_sweep.specs.Keep.{stays, goes}
 use Rattle.gc_sweep.specs.Trace.{Made, is_about, blames, is_blamed}
 use Rattle.kernel_types.specs.Codes.{kind_eq}
 use Rattle.gc_sweep.specs.Sweep.{is_excused}
-use Rattle.gc_sweep.proofs.Lists.{all_true, list_all-sublist, list_any-snoc, list_all-none}
+use Rattle.gc_sweep.proofs.Lists.{all_true, list_all-drops, list_any-snoc, list_all-none}
 use Rattle.gc_sweep.specs.Bound.{stale_owners}
 use Rattle.gc_sweep.proofs.Owners.{is_stale, owners_cover, owners_stale, has_att}
 use Rattle.gc_sweep.proofs.Deletions.{deletes}
@@ -174,10 +175,10 @@ done_more : (kind : Kind) (t : Tag) (att : Att) (more : List Step) (js : List Jo
 done_more kind t att [] js h = h
 done_more kind t att (s ∷ more) js h = grind (arith, h)
 
-done_stale : (gc : Gc) (att : Att) (more : List Step) (js : List Job) → is_stale gc.network gc.valid att ≡ true → list_all (λ (j : Job). is_stale gc.network gc.valid j.att) js ≡ true
-    → list_all (λ (j : Job). is_stale gc.network gc.valid j.att) (after_step att more js) ≡ true
-done_stale gc att [] js h g = g
-done_stale gc att (s ∷ more) js h g = grind (arith, h, g)
+pub done_stale : (network : List ℕ) (valid : List ValidAtt) (att : Att) (more : List Step) (js : List Job) → is_stale network valid att ≡ true → list_all (λ (j : Job). is_stale network valid j.att) js ≡ true
+    → list_all (λ (j : Job). is_stale network valid j.att) (after_step att more js) ≡ true
+done_stale network valid att [] js h g = g
+done_stale network valid att (s ∷ more) js h g = grind (arith, h, g)
 
 abbrev job : Att → Step → List Step → Job
 job att step more = record { att = att; step = step; more = more }
@@ -194,7 +195,7 @@ look_entry : (gc : Gc) (h : Host) (es : List Made) (att : Att) (more : List Step
 look_entry gc h es att more js ss k v = record {
   stays = v.stays;
   covered = λ kind. carry_all gc es (record { call = CacheGet att; reply = (apply k (CacheGet att)).1 }) (job att AskCached more ∷ js) (after_step att more js) ss ss kind (tags_of k kind) (λ t w. grind (arith, w, done_more kind t att more js)) (v.covered kind);
-  stale = let w = v.stale in done_stale gc att more js (grind (arith, w)) (grind (arith, w));
+  stale = let w = v.stale in done_stale gc.network gc.valid att more js (grind (arith, w)) (grind (arith, w));
   well = v.well;
 }
 
@@ -220,7 +221,7 @@ drop_gone gc h es att d more js ss k v =
     record {
       stays = stays_deleted gc att d h k (grind (arith, w)) v.stays;
       covered = λ kind. carry_all gc es (record { call = deletion att d; reply = Gone true }) (job att (Delete d) more ∷ js) (job att (Delete d) more ∷ js) ss ss kind (tags_of k' kind) (λ t w. grind (arith, w))
-          (list_all-sublist (is_covered gc es (job att (Delete d) more ∷ js) ss kind) (tags_of k' kind) (tags_of k kind) (tags_within k' k kind del.within) (v.covered kind));
+          (list_all-drops (is_covered gc es (job att (Delete d) more ∷ js) ss kind) (λ t. true) (tags_of k kind) (tags_of k' kind) (tags_within k' k kind del.within) (v.covered kind));
       stale = v.stale;
       well = v.well;
     }
@@ -246,7 +247,7 @@ drop_empty gc h es att d more js ss k v none =
     subst P (sym (del.none none)) (record {
       stays = v.stays;
       covered = λ kind. empty_covered gc es e att d more js ss k none kind (v.covered kind);
-      stale = done_stale gc att more js (grind (arith, w)) (grind (arith, w));
+      stale = done_stale gc.network gc.valid att more js (grind (arith, w)) (grind (arith, w));
       well = v.well;
     })
 

@@ -1,48 +1,32 @@
 -- What a deletion does to a sound host, for every kind.
 use Rattle.std.proofs.Common.{◌≡◌, ◌<◌, Bool, true, false, not, ap, List, [], ◌∷◌, Option, Some, None, length, map, refl, sym, ◌∙◌, arith}
-use Rattle.std.specs.Prelude.{filter, find, ◌&&◌}
+use Rattle.std.specs.Prelude.{filter, find}
 use Rattle.std.specs.List.{list_any}
 use Rattle.cni_addr.specs.Lists.{without_first}
-use Rattle.kernel_types.specs.Words.{is_own, is_at}
+use Rattle.kernel_types.specs.Words.{is_own}
 use Rattle.kernel_types.specs.Apply.{apply}
-use Rattle.kernel_types.specs.Apply.Calls.{tags_of, without_link, goes_with, without_links}
+use Rattle.kernel_types.specs.Apply.Calls.{tags_of, without_link, goes_with}
 use Rattle.kernel_types.specs.Sound.{IsSound}
+use Rattle.kernel_types.specs.Isolation.{RemovesOwn}
 use Rattle.kernel_types.specs.Touch.{TouchesOwn}
 use Rattle.kernel_types.specs.declared.object.Att.{Att}
 use Rattle.kernel_types.specs.declared.object.Tag.{Tag}
 use Rattle.kernel_types.specs.declared.object.Link.{Link}
 use Rattle.kernel_types.specs.declared.object.Host.{Host}
-use Rattle.kernel_types.specs.declared.object.Rule.{Rule}
-use Rattle.kernel_types.specs.declared.object.Setting.{Setting}
-use Rattle.kernel_types.specs.declared.object.Lease.{Lease}
-use Rattle.kernel_types.specs.declared.object.CachedObj.{CachedObj}
 use Rattle.kernel_types.specs.declared.call.Kind.{Kind}
 use Rattle.kernel_types.specs.declared.call.Kind.TheVariants.{Links, Rules, Settings, Leases, Cached}
 use Rattle.kernel_types.specs.declared.call.Reply.{Reply}
 use Rattle.kernel_types.specs.declared.call.Reply.TheVariants.{Gone}
 use Rattle.kernel_types.proofs.Deletes.{IsSound-rule_del, TouchesOwnAlone-rule_del, IsSound-setting_del, TouchesOwnAlone-setting_del, IsSound-lease_del, TouchesOwnAlone-lease_del, IsSound-cache_del, TouchesOwnAlone-cache_del}
+use Rattle.kernel_types.proofs.DropsOwn.{RemovesOwn-rule_del, RemovesOwn-setting_del, RemovesOwn-lease_del, RemovesOwn-cache_del, RemovesOwn-link_del}
 use Rattle.kernel_types.proofs.ListLemmas.{without_first-none, list_any-find_none, list_any-map, passes-find}
 use Rattle.kernel_types.proofs.Removal.{IsSound-link_del, goes_with-itself}
 use Rattle.kernel_types.proofs.TouchRemoval.{TouchesOwnAlone-link_del}
 use Rattle.cni_verbs.specs.Wanted.{deletion}
-use Rattle.gc_sweep.specs.Keep.{IsSublist, IsWithin}
-use Rattle.gc_sweep.proofs.Lists.{sublist_same, sublist_filter, sublist_without_first, count_without_first, count_sublist}
+use Rattle.gc_sweep.specs.Keep.{IsWithin}
+use Rattle.gc_sweep.proofs.Lists.{any-found, count_drops, count_without_first, drops-filter}
+use Rattle.gc_sweep.proofs.Removes.{within_own, within_same}
 use Rattle.gc_sweep.specs.Weights.{total}
-
--- ---- within
-
-pub within_same : (h : Host) → IsWithin h h
-within_same h = record {
-  namespaces = refl;
-  links = sublist_same h.links;
-  addresses = sublist_same h.addresses;
-  routes = sublist_same h.routes;
-  rules = sublist_same h.rules;
-  settings = sublist_same h.settings;
-  leases = sublist_same h.leases;
-  cached = sublist_same h.cached;
-  lasts = refl;
-}
 
 -- all that the layer above uses of a deletion, as a host and a reply
 pub record Deletes (a : Att) (kind : Kind) (h : Host) (step : Host × Reply) : Type 0 where
@@ -52,18 +36,6 @@ pub record Deletes (a : Att) (kind : Kind) (h : Host) (step : Host × Reply) : T
   pub reply : step.1 ≡ Gone (list_any (is_own a) (tags_of h kind))
   pub none : list_any (is_own a) (tags_of h kind) ≡ false → step.0 ≡ h
   pub fewer : (p : Tag → Bool) → ((t : Tag) → is_own a t ≡ true → p t ≡ true) → list_any (is_own a) (tags_of h kind) ≡ true → total p step.0 < total p h
-
-within_rules : (h : Host) (xs : List Rule) → IsSublist xs h.rules → IsWithin (record h { rules = xs }) h
-within_rules h xs s = record { namespaces = refl; links = sublist_same h.links; addresses = sublist_same h.addresses; routes = sublist_same h.routes; rules = s; settings = sublist_same h.settings; leases = sublist_same h.leases; cached = sublist_same h.cached; lasts = refl }
-
-within_settings : (h : Host) (xs : List Setting) → IsSublist xs h.settings → IsWithin (record h { settings = xs }) h
-within_settings h xs s = record { namespaces = refl; links = sublist_same h.links; addresses = sublist_same h.addresses; routes = sublist_same h.routes; rules = sublist_same h.rules; settings = s; leases = sublist_same h.leases; cached = sublist_same h.cached; lasts = refl }
-
-within_leases : (h : Host) (xs : List Lease) → IsSublist xs h.leases → IsWithin (record h { leases = xs }) h
-within_leases h xs s = record { namespaces = refl; links = sublist_same h.links; addresses = sublist_same h.addresses; routes = sublist_same h.routes; rules = sublist_same h.rules; settings = sublist_same h.settings; leases = s; cached = sublist_same h.cached; lasts = refl }
-
-within_cached : (h : Host) (xs : List CachedObj) → IsSublist xs h.cached → IsWithin (record h { cached = xs }) h
-within_cached h xs s = record { namespaces = refl; links = sublist_same h.links; addresses = sublist_same h.addresses; routes = sublist_same h.routes; rules = sublist_same h.rules; settings = sublist_same h.settings; leases = sublist_same h.leases; cached = s; lasts = refl }
 
 -- One list loses the first of the attachment's objects, and nothing else changes. `put` sets that list in a host, and
 -- `more` is what the other lists add to a total.
@@ -87,49 +59,32 @@ deletes_first a kind h tag_of xs put left any is_left is_any tags same less soun
 deletes_rules : (a : Att) (h : Host) → IsSound h → Deletes a Rules h (apply h (deletion a Rules))
 deletes_rules a h sound =
     deletes_first a Rules h (λ x. x.tag) h.rules (λ xs. record h { rules = xs }) _ _ refl refl refl refl (λ p c. omega arith) (IsSound-rule_del h a sound) (TouchesOwnAlone-rule_del h a).own
-    (within_rules h _ (sublist_without_first (λ x. is_own a x.tag) h.rules))
+    (within_own a h _ (RemovesOwn-rule_del h a))
 
 deletes_settings : (a : Att) (h : Host) → IsSound h → Deletes a Settings h (apply h (deletion a Settings))
 deletes_settings a h sound =
     deletes_first a Settings h (λ x. x.tag) h.settings (λ xs. record h { settings = xs }) _ _ refl refl refl refl (λ p c. omega arith) (IsSound-setting_del h a sound) (TouchesOwnAlone-setting_del h a).own
-    (within_settings h _ (sublist_without_first (λ x. is_own a x.tag) h.settings))
+    (within_own a h _ (RemovesOwn-setting_del h a))
 
 deletes_leases : (a : Att) (h : Host) → IsSound h → Deletes a Leases h (apply h (deletion a Leases))
 deletes_leases a h sound =
     deletes_first a Leases h (λ x. x.tag) h.leases (λ xs. record h { leases = xs }) _ _ refl refl refl refl (λ p c. omega arith) (IsSound-lease_del h a sound) (TouchesOwnAlone-lease_del h a).own
-    (within_leases h _ (sublist_without_first (λ x. is_own a x.tag) h.leases))
+    (within_own a h _ (RemovesOwn-lease_del h a))
 
 deletes_cached : (a : Att) (h : Host) → IsSound h → Deletes a Cached h (apply h (deletion a Cached))
 deletes_cached a h sound =
     deletes_first a Cached h (λ x. x.tag) h.cached (λ xs. record h { cached = xs }) _ _ refl refl refl refl (λ p c. omega arith) (IsSound-cache_del h a sound) (TouchesOwnAlone-cache_del h a).own
-    (within_cached h _ (sublist_without_first (λ x. is_own a x.tag) h.cached))
+    (within_own a h _ (RemovesOwn-cache_del h a))
 
 -- ---- links go with their peers
-
-pub any-found : {X : Type 0} (p : X → Bool) (xs : List X) (y : X) → find p xs ≡ Some y → list_any p xs ≡ true
-any-found p [] y h = cc
-any-found p (x ∷ xs) y h = grind (arith, h, any-found p xs y)
 
 -- the link that was found passes and goes, so fewer pass
 count_found : {X : Type 0} (own gone pass : X → Bool) (xs : List X) (y : X) → find own xs ≡ Some y → gone y ≡ true → pass y ≡ true → length (filter pass (filter (λ x. not (gone x)) xs)) < length (filter pass xs)
 count_found own gone pass [] y f g w = cc
-count_found own gone pass (x ∷ xs) y f g w = let rest = count_sublist pass (filter (λ z. not (gone z)) xs) xs (sublist_filter (λ z. not (gone z)) xs) in grind (arith, f, g, w, rest, count_found own gone pass xs y)
+count_found own gone pass (x ∷ xs) y f g w = let rest = count_drops pass (λ z. true) xs (filter (λ z. not (gone z)) xs) (drops-filter (λ z. not (gone z)) xs) in grind (arith, f, g, w, rest, count_found own gone pass xs y)
 
-within_links : (h : Host) (gone : Link → Bool) → IsWithin (without_links gone h) h
-within_links h gone = record {
-  namespaces = refl;
-  links = sublist_filter (λ l. not (gone l)) h.links;
-  addresses = sublist_filter (λ a. not (list_any (λ l. gone l && is_at a.ns a.link l) h.links)) h.addresses;
-  routes = sublist_filter (λ r. not (list_any (λ l. gone l && is_at r.ns r.link l) h.links)) h.routes;
-  rules = sublist_same h.rules;
-  settings = sublist_same h.settings;
-  leases = sublist_same h.leases;
-  cached = sublist_same h.cached;
-  lasts = refl;
-}
-
-deletes_found : (a : Att) (h : Host) (o : Option Link) → find (λ l. is_own a l.tag) h.links ≡ o → IsSound h → IsSound (without_link h o).0 → TouchesOwn a h (without_link h o).0 → Deletes a Links h (without_link h o)
-deletes_found a h None is sound new touch =
+deletes_found : (a : Att) (h : Host) (o : Option Link) → find (λ l. is_own a l.tag) h.links ≡ o → IsSound h → IsSound (without_link h o).0 → RemovesOwn a h (without_link h o).0 → TouchesOwn a h (without_link h o).0 → Deletes a Links h (without_link h o)
+deletes_found a h None is sound new removes touch =
     let any = list_any-map (is_own a) (λ (x : Link). x.tag) h.links in
     let none = list_any-find_none (λ l. is_own a l.tag) h.links is in
     record {
@@ -140,20 +95,21 @@ deletes_found a h None is sound new touch =
       none = λ e. refl;
       fewer = λ p w e. let off = sym (any ∙ none) ∙ e in cc;
     }
-deletes_found a h (Some l) is sound new touch =
+deletes_found a h (Some l) is sound new removes touch =
     let any = list_any-map (is_own a) (λ (x : Link). x.tag) h.links in
-    let some = any-found (λ l. is_own a l.tag) h.links l is in
+    let own = passes-find (λ x. is_own a x.tag) h.links l is in
+    let some = any-found (λ l. is_own a l.tag) (λ l. is_own a l.tag) h.links l is own in
     record {
       sound = new;
       touch = touch;
-      within = within_links h (goes_with l.ns l.name);
+      within = within_own a h _ removes;
       reply = ap Gone (sym (any ∙ some));
       none = λ e. let off = sym (any ∙ some) ∙ e in cc;
-      fewer = λ p w e. let c = count_found (λ x. is_own a x.tag) (goes_with l.ns l.name) (λ x. p x.tag) h.links l is (goes_with-itself l) (w l.tag (passes-find (λ x. is_own a x.tag) h.links l is)) in omega arith;
+      fewer = λ p w e. let c = count_found (λ x. is_own a x.tag) (goes_with l.ns l.name) (λ x. p x.tag) h.links l is (goes_with-itself l) (w l.tag own) in omega arith;
     }
 
 pub deletes : (a : Att) (kind : Kind) (h : Host) → IsSound h → Deletes a kind h (apply h (deletion a kind))
-deletes a Links h sound = deletes_found a h (find (λ l. is_own a l.tag) h.links) refl sound (IsSound-link_del h a sound) (TouchesOwnAlone-link_del h a sound).own
+deletes a Links h sound = deletes_found a h (find (λ l. is_own a l.tag) h.links) refl sound (IsSound-link_del h a sound) (RemovesOwn-link_del h a sound) (TouchesOwnAlone-link_del h a sound).own
 deletes a Rules h sound = deletes_rules a h sound
 deletes a Settings h sound = deletes_settings a h sound
 deletes a Leases h sound = deletes_leases a h sound

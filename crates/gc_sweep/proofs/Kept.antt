@@ -5,7 +5,7 @@ use Rattle.kernel_types.specs.Apply.Calls.{tags_of}
 use Rattle.kernel_types.specs.Sound.{IsSound}
 use Rattle.kernel_types.specs.Words.{is_own}
 use Rattle.kernel_types.specs.declared.object.Tag.{Tag}
-use Rattle.kernel_types.specs.Touch.{TouchesOwn}
+use Rattle.kernel_types.specs.Touch.{DropsOnly, TouchesOwn}
 use Rattle.kernel_types.proofs.Isolation.{KeepsWhere-TouchesOwn}
 use Rattle.kernel_types.specs.declared.object.Att.{Att}
 use Rattle.kernel_types.specs.declared.object.Host.{Host}
@@ -21,34 +21,22 @@ use Rattle.kernel_types.specs.declared.object.NsObj.{NsObj}
 use Rattle.kernel_types.specs.declared.call.Kind.{Kind}
 use Rattle.kernel_types.specs.declared.call.Kind.TheVariants.{Links, Rules, Settings, Leases, Cached}
 use Rattle.cni_verbs.specs.Sweep.{Gc}
-use Rattle.gc_sweep.specs.Keep.{stays, keep, IsSublist, IsWithin}
+use Rattle.gc_sweep.specs.Keep.{stays, keep, IsWithin}
 use Rattle.cni_verbs.specs.Wanted.{deletion}
-use Rattle.gc_sweep.proofs.Lists.{sublist_trans, sublist_map}
+use Rattle.gc_sweep.proofs.Lists.{drops-map}
 use Rattle.gc_sweep.proofs.Owners.{is_stale, own_goes}
-use Rattle.gc_sweep.proofs.Deletions.{deletes, within_same}
+use Rattle.gc_sweep.proofs.Deletions.{deletes}
+use Rattle.gc_sweep.proofs.Removes.{within_same, within_trans}
 
 -- ---- the hosts
 
-pub within_trans : (a b c : Host) → IsWithin a b → IsWithin b c → IsWithin a c
-within_trans a b c p q = record {
-  namespaces = p.namespaces ∙ q.namespaces;
-  links = sublist_trans a.links b.links c.links p.links q.links;
-  addresses = sublist_trans a.addresses b.addresses c.addresses p.addresses q.addresses;
-  routes = sublist_trans a.routes b.routes c.routes p.routes q.routes;
-  rules = sublist_trans a.rules b.rules c.rules p.rules q.rules;
-  settings = sublist_trans a.settings b.settings c.settings p.settings q.settings;
-  leases = sublist_trans a.leases b.leases c.leases p.leases q.leases;
-  cached = sublist_trans a.cached b.cached c.cached p.cached q.cached;
-  lasts = p.lasts ∙ q.lasts;
-}
-
 -- the tags of a kind only get fewer
-pub tags_within : (a b : Host) (kind : Kind) → IsWithin a b → IsSublist (tags_of a kind) (tags_of b kind)
-tags_within a b Links p = sublist_map (λ x. x.tag) a.links b.links p.links
-tags_within a b Rules p = sublist_map (λ x. x.tag) a.rules b.rules p.rules
-tags_within a b Settings p = sublist_map (λ x. x.tag) a.settings b.settings p.settings
-tags_within a b Leases p = sublist_map (λ x. x.tag) a.leases b.leases p.leases
-tags_within a b Cached p = sublist_map (λ x. x.tag) a.cached b.cached p.cached
+pub tags_within : (a b : Host) (kind : Kind) → IsWithin a b → DropsOnly (λ t. true) (tags_of b kind) (tags_of a kind)
+tags_within a b Links p = drops-map (λ x. x.tag) b.links a.links p.removes.links
+tags_within a b Rules p = drops-map (λ x. x.tag) b.rules a.rules p.removes.rules
+tags_within a b Settings p = drops-map (λ x. x.tag) b.settings a.settings p.removes.settings
+tags_within a b Leases p = drops-map (λ x. x.tag) b.leases a.leases p.removes.leases
+tags_within a b Cached p = drops-map (λ x. x.tag) b.cached a.cached p.removes.cached
 
 abbrev host_with : List NsObj → List Link → List AddrObj → List RouteObj → List Rule → List Setting → List Lease → List CachedObj → List Last → Host
 host_with x1 x2 x3 x4 x5 x6 x7 x8 x9 = record { namespaces = x1; links = x2; addresses = x3; routes = x4; rules = x5; settings = x6; leases = x7; cached = x8; lasts = x9 }

@@ -33,7 +33,7 @@ use Rattle.gc_sweep.specs.Trace.{Made, host_on, host_from, is_blamed, Ends, IsRu
 use Rattle.cni_verbs.specs.Progress.{is_gc}
 use Rattle.gc_sweep.proofs.Covered.{WorkKept, Next, is_covered, work_step, work_start}
 use Rattle.gc_sweep.proofs.Kept.{Stays, stays_start, host_of_parts}
-use Rattle.gc_sweep.proofs.Lists.{filter_all, sublist_filter}
+use Rattle.gc_sweep.proofs.Lists.{drops-filter, filter_all}
 use Rattle.gc_sweep.proofs.Machine.{Point, start_point, point_after, point_from, IsTrail}
 use Rattle.gc_sweep.proofs.Runs.{trail, done, early_or, early_makes_none, early_not_yes}
 
@@ -136,13 +136,15 @@ namespaces_stay gc k sound =
 pub keep_within : (gc : Gc) (k : Host) → IsSound k → IsWithin (keep gc.network gc.valid k) k
 keep_within gc k sound = record {
   namespaces = namespaces_stay gc k sound;
-  links = sublist_filter (λ x. stays gc.network gc.valid x.tag) k.links;
-  addresses = sublist_filter (λ x. stays gc.network gc.valid x.tag) k.addresses;
-  routes = sublist_filter (λ x. stays gc.network gc.valid x.tag) k.routes;
-  rules = sublist_filter (λ x. stays gc.network gc.valid x.tag) k.rules;
-  settings = sublist_filter (λ x. stays gc.network gc.valid x.tag) k.settings;
-  leases = sublist_filter (λ x. stays gc.network gc.valid x.tag) k.leases;
-  cached = sublist_filter (λ x. stays gc.network gc.valid x.tag) k.cached;
+  removes = record {
+    links = drops-filter (λ x. stays gc.network gc.valid x.tag) k.links;
+    addresses = drops-filter (λ x. stays gc.network gc.valid x.tag) k.addresses;
+    routes = drops-filter (λ x. stays gc.network gc.valid x.tag) k.routes;
+    rules = drops-filter (λ x. stays gc.network gc.valid x.tag) k.rules;
+    settings = drops-filter (λ x. stays gc.network gc.valid x.tag) k.settings;
+    leases = drops-filter (λ x. stays gc.network gc.valid x.tag) k.leases;
+    cached = drops-filter (λ x. stays gc.network gc.valid x.tag) k.cached;
+  };
   lasts = refl;
 }
 

@@ -8,4 +8,5 @@ pub mod Machine
 pub mod Owners
 pub mod Phases
 pub mod Places
+pub mod Removes
 pub mod Runs

@@ -1,75 +1,71 @@
--- Laws of sublists and filters, for a list of any objects.
-use Rattle.std.proofs.Common.{◌≡◌, ◌<◌, ◌≤◌, Bool, true, false, not, cond, ap, List, [], ◌∷◌, ◌++◌, length, refl, ◌∙◌, inl, inr, arith}
-use Rattle.std.specs.Prelude.{filter, map, ◌||◌, if◌then◌else◌}
+-- Laws of lists that lost elements and of filters, for a list of any objects.
+use Rattle.std.proofs.Common.{◌≡◌, ◌<◌, ◌≤◌, Bool, true, false, not, cond, ap, List, [], ◌∷◌, ◌++◌, length, Some, refl, sym, ◌∙◌, subst, inl, inr, arith}
+use Rattle.std.specs.Prelude.{filter, find, map, ◌||◌}
 use Rattle.std.specs.List.{list_any, list_all}
 use Rattle.cni_addr.specs.Lists.{without_first}
-use Rattle.gc_sweep.specs.Keep.{IsSublist}
+use Rattle.kernel_types.specs.Touch.{DropsOnly}
+use Rattle.kernel_types.proofs.ChangeLemmas.{DropsOnly-filter, DropsOnly-nothing}
 
--- ---- sublists
+pub all_true : {X : Type 0} (p : X → Bool) → ((x : X) → p x ≡ true) → (xs : List X) → list_all p xs ≡ true
+all_true p w [] = refl
+all_true p w (x ∷ xs) = grind (arith, w x, all_true p w xs)
 
-pub sublist_same : {X : Type 0} (xs : List X) → IsSublist xs xs
-sublist_same [] = tt
-sublist_same (x ∷ xs) = inl (refl, sublist_same xs)
+-- ---- lists that lost elements
 
-pub sublist_skip : {X : Type 0} (xs ys : List X) (y : X) → IsSublist xs ys → IsSublist xs (y ∷ ys)
-sublist_skip [] ys y s = tt
-sublist_skip (x ∷ xs) ys y s = inr s
+pub drops : {X : Type 0} (gone : X → Bool) (old new : List X) → DropsOnly gone old new → DropsOnly (λ x. true) old new
+drops gone [] new d = d
+drops gone (x ∷ old) [] d = (refl, drops gone old [] d.1)
+drops gone (x ∷ old) (y ∷ new) d = elim d [ inl same ↦ inl (same.0, drops gone old new same.1) | inr drop ↦ inr (refl, drops gone old (y ∷ new) drop.1) ]
 
-pub sublist_trans : {X : Type 0} (xs ys zs : List X) → IsSublist xs ys → IsSublist ys zs → IsSublist xs zs
-sublist_trans [] ys zs p q = tt
-sublist_trans (x ∷ xs) [] zs p q = absurd p
-sublist_trans (x ∷ xs) (y ∷ ys) [] p q = absurd q
-sublist_trans (x ∷ xs) (y ∷ ys) (z ∷ zs) p q =
-    elim q [
-      | inl same ↦ elim p [
-        | inl here ↦ inl (here.0 ∙ same.0, sublist_trans xs ys zs here.1 same.1)
-        | inr later ↦ inr (sublist_trans (x ∷ xs) ys zs later same.1)
+pub drops-same : {X : Type 0} (old new : List X) → new ≡ old → DropsOnly (λ x. true) old new
+drops-same old new e = subst (DropsOnly (λ x. true) old) (sym e) (DropsOnly-nothing (λ x. true) old)
+
+pub drops-filter : {X : Type 0} (keep : X → Bool) (xs : List X) → DropsOnly (λ x. true) xs (filter keep xs)
+drops-filter keep xs = DropsOnly-filter (λ x. true) keep xs (all_true (λ x. keep x || true) (λ x. grind arith) xs)
+
+pub drops-trans : {X : Type 0} (gone : X → Bool) (xs ys zs : List X) → DropsOnly gone xs ys → DropsOnly gone ys zs → DropsOnly gone xs zs
+drops-trans gone [] ys zs p q = subst (λ l. DropsOnly gone l zs) p q
+drops-trans gone (x ∷ xs) [] [] p q = p
+drops-trans gone (x ∷ xs) [] (z ∷ zs) p q = cc
+drops-trans gone (x ∷ xs) (y ∷ ys) [] p q =
+    elim p [
+      | inl same ↦ (ap gone same.0 ∙ q.0, drops-trans gone xs ys [] same.1 q.1)
+      | inr drop ↦ (drop.0, drops-trans gone xs (y ∷ ys) [] drop.1 q)
+    ]
+drops-trans gone (x ∷ xs) (y ∷ ys) (z ∷ zs) p q =
+    elim p [
+      | inl same ↦ elim q [
+        | inl here ↦ inl (same.0 ∙ here.0, drops-trans gone xs ys zs same.1 here.1)
+        | inr later ↦ inr (ap gone same.0 ∙ later.0, drops-trans gone xs ys (z ∷ zs) same.1 later.1)
       ]
-      | inr more ↦ inr (sublist_trans (x ∷ xs) (y ∷ ys) zs p more)
+      | inr drop ↦ inr (drop.0, drops-trans gone xs (y ∷ ys) (z ∷ zs) drop.1 q)
     ]
 
-keeps_or_skips : {X : Type 0} (b : Bool) (x : X) (zs xs : List X) → IsSublist zs xs → IsSublist (cond b (x ∷ zs) zs) (x ∷ xs)
-keeps_or_skips true x zs xs s = inl (refl, s)
-keeps_or_skips false x zs xs s = sublist_skip zs xs x s
+pub drops-map : {X Y : Type 0} (f : X → Y) (xs ys : List X) → DropsOnly (λ x. true) xs ys → DropsOnly (λ y. true) (map f xs) (map f ys)
+drops-map f [] ys d = ap (map f) d
+drops-map f (x ∷ xs) [] d = (refl, drops-map f xs [] d.1)
+drops-map f (x ∷ xs) (y ∷ ys) d = elim d [ inl same ↦ inl (ap f same.0, drops-map f xs ys same.1) | inr drop ↦ inr (refl, drops-map f xs (y ∷ ys) drop.1) ]
 
-pub sublist_filter : {X : Type 0} (p : X → Bool) (xs : List X) → IsSublist (filter p xs) xs
-sublist_filter p [] = tt
-sublist_filter p (x ∷ xs) = keeps_or_skips (p x) x (filter p xs) xs (sublist_filter p xs)
-
-ends_or_goes_on : {X : Type 0} (b : Bool) (x : X) (zs xs : List X) → IsSublist zs xs → IsSublist (if b then xs else x ∷ zs) (x ∷ xs)
-ends_or_goes_on true x zs xs s = sublist_skip xs xs x (sublist_same xs)
-ends_or_goes_on false x zs xs s = inl (refl, s)
-
-pub sublist_without_first : {X : Type 0} (p : X → Bool) (xs : List X) → IsSublist (without_first p xs) xs
-sublist_without_first p [] = tt
-sublist_without_first p (x ∷ xs) = ends_or_goes_on (p x) x (without_first p xs) xs (sublist_without_first p xs)
-
-pub sublist_map : {X Y : Type 0} (f : X → Y) (xs ys : List X) → IsSublist xs ys → IsSublist (map f xs) (map f ys)
-sublist_map f [] ys s = tt
-sublist_map f (x ∷ xs) [] s = absurd s
-sublist_map f (x ∷ xs) (y ∷ ys) s =
-    elim s [ inl here ↦ inl (ap f here.0, sublist_map f xs ys here.1) | inr later ↦ inr (sublist_map f (x ∷ xs) ys later) ]
-
-pub list_all-sublist : {X : Type 0} (p : X → Bool) (xs ys : List X) → IsSublist xs ys → list_all p ys ≡ true → list_all p xs ≡ true
-list_all-sublist p [] ys s h = refl
-list_all-sublist p (x ∷ xs) [] s h = absurd s
-list_all-sublist p (x ∷ xs) (y ∷ ys) s h =
-    elim s [
-      | inl here ↦ let rest = list_all-sublist p xs ys here.1 in let same = here.0 in grind (arith, h, rest, ap p same)
-      | inr later ↦ list_all-sublist p (x ∷ xs) ys later (grind (arith, h))
+pub list_all-drops : {X : Type 0} (p gone : X → Bool) (xs ys : List X) → DropsOnly gone xs ys → list_all p xs ≡ true → list_all p ys ≡ true
+list_all-drops p gone [] ys d h = ap (list_all p) d
+list_all-drops p gone (x ∷ xs) [] d h = refl
+list_all-drops p gone (x ∷ xs) (y ∷ ys) d h =
+    elim d [
+      | inl same ↦ let rest = list_all-drops p gone xs ys same.1 (grind (arith, h)) in let e = same.0 in grind (arith, h, rest, ap p e)
+      | inr drop ↦ list_all-drops p gone xs (y ∷ ys) drop.1 (grind (arith, h))
     ]
 
 count_step : {X : Type 0} (b : Bool) (x : X) (ys : List X) → length ys ≤ length (cond b (x ∷ ys) ys)
 count_step true x ys = omega arith
 count_step false x ys = omega arith
 
-pub count_sublist : {X : Type 0} (p : X → Bool) (xs ys : List X) → IsSublist xs ys → length (filter p xs) ≤ length (filter p ys)
-count_sublist p [] ys s = omega arith
-count_sublist p (x ∷ xs) [] s = absurd s
-count_sublist p (x ∷ xs) (y ∷ ys) s =
-    elim s [
-      | inl here ↦ let rest = count_sublist p xs ys here.1 in let same = here.0 in grind (arith, rest, ap p same)
-      | inr later ↦ let rest = count_sublist p (x ∷ xs) ys later in let more = count_step (p y) y (filter p ys) in omega arith
+pub count_drops : {X : Type 0} (p gone : X → Bool) (xs ys : List X) → DropsOnly gone xs ys → length (filter p ys) ≤ length (filter p xs)
+count_drops p gone [] ys d = rw d (omega arith)
+count_drops p gone (x ∷ xs) [] d = omega arith
+count_drops p gone (x ∷ xs) (y ∷ ys) d =
+    elim d [
+      | inl same ↦ let rest = count_drops p gone xs ys same.1 in let e = same.0 in grind (arith, rest, ap p e)
+      | inr drop ↦ let rest = count_drops p gone xs (y ∷ ys) drop.1 in let more = count_step (p x) x (filter p xs) in omega arith
     ]
 
 -- ---- filters
@@ -82,11 +78,7 @@ pub count_without_first : {X : Type 0} (own gone : X → Bool) → ((x : X) → 
 count_without_first own gone w [] h = cc
 count_without_first own gone w (x ∷ xs) h = grind (arith, h, w x, count_without_first own gone w xs)
 
--- ---- each, and some
-
-pub all_true : {X : Type 0} (p : X → Bool) → ((x : X) → p x ≡ true) → (xs : List X) → list_all p xs ≡ true
-all_true p w [] = refl
-all_true p w (x ∷ xs) = grind (arith, w x, all_true p w xs)
+-- ---- some
 
 pub list_any-snoc : {X : Type 0} (p : X → Bool) (xs : List X) (y : X) → list_any p (xs ++ y ∷ []) ≡ (list_any p xs || p y)
 list_any-snoc p [] y = grind arith
@@ -100,3 +92,7 @@ list_any-kept_all p keep w (x ∷ xs) h = grind (arith, w x, list_any-kept_all p
 pub list_all-none : {X : Type 0} (p : X → Bool) (xs : List X) → list_any p xs ≡ false → list_all (λ x. not (p x)) xs ≡ true
 list_all-none p [] h = refl
 list_all-none p (x ∷ xs) h = grind (arith, h, list_all-none p xs)
+
+pub any-found : {X : Type 0} (p q : X → Bool) (xs : List X) (y : X) → find p xs ≡ Some y → q y ≡ true → list_any q xs ≡ true
+any-found p q [] y is h = cc
+any-found p q (x ∷ xs) y is h = grind (arith, is, h, any-found p q xs y)

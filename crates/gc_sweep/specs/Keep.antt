@@ -1,9 +1,10 @@
 -- What a garbage collection keeps (CNI specification, section 2, "GC", `cni.dev/valid-attachments`), and hosts that
 -- only lost objects.
-use Rattle.std.specs.Prelude.{◌≡◌, ◌⊎◌, ℕ, Bool, true, not, ◌||◌, List, [], ◌∷◌, filter}
+use Rattle.std.specs.Prelude.{◌≡◌, ℕ, Bool, true, not, ◌||◌, List, filter}
 use Rattle.std.specs.Str.{bytes_eq}
 use Rattle.kernel_types.specs.declared.object.Tag.{Tag}
 use Rattle.kernel_types.specs.declared.object.Tag.TheVariants.{Outside, Base, Own}
+use Rattle.kernel_types.specs.Touch.{DropsOnly}
 use Rattle.cni_verbs.specs.Sweep.{is_valid}
 use Rattle.kernel_types.specs.declared.object.Host.{Host}
 use Rattle.pod_file.specs.declared.command.ValidAtt.{ValidAtt}
@@ -31,20 +32,18 @@ keep network valid host = record host {
   cached = filter (λ c. stays network valid c.tag) host.cached;
 }
 
--- the first list is the second without some of its elements
-abbrev pub IsSublist : {X : Type 0} → List X → List X → Type 0
-IsSublist [] ys = Unit {0}
-IsSublist (x ∷ xs) [] = ⊥
-IsSublist (x ∷ xs) (y ∷ ys) = ((x ≡ y) × IsSublist xs ys) ⊎ IsSublist (x ∷ xs) ys
+-- objects are removed, whoever owns them, and none is made or changed
+pub record OnlyRemoves (old new : Host) : Type 0 where
+  pub links : DropsOnly (λ l. true) old.links new.links
+  pub addresses : DropsOnly (λ a. true) old.addresses new.addresses
+  pub routes : DropsOnly (λ r. true) old.routes new.routes
+  pub rules : DropsOnly (λ r. true) old.rules new.rules
+  pub settings : DropsOnly (λ s. true) old.settings new.settings
+  pub leases : DropsOnly (λ l. true) old.leases new.leases
+  pub cached : DropsOnly (λ c. true) old.cached new.cached
 
--- list by list; namespaces and lasts are equal
+-- the first host is the second without some of its objects; namespaces and lasts are equal
 pub record IsWithin (small big : Host) : Type 0 where
   pub namespaces : small.namespaces ≡ big.namespaces
-  pub links : IsSublist small.links big.links
-  pub addresses : IsSublist small.addresses big.addresses
-  pub routes : IsSublist small.routes big.routes
-  pub rules : IsSublist small.rules big.rules
-  pub settings : IsSublist small.settings big.settings
-  pub leases : IsSublist small.leases big.leases
-  pub cached : IsSublist small.cached big.cached
+  pub removes : OnlyRemoves big small
   pub lasts : small.lasts ≡ big.lasts

@@ -5,12 +5,12 @@ use Rattle.net_conf.specs.declared.list.NetList.{NetList}
 use Rattle.pod_file.specs.Rounds.{is_exclusive_verb}
 use Rattle.pod_file.specs.declared.command.Command.{Command}
 use Rattle.pod_file.specs.declared.command.ValidAtt.{ValidAtt}
+use Rattle.kernel_types.specs.Touch.{DropsOnly}
 use Rattle.kernel_types.specs.declared.object.Host.{Host}
 use Rattle.cni_verbs.specs.declared.answer.Answer.TheVariants as answers
-use Rattle.gc_sweep.specs.Keep.{IsSublist, keep, stays}
+use Rattle.gc_sweep.specs.Keep.{keep, stays}
 use Rattle.gc_sweep.specs.Sweep.{Bounds}
 use Rattle.gc_sweep.proofs.Kept.{host_of_parts}
-use Rattle.gc_sweep.proofs.Lists.{sublist_skip}
 use Rattle.pod_file.specs.Commands.{is_of_network}
 use Rattle.pod_workers.specs.declared.plan.Entry.{Entry}
 use Rattle.pod_laws.specs.Collected.{CollectionsInARowKeep, IsClean, IsCollectionAnswer}
@@ -19,41 +19,41 @@ use Rattle.pod_laws.proofs.Collected.{collections_are_answered, collections_are_
 use Rattle.pod_laws.proofs.NextRounds.{next-host}
 use Rattle.pod_laws.proofs.Runs.{listed-network}
 
--- ---- sublists
+-- ---- lists that lost elements
 
-sub-length : {X : Type 0} (xs ys : List X) → IsSublist xs ys → length xs ≤ length ys
-sub-length [] ys s = omega arith
-sub-length (x ∷ xs) [] s = absurd s
-sub-length (x ∷ xs) (y ∷ ys) s = elim s [
-  | inl same ↦ let rest = sub-length xs ys same.1 in omega arith
-  | inr later ↦ let rest = sub-length (x ∷ xs) ys later in omega arith
+drops-length : {X : Type 0} (old new : List X) → DropsOnly (λ x. true) old new → length new ≤ length old
+drops-length [] new d = rw d (omega arith)
+drops-length (x ∷ old) [] d = omega arith
+drops-length (x ∷ old) (y ∷ new) d = elim d [
+  | inl same ↦ let rest = drops-length old new same.1 in omega arith
+  | inr drop ↦ let rest = drops-length old (y ∷ new) drop.1 in omega arith
 ]
 
-sub-same : {X : Type 0} (xs ys : List X) → IsSublist xs ys → length ys ≤ length xs → xs ≡ ys
-sub-same [] [] s long = refl
-sub-same [] (y ∷ ys) s long = absurd (omega arith)
-sub-same (x ∷ xs) [] s long = absurd s
-sub-same (x ∷ xs) (y ∷ ys) s long = elim s [
-  | inl same ↦ let rest = sub-same xs ys same.1 (omega arith) in let head = same.0 in cc
-  | inr later ↦ absurd (let shorter = sub-length (x ∷ xs) ys later in omega arith)
+drops-none : {X : Type 0} (old new : List X) → DropsOnly (λ x. true) old new → length old ≤ length new → new ≡ old
+drops-none [] new d long = d
+drops-none (x ∷ old) [] d long = absurd (omega arith)
+drops-none (x ∷ old) (y ∷ new) d long = elim d [
+  | inl same ↦ let rest = drops-none old new same.1 (omega arith) in let head = same.0 in cc
+  | inr drop ↦ absurd (let shorter = drops-length old (y ∷ new) drop.1 in omega arith)
 ]
 
-filter-sub-if : {X : Type 0} (a b : Bool) (x y : X) (fs gs : List X) → x ≡ y → a ≡ b → IsSublist fs gs → IsSublist (if a then x ∷ fs else fs) (if b then y ∷ gs else gs)
-filter-sub-if true true x y fs gs same test s = inl (same, s)
-filter-sub-if true false x y fs gs same test s = cc
-filter-sub-if false true x y fs gs same test s = cc
-filter-sub-if false false x y fs gs same test s = s
+filter-same-if : {X : Type 0} (a b : Bool) (x y : X) (fs gs : List X) → x ≡ y → a ≡ b → DropsOnly (λ x. true) fs gs → DropsOnly (λ x. true) (if a then x ∷ fs else fs) (if b then y ∷ gs else gs)
+filter-same-if true true x y fs gs same test d = inl (same, d)
+filter-same-if true false x y fs gs same test d = cc
+filter-same-if false true x y fs gs same test d = cc
+filter-same-if false false x y fs gs same test d = d
 
-filter-skip-if : {X : Type 0} (b : Bool) (y : X) (fs gs : List X) → IsSublist fs gs → IsSublist fs (if b then y ∷ gs else gs)
-filter-skip-if true y fs gs s = sublist_skip fs gs y s
-filter-skip-if false y fs gs s = s
+filter-drop-if : {X : Type 0} (b : Bool) (x : X) (fs gs : List X) → DropsOnly (λ x. true) fs gs → DropsOnly (λ x. true) (if b then x ∷ fs else fs) gs
+filter-drop-if true x fs [] d = (refl, d)
+filter-drop-if true x fs (y ∷ gs) d = inr (refl, d)
+filter-drop-if false x fs gs d = d
 
-filter-sub : {X : Type 0} (p : X → Bool) (xs ys : List X) → IsSublist xs ys → IsSublist (filter p xs) (filter p ys)
-filter-sub p [] ys s = tt
-filter-sub p (x ∷ xs) [] s = absurd s
-filter-sub p (x ∷ xs) (y ∷ ys) s = elim s [
-  | inl same ↦ filter-sub-if (p x) (p y) x y (filter p xs) (filter p ys) same.0 (ap p same.0) (filter-sub p xs ys same.1)
-  | inr later ↦ filter-skip-if (p y) y (filter p (x ∷ xs)) (filter p ys) (filter-sub p (x ∷ xs) ys later)
+filter-drops : {X : Type 0} (p : X → Bool) (old new : List X) → DropsOnly (λ x. true) old new → DropsOnly (λ x. true) (filter p old) (filter p new)
+filter-drops p [] new d = ap (filter p) d
+filter-drops p (x ∷ old) [] d = filter-drop-if (p x) x (filter p old) [] (filter-drops p old [] d.1)
+filter-drops p (x ∷ old) (y ∷ new) d = elim d [
+  | inl same ↦ filter-same-if (p x) (p y) x y (filter p old) (filter p new) same.0 (ap p same.0) (filter-drops p old new same.1)
+  | inr drop ↦ filter-drop-if (p x) x (filter p old) (filter p (y ∷ new)) (filter-drops p old (y ∷ new) drop.1)
 ]
 
 filter-again-if : {X : Type 0} (p : X → Bool) (b : Bool) (x : X) (fs : List X) → p x ≡ b → filter p fs ≡ fs → filter p (if b then x ∷ fs else fs) ≡ (if b then x ∷ fs else fs)
@@ -65,11 +65,11 @@ filter-again p [] = refl
 filter-again p (x ∷ xs) = filter-again-if p (p x) x (filter p xs) refl (filter-again p xs)
 
 -- what passes is the same in a list between
-between : {X : Type 0} (p : X → Bool) (xs ys : List X) → IsSublist (filter p xs) ys → IsSublist ys xs → filter p ys ≡ filter p xs
+between : {X : Type 0} (p : X → Bool) (xs ys : List X) → DropsOnly (λ x. true) ys (filter p xs) → DropsOnly (λ x. true) xs ys → filter p ys ≡ filter p xs
 between p xs ys lower upper =
-    let low = sub-length (filter p (filter p xs)) (filter p ys) (filter-sub p (filter p xs) ys lower) in
+    let low = drops-length (filter p ys) (filter p (filter p xs)) (filter-drops p ys (filter p xs) lower) in
     let same : length (filter p (filter p xs)) ≡ length (filter p xs) = ap length (filter-again p xs) in
-    sub-same (filter p ys) (filter p xs) (filter-sub p ys xs upper) (omega arith)
+    drops-none (filter p xs) (filter p ys) (filter-drops p xs ys upper) (omega arith)
 
 -- ---- what is to be kept is the same after a collection
 
@@ -77,13 +77,13 @@ kept-same : (c : Command) (old new : Host) → Bounds c old new → keep c.netwo
 kept-same c old new b =
     host_of_parts (keep c.network c.valid new) (keep c.network c.valid old)
     (ap (filter (λ n. stays c.network c.valid n.tag)) b.upper.namespaces)
-    (between (λ l. stays c.network c.valid l.tag) old.links new.links b.lower.links b.upper.links)
-    (between (λ a. stays c.network c.valid a.tag) old.addresses new.addresses b.lower.addresses b.upper.addresses)
-    (between (λ r. stays c.network c.valid r.tag) old.routes new.routes b.lower.routes b.upper.routes)
-    (between (λ r. stays c.network c.valid r.tag) old.rules new.rules b.lower.rules b.upper.rules)
-    (between (λ s. stays c.network c.valid s.tag) old.settings new.settings b.lower.settings b.upper.settings)
-    (between (λ l. stays c.network c.valid l.tag) old.leases new.leases b.lower.leases b.upper.leases)
-    (between (λ x. stays c.network c.valid x.tag) old.cached new.cached b.lower.cached b.upper.cached)
+    (between (λ l. stays c.network c.valid l.tag) old.links new.links b.lower.removes.links b.upper.removes.links)
+    (between (λ a. stays c.network c.valid a.tag) old.addresses new.addresses b.lower.removes.addresses b.upper.removes.addresses)
+    (between (λ r. stays c.network c.valid r.tag) old.routes new.routes b.lower.removes.routes b.upper.removes.routes)
+    (between (λ r. stays c.network c.valid r.tag) old.rules new.rules b.lower.removes.rules b.upper.removes.rules)
+    (between (λ s. stays c.network c.valid s.tag) old.settings new.settings b.lower.removes.settings b.upper.removes.settings)
+    (between (λ l. stays c.network c.valid l.tag) old.leases new.leases b.lower.removes.leases b.upper.removes.leases)
+    (between (λ x. stays c.network c.valid x.tag) old.cached new.cached b.lower.removes.cached b.upper.removes.cached)
     b.upper.lasts
 
 clean-of : (list : NetList) (c : Command) (es : List Entry) (old new : Host) → IsCollectionAnswer list c es old new answers.Yes → IsClean list c es old new answers.Yes

@@ -23,13 +23,14 @@ use Rattle.kernel_types.specs.declared.call.Reply.{Reply}
 use Rattle.kernel_types.specs.declared.call.Reply.TheVariants.{Gone, Entry as Kept, Fault}
 use Rattle.plan_words.specs.Share.{Share}
 use Rattle.cni_verbs.specs.Script.{State, Collecting, Over, Calls, gc_of, advance, start_of, turn, turn_of_work}
-use Rattle.cni_verbs.specs.Sweep.{Job, Step, AskCached, Delete, Sweep, after_job, after_step, job_of, start_work, step_call, work_after}
+use Rattle.cni_verbs.specs.Sweep.{Job, Step, AskCached, Delete, Sweep, after_job, job_of, start_work, step_call, work_after}
 use Rattle.cni_verbs.specs.Wanted.{deletion}
 use Rattle.cni_verbs.specs.declared.answer.Ending.TheVariants.{Skipped}
 use Rattle.cni_verbs.specs.declared.answer.Skip.TheVariants as skips
 use Rattle.pod_file.specs.Commands.{is_of_network}
 use Rattle.gc_sweep.specs.Keep.{stays}
 use Rattle.gc_sweep.specs.Bound.{stale_owners}
+use Rattle.gc_sweep.proofs.Covered.{done_stale}
 use Rattle.gc_sweep.proofs.Deletions.{deletes}
 use Rattle.gc_sweep.proofs.Owners.{is_stale, own_goes, owners_stale}
 use Rattle.pod_workers.specs.World.{host_of, reply_to}
@@ -52,17 +53,13 @@ swept-stale list c s sweeps k true = refl
 swept-stale list c s sweeps k false =
     list_all-map (λ j. is_stale c.network c.valid j.att) (job_of s) (stale_owners c.network c.valid (tags_of k s.kind)) ∙ owners_stale c.network c.valid (tags_of k s.kind)
 
-stale-step : (c : Command) (att : Att) (more : List Step) (jobs : List Job) → is_stale c.network c.valid att ≡ true → AllStale c jobs → AllStale c (after_step att more jobs)
-stale-step c att [] jobs stale h = h
-stale-step c att (s ∷ more) jobs stale h = grind (arith, stale, h)
-
 stale-gone : (c : Command) (j : Job) (jobs : List Job) (sweeps : List Sweep) (b : Bool) → is_stale c.network c.valid j.att ≡ true → AllStale c jobs → AllStale c (j ∷ jobs) → AllStale c (after_job j jobs sweeps (Gone b)).jobs
 stale-gone c j jobs sweeps true stale h all = all
-stale-gone c j jobs sweeps false stale h all = stale-step c j.att j.more jobs stale h
+stale-gone c j jobs sweeps false stale h all = done_stale c.network c.valid j.att j.more jobs stale h
 
 stale-job : (c : Command) (j : Job) (jobs : List Job) (sweeps : List Sweep) (r : Reply) → is_stale c.network c.valid j.att ≡ true → AllStale c jobs → AllStale c (j ∷ jobs) → AllStale c (after_job j jobs sweeps r).jobs
 stale-job c j jobs sweeps (Gone b) stale h all = stale-gone c j jobs sweeps b stale h all
-stale-job c j jobs sweeps (Kept cached) stale h all = stale-step c j.att j.more jobs stale h
+stale-job c j jobs sweeps (Kept cached) stale h all = done_stale c.network c.valid j.att j.more jobs stale h
 stale-job c j jobs sweeps Fault stale h all = h
 stale-job c j jobs sweeps _ stale h all = all
 

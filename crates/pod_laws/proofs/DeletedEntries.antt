@@ -10,7 +10,7 @@ use Rattle.kernel_types.specs.Apply.Calls.{without_link}
 use Rattle.kernel_types.specs.Sound.{IsSound}
 use Rattle.kernel_types.specs.Words.{is_own}
 use Rattle.kernel_types.proofs.DropsOwn.{RemovesOwn-apply, RemovesOwn-nothing}
-use Rattle.kernel_types.proofs.ListLemmas.{without_first-none}
+use Rattle.kernel_types.proofs.ListLemmas.{passes-find, without_first-none}
 use Rattle.kernel_types.specs.declared.object.Att.{Att}
 use Rattle.kernel_types.specs.declared.object.Host.{Host}
 use Rattle.kernel_types.specs.declared.object.Link.{Link}
@@ -23,7 +23,7 @@ use Rattle.plan_words.proofs.Deletions.{empty_none}
 use Rattle.cni_verbs.specs.CommandWords.{att_of}
 use Rattle.cni_verbs.specs.Script.{State, AtBegin, BeforeLeases, Leasing, AfterLeases, ReadingCache, Deleting, Over, Calls, turn}
 use Rattle.cni_verbs.specs.Wanted.{deletion}
-use Rattle.gc_sweep.proofs.Deletions.{any-found}
+use Rattle.gc_sweep.proofs.Lists.{any-found}
 use Rattle.pod_file.specs.Commands.{is_of_network}
 use Rattle.pod_workers.specs.World.{host_of}
 use Rattle.pod_workers.specs.declared.plan.Entry.{Entry}
@@ -41,7 +41,7 @@ use Rattle.pod_laws.proofs.Undoing.{Undoing, undone-start, undone-step}
 
 without-none : (att : Att) (k : Host) (o : Option Link) → find (λ l. is_own att l.tag) k.links ≡ o → list_any (λ l. is_own att l.tag) k.links ≡ false → (without_link k o).0 ≡ k
 without-none att k None found none = refl
-without-none att k (Some link) found none = absurd (let there = any-found (λ l. is_own att l.tag) k.links link found in let e : true ≡ false = sym there ∙ none in cc)
+without-none att k (Some link) found none = absurd (let there = any-found (λ l. is_own att l.tag) (λ l. is_own att l.tag) k.links link found (passes-find (λ l. is_own att l.tag) k.links link found) in let e : true ≡ false = sym there ∙ none in cc)
 
 -- where nothing is the attachment's, a deletion leaves the host
 deletion-none : (att : Att) (k : Host) (kind : Kind) → share_of att k ≡ no_objects → (apply k (deletion att kind)).0 ≡ k

@@ -38,6 +38,7 @@ use Rattle.plan_words.specs.Share.{Share, share_of, share_after_call}
 use Rattle.plan_words.proofs.OwnCalls.{share-own, share-lease, share-begin}
 use Rattle.plan_words.proofs.Refusals.{refused-same, refused-lease}
 use Rattle.cni_verbs.specs.Wanted.{deletion}
+use Rattle.gc_sweep.proofs.Lists.{any-found}
 use Rattle.pod_workers.specs.CallsLeft.{deletions_of}
 
 -- ---- counts
@@ -67,10 +68,6 @@ count-gone : {X : Type 0} (q own gone : X → Bool) (xs : List X) → list_any (
     → length (filter q (filter own (filter (λ x. not (gone x)) xs))) + 1 ≤ length (filter q (filter own xs))
 count-gone q own gone [] h = cc
 count-gone q own gone (x ∷ xs) h = grind (arith, h, count-fewer q own gone xs, count-gone q own gone xs)
-
-any-found : {X : Type 0} (p q : X → Bool) (xs : List X) (y : X) → find p xs ≡ Some y → q y ≡ true → list_any q xs ≡ true
-any-found p q [] y is h = cc
-any-found p q (x ∷ xs) y is h = grind (arith, is, h, any-found p q xs y)
 
 -- ---- a call that makes objects
 
