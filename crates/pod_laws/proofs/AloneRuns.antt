@@ -11,17 +11,19 @@ use Rattle.pod_file.specs.declared.command.Command.{Command}
 use Rattle.kernel_types.specs.Sound.{IsSound}
 use Rattle.kernel_types.specs.declared.object.Host.{Host}
 use Rattle.kernel_types.specs.declared.call.Call.{Call}
-use Rattle.cni_verbs.specs.Script.{State, Calls, advance, start_state, state_from, turn}
+use Rattle.cni_verbs.proofs.CallsOrOver.{calls_or_over}
+use Rattle.cni_verbs.specs.Script.{State, Calls, Finishes, advance, next_call, start_state, state_from, turn}
+use Rattle.gc_sweep.specs.Trace.{IsRun, IsRunFrom}
 use Rattle.pod_workers.specs.Legal.{Legal}
 use Rattle.pod_workers.specs.Plans.{Placed, commands_of, list_for}
-use Rattle.pod_workers.specs.World.{World, IsReady, after, entry_of, host_of, host_on, replies_of, reply_to}
+use Rattle.pod_workers.specs.World.{World, IsReady, after, entry_of, host_of, host_on, made_in, replies_of, reply_to}
 use Rattle.pod_workers.specs.declared.plan.Entry.{Entry}
 use Rattle.pod_workers.specs.declared.plan.Plan.{Plan}
 use Rattle.pod_workers.proofs.Histories.{replies_of-other}
 use Rattle.pod_workers.proofs.Order.{alone_apart, ready_is}
 use Rattle.pod_workers.proofs.Sound.{sound_host}
 use Rattle.pod_laws.specs.Moments.{host_at_end, host_at_start, is_of, own_entries, until_first, until_last}
-use Rattle.pod_laws.proofs.Entries.{is_of-own, is_of-other, no-entries, own_entries-own, own_entries-other, replies-own_entries, replies_in, until_last-own, until_last-other}
+use Rattle.pod_laws.proofs.Entries.{is_of-own, is_of-other, no-entries, own_entries-own, own_entries-other, replies_in, until_last-own, until_last-other}
 use Rattle.pod_laws.proofs.Runs.{own-state}
 use Rattle.pod_laws.proofs.Steps.{AllOpen, Goes, IsKept, IsKeptOutside, IsOpenKept, OpenFact, by-entries, by-open}
 
@@ -56,15 +58,15 @@ all-last_to_go w legal = by-open IsLastToGo (λ p m d exclusive. inl refl) last-
 
 -- ---- what it makes from the host at its start
 
--- each entry is the script's next call in this host, with the kernel's reply or a fault
-abbrev pub IsRunFrom : NetList → Command → ℕ → State → Host → List Entry → Type 0
-IsRunFrom list c made st host [] = Unit {0}
-IsRunFrom list c made st host (e ∷ es) =
-    (turn c st ≡ Calls e.call) × ((faulty : Bool) × (e.reply ≡ reply_to host e.call faulty)) × IsRunFrom list c (made + 1) (advance list c (made + 1) st e.reply) (host_on host e) es
+next-turn : (c : Command) (st : State) (call : Call) → turn c st ≡ Calls call → next_call c st ≡ Some call
+next-turn c st call is = elim (calls_or_over c st) [
+  | inl k ↦ let same : Calls k.call ≡ Calls call = sym k.turn_is ∙ is in let e : k.call ≡ call = cc in k.next_is ∙ ap Some e
+  | inr o ↦ absurd (let e : Calls call ≡ Finishes o.finish = sym is ∙ o.turn_is in cc)
+]
 
-run-push : (list : NetList) (c : Command) (made : ℕ) (st : State) (host : Host) (es : List Entry) (e : Entry) (faulty : Bool) → IsRunFrom list c made st host es → turn c (state_from list c made st (replies_in es)) ≡ Calls e.call
-    → e.reply ≡ reply_to (after host es) e.call faulty → IsRunFrom list c made st host (es ++ e ∷ [])
-run-push list c made st host [] e faulty run is reply = (is, (faulty, reply), tt)
+run-push : (list : NetList) (c : Command) (made : ℕ) (st : State) (host : Host) (es : List Entry) (e : Entry) (faulty : Bool) → IsRunFrom list c made st host (made_in es) → turn c (state_from list c made st (replies_in es)) ≡ Calls e.call
+    → e.reply ≡ reply_to (after host es) e.call faulty → IsRunFrom list c made st host (made_in (es ++ e ∷ []))
+run-push list c made st host [] e faulty run is reply = (next-turn c st e.call is, (faulty, reply), tt)
 run-push list c made st host (x ∷ xs) e faulty run is reply = (run.0, run.1, run-push list c (made + 1) (advance list c (made + 1) st x.reply) (host_on host x) xs e faulty run.2 is reply)
 
 after-both : (host : Host) (xs ys : List Entry) → after host (xs ++ ys) ≡ after (after host xs) ys
@@ -73,7 +75,7 @@ after-both host (x ∷ xs) ys = after-both (host_on host x) xs ys
 
 -- the run of a command with a list
 abbrev pub RunsFrom : Plan → ℕ → Placed → List Entry → List Entry → Type 0
-RunsFrom p n c before own = (list : NetList) → list_for p c.command ≡ Some list → IsRunFrom list c.command 0 (start_state list c.command) (after p.pods.opening before) own
+RunsFrom p n c before own = (list : NetList) → list_for p c.command ≡ Some list → IsRun list c.command (after p.pods.opening before) (made_in own)
 
 -- ---- so its entries stand together
 
@@ -108,7 +110,7 @@ run-more w n c call faulty before (inl on) split run = λ list listed.
     let start = after w.plan.pods.opening before in
     let here : host_of w ≡ after start own = ap (after w.plan.pods.opening) split ∙ after-both w.plan.pods.opening before own in
     let same : on.0 ≡ list = same_Some on.0 list (sym on.1.listed ∙ listed) in
-    let P : NetList → Type 0 = λ l. IsRunFrom l c.command 0 (start_state l c.command) start (own ++ e ∷ []) in
+    let P : NetList → Type 0 = λ l. IsRun l c.command start (made_in (own ++ e ∷ [])) in
     subst P same
     (run-push on.0 c.command 0 (start_state on.0 c.command) start own e faulty (run on.0 on.1.listed) (own-state w n c on.0 call faulty on.1).turn_is (ap (λ k. reply_to k call faulty) here))
 
@@ -118,7 +120,7 @@ together-own w n c call faulty goes (inl none) was =
     let h = w.history in
     let e = entry_of (host_of w) n call faulty in
     let own = is_of-own n e refl in
-    let no_entry : own_entries n h ≡ [] = no-entries (own_entries n h) (sym (replies-own_entries n h) ∙ none) in
+    let no_entry : own_entries n h ≡ [] = no-entries (own_entries n h) none in
     let whole : h ≡ h ++ own_entries n h = sym (ap (λ l. h ++ l) no_entry ∙ append-nil h) in
     let nothing : RunsFrom w.plan n c h (own_entries n h) = subst (RunsFrom w.plan n c h) (sym no_entry) (λ list listed. tt) in
     record {

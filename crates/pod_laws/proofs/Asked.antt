@@ -41,7 +41,7 @@ use Rattle.pod_laws.specs.Moments.{own_entries}
 use Rattle.pod_laws.proofs.Achieved.{Achieved, achieved-start, achieved-step, begun-none, leased-done, leased-push, leased-same, leased_in, leases-one, leases-push, own-made, with_leases}
 use Rattle.pod_laws.proofs.Begins.{all-last, begin-apart, deletion-no_begin, last_begun-same, not-begins, outside-no_begin, plan-no_begin, question-no_begin}
 use Rattle.pod_laws.proofs.Causes.{begin-may, plan-may}
-use Rattle.pod_laws.proofs.Entries.{is_of-own, own_entries-own, replies-own_entries}
+use Rattle.pod_laws.proofs.Entries.{is_of-own, own_entries-own}
 use Rattle.pod_laws.proofs.Fronts.{asked-after_leases, asked-before_leases, asked-leasing, asked-removes}
 use Rattle.pod_laws.proofs.OfKinds.{share-removes_none}
 use Rattle.pod_laws.proofs.Quiet.{plan-no_lease, lease-no_lease, deletion-no_lease, question-no_lease, outside-no_lease}
@@ -133,7 +133,7 @@ making-now w n c list call faulty on un not given leased asked =
     let e = entry_of (host_of w) n call faulty in
     let att = att_of c.command in
     let opening = w.plan.pods.opening in
-    let leases : leases_in (replies_of n (h ++ e ∷ [])) ≡ given = ap leases_in (replies-own_entries n (h ++ e ∷ [])) ∙ ap leased_in (own_entries-own n h e (is_of-own n e refl)) ∙ leased in
+    let leases : leases_in (replies_of n (h ++ e ∷ [])) ≡ given = ap leased_in (own_entries-own n h e (is_of-own n e refl)) ∙ leased in
     inr (record {
       place = n;
       by = c;

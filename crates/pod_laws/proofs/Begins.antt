@@ -38,7 +38,7 @@ use Rattle.pod_laws.specs.AskedFor.{begins, is_begin_of, is_done, last_begun}
 use Rattle.pod_laws.specs.Moments.{own_entries}
 use Rattle.pod_laws.specs.Refused.{is_granted, lets_go_on}
 use Rattle.pod_laws.proofs.Causes.{IsPlanReply, begin-may}
-use Rattle.pod_laws.proofs.Entries.{is_of-own, is_of-other, own_entries-own, own_entries-other, no-entries, replies-own_entries}
+use Rattle.pod_laws.proofs.Entries.{is_of-own, is_of-other, own_entries-own, own_entries-other, no-entries}
 use Rattle.pod_laws.proofs.States.{IsOtherVerb, is_question, not-both}
 use Rattle.pod_laws.proofs.Runs.{every-run-now, own-state}
 use Rattle.pod_laws.proofs.Steps.{AllOpen, Changes, GoesOn, IsOpenKept, OpenFact, by-open}
@@ -187,7 +187,7 @@ last-other w n m c d list call faulty on differs at is_open last = λ verb some 
     let mine : own_entries m (w.history ++ e ∷ []) ≡ own_entries m w.history = own_entries-other m w.history e (is_of-other m e far) in
     let there : own_entries m w.history ≢ [] = λ none. some (mine ∙ none) in
     elim (apart w on.legal m n d c on.ready differs at is_open) [
-      | inl none ↦ absurd (there (no-entries (own_entries m w.history) (sym (replies-own_entries m w.history) ∙ none)))
+      | inl none ↦ absurd (there (no-entries (own_entries m w.history) none))
       | inr other ↦
           let differ : att_eq (att_of c.command) (att_of d.command) ≡ false = other_att (att_of c.command) (att_of d.command) (λ q. other (sym q)) in
           last_begun-same (att_of d.command) w.history e (not-begins (att_of d.command) e (turn-no_begin (att_of d.command) c.command call differ (turn-of w n c list call faulty on)))

@@ -24,7 +24,7 @@ use Rattle.pod_workers.proofs.Splits.{split_nil, split_snoc}
 use Rattle.pod_workers.proofs.StepsLeft.{IsNoCollection, entry-falls, none-stays}
 use Rattle.pod_workers.proofs.Replies.{true-from}
 use Rattle.pod_laws.specs.Moments.{is_of, own_entries, until_last}
-use Rattle.pod_laws.proofs.Entries.{is_of-own, is_of-other, own_entries-own, own_entries-other, replies_in, replies-own_entries, until_last-own, until_last-other}
+use Rattle.pod_laws.proofs.Entries.{is_of-own, is_of-other, own_entries-own, own_entries-other, replies_in, until_last-own, until_last-other}
 use Rattle.pod_laws.proofs.RunFacts.{state_by, state_by-append}
 use Rattle.pod_laws.proofs.Runs.{own-state, share-kept}
 use Rattle.pod_laws.proofs.Steps.{GoesOn, IsKept, IsKeptOutside, by-entries}
@@ -140,7 +140,6 @@ pub made-within : (w : World) → Legal w → (n : ℕ) (c : Placed) (list : Net
     × (length (own_replies w n) ≤ 1 + calls_left most list c.command (advance list c.command 1 (start_state list c.command) e.reply) (share_of (att_of c.command) (after w.plan.pods.opening (before ++ e ∷ []))))
 made-within w legal n c list most before rest e at listed in_most none split own first =
     let all = from-first w legal n c list at listed most before rest e in_most none split own first in
-    let same = ap length (replies-own_entries n w.history) in
     let long = length-map (own_entries n w.history) (λ (y : Entry). y.reply) in
     (omega arith, omega arith)
 
@@ -159,7 +158,7 @@ pub made-below : (w : World) → Legal w → (n : ℕ) (c : Placed) (list : NetL
     → IsNoCollection (start_state list c.command) → ((s : Share) → calls_left most list c.command (start_state list c.command) s ≤ bound) → length (own_replies w n) ≤ bound
 made-below w legal n c list most bound at listed in_most none few = elim (first-or-none n w.history) [
   | inl nothing ↦
-      let no_reply : length (own_replies w n) ≡ 0 = ap length (replies-own_entries n w.history ∙ ap replies_in nothing) in
+      let no_reply : length (own_replies w n) ≡ 0 = ap length (ap replies_in nothing) in
       omega arith
   | inr is ↦
       let made = (made-within w legal n c list most is.0 is.1 is.2 at listed in_most none is.3 is.4 is.5).0 in

@@ -51,7 +51,7 @@ use Rattle.pod_workers.proofs.Order.{ready_is}
 use Rattle.pod_workers.proofs.Sound.{sound_host}
 use Rattle.pod_workers.proofs.StepsLeft.{host-made}
 use Rattle.pod_laws.specs.Moments.{is_of, own_entries}
-use Rattle.pod_laws.proofs.Entries.{is_of-own, is_of-other, no-entries, own_entries-own, own_entries-other, replies-own_entries}
+use Rattle.pod_laws.proofs.Entries.{is_of-own, is_of-other, no-entries, own_entries-own, own_entries-other}
 use Rattle.pod_laws.proofs.States.{IsAside, aside-advance, is_question, by-start}
 use Rattle.pod_laws.proofs.RunFacts.{state_by, state_by-append}
 use Rattle.pod_laws.proofs.Runs.{own-state}
@@ -296,7 +296,7 @@ RunBridge p h m d = (list : NetList) → list_for p d.command ≡ Some list → 
 -- a run that has made no call
 bridge-begun : (p : Plan) (h : List Entry) (m : ℕ) (d : Placed) → replies_of m h ≡ [] → RunBridge p h m d
 bridge-begun p h m d none = λ list listed.
-    let no_entry : own_entries m h ≡ [] = no-entries (own_entries m h) (sym (replies-own_entries m h) ∙ none) in
+    let no_entry : own_entries m h ≡ [] = no-entries (own_entries m h) none in
     subst (λ es. HasBridge list (state_by list d.command es) (after p.pods.opening h)) (sym no_entry) (by-start (λ st. HasBridge list st (after p.pods.opening h)) list d.command d.command.verb (λ st aside. bridge-aside list st (after p.pods.opening h) aside) tt tt)
 
 bridge-own : (w : World) (n m : ℕ) (c d : Placed) (list : NetList) (call : Call) (faulty : Bool) → GoesOn w n c list call faulty → m ≡ n → slice_get (commands_of w.plan) m ≡ Some d → AllOpen RunBridge w → RunBridge w.plan (w.history ++ entry_of (host_of w) n call faulty ∷ []) m d

@@ -27,7 +27,7 @@ use Rattle.pod_laws.specs.Changed.{ChangesAreAnswered, IsChangedBy}
 use Rattle.pod_laws.specs.Moments.{own_entries}
 use Rattle.pod_laws.specs.Answers.{is_cut_off}
 use Rattle.pod_laws.proofs.Due.{over-calls}
-use Rattle.pod_laws.proofs.Entries.{is_of-other, is_of-own, own_entries-other, own_entries-own, replies-own_entries, replies_in}
+use Rattle.pod_laws.proofs.Entries.{is_of-other, is_of-own, own_entries-other, own_entries-own, replies_in}
 use Rattle.pod_laws.proofs.Steps.{IsKept, IsKeptOutside, by-entries}
 
 -- ---- its entries
@@ -75,7 +75,7 @@ one-changed w n c call faulty on was = λ m d at none.
     elim (eqb_tells m n) [
       | inl t ↦
           let same : d ≡ c = ready_is w n m c d on.ready t.1 at in
-          let turn_is : turn c.command (outside_after c.command (replies_in (own_entries n h))) ≡ Calls call = ap (λ rs. turn c.command (outside_after c.command rs)) (sym (replies-own_entries n h)) ∙ on.turn_is in
+          let turn_is : turn c.command (outside_after c.command (replies_in (own_entries n h))) ≡ Calls call = on.turn_is in
           let now : MakesOne c.command (own_entries n (h ++ e ∷ [])) =
           subst (MakesOne c.command) (sym (own_entries-own n h e (is_of-own n e refl))) (one-more c.command (own_entries n h) e (was n c on.ready.there on.unlisted) turn_is) in
           let Q : ℕ → Placed → Type 0 = λ j x. MakesOne x.command (own_entries j (h ++ e ∷ [])) in
@@ -94,7 +94,6 @@ few-made c (e ∷ f ∷ es) one = absurd one
 pub one-call : (w : World) → Legal w → (n : ℕ) (c : Placed) → slice_get (commands_of w.plan) n ≡ Some c → list_for w.plan c.command ≡ None → length (own_replies w n) ≤ 1
 one-call w legal n c at none =
     let few = few-made c.command (own_entries n w.history) (makes-one w legal n c at none) in
-    let same = ap length (replies-own_entries n w.history) in
     let long = length-map (own_entries n w.history) (λ (y : Entry). y.reply) in
     omega arith
 
@@ -122,7 +121,7 @@ changed-script w n c a none one due =
     let finish = due.0 in
     let rs = own_replies w n in
     let turn_is : turn c.command (outside_after c.command (replies_in (own_entries n w.history))) ≡ Finishes finish =
-    ap (λ l. turn c.command (outside_after c.command l)) (sym (replies-own_entries n w.history)) ∙ ap (λ p. turn_by p c.command rs) (sym none) ∙ due.1 in
+    ap (λ p. turn_by p c.command rs) (sym none) ∙ due.1 in
     changed-by c.command (own_entries n w.history) a finish one turn_is (due.2 ∙ ap (λ p. answer_by p c.command finish) none)
 
 unlisted : (p : Plan) (c : Command) → is_of_network c.verb ≡ false → list_for p c ≡ None

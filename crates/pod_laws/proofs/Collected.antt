@@ -13,7 +13,7 @@ use Rattle.pod_file.specs.declared.command.Verb.TheVariants as verbs
 use Rattle.kernel_types.specs.Sound.{IsSound}
 use Rattle.kernel_types.specs.declared.object.Host.{Host}
 use Rattle.kernel_types.specs.declared.call.Reply.{Reply}
-use Rattle.cni_verbs.specs.Script.{State, Collecting, Over, advance, finish_of, gc_of, faults_after, start_of, start_state, state_after, state_from, swept, turn, unless_old}
+use Rattle.cni_verbs.specs.Script.{State, Collecting, Over, advance, finish_of, gc_of, faults_after, next_call, start_of, start_state, state_after, state_from, swept, unless_old}
 use Rattle.cni_verbs.specs.Sweep.{Work, start_work, work_after}
 use Rattle.cni_verbs.specs.declared.answer.Answer.{Answer}
 use Rattle.cni_verbs.specs.declared.answer.Cause.TheVariants as causes
@@ -29,14 +29,14 @@ use Rattle.gc_sweep.proofs.Calls.{gc_bound}
 use Rattle.gc_sweep.proofs.Leaves.{always_bounded, faults_named, over_excused, yes_keeps}
 use Rattle.pod_file.specs.Commands.{is_of_network}
 use Rattle.pod_workers.specs.Plans.{Placed, list_for}
-use Rattle.pod_workers.specs.World.{World, after}
+use Rattle.pod_workers.specs.World.{World, after, made_in, made_of}
 use Rattle.pod_workers.specs.declared.plan.Entry.{Entry}
 use Rattle.pod_file.specs.Rounds.{is_exclusive_verb}
-use Rattle.pod_laws.specs.Collected.{CollectionsAreAnswered, CollectionsAreBounded, CollectionsAreShort, IsClean, IsCollectionAnswer, IsFaulty, made_in, made_of}
+use Rattle.pod_laws.specs.Collected.{CollectionsAreAnswered, CollectionsAreBounded, CollectionsAreShort, IsClean, IsCollectionAnswer, IsFaulty}
 use Rattle.pod_laws.specs.Moments.{has_fault, host_at_end, host_at_start, own_entries}
-use Rattle.pod_laws.proofs.AloneRuns.{IsRunFrom, StandsTogether, alone-end, alone-start, stands_together}
-use Rattle.pod_laws.proofs.CollectedRuns.{no-faults, some-faults, to-host, to-replies, to-run}
-use Rattle.pod_laws.proofs.Due.{IsOver, IsSwept, answer-due, over-calls}
+use Rattle.pod_laws.proofs.AloneRuns.{StandsTogether, alone-end, alone-start, stands_together}
+use Rattle.pod_laws.proofs.CollectedRuns.{no-faults, some-faults, to-replies}
+use Rattle.pod_laws.proofs.Due.{IsOver, IsSwept, answer-due}
 use Rattle.pod_laws.proofs.Entries.{replies_in}
 use Rattle.pod_laws.proofs.OfAnswers.{Says, says}
 use Rattle.pod_laws.proofs.RunFacts.{state_by}
@@ -52,9 +52,10 @@ starts list c gc v b version disabled =
     ap (λ x. start_of list x c) gc ∙ ap (λ x. unless_old x (if list.disable_gc then Over (Skipped skips.Gc) [] else collecting list c)) version
     ∙ ap (λ x. unless_old v (if x then Over (Skipped skips.Gc) [] else collecting list c)) disabled
 
-over-none : (list : NetList) (c : Command) (st : State) (ending : Ending) (given : List Addr) (host : Host) (es : List Entry) → st ≡ Over ending given → IsRunFrom list c 0 st host es → es ≡ []
+over-none : (list : NetList) (c : Command) (st : State) (ending : Ending) (given : List Addr) (host : Host) (es : List Entry) → st ≡ Over ending given → trace.IsRunFrom list c 0 st host (made_in es) → es ≡ []
+unfolding next_call
 over-none list c st ending given host [] is run = refl
-over-none list c st ending given host (e ∷ es) is run = absurd (over-calls c ending given e.call (ap (turn c) (sym is) ∙ run.0))
+over-none list c st ending given host (e ∷ es) is run = absurd (none-some e.call (ap (next_call c) (sym is) ∙ run.0))
 
 over-ending : (st : State) (e ending : Ending) (g given : List Addr) → st ≡ Over e g → (st ≡ Over ending given) ⊎ IsSwept st ending → ending ≡ e
 over-ending st e ending g given is (inl over) = let same : Over e g ≡ Over ending given = sym is ∙ over in cc
@@ -99,10 +100,10 @@ ending-named : (list : NetList) (c : Command) (start : Host) (es : List Entry) (
 ending-named list c start es ending at = faults_named list c (made_in es) ending at.gc at.collected at.ends
 
 clean-kept : (list : NetList) (c : Command) (start : Host) (es : List Entry) (ending : Ending) → IsAtEnd list c start es ending → ending ≡ Yes → after start es ≡ keep c.network c.valid start
-clean-kept list c start es ending at good = sym (to-host start es) ∙ yes_keeps list c start (made_in es) at.gc at.sound at.run (subst (trace.Ends list c (made_in es)) good at.ends)
+clean-kept list c start es ending at good = yes_keeps list c start (made_in es) at.gc at.sound at.run (subst (trace.Ends list c (made_in es)) good at.ends)
 
 faulty-excused : (list : NetList) (c : Command) (start : Host) (es : List Entry) (ending : Ending) → IsAtEnd list c start es ending → AreExcused c.network c.valid (made_in es) (after start es)
-faulty-excused list c start es ending at = subst (AreExcused c.network c.valid (made_in es)) (to-host start es) (over_excused list c start (made_in es) ending at.gc at.collected at.sound at.run at.ends)
+faulty-excused list c start es ending at = over_excused list c start (made_in es) ending at.gc at.collected at.sound at.run at.ends
 
 ended-answer : (list : NetList) (c : Command) (start : Host) (es : List Entry) (ending : Ending) (given : List Addr) (a : Answer) (old new : Host) → IsAtEnd list c start es ending → Says list c given ending a → es ≢ [] → old ≡ start → new ≡ after start es
     → IsClean list c es old new a ⊎ IsFaulty list c es new a
@@ -130,7 +131,7 @@ ended-answer list c start es ending given a old new at said some old_is new_is =
 -- ---- every collection
 
 gc-run : (w : World) (n : ℕ) (c : Placed) (list : NetList) → list_for w.plan c.command ≡ Some list → (t : StandsTogether w.plan w.history n c) → trace.IsRun list c.command (after w.plan.pods.opening t.before) (made_in (own_entries n w.history))
-gc-run w n c list listed t = to-run list c.command 0 (start_state list c.command) (after w.plan.pods.opening t.before) (own_entries n w.history) (t.run list listed)
+gc-run w n c list listed t = t.run list listed
 
 at-end : (w : World) (n : ℕ) (c : Placed) (list : NetList) (ending : Ending) → list_for w.plan c.command ≡ Some list → c.command.verb ≡ verbs.Gc → IsCollected list → (t : StandsTogether w.plan w.history n c)
     → IsSwept (state_by list c.command (own_entries n w.history)) ending → IsAtEnd list c.command (after w.plan.pods.opening t.before) (own_entries n w.history) ending
@@ -186,7 +187,7 @@ collections_are_bounded w legal n c at gc some =
     let es = own_entries n w.history in
     let start = after w.plan.pods.opening t.before in
     let bounds = always_bounded found.0 c.command start (made_in es) (ap is_gc gc) t.sound (gc-run w n c found.0 found.1 t) in
-    subst (λ old. Bounds c.command old (host_at_end w n)) (sym (alone-start w n c t some)) (subst (Bounds c.command start) (to-host start es ∙ sym (alone-end w n c t)) bounds)
+    subst (λ old. Bounds c.command old (host_at_end w n)) (sym (alone-start w n c t some)) (subst (Bounds c.command start) (sym (alone-end w n c t)) bounds)
 
 abbrev IsShort : NetList → Command → Host → List Entry → Type 0
 IsShort list c host es = length es ≤ most_of_collection list c host

@@ -1,5 +1,5 @@
 -- An answer is what the command's script came to, or it was stopped or refused memory.
-use Rattle.std.proofs.Common.{◌≡◌, ℕ, List, [], ◌∷◌, Some, refl, slice_get, sym, ◌∙◌, ap, subst, inl, inr, ◌⊎◌, true}
+use Rattle.std.proofs.Common.{◌≡◌, ℕ, List, [], ◌∷◌, Some, refl, slice_get, sym, ◌∙◌, ap, inl, inr, ◌⊎◌, true}
 use Rattle.net_conf.specs.declared.list.NetList.{NetList}
 use Rattle.kernel_types.specs.declared.call.Call.{Call}
 use Rattle.pod_file.specs.declared.command.Command.{Command}
@@ -17,7 +17,6 @@ use Rattle.pod_workers.specs.World.{World, own_replies}
 use Rattle.pod_workers.proofs.AnswersDue.{answer_is_due}
 use Rattle.pod_laws.specs.Moments.{own_entries}
 use Rattle.pod_laws.specs.Answers.{is_cut_off}
-use Rattle.pod_laws.proofs.Entries.{replies-own_entries}
 use Rattle.pod_laws.proofs.RunFacts.{state_by}
 
 -- the run of a garbage collection has nothing left to do
@@ -71,7 +70,7 @@ by-scripts w n c list a listed due =
 pub answer-due : (w : World) → Legal w → (n : ℕ) (c : Placed) (list : NetList) (a : Answer) → slice_get (commands_of w.plan) n ≡ Some c → list_for w.plan c.command ≡ Some list → slice_get w.answers n ≡ Some (Some a)
     → IsOver list c.command (state_by list c.command (own_entries n w.history)) a ⊎ (is_cut_off a ≡ true)
 answer-due w legal n c list a at listed is = elim (answer_is_due w legal n a c is at) [
-  | inl scripts ↦ inl (subst (λ rs. IsOver list c.command (state_after list c.command rs) a) (replies-own_entries n w.history) (by-scripts w n c list a listed scripts))
+  | inl scripts ↦ inl (by-scripts w n c list a listed scripts)
   | inr (inl stopped) ↦ inr (ap is_cut_off stopped.0.2)
   | inr (inr memory) ↦ inr (ap is_cut_off memory)
 ]

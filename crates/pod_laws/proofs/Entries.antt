@@ -1,12 +1,11 @@
 -- The entries of one command in a history that is one entry longer.
-use Rattle.std.proofs.Common.{◌≡◌, ◌≢◌, ℕ, ◌+◌, Bool, true, false, List, [], ◌∷◌, ◌++◌, map, refl, ◌∙◌, ap, inl, inr, arith}
+use Rattle.std.proofs.Common.{◌≡◌, ◌≢◌, ℕ, ◌+◌, Bool, true, false, List, [], ◌∷◌, ◌++◌, refl, ◌∙◌, ap, inl, inr, arith}
 use Rattle.std.proofs.lemmas.Bool.Decides.{eqb_tells}
 use Rattle.std.specs.Prelude.{if◌then◌else◌, ◌||◌}
 use Rattle.std.specs.List.{list_any}
 use Rattle.kernel_types.proofs.ListLemmas.{list_any-append_right}
-use Rattle.kernel_types.specs.declared.call.Reply.{Reply}
 use Rattle.plan_words.proofs.KeyLists.{filter-push_kept, filter-push_dropped}
-use Rattle.pod_workers.specs.World.{replies_of}
+pub use Rattle.pod_workers.specs.World.{replies_in}
 use Rattle.pod_workers.specs.declared.plan.Entry.{Entry}
 use Rattle.pod_laws.specs.Moments.{is_of, own_entries, until_last}
 
@@ -25,18 +24,6 @@ own_entries-own n h e is = filter-push_kept (is_of n) h e is
 
 pub own_entries-other : (n : ℕ) (h : List Entry) (e : Entry) → is_of n e ≡ false → own_entries n (h ++ e ∷ []) ≡ own_entries n h
 own_entries-other n h e is = filter-push_dropped (is_of n) h e is
-
-abbrev pub replies_in : List Entry → List Reply
-replies_in es = map (λ e. e.reply) es
-
-replies-step : (b : Bool) (x : Entry) (rs : List Reply) (es : List Entry) → rs ≡ replies_in es → (if b then x.reply ∷ rs else rs) ≡ replies_in (if b then x ∷ es else es)
-replies-step true x rs es h = ap (λ l. x.reply ∷ l) h
-replies-step false x rs es h = h
-
--- the replies of a command are those of its entries
-pub replies-own_entries : (n : ℕ) (h : List Entry) → replies_of n h ≡ replies_in (own_entries n h)
-replies-own_entries n [] = refl
-replies-own_entries n (x ∷ xs) = replies-step (is_of n x) x (replies_of n xs) (own_entries n xs) (replies-own_entries n xs)
 
 pub no-entries : (es : List Entry) → replies_in es ≡ [] → es ≡ []
 no-entries [] h = refl

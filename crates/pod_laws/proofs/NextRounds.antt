@@ -13,7 +13,7 @@ use Rattle.pod_workers.proofs.Order.{compared, in_order, not_both, ready_is}
 use Rattle.pod_workers.proofs.Sound.{fine}
 use Rattle.pod_laws.specs.Moments.{host_at_end, host_at_start, is_of, own_entries, until_first, until_last}
 use Rattle.pod_laws.proofs.AloneRuns.{legal-of, ready-of, until_first-own}
-use Rattle.pod_laws.proofs.Entries.{is_of-own, is_of-other, no-entries, own_entries-own, own_entries-other, replies-own_entries, until_last-own, until_last-other}
+use Rattle.pod_laws.proofs.Entries.{is_of-own, is_of-other, no-entries, own_entries-own, own_entries-other, until_last-own, until_last-other}
 use Rattle.pod_laws.proofs.Steps.{AllOpen, Goes, IsKept, IsKeptOutside, IsOpenKept, OpenFact, by-entries, by-open}
 use Rattle.pod_workers.proofs.WellFormedPlans.{stand_alone}
 
@@ -26,7 +26,7 @@ pub record AreNext (d c : Placed) : Type 0 where
 -- ---- rounds
 
 no-own : (m : ℕ) (h : List Entry) → replies_of m h ≡ [] → own_entries m h ≡ []
-no-own m h none = no-entries (own_entries m h) (sym (replies-own_entries m h) ∙ none)
+no-own m h none = no-entries (own_entries m h) none
 
 -- a command that has made a call is of no later round
 begun-round : (w : World) → Legal w → (m : ℕ) (d : Placed) → slice_get (commands_of w.plan) m ≡ Some d → own_entries m w.history ≢ [] → d.round ≤ w.round

@@ -40,7 +40,6 @@ use Rattle.pod_laws.specs.Refused.{is_granted, lets_go_on, IsCause, no_namespace
 use Rattle.pod_laws.specs.Answers.{is_cut_off}
 use Rattle.pod_laws.proofs.Achieved.{Achieved, IsAddedWith, achieved-end, achieved-start, achieved-step}
 use Rattle.pod_laws.proofs.Due.{IsSwept, answer-due}
-use Rattle.pod_laws.proofs.Entries.{replies-own_entries}
 use Rattle.pod_laws.proofs.LeasedRuns.{IsOverLeased, LeasedRun, leased-end, leased-start, leased-step, leases-distinct, sound-at_end}
 use Rattle.pod_laws.proofs.States.{IsNoResult, IsOtherVerb, swept-no_result, not-both}
 use Rattle.pod_laws.proofs.Runs.{every-run, listed-command}
@@ -113,7 +112,7 @@ added-by : (w : World) (n : ℕ) (c : Command) (list : NetList) (r : AddResult) 
     → IsAddedWith list c (own_entries n w.history) ending given (share_of (att_of c) (host_at_end w n)) → IsOverLeased list ending given → IsSound (host_at_end w n) → Ends c (own_entries n w.history) ending (share_of (att_of c) (host_at_end w n)) → HasMade w n c list r
 added-by w n c list r Added given says was candidates sound ends =
     let same : r ≡ result_of_add list (att_of c) c.netns given = let e = says in cc in
-    let leased : leases_in (own_replies w n) ≡ given = ap leases_in (replies-own_entries n w.history) ∙ was.0 in
+    let leased : leases_in (own_replies w n) ≡ given = was.0 in
     record {
       verb = ends.verb;
       words = ends.words;

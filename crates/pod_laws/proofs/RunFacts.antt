@@ -17,7 +17,7 @@ use Rattle.pod_workers.proofs.Histories.{after-append}
 use Rattle.pod_workers.proofs.Kept.{state_from-append}
 use Rattle.pod_workers.proofs.Order.{ready_is}
 use Rattle.pod_laws.specs.Moments.{is_of, own_entries, until_last}
-use Rattle.pod_laws.proofs.Entries.{is_of-own, is_of-other, own_entries-own, own_entries-other, replies_in, replies-own_entries, no-entries, until_last-own, until_last-other}
+use Rattle.pod_laws.proofs.Entries.{is_of-own, is_of-other, own_entries-own, own_entries-other, replies_in, no-entries, until_last-own, until_last-other}
 use Rattle.pod_laws.proofs.Steps.{AllOpen, GoesOn, IsKept, IsKeptOutside, by-entries}
 
 -- the state of a run after these entries
@@ -70,7 +70,7 @@ run-now : (R : Keeping) (F : HostFact) → IsKeptBetween R → StartsOn F → (w
     → IsNow R F w n c list
 run-now R F kept start w n c list legal ready each listed = elim (kept.since w legal n c ready.there ready.unanswered) [
   | inl none ↦
-      let no_entry : own_entries n w.history ≡ [] = no-entries (own_entries n w.history) (sym (replies-own_entries n w.history) ∙ none) in
+      let no_entry : own_entries n w.history ≡ [] = no-entries (own_entries n w.history) none in
       let P : List Entry → Type 0 = λ es. F list c.command es (state_by list c.command es) (host_of w) in
       record { old = host_of w; keeps = kept.same c.command (host_of w); holds = subst P (sym no_entry) (start list c.command (host_of w)) }
   | inr keeps ↦ record { old = after w.plan.pods.opening (until_last n w.history); keeps = keeps; holds = each n c list ready.there listed }

@@ -10,7 +10,7 @@ use Rattle.kernel_types.specs.declared.object.Host.{Host}
 use Rattle.kernel_types.specs.declared.call.Call.{Call}
 use Rattle.plan_words.specs.Share.{Share, share_of}
 use Rattle.cni_verbs.specs.CommandWords.{att_of}
-use Rattle.cni_verbs.specs.Script.{State, Calls, turn, advance, start_state, state_after}
+use Rattle.cni_verbs.specs.Script.{State, Calls, turn, advance, start_state}
 use Rattle.pod_workers.specs.Legal.{Legal}
 use Rattle.pod_file.specs.Commands.{is_of_network}
 use Rattle.pod_file.specs.Rounds.{is_exclusive_verb}
@@ -22,7 +22,7 @@ use Rattle.pod_workers.proofs.Order.{apart, alone_apart}
 use Rattle.pod_workers.proofs.Planned.{LeftArePlanned, left-are-planned}
 use Rattle.pod_workers.proofs.Sound.{fine, list_all-at}
 use Rattle.pod_laws.specs.Moments.{own_entries, until_last, host_at_end}
-use Rattle.pod_laws.proofs.Entries.{is_of-own, is_of-other, replies_in, replies-own_entries, until_last-own, until_last-other}
+use Rattle.pod_laws.proofs.Entries.{is_of-own, is_of-other, replies_in, until_last-own, until_last-other}
 use Rattle.pod_laws.proofs.RunFacts.{HostFact, IsHostFact, IsKeptBetween, Keeping, each-run, each-run-now, state_by}
 use Rattle.pod_laws.proofs.States.{LeftFit, left-fit}
 use Rattle.pod_laws.proofs.Steps.{GoesOn, IsOpenKept, OpenFact, by-open}
@@ -115,7 +115,7 @@ pub own-state : (w : World) (n : ℕ) (c : Placed) (list : NetList) (call : Call
 own-state w n c list call faulty on = record {
   planned = left-are-planned list c.command (replies_in (own_entries n w.history));
   fits = left-fit list c.command (replies_in (own_entries n w.history));
-  turn_is = ap (λ rs. turn c.command (state_after list c.command rs)) (sym (replies-own_entries n w.history)) ∙ on.turn_is;
+  turn_is = on.turn_is;
 }
 
 -- the host keeps what the command's attachment has

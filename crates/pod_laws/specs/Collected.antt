@@ -1,6 +1,6 @@
 -- What a garbage collection leaves and answers, wherever it stands in a history (CNI specification, section 3,
 -- "Garbage-collecting unused resources").
-use Rattle.std.specs.Prelude.{◌≡◌, ◌≢◌, ℕ, ◌+◌, ◌≤◌, ◌⊎◌, true, false, List, [], length, map, Some, slice_get}
+use Rattle.std.specs.Prelude.{◌≡◌, ◌≢◌, ℕ, ◌+◌, ◌≤◌, ◌⊎◌, true, false, List, [], length, Some, slice_get}
 use Rattle.cni_result.specs.declared.version.Version.TheVariants.{V1_0, V1_1}
 use Rattle.cni_verbs.specs.Answers.{error_of}
 use Rattle.cni_verbs.specs.declared.answer.Answer.{Answer}
@@ -10,24 +10,16 @@ use Rattle.cni_verbs.specs.declared.answer.Skip.TheVariants as skips
 use Rattle.gc_sweep.specs.Bound.{most_of_collection}
 use Rattle.gc_sweep.specs.Keep.{keep}
 use Rattle.gc_sweep.specs.Sweep.{AreExcused, Bounds, IsCollected, fault_numbers}
-use Rattle.gc_sweep.specs.Trace.{Made}
 use Rattle.kernel_types.specs.declared.object.Host.{Host}
 use Rattle.net_conf.specs.declared.list.NetList.{NetList}
 use Rattle.pod_file.specs.declared.command.Command.{Command}
 use Rattle.pod_file.specs.declared.command.Verb.TheVariants as verbs
 use Rattle.pod_workers.specs.Legal.{Legal}
 use Rattle.pod_workers.specs.Plans.{Placed, commands_of, list_for}
-use Rattle.pod_workers.specs.World.{World}
+use Rattle.pod_workers.specs.World.{World, made_in}
 use Rattle.pod_workers.specs.declared.plan.Entry.{Entry}
 use Rattle.pod_laws.specs.Moments.{has_fault, host_at_end, host_at_start, own_entries}
 use Rattle.pod_laws.specs.Answers.{is_cut_off}
-
-abbrev pub made_of : Entry → Made
-made_of e = record { call = e.call; reply = e.reply }
-
--- the calls of these entries and their replies
-abbrev pub made_in : List Entry → List Made
-made_in es = map made_of es
 
 -- ---- answers
 

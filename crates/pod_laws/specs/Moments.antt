@@ -1,20 +1,13 @@
--- The entries of one command, and the moment of its last one.
-use Rattle.std.specs.Prelude.{ℕ, ◌+◌, ◌==◌, Bool, List, [], ◌∷◌, filter, if◌then◌else◌}
+-- The moments of the first and the last entry of one command.
+use Rattle.std.specs.Prelude.{ℕ, Bool, List, [], ◌∷◌, if◌then◌else◌}
 use Rattle.std.specs.List.{list_any}
 use Rattle.kernel_types.specs.Replies.{is_fault}
 use Rattle.kernel_types.specs.declared.object.Host.{Host}
 use Rattle.pod_workers.specs.World.{World, after}
+pub use Rattle.pod_workers.specs.World.{is_of, own_entries}
 use Rattle.pod_workers.specs.declared.plan.Entry.{Entry}
 
--- the entry is of the command at place n
-abbrev pub is_of : ℕ → Entry → Bool
-is_of n e = e.command == n + 1
-
--- the entries of the command at place n, in order
-abbrev pub own_entries : ℕ → List Entry → List Entry
-own_entries n h = filter (is_of n) h
-
--- the history up to and with the last of them
+-- the history up to and with the last entry of the command at place n
 abbrev pub until_last : ℕ → List Entry → List Entry
 until_last n [] = []
 until_last n (e ∷ es) = if list_any (is_of n) (e ∷ es) then e ∷ until_last n es else []
@@ -27,7 +20,7 @@ host_at_end w n = after w.plan.pods.opening (until_last n w.history)
 abbrev pub has_fault : List Entry → Bool
 has_fault es = list_any (λ e. is_fault e.reply) es
 
--- the history before the first of them
+-- the history before the first of its entries
 abbrev pub until_first : ℕ → List Entry → List Entry
 until_first n [] = []
 until_first n (e ∷ es) = if is_of n e then [] else e ∷ until_first n es

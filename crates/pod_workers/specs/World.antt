@@ -1,12 +1,13 @@
 -- A plan, its history and answers, and what one step makes of them.
-use Rattle.std.specs.Prelude.{◌≡◌, ℕ, ◌+◌, ◌-◌, ◌<◌, ◌==◌, Bool, false, ◌||◌, ◌&&◌, List, [], ◌∷◌, ◌++◌, length, map, Option, Some, None, slice_get, slice_set, nat_le, if◌then◌else◌}
+use Rattle.std.specs.Prelude.{◌≡◌, ℕ, ◌+◌, ◌-◌, ◌<◌, ◌==◌, Bool, false, ◌||◌, ◌&&◌, List, [], ◌∷◌, ◌++◌, length, map, filter, Option, Some, None, slice_get, slice_set, nat_le, if◌then◌else◌}
 use Rattle.std.specs.List.{list_any}
 use Rattle.cni_verbs.specs.Progress.{turn_by, answer_by}
-use Rattle.cni_verbs.specs.Replies.{host_after}
 pub use Rattle.cni_verbs.specs.Replies.{reply_to}
 use Rattle.cni_verbs.specs.Script.{Turn, Calls, Finishes}
 use Rattle.cni_verbs.specs.declared.answer.Answer.{Answer}
 use Rattle.cni_verbs.specs.declared.answer.Answer.TheVariants.{Stopped}
+use Rattle.gc_sweep.specs.Trace.{Made, host_from}
+use Rattle.gc_sweep.specs.Trace as trace
 use Rattle.kernel_types.specs.declared.object.Host.{Host}
 use Rattle.kernel_types.specs.declared.call.Call.{Call}
 use Rattle.kernel_types.specs.declared.call.Reply.{Reply}
@@ -29,19 +30,34 @@ pub record World : Type 0 where
 
 -- ---- the history
 
+-- the entry is of the command at place n
+abbrev pub is_of : ℕ → Entry → Bool
+is_of n e = e.command == n + 1
+
+-- the entries of the command at place n, in order
+abbrev pub own_entries : ℕ → List Entry → List Entry
+own_entries n h = filter (is_of n) h
+
+abbrev pub replies_in : List Entry → List Reply
+replies_in es = map (λ e. e.reply) es
+
 -- the replies of the command at place n, in order
 abbrev pub replies_of : ℕ → List Entry → List Reply
-replies_of n [] = []
-replies_of n (e ∷ es) = if e.command == n + 1 then e.reply ∷ replies_of n es else replies_of n es
+replies_of n h = replies_in (own_entries n h)
 
--- the host after an entry
+-- the calls of these entries and their replies
+abbrev pub made_of : Entry → Made
+made_of e = record { call = e.call; reply = e.reply }
+
+abbrev pub made_in : List Entry → List Made
+made_in es = map made_of es
+
+-- the host after an entry, and after these entries
 abbrev pub host_on : Host → Entry → Host
-host_on host e = host_after host e.call e.reply
+host_on host e = trace.host_on host (made_of e)
 
--- the host after these entries
 abbrev pub after : Host → List Entry → Host
-after host [] = host
-after host (e ∷ es) = after (host_on host e) es
+after host es = host_from host (made_in es)
 
 abbrev pub host_of : World → Host
 host_of w = after w.plan.pods.opening w.history
