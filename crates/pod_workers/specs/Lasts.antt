@@ -1,5 +1,6 @@
 -- The addresses that pools leased last.
-use Rattle.std.specs.Prelude.{◌≡◌, true, List, [], ◌∷◌, Some, slice_get}
+use Rattle.std.specs.Prelude.{◌≡◌, true, List, Some, slice_get}
+use Rattle.std.specs.List.{AllByRecursion}
 use Rattle.cni_addr.specs.declared.range.RangeSet.{RangeSet}
 use Rattle.cni_verbs.specs.Wanted.{sets_of}
 use Rattle.ip_pool.specs.NextAddress.{is_candidate}
@@ -17,5 +18,4 @@ pub record IsLastOfSet (p : Plan) (last : Last) : Type 0 where
   pub fits : is_candidate set last.addr ≡ true
 
 abbrev pub AreLastsOfSets : Plan → List Last → Type 0
-AreLastsOfSets p [] = Unit {0}
-AreLastsOfSets p (last ∷ lasts) = IsLastOfSet p last × AreLastsOfSets p lasts
+AreLastsOfSets p lasts = AllByRecursion (IsLastOfSet p) lasts
