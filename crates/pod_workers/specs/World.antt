@@ -45,7 +45,7 @@ replies_in es = map (λ e. e.reply) es
 abbrev pub replies_of : ℕ → List Entry → List Reply
 replies_of n h = replies_in (own_entries n h)
 
--- the calls of these entries and their replies
+-- the call and the reply of an entry
 abbrev pub made_of : Entry → Made
 made_of e = record { call = e.call; reply = e.reply }
 
