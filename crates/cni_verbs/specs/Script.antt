@@ -178,12 +178,16 @@ abbrev pub unless_old : Version → State → State
 unless_old V1_0 state = refused (causes.TooOld V1_0)
 unless_old V1_1 state = state
 
+-- a collection with this work and these faults, where its list is new enough and doesn't disable it
+abbrev pub collecting : Version → Bool → Work → List ℕ → State
+collecting version disabled work faults = unless_old version (if disabled then Over (Skipped skips.Gc) [] else Collecting work faults)
+
 -- the verbs that speak of no network have no list, and are begun by `outside_start`
 abbrev pub start_of : NetList → Verb → Command → State
 start_of list verbs.Add c = unless_refused (add_refusal c) AtBegin
 start_of list verbs.Del c = unless_refused (del_refusal c) (ReadingCache Yes)
 start_of list verbs.Check c = unless_refused (del_refusal c) (if list.disable_check then Over (Skipped skips.Check) [] else FindingEntry)
-start_of list verbs.Gc c = unless_old list.version (if list.disable_gc then Over (Skipped skips.Gc) [] else Collecting (start_work (gc_of list c)) [])
+start_of list verbs.Gc c = collecting list.version list.disable_gc (start_work (gc_of list c)) []
 start_of list verbs.Status c = unless_old list.version (asking (status_questions list c))
 start_of list verbs.Version c = Over Versions []
 start_of list verb c = Over Yes []

@@ -13,7 +13,7 @@ use Rattle.kernel_types.specs.declared.call.Reply.{Reply}
 use Rattle.kernel_types.specs.Replies.{is_fault}
 use Rattle.cni_verbs.specs.Answers.{answer_of, error_of}
 use Rattle.cni_verbs.specs.Progress.{Progress, is_gc, advanced, answer_by}
-use Rattle.cni_verbs.specs.Script.{State, Collecting, IsOpen, start_state, start_of, advance, next_call, call_of_work, finish_of, finish_of_work, gc_of, faults_after}
+use Rattle.cni_verbs.specs.Script.{State, Collecting, IsOpen, collecting, start_state, start_of, advance, next_call, call_of_work, finish_of, finish_of_work, gc_of, faults_after}
 use Rattle.cni_verbs.specs.Sweep.{Job, Sweep, Work, start_work, work_after}
 use Rattle.cni_verbs.specs.Wanted.{kinds_of}
 use Rattle.cni_verbs.specs.declared.answer.Answer.{Answer}
@@ -21,12 +21,12 @@ use Rattle.cni_verbs.specs.declared.answer.Answer.TheVariants.{Yes, Skipped, Ref
 use Rattle.cni_verbs.specs.declared.answer.Cause.TheVariants as causes
 use Rattle.cni_verbs.specs.declared.answer.Skip.TheVariants as skips
 use Rattle.pod_file.specs.declared.command.ValidAtt.{ValidAtt}
-use Rattle.gc_sweep.specs.View.{HasTaken, state_by, is_early, progress_of, work_of, has_no_work, jobs_left, sweeps_after}
+use Rattle.gc_sweep.specs.View.{HasTaken, is_early, progress_of, work_of, has_no_work, jobs_left, sweeps_after}
 use Rattle.gc_sweep.specs.declared.place.Place.{Place}
 
 -- ---- the start
 
-starts_by : (list : NetList) (c : Command) (v : Verb) → is_gc v ≡ true → state_by list.version list.disable_gc (start_work (gc_of list c)) [] ≡ start_of list v c
+starts_by : (list : NetList) (c : Command) (v : Verb) → is_gc v ≡ true → collecting list.version list.disable_gc (start_work (gc_of list c)) [] ≡ start_of list v c
 starts_by list c verbs.Add h = cc
 starts_by list c verbs.Check h = cc
 starts_by list c verbs.Del h = cc
@@ -38,23 +38,23 @@ starts_by list c verbs.NsDel h = cc
 starts_by list c verbs.Drop h = cc
 starts_by list c verbs.Flush h = cc
 
-pub starts : (list : NetList) (c : Command) → is_gc c.verb ≡ true → state_by list.version list.disable_gc (start_work (gc_of list c)) [] ≡ start_state list c
+pub starts : (list : NetList) (c : Command) → is_gc c.verb ≡ true → collecting list.version list.disable_gc (start_work (gc_of list c)) [] ≡ start_state list c
 starts list c h = starts_by list c c.verb h
 
 -- ---- the next call
 
-pub late : (version : Version) (disabled : Bool) (w : Work) (faults : List ℕ) → is_early version disabled ≡ false → state_by version disabled w faults ≡ Collecting w faults
+pub late : (version : Version) (disabled : Bool) (w : Work) (faults : List ℕ) → is_early version disabled ≡ false → collecting version disabled w faults ≡ Collecting w faults
 late V1_0 disabled w faults h = cc
 late V1_1 true w faults h = cc
 late V1_1 false w faults h = refl
 
-next_early_by : (version : Version) (disabled : Bool) (w : Work) (faults : List ℕ) (c : Command) → is_early version disabled ≡ true → next_call c (state_by version disabled w faults) ≡ None
+next_early_by : (version : Version) (disabled : Bool) (w : Work) (faults : List ℕ) (c : Command) → is_early version disabled ≡ true → next_call c (collecting version disabled w faults) ≡ None
 unfolding next_call
 next_early_by V1_0 disabled w faults c h = refl
 next_early_by V1_1 true w faults c h = refl
 next_early_by V1_1 false w faults c h = cc
 
-pub next_early : (version : Version) (disabled : Bool) (w : Work) (faults : List ℕ) (c : Command) → is_early version disabled ≡ true → None ≡ next_call c (state_by version disabled w faults)
+pub next_early : (version : Version) (disabled : Bool) (w : Work) (faults : List ℕ) (c : Command) → is_early version disabled ≡ true → None ≡ next_call c (collecting version disabled w faults)
 next_early version disabled w faults c h = sym (next_early_by version disabled w faults c h)
 
 next_working : (c : Command) (w : Work) (faults : List ℕ) → next_call c (Collecting w faults) ≡ call_of_work c.network w.jobs w.sweeps
@@ -62,7 +62,7 @@ unfolding next_call
 next_working c w faults = refl
 
 pub next_late : (list : NetList) (c : Command) (p : Place) (faults : List ℕ) (ks : List Kind) → ks ≡ kinds_of list → is_early list.version list.disable_gc ≡ false
-    → call_of_work c.network (jobs_left ks p) (sweeps_after ks p.stage) ≡ next_call c (state_by list.version list.disable_gc (work_of (kinds_of list) p) faults)
+    → call_of_work c.network (jobs_left ks p) (sweeps_after ks p.stage) ≡ next_call c (collecting list.version list.disable_gc (work_of (kinds_of list) p) faults)
 next_late list c p faults ks same h =
     let w = work_of (kinds_of list) p in
     ap (λ k. call_of_work c.network (jobs_left k p) (sweeps_after k p.stage)) same
@@ -70,7 +70,7 @@ next_late list c p faults ks same h =
 
 -- ---- a reply
 
-pub open_late : (version : Version) (disabled : Bool) (w : Work) (faults : List ℕ) → IsOpen (state_by version disabled w faults) → is_early version disabled ≡ false
+pub open_late : (version : Version) (disabled : Bool) (w : Work) (faults : List ℕ) → IsOpen (collecting version disabled w faults) → is_early version disabled ≡ false
 open_late V1_0 disabled w faults h = absurd h
 open_late V1_1 true w faults h = absurd h
 open_late V1_1 false w faults h = refl
@@ -81,14 +81,14 @@ advance_working list c number w faults r = refl
 
 -- the progress with another work and other faults
 abbrev pub progress_with : NetList → Command → ℕ → Work → List ℕ → Progress
-progress_with list c made w faults = record { list = Some list; command = c; made = made; state = state_by list.version list.disable_gc w faults }
+progress_with list c made w faults = record { list = Some list; command = c; made = made; state = collecting list.version list.disable_gc w faults }
 
-pub advances : (list : NetList) (c : Command) (made : ℕ) (w v : Work) (faults more : List ℕ) (r : Reply) → IsOpen (state_by list.version list.disable_gc w faults) → v ≡ work_after (gc_of list c) w.jobs w.sweeps r → more ≡ faults_after (made + 1) faults (is_fault r)
+pub advances : (list : NetList) (c : Command) (made : ℕ) (w v : Work) (faults more : List ℕ) (r : Reply) → IsOpen (collecting list.version list.disable_gc w faults) → v ≡ work_after (gc_of list c) w.jobs w.sweeps r → more ≡ faults_after (made + 1) faults (is_fault r)
     → progress_with list c (made + 1) v more ≡ advanced (progress_with list c made w faults) r
 advances list c made w v faults more r opened work note =
     let later = open_late list.version list.disable_gc w faults opened in
     let s : State → Progress = λ x. record { list = Some list; command = c; made = made + 1; state = x } in
-    let now : state_by list.version list.disable_gc v more ≡ advance list c (made + 1) (state_by list.version list.disable_gc w faults) r =
+    let now : collecting list.version list.disable_gc v more ≡ advance list c (made + 1) (collecting list.version list.disable_gc w faults) r =
     late list.version list.disable_gc v more later
     ∙ ap (λ x. Collecting x more) work
     ∙ ap (Collecting (work_after (gc_of list c) w.jobs w.sweeps r)) note
@@ -98,7 +98,7 @@ advances list c made w v faults more r opened work note =
 
 -- the progress after a reply, by what its steps ensure
 pub taken : (list : NetList) (c : Command) (made : ℕ) (ks ls : List Kind) (valid : List ValidAtt) (p q : Place) (faults more : List ℕ) (r : Reply)
-    → IsOpen (state_by list.version list.disable_gc (work_of (kinds_of list) p) faults) → ks ≡ kinds_of list → ls ≡ ks → valid ≡ c.valid → HasTaken ls valid r p q → more ≡ faults_after (made + 1) faults (is_fault r)
+    → IsOpen (collecting list.version list.disable_gc (work_of (kinds_of list) p) faults) → ks ≡ kinds_of list → ls ≡ ks → valid ≡ c.valid → HasTaken ls valid r p q → more ≡ faults_after (made + 1) faults (is_fault r)
     → progress_of list c (made + 1) q more ≡ advanced (progress_of list c made p faults) r
 taken list c made ks ls valid p q faults more r opened ks_is ls_is valid_is work note =
     let goes : HasTaken (kinds_of list) c.valid r p q = subst (λ v. HasTaken (kinds_of list) v r p q) valid_is (subst (λ k. HasTaken k valid r p q) (ls_is ∙ ks_is) work) in
@@ -110,13 +110,13 @@ abbrev answer_in : NetList → Command → State → Option Answer
 answer_in list c s = option_map (answer_by (Some list) c) (finish_of s)
 
 pub answers_old : (list : NetList) (c : Command) (w : Work) (faults : List ℕ) (version : Version) (disabled : Bool) → version ≡ V1_0
-    → Some (Refused (error_of list.version c (causes.TooOld V1_0))) ≡ answer_in list c (state_by version disabled w faults)
+    → Some (Refused (error_of list.version c (causes.TooOld V1_0))) ≡ answer_in list c (collecting version disabled w faults)
 unfolding finish_of answer_of
 answers_old list c w faults V1_0 disabled is = refl
 answers_old list c w faults V1_1 disabled is = cc
 
 pub answers_disabled : (list : NetList) (c : Command) (w : Work) (faults : List ℕ) (version : Version) (disabled : Bool) → version ≡ V1_1 → is_early version disabled ≡ true
-    → Some (Skipped skips.Gc) ≡ answer_in list c (state_by version disabled w faults)
+    → Some (Skipped skips.Gc) ≡ answer_in list c (collecting version disabled w faults)
 unfolding finish_of answer_of
 answers_disabled list c w faults V1_0 disabled is early = cc
 answers_disabled list c w faults V1_1 true is early = refl
@@ -127,7 +127,7 @@ unfolding finish_of
 finish_working w faults = refl
 
 pub answers_late : (list : NetList) (c : Command) (p : Place) (faults : List ℕ) (ks : List Kind) → ks ≡ kinds_of list → is_early list.version list.disable_gc ≡ false
-    → option_map (answer_by (Some list) c) (finish_of_work (jobs_left ks p) (sweeps_after ks p.stage) faults) ≡ answer_in list c (state_by list.version list.disable_gc (work_of (kinds_of list) p) faults)
+    → option_map (answer_by (Some list) c) (finish_of_work (jobs_left ks p) (sweeps_after ks p.stage) faults) ≡ answer_in list c (collecting list.version list.disable_gc (work_of (kinds_of list) p) faults)
 answers_late list c p faults ks same h =
     let w = work_of (kinds_of list) p in
     ap (λ k. option_map (answer_by (Some list) c) (finish_of_work (jobs_left k p) (sweeps_after k p.stage) faults)) same

@@ -8,14 +8,13 @@ use Rattle.kernel_types.specs.declared.call.Call.{Call}
 use Rattle.net_conf.specs.declared.list.NetList.{NetList}
 use Rattle.pod_file.specs.declared.command.Command.{Command}
 use Rattle.cni_verbs.specs.Replies.{reply_to}
-use Rattle.cni_verbs.specs.Script.{State, Collecting, Over, Finish, start_state, state_from, state_after, advance, next_call, finish_of, finish_of_work, gc_of, swept}
+use Rattle.cni_verbs.specs.Script.{State, Collecting, Over, Finish, collecting, start_state, state_from, state_after, advance, next_call, finish_of, finish_of_work, gc_of, swept}
 use Rattle.cni_verbs.specs.Sweep.{Gc, Job, Sweep, Work, start_work}
 use Rattle.cni_verbs.specs.declared.answer.Ending.{Ending}
 use Rattle.cni_verbs.specs.declared.answer.Ending.TheVariants.{Yes}
 use Rattle.gc_sweep.specs.Sweep.{IsCollected}
 use Rattle.gc_sweep.specs.Trace.{Made, host_on, host_from, IsRunFrom, IsRun, Ends, replies}
 use Rattle.cni_verbs.specs.Progress.{is_gc}
-use Rattle.gc_sweep.specs.View.{state_by}
 use Rattle.gc_sweep.proofs.Machine.{Point, start_point, point_after, point_from, IsTrail}
 use Rattle.gc_sweep.proofs.Phases.{finish_working, starts}
 
@@ -33,7 +32,7 @@ state_is list c p (e ∷ es) = state_is list c (point_after (gc_of list c) p e.r
 
 -- ---- the start
 
-begins_by : (version : Version) (disabled : Bool) (w : Work) → version ≡ V1_1 → disabled ≡ false → state_by version disabled w [] ≡ Collecting w []
+begins_by : (version : Version) (disabled : Bool) (w : Work) → version ≡ V1_1 → disabled ≡ false → collecting version disabled w [] ≡ Collecting w []
 begins_by V1_0 disabled w is e = cc
 begins_by V1_1 true w is e = cc
 begins_by V1_1 false w is e = refl
@@ -76,9 +75,9 @@ pub record IsEarly (list : NetList) (c : Command) : Type 0 where
   pub refuses : ending ≡ Yes → ⊥
 
 early_by : (list : NetList) (c : Command) (version : Version) (disabled : Bool) → is_gc c.verb ≡ true → version ≡ list.version → disabled ≡ list.disable_gc → IsCollected list ⊎ IsEarly list c
-early_by list c V1_0 disabled gc v d = inr (record { ending = _; state = sym (starts list c gc) ∙ ap (λ x. state_by x list.disable_gc (start_work (gc_of list c)) []) (sym v); refuses = λ e. cc })
+early_by list c V1_0 disabled gc v d = inr (record { ending = _; state = sym (starts list c gc) ∙ ap (λ x. collecting x list.disable_gc (start_work (gc_of list c)) []) (sym v); refuses = λ e. cc })
 early_by list c V1_1 true gc v d =
-    let P : Version → Bool → State = λ x y. state_by x y (start_work (gc_of list c)) [] in
+    let P : Version → Bool → State = λ x y. collecting x y (start_work (gc_of list c)) [] in
     inr (record { ending = _; state = sym (starts list c gc) ∙ ap (λ x. P x list.disable_gc) (sym v) ∙ ap (P V1_1) (sym d); refuses = λ e. cc })
 early_by list c V1_1 false gc v d = inl (record { version = sym v; enabled = sym d })
 

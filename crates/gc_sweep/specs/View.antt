@@ -10,12 +10,9 @@ use Rattle.net_conf.specs.declared.list.NetList.{NetList}
 use Rattle.pod_file.specs.declared.command.Command.{Command}
 use Rattle.pod_file.specs.declared.command.ValidAtt.{ValidAtt}
 use Rattle.cni_verbs.specs.Progress.{Progress}
-use Rattle.cni_verbs.specs.Script.{State, collected_by, unless_old}
-use Rattle.cni_verbs.specs.Script as script
+use Rattle.cni_verbs.specs.Script.{collected_by, collecting}
 use Rattle.cni_verbs.specs.Sweep.{Step, AskCached, Delete, Sweep, Job, Work, first_sweep, kind_sweep, all_sweeps, job_of, after_step, work_after}
 use Rattle.cni_verbs.specs.Wanted.{kinds_of}
-use Rattle.cni_verbs.specs.declared.answer.Ending.TheVariants as endings
-use Rattle.cni_verbs.specs.declared.answer.Skip.TheVariants as skips
 use Rattle.gc_sweep.specs.declared.place.Stage.{Stage}
 use Rattle.gc_sweep.specs.declared.place.Stage.TheVariants.{Start, First, Of}
 use Rattle.gc_sweep.specs.declared.place.Task.{Task}
@@ -78,12 +75,9 @@ abbrev pub is_early : Version → Bool → Bool
 is_early V1_0 disabled = true
 is_early V1_1 disabled = disabled
 
-abbrev pub state_by : Version → Bool → Work → List ℕ → State
-state_by version disabled work faults = unless_old version (if disabled then script.Over (endings.Skipped skips.Gc) [] else script.Collecting work faults)
-
 abbrev pub progress_of : NetList → Command → ℕ → Place → List ℕ → Progress
 progress_of list c made place faults =
-    record { list = Some list; command = c; made = made; state = state_by list.version list.disable_gc (work_of (kinds_of list) place) faults }
+    record { list = Some list; command = c; made = made; state = collecting list.version list.disable_gc (work_of (kinds_of list) place) faults }
 
 abbrev pub IsInRange : NetList → List Kind → Place → Type 0
 IsInRange list ks place = (ks ≡ kinds_of list) × IsPlace ks place

@@ -3,9 +3,9 @@
 ghost use Rattle.std.specs.Prelude.{◌≡◌, ◌+◌, ◌<◌, ◌^◌, ℕ, List, IfOk, OnOk, OnErr, IsOk, MatchBool, Some, None, [], false, true, option_map};
 ghost use Rattle.kernel_types.specs.Replies.{is_fault};
 ghost use Rattle.cni_verbs.specs.Progress.{is_gc, progress, advanced, answer_by};
-ghost use Rattle.cni_verbs.specs.Script.{IsOpen, next_call, finish_of, finish_of_work, faults_after};
+ghost use Rattle.cni_verbs.specs.Script.{IsOpen, next_call, finish_of, collecting, finish_of_work, faults_after};
 ghost use Rattle.cni_verbs.specs.Sweep.{Work};
-ghost use Rattle.gc_sweep.specs.View.{is_early, state_by, jobs_left, sweeps_after, IsPlace};
+ghost use Rattle.gc_sweep.specs.View.{is_early, jobs_left, sweeps_after, IsPlace};
 
 use crate::place::{Place, next_call, take};
 use cni_addr::{Duplicate, Items, NoMemory};
@@ -136,7 +136,7 @@ fn is_early(list: &NetList) -> bool
 /// The answer that a list gives before any call.
 fn early_answer(alloc: Global, list: &NetList, command: &Command) -> Result<Answer, NoMemory>
     requires { is_early list.now.version list.now.disable_gc ≡ true }
-    ensures { IfOk result (λ answer. (work : Work) (faults : List ℕ) → Some answer ≡ option_map (answer_by (Some list.now) command.now) (finish_of (state_by list.now.version list.now.disable_gc work faults))) }
+    ensures { IfOk result (λ answer. (work : Work) (faults : List ℕ) → Some answer ≡ option_map (answer_by (Some list.now) command.now) (finish_of (collecting list.now.version list.now.disable_gc work faults))) }
 {
     match list.version {
         Version::V1_0 => refused(alloc, list.version, command, &Cause::TooOld(Version::V1_0)),
