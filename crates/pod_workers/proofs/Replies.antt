@@ -36,31 +36,31 @@ OfRefusals P = (cause : Cause) → P (Over (Refused cause) [])
 abbrev pub OfUndoing : (State → Type 0) → Type 0
 OfUndoing P = (cause : Cause) → P (ReadingCache (Refused cause))
 
-by-begin : (P : State → Type 0) (list : NetList) (c : Command) (number : ℕ) (r : Reply) → OfRefusals P → P (before_leases list c (before_of list c)) → P (at_begin list c number r)
+pub by-begin : (P : State → Type 0) (list : NetList) (c : Command) (number : ℕ) (r : Reply) → OfRefusals P → P (before_leases list c (before_of list c)) → P (at_begin list c number r)
 by-begin P list c number Done refused next = next
 by-begin P list c number _ refused next = refused _
 
-by-call_before : (P : State → Type 0) (list : NetList) (c : Command) (number : ℕ) (left : List Call) (r : Reply) → OfUndoing P → P (before_leases list c left) → P (at_call_before list c number left r)
+pub by-call_before : (P : State → Type 0) (list : NetList) (c : Command) (number : ℕ) (left : List Call) (r : Reply) → OfUndoing P → P (before_leases list c left) → P (at_call_before list c number left r)
 by-call_before P list c number left Done undone next = next
 by-call_before P list c number left _ undone next = undone _
 
-by-lease : (P : State → Type 0) (list : NetList) (c : Command) (number : ℕ) (left : List RangeSet) (given : List Addr) (r : Reply) → OfUndoing P → ((addr : Addr) → P (leasing list c left (given ++ addr ∷ []))) → P (at_lease list c number left given r)
+pub by-lease : (P : State → Type 0) (list : NetList) (c : Command) (number : ℕ) (left : List RangeSet) (given : List Addr) (r : Reply) → OfUndoing P → ((addr : Addr) → P (leasing list c left (given ++ addr ∷ []))) → P (at_lease list c number left given r)
 by-lease P list c number left given (Leased addr) undone next = next addr
 by-lease P list c number left given _ undone next = undone _
 
-by-call_after : (P : State → Type 0) (number : ℕ) (left : List Call) (given : List Addr) (r : Reply) → OfUndoing P → P (after_leases left given) → P (at_call_after number left given r)
+pub by-call_after : (P : State → Type 0) (number : ℕ) (left : List Call) (given : List Addr) (r : Reply) → OfUndoing P → P (after_leases left given) → P (at_call_after number left given r)
 by-call_after P number left given Done undone next = next
 by-call_after P number left given _ undone next = undone _
 
-by-cache : (P : State → Type 0) (list : NetList) (number : ℕ) (ending : Ending) (r : Reply) → P (Over (faulted number ending) []) → P (deleting (kinds_of list) ending) → P (at_cache list number ending r)
+pub by-cache : (P : State → Type 0) (list : NetList) (number : ℕ) (ending : Ending) (r : Reply) → P (Over (faulted number ending) []) → P (deleting (kinds_of list) ending) → P (at_cache list number ending r)
 by-cache P list number ending Fault over next = over
 by-cache P list number ending _ over next = next
 
-by-gone : (P : State → Type 0) (number : ℕ) (kind : Kind) (left : List Kind) (ending : Ending) (b : Bool) → P (Deleting kind left ending) → P (deleting left ending) → P (at_deletion number kind left ending (Gone b))
+pub by-gone : (P : State → Type 0) (number : ℕ) (kind : Kind) (left : List Kind) (ending : Ending) (b : Bool) → P (Deleting kind left ending) → P (deleting left ending) → P (at_deletion number kind left ending (Gone b))
 by-gone P number kind left ending true again next = again
 by-gone P number kind left ending false again next = next
 
-by-deletion : (P : State → Type 0) (number : ℕ) (kind : Kind) (left : List Kind) (ending : Ending) (r : Reply)
+pub by-deletion : (P : State → Type 0) (number : ℕ) (kind : Kind) (left : List Kind) (ending : Ending) (r : Reply)
     → P (Over (faulted number ending) []) → P (Deleting kind left ending) → P (deleting left ending) → P (at_deletion number kind left ending r)
 by-deletion P number kind left ending (Gone b) over again next = by-gone P number kind left ending b again next
 by-deletion P number kind left ending Fault over again next = over
