@@ -113,12 +113,12 @@ to-before_leases list c es made [] s all is was =
     to-leasing list c es [] (sets_of list) [] s refl refl (is ∙ ap (share_after_calls no_objects) (sym (all ∙ append-nil made)) ∙ no_leases list.first (att_of c) c.netns) was
 to-before_leases list c es made (x ∷ xs) s all is was = (made, all, is, was)
 
-not_added-over : (list : NetList) (c : Command) (es : List Entry) (e : Ending) (s : Share) → IsNoResult e → IsAddedWith list c es e [] s
-not_added-over list c es Added s h = absurd h
-not_added-over list c es Yes s h = tt
-not_added-over list c es (Skipped skip) s h = tt
-not_added-over list c es Versions s h = tt
-not_added-over list c es (Refused cause) s h = tt
+pub achieved-end : (list : NetList) (c : Command) (es : List Entry) (ending : Ending) (given : List Addr) (s : Share) → IsNoResult ending → IsAddedWith list c es ending given s
+achieved-end list c es Added given s h = absurd h
+achieved-end list c es Yes given s h = tt
+achieved-end list c es (Skipped skip) given s h = tt
+achieved-end list c es Versions given s h = tt
+achieved-end list c es (Refused cause) given s h = tt
 
 not_added-faulted : (list : NetList) (c : Command) (es : List Entry) (number : ℕ) (e : Ending) (s : Share) → IsAddedWith list c es (faulted number e) [] s
 not_added-faulted list c es number Added s = tt
@@ -128,7 +128,7 @@ not_added-faulted list c es number Versions s = tt
 not_added-faulted list c es number (Refused cause) s = tt
 
 to-deleting : (list : NetList) (c : Command) (es : List Entry) (ks : List Kind) (e : Ending) (s : Share) → IsNoResult e → Achieved list c es (deleting ks e) s
-to-deleting list c es [] e s h = not_added-over list c es e s h
+to-deleting list c es [] e s h = achieved-end list c es e [] s h
 to-deleting list c es (k ∷ ks) e s h = h
 
 -- ---- one entry, by its reply and by what it made of the share where it was done
@@ -178,13 +178,6 @@ moves-deletion list c es number k ks ending Fault t was = not_added-faulted list
 moves-deletion list c es number k ks ending _ t was = was
 
 -- ---- runs that make no attachment
-
-pub achieved-end : (list : NetList) (c : Command) (es : List Entry) (ending : Ending) (given : List Addr) (s : Share) → IsNoResult ending → IsAddedWith list c es ending given s
-achieved-end list c es Added given s h = absurd h
-achieved-end list c es Yes given s h = tt
-achieved-end list c es (Skipped skip) given s h = tt
-achieved-end list c es Versions given s h = tt
-achieved-end list c es (Refused cause) given s h = tt
 
 achieved-aside : (list : NetList) (c : Command) (es : List Entry) (st : State) (s : Share) → IsAside st → Achieved list c es st s
 achieved-aside list c es AtBegin s h = absurd h

@@ -86,12 +86,12 @@ to-before_leases : (list : NetList) (c : Command) (es : List Entry) (left : List
 to-before_leases list c es [] s = to-leasing list c es [] (sets_of list) [] s refl tt
 to-before_leases list c es (x ∷ xs) s = tt
 
-over-not_added : (list : NetList) (ending : Ending) → IsNoResult ending → IsOverLeased list ending []
-over-not_added list Added h = absurd h
-over-not_added list Yes h = tt
-over-not_added list (Skipped skip) h = tt
-over-not_added list Versions h = tt
-over-not_added list (Refused cause) h = tt
+pub leased-end : (list : NetList) (ending : Ending) (given : List Addr) → IsNoResult ending → IsOverLeased list ending given
+leased-end list Added given h = absurd h
+leased-end list Yes given h = tt
+leased-end list (Skipped skip) given h = tt
+leased-end list Versions given h = tt
+leased-end list (Refused cause) given h = tt
 
 over-faulted : (list : NetList) (number : ℕ) (ending : Ending) → IsOverLeased list (faulted number ending) []
 over-faulted list number Added = tt
@@ -101,7 +101,7 @@ over-faulted list number Versions = tt
 over-faulted list number (Refused cause) = tt
 
 to-deleting : (list : NetList) (c : Command) (es : List Entry) (ks : List Kind) (ending : Ending) (s : Share) → IsNoResult ending → LeasedRun list c es (deleting ks ending) s
-to-deleting list c es [] ending s h = over-not_added list ending h
+to-deleting list c es [] ending s h = leased-end list ending [] h
 to-deleting list c es (k ∷ ks) ending s h = h
 
 -- ---- one entry
@@ -138,13 +138,6 @@ run-deletion list c es number k ks ending Fault s h = over-faulted list number e
 run-deletion list c es number k ks ending _ s h = h
 
 -- ---- runs that make no attachment
-
-pub leased-end : (list : NetList) (ending : Ending) (given : List Addr) → IsNoResult ending → IsOverLeased list ending given
-leased-end list Added given h = absurd h
-leased-end list Yes given h = tt
-leased-end list (Skipped skip) given h = tt
-leased-end list Versions given h = tt
-leased-end list (Refused cause) given h = tt
 
 leased-aside : (list : NetList) (c : Command) (es : List Entry) (st : State) (s : Share) → IsAside st → LeasedRun list c es st s
 leased-aside list c es AtBegin s h = absurd h
