@@ -1,5 +1,7 @@
 -- Each entry leaves the objects of every other attachment.
-use Rattle.std.proofs.Common.{◌≡◌, true, false, refl, sym, ◌∙◌, ap, inl, inr}
+use Rattle.std.proofs.Common.{◌≡◌, true, false, not, sym, ◌∙◌, ap, inl, inr}
+use Rattle.std.proofs.lemmas.Bool.{and_parts}
+use Rattle.cni_verbs.specs.Progress.{is_gc}
 use Rattle.pod_file.specs.Commands.{is_of_network}
 use Rattle.pod_file.specs.declared.command.Verb.{Verb}
 use Rattle.pod_file.specs.declared.command.Verb.TheVariants as verbs
@@ -17,11 +19,7 @@ leaves-now w n c list call faulty on leaves = λ other apart. elim (other-entere
 ]
 
 of-network : (v : Verb) → leaves_others v ≡ true → is_of_network v ≡ true
-of-network verbs.NsAdd leaves = cc
-of-network verbs.NsDel leaves = cc
-of-network verbs.Drop leaves = cc
-of-network verbs.Flush leaves = cc
-of-network _ leaves = refl
+of-network v leaves = (and_parts (is_of_network v) (not (is_gc v)) leaves).0
 
 pub each_entry_leaves_others : EachEntryLeavesOthers
 each_entry_leaves_others = each-entry_of (λ v. leaves_others v ≡ true) LeavesOthers of-network leaves-now

@@ -1,6 +1,7 @@
 -- An entry of one attachment leaves all others alone, and what none owns.
-use Rattle.std.specs.Prelude.{◌≡◌, Bool, true, false, List, ◌++◌, filter}
+use Rattle.std.specs.Prelude.{◌≡◌, Bool, true, false, ◌&&◌, not, List, ◌++◌, filter}
 use Rattle.cni_verbs.specs.CommandWords.{att_of}
+use Rattle.cni_verbs.specs.Progress.{is_gc}
 use Rattle.kernel_types.specs.Equal.{att_eq}
 use Rattle.kernel_types.specs.Isolation.{KeepsWhere}
 use Rattle.kernel_types.specs.Touch.{is_base}
@@ -20,12 +21,7 @@ use Rattle.pod_laws.specs.Single.{EachEntry, ByVerb}
 
 -- a garbage collection and the world outside may take from any attachment; each other verb changes its own at most
 abbrev pub leaves_others : Verb → Bool
-leaves_others verbs.Gc = false
-leaves_others verbs.NsAdd = false
-leaves_others verbs.NsDel = false
-leaves_others verbs.Drop = false
-leaves_others verbs.Flush = false
-leaves_others verb = true
+leaves_others verb = is_of_network verb && not (is_gc verb)
 
 abbrev pub LeavesOthers : Command → Host → Host → Type 0
 LeavesOthers c old new = (other : Att) → att_eq (att_of c) other ≡ false → share_of other new ≡ share_of other old
