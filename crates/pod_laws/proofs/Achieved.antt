@@ -15,7 +15,7 @@ use Rattle.kernel_types.specs.declared.call.Kind.{Kind}
 use Rattle.kernel_types.specs.declared.call.Call.{Call}
 use Rattle.kernel_types.specs.declared.call.Call.TheVariants.{Begin, LeaseNext}
 use Rattle.kernel_types.specs.declared.call.Reply.{Reply}
-use Rattle.kernel_types.specs.declared.call.Reply.TheVariants.{Done, Leased, Gone, Fault}
+use Rattle.kernel_types.specs.declared.call.Reply.TheVariants.{Done, Leased, Fault}
 use Rattle.plan_words.specs.PlanCalls.{is_plan_call_of}
 use Rattle.kernel_types.specs.Words.{lease_of}
 use Rattle.plan_words.specs.Share.{Share, share_of, no_objects, share_after_call, share_after_calls}
@@ -29,6 +29,7 @@ use Rattle.cni_verbs.specs.declared.answer.Ending.TheVariants.{Added, Yes, Skipp
 use Rattle.pod_workers.specs.World.{entry_of, host_of, host_on, reply_to}
 use Rattle.pod_workers.specs.declared.plan.Entry.{Entry}
 use Rattle.pod_workers.proofs.Planned.{LeftArePlanned}
+use Rattle.pod_workers.proofs.Replies.{by-cache, by-deletion}
 use Rattle.pod_workers.proofs.StepsLeft.{host-made}
 use Rattle.pod_laws.specs.Moments.{own_entries}
 use Rattle.pod_laws.proofs.Entries.{replies_in}
@@ -165,17 +166,10 @@ moves-after list c es e number x xs given Done s t is was h =
 moves-after list c es e number x xs given _ s t is was h = tt
 
 moves-cache : (list : NetList) (c : Command) (es : List Entry) (number : ℕ) (ending : Ending) (r : Reply) (t : Share) → IsNoResult ending → Achieved list c es (at_cache list number ending r) t
-moves-cache list c es number ending Fault t was = not_added-faulted list c es number ending t
-moves-cache list c es number ending _ t was = to-deleting list c es (kinds_of list) ending t was
-
-moves-gone : (list : NetList) (c : Command) (es : List Entry) (number : ℕ) (k : Kind) (ks : List Kind) (ending : Ending) (b : Bool) (t : Share) → IsNoResult ending → Achieved list c es (at_deletion number k ks ending (Gone b)) t
-moves-gone list c es number k ks ending true t was = was
-moves-gone list c es number k ks ending false t was = to-deleting list c es ks ending t was
+moves-cache list c es number ending r t was = by-cache (λ st. Achieved list c es st t) list number ending r (not_added-faulted list c es number ending t) (to-deleting list c es (kinds_of list) ending t was)
 
 moves-deletion : (list : NetList) (c : Command) (es : List Entry) (number : ℕ) (k : Kind) (ks : List Kind) (ending : Ending) (r : Reply) (t : Share) → IsNoResult ending → Achieved list c es (at_deletion number k ks ending r) t
-moves-deletion list c es number k ks ending (Gone b) t was = moves-gone list c es number k ks ending b t was
-moves-deletion list c es number k ks ending Fault t was = not_added-faulted list c es number ending t
-moves-deletion list c es number k ks ending _ t was = was
+moves-deletion list c es number k ks ending r t was = by-deletion (λ st. Achieved list c es st t) number k ks ending r (not_added-faulted list c es number ending t) was (to-deleting list c es ks ending t was)
 
 -- ---- runs that make no attachment
 

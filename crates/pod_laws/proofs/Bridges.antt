@@ -35,10 +35,10 @@ use Rattle.kernel_types.specs.declared.call.Kind.TheVariants as kinds
 use Rattle.kernel_types.specs.declared.call.Call.{Call}
 use Rattle.kernel_types.specs.declared.call.Call.TheVariants.{BridgeEnsure, GatewayEnsure, ForwardEnsure, NsChange, Outside}
 use Rattle.kernel_types.specs.declared.call.Reply.{Reply}
-use Rattle.kernel_types.specs.declared.call.Reply.TheVariants.{Done, Taken, Leased, Gone, Fault}
+use Rattle.kernel_types.specs.declared.call.Reply.TheVariants.{Done, Taken}
 use Rattle.plan_words.specs.PlanCalls.{is_call_of}
 use Rattle.cni_verbs.specs.CommandWords.{att_of}
-use Rattle.cni_verbs.specs.Script.{State, AtBegin, BeforeLeases, Leasing, AfterLeases, ReadingCache, Deleting, FindingEntry, Asking, Changing, Collecting, Over, Calls, before_of, back_of, after_leases, leasing, before_leases, deleting, at_begin, at_call_before, at_lease, at_call_after, at_cache, at_deletion, advance, turn}
+use Rattle.cni_verbs.specs.Script.{State, AtBegin, BeforeLeases, Leasing, AfterLeases, ReadingCache, Deleting, FindingEntry, Asking, Changing, Collecting, Over, Calls, before_of, back_of, after_leases, leasing, before_leases, deleting, at_call_before, advance, turn}
 use Rattle.cni_verbs.specs.Wanted.{sets_of, calls_before, kinds_of, deletion}
 use Rattle.cni_verbs.specs.declared.answer.Ending.{Ending}
 use Rattle.pod_workers.specs.Legal.{Legal}
@@ -48,6 +48,7 @@ use Rattle.pod_workers.specs.declared.plan.Entry.{Entry}
 use Rattle.pod_workers.specs.declared.plan.Plan.{Plan}
 use Rattle.pod_workers.proofs.Histories.{after-append, replies_of-other}
 use Rattle.pod_workers.proofs.Order.{ready_is}
+use Rattle.pod_workers.proofs.Replies.{by-begin, by-lease, by-call_after, by-cache, by-deletion}
 use Rattle.pod_workers.proofs.Sound.{sound_host}
 use Rattle.pod_workers.proofs.StepsLeft.{host-made}
 use Rattle.pod_laws.specs.Moments.{is_of, own_entries}
@@ -218,33 +219,9 @@ to-deleting : (list : NetList) (ks : List Kind) (ending : Ending) (host : Host) 
 to-deleting list [] ending host = tt
 to-deleting list (k ∷ ks) ending host = tt
 
-bridge-at_begin : (list : NetList) (c : Command) (number : ℕ) (r : Reply) (host : Host) → HasBridge list (at_begin list c number r) host
-bridge-at_begin list c number Done host = to-before_leases list c (before_of list c) host (comes-before list.first (att_of c) c.netns host)
-bridge-at_begin list c number _ host = tt
-
 bridge-before : (list : NetList) (c : Command) (number : ℕ) (left : List Call) (r : Reply) (host : Host) → (r ≡ Done → BridgeComes list.first left host) → HasBridge list (at_call_before list c number left r) host
 bridge-before list c number left Done host h = to-before_leases list c left host (h refl)
 bridge-before list c number left _ host h = tt
-
-bridge-lease : (list : NetList) (c : Command) (number : ℕ) (left : List RangeSet) (given : List Addr) (r : Reply) (host : Host) → BridgeIn list.first host → HasBridge list (at_lease list c number left given r) host
-bridge-lease list c number left given (Leased addr) host h = to-leasing list c left (given ++ addr ∷ []) host h
-bridge-lease list c number left given _ host h = tt
-
-bridge-after : (list : NetList) (number : ℕ) (left : List Call) (given : List Addr) (r : Reply) (host : Host) → BridgeIn list.first host → HasBridge list (at_call_after number left given r) host
-bridge-after list number left given Done host h = to-after_leases list left given host h
-bridge-after list number left given _ host h = tt
-
-bridge-cache : (list : NetList) (number : ℕ) (ending : Ending) (r : Reply) (host : Host) → HasBridge list (at_cache list number ending r) host
-bridge-cache list number ending Fault host = tt
-bridge-cache list number ending _ host = to-deleting list (kinds_of list) ending host
-
-bridge-gone : (list : NetList) (number : ℕ) (kind : Kind) (left : List Kind) (ending : Ending) (b : Bool) (host : Host) → HasBridge list (at_deletion number kind left ending (Gone b)) host
-bridge-gone list number kind left ending true host = tt
-bridge-gone list number kind left ending false host = to-deleting list left ending host
-
-bridge-deletion : (list : NetList) (number : ℕ) (kind : Kind) (left : List Kind) (ending : Ending) (r : Reply) (host : Host) → HasBridge list (at_deletion number kind left ending r) host
-bridge-deletion list number kind left ending (Gone b) host = bridge-gone list number kind left ending b host
-bridge-deletion list number kind left ending _ host = tt
 
 -- a call before the leases that was done
 comes-done : (first : First) (k : Host) (n : ℕ) (x : Call) (xs : List Call) (faulty : Bool) → (BridgeIn first k → BridgeIn first (host_on k (entry_of k n x faulty))) → BridgeComes first (x ∷ xs) k → reply_to k x faulty ≡ Done
@@ -267,14 +244,24 @@ bridge-aside list _ host h = tt
 bridge-advance : (list : NetList) (c : Command) (number : ℕ) (st : State) (k : Host) (n : ℕ) (call : Call) (faulty : Bool) → turn c st ≡ Calls call → (BridgeIn list.first k → BridgeIn list.first (host_on k (entry_of k n call faulty))) → HasBridge list st k
     → HasBridge list (advance list c number st (reply_to k call faulty)) (host_on k (entry_of k n call faulty))
 unfolding turn advance
-bridge-advance list c number AtBegin k n call faulty is stays was = bridge-at_begin list c number _ (host_on k (entry_of k n call faulty))
+bridge-advance list c number AtBegin k n call faulty is stays was =
+    let host = host_on k (entry_of k n call faulty) in
+    by-begin (λ st. HasBridge list st host) list c number _ (λ cause. tt) (to-before_leases list c (before_of list c) host (comes-before list.first (att_of c) c.netns host))
 bridge-advance list c number (BeforeLeases x xs) k n call faulty is stays was =
     bridge-before list c number xs _ (host_on k (entry_of k n call faulty))
     (λ done. let e : call ≡ x = cc in comes-done list.first k n call xs faulty stays (subst (λ j. BridgeComes list.first (j ∷ xs) k) (sym e) was) done)
-bridge-advance list c number (Leasing set sets given) k n call faulty is stays was = bridge-lease list c number sets given _ (host_on k (entry_of k n call faulty)) (stays was)
-bridge-advance list c number (AfterLeases x xs given) k n call faulty is stays was = bridge-after list number xs given _ (host_on k (entry_of k n call faulty)) (stays was)
-bridge-advance list c number (ReadingCache ending) k n call faulty is stays was = bridge-cache list number ending _ (host_on k (entry_of k n call faulty))
-bridge-advance list c number (Deleting kind ks ending) k n call faulty is stays was = bridge-deletion list number kind ks ending _ (host_on k (entry_of k n call faulty))
+bridge-advance list c number (Leasing set sets given) k n call faulty is stays was =
+    let host = host_on k (entry_of k n call faulty) in
+    by-lease (λ st. HasBridge list st host) list c number sets given _ (λ cause. tt) (λ addr. to-leasing list c sets (given ++ addr ∷ []) host (stays was))
+bridge-advance list c number (AfterLeases x xs given) k n call faulty is stays was =
+    let host = host_on k (entry_of k n call faulty) in
+    by-call_after (λ st. HasBridge list st host) number xs given _ (λ cause. tt) (to-after_leases list xs given host (stays was))
+bridge-advance list c number (ReadingCache ending) k n call faulty is stays was =
+    let host = host_on k (entry_of k n call faulty) in
+    by-cache (λ st. HasBridge list st host) list number ending _ tt (to-deleting list (kinds_of list) ending host)
+bridge-advance list c number (Deleting kind ks ending) k n call faulty is stays was =
+    let host = host_on k (entry_of k n call faulty) in
+    by-deletion (λ st. HasBridge list st host) number kind ks ending _ tt tt (to-deleting list ks ending host)
 bridge-advance list c number (Over ending given) k n call faulty is stays was = cc
 bridge-advance list c number st k n call faulty is stays was =
     let r = reply_to k call faulty in

@@ -25,7 +25,7 @@ use Rattle.kernel_types.specs.declared.call.Kind.{Kind}
 use Rattle.kernel_types.specs.declared.call.Call.{Call}
 use Rattle.kernel_types.specs.declared.call.Call.TheVariants.{LeaseNext}
 use Rattle.kernel_types.specs.declared.call.Reply.{Reply}
-use Rattle.kernel_types.specs.declared.call.Reply.TheVariants.{Done, Leased, Gone, Fault}
+use Rattle.kernel_types.specs.declared.call.Reply.TheVariants.{Leased}
 use Rattle.plan_words.specs.Share.{Share, share_of}
 use Rattle.cni_verbs.specs.CommandWords.{att_of}
 use Rattle.cni_verbs.specs.Script.{State, AtBegin, BeforeLeases, Leasing, AfterLeases, ReadingCache, Deleting, FindingEntry, Asking, Changing, Collecting, Over, Calls, before_of, back_of, after_leases, leasing, before_leases, deleting, faulted, at_begin, at_call_before, at_lease, at_call_after, at_cache, at_deletion, advance, turn}
@@ -37,6 +37,7 @@ use Rattle.pod_workers.specs.World.{World, after, entry_of, host_of, host_on, re
 use Rattle.pod_workers.specs.declared.plan.Entry.{Entry}
 use Rattle.pod_workers.specs.declared.plan.Plan.{Plan}
 use Rattle.pod_workers.proofs.Histories.{after-append}
+use Rattle.pod_workers.proofs.Replies.{by-begin, by-call_before, by-call_after, by-cache, by-deletion}
 use Rattle.pod_laws.specs.Moments.{host_at_end, is_of, own_entries, until_last}
 use Rattle.pod_laws.proofs.Entries.{until_last-own, until_last-other}
 use Rattle.pod_laws.proofs.States.{IsAside, IsNoResult, aside-advance, by-start}
@@ -107,12 +108,10 @@ to-deleting list c es (k ∷ ks) ending s h = h
 -- ---- one entry
 
 run-at_begin : (list : NetList) (c : Command) (es : List Entry) (number : ℕ) (r : Reply) (s : Share) → LeasedRun list c es (at_begin list c number r) s
-run-at_begin list c es number Done s = to-before_leases list c es (before_of list c) s
-run-at_begin list c es number _ s = tt
+run-at_begin list c es number r s = by-begin (λ st. LeasedRun list c es st s) list c number r (λ cause. tt) (to-before_leases list c es (before_of list c) s)
 
 run-before : (list : NetList) (c : Command) (es : List Entry) (number : ℕ) (left : List Call) (r : Reply) (s : Share) → LeasedRun list c es (at_call_before list c number left r) s
-run-before list c es number left Done s = to-before_leases list c es left s
-run-before list c es number left _ s = tt
+run-before list c es number left r s = by-call_before (λ st. LeasedRun list c es st s) list c number left r (λ cause. tt) (to-before_leases list c es left s)
 
 run-lease : (list : NetList) (c : Command) (es : List Entry) (number : ℕ) (set : RangeSet) (left past : List RangeSet) (given : List Addr) (r : Reply) (s : Share) → sets_of list ≡ past ++ set ∷ left → AreCandidates past given
     → ((a : Addr) → r ≡ Leased a → is_candidate set a ≡ true) → LeasedRun list c es (at_lease list c number left given r) s
@@ -121,21 +120,13 @@ run-lease list c es number set left past given (Leased a) s all h fits =
 run-lease list c es number set left past given _ s all h fits = tt
 
 run-after : (list : NetList) (c : Command) (es : List Entry) (number : ℕ) (left : List Call) (given : List Addr) (r : Reply) (s : Share) → AreCandidates (sets_of list) given → LeasedRun list c es (at_call_after number left given r) s
-run-after list c es number left given Done s h = to-after_leases list c es left given s h
-run-after list c es number left given _ s h = tt
+run-after list c es number left given r s h = by-call_after (λ st. LeasedRun list c es st s) number left given r (λ cause. tt) (to-after_leases list c es left given s h)
 
 run-cache : (list : NetList) (c : Command) (es : List Entry) (number : ℕ) (ending : Ending) (r : Reply) (s : Share) → IsNoResult ending → LeasedRun list c es (at_cache list number ending r) s
-run-cache list c es number ending Fault s h = over-faulted list number ending
-run-cache list c es number ending _ s h = to-deleting list c es (kinds_of list) ending s h
-
-run-gone : (list : NetList) (c : Command) (es : List Entry) (number : ℕ) (k : Kind) (ks : List Kind) (ending : Ending) (b : Bool) (s : Share) → IsNoResult ending → LeasedRun list c es (at_deletion number k ks ending (Gone b)) s
-run-gone list c es number k ks ending true s h = h
-run-gone list c es number k ks ending false s h = to-deleting list c es ks ending s h
+run-cache list c es number ending r s h = by-cache (λ st. LeasedRun list c es st s) list number ending r (over-faulted list number ending) (to-deleting list c es (kinds_of list) ending s h)
 
 run-deletion : (list : NetList) (c : Command) (es : List Entry) (number : ℕ) (k : Kind) (ks : List Kind) (ending : Ending) (r : Reply) (s : Share) → IsNoResult ending → LeasedRun list c es (at_deletion number k ks ending r) s
-run-deletion list c es number k ks ending (Gone b) s h = run-gone list c es number k ks ending b s h
-run-deletion list c es number k ks ending Fault s h = over-faulted list number ending
-run-deletion list c es number k ks ending _ s h = h
+run-deletion list c es number k ks ending r s h = by-deletion (λ st. LeasedRun list c es st s) number k ks ending r (over-faulted list number ending) h (to-deleting list c es ks ending s h)
 
 -- ---- runs that make no attachment
 
