@@ -16,10 +16,8 @@ use Rattle.std.proofs.lemmas.Bool.{and_parts}
 use Rattle.std.proofs.lemmas.List.Folds.{list_all-append}
 use Rattle.kernel_types.specs.Equal.{addr_obj_eq, chain_eq, cidr_eq, key_eq, lease_eq, link_eq, link_kind_eq, mac_eq, proto_eq, route_eq, rule_eq, setting_eq, table_eq, tag_eq, target_eq}
 use Rattle.kernel_types.specs.Words.{cached_in, is_own}
-use Rattle.kernel_types.proofs.Cases.{tag_eq-own}
-use Rattle.kernel_types.proofs.Isolation.{is_own-one}
+use Rattle.kernel_types.proofs.TouchRemoval.{is_own-tag_eq}
 use Rattle.kernel_types.proofs.ListLemmas as lists
-use Rattle.kernel_types.specs.declared.object.Att.{Att}
 use Rattle.kernel_types.specs.declared.object.Host.{Host}
 use Rattle.kernel_types.specs.declared.object.Link.{Link}
 use Rattle.kernel_types.specs.declared.object.AddrObj.{AddrObj}
@@ -59,9 +57,6 @@ any-own p own w (x ∷ xs) = grind (arith, w x, any-own p own w xs)
 
 same-own : {X : Type 0} (p own : X → Bool) → ((x : X) → p x ≡ true → own x ≡ true) → (old new : List X) → filter own new ≡ filter own old → list_any p old ≡ true → list_any p new ≡ true
 same-own p own w old new same there = sym (any-own p own w new) ∙ ap (list_any p) same ∙ any-own p own w old ∙ there
-
-tag-own : (att : Att) (t u : Tag) → tag_eq t u ≡ true → is_own att u ≡ true → is_own att t ≡ true
-tag-own att t u same own = sym (tag_eq-own att t) ∙ ap (tag_eq t) (sym (is_own-one att u own)) ∙ same
 
 and-fifth : (a b d e r : Bool) → (a && (b && (d && (e && r)))) ≡ true → r ≡ true
 and-fifth a b d e r h = (and_parts e r (and_parts d (e && r) (and_parts b (d && (e && r)) (and_parts a (b && (d && (e && r))) h).1).1).1).1
@@ -106,7 +101,7 @@ steady-object c equal tag listed q x what same_tag keep asks told lack own = rec
   what = what;
   lack = lack;
   stays = λ old new keeps there.
-      let among = same-own (λ y. equal y x) (λ y. is_own (att_of c) (tag y)) (λ y h. tag-own (att_of c) (tag y) (tag x) (same_tag y x h) own) (listed old) (listed new) (keep old new keeps) in
+      let among = same-own (λ y. equal y x) (λ y. is_own (att_of c) (tag y)) (λ y h. is_own-tag_eq (att_of c) (tag y) (tag x) (same_tag y x h) ∙ own) (listed old) (listed new) (keep old new keeps) in
       asks new ∙ among (sym (asks old) ∙ there);
 }
 
