@@ -1,6 +1,7 @@
 -- Questions that are asked one after another, until one is denied.
 use Rattle.std.proofs.Common.{◌≡◌, ℕ, Bool, true, false, List, [], ◌∷◌, ◌++◌, map, refl, sym, ◌∙◌, ap, subst, append_assoc, arith}
 use Rattle.std.proofs.lemmas.List.{append-nil}
+use Rattle.std.proofs.lemmas.List.Folds.{list_all-append}
 use Rattle.std.specs.Prelude.{◌&&◌}
 use Rattle.std.specs.List.{list_all}
 use Rattle.kernel_types.specs.Apply.{apply}
@@ -9,8 +10,7 @@ use Rattle.kernel_types.specs.declared.object.Host.{Host}
 use Rattle.kernel_types.specs.declared.call.Call.{Call}
 use Rattle.kernel_types.specs.declared.call.Call.TheVariants.{HasObj, PoolFree}
 use Rattle.kernel_types.specs.declared.call.Reply.TheVariants.{Has}
-use Rattle.plan_words.proofs.KeyLists.{list_all-append}
-use Rattle.kernel_types.proofs.ListLemmas.{list_any-append_none, list_any-append_right}
+use Rattle.kernel_types.proofs.ListLemmas.{list_all-push, list_any-append_none, list_any-append_right}
 use Rattle.cni_verbs.specs.Script.{State, Asking, Over, asking, at_question}
 use Rattle.cni_verbs.specs.declared.answer.Ending.{Ending}
 use Rattle.cni_verbs.specs.declared.answer.Ending.TheVariants.{Added, Yes, Skipped, Versions, Refused}
@@ -79,11 +79,8 @@ asked-all host all (q ∷ qs) a = a
 pub asked-none : (host : Host) (all : List Question) → HasAsked host all all
 asked-none host all = record { past = []; are = refl; granted = refl }
 
-one-granted : (host : Host) (past : List Question) (q : Question) → list_all (grants host) past ≡ true → grants host q ≡ true → list_all (grants host) (past ++ q ∷ []) ≡ true
-one-granted host past q h g = list_all-append (grants host) past (q ∷ []) h (grind (arith, g))
-
 asked-has : (host : Host) (all : List Question) (number : ℕ) (q : Question) (qs : List Question) (b : Bool) → grants host q ≡ b → HasAsked host all (q ∷ qs) → IsAsking host all (at_question number q qs (Has b))
-asked-has host all number q qs true is a = asked-all host all qs (record { past = a.past ++ q ∷ []; are = a.are ∙ sym (append_assoc a.past (q ∷ []) qs); granted = one-granted host a.past q a.granted is })
+asked-has host all number q qs true is a = asked-all host all qs (record { past = a.past ++ q ∷ []; are = a.are ∙ sym (append_assoc a.past (q ∷ []) qs); granted = list_all-push (grants host) a.past q a.granted is })
 asked-has host all number q qs false is a = (refl, (q, record { past = a.past; left = qs; are = a.are; granted = a.granted; denied = is }, refl))
 
 pub asked-reply : (host : Host) (all : List Question) (number : ℕ) (q : Question) (qs : List Question) → tells q.call ≡ true → HasAsked host all (q ∷ qs) → IsAsking host all (at_question number q qs (apply host q.call).1)
@@ -93,8 +90,7 @@ asked-reply host all number q qs is a =
 -- ---- all granted, or a first one denied
 
 middle-fails : {X : Type 0} (p : X → Bool) (xs : List X) (y : X) (ys : List X) → p y ≡ false → list_all p (xs ++ y ∷ ys) ≡ false
-middle-fails p [] y ys h = grind (arith, h)
-middle-fails p (x ∷ xs) y ys h = grind (arith, middle-fails p xs y ys h)
+middle-fails p xs y ys h = let split = list_all-append p xs (y ∷ ys) in grind (arith, split, h)
 
 pub denied-some : (host : Host) (all : List Question) (q : Question) → IsFirstDenied host all q → list_all (grants host) all ≡ false
 denied-some host all q d = ap (list_all (grants host)) d.are ∙ middle-fails (grants host) d.past q d.left d.denied

@@ -1,6 +1,8 @@
 -- Begins in a history: while an ADD goes on, the last one of its attachment is its own.
 use Rattle.std.proofs.Common.{◌≡◌, ◌≢◌, ℕ, ◌+◌, Bool, true, false, List, [], ◌∷◌, ◌++◌, length, Option, Some, None, slice_get, refl, sym, ◌∙◌, ap, subst, inl, inr, ◌⊎◌, arith}
+use Rattle.std.proofs.lemmas.Bool.{and_parts}
 use Rattle.std.proofs.lemmas.Bool.Decides.{eqb_tells}
+use Rattle.std.proofs.lemmas.List.Folds.{list_all-append}
 use Rattle.std.specs.Prelude.{if◌then◌else◌}
 use Rattle.std.specs.List.{list_all}
 use Rattle.std.specs.Option.{option_or}
@@ -148,13 +150,6 @@ granted-done Done may h = refl
 granted-done (Leased addr) may h = absurd may
 granted-done _ may h = cc
 
-push-passes : {X : Type 0} (p : X → Bool) (xs : List X) (y : X) → list_all p (xs ++ y ∷ []) ≡ true → (list_all p xs ≡ true) × (p y ≡ true)
-push-passes p [] y h = (refl, grind (arith, h))
-push-passes p (x ∷ xs) y h =
-    let rest : list_all p (xs ++ y ∷ []) ≡ true = grind (arith, h) in
-    let both = push-passes p xs y rest in
-    (let g = both.0 in grind (arith, h, g), both.1)
-
 abbrev IsLast : OpenFact
 IsLast p h m d = d.command.verb ≡ verbs.Add → own_entries m h ≢ [] → list_all lets_go_on (own_entries m h) ≡ true → last_begun (att_of d.command) h ≡ Some (m + 1)
 
@@ -165,13 +160,14 @@ last-own w n c list call faulty on last = λ verb some go_on.
     let es = own_entries n w.history in
     let att = att_of c.command in
     let pushed : own_entries n (w.history ++ e ∷ []) ≡ es ++ e ∷ [] = own_entries-own n w.history e (is_of-own n e refl) in
-    let both = push-passes lets_go_on es e (ap (list_all lets_go_on) (sym pushed) ∙ go_on) in
+    let all : list_all lets_go_on (es ++ e ∷ []) ≡ true = ap (list_all lets_go_on) (sym pushed) ∙ go_on in
+    let both = and_parts (list_all lets_go_on es) (list_all lets_go_on (e ∷ [])) (sym (list_all-append lets_go_on es (e ∷ [])) ∙ all) in
     let own = own-state w n c list call faulty on in
     let was = every-run-now Undoing undone-start undone-step w n c list call faulty on in
     elim (nil-or-not es) [
       | inl none ↦
           let first : call ≡ Begin att c.command.netns = first-call list c.command es _ _ call verb none own.turn_is was in
-          let done : is_done e.reply ≡ true = granted-done e.reply (subst (λ j. IsPlanReply (reply_to (host_of w) j faulty)) (sym first) (begin-may att c.command.netns (host_of w) faulty)) both.1 in
+          let done : is_done e.reply ≡ true = granted-done e.reply (subst (λ j. IsPlanReply (reply_to (host_of w) j faulty)) (sym first) (begin-may att c.command.netns (host_of w) faulty)) (and_parts (lets_go_on e) true both.1).0 in
           let mine : is_begin_of att call ≡ true = ap (is_begin_of att) first ∙ att_eq-refl att in
           last_begun-new att w.history e (grind (arith, done, mine))
       | inr more ↦

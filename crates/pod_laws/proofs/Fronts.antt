@@ -1,6 +1,7 @@
 -- What the calls so far have made is a front of what all of them make.
 use Rattle.std.proofs.Common.{◌≡◌, ℕ, Bool, true, false, List, [], ◌∷◌, ◌++◌, map, refl, sym, ◌∙◌, ap, subst, inl, inr, append_assoc}
 use Rattle.std.proofs.lemmas.List.{append-nil}
+use Rattle.std.proofs.lemmas.List.Folds.{list_all-append}
 use Rattle.std.proofs.lemmas.Bool.{and_parts}
 use Rattle.std.specs.Prelude.{filter, if◌then◌else◌}
 use Rattle.std.specs.List.{list_all}
@@ -170,10 +171,6 @@ asked-leasing list c given = asked-after_leases list c given [] (back_of list c 
 
 -- ---- before the leases
 
-tail-passes : {X : Type 0} (p : X → Bool) (xs ys : List X) → list_all p (xs ++ ys) ≡ true → list_all p ys ≡ true
-tail-passes p [] ys h = h
-tail-passes p (x ∷ xs) ys h = tail-passes p xs ys (and_parts (p x) (list_all p (xs ++ ys)) h).1
-
 links-appended_all : (s : Share) (calls : List Call) → list_all appends_links calls ≡ true → BeginsWith (share_after_calls s calls).links s.links
 links-appended_all s [] h = begins-same s.links
 links-appended_all s (x ∷ xs) h =
@@ -188,7 +185,8 @@ before-appends (Macvlan conf) att netns = refl
 pub asked-before_leases : (list : NetList) (c : Command) (made left : List Call) → before_of list c ≡ made ++ left → AreAskedFor list c [] (share_after_calls no_objects made)
 asked-before_leases list c made left part =
     let s = share_after_calls no_objects made in
-    let appends : list_all appends_links left ≡ true = tail-passes appends_links made left (ap (list_all appends_links) (sym part) ∙ before-appends list.first (att_of c) c.netns) in
+    let all : list_all appends_links (made ++ left) ≡ true = ap (list_all appends_links) (sym part) ∙ before-appends list.first (att_of c) c.netns in
+    let appends : list_all appends_links left ≡ true = (and_parts (list_all appends_links made) (list_all appends_links left) (sym (list_all-append appends_links made left) ∙ all)).1 in
     let whole : share_after_calls s left ≡ share_before list.first (att_of c) c.netns = sym (share_after_calls-append no_objects made left) ∙ ap (share_after_calls no_objects) (sym part) ∙ made-before list.first (att_of c) c.netns in
     let links : BeginsWith (untuned list (att_of c) c.netns) s.links = subst (λ (t : Share). BeginsWith t.links s.links) whole (links-appended_all s left appends) in
     asked-front list c [] s

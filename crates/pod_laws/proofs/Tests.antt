@@ -1,5 +1,7 @@
 -- Tests of one and of many.
-use Rattle.std.proofs.Common.{◌≡◌, Bool, true, false, List, [], ◌∷◌, ◌++◌, refl, arith}
+use Rattle.std.proofs.Common.{◌≡◌, Bool, true, false, List, [], ◌∷◌, ◌++◌, refl, sym, ◌∙◌, arith}
+use Rattle.std.proofs.lemmas.Bool.{and_parts}
+use Rattle.std.proofs.lemmas.List.Folds.{list_all-append}
 use Rattle.std.specs.Prelude.{filter}
 use Rattle.std.specs.List.{list_all, list_any}
 
@@ -15,5 +17,4 @@ none-by q r w (x ∷ xs) h = grind (arith, w x, none-by q r w xs)
 
 -- one of a list of which all pass
 pub middle-passes : {X : Type 0} (p : X → Bool) (xs : List X) (y : X) (ys : List X) → list_all p (xs ++ y ∷ ys) ≡ true → p y ≡ true
-middle-passes p [] y ys h = grind (arith, h)
-middle-passes p (x ∷ xs) y ys h = middle-passes p xs y ys (grind (arith, h))
+middle-passes p xs y ys h = (and_parts (p y) (list_all p ys) (and_parts (list_all p xs) (list_all p (y ∷ ys)) (sym (list_all-append p xs (y ∷ ys)) ∙ h)).1).0
