@@ -33,7 +33,7 @@ use Rattle.pod_workers.proofs.Replies.{by-cache, by-deletion}
 use Rattle.pod_workers.proofs.StepsLeft.{host-made}
 use Rattle.pod_laws.specs.Moments.{own_entries}
 use Rattle.pod_laws.proofs.Entries.{replies_in}
-use Rattle.pod_laws.proofs.States.{IsAside, IsNoResult, aside-advance, by-start}
+use Rattle.pod_laws.proofs.States.{IsAside, IsNoResult, aside-advance, by-start, faulted-no_result}
 use Rattle.pod_laws.proofs.Runs.{IsRunFact, StartsWith, own-state}
 use Rattle.cni_verbs.proofs.WantedShare.{share_with_leases, makes-wanted}
 
@@ -122,11 +122,7 @@ achieved-end list c es Versions given s h = tt
 achieved-end list c es (Refused cause) given s h = tt
 
 not_added-faulted : (list : NetList) (c : Command) (es : List Entry) (number : ℕ) (e : Ending) (s : Share) → IsAddedWith list c es (faulted number e) [] s
-not_added-faulted list c es number Added s = tt
-not_added-faulted list c es number Yes s = tt
-not_added-faulted list c es number (Skipped skip) s = tt
-not_added-faulted list c es number Versions s = tt
-not_added-faulted list c es number (Refused cause) s = tt
+not_added-faulted list c es number e s = achieved-end list c es (faulted number e) [] s (faulted-no_result number e)
 
 to-deleting : (list : NetList) (c : Command) (es : List Entry) (ks : List Kind) (e : Ending) (s : Share) → IsNoResult e → Achieved list c es (deleting ks e) s
 to-deleting list c es [] e s h = achieved-end list c es e [] s h

@@ -40,7 +40,7 @@ use Rattle.pod_workers.proofs.Histories.{after-append}
 use Rattle.pod_workers.proofs.Replies.{by-begin, by-call_before, by-call_after, by-cache, by-deletion}
 use Rattle.pod_laws.specs.Moments.{host_at_end, is_of, own_entries, until_last}
 use Rattle.pod_laws.proofs.Entries.{until_last-own, until_last-other}
-use Rattle.pod_laws.proofs.States.{IsAside, IsNoResult, aside-advance, by-start}
+use Rattle.pod_laws.proofs.States.{IsAside, IsNoResult, aside-advance, by-start, faulted-no_result}
 use Rattle.pod_laws.proofs.Runs.{IsRunFact, StartsWith, own-state}
 use Rattle.pod_laws.proofs.Steps.{by-entries, sound-changed, sound-entered}
 
@@ -95,11 +95,7 @@ leased-end list Versions given h = tt
 leased-end list (Refused cause) given h = tt
 
 over-faulted : (list : NetList) (number : ℕ) (ending : Ending) → IsOverLeased list (faulted number ending) []
-over-faulted list number Added = tt
-over-faulted list number Yes = tt
-over-faulted list number (Skipped skip) = tt
-over-faulted list number Versions = tt
-over-faulted list number (Refused cause) = tt
+over-faulted list number ending = leased-end list (faulted number ending) [] (faulted-no_result number ending)
 
 to-deleting : (list : NetList) (c : Command) (es : List Entry) (ks : List Kind) (ending : Ending) (s : Share) → IsNoResult ending → LeasedRun list c es (deleting ks ending) s
 to-deleting list c es [] ending s h = leased-end list ending [] h

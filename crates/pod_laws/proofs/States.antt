@@ -19,7 +19,7 @@ use Rattle.kernel_types.specs.declared.call.Reply.{Reply}
 use Rattle.kernel_types.specs.declared.call.Reply.TheVariants.{Gone}
 use Rattle.cni_verbs.specs.CommandWords.{att_of, del_refusal, add_refusal}
 use Rattle.cni_verbs.specs.Questions.{check_questions, status_questions}
-use Rattle.cni_verbs.specs.Script.{State, AtBegin, BeforeLeases, Leasing, AfterLeases, ReadingCache, Deleting, FindingEntry, Asking, Changing, Collecting, Over, before_of, back_of, after_leases, leasing, before_leases, asking, gc_of, changed, swept, advance, start_of, state_after}
+use Rattle.cni_verbs.specs.Script.{State, AtBegin, BeforeLeases, Leasing, AfterLeases, ReadingCache, Deleting, FindingEntry, Asking, Changing, Collecting, Over, before_of, back_of, after_leases, leasing, before_leases, asking, gc_of, changed, faulted, swept, advance, start_of, state_after}
 use Rattle.cni_verbs.specs.Sweep.{start_work}
 use Rattle.cni_verbs.specs.Wanted.{sets_of, kinds_of}
 use Rattle.cni_verbs.specs.declared.answer.Ending.{Ending}
@@ -190,6 +190,10 @@ pub by-start : (P : State → Type 0) (list : NetList) (c : Command) (v : Verb) 
 by-start P list c verbs.Add aside begin cache = by-unless P (add_refusal c) AtBegin (λ cause. aside (Over (Refused cause) []) tt) (λ none. begin)
 by-start P list c verbs.Del aside begin cache = by-unless P (del_refusal c) (ReadingCache Yes) (λ cause. aside (Over (Refused cause) []) tt) (λ none. cache)
 by-start P list c v aside begin cache = aside (start_of list v c) (aside-start list c v tt)
+
+pub faulted-no_result : (number : ℕ) (ending : Ending) → IsNoResult (faulted number ending)
+faulted-no_result number (Refused cause) = tt
+faulted-no_result number _ = tt
 
 pub swept-no_result : (faults : List ℕ) → IsNoResult (swept faults)
 swept-no_result [] = tt
