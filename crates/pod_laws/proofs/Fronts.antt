@@ -205,5 +205,5 @@ asked-removes list c given att old new d a = record {
   rules = among-drops (λ l. is_own att l.tag) (λ l. true) _ old.rules new.rules d.rules a.rules;
   settings = among-drops (λ l. is_own att l.tag) (λ l. true) _ old.settings new.settings d.settings a.settings;
   leases = among-drops (λ l. is_own att l.tag) (λ l. true) _ old.leases new.leases d.leases a.leases;
-  cached = among-drops (λ l. is_own att l.tag) (λ l. true) _ old.cached new.cached d.cached a.cached;
+  cached = among-drops (λ l. is_own att l.tag) (λ l. true) (wanted_by list c given).cached old.cached new.cached d.cached a.cached;
 }

@@ -1,6 +1,6 @@
 -- Each object that an attachment has is one that an ADD of it asked for.
 use Rattle.std.specs.Prelude.{◌≡◌, ℕ, ◌+◌, ◌⊎◌, Bool, true, false, ◌&&◌, not, List, [], ◌∷◌, ◌++◌, Option, Some, None, slice_get, if◌then◌else◌}
-use Rattle.std.specs.List.{list_any}
+use Rattle.std.specs.List.{list_any, AllByRecursion}
 use Rattle.std.specs.Option.{option_or}
 use Rattle.cni_addr.specs.declared.address.Addr.{Addr}
 use Rattle.cni_verbs.specs.CommandWords.{att_of, mappings_of}
@@ -30,8 +30,7 @@ use Rattle.pod_workers.specs.declared.plan.Plan.{Plan}
 
 -- each of the first list is in the second
 abbrev pub AreAmong : {X : Type 0} → List X → List X → Type 0
-AreAmong [] all = Unit {0}
-AreAmong (x ∷ xs) all = IsAmong x all × AreAmong xs all
+AreAmong xs all = AllByRecursion (λ x. IsAmong x all) xs
 
 -- ---- the last ADD that began
 
