@@ -1,7 +1,7 @@
 -- What a CHECK asks for, and that the answers stay while other attachments change.
 use Rattle.std.proofs.Common.{◌≡◌, ℕ, ◌+◌, Bool, true, false, List, [], ◌∷◌, ◌++◌, map, Option, Some, None, refl, sym, ◌∙◌, ap, arith}
 use Rattle.std.specs.Prelude.{◌&&◌, ◌==◌, filter, find, option_map, if◌then◌else◌}
-use Rattle.std.specs.List.{list_any, list_all}
+use Rattle.std.specs.List.{AllByRecursion, list_any, list_all}
 use Rattle.cni_addr.specs.declared.mac.Mac.{Mac}
 use Rattle.cni_result.specs.declared.cached.Cached.{Cached}
 use Rattle.cni_result.specs.declared.result.Interface.{Interface}
@@ -36,7 +36,7 @@ use Rattle.cni_verbs.specs.declared.answer.Missed.TheVariants as missed
 use Rattle.cni_verbs.specs.declared.answer.Question.{Question}
 use Rattle.pod_laws.specs.Checked.{are_in, has_bridge_by, has_bridge_of, has_first_bridge, has_objects_of, holds_cached}
 use Rattle.pod_laws.specs.Granted.{grants}
-use Rattle.pod_laws.proofs.Asking.{Each, and-true, each-append, each-map, tells}
+use Rattle.pod_laws.proofs.Asking.{and-true, each-append, each-map, tells}
 use Rattle.pod_laws.proofs.OwnWanted.{AreOwn, own-wanted}
 use Rattle.pod_laws.proofs.SteadyHosts.{KeepsAsked}
 
@@ -125,7 +125,7 @@ steady-lease : (c : Command) (l : Lease) → is_own (att_of c) l.tag ≡ true �
 steady-lease c l own =
     steady-object c lease_eq (λ y. y.tag) (λ host. host.leases) (lease_question l) l (missed.Lease l.addr) lease-tag (λ old new keeps. ap (λ (s : Share). s.leases) keeps.share) (λ host. refl) refl refl own
 
-steady-rules : (c : Command) (number : ℕ) (rules : List Rule) → list_all (λ r. is_own (att_of c) r.tag) rules ≡ true → Each (IsSteadyQuestion c) (rule_questions number rules)
+steady-rules : (c : Command) (number : ℕ) (rules : List Rule) → list_all (λ r. is_own (att_of c) r.tag) rules ≡ true → AllByRecursion (IsSteadyQuestion c) (rule_questions number rules)
 steady-rules c number [] h = tt
 steady-rules c number (r ∷ rs) h =
     let own : is_own (att_of c) r.tag ≡ true = grind (arith, h) in
@@ -136,7 +136,7 @@ steady-rules c number (r ∷ rs) h =
 
 -- ---- all of them
 
-steady-share : (c : Command) (s : Share) → AreOwn (att_of c) s → Each (IsSteadyQuestion c) (share_questions s)
+steady-share : (c : Command) (s : Share) → AreOwn (att_of c) s → AllByRecursion (IsSteadyQuestion c) (share_questions s)
 steady-share c s own =
     let P = IsSteadyQuestion c in
     each-append P (map link_question s.links) _ (each-map P link_question (λ x. is_own (att_of c) x.tag) (steady-link c) s.links own.links)
@@ -146,20 +146,20 @@ steady-share c s own =
     (each-append P (map setting_question s.settings) (map lease_question s.leases) (each-map P setting_question (λ x. is_own (att_of c) x.tag) (steady-setting c) s.settings own.settings)
     (each-map P lease_question (λ x. is_own (att_of c) x.tag) (steady-lease c) s.leases own.leases)))))
 
-steady-mac : (c : Command) (name : List ℕ) (mac : Option Mac) → Each (IsSteadyQuestion c) (bridge_by_mac name mac)
+steady-mac : (c : Command) (name : List ℕ) (mac : Option Mac) → AllByRecursion (IsSteadyQuestion c) (bridge_by_mac name mac)
 steady-mac c name None = tt
 steady-mac c name (Some mac) = (record { told = refl; what = missed.Bridge name; lack = refl; stays = λ old new keeps there. keeps.bridges name mac there }, tt)
 
-steady-interfaces : (c : Command) (interfaces : List Interface) → Each (IsSteadyQuestion c) (first_interface interfaces)
+steady-interfaces : (c : Command) (interfaces : List Interface) → AllByRecursion (IsSteadyQuestion c) (first_interface interfaces)
 steady-interfaces c [] = tt
 steady-interfaces c (i ∷ is) = steady-mac c i.name i.mac
 
-steady-bridge : (c : Command) (first : First) (interfaces : List Interface) → Each (IsSteadyQuestion c) (bridge_questions first interfaces)
+steady-bridge : (c : Command) (first : First) (interfaces : List Interface) → AllByRecursion (IsSteadyQuestion c) (bridge_questions first interfaces)
 steady-bridge c (Bridge conf) interfaces = steady-interfaces c interfaces
 steady-bridge c (Ptp conf) interfaces = tt
 steady-bridge c (Macvlan conf) interfaces = tt
 
-pub steady-questions : (list : NetList) (c : Command) (cached : Cached) → Each (IsSteadyQuestion c) (check_questions list c cached)
+pub steady-questions : (list : NetList) (c : Command) (cached : Cached) → AllByRecursion (IsSteadyQuestion c) (check_questions list c cached)
 unfolding check_questions
 steady-questions list c cached =
     each-append (IsSteadyQuestion c) (bridge_questions list.first cached.result.interfaces) (share_questions (cached_share list c cached)) (steady-bridge c list.first cached.result.interfaces)
@@ -206,7 +206,7 @@ granted-check list c cached host =
 
 -- ---- what stays
 
-pub granted-stay : (c : Command) (old new : Host) (qs : List Question) → KeepsAsked c old new → Each (IsSteadyQuestion c) qs → list_all (grants old) qs ≡ true → list_all (grants new) qs ≡ true
+pub granted-stay : (c : Command) (old new : Host) (qs : List Question) → KeepsAsked c old new → AllByRecursion (IsSteadyQuestion c) qs → list_all (grants old) qs ≡ true → list_all (grants new) qs ≡ true
 granted-stay c old new [] keeps each h = refl
 granted-stay c old new (q ∷ qs) keeps each h =
     let now : grants new q ≡ true = each.0.stays old new keeps (grind (arith, h)) in

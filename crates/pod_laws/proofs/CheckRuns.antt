@@ -1,6 +1,7 @@
 -- A CHECK asks for its cached entry and then for each object, and its answer is what the host at its last entry holds.
 use Rattle.std.proofs.Common.{◌≡◌, ℕ, ◌+◌, Bool, true, false, List, [], ◌∷◌, ◌++◌, length, Option, Some, None, refl, sym, ◌∙◌, ap, subst}
 use Rattle.std.specs.Prelude.{if◌then◌else◌}
+use Rattle.std.specs.List.{AllByRecursion}
 use Rattle.std.proofs.lemmas.List.{length_push}
 use Rattle.cni_result.specs.declared.cached.Cached.{Cached}
 use Rattle.net_conf.specs.declared.list.NetList.{NetList}
@@ -29,7 +30,7 @@ use Rattle.pod_laws.specs.Checked.{EndsByEntry, EndsByList, EndsCheck, LacksObje
 use Rattle.pod_laws.specs.Granted.{only_asks}
 use Rattle.pod_laws.specs.Moments.{has_fault, host_at_end, own_entries}
 use Rattle.pod_laws.specs.Answers.{EndsByFault, EndsByTest}
-use Rattle.pod_laws.proofs.Asking.{Each, EndsAsked, HasAsked, IsAsking, asked-all, asked-none, asked-reply, calm-more, denied-some, each-at, each-front, fault-last}
+use Rattle.pod_laws.proofs.Asking.{EndsAsked, HasAsked, IsAsking, asked-all, asked-none, asked-reply, calm-more, denied-some, each-at, each-front, fault-last}
 use Rattle.pod_laws.proofs.CheckQuestions.{IsSteadyQuestion, cached-stays, granted-check, granted-stay, steady-questions}
 use Rattle.pod_laws.proofs.CutOff.{over-by, answered-by}
 use Rattle.pod_laws.proofs.RunFacts.{HostFact, IsHostFact, StartsOn, each-run}
@@ -65,7 +66,7 @@ by-asking list c cached host (Refused cause) ends =
     let q = ends.0 in
     let d = ends.1 in
     let lacks : holds_cached list c cached host ≡ false = sym (granted-check list c cached host) ∙ denied-some host (check_questions list c cached) q d in
-    let steady : IsSteadyQuestion c q = each-at (IsSteadyQuestion c) d.past q d.left (subst (Each (IsSteadyQuestion c)) d.are (steady-questions list c cached)) in
+    let steady : IsSteadyQuestion c q = each-at (IsSteadyQuestion c) d.past q d.left (subst (AllByRecursion (IsSteadyQuestion c)) d.are (steady-questions list c cached)) in
     let lack : LacksObject list c cached host (Refused cause) = record { question = q; first = d; what = steady.what; lack = steady.lack; ending_is = ap Refused (sym ends.2 ∙ steady.lack) } in
     subst (λ b. EndsByTest b (Refused cause) (LacksObject list c cached host (Refused cause))) (sym lacks) lack
 by-asking list c cached host Added ends = absurd ends
@@ -140,7 +141,7 @@ check-reply list c es e q qs host true is a = subst (λ r. CheckAt list c (es ++
 check-reply list c es e q qs host false is a =
     let d = a.asked in
     let all = check_questions list c a.cached in
-    let steady : IsSteadyQuestion c q = each-at (IsSteadyQuestion c) d.past q qs (subst (Each (IsSteadyQuestion c)) d.are (steady-questions list c a.cached)) in
+    let steady : IsSteadyQuestion c q = each-at (IsSteadyQuestion c) d.past q qs (subst (AllByRecursion (IsSteadyQuestion c)) d.are (steady-questions list c a.cached)) in
     let calm : has_fault (es ++ e ∷ []) ≡ false = calm-more es e a.calm (ap is_fault is ∙ (IsReplyOf-apply host q.call).no_fault) in
     subst (λ r. CheckAt list c (es ++ e ∷ []) (at_question (length es + 1) q qs r) host) (sym is)
     (check-asked list c (es ++ e ∷ []) host a.cached (at_question (length es + 1) q qs (apply host q.call).1) a.may calm a.found (asked-reply host all (length es + 1) q qs steady.told d))
@@ -149,7 +150,7 @@ check-reply list c es e q qs host false is a =
 check-stays : (list : NetList) (c : Command) (es : List Entry) (old new : Host) (left : List Question) → KeepsAsked c old new → HasFound list c es old left → HasFound list c es new left
 check-stays list c es old new left keeps a =
     let d = a.asked in
-    let steady = each-front (IsSteadyQuestion c) d.past left (subst (Each (IsSteadyQuestion c)) d.are (steady-questions list c a.cached)) in
+    let steady = each-front (IsSteadyQuestion c) d.past left (subst (AllByRecursion (IsSteadyQuestion c)) d.are (steady-questions list c a.cached)) in
     record {
       may = a.may;
       calm = a.calm;

@@ -1,7 +1,7 @@
 -- A STATUS asks of one host, and its answer is what that host has to give.
 use Rattle.std.proofs.Common.{◌≡◌, ℕ, ◌+◌, Bool, true, false, List, [], ◌∷◌, ◌++◌, length, refl, sym, ◌∙◌, ap, subst}
 use Rattle.std.specs.Prelude.{◌&&◌}
-use Rattle.std.specs.List.{list_all}
+use Rattle.std.specs.List.{AllByRecursion, list_all}
 use Rattle.std.proofs.lemmas.List.Folds.{list_all-append}
 use Rattle.std.proofs.lemmas.List.{length_push}
 use Rattle.cni_addr.specs.declared.range.RangeSet.{RangeSet}
@@ -34,7 +34,7 @@ use Rattle.pod_laws.specs.Available.{EndsStatus, LacksService, WasAvailable, has
 use Rattle.pod_laws.specs.Granted.{grants, only_asks}
 use Rattle.pod_laws.specs.Moments.{has_fault, host_at_end, own_entries}
 use Rattle.pod_laws.specs.Answers.{EndsByFault, EndsByTest}
-use Rattle.pod_laws.proofs.Asking.{Each, EndsAsked, HasAsked, IsAsking, and-true, asked-all, asked-none, asked-reply, calm-more, denied-some, each-append, each-at, fault-last, tells}
+use Rattle.pod_laws.proofs.Asking.{EndsAsked, HasAsked, IsAsking, and-true, asked-all, asked-none, asked-reply, calm-more, denied-some, each-append, each-at, fault-last, tells}
 use Rattle.pod_laws.proofs.CutOff.{over-by, answered-by}
 use Rattle.pod_laws.proofs.RunFacts.{HostFact, IsHostFact, StartsOn, each-run}
 use Rattle.pod_laws.proofs.QuestionRuns.{question-entered}
@@ -47,16 +47,16 @@ use Rattle.pod_laws.proofs.SteadyHosts.{KeepsAsked, asked-kept}
 abbrev IsServiceQuestion : Question → Type 0
 IsServiceQuestion q = (tells q.call ≡ true) × (code_of q.lack ≡ 50)
 
-service-pools : (network : List ℕ) (number : ℕ) (sets : List RangeSet) → Each IsServiceQuestion (pool_questions network number sets)
+service-pools : (network : List ℕ) (number : ℕ) (sets : List RangeSet) → AllByRecursion IsServiceQuestion (pool_questions network number sets)
 service-pools network number [] = tt
 service-pools network number (s ∷ ss) = ((refl, refl), service-pools network (number + 1) ss)
 
-service-master : (first : First) → Each IsServiceQuestion (master_questions first)
+service-master : (first : First) → AllByRecursion IsServiceQuestion (master_questions first)
 service-master (Bridge conf) = tt
 service-master (Ptp conf) = tt
 service-master (Macvlan conf) = ((refl, refl), tt)
 
-service-questions : (list : NetList) (c : Command) → Each IsServiceQuestion (status_questions list c)
+service-questions : (list : NetList) (c : Command) → AllByRecursion IsServiceQuestion (status_questions list c)
 unfolding status_questions
 service-questions list c = each-append IsServiceQuestion (pool_questions c.network 0 (sets_of list)) (master_questions list.first) (service-pools c.network 0 (sets_of list)) (service-master list.first)
 
@@ -98,7 +98,7 @@ status-ends list c es host Yes version calm ends =
 status-ends list c es host (Refused cause) version calm ends =
     let lacks : is_available list c host ≡ false = sym (granted-status list c host) ∙ denied-some host (status_questions list c) ends.0 ends.1 in
     let d = ends.1 in
-    let of_service : IsServiceQuestion ends.0 = each-at IsServiceQuestion d.past ends.0 d.left (subst (Each IsServiceQuestion) d.are (service-questions list c)) in
+    let of_service : IsServiceQuestion ends.0 = each-at IsServiceQuestion d.past ends.0 d.left (subst (AllByRecursion IsServiceQuestion) d.are (service-questions list c)) in
     let lack : LacksService list c host (Refused cause) = record { question = ends.0; first = d; code = of_service.1; ending_is = ap Refused (sym ends.2) } in
     subst (λ v. EndsStatus list c es host v (Refused cause)) (sym version)
     (subst (λ b. EndsByFault es b (Refused cause) (EndsByTest (is_available list c host) (Refused cause) (LacksService list c host (Refused cause)))) (sym calm) (subst (λ b. EndsByTest b (Refused cause) (LacksService list c host (Refused cause))) (sym lacks) lack))
@@ -139,7 +139,7 @@ status-reply list c es e q qs host true is a =
     (refl, status-fault list c (es ++ e ∷ []) host (length es + 1) a.version (fault-last es e (ap is_fault is)) (sym (length_push es e)))
 status-reply list c es e q qs host false is a =
     let d = a.asked in
-    let of_service : IsServiceQuestion q = each-at IsServiceQuestion d.past q qs (subst (Each IsServiceQuestion) d.are (service-questions list c)) in
+    let of_service : IsServiceQuestion q = each-at IsServiceQuestion d.past q qs (subst (AllByRecursion IsServiceQuestion) d.are (service-questions list c)) in
     let calm : has_fault (es ++ e ∷ []) ≡ false = calm-more es e a.calm (ap is_fault is ∙ (IsReplyOf-apply host q.call).no_fault) in
     subst (λ r. StatusAt list c (es ++ e ∷ []) (at_question (length es + 1) q qs r) host) (sym is)
     (status-asked list c (es ++ e ∷ []) host (at_question (length es + 1) q qs (apply host q.call).1) a.version calm (asked-reply host (status_questions list c) (length es + 1) q qs of_service.0 d))
