@@ -94,7 +94,7 @@ HasNothingUnasked p h att = (share_of att (after p.pods.opening h) ≡ no_object
 abbrev pub NothingIsUnasked : Type 0
 NothingIsUnasked = (w : World) → Legal w → (att : Att) → HasNothingUnasked w.plan w.history att
 
--- ---- links, where `tuning` comes at most once in the list, as it does in every list that is read
+-- ---- links, where `tuning` comes at most once in the list: `types_once` of a well formed list says so of each type
 
 abbrev pub is_tuning : Chained → Bool
 is_tuning (Portmap conf) = false
