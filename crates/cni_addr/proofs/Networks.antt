@@ -86,17 +86,17 @@ whole_is a addr prefix same longest = ap (λ p. at_prefix p a) longest ∙ ap wh
 
 -- ---- what a network is
 
--- the families are told apart by their codes
-family_test : (f g : Family) → family_eq f g ≡ true → f ≡ g
-family_test V4 V4 e = refl
-family_test V4 V6 e = absurd (cc e)
-family_test V6 V4 e = absurd (cc e)
-family_test V6 V6 e = refl
+-- families that are the same by the test are one
+pub family_eq-true : (f g : Family) → family_eq f g ≡ true → f ≡ g
+family_eq-true V4 V4 e = refl
+family_eq-true V4 V6 e = absurd (cc e)
+family_eq-true V6 V4 e = absurd (cc e)
+family_eq-true V6 V6 e = refl
 
 -- a family is its own
-same_family : (f : Family) → family_eq f f ≡ true
-same_family V4 = refl
-same_family V6 = refl
+family_eq-itself : (f : Family) → family_eq f f ≡ true
+family_eq-itself V4 = refl
+family_eq-itself V6 = refl
 
 -- numbers with one quotient are between two multiples
 same_row : (n a s : ℕ) → 0 < s → a / s ≡ n / s → (n - n % s ≤ a) × (a ≤ n - n % s + (s - 1))
@@ -131,9 +131,9 @@ contains_between c a = (
   λ inside.
       let (family, row) = and_parts (family_eq c.addr.family a.family) _ inside in
       let (from_first, to_last) = same_row c.addr.bits a.bits (network_size c) (some_address c) (eqb-true (a.bits / network_size c) (c.addr.bits / network_size c) row) in
-      (family_test c.addr.family a.family family, from_first, to_last),
+      (family_eq-true c.addr.family a.family family, from_first, to_last),
   λ between.
-      let family = subst (λ f. family_eq c.addr.family f ≡ true) between.0 (same_family c.addr.family) in
+      let family = subst (λ f. family_eq c.addr.family f ≡ true) between.0 (family_eq-itself c.addr.family) in
       let row = row_between c.addr.bits a.bits (network_size c) (some_address c) between.1 between.2 in
       and_from (family_eq c.addr.family a.family) (a.bits / network_size c == c.addr.bits / network_size c) family (eq-eqb (a.bits / network_size c) (c.addr.bits / network_size c) row),
 )
@@ -153,7 +153,7 @@ network_of_network c =
 -- the network has the address, and its first and its last
 pub contains_own : (c : CidrValue) → contains c c.addr ≡ true
 unfolding contains
-contains_own c = and_from (family_eq c.addr.family c.addr.family) _ (same_family c.addr.family) (eq-eqb (c.addr.bits / network_size c) (c.addr.bits / network_size c) refl)
+contains_own c = and_from (family_eq c.addr.family c.addr.family) _ (family_eq-itself c.addr.family) (eq-eqb (c.addr.bits / network_size c) (c.addr.bits / network_size c) refl)
 
 -- the first address is no higher than the last
 first_before_last : (c : CidrValue) → (network_of c).addr.bits ≤ (last_of c).bits

@@ -1,17 +1,11 @@
 -- Equal addresses are one address, and what holds of each member of a list holds of each address that is in it.
-use Rattle.std.proofs.Common.{◌≡◌, ℕ, true, refl, arith}
+use Rattle.std.proofs.Common.{◌≡◌, ℕ, true, arith}
 use Rattle.std.proofs.lemmas.Bool.Decides.{nat_tests}
 use Rattle.cni_addr.specs.declared.address.Family.{Family}
-use Rattle.cni_addr.specs.declared.address.Family.TheVariants.{V4, V6}
 use Rattle.cni_addr.specs.declared.address.Addr.{Addr}
 use Rattle.cni_addr.specs.Codes.{family_eq}
 use Rattle.cni_addr.specs.Equal.{addr_eq}
-
-same-family : (f g : Family) → family_eq f g ≡ true → f ≡ g
-same-family V4 V4 h = refl
-same-family V4 V6 h = cc
-same-family V6 V4 h = cc
-same-family V6 V6 h = refl
+use Rattle.cni_addr.proofs.Networks.{family_eq-true}
 
 same-fields : (f g : Family) (m n : ℕ) → f ≡ g → m ≡ n → let a : Addr = record { family = f; bits = m } in let b : Addr = record { family = g; bits = n } in a ≡ b
 same-fields f g m n e d = cc
@@ -19,7 +13,7 @@ same-fields f g m n e d = cc
 pub same-address : (a b : Addr) → addr_eq a b ≡ true → a ≡ b
 same-address a b h =
     let families : family_eq a.family b.family ≡ true = grind (arith, nat_tests) in
-    let f : a.family ≡ b.family = same-family a.family b.family families in
+    let f : a.family ≡ b.family = family_eq-true a.family b.family families in
     let n : a.bits ≡ b.bits = grind (arith, nat_tests) in
     same-fields a.family b.family a.bits b.bits f n
 

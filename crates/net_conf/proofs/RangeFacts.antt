@@ -5,7 +5,7 @@ use Rattle.cni_json.specs.declared.fields.Field.{Field}
 use Rattle.cni_json.specs.declared.fields.Field.TheVariants.{Absent, WrongKind, Here}
 use Rattle.cni_addr.proofs.AddrTexts.{read_is_spelled}
 use Rattle.cni_addr.proofs.CidrTexts.{network_read_is_spelled, spelled_is_cidr}
-use Rattle.cni_addr.proofs.Networks.{contains_between, IsAddr-last_of}
+use Rattle.cni_addr.proofs.Networks.{contains_between, family_eq-true, IsAddr-last_of}
 use Rattle.cni_addr.specs.declared.address.Family.{Family}
 use Rattle.cni_addr.specs.declared.range.Range.{Range}
 use Rattle.cni_addr.specs.AddrText.{addr_of_text}
@@ -14,7 +14,7 @@ use Rattle.cni_addr.specs.Network.{IsCidr, network_of, last_of, contains}
 use Rattle.cni_addr.specs.Value.{AddrValue, CidrValue, IsAddr, bits_below}
 use Rattle.cni_json.proofs.Endings.{goes, ok_same, passed}
 use Rattle.net_conf.proofs.Endings.{passing-ok}
-use Rattle.net_conf.proofs.RangeLemmas.{subnet_room, same_family}
+use Rattle.net_conf.proofs.RangeLemmas.{subnet_room}
 use Rattle.net_conf.specs.Members.{passing}
 use Rattle.net_conf.specs.Ranges.{is_subnet, subnet_of, subnet_at, bound_of, bound_at, first_host, last_host, is_in_order, in_order, is_of_family, gateway_of, gateway_at, range_at}
 use Rattle.net_conf.specs.WellFormed.{IsWellFormedRange}
@@ -92,7 +92,7 @@ IsOfFamily family a = IsAddr a × (a.family ≡ family)
 pub of_family-ok : (blamed : List ℕ) (family : Family) (text : List ℕ) (a : AddrValue) → passing blamed (is_of_family family) (addr_of_text text) ≡ Ok a → IsOfFamily family a
 of_family-ok blamed family text a is =
     let found = passing-ok blamed (is_of_family family) (addr_of_text text) a is in
-    (read_is_addr text a found.1, same_family a.family family found.0)
+    (read_is_addr text a found.1, family_eq-true a.family family found.0)
 
 gateway_of-ok : (c : CidrValue) (f : Field (List ℕ)) (a : AddrValue) → IsSubnet c → gateway_of c f ≡ Ok a → IsOfFamily c.addr.family a
 unfolding first_host

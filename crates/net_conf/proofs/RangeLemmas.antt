@@ -1,5 +1,5 @@
--- Subnets have room for their hosts, and the parts of a range have one family.
-use Rattle.std.proofs.Common.{◌≡◌, ℕ, ◌+◌, ◌-◌, ◌^◌, ◌≤◌, ◌&&◌, Bool, true, nat_le, ◌==◌, sym, ap, refl, arith}
+-- Subnets have room for their hosts.
+use Rattle.std.proofs.Common.{◌≡◌, ℕ, ◌+◌, ◌-◌, ◌^◌, ◌≤◌, ◌&&◌, Bool, true, nat_le, ◌==◌, sym, ap, arith}
 use Rattle.std.proofs.lemmas.Bool.Decides.{nat_tests}
 use Rattle.std.proofs.Math.Pow.{pow_mono}
 use Rattle.cni_addr.specs.declared.address.Family.{Family}
@@ -8,12 +8,6 @@ use Rattle.cni_addr.specs.Value.{CidrValue, longest_prefix}
 use Rattle.cni_addr.specs.Codes.{family_eq}
 use Rattle.cni_addr.specs.Network.{network_size, network_bits, network_of, last_of}
 use Rattle.net_conf.specs.Ranges.{is_subnet}
-
-pub same_family : (f g : Family) → family_eq f g ≡ true → f ≡ g
-same_family V4 V4 h = refl
-same_family V4 V6 h = cc
-same_family V6 V4 h = cc
-same_family V6 V6 h = refl
 
 -- a prefix of 30 bits leaves room for four addresses
 room : (f : Family) (prefix : ℕ) → prefix ≤ 30 → 4 ≤ 2 ^ (longest_prefix f - prefix)
