@@ -1,7 +1,6 @@
 //! Which calls fail, by their numbers: what files and sinks in memory share.
 
-ghost use Rattle.std.specs.Prelude.{◌≡◌, ◌==◌};
-ghost use Rattle.std.specs.List.{list_any};
+ghost use Rattle.std.specs.Prelude.{◌≡◌};
 ghost use Rattle.cni_io.specs.FailingCalls.{CallsState, fails_next, next_call};
 
 use std::marker::Model;
@@ -37,12 +36,6 @@ impl FailingCalls {
             return false;
         }
         self.calls += 1;
-        has(&self.failing, self.calls)
+        self.failing.contains(&self.calls)
     }
-}
-
-fn has(numbers: &[u64], number: u64) -> bool
-    ensures { result ≡ list_any (λ k. k == number) numbers.now }
-{
-    numbers.iter().any(|k| *k == number)
 }

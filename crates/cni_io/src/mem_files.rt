@@ -151,12 +151,10 @@ fn remove_named(files: &mut Vec<StoredFile>, name: &str)
 fn find_file<'f>(files: &'f [StoredFile], name: &str) -> Option<&'f [u8]>
     ensures { option_map (λ bytes. bytes.now) result ≡ bytes_of files.entry.now name.now }
 {
-    for file in files {
-        if file.name() == name {
-            return Some(file.bytes());
-        }
-    }
-    None
+    files
+        .iter()
+        .find(|file| file.name() == name)
+        .map(|file| file.bytes())
 }
 
 fn copy_within(alloc: Global, found: Option<&[u8]>, limit: u64) -> Result<Vec<u8>, FileFault>
