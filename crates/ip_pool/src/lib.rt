@@ -45,7 +45,7 @@ impl Taken for Items<Addr> {
     ghost taken = { λ addrs. addrs };
 
     fn has(&self, addr: &Addr) -> bool {
-        self.as_slice().iter().any(|taken| *taken == *addr)
+        self.as_slice().contains(addr)
     }
 }
 
