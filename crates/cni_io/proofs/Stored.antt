@@ -1,7 +1,13 @@
 -- Stored files after one was added.
-use Rattle.std.proofs.Common.{◌≡◌, ◌≢◌, ℕ, List, [], ◌∷◌, true, false, filter, length, Some, refl, sym, ap, ◌∙◌, inl, inr, arith}
+use Rattle.std.proofs.Common.{◌≡◌, ◌≢◌, ℕ, List, [], ◌∷◌, true, false, not, filter, Some, refl, sym, ◌∙◌, subst, inl, inr}
+use Rattle.std.specs.Cmp.Lexicographic.{nat_list_eq_equiv}
+use Rattle.std.specs.List.{IsDistinct, list_any}
+use Rattle.std.specs.Map.{keys_of}
 use Rattle.std.specs.Str.{bytes_eq}
 use Rattle.std.proofs.lemmas.Bool.{cases_Bool}
+use Rattle.std.proofs.lemmas.List.{map-append}
+use Rattle.std.proofs.lemmas.Map.Keys.{IsDistinct-push}
+use Rattle.std.proofs.lemmas.Map.Made.{IsDistinct-keys_filter}
 use Rattle.std.proofs.lemmas.Slice.Eq.{bytes_eq-Decides}
 use Rattle.cni_io.specs.Files.{StoredFiles, bytes_of}
 use Rattle.cni_io.specs.Memory.{HasEachNameOnce, stored_with}
@@ -33,33 +39,20 @@ bytes_of-stored_with_other (file ∷ stored) name bytes other differs =
       | inr not_this ↦ elim (cases_Bool (bytes_eq file.0 other)) [ inl found ↦ simp (not_this, found) | inr not_found ↦ simp (not_this, not_found) rest ]
     ]
 
--- the files of this name
-abbrev pub named : List ℕ → StoredFiles → StoredFiles
-named name stored = filter (λ file. bytes_eq file.0 name) stored
-
--- the added file is the one of its name
-pub named-stored_with : (stored : StoredFiles) (name bytes : List ℕ) → length (named name (stored_with stored name bytes)) ≡ 1
-named-stored_with [] name bytes = rw ((bytes_eq-Decides name name).1 refl)
-named-stored_with (file ∷ stored) name bytes =
-    let rest = named-stored_with stored name bytes in
-    elim (cases_Bool (bytes_eq file.0 name)) [ inl this ↦ simp this rest | inr other ↦ simp other rest ]
-
--- the files of another name stay
-pub named-stored_with_other : (stored : StoredFiles) (name bytes other : List ℕ) → other ≢ name → named other (stored_with stored name bytes) ≡ named other stored
-named-stored_with_other [] name bytes other differs = rw (bytes_eq-other other name differs)
-named-stored_with_other (file ∷ stored) name bytes other differs =
-    let rest = named-stored_with_other stored name bytes other differs in
+-- files of other names have none of this name
+no_such_name : (stored : StoredFiles) (name : List ℕ) → list_any (bytes_eq name) (keys_of (filter (λ file. not (bytes_eq file.0 name)) stored)) ≡ false
+no_such_name [] name = refl
+no_such_name (file ∷ stored) name =
+    let rest = no_such_name stored name in
     elim (cases_Bool (bytes_eq file.0 name)) [
-      | inl this ↦ let not_found = bytes_eq-not_both file.0 name other differs this in simp (this, not_found) rest
-      | inr not_this ↦ elim (cases_Bool (bytes_eq file.0 other)) [ inl found ↦ simp (not_this, found) (ap (λ files. file ∷ files) rest) | inr not_found ↦ simp (not_this, not_found) rest ]
+      | inl this ↦ simp this rest
+      | inr other ↦ let not_found : bytes_eq name file.0 ≡ false = nat_list_eq_equiv.symm name file.0 ∙ other in simp (other, not_found) rest
     ]
 
 -- a file is added to files of which each name stands once
 pub HasEachNameOnce-stored_with : (stored : StoredFiles) (name bytes : List ℕ) → HasEachNameOnce stored → HasEachNameOnce (stored_with stored name bytes)
-HasEachNameOnce-stored_with stored name bytes once other =
-    elim (cases_Bool (bytes_eq other name)) [
-      | inl same ↦ rw ((bytes_eq-Decides other name).0 same) (omega (arith, named-stored_with stored name bytes))
-      | inr not_same ↦
-          let differs : other ≢ name = λ same. grind (arith, (bytes_eq-Decides other name).1 same, not_same) in
-          rw (named-stored_with_other stored name bytes other differs) (once other)
-    ]
+HasEachNameOnce-stored_with stored name bytes once =
+    let others = filter (λ file. not (bytes_eq file.0 name)) stored in
+    let kept = IsDistinct-keys_filter bytes_eq (λ file. not (bytes_eq file.0 name)) stored once in
+    subst (IsDistinct bytes_eq) (sym (map-append (λ file. file.0) others ((name, bytes) ∷ [])))
+    (IsDistinct-push nat_list_eq_equiv (keys_of others) name kept (no_such_name stored name))

@@ -1,5 +1,7 @@
 -- The files and the sink in memory, a call at a time.
-use Rattle.std.specs.Prelude.{ℕ, ◌-◌, ◌≤◌, List, [], ◌∷◌, ◌++◌, length, take, filter, min, not, if◌then◌else◌, Result, Ok, Err}
+use Rattle.std.specs.Prelude.{ℕ, ◌-◌, List, [], ◌∷◌, ◌++◌, length, take, filter, min, not, if◌then◌else◌, Result, Ok, Err}
+use Rattle.std.specs.List.{IsDistinct}
+use Rattle.std.specs.Map.{keys_of}
 use Rattle.std.specs.Str.{bytes_eq}
 use Rattle.cni_io.specs.declared.files.FileFault.{FileFault}
 use Rattle.cni_io.specs.declared.files.FileFault.TheVariants as file_fault
@@ -16,7 +18,7 @@ pub record FilesState : Type 0 where
 
 -- no name stands twice
 abbrev pub HasEachNameOnce : StoredFiles → Type 0
-HasEachNameOnce stored = (name : List ℕ) → length (filter (λ file. bytes_eq file.0 name) stored) ≤ 1
+HasEachNameOnce stored = IsDistinct bytes_eq (keys_of stored)
 
 -- the files of other names, and then this one
 abbrev pub stored_with : StoredFiles → List ℕ → List ℕ → StoredFiles
