@@ -1,7 +1,9 @@
 -- Lists in which each element stands in a relation to each later one.
 use Rattle.std.proofs.Common.{◌≡◌, Bool, true, false, not, ◌&&◌, ◌||◌, cond, Some, None, List, [], ◌∷◌, ◌++◌, filter, find, refl, ap, sym, arith, ◌∙◌}
 use Rattle.std.specs.List.{list_any, list_all}
+use Rattle.std.proofs.lemmas.List.Elements.{All-filter, All-weaker}
 use Rattle.std.proofs.lemmas.List.Folds.{list_all-append}
+use Rattle.std.proofs.lemmas.List.Sums.{AllPass-from_list_all, list_all-from_AllPass}
 use Rattle.cni_addr.specs.declared.address.Addr.{Addr}
 use Rattle.cni_addr.specs.Equal.{addr_eq}
 use Rattle.ip_pool.specs.Pool.{all_pairs}
@@ -28,8 +30,7 @@ member-passes p (x ∷ xs) a all h = member-passes_step p x xs a (addr_eq a x) r
     member-passes_step p x xs a false is all h next = next (grind arith) h
 
 pub list_all-weaker : {X : Type 0} (p q : X → Bool) → ((x : X) → p x ≡ true → q x ≡ true) → (xs : List X) → list_all p xs ≡ true → list_all q xs ≡ true
-list_all-weaker p q weaker [] h = refl
-list_all-weaker p q weaker (x ∷ xs) h = grind (arith, weaker x, list_all-weaker p q weaker xs)
+list_all-weaker p q weaker xs h = list_all-from_AllPass q xs (All-weaker (λ x. p x ≡ true) (λ x. q x ≡ true) weaker xs (AllPass-from_list_all p xs h))
 
 list_all-related : {X : Type 0} (p : X → Bool) (R S : X → X → Bool) → ((x y : X) → p x ≡ true → p y ≡ true → R x y ≡ true → S x y ≡ true) → (x : X) (ys : List X) → p x ≡ true → list_all p ys ≡ true → list_all (R x) ys ≡ true → list_all (S x) ys ≡ true
 list_all-related p R S weaker x [] px ps rs = refl
@@ -68,8 +69,7 @@ all_pairs-right R [] ys h = h
 all_pairs-right R (x ∷ xs) ys h = grind (arith, all_pairs-right R xs ys)
 
 pub list_all-filter : {X : Type 0} (p keep : X → Bool) (xs : List X) → list_all p xs ≡ true → list_all p (filter keep xs) ≡ true
-list_all-filter p keep [] h = refl
-list_all-filter p keep (x ∷ xs) h = grind (arith, list_all-filter p keep xs)
+list_all-filter p keep xs h = list_all-from_AllPass p (filter keep xs) (All-filter keep (λ x. p x ≡ true) xs (AllPass-from_list_all p xs h))
 
 pub all_pairs-filter : {X : Type 0} (R : X → X → Bool) (keep : X → Bool) (xs : List X) → all_pairs R xs ≡ true → all_pairs R (filter keep xs) ≡ true
 all_pairs-filter R keep [] h = refl

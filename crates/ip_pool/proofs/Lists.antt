@@ -2,6 +2,7 @@
 use Rattle.std.proofs.Common.{◌≡◌, ℕ, suc, ◌+◌, ◌<◌, ◌||◌, Bool, true, false, not, cond, nat_lt, Option, Some, None, List, [], ◌∷◌, ◌++◌, length, get_or, take, drop, find, refl, ap, ◌∙◌, arith}
 use Rattle.std.specs.List.{flat_map, list_any, after_first, position_or_len, position}
 use Rattle.std.specs.Option.{option_or, is_some}
+use Rattle.std.proofs.Math.Seq.{drop-append-add, take-append-add}
 use Rattle.std.proofs.lemmas.List.{drop_more, drop_all, take_all}
 use Rattle.std.proofs.lemmas.List.Folds.{find-append}
 use Rattle.std.proofs.lemmas.Bool.Decides.{nat_tests}
@@ -30,18 +31,6 @@ position_or_len-split : {X : Type 0} (p : X → Bool) (xs : List X) (y : X) (ys 
 position_or_len-split p [] y ys none hit = grind arith
 position_or_len-split p (x ∷ xs) y ys none hit = grind (arith, position_or_len-split p xs y ys)
 
-drop-split : {X : Type 0} (xs : List X) (y : X) (ys : List X) → drop (length xs + 1) (xs ++ (y ∷ ys)) ≡ ys
-drop-split [] y ys = refl
-drop-split (x ∷ xs) y ys =
-    let e : length (x ∷ xs) + 1 ≡ suc (length xs + 1) = omega arith in
-    rw e (drop-split xs y ys)
-
-take-split : {X : Type 0} (xs : List X) (y : X) (ys : List X) → take (length xs + 1) (xs ++ (y ∷ ys)) ≡ xs ++ (y ∷ [])
-take-split [] y ys = refl
-take-split (x ∷ xs) y ys =
-    let e : length (x ∷ xs) + 1 ≡ suc (length xs + 1) = omega arith in
-    rw e (ap (λ l. x ∷ l) (take-split xs y ys))
-
 -- where none passes, going round from the first that passes is the list itself
 pub round-absent : {X : Type 0} (p : X → Bool) (xs : List X) → list_any p xs ≡ false → after_first p xs ++ take (position_or_len p xs + 1) xs ≡ xs
 round-absent p xs none =
@@ -50,7 +39,7 @@ round-absent p xs none =
 
 -- where one passes and none before it
 pub round-split : {X : Type 0} (p : X → Bool) (xs : List X) (y : X) (ys : List X) → list_any p xs ≡ false → p y ≡ true → after_first p (xs ++ (y ∷ ys)) ++ take (position_or_len p (xs ++ (y ∷ ys)) + 1) (xs ++ (y ∷ ys)) ≡ ys ++ (xs ++ (y ∷ []))
-round-split p xs y ys none hit = rw (position_or_len-split p xs y ys none hit, drop-split xs y ys) (ap (λ l. ys ++ l) (take-split xs y ys))
+round-split p xs y ys none hit = rw (position_or_len-split p xs y ys none hit, drop-append-add xs (y ∷ ys) 1) (ap (λ l. ys ++ l) (take-append-add xs (y ∷ ys) 1))
 
 place-some : (t : Bool) (n i : ℕ) → cond t (Some n) None ≡ Some i → n ≡ i
 place-some true n i h = cc
