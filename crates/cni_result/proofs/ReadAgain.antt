@@ -48,15 +48,15 @@ list_if_again blamed print read [] all = refl
 list_if_again blamed print read (x ∷ xs) all = each_again print read (x ∷ xs) all
 
 -- a domain, left out where empty
-pub domain_again : (text : List ℕ) → domain_of (field_of as_str (text_member text)) ≡ Ok text
-domain_again [] = refl
-domain_again (c ∷ text) = refl
+pub domain_again : {E : Type 0} (wrong : E) (text : List ℕ) → domain_of wrong (field_of as_str (text_member text)) ≡ Ok text
+domain_again wrong [] = refl
+domain_again wrong (c ∷ text) = refl
 
 -- name resolution, left out where it has no member
-pub dns_again : (dns : Dns) (ms : Members) → dns_members_at (object ms) ≡ Ok dns → dns_of (field_of object_of (object_member ms)) ≡ Ok dns
+pub dns_again : {E : Type 0} (wrong : E) (dns : Dns) (ms : Members) → dns_members_at wrong (object ms) ≡ Ok dns → dns_of wrong (field_of object_of (object_member ms)) ≡ Ok dns
 unfolding dns_members_at words_at domain_at
-dns_again dns no_members is = is
-dns_again dns (member k d ms) is = is
+dns_again wrong dns no_members is = is
+dns_again wrong dns (member k d ms) is = is
 
 -- what holds of each thing holds of each of a list
 pub everywhere : {A : Type 0} (P Q : A → Type 0) (xs : List A) → ((x : A) → P x → Q x) → AllByRecursion P xs → AllByRecursion Q xs

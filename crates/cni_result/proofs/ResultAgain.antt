@@ -15,8 +15,10 @@ use Rattle.cni_result.specs.Dns.{word_of, words_of, words_at, domain_of, domain_
 use Rattle.cni_result.specs.Fields.{list_of, list_at}
 use Rattle.cni_result.specs.Laws.{IsInterfaceOf, IsIpEntry, IsRouteEntry, IsReadable}
 use Rattle.cni_result.specs.Members.{text_data, list_data, ◌▷◌, put_text_unless_empty, put_list_unless_empty, put_object_unless_empty}
-use Rattle.cni_result.specs.Reading.{version_of, version_at, interface_at, interfaces_at, ip_at, ips_at, route_at, routes_at, dns_or_refused, dns_at, indexes_at, result_at, result_of_bytes}
+use Rattle.cni_result.specs.Reading.{version_of, version_at, interface_at, interfaces_at, ip_at, ips_at, route_at, routes_at, indexes_at, result_at, result_of_bytes}
 use Rattle.cni_result.specs.Results.{version_data, interface_data, ip_data, route_data, dns_members, result_members, result_data}
+use Rattle.cni_result.specs.declared.refusal.ResultError.{ResultError}
+use Rattle.cni_result.specs.declared.refusal.ResultError.TheVariants as refusal
 use Rattle.cni_result.specs.declared.result.AddResult.{AddResult}
 use Rattle.cni_result.specs.declared.result.Dns.{Dns}
 use Rattle.cni_result.specs.declared.version.Version.{Version}
@@ -24,12 +26,16 @@ use Rattle.cni_result.specs.declared.version.Version.TheVariants.{V1_0, V1_1}
 
 -- ---- name resolution
 
-all_words : (texts : List (List ℕ)) → AllByRecursion (λ t. word_of (text_data t) ≡ Ok t) texts
-all_words texts = each_of (λ t. word_of (text_data t) ≡ Ok t) texts (λ t. refl)
+-- whatever is wrong in `dns`, it is to blame
+abbrev wrong : ResultError
+wrong = refusal.Invalid (codes "dns")
 
-words_again : (texts : List (List ℕ)) → words_of (field_of as_array (list_member text_data texts)) ≡ Ok texts
+all_words : (texts : List (List ℕ)) → AllByRecursion (λ t. word_of wrong (text_data t) ≡ Ok t) texts
+all_words texts = each_of (λ t. word_of wrong (text_data t) ≡ Ok t) texts (λ t. refl)
+
+words_again : (texts : List (List ℕ)) → words_of wrong (field_of as_array (list_member text_data texts)) ≡ Ok texts
 words_again [] = refl
-words_again (text ∷ texts) = each_again text_data word_of (text ∷ texts) (all_words (text ∷ texts))
+words_again (text ∷ texts) = each_again text_data (word_of wrong) (text ∷ texts) (all_words (text ∷ texts))
 
 abbrev up_to_domain : Dns → Members
 up_to_domain dns = no_members ▷ put_text_unless_empty (codes "domain") dns.domain
@@ -40,45 +46,45 @@ up_to_nameservers dns = up_to_domain dns ▷ put_list_unless_empty text_data (co
 abbrev up_to_options : Dns → Members
 up_to_options dns = up_to_nameservers dns ▷ put_list_unless_empty text_data (codes "options") dns.options
 
-nameservers_again : (dns : Dns) → words_at (codes "nameservers") (object (dns_members dns)) ≡ Ok dns.nameservers
+nameservers_again : (dns : Dns) → words_at wrong (codes "nameservers") (object (dns_members dns)) ≡ Ok dns.nameservers
 unfolding words_at dns_members
 nameservers_again dns =
-    ap (λ g. words_of (field_of as_array g))
+    ap (λ g. words_of wrong (field_of as_array g))
     (at_other_list text_data (codes "nameservers") (codes "search") dns.search (up_to_options dns) refl
     ∙ at_other_list text_data (codes "nameservers") (codes "options") dns.options (up_to_nameservers dns) refl
     ∙ at_key_list text_data (codes "nameservers") dns.nameservers (up_to_domain dns) (at_other_text (codes "nameservers") (codes "domain") dns.domain no_members refl))
     ∙ words_again dns.nameservers
 
-options_again : (dns : Dns) → words_at (codes "options") (object (dns_members dns)) ≡ Ok dns.options
+options_again : (dns : Dns) → words_at wrong (codes "options") (object (dns_members dns)) ≡ Ok dns.options
 unfolding words_at dns_members
 options_again dns =
-    ap (λ g. words_of (field_of as_array g))
+    ap (λ g. words_of wrong (field_of as_array g))
     (at_other_list text_data (codes "options") (codes "search") dns.search (up_to_options dns) refl
     ∙ at_key_list text_data (codes "options") dns.options (up_to_nameservers dns)
     (at_other_list text_data (codes "options") (codes "nameservers") dns.nameservers (up_to_domain dns) refl ∙ at_other_text (codes "options") (codes "domain") dns.domain no_members refl))
     ∙ words_again dns.options
 
-search_again : (dns : Dns) → words_at (codes "search") (object (dns_members dns)) ≡ Ok dns.search
+search_again : (dns : Dns) → words_at wrong (codes "search") (object (dns_members dns)) ≡ Ok dns.search
 unfolding words_at dns_members
 search_again dns =
-    ap (λ g. words_of (field_of as_array g))
+    ap (λ g. words_of wrong (field_of as_array g))
     (at_key_list text_data (codes "search") dns.search (up_to_options dns)
     (at_other_list text_data (codes "search") (codes "options") dns.options (up_to_nameservers dns) refl
     ∙ at_other_list text_data (codes "search") (codes "nameservers") dns.nameservers (up_to_domain dns) refl
     ∙ at_other_text (codes "search") (codes "domain") dns.domain no_members refl))
     ∙ words_again dns.search
 
-domain_at_again : (dns : Dns) → domain_at (object (dns_members dns)) ≡ Ok dns.domain
+domain_at_again : (dns : Dns) → domain_at wrong (object (dns_members dns)) ≡ Ok dns.domain
 unfolding domain_at dns_members
 domain_at_again dns =
-    ap (λ g. domain_of (field_of as_str g))
+    ap (λ g. domain_of wrong (field_of as_str g))
     (at_other_list text_data (codes "domain") (codes "search") dns.search (up_to_options dns) refl
     ∙ at_other_list text_data (codes "domain") (codes "options") dns.options (up_to_nameservers dns) refl
     ∙ at_other_list text_data (codes "domain") (codes "nameservers") dns.nameservers (up_to_domain dns) refl
     ∙ at_key_text (codes "domain") dns.domain no_members refl)
-    ∙ domain_again dns.domain
+    ∙ domain_again wrong dns.domain
 
-dns_members_again : (dns : Dns) → dns_members_at (object (dns_members dns)) ≡ Ok dns
+dns_members_again : (dns : Dns) → dns_members_at wrong (object (dns_members dns)) ≡ Ok dns
 unfolding dns_members_at
 dns_members_again dns = rw (nameservers_again dns, domain_at_again dns, search_again dns, options_again dns) refl
 
@@ -145,15 +151,15 @@ routes_again r kept =
     ∙ at_other (codes "routes") (codes "cniVersion") (version_data r.version) no_members refl))
     ∙ list_if_again (codes "routes") route_data route_at r.routes all
 
-dns_at_again : (r : AddResult) → dns_at (result_data r) ≡ Ok r.dns
-unfolding dns_at dns_of_object result_members
+dns_at_again : (r : AddResult) → dns_of_object wrong (result_data r) ≡ Ok r.dns
+unfolding dns_of_object result_members
 dns_at_again r =
-    ap (λ g. dns_or_refused (dns_of (field_of object_of g)))
+    ap (λ g. dns_of wrong (field_of object_of g))
     (at_other_list route_data (codes "dns") (codes "routes") r.routes (up_to_ips r) refl
     ∙ at_other_list ip_data (codes "dns") (codes "ips") r.ips (up_to_interfaces r) refl
     ∙ at_other (codes "dns") (codes "interfaces") (list_data (interface_data r.version) r.interfaces) (up_to_dns r) refl
     ∙ at_key_object (codes "dns") (dns_members r.dns) (up_to_version r) (at_other (codes "dns") (codes "cniVersion") (version_data r.version) no_members refl))
-    ∙ ap dns_or_refused (dns_again r.dns (dns_members r.dns) (dns_members_again r.dns))
+    ∙ dns_again wrong r.dns (dns_members r.dns) (dns_members_again r.dns)
 
 indexes_again : (r : AddResult) → IsReadable r → indexes_at (length r.interfaces) r.ips ≡ Ok tt
 unfolding indexes_at

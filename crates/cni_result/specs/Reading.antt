@@ -18,12 +18,9 @@ use Rattle.cni_result.specs.Dns.{dns_of_object}
 use Rattle.cni_result.specs.Fields.{optional, list_at, as_it_is}
 use Rattle.cni_result.specs.Refusals.{invalid}
 use Rattle.cni_result.specs.Versions.{version_named, tells_mtu}
-use Rattle.cni_result.specs.declared.dns.DnsError.{DnsError}
-use Rattle.cni_result.specs.declared.dns.DnsError.TheVariants as ends
 use Rattle.cni_result.specs.declared.refusal.ResultError.{ResultError}
 use Rattle.cni_result.specs.declared.refusal.ResultError.TheVariants as refusal
 use Rattle.cni_result.specs.declared.result.AddResult.{AddResult}
-use Rattle.cni_result.specs.declared.result.Dns.{Dns}
 use Rattle.cni_result.specs.declared.result.Interface.{Interface}
 use Rattle.cni_result.specs.declared.result.IpEntry.{IpEntry}
 use Rattle.cni_result.specs.declared.result.RouteEntry.{RouteEntry}
@@ -106,17 +103,6 @@ route_at d = do
 unfoldable pub routes_at : Data → Result (List RouteEntry) ResultError
 routes_at d = list_at (codes "routes") route_at d
 
--- ---- name resolution
-
--- the configuration that was read; whatever is wrong in it, `dns` is to blame
-abbrev pub dns_or_refused : Result Dns DnsError → Result Dns ResultError
-dns_or_refused (Ok dns) = Ok dns
-dns_or_refused (Err ends.Invalid) = invalid (codes "dns")
-dns_or_refused (Err ends.NoMemory) = Err refusal.NoMemory
-
-unfoldable pub dns_at : Data → Result Dns ResultError
-dns_at d = dns_or_refused (dns_of_object d)
-
 -- ---- the whole
 
 -- the address is on an interface of the list, or on none
@@ -139,7 +125,7 @@ result_at d = do
   interfaces ← interfaces_at version d
   ips ← ips_at d
   routes ← routes_at d
-  dns ← dns_at d
+  dns ← dns_of_object (refusal.Invalid (codes "dns")) d
   _ ← indexes_at (length interfaces) ips
   Ok (record { version = version; interfaces = interfaces; ips = ips; routes = routes; dns = dns })
 

@@ -27,7 +27,7 @@ mod tests;
 pub mod version;
 
 pub use cached::{Cached, PortMapping, Proto, proto_named, proto_text};
-pub use dns::{DnsError, no_dns, read_dns};
+pub use dns::{no_dns, read_dns};
 pub use error::CniError;
 pub use members::{JsonObject, ToJson, list_value};
 pub use printing::{error_value, result_line, to_value};

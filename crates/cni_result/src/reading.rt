@@ -4,13 +4,13 @@ ghost use Rattle.std.specs.Prelude.{◌≡◌};
 ghost use Rattle.serde_json.specs.View.{view};
 ghost use Rattle.cni_json.specs.Json.{json_of};
 ghost use Rattle.cni_json.specs.Outcome.{GivesAs};
-ghost use Rattle.cni_result.specs.Reading.{version_at, is_on_one_of, are_on, indexes_at, result_at, dns_at, decoded, result_of_bytes};
+ghost use Rattle.cni_result.specs.Reading.{version_at, is_on_one_of, are_on, indexes_at, result_at, decoded, result_of_bytes};
 ghost use Rattle.cni_result.specs.Refusals.{is_want_of_memory};
 
-use crate::dns::{DnsError, read_dns};
+use crate::dns::read_dns;
 use crate::entries::{interfaces, ips, routes};
 use crate::refusal::{ResultError, invalid, version_refused};
-use crate::result::{AddResult, Dns, IpEntry};
+use crate::result::{AddResult, IpEntry};
 use crate::version::{Version, version_named};
 use cni_json::{Field, ReadEnd, Value, field_str, need_object, read};
 use std::alloc::Global;
@@ -50,7 +50,7 @@ fn result_of(alloc: Global, top: &Value) -> Result<AddResult, ResultError>
     let interfaces = interfaces(alloc, version, top)?;
     let ips = ips(alloc, top)?;
     let routes = routes(alloc, top)?;
-    let dns = dns(alloc, top)?;
+    let dns = read_dns(alloc, top, || invalid(alloc, "dns"))?;
     indexes(alloc, interfaces.as_slice().len(), ips.as_slice())?;
     Ok(AddResult {
         version,
@@ -68,17 +68,6 @@ fn version(alloc: Global, top: &Value) -> Result<Version, ResultError>
     match field_str(top, "cniVersion") {
         Field::Absent | Field::WrongKind => Err(version_refused(alloc, "")),
         Field::Here(found) => version_named(found).ok_or_else(|| version_refused(alloc, found)),
-    }
-}
-
-#[tactic(auto, using(cni_json::proofs::Steps::steps), unfolding(crate::specs::Reading::dns_at))]
-fn dns(alloc: Global, top: &Value) -> Result<Dns, ResultError>
-    ensures { GivesAs is_want_of_memory (λ dns. dns) result (dns_at (view top.now)) }
-{
-    match read_dns(alloc, top) {
-        Ok(dns) => Ok(dns),
-        Err(DnsError::Invalid) => Err(invalid(alloc, "dns")),
-        Err(DnsError::NoMemory) => Err(ResultError::NoMemory),
     }
 }
 

@@ -15,8 +15,8 @@ use Rattle.cni_json.specs.WellFormed.{EverywhereInItems, HasAscendingKeys, KeysA
 use Rattle.cni_json.proofs.Endings.{goes, ok_same, passed, not_refused, each_after_keeps}
 use Rattle.net_conf.proofs.SetFacts.{sets_at-ok, routes_at-ok}
 use Rattle.net_conf.proofs.TuningFacts.{IsNew, by_test, given_mtu_at-ok, tuning_at-ok}
+use Rattle.cni_result.specs.Dns.{dns_of_object}
 use Rattle.net_conf.specs.Bridge.{bridge_rows, bridge_name_of, bridge_name_at, gateway_role_at, mode_flags_at, is_one_mode, not_both, modes_at, bridge_at}
-use Rattle.net_conf.specs.Dns.{dns_at}
 use Rattle.net_conf.specs.Firewall.{firewall_at}
 use Rattle.net_conf.specs.Ipam.{manager_at, host_local_at, is_empty, ipam_of, ipam_at, addressing_at}
 use Rattle.net_conf.specs.Macvlan.{macvlan_rows, master_of, master_at, mode_at, macvlan_at}
@@ -93,7 +93,7 @@ HasIpam addressing = IsWellFormedIpam addressing.ipam
 addressing_at-ok : (d : Data) (found : Addressing) → addressing_at d ≡ Ok found → HasIpam found
 unfolding addressing_at ipam_at
 addressing_at-ok d found is =
-    let dns = goes (dns_at d) _ found is in
+    let dns = goes (dns_of_object (refusal.Invalid (codes "dns")) d) _ found is in
     let ipam = goes (ipam_at d) _ found dns.rest in
     subst HasIpam (ok_same ipam.rest) (ipam_of-ok (member_at (codes "ipam") d) ipam.value ipam.first)
 

@@ -6,7 +6,7 @@ use Rattle.serde_json.specs.Find.{get}
 use Rattle.serde_json.specs.Written.{compact_text}
 use Rattle.cni_json.specs.Fields.{member_at, object_or}
 use Rattle.cni_json.specs.Outcome.{◌>>=◌}
-use Rattle.net_conf.specs.Dns.{dns_at}
+use Rattle.cni_result.specs.Dns.{dns_of_object}
 use Rattle.net_conf.specs.Members.{is_null, of_kind}
 use Rattle.net_conf.specs.Outside.{supported}
 use Rattle.net_conf.specs.Refusals.{invalid}
@@ -60,6 +60,6 @@ ipam_at d = ipam_of (member_at (codes "ipam") d)
 -- the members that each plugin which makes an interface has last
 unfoldable pub addressing_at : Data → Result Addressing ConfError
 addressing_at d = do
-  dns ← dns_at d
+  dns ← dns_of_object (refusal.Invalid (codes "dns")) d
   ipam ← ipam_at d
   Ok (record { dns = dns; ipam = ipam })

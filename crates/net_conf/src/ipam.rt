@@ -7,14 +7,13 @@ ghost use Rattle.cni_json.specs.Outcome.{GivesAs};
 ghost use Rattle.net_conf.specs.Ipam as wanted;
 ghost use Rattle.net_conf.specs.Refusals.{is_want_of_memory};
 
-use crate::dns::dns;
 use crate::error::{ConfError, invalid, unsupported};
 use crate::first::HostLocalConf;
 use crate::outside::{Accepted, supported};
 use crate::routes::routes;
 use crate::sets::sets;
 use cni_json::{Map, Value, member, need_object};
-use cni_result::Dns;
+use cni_result::{Dns, read_dns};
 use std::alloc::Global;
 
 /// How the interface that a plugin makes gets its addresses, and how names are resolved behind it.
@@ -30,7 +29,7 @@ pub fn addressing_of(alloc: Global, plugin: &Value) -> Result<Addressing, ConfEr
     requires { has_float (view plugin.now) ≡ false }
     ensures { GivesAs is_want_of_memory (λ found. found) result (wanted.addressing_at (view plugin.now)) }
 {
-    let dns = dns(alloc, plugin)?;
+    let dns = read_dns(alloc, plugin, || invalid(alloc, "dns"))?;
     let ipam = ipam(alloc, plugin)?;
     Ok(Addressing { dns, ipam })
 }

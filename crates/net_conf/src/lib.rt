@@ -15,7 +15,6 @@ mod apart;
 mod bridge;
 pub mod chained;
 mod copies;
-mod dns;
 mod error;
 mod firewall;
 pub mod first;
