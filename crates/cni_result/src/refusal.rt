@@ -42,18 +42,12 @@ impl Refusal for ResultError {
 pub(crate) fn invalid(alloc: Global, key: &str) -> ResultError
     ensures { TellsAs is_want_of_memory result (refusal.Invalid key.now) }
 {
-    match Text::of(alloc, key) {
-        Ok(key) => ResultError::Invalid { key },
-        Err(NoMemory) => ResultError::NoMemory,
-    }
+    Text::of(alloc, key).map_or_else(ResultError::from, |key| ResultError::Invalid { key })
 }
 
 /// The refusal of a version.
 pub(crate) fn version_refused(alloc: Global, found: &str) -> ResultError
     ensures { TellsAs is_want_of_memory result (refusal.Version found.now) }
 {
-    match Text::of(alloc, found) {
-        Ok(found) => ResultError::Version { found },
-        Err(NoMemory) => ResultError::NoMemory,
-    }
+    Text::of(alloc, found).map_or_else(ResultError::from, |found| ResultError::Version { found })
 }

@@ -1,6 +1,6 @@
 //! Why a network list is refused.
 
-ghost use Rattle.std.specs.Prelude.{◌≡◌, false};
+ghost use Rattle.std.specs.Prelude.{◌≡◌, false, IfOk};
 ghost use Rattle.std.proofs.Common.{rules};
 ghost use Rattle.serde_json.specs.View.{view};
 ghost use Rattle.serde_json.specs.Written.{has_float, compact_text};
@@ -46,20 +46,14 @@ impl Refusal for ConfError {
 pub(crate) fn invalid(alloc: Global, why: &str) -> ConfError
     ensures { TellsAs is_want_of_memory result (refusal.Invalid why.now) }
 {
-    match Text::of(alloc, why) {
-        Ok(why) => ConfError::Invalid { why },
-        Err(NoMemory) => ConfError::NoMemory,
-    }
+    Text::of(alloc, why).map_or_else(ConfError::from, |why| ConfError::Invalid { why })
 }
 
 /// The refusal of a version.
 pub(crate) fn version_refused(alloc: Global, found: &str) -> ConfError
     ensures { TellsAs is_want_of_memory result (refusal.Version found.now) }
 {
-    match Text::of(alloc, found) {
-        Ok(found) => ConfError::Version { found },
-        Err(NoMemory) => ConfError::NoMemory,
-    }
+    Text::of(alloc, found).map_or_else(ConfError::from, |found| ConfError::Version { found })
 }
 
 /// The refusal of a key's value.
@@ -67,14 +61,16 @@ pub(crate) fn unsupported(alloc: Global, key: &str, value: &Value) -> ConfError
     requires { has_float (view value.now) ≡ false }
     ensures { TellsAs is_want_of_memory result (refusal.Unsupported key.now (compact_text (view value.now))) }
 {
-    let Ok(key) = Text::of(alloc, key) else {
-        return ConfError::NoMemory;
-    };
-    let Ok(json) = value.to_string(alloc) else {
-        return ConfError::NoMemory;
-    };
-    match Text::of(alloc, json.as_str()) {
-        Ok(value) => ConfError::Unsupported { key, value },
-        Err(NoMemory) => ConfError::NoMemory,
-    }
+    key_and_value(alloc, key, value).unwrap_or_else(ConfError::from)
+}
+
+fn key_and_value(alloc: Global, key: &str, value: &Value) -> Result<ConfError, NoMemory>
+    requires { has_float (view value.now) ≡ false }
+    ensures { IfOk result (λ e. e ≡ refusal.Unsupported key.now (compact_text (view value.now))) }
+{
+    let json = value.to_string(alloc)?;
+    Ok(ConfError::Unsupported {
+        key: Text::of(alloc, key)?,
+        value: Text::of(alloc, json.as_str())?,
+    })
 }
