@@ -4,10 +4,11 @@ use Rattle.std.specs.Prelude.{All}
 use Rattle.std.proofs.lemmas.Bool.{and_parts}
 use Rattle.std.proofs.lemmas.List.Elements.{All-nil, All-cons}
 use Rattle.serde_json.specs.Data.{Data, Items, no_items, item}
+use Rattle.serde_json.specs.Events.{items_len}
 use Rattle.cni_json.proofs.Endings.{goes, ok_same, passed}
 use Rattle.cni_json.specs.Each.{each}
 use Rattle.net_conf.specs.Members.{passing}
-use Rattle.net_conf.specs.Sets.{all_items, item_count}
+use Rattle.net_conf.specs.Sets.{all_items}
 use Rattle.net_conf.specs.declared.error.ConfError.{ConfError}
 
 -- what holds of each item that is read, where each item passes a test first
@@ -21,7 +22,7 @@ each_tested test read P holds (item d ds) xs tests is =
     subst (All P) (ok_same more.rest) (All-cons P one.value more.value (holds d one.value both.0 one.first) (each_tested test read P holds ds more.value both.1 more.first))
 
 -- as many are read as there are items
-pub each_count : {A : Type 0} (read : Data → Result A ConfError) (ds : Items) (xs : List A) → each read ds ≡ Ok xs → length xs ≡ item_count ds
+pub each_count : {A : Type 0} (read : Data → Result A ConfError) (ds : Items) (xs : List A) → each read ds ≡ Ok xs → length xs ≡ items_len ds
 each_count read no_items xs is = ap length (sym (ok_same {x = []} {y = xs} is))
 each_count read (item d ds) xs is =
     let one = goes (read d) _ xs is in

@@ -5,6 +5,7 @@ use Rattle.std.specs.List.{list_all}
 use Rattle.std.proofs.lemmas.Bool.{and_parts}
 use Rattle.std.proofs.lemmas.List.Elements.{All-nil, All-cons, All-append}
 use Rattle.serde_json.specs.Data.{Data, null, boolean, number, string, array, object, Items, no_items, item}
+use Rattle.serde_json.specs.Events.{items_len}
 use Rattle.cni_json.specs.declared.fields.Field.{Field}
 use Rattle.cni_json.specs.declared.fields.Field.TheVariants.{Absent, WrongKind, Here}
 use Rattle.cni_addr.proofs.Networks.{IsCidr-network_of, network_of_network}
@@ -25,7 +26,7 @@ use Rattle.cni_json.specs.Each.{each, each_after, with_front}
 use Rattle.net_conf.specs.Members.{passing}
 use Rattle.net_conf.specs.Ranges.{is_of_family, range_at}
 use Rattle.net_conf.specs.Routes.{destination_or_refused, destination_of, destination_at, hop_of, hop_at, route_at, routes_of, routes_at}
-use Rattle.net_conf.specs.Sets.{set_of, is_set, all_items, is_of_one_family, ranges_of, has_subnet, listed_at, item_count, is_set_count, one_if, well_formed, own_sets_of, separate, sets_at}
+use Rattle.net_conf.specs.Sets.{set_of, is_set, all_items, is_of_one_family, ranges_of, has_subnet, listed_at, is_set_count, one_if, well_formed, own_sets_of, separate, sets_at}
 use Rattle.net_conf.specs.WellFormed.{IsWellFormedRange, IsWellFormedSet, IsWellFormedRoute}
 
 -- ---- a set
@@ -34,7 +35,7 @@ use Rattle.net_conf.specs.WellFormed.{IsWellFormedRange, IsWellFormedSet, IsWell
 abbrev IsFilled : RangeSet → Type 0
 IsFilled set = (0 < length set.ranges) × All IsWellFormedRange set.ranges
 
-some_items : (ds : Items) → is_set (array ds) ≡ true → 0 < item_count ds
+some_items : (ds : Items) → is_set (array ds) ≡ true → 0 < items_len ds
 some_items no_items is = cc
 some_items (item d ds) is = omega arith
 
@@ -95,13 +96,13 @@ sets_at-ok d sets is =
     let joined : with_front own.value (each set_of listed.value) ≡ Ok found.value = sym (each_after-front set_of own.value listed.value) ∙ found.first in
     let others = goes (each set_of listed.value) _ found.value joined in
     let all = ok_same {x = own.value ++ others.value} {y = found.value} others.rest in
-    let form_tests = and_parts (is_set_count (one_if has_own + item_count listed.value)) (all_items is_set listed.value) (passed _ tt form.value _ form.first).0 in
+    let form_tests = and_parts (is_set_count (one_if has_own + items_len listed.value)) (all_items is_set listed.value) (passed _ tt form.value _ form.first).0 in
     let separate_tests = and_parts (are_apart (ranges_of found.value)) (list_all is_of_one_family found.value) (passed _ tt tests.value _ tests.first).0 in
     let own_filled = own_sets_of-ok has_own d own.value own.first in
     let other_count = each_count set_of listed.value others.value others.first in
     let others_filled = each_tested is_set set_of IsFilled set_of-ok listed.value others.value form_tests.1 others.first in
     let filled : All IsFilled found.value = subst (All IsFilled) all (All-append IsFilled own.value others.value own_filled.1 others_filled) in
-    let size : length found.value ≡ one_if has_own + item_count listed.value = sym (ap length all) ∙ (length-append own.value others.value ∙ sum_same own_filled.0 other_count) in
+    let size : length found.value ≡ one_if has_own + items_len listed.value = sym (ap length all) ∙ (length-append own.value others.value ∙ sum_same own_filled.0 other_count) in
     subst AreWellFormedSets (ok_same tests.rest)
     (record { count = ap is_set_count size ∙ form_tests.0; each_set = all_sets found.value separate_tests.0 separate_tests.1 filled; apart = separate_tests.0 })
   where

@@ -1,25 +1,21 @@
 -- Lists of values and the data that they stand for.
-use Rattle.std.proofs.Common.{◌≡◌, ◌≤◌, ◌&&◌, Bool, suc, List, [], ◌∷◌, length, drop, false, nat_eq, ap, refl, arith}
+use Rattle.std.proofs.Common.{◌≡◌, ◌≤◌, ◌&&◌, Bool, List, [], ◌∷◌, length, drop, false, nat_eq, ap, refl, arith}
 use Rattle.std.proofs.lemmas.Bool.{or_parts}
 use Rattle.std.proofs.lemmas.Grind.{common_steps}
 use Rattle.std.specs.List.{list_all}
+use Rattle.serde_json.proofs.Views.{items_len-items_view}
 use Rattle.serde_json.specs.Data.{Data, array}
 use Rattle.serde_json.specs.View.{view, items_view}
 use Rattle.serde_json.specs.Written.{has_float, items_have_float}
 use Rattle.serde_json.specs.declared.value.Value.{Value}
 use Rattle.cni_json.specs.Each.{each_after}
 use Rattle.net_conf.specs.Outside.{is_empty_list}
-use Rattle.net_conf.specs.Sets.{item_count, is_set, is_object, all_items}
+use Rattle.net_conf.specs.Sets.{is_set, is_object, all_items}
 use Rattle.net_conf.specs.Plugins.{later_plugins, later_at}
 
 pub empty_items : (xs : List Value) → is_empty_list (array (items_view xs)) ≡ nat_eq (length xs) 0
 empty_items [] = refl
 empty_items (x ∷ xs) = grind (arith, common_steps)
-
--- the data has as many items as the list has values
-pub item_count-items_view : (xs : List Value) → item_count (items_view xs) ≡ length xs
-item_count-items_view [] = refl
-item_count-items_view (x ∷ xs) = ap suc (item_count-items_view xs)
 
 -- each item of the data passes the test where each value does
 pub all_items-items_view : (test : Data → Bool) (xs : List Value) → all_items test (items_view xs) ≡ list_all (λ x. test (view x)) xs
@@ -40,7 +36,7 @@ pub items_have_float-rest : (xs : List Value) → items_have_float (items_view x
 items_have_float-rest [] whole = refl
 items_have_float-rest (x ∷ xs) whole = (or_parts (has_float (view x)) _ whole).1
 
-pub ruleset counts = (item_count-items_view)
+pub ruleset counts = (items_len-items_view)
 
 pub ruleset tests = (all_items-items_view)
 

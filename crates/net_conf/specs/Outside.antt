@@ -1,8 +1,9 @@
 -- Keys that are not acted on: such a key is accepted at values that ask for nothing, and refused at every other.
-use Rattle.std.specs.Prelude.{◌==◌, ◌||◌, ℕ, List, [], ◌∷◌, codes, Bool, true, false, not, if◌then◌else◌, Result, Ok, Err, Option, Some, None, ⊤, map}
+use Rattle.std.specs.Prelude.{◌==◌, ◌||◌, ℕ, List, [], ◌∷◌, codes, Bool, true, false, not, if◌then◌else◌, Result, Ok, Err, Option, Some, None, is_some, ⊤, map}
 use Rattle.std.specs.Str.{bytes_eq}
 use Rattle.std.specs.Borrow.{Bor}
 use Rattle.serde_json.specs.Data.{Data, boolean, number, string, array, no_items, unsigned}
+use Rattle.serde_json.specs.Find.{as_number, as_str}
 use Rattle.serde_json.specs.Written.{compact_text}
 use Rattle.cni_json.specs.Fields.{member_at}
 use Rattle.cni_json.specs.Outcome.{◌>>=◌}
@@ -16,8 +17,7 @@ is_zero (number (unsigned n)) = n == 0
 is_zero d = false
 
 abbrev pub is_number : Data → Bool
-is_number (number n) = true
-is_number d = false
+is_number d = is_some (as_number d)
 
 abbrev pub is_empty_list : Data → Bool
 is_empty_list (array no_items) = true
@@ -29,8 +29,7 @@ is_flag false (boolean b) = not b
 is_flag wanted d = false
 
 abbrev pub is_text : Data → Bool
-is_text (string text) = true
-is_text d = false
+is_text d = is_some (as_str d)
 
 -- the empty text, or this one
 abbrev pub is_default_text : List ℕ → Data → Bool

@@ -1,7 +1,8 @@
 -- The sets of ranges (the `host-local` plugin, `ranges`, and the older form `subnet`).
-use Rattle.std.specs.Prelude.{◌+◌, ◌&&◌, ℕ, suc, List, [], ◌∷◌, codes, Bool, true, false, nat_le, if◌then◌else◌, Result, Ok, is_some, ⊤}
+use Rattle.std.specs.Prelude.{◌+◌, ◌&&◌, ℕ, List, [], ◌∷◌, codes, Bool, true, false, nat_le, if◌then◌else◌, Result, Ok, is_some, ⊤}
 use Rattle.std.specs.List.{list_all, flat_map}
 use Rattle.serde_json.specs.Data.{Data, array, Items, no_items, item}
+use Rattle.serde_json.specs.Events.{items_len}
 use Rattle.serde_json.specs.Find.{as_object}
 use Rattle.cni_json.specs.Fields.{member_at, list_field}
 use Rattle.cni_json.specs.Outcome.{◌>>=◌}
@@ -70,11 +71,6 @@ sets_listed f = optional (codes "ranges") no_items Ok f
 unfoldable pub listed_at : Data → Result Items ConfError
 listed_at d = sets_listed (list_field (codes "ranges") d)
 
--- how many items
-abbrev pub item_count : Items → ℕ
-item_count no_items = 0
-item_count (item d ds) = suc (item_count ds)
-
 -- the most sets that a configuration has
 abbrev pub most_sets : ℕ
 most_sets = 65536
@@ -91,7 +87,7 @@ one_if false = 0
 -- the sets have the right number and form; their ranges are not looked into
 abbrev pub well_formed : Bool → Items → Result ⊤ ConfError
 well_formed own listed =
-    if is_set_count (one_if own + item_count listed) && all_items is_set listed then Ok tt else wrong_ranges
+    if is_set_count (one_if own + items_len listed) && all_items is_set listed then Ok tt else wrong_ranges
 
 -- the set of the object's own `subnet`, if it has one
 abbrev pub own_sets_of : Bool → Data → Result (List RangeSet) ConfError

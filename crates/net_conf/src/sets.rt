@@ -3,6 +3,7 @@
 ghost use Rattle.std.specs.Prelude.{◌≡◌, ◌+◌, IfOk};
 ghost use Rattle.std.specs.List.{list_all};
 ghost use Rattle.serde_json.specs.Data.{array};
+ghost use Rattle.serde_json.specs.Events.{items_len};
 ghost use Rattle.serde_json.specs.View.{view, items_view};
 ghost use Rattle.cni_json.specs.Outcome.{GivesAs};
 ghost use Rattle.net_conf.specs.Refusals.{is_want_of_memory};
@@ -62,7 +63,7 @@ fn well_formed(alloc: Global, has_own: bool, listed: &[Value]) -> Result<(), Con
 
 #[tactic(auto, using(crate::proofs::ValueLemmas::counts))]
 fn is_set_count(has_own: bool, listed: &[Value]) -> bool
-    ensures { result ≡ wanted.is_set_count (wanted.one_if has_own + wanted.item_count (items_view listed.now)) }
+    ensures { result ≡ wanted.is_set_count (wanted.one_if has_own + items_len (items_view listed.now)) }
 {
     if has_own {
         listed.len() < MOST_SETS
