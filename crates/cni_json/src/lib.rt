@@ -7,9 +7,10 @@
 //! - `read` gives `json_of` of the bytes, in both directions: `Decode` exactly where they have no
 //!   reading, and `Number` exactly where a number of the reading is neither a `u64` nor an `i64`.
 //! - `field_str` and its kin give `text_field` and its kin of the value, and take no memory.
-//! - `read_each` gives `each` of what its function gives of a member, up to the first refusal, and `read_each_after`
-//!   gives `each_after` of a function that is told what stands before the member; `read_list_or` reads the list under a
-//!   key, and `need_object` refuses a value that is no object.
+//! - `read_each` gives `each` of what its function gives of a member, up to the first refusal; `read_each_placed` gives
+//!   `each_from` of a function that is told the member's place too, and `read_each_after` gives `each_after` of one
+//!   that is told what stands before the member. `read_list_or` gives `list_or` of the list under a key, and
+//!   `need_object` `object_or` of a value.
 //! - `line` writes `line_of` of the value.
 //! - What a line was written for is what it is read as (`a_line_is_read_again`), and the keys of
 //!   each object that is read ascend (`keys_ascend`).

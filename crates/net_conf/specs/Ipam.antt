@@ -43,12 +43,12 @@ abbrev pub all_null : Members → Bool
 all_null no_members = true
 all_null (member key d ms) = is_null d && all_null ms
 
--- an object without members
+-- an object whose members, if it has any, are null
 abbrev pub is_empty : Data → Bool
 is_empty (object ms) = all_null ms
 is_empty d = false
 
--- an absent object, and one without members, ask for no address
+-- an absent object, and one in which nothing but null stands, ask for no address
 abbrev pub ipam_of : Option Data → Result (Option HostLocalConf) ConfError
 ipam_of None = Ok None
 ipam_of (Some d) = if is_empty d then Ok None else of_kind Some (host_local_at d)

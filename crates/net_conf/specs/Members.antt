@@ -39,7 +39,7 @@ flag_at key default d = flag_within key key default d
 abbrev pub interface_name : List ℕ → List ℕ → Result (List ℕ) ConfError
 interface_name blamed text = if is_interface_name text then Ok text else invalid blamed
 
--- the least MTU of IPv4 (RFC 791, section 3.2) to the greatest length of a packet
+-- from the least MTU of IPv4 (RFC 791, section 3.2) to the greatest length of a packet
 abbrev pub is_mtu : ℕ → Bool
 is_mtu n = nat_le 68 n && nat_le n 65535
 

@@ -21,7 +21,7 @@ pub struct Sysctl {
     pub value: Text,
 }
 
-/// The configuration of `tuning`. Each key of `sysctl` begins with `net.`; an MTU is 68 to 65535.
+/// The configuration of `tuning`. Each key of `sysctl` begins with `net.`; an MTU passes [`is_mtu`](crate::is_mtu).
 #[derive(PartialEq, Eq, Drop)]
 pub struct TuningConf {
     pub sysctl: Items<Sysctl>,

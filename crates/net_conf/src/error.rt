@@ -12,8 +12,9 @@ use cni_addr::{NoMemory, Text};
 use cni_json::{Refusal, Value};
 use std::alloc::Global;
 
-/// Why a network list is refused: the first cause in the order of its parts. The error codes of the CNI specification
-/// 1.1.0 (section 5, "Error") that they are reported with are 1, 2, 6 and 7.
+/// Why a network list is refused: the first cause in the order of its parts. They are reported with the codes 1, 2, 6
+/// and 7 of the CNI specification 1.1.0 (section 5, "Error"), in the order of the cases, and want of memory with 104,
+/// which is this project's own.
 #[derive(PartialEq, Eq, Drop)]
 pub enum ConfError {
     /// `cniVersion` is none of the versions that are known; the text is empty where there is no `cniVersion`.

@@ -10,7 +10,8 @@ pub struct HostLocalConf {
     pub routes: Items<RouteEntry>,
 }
 
-/// The configuration of `bridge`. The MTU is 68 to 65535, and `is_default_gateway` comes with `is_gateway`.
+/// The configuration of `bridge`. The MTU passes [`is_mtu`](crate::is_mtu), and `is_default_gateway`
+/// comes with `is_gateway`.
 #[derive(PartialEq, Eq, Drop)]
 pub struct BridgeConf {
     pub bridge: Text,
@@ -24,7 +25,7 @@ pub struct BridgeConf {
     pub dns: Dns,
 }
 
-/// The configuration of `ptp`. The MTU is 68 to 65535.
+/// The configuration of `ptp`. The MTU passes [`is_mtu`](crate::is_mtu).
 #[derive(PartialEq, Eq, Drop)]
 pub struct PtpConf {
     pub ip_masq: bool,
@@ -33,7 +34,7 @@ pub struct PtpConf {
     pub dns: Dns,
 }
 
-/// The configuration of `macvlan`. The MTU is 68 to 65535.
+/// The configuration of `macvlan`. The MTU passes [`is_mtu`](crate::is_mtu).
 #[derive(PartialEq, Eq, Drop)]
 pub struct MacvlanConf {
     pub master: Text,

@@ -34,8 +34,8 @@ pub fn addressing_of(alloc: Global, plugin: &Value) -> Result<Addressing, ConfEr
     Ok(Addressing { dns, ipam })
 }
 
-/// The configuration of address management, None where the plugin is to give no address: `ipam` is absent or has no
-/// members.
+/// The configuration of address management, None where the plugin is to give no address: `ipam` is absent, or an object
+/// whose members, if it has any, are null.
 #[tactic(auto, using(cni_json::proofs::Steps::steps, cni_json::proofs::WholeNumbers::parts_are_whole), unfolding(crate::specs::Ipam::ipam_at))]
 fn ipam(alloc: Global, plugin: &Value) -> Result<Option<HostLocalConf>, ConfError>
     requires { has_float (view plugin.now) ≡ false }

@@ -36,8 +36,8 @@ pub fn flag_within(
     }
 }
 
-/// Whether a link may have an MTU of so many bytes: from the least of IPv4 (RFC 791, section 3.2) to the greatest
-/// length of a packet.
+/// Whether a link may have an MTU of so many bytes: from 68, the least of IPv4 (RFC 791, section 3.2), to 65,535, the
+/// greatest length of a packet.
 pub fn is_mtu(number: u64) -> bool
     ensures { result ≡ members.is_mtu number }
 {
