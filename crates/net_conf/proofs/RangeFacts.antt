@@ -16,7 +16,7 @@ use Rattle.cni_json.proofs.Endings.{goes, ok_same, passed}
 use Rattle.net_conf.proofs.Endings.{passing-ok}
 use Rattle.net_conf.proofs.RangeLemmas.{subnet_room}
 use Rattle.net_conf.specs.Members.{passing}
-use Rattle.net_conf.specs.Ranges.{is_subnet, subnet_of, subnet_at, bound_of, bound_at, first_host, last_host, is_in_order, in_order, is_of_family, gateway_of, gateway_at, range_at}
+use Rattle.net_conf.specs.Ranges.{is_subnet, subnet_of, subnet_at, bound_of, bound_at, first_host, last_host, is_in_order, in_order, is_address_of, gateway_of, gateway_at, range_at}
 use Rattle.net_conf.specs.WellFormed.{IsWellFormedRange}
 
 -- ---- what the readers of texts keep
@@ -89,9 +89,9 @@ in_order-ok start end is =
 abbrev pub IsOfFamily : Family → AddrValue → Type 0
 IsOfFamily family a = IsAddr a × (a.family ≡ family)
 
-pub of_family-ok : (blamed : List ℕ) (family : Family) (text : List ℕ) (a : AddrValue) → passing blamed (is_of_family family) (addr_of_text text) ≡ Ok a → IsOfFamily family a
+pub of_family-ok : (blamed : List ℕ) (family : Family) (text : List ℕ) (a : AddrValue) → passing blamed (is_address_of family) (addr_of_text text) ≡ Ok a → IsOfFamily family a
 of_family-ok blamed family text a is =
-    let found = passing-ok blamed (is_of_family family) (addr_of_text text) a is in
+    let found = passing-ok blamed (is_address_of family) (addr_of_text text) a is in
     (read_is_addr text a found.1, family_eq-true a.family family found.0)
 
 gateway_of-ok : (c : CidrValue) (f : Field (List ℕ)) (a : AddrValue) → IsSubnet c → gateway_of c f ≡ Ok a → IsOfFamily c.addr.family a

@@ -24,7 +24,7 @@ use Rattle.cni_json.proofs.EachLemmas.{each_after-front}
 use Rattle.net_conf.proofs.RangeFacts.{IsOfFamily, of_family-ok, range_at-ok, read_is_cidr}
 use Rattle.cni_json.specs.Each.{each, each_after, with_front}
 use Rattle.net_conf.specs.Members.{passing}
-use Rattle.net_conf.specs.Ranges.{is_of_family, range_at}
+use Rattle.net_conf.specs.Ranges.{is_address_of, range_at}
 use Rattle.net_conf.specs.Routes.{destination_or_refused, destination_of, destination_at, hop_of, hop_at, route_at, routes_of, routes_at}
 use Rattle.net_conf.specs.Sets.{set_of, is_set, all_items, is_of_one_family, ranges_of, has_subnet, listed_at, is_set_count, one_if, well_formed, own_sets_of, separate, sets_at}
 use Rattle.net_conf.specs.WellFormed.{IsWellFormedRange, IsWellFormedSet, IsWellFormedRoute}
@@ -136,7 +136,7 @@ hop_of-ok : (family : Family) (f : Field (List ℕ)) (found : Option AddrValue) 
 hop_of-ok family Absent found is = subst (IsHop family) (ok_same is) (λ gw same. cc)
 hop_of-ok family WrongKind found is = cc
 hop_of-ok family (Here text) found is =
-    let gw = goes (passing (codes "routes") (is_of_family family) (addr_of_text text)) _ found is in
+    let gw = goes (passing (codes "routes") (is_address_of family) (addr_of_text text)) _ found is in
     subst (IsHop family) (ok_same gw.rest) (some_hop family gw.value (of_family-ok (codes "routes") family text gw.value gw.first))
 
 hop_at-ok : (family : Family) (d : Data) (found : Option AddrValue) → hop_at family d ≡ Ok found → IsHop family found

@@ -22,8 +22,8 @@ use Rattle.cni_json.proofs.Endings.{goes, ok_same, passed}
 use Rattle.cni_json.proofs.WholeNumbers.{member_at-found, u32_of-fits}
 use Rattle.cni_json.specs.WellFormed.{keys, AreAscending, HasAscendingKeys, KeysAscend}
 use Rattle.net_conf.specs.Members.{is_null, flag_at, is_mtu, given_mtu_of, given_mtu_at}
-use Rattle.net_conf.specs.Tuning.{has_part, is_of_network, setting_or_refused, setting_of, settings_of, sysctl_of, sysctl_at, mac_or_refused, new_mac_of, new_mac_at, queue_length_of, queue_length_at, tuning_at}
-use Rattle.net_conf.specs.WellFormed.{IsMtu, IsOfNetwork, IsWellFormedTuning}
+use Rattle.net_conf.specs.Tuning.{has_part, is_network_setting, setting_or_refused, setting_of, settings_of, sysctl_of, sysctl_at, mac_or_refused, new_mac_of, new_mac_at, queue_length_of, queue_length_at, tuning_at}
+use Rattle.net_conf.specs.WellFormed.{IsMtu, IsNetworkSetting, IsWellFormedTuning}
 use Rattle.net_conf.specs.declared.chained.Sysctl.{Sysctl}
 use Rattle.net_conf.specs.declared.chained.TuningConf.{TuningConf}
 use Rattle.net_conf.specs.declared.error.ConfError.{ConfError}
@@ -32,7 +32,7 @@ use Rattle.net_conf.specs.declared.error.ConfError.{ConfError}
 
 -- a setting keeps its key, which is one of the network
 abbrev IsSettingOf : List ℕ → Sysctl → Type 0
-IsSettingOf key setting = (setting.key ≡ key) × IsOfNetwork setting
+IsSettingOf key setting = (setting.key ≡ key) × IsNetworkSetting setting
 
 -- one of two outcomes
 pub by_test : {A P : Type 0} (b : Bool) (x y : Result A ConfError) (z : Result A ConfError) → (if b then x else y) ≡ z → (b ≡ true → x ≡ z → P) → (b ≡ false → y ≡ z → P) → P
@@ -41,9 +41,9 @@ by_test false x y z is first second = second refl is
 
 setting_or_refused-ok : (key value : List ℕ) (setting : Sysctl) → setting_or_refused key value ≡ Ok setting → IsSettingOf key setting
 setting_or_refused-ok key value setting is =
-    by_test (not (is_of_network key)) _ _ _ is (λ other same. cc)
+    by_test (not (is_network_setting key)) _ _ _ is (λ other same. cc)
     (λ net same. by_test (has_part (codes "IFNAME") key) _ _ _ same (λ name refused. cc)
-    (λ plain read. subst (IsSettingOf key) (ok_same read) (refl, not-false (is_of_network key) net)))
+    (λ plain read. subst (IsSettingOf key) (ok_same read) (refl, not-false (is_network_setting key) net)))
 
 setting_of-ok : (key : List ℕ) (d : Data) (setting : Sysctl) → setting_of key d ≡ Ok setting → IsSettingOf key setting
 setting_of-ok key null setting is = cc
@@ -61,7 +61,7 @@ Differs k l = bytes_eq k l ≡ false
 
 -- what settings keep together
 record AreSettings (settings : List Sysctl) : Type 0 where
-  of_network : All IsOfNetwork settings
+  network : All IsNetworkSetting settings
   once : IsDistinct bytes_eq (setting_keys settings)
 
 below_differs : (k l : List ℕ) → slice_cmp nat_cmp k l ≡ Less → Differs k l
@@ -80,7 +80,7 @@ below_settings k (member l d ms) settings below is =
 
 settings_of-ok : (ms : Members) (settings : List Sysctl) → AreAscending ms → settings_of ms ≡ Ok settings → AreSettings settings
 unfolding IsDistinct IsStrictlySortedBy
-settings_of-ok no_members settings order is = subst AreSettings (ok_same is) (record { of_network = All-nil IsOfNetwork; once = tt })
+settings_of-ok no_members settings order is = subst AreSettings (ok_same is) (record { network = All-nil IsNetworkSetting; once = tt })
 settings_of-ok (member k d ms) settings order is =
     by_test (is_null d) _ _ _ is (λ null same. settings_of-ok ms settings order.1 same) (λ there same.
     let one = goes (setting_of k d) _ settings same in
@@ -89,7 +89,7 @@ settings_of-ok (member k d ms) settings order is =
     let others = settings_of-ok ms more.value order.1 more.first in
     let differs : AllByRecursion (Differs one.value.key) (setting_keys more.value) = subst (λ l. AllByRecursion (Differs l) (setting_keys more.value)) (sym setting.0) (below_settings k ms more.value order.0 more.first) in
     subst AreSettings (ok_same more.rest) (record {
-      of_network = All-cons IsOfNetwork one.value more.value setting.1 others.of_network;
+      network = All-cons IsNetworkSetting one.value more.value setting.1 others.network;
       once = (differs, others.once);
     }))
 
@@ -172,7 +172,7 @@ tuning_at-ok d conf order is =
     let queue = goes (queue_length_at d) _ conf allmulti.rest in
     let settings = sysctl_at-ok d sysctl.value order sysctl.first in
     subst IsWellFormedTuning (ok_same queue.rest) (record {
-      settings = settings.of_network;
+      settings = settings.network;
       keys_once = settings.once;
       mac = new_mac_at-ok d mac.value mac.first;
       mtu = given_mtu_at-ok d mtu.value mtu.first;

@@ -51,14 +51,14 @@ is_in_order start end = nat_le start.bits end.bits
 unfoldable pub in_order : Addr → Addr → Result ⊤ ConfError
 in_order start end = if is_in_order start end then Ok tt else invalid (codes "rangeStart")
 
-abbrev pub is_of_family : Family → Addr → Bool
-is_of_family family addr = family_eq addr.family family
+abbrev pub is_address_of : Family → Addr → Bool
+is_address_of family addr = family_eq addr.family family
 
 -- an address of the family, which need not be of the subnet
 abbrev pub gateway_of : Cidr → Field (List ℕ) → Result Addr ConfError
 gateway_of subnet f =
     optional (codes "gateway") (first_host subnet)
-    (λ text. passing (codes "gateway") (is_of_family subnet.addr.family) (addr_of_text text)) f
+    (λ text. passing (codes "gateway") (is_address_of subnet.addr.family) (addr_of_text text)) f
 
 -- the gateway of a range, or the subnet's first address
 unfoldable pub gateway_at : Cidr → Data → Result Addr ConfError

@@ -13,7 +13,7 @@ use Rattle.cni_addr.specs.Network.{network_of}
 use Rattle.cni_result.specs.declared.result.RouteEntry.{RouteEntry}
 use Rattle.cni_json.specs.Each.{list_or}
 use Rattle.net_conf.specs.Members.{optional, of_kind, passing}
-use Rattle.net_conf.specs.Ranges.{is_of_family}
+use Rattle.net_conf.specs.Ranges.{is_address_of}
 use Rattle.net_conf.specs.Refusals.{invalid}
 use Rattle.net_conf.specs.declared.error.ConfError.{ConfError}
 
@@ -34,7 +34,7 @@ destination_at d = destination_of (text_field (codes "dst") d)
 abbrev pub hop_of : Family → Field (List ℕ) → Result (Option Addr) ConfError
 hop_of family f =
     optional (codes "routes") None
-    (λ text. of_kind Some (passing (codes "routes") (is_of_family family) (addr_of_text text))) f
+    (λ text. of_kind Some (passing (codes "routes") (is_address_of family) (addr_of_text text))) f
 
 -- the next hop, of the destination's family, if one is given
 unfoldable pub hop_at : Family → Data → Result (Option Addr) ConfError

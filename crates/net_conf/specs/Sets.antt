@@ -41,13 +41,13 @@ abbrev pub is_set : Data → Bool
 is_set (array (item d ds)) = all_items is_object (item d ds)
 is_set d = false
 
--- each range has the family of the first
-abbrev pub has_family : Family → Range → Bool
-has_family family r = family_eq r.subnet.addr.family family
+abbrev pub is_range_of : Family → Range → Bool
+is_range_of family r = family_eq r.subnet.addr.family family
 
+-- each range has the family of the first
 abbrev pub have_one_family : List Range → Bool
 have_one_family [] = true
-have_one_family (r ∷ rs) = list_all (has_family r.subnet.addr.family) rs
+have_one_family (r ∷ rs) = list_all (is_range_of r.subnet.addr.family) rs
 
 abbrev pub is_of_one_family : RangeSet → Bool
 is_of_one_family set = have_one_family set.ranges

@@ -22,13 +22,13 @@ has_part part [] = false
 has_part part (c ∷ cs) = starts_with nat_eq (c ∷ cs) part || has_part part cs
 
 -- the key of a setting of the network
-abbrev pub is_of_network : List ℕ → Bool
-is_of_network key = starts_with nat_eq key (codes "net.")
+abbrev pub is_network_setting : List ℕ → Bool
+is_network_setting key = starts_with nat_eq key (codes "net.")
 
 -- a setting of the network, whose key doesn't wait for an interface's name
 abbrev pub setting_or_refused : List ℕ → List ℕ → Result Sysctl ConfError
 setting_or_refused key value =
-    if not (is_of_network key) then invalid (codes "sysctl")
+    if not (is_network_setting key) then invalid (codes "sysctl")
     else if has_part (codes "IFNAME") key then Err (refusal.Unsupported key (compact_text (string value)))
     else Ok (record { key = key; value = value })
 

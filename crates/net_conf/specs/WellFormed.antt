@@ -18,7 +18,7 @@ use Rattle.net_conf.specs.Names.{is_network_name, is_interface_name}
 use Rattle.net_conf.specs.PluginTypes.{type_eq, type_of_chained}
 use Rattle.net_conf.specs.Ranges.{is_subnet, is_in_order}
 use Rattle.net_conf.specs.Sets.{ranges_of, is_of_one_family, is_set_count}
-use Rattle.net_conf.specs.Tuning.{is_of_network}
+use Rattle.net_conf.specs.Tuning.{is_network_setting}
 use Rattle.net_conf.specs.declared.chained.Chained.{Chained}
 use Rattle.net_conf.specs.declared.chained.Chained.TheVariants as later
 use Rattle.net_conf.specs.declared.chained.Sysctl.{Sysctl}
@@ -97,11 +97,11 @@ IsWellFormedFirst (first.Ptp conf) = IsWellFormedPtp conf
 IsWellFormedFirst (first.Macvlan conf) = IsWellFormedMacvlan conf
 
 -- a setting of the network
-abbrev pub IsOfNetwork : Sysctl → Type 0
-IsOfNetwork setting = IsTrue (is_of_network setting.key)
+abbrev pub IsNetworkSetting : Sysctl → Type 0
+IsNetworkSetting setting = IsTrue (is_network_setting setting.key)
 
 pub record IsWellFormedTuning (conf : TuningConf) : Type 0 where
-  pub settings : All IsOfNetwork conf.sysctl
+  pub settings : All IsNetworkSetting conf.sysctl
   pub keys_once : IsDistinct bytes_eq (map (λ setting. setting.key) conf.sysctl)
   pub mac : (mac : Mac) → conf.mac ≡ Some mac → IsMac mac
   pub mtu : (n : ℕ) → conf.mtu ≡ Some n → IsMtu n

@@ -117,13 +117,13 @@ fn gateway(alloc: Global, object: &Value, subnet: &Cidr) -> Result<Addr, ConfErr
         Field::Absent => Ok(first_host(subnet)),
         Field::WrongKind => Err(invalid(alloc, "gateway")),
         Field::Here(text) => match read_addr(text.as_bytes()) {
-            Some(addr) if has_family(&addr, subnet) => Ok(addr),
+            Some(addr) if shares_family(&addr, subnet) => Ok(addr),
             _ => Err(invalid(alloc, "gateway")),
         },
     }
 }
 
-fn has_family(addr: &Addr, subnet: &Cidr) -> bool
+fn shares_family(addr: &Addr, subnet: &Cidr) -> bool
     ensures { result ≡ family_eq addr.now.family subnet.now.addr.family }
 {
     addr.family == subnet.addr.family

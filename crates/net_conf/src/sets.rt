@@ -169,7 +169,7 @@ fn is_of_one_family(set: &RangeSet) -> bool
 }
 
 fn all_have_family(family: Family, ranges: &[Range]) -> bool
-    ensures { result ≡ list_all (wanted.has_family family) ranges.now }
+    ensures { result ≡ list_all (wanted.is_range_of family) ranges.now }
 {
     ranges
         .iter()

@@ -65,7 +65,7 @@ fn setting(alloc: Global, key: &str, member: &Value) -> Result<Sysctl, ConfError
 {
     match member {
         Value::String(text) => {
-            if !is_of_network(key) {
+            if !is_network_setting(key) {
                 Err(invalid(alloc, "sysctl"))
             } else if names_interface(key) {
                 Err(unsupported(alloc, key, member))
@@ -80,8 +80,8 @@ fn setting(alloc: Global, key: &str, member: &Value) -> Result<Sysctl, ConfError
     }
 }
 
-fn is_of_network(key: &str) -> bool
-    ensures { result ≡ wanted.is_of_network key.now }
+fn is_network_setting(key: &str) -> bool
+    ensures { result ≡ wanted.is_network_setting key.now }
 {
     key.as_bytes().starts_with(b"net.")
 }
