@@ -82,14 +82,14 @@ last_leased-with_last host network number a =
     (λ there. last_moved network number a host.lasts there)
     (λ none. ap (option_map (λ l. l.addr)) (last_added (is_of_pool network number) (record { network = network; set = number; addr = a }) host.lasts (grind (arith, pool_itself network number a)) none))
 
+pub same_leased : (a b : Addr) → Leased a ≡ Leased b → a ≡ b
+same_leased a b h = cc
+
 after_taken : (host : Host) (att : Att) (number : ℕ) (a : Addr) (o : Option Addr) → (lease_taken host att number o).1 ≡ Leased a → last_leased (lease_taken host att number o).0 att.network number ≡ Some a
 after_taken host att number a None h = cc
 after_taken host att number a (Some b) h =
-    let same : b ≡ a = same_reply b a h in
+    let same : b ≡ a = same_leased b a h in
     last_leased-with_last (record host { leases = host.leases ++ record { network = att.network; addr = b; tag = Own att } ∷ [] }) att.network number b ∙ ap Some same
-  where
-    same_reply : (b a : Addr) → Leased b ≡ Leased a → b ≡ a
-    same_reply b a h = cc
 
 pub last_leased-lease_next : (host : Host) (att : Att) (number : ℕ) (set : RangeSet) (a : Addr) → (lease_next_of host att number set).1 ≡ Leased a → last_leased (lease_next_of host att number set).0 att.network number ≡ Some a
 last_leased-lease_next host att number set a h = after_taken host att number a (pick_of set (last_leased host att.network number) (leased_addresses host att.network)) h

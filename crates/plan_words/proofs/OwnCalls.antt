@@ -17,6 +17,7 @@ use Rattle.kernel_types.specs.Words.{is_own, is_host_or_ns, has_named_ns, link_a
 use Rattle.kernel_types.specs.Apply.{apply}
 use Rattle.kernel_types.specs.Apply.Calls.{begin_of, bridge_or_new, new_bridge, gateway_ensure_of, forward_ensure_of, has_bridge_as_master, veth_add_of, has_master, macvlan_add_of, with_values, set_link, is_own_at, link_set_of, has_link_of, is_same_addr, addr_add_of, is_same_route, route_add_of, rule_append_of, is_same_setting, setting_set_of, leased_addresses, last_leased, is_of_pool, with_last, lease_taken, lease_next_of, cache_put_of}
 use Rattle.kernel_types.proofs.Cases.{by_test, by_way, att_eq-refl}
+use Rattle.kernel_types.proofs.LeasedAddress.{same_leased}
 use Rattle.kernel_types.specs.declared.object.Att.{Att}
 use Rattle.kernel_types.specs.declared.object.LinkKey.{LinkKey}
 use Rattle.kernel_types.specs.declared.object.Tag.TheVariants.{Base}
@@ -153,9 +154,6 @@ Leases att host addr step = step.1 ≡ Leased addr → share_of att step.0 ≡ r
 
 with_last-share_of : (att : Att) (host : Host) (network : List ℕ) (number : ℕ) (addr : Addr) → share_of att (with_last host network number addr) ≡ share_of att host
 with_last-share_of att host network number addr = by_test (λ (next : Host). share_of att next ≡ share_of att host) (list_any (is_of_pool network number) host.lasts) _ _ (λ _. refl) (λ _. refl)
-
-same_leased : (a b : Addr) → Leased a ≡ Leased b → a ≡ b
-same_leased a b h = cc
 
 own-lease_taken : (att : Att) (host : Host) (number : ℕ) (o : Option Addr) (addr : Addr) → Leases att host addr (lease_taken host att number o)
 own-lease_taken att host number None addr = λ done. cc
