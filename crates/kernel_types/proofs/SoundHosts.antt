@@ -1,12 +1,12 @@
 -- What follows of a sound host.
-use Rattle.std.proofs.Common.{◌≡◌, ℕ, zero, suc, ◌<◌, Bool, true, false, List, [], ◌∷◌, ◌⊎◌, inl, inr, Option, Some, None, length, refl, sym, ◌∙◌, ap, arith}
+use Rattle.std.proofs.Common.{◌≡◌, ℕ, zero, suc, ◌<◌, Bool, true, false, List, [], ◌∷◌, inl, inr, Option, Some, None, length, refl, sym, ◌∙◌, ap, arith}
 use Rattle.std.specs.Prelude.{filter, map, ◌&&◌, ◌||◌, if◌then◌else◌}
 use Rattle.std.specs.List.{list_any, list_all, Contains, slice_index_or}
 use Rattle.std.specs.Str.{bytes_eq}
 use Rattle.std.specs.Cmp.{both_ways}
 use Rattle.std.specs.Cmp.Lexicographic.{nat_list_eq_equiv}
 use Rattle.std.proofs.lemmas.Slice.Eq.{bytes_eq-Decides}
-use Rattle.cni_addr.specs.Lists.{distinct}
+use Rattle.cni_addr.specs.Lists.{distinct, IsAmong}
 use Rattle.kernel_types.specs.Equal.{addr_eq, tag_eq}
 use Rattle.kernel_types.specs.Words.{is_host_or_ns, is_owned, is_at, is_peer_at, is_link_of}
 use Rattle.kernel_types.specs.Apply.Calls.{goes_with}
@@ -87,47 +87,42 @@ NoAddressTwice-sound network host sound = distinct-addresses network host.leases
 
 -- ---- peers
 
--- x is in the list, by recursion
-abbrev pub Among : {X : Type 0} → X → List X → Type 0
-Among x [] = ⊥
-Among x (y ∷ ys) = (y ≡ x) ⊎ Among x ys
-
-among_at : {X : Type 0} (x : X) (xs : List X) (k : ℕ) → k < length xs → slice_index_or xs k x ≡ x → Among x xs
+among_at : {X : Type 0} (x : X) (xs : List X) (k : ℕ) → k < length xs → slice_index_or xs k x ≡ x → IsAmong x xs
 among_at x [] k lt e = absurd (omega arith)
-among_at x (y ∷ ys) zero lt e = inl e
+among_at x (y ∷ ys) zero lt e = inl (sym e)
 among_at x (y ∷ ys) (suc k) lt e = inr (among_at x ys k (omega arith) e)
 
-pub Among-Contains : {X : Type 0} (x : X) (xs : List X) → Contains xs x → Among x xs
-Among-Contains x xs c = among_at x xs c.0 c.1 c.2
+pub IsAmong-Contains : {X : Type 0} (x : X) (xs : List X) → Contains xs x → IsAmong x xs
+IsAmong-Contains x xs c = among_at x xs c.0 c.1 c.2
 
-among-passes : {X : Type 0} (p : X → Bool) (x : X) (xs : List X) → Among x xs → list_all p xs ≡ true → p x ≡ true
+among-passes : {X : Type 0} (p : X → Bool) (x : X) (xs : List X) → IsAmong x xs → list_all p xs ≡ true → p x ≡ true
 among-passes p x [] at h = absurd at
 among-passes p x (y ∷ ys) at h =
-    elim at [ inl e ↦ ap p (sym e) ∙ grind (arith, h) | inr later ↦ among-passes p x ys later (grind (arith, h)) ]
+    elim at [ inl e ↦ ap p e ∙ grind (arith, h) | inr later ↦ among-passes p x ys later (grind (arith, h)) ]
 
-among-fails : {X : Type 0} (p : X → Bool) (x : X) (xs : List X) → Among x xs → list_any p xs ≡ false → p x ≡ false
+among-fails : {X : Type 0} (p : X → Bool) (x : X) (xs : List X) → IsAmong x xs → list_any p xs ≡ false → p x ≡ false
 among-fails p x [] at h = absurd at
 among-fails p x (y ∷ ys) at h =
-    elim at [ inl e ↦ ap p (sym e) ∙ grind (arith, h) | inr later ↦ among-fails p x ys later (grind (arith, h)) ]
+    elim at [ inl e ↦ ap p e ∙ grind (arith, h) | inr later ↦ among-fails p x ys later (grind (arith, h)) ]
 
 -- where no two are the same, two that are the same are one
-one_among : {X : Type 0} (same : X → X → Bool) → ((x y : X) → same x y ≡ same y x) → (x y : X) (xs : List X) → distinct same xs ≡ true → Among x xs → Among y xs → same x y ≡ true → x ≡ y
+one_among : {X : Type 0} (same : X → X → Bool) → ((x y : X) → same x y ≡ same y x) → (x y : X) (xs : List X) → distinct same xs ≡ true → IsAmong x xs → IsAmong y xs → same x y ≡ true → x ≡ y
 one_among same s x y [] d at_x at_y h = absurd at_x
 one_among same s x y (z ∷ zs) d at_x at_y h =
     let none : list_any (same z) zs ≡ false = grind (arith, d) in
     elim at_x [
       | inl ex ↦ elim at_y [
-        | inl ey ↦ sym ex ∙ ey
-        | inr ly ↦ let differ : same z y ≡ false = among-fails (same z) y zs ly none in let alike : same z y ≡ true = ap (λ w. same w y) ex ∙ h in absurd (cc (differ, alike))
+        | inl ey ↦ ex ∙ sym ey
+        | inr ly ↦ let differ : same z y ≡ false = among-fails (same z) y zs ly none in let alike : same z y ≡ true = ap (λ w. same w y) (sym ex) ∙ h in absurd (cc (differ, alike))
       ]
       | inr lx ↦ elim at_y [
-        | inl ey ↦ let differ : same z x ≡ false = among-fails (same z) x zs lx none in let alike : same z x ≡ true = ap (λ w. same w x) ey ∙ s y x ∙ h in absurd (cc (differ, alike))
+        | inl ey ↦ let differ : same z x ≡ false = among-fails (same z) x zs lx none in let alike : same z x ≡ true = ap (λ w. same w x) (sym ey) ∙ s y x ∙ h in absurd (cc (differ, alike))
         | inr ly ↦ one_among same s x y zs (grind (arith, d)) lx ly h
       ]
     ]
 
 -- what each element that passes gives, where some element does
-from_among : {X : Type 0} (p : X → Bool) (c : Bool) (xs : List X) → ((x : X) → Among x xs → p x ≡ true → c ≡ true) → list_any p xs ≡ true → c ≡ true
+from_among : {X : Type 0} (p : X → Bool) (c : Bool) (xs : List X) → ((x : X) → IsAmong x xs → p x ≡ true → c ≡ true) → list_any p xs ≡ true → c ≡ true
 from_among p c [] w h = cc
 from_among p c (x ∷ xs) w h =
     let here : p x ≡ true → c ≡ true = w x (inl refl) in
@@ -135,7 +130,7 @@ from_among p c (x ∷ xs) w h =
     grind (arith, h, here, later)
 
 -- a link that stands at the place of another's peer names that other as its peer
-peer_names_back : (links : List Link) (l m : Link) (o : Option LinkKey) → distinct (λ a b. is_at b.ns b.name a) links ≡ true → Among m links → peer_fits links l o ≡ true → is_peer_at m.ns m.name o ≡ true → is_peer_at l.ns l.name m.peer ≡ true
+peer_names_back : (links : List Link) (l m : Link) (o : Option LinkKey) → distinct (λ a b. is_at b.ns b.name a) links ≡ true → IsAmong m links → peer_fits links l o ≡ true → is_peer_at m.ns m.name o ≡ true → is_peer_at l.ns l.name m.peer ≡ true
 peer_names_back links l m None keys at fits p = cc
 peer_names_back links l m (Some key) keys at fits p =
     let ns : key.ns ≡ m.ns = (bytes_eq-Decides key.ns m.ns).0 (grind (arith, p)) in
@@ -150,8 +145,8 @@ peer_names_back links l m (Some key) keys at fits p =
 -- in a sound host a link goes with another exactly where it stands at its place, or is its peer
 pub goes_with-sound : (host : Host) (link other : Link) → IsSound host → Contains host.links link → Contains host.links other → goes_with link.ns link.name other ≡ is_link_or_peer link other
 goes_with-sound host link other sound link_there other_there =
-    let at_link : Among link host.links = Among-Contains link host.links link_there in
-    let at_other : Among other host.links = Among-Contains other host.links other_there in
+    let at_link : IsAmong link host.links = IsAmong-Contains link host.links link_there in
+    let at_other : IsAmong other host.links = IsAmong-Contains other host.links other_there in
     let fits_link : peer_fits host.links link link.peer ≡ true = among-passes (λ l. peer_fits host.links l l.peer) link host.links at_link sound.links.peers in
     let fits_other : peer_fits host.links other other.peer ≡ true = among-passes (λ l. peer_fits host.links l l.peer) other host.links at_other sound.links.peers in
     ap (λ b. is_at link.ns link.name other || b)
