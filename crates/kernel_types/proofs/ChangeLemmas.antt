@@ -4,6 +4,7 @@ use Rattle.std.specs.Prelude.{filter, map, ◌||◌, if◌then◌else◌}
 use Rattle.std.specs.List.{list_all}
 use Rattle.cni_addr.specs.Lists.{without_first}
 use Rattle.kernel_types.specs.Touch.{ChangesOnly, DropsOnly}
+use Rattle.kernel_types.proofs.ListLemmas.{filter_never}
 
 -- ---- what passes is changed, dropped or put at the end
 
@@ -46,13 +47,9 @@ ChangesOnly-map own f w (x ∷ xs) =
 
 -- ---- what doesn't pass stays
 
-none_left : {X : Type 0} (own p : X → Bool) → ((x : X) → own x ≡ true → p x ≡ false) → (xs : List X) → list_all own xs ≡ true → filter p xs ≡ []
-none_left own p apart [] h = refl
-none_left own p apart (x ∷ xs) h = grind (arith, apart x, none_left own p apart xs)
-
 -- the elements that pass a test which no changed element passes are the same, in the same order
 pub filter-ChangesOnly : {X : Type 0} (own p : X → Bool) → ((x : X) → own x ≡ true → p x ≡ false) → (xs ys : List X) → ChangesOnly own xs ys → filter p ys ≡ filter p xs
-filter-ChangesOnly own p apart [] ys c = none_left own p apart ys c
+filter-ChangesOnly own p apart [] ys c = filter_never p own apart ys c
 filter-ChangesOnly own p apart (x ∷ xs) [] c = grind (arith, apart x c.0, filter-ChangesOnly own p apart xs [] c.1)
 filter-ChangesOnly own p apart (x ∷ xs) (y ∷ ys) c =
     elim c [

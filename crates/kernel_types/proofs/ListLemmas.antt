@@ -54,6 +54,10 @@ pub filter-push_dropped : {X : Type 0} (p : X → Bool) (xs : List X) (y : X) �
 filter-push_dropped p [] y h = grind arith
 filter-push_dropped p (x ∷ xs) y h = grind (arith, filter-push_dropped p xs y)
 
+pub filter_never : {X : Type 0} (p q : X → Bool) → ((x : X) → q x ≡ true → p x ≡ false) → (xs : List X) → list_all q xs ≡ true → filter p xs ≡ []
+filter_never p q w [] h = refl
+filter_never p q w (x ∷ xs) h = grind (arith, w x, filter_never p q w xs)
+
 -- ---- each element passes
 
 pub list_all-push : {X : Type 0} (p : X → Bool) (xs : List X) (y : X) → list_all p xs ≡ true → p y ≡ true → list_all p (xs ++ y ∷ []) ≡ true

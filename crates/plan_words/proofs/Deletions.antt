@@ -1,14 +1,14 @@
 -- What a deletion that finds nothing says, and what lies where an attachment has no link.
 use Rattle.std.proofs.Common.{◌≡◌, ℕ, Bool, true, false, cond, List, [], ◌∷◌, Option, Some, None, refl, arith}
 use Rattle.std.specs.Prelude.{filter, find, ◌||◌}
-use Rattle.std.specs.List.{list_any, list_all}
+use Rattle.std.specs.List.{list_any}
 use Rattle.std.proofs.lemmas.Bool.{true≢false, both_ways}
 use Rattle.cni_addr.specs.Lists.{without_first}
 use Rattle.kernel_types.specs.Words.{is_own, is_link_of}
 use Rattle.kernel_types.specs.Apply.Calls.{without_link}
 use Rattle.kernel_types.specs.Sound.{IsSound, address_fits_tag}
 use Rattle.kernel_types.proofs.Isolation.{is_own-one}
-use Rattle.kernel_types.proofs.ListLemmas.{list_any-find_none, without_first-none}
+use Rattle.kernel_types.proofs.ListLemmas.{filter_never, list_any-find_none, without_first-none}
 use Rattle.kernel_types.proofs.TouchRemoval.{by_bool}
 use Rattle.kernel_types.specs.declared.object.Att.{Att}
 use Rattle.kernel_types.specs.declared.object.Tag.TheVariants.{Own}
@@ -59,10 +59,6 @@ route_lies : (att : Att) (links : List Link) (r : RouteObj) → list_any (λ l. 
 route_lies att links r none lies = by_bool (is_own att r.tag)
     (λ own. let lie : list_any (is_link_of r.ns r.link (Own att)) links ≡ true = rw (is_own-one att r.tag own) at lies in absurd (both_ways (list_any (is_link_of r.ns r.link (Own att)) links) (none_weaker att r.ns r.link links none) lie))
     (λ f. f)
-
-pub filter_never : {X : Type 0} (p q : X → Bool) → ((x : X) → q x ≡ true → p x ≡ false) → (xs : List X) → list_all q xs ≡ true → filter p xs ≡ []
-filter_never p q w [] h = refl
-filter_never p q w (x ∷ xs) h = grind (arith, w x, filter_never p q w xs)
 
 pub no-links : (att : Att) (host : Host) → IsSound host → (share_of att host).links ≡ [] → ((share_of att host).addresses ≡ []) × ((share_of att host).routes ≡ [])
 no-links att host sound none =

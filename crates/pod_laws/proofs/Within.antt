@@ -12,6 +12,7 @@ use Rattle.kernel_types.specs.Equal.{att_eq, tag_eq}
 use Rattle.kernel_types.specs.Sound.{IsSound}
 use Rattle.kernel_types.specs.Words.{is_own}
 use Rattle.kernel_types.proofs.Isolation.{att_eq-same}
+use Rattle.kernel_types.proofs.ListLemmas.{filter_never}
 use Rattle.kernel_types.specs.declared.object.Att.{Att}
 use Rattle.kernel_types.specs.declared.object.Host.{Host}
 use Rattle.kernel_types.specs.declared.object.Tag.{Tag}
@@ -22,7 +23,6 @@ use Rattle.kernel_types.specs.declared.call.Call.{Call}
 use Rattle.kernel_types.specs.declared.call.Call.TheVariants.{Begin, LeaseNext, CacheGet}
 use Rattle.plan_words.specs.PlanCalls.{is_plan_call_of}
 use Rattle.plan_words.specs.Share.{share_of, no_objects}
-use Rattle.plan_words.proofs.Deletions.{filter_never}
 use Rattle.plan_words.proofs.OtherCalls.{share-other}
 use Rattle.plan_words.proofs.OwnCalls.{share-own, share-lease}
 use Rattle.plan_words.proofs.Refusals.{refused-same, refused-lease}
