@@ -17,11 +17,10 @@ use Rattle.kernel_types.specs.declared.call.Kind.{Kind}
 use Rattle.kernel_types.specs.declared.call.Kind.TheVariants.{Links, Rules, Settings, Leases, Cached}
 use Rattle.kernel_types.specs.declared.call.Reply.{Reply}
 use Rattle.kernel_types.specs.declared.call.Reply.TheVariants.{Gone}
-use Rattle.kernel_types.proofs.Deletes.{IsSound-rule_del, TouchesOwnAlone-rule_del, IsSound-setting_del, TouchesOwnAlone-setting_del, IsSound-lease_del, TouchesOwnAlone-lease_del, IsSound-cache_del, TouchesOwnAlone-cache_del}
-use Rattle.kernel_types.proofs.DropsOwn.{RemovesOwn-rule_del, RemovesOwn-setting_del, RemovesOwn-lease_del, RemovesOwn-cache_del, RemovesOwn-link_del}
+use Rattle.kernel_types.proofs.Deletes.{IsSound-rule_del, IsSound-setting_del, IsSound-lease_del, IsSound-cache_del}
+use Rattle.kernel_types.proofs.DropsOwn.{TouchesOwn-RemovesOwn, RemovesOwn-rule_del, RemovesOwn-setting_del, RemovesOwn-lease_del, RemovesOwn-cache_del, RemovesOwn-link_del}
 use Rattle.kernel_types.proofs.ListLemmas.{without_first-none, list_any-find_none, list_any-map, passes-find}
 use Rattle.kernel_types.proofs.Removal.{IsSound-link_del, goes_with-itself}
-use Rattle.kernel_types.proofs.TouchRemoval.{TouchesOwnAlone-link_del}
 use Rattle.cni_verbs.specs.Wanted.{deletion}
 use Rattle.gc_sweep.specs.Keep.{IsWithin}
 use Rattle.gc_sweep.proofs.Lists.{any-found, count_drops, count_without_first, drops-filter}
@@ -58,22 +57,22 @@ deletes_first a kind h tag_of xs put left any is_left is_any tags same less soun
 
 deletes_rules : (a : Att) (h : Host) → IsSound h → Deletes a Rules h (apply h (deletion a Rules))
 deletes_rules a h sound =
-    deletes_first a Rules h (λ x. x.tag) h.rules (λ xs. record h { rules = xs }) _ _ refl refl refl refl (λ p c. omega arith) (IsSound-rule_del h a sound) (TouchesOwnAlone-rule_del h a).own
+    deletes_first a Rules h (λ x. x.tag) h.rules (λ xs. record h { rules = xs }) _ _ refl refl refl refl (λ p c. omega arith) (IsSound-rule_del h a sound) (TouchesOwn-RemovesOwn a h _ (RemovesOwn-rule_del h a))
     (within_own a h _ (RemovesOwn-rule_del h a))
 
 deletes_settings : (a : Att) (h : Host) → IsSound h → Deletes a Settings h (apply h (deletion a Settings))
 deletes_settings a h sound =
-    deletes_first a Settings h (λ x. x.tag) h.settings (λ xs. record h { settings = xs }) _ _ refl refl refl refl (λ p c. omega arith) (IsSound-setting_del h a sound) (TouchesOwnAlone-setting_del h a).own
+    deletes_first a Settings h (λ x. x.tag) h.settings (λ xs. record h { settings = xs }) _ _ refl refl refl refl (λ p c. omega arith) (IsSound-setting_del h a sound) (TouchesOwn-RemovesOwn a h _ (RemovesOwn-setting_del h a))
     (within_own a h _ (RemovesOwn-setting_del h a))
 
 deletes_leases : (a : Att) (h : Host) → IsSound h → Deletes a Leases h (apply h (deletion a Leases))
 deletes_leases a h sound =
-    deletes_first a Leases h (λ x. x.tag) h.leases (λ xs. record h { leases = xs }) _ _ refl refl refl refl (λ p c. omega arith) (IsSound-lease_del h a sound) (TouchesOwnAlone-lease_del h a).own
+    deletes_first a Leases h (λ x. x.tag) h.leases (λ xs. record h { leases = xs }) _ _ refl refl refl refl (λ p c. omega arith) (IsSound-lease_del h a sound) (TouchesOwn-RemovesOwn a h _ (RemovesOwn-lease_del h a))
     (within_own a h _ (RemovesOwn-lease_del h a))
 
 deletes_cached : (a : Att) (h : Host) → IsSound h → Deletes a Cached h (apply h (deletion a Cached))
 deletes_cached a h sound =
-    deletes_first a Cached h (λ x. x.tag) h.cached (λ xs. record h { cached = xs }) _ _ refl refl refl refl (λ p c. omega arith) (IsSound-cache_del h a sound) (TouchesOwnAlone-cache_del h a).own
+    deletes_first a Cached h (λ x. x.tag) h.cached (λ xs. record h { cached = xs }) _ _ refl refl refl refl (λ p c. omega arith) (IsSound-cache_del h a sound) (TouchesOwn-RemovesOwn a h _ (RemovesOwn-cache_del h a))
     (within_own a h _ (RemovesOwn-cache_del h a))
 
 -- ---- links go with their peers
@@ -109,7 +108,7 @@ deletes_found a h (Some l) is sound new removes touch =
     }
 
 pub deletes : (a : Att) (kind : Kind) (h : Host) → IsSound h → Deletes a kind h (apply h (deletion a kind))
-deletes a Links h sound = deletes_found a h (find (λ l. is_own a l.tag) h.links) refl sound (IsSound-link_del h a sound) (RemovesOwn-link_del h a sound) (TouchesOwnAlone-link_del h a sound).own
+deletes a Links h sound = deletes_found a h (find (λ l. is_own a l.tag) h.links) refl sound (IsSound-link_del h a sound) (RemovesOwn-link_del h a sound) (TouchesOwn-RemovesOwn a h _ (RemovesOwn-link_del h a sound))
 deletes a Rules h sound = deletes_rules a h sound
 deletes a Settings h sound = deletes_settings a h sound
 deletes a Leases h sound = deletes_leases a h sound

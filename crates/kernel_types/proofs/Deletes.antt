@@ -1,14 +1,12 @@
--- The deletion of one object that isn't a link leaves a host sound, and touches the attachment's alone.
+-- The deletion of one object that isn't a link leaves a host sound.
 use Rattle.std.specs.Prelude.{◌&&◌, is_some}
 use Rattle.std.specs.Str.{bytes_eq}
 use Rattle.kernel_types.specs.Equal.{addr_eq, rule_eq, tag_eq}
 use Rattle.kernel_types.specs.Words.{is_own, is_owned}
 use Rattle.kernel_types.specs.Apply.Calls.{rule_del_of, setting_del_of, lease_del_of, cache_del_of, is_same_setting, owner_in}
 use Rattle.kernel_types.specs.Sound.{IsSound, setting_fits_tag}
-use Rattle.kernel_types.specs.Touch.{TouchesOwnAlone}
-use Rattle.kernel_types.proofs.ChangeLemmas.{ChangesOnly-without_first}
 use Rattle.kernel_types.proofs.ListLemmas.{list_all-without_first, distinct-without_first}
-use Rattle.kernel_types.proofs.OneList.{IsSound-with_rules, IsSound-with_settings, IsSound-with_leases, IsSound-with_cached, TouchesOwnAlone-with_rules, TouchesOwnAlone-with_settings, TouchesOwnAlone-with_leases, TouchesOwnAlone-with_cached}
+use Rattle.kernel_types.proofs.OneList.{IsSound-with_rules, IsSound-with_settings, IsSound-with_leases, IsSound-with_cached}
 use Rattle.kernel_types.specs.declared.object.Att.{Att}
 use Rattle.kernel_types.specs.declared.object.Host.{Host}
 
@@ -20,9 +18,6 @@ IsSound-rule_del host att sound = IsSound-with_rules host _ sound (record {
   tags = list_all-without_first (λ r. is_owned r.tag) (λ r. is_own att r.tag) host.rules sound.rules.tags;
 })
 
-pub TouchesOwnAlone-rule_del : (host : Host) (att : Att) → TouchesOwnAlone att host (rule_del_of host att).0
-TouchesOwnAlone-rule_del host att = TouchesOwnAlone-with_rules att host _ (ChangesOnly-without_first (λ r. is_own att r.tag) host.rules)
-
 -- ---- settings
 
 pub IsSound-setting_del : (host : Host) (att : Att) → IsSound host → IsSound (setting_del_of host att).0
@@ -30,9 +25,6 @@ IsSound-setting_del host att sound = IsSound-with_settings host _ sound (record 
   keys = distinct-without_first (λ a b. is_same_setting b a) (λ s. is_own att s.tag) host.settings sound.settings.keys;
   tags = list_all-without_first (λ s. setting_fits_tag host.namespaces s s.tag) (λ s. is_own att s.tag) host.settings sound.settings.tags;
 })
-
-pub TouchesOwnAlone-setting_del : (host : Host) (att : Att) → TouchesOwnAlone att host (setting_del_of host att).0
-TouchesOwnAlone-setting_del host att = TouchesOwnAlone-with_settings att host _ (ChangesOnly-without_first (λ s. is_own att s.tag) host.settings)
 
 -- ---- leases
 
@@ -42,9 +34,6 @@ IsSound-lease_del host att sound = IsSound-with_leases host _ sound (record {
   tags = list_all-without_first (λ l. is_some (owner_in l.network l.tag)) (λ l. is_own att l.tag) host.leases sound.leases.tags;
 })
 
-pub TouchesOwnAlone-lease_del : (host : Host) (att : Att) → TouchesOwnAlone att host (lease_del_of host att).0
-TouchesOwnAlone-lease_del host att = TouchesOwnAlone-with_leases att host _ (ChangesOnly-without_first (λ l. is_own att l.tag) host.leases)
-
 -- ---- kept results
 
 pub IsSound-cache_del : (host : Host) (att : Att) → IsSound host → IsSound (cache_del_of host att).0
@@ -52,6 +41,3 @@ IsSound-cache_del host att sound = IsSound-with_cached host _ sound (record {
   keys = distinct-without_first (λ a b. tag_eq a.tag b.tag) (λ c. is_own att c.tag) host.cached sound.cached.keys;
   tags = list_all-without_first (λ c. is_owned c.tag) (λ c. is_own att c.tag) host.cached sound.cached.tags;
 })
-
-pub TouchesOwnAlone-cache_del : (host : Host) (att : Att) → TouchesOwnAlone att host (cache_del_of host att).0
-TouchesOwnAlone-cache_del host att = TouchesOwnAlone-with_cached att host _ (ChangesOnly-without_first (λ c. is_own att c.tag) host.cached)

@@ -1,4 +1,4 @@
--- A deletion removes the attachment's objects and changes nothing else.
+-- A deletion removes the attachment's objects and changes nothing else, so it touches the attachment's alone.
 use Rattle.std.proofs.Common.{◌≡◌, Bool, not, Option, Some, None, refl, subst}
 use Rattle.std.specs.Prelude.{find, ◌&&◌}
 use Rattle.std.specs.List.{list_any}
@@ -7,7 +7,8 @@ use Rattle.kernel_types.specs.Apply as apply
 use Rattle.kernel_types.specs.Apply.Calls.{goes_with, without_link, without_links, link_del_of, rule_del_of, setting_del_of, lease_del_of, cache_del_of}
 use Rattle.kernel_types.specs.Isolation.{RemovesOwn, deletes_for}
 use Rattle.kernel_types.specs.Sound.{IsSound}
-use Rattle.kernel_types.proofs.ChangeLemmas.{DropsOnly-nothing, DropsOnly-filter, DropsOnly-without_first}
+use Rattle.kernel_types.specs.Touch.{TouchesOwn, TouchesOwnAlone}
+use Rattle.kernel_types.proofs.ChangeLemmas.{ChangesOnly-DropsOnly, DropsOnly-nothing, DropsOnly-filter, DropsOnly-without_first}
 use Rattle.kernel_types.proofs.TouchRemoval.{addresses_gone, routes_gone, gone_owned, gone_may_go, is_own-tag_eq}
 use Rattle.kernel_types.specs.declared.object.Att.{Att}
 use Rattle.kernel_types.specs.declared.object.Link.{Link}
@@ -27,6 +28,22 @@ RemovesOwn-nothing att host = record {
   cached = DropsOnly-nothing (λ c. is_own att c.tag) host.cached;
   lasts = refl;
 }
+
+-- what only removes the attachment's objects touches no other
+pub TouchesOwn-RemovesOwn : (att : Att) (old new : Host) → RemovesOwn att old new → TouchesOwn att old new
+TouchesOwn-RemovesOwn att old new removes = record {
+  namespaces = removes.namespaces;
+  links = ChangesOnly-DropsOnly (λ l. is_own att l.tag) old.links new.links removes.links;
+  addresses = ChangesOnly-DropsOnly (λ a. is_own att a.tag) old.addresses new.addresses removes.addresses;
+  routes = ChangesOnly-DropsOnly (λ r. is_own att r.tag) old.routes new.routes removes.routes;
+  rules = ChangesOnly-DropsOnly (λ r. is_own att r.tag) old.rules new.rules removes.rules;
+  settings = ChangesOnly-DropsOnly (λ s. is_own att s.tag) old.settings new.settings removes.settings;
+  leases = ChangesOnly-DropsOnly (λ l. is_own att l.tag) old.leases new.leases removes.leases;
+  cached = ChangesOnly-DropsOnly (λ c. is_own att c.tag) old.cached new.cached removes.cached;
+}
+
+pub TouchesOwnAlone-RemovesOwn : (att : Att) (old new : Host) → RemovesOwn att old new → TouchesOwnAlone att old new
+TouchesOwnAlone-RemovesOwn att old new removes = record { own = TouchesOwn-RemovesOwn att old new removes; lasts = removes.lasts }
 
 -- ---- one object that isn't a link
 

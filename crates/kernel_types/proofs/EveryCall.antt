@@ -6,13 +6,13 @@ use Rattle.kernel_types.specs.Sound.{IsSound}
 use Rattle.kernel_types.specs.Touch.{Touches}
 use Rattle.kernel_types.proofs.Adds.{IsSound-cache_put, TouchesOwnAlone-cache_put, IsSound-addr_add, TouchesTag-addr_add, IsSound-route_add, TouchesTag-route_add, IsSound-rule_append, TouchesTag-rule_append, IsSound-setting_set, TouchesTag-setting_set, IsSound-gateway_ensure, AddsAddress-gateway_ensure, IsSound-forward_ensure, AddsSetting-forward_ensure}
 use Rattle.kernel_types.proofs.Append.{IsSound-bridge_ensure, AddsBridge-bridge_ensure, IsSound-veth_add, TouchesTag-veth_add, IsSound-macvlan_add, TouchesTag-macvlan_add}
-use Rattle.kernel_types.proofs.Deletes.{IsSound-rule_del, TouchesOwnAlone-rule_del, IsSound-setting_del, TouchesOwnAlone-setting_del, IsSound-lease_del, TouchesOwnAlone-lease_del, IsSound-cache_del, TouchesOwnAlone-cache_del}
+use Rattle.kernel_types.proofs.Deletes.{IsSound-rule_del, IsSound-setting_del, IsSound-lease_del, IsSound-cache_del}
+use Rattle.kernel_types.proofs.DropsOwn.{TouchesOwnAlone-RemovesOwn, RemovesOwn-link_del, RemovesOwn-rule_del, RemovesOwn-setting_del, RemovesOwn-lease_del, RemovesOwn-cache_del}
 use Rattle.kernel_types.proofs.Leases.{IsSound-lease_next, TouchesOwnAndLast-lease_next}
 use Rattle.kernel_types.proofs.LinkValues.{IsSound-link_set, TouchesOwnAlone-link_set}
 use Rattle.kernel_types.proofs.Namespaces.{IsSound-ns_add, AddsNamespace-ns_add, IsSound-ns_del, RemovesUnshared-ns_del}
 use Rattle.kernel_types.proofs.Outside.{IsSound-drop_link, RemovesUnshared-drop_link, IsSound-flush, RemovesUnshared-flush}
 use Rattle.kernel_types.proofs.Removal.{IsSound-link_del}
-use Rattle.kernel_types.proofs.TouchRemoval.{TouchesOwnAlone-link_del}
 use Rattle.kernel_types.specs.declared.object.Host.{Host}
 use Rattle.kernel_types.specs.declared.call.Call.{Call}
 use Rattle.kernel_types.specs.declared.call.Call.TheVariants.{Begin, BridgeEnsure, GatewayEnsure, ForwardEnsure, VethAdd, MacvlanAdd, LinkSet, AddrAdd, RouteAdd, RuleAppend, SettingSet, LeaseNext, CachePut, LinkDel, RuleDel, SettingDel, LeaseDel, CacheDel, HasObj, CacheGet, OwnersOf, PoolFree, NsChange, Outside}
@@ -60,11 +60,11 @@ Touches-apply host (RuleAppend rule) sound allowed = TouchesTag-rule_append host
 Touches-apply host (SettingSet setting) sound allowed = TouchesTag-setting_set host setting allowed.0
 Touches-apply host (LeaseNext att number set) sound allowed = TouchesOwnAndLast-lease_next host att number set
 Touches-apply host (CachePut att cached) sound allowed = TouchesOwnAlone-cache_put host att cached
-Touches-apply host (LinkDel att) sound allowed = TouchesOwnAlone-link_del host att sound
-Touches-apply host (RuleDel att) sound allowed = TouchesOwnAlone-rule_del host att
-Touches-apply host (SettingDel att) sound allowed = TouchesOwnAlone-setting_del host att
-Touches-apply host (LeaseDel att) sound allowed = TouchesOwnAlone-lease_del host att
-Touches-apply host (CacheDel att) sound allowed = TouchesOwnAlone-cache_del host att
+Touches-apply host (LinkDel att) sound allowed = TouchesOwnAlone-RemovesOwn att host _ (RemovesOwn-link_del host att sound)
+Touches-apply host (RuleDel att) sound allowed = TouchesOwnAlone-RemovesOwn att host _ (RemovesOwn-rule_del host att)
+Touches-apply host (SettingDel att) sound allowed = TouchesOwnAlone-RemovesOwn att host _ (RemovesOwn-setting_del host att)
+Touches-apply host (LeaseDel att) sound allowed = TouchesOwnAlone-RemovesOwn att host _ (RemovesOwn-lease_del host att)
+Touches-apply host (CacheDel att) sound allowed = TouchesOwnAlone-RemovesOwn att host _ (RemovesOwn-cache_del host att)
 Touches-apply host (HasObj probe) sound allowed = refl
 Touches-apply host (CacheGet att) sound allowed = refl
 Touches-apply host (OwnersOf network kind) sound allowed = refl

@@ -79,9 +79,6 @@ TouchesOwnAlone-with_settings att host xs c = record { own = TouchesOwn-with_set
 pub TouchesOwn-with_leases : (att : Att) (host : Host) (xs : List Lease) → ChangesOnly (λ x. is_own att x.tag) host.leases xs → TouchesOwn att host (record host { leases = xs })
 TouchesOwn-with_leases att host xs c = record { namespaces = refl; links = ChangesOnly-nothing (λ x. is_own att x.tag) host.links; addresses = ChangesOnly-nothing (λ x. is_own att x.tag) host.addresses; routes = ChangesOnly-nothing (λ x. is_own att x.tag) host.routes; rules = ChangesOnly-nothing (λ x. is_own att x.tag) host.rules; settings = ChangesOnly-nothing (λ x. is_own att x.tag) host.settings; leases = c; cached = ChangesOnly-nothing (λ x. is_own att x.tag) host.cached }
 
-pub TouchesOwnAlone-with_leases : (att : Att) (host : Host) (xs : List Lease) → ChangesOnly (λ x. is_own att x.tag) host.leases xs → TouchesOwnAlone att host (record host { leases = xs })
-TouchesOwnAlone-with_leases att host xs c = record { own = TouchesOwn-with_leases att host xs c; lasts = refl }
-
 pub TouchesOwn-with_cached : (att : Att) (host : Host) (xs : List CachedObj) → ChangesOnly (λ x. is_own att x.tag) host.cached xs → TouchesOwn att host (record host { cached = xs })
 TouchesOwn-with_cached att host xs c = record { namespaces = refl; links = ChangesOnly-nothing (λ x. is_own att x.tag) host.links; addresses = ChangesOnly-nothing (λ x. is_own att x.tag) host.addresses; routes = ChangesOnly-nothing (λ x. is_own att x.tag) host.routes; rules = ChangesOnly-nothing (λ x. is_own att x.tag) host.rules; settings = ChangesOnly-nothing (λ x. is_own att x.tag) host.settings; leases = ChangesOnly-nothing (λ x. is_own att x.tag) host.leases; cached = c }
 

@@ -8,12 +8,9 @@ use Rattle.std.proofs.lemmas.Slice.Eq.{bytes_eq-Decides}
 use Rattle.cni_addr.specs.Lists.{distinct}
 use Rattle.kernel_types.specs.Equal.{tag_eq}
 use Rattle.kernel_types.specs.Words.{is_host_ns, is_own, is_at, is_peer_at, is_bridge, is_link_of, is_host_bridge}
-use Rattle.kernel_types.specs.Apply.Calls.{without_links, goes_with, without_link, link_del_of}
+use Rattle.kernel_types.specs.Apply.Calls.{goes_with}
 use Rattle.kernel_types.specs.Sound.{IsSound, AreAddresses, AreRoutes, peer_fits, peers_back, address_fits_tag, link_fits_tag, is_owned_kind}
-use Rattle.kernel_types.specs.Touch.{TouchesOwnAlone}
-use Rattle.kernel_types.proofs.ChangeLemmas.{ChangesOnly-nothing, ChangesOnly-filter}
 use Rattle.kernel_types.proofs.ListLemmas.{list_any-weaker, list_all-weaker}
-use Rattle.kernel_types.proofs.OneList.{TouchesOwnAlone-nothing}
 use Rattle.kernel_types.specs.declared.object.Att.{Att}
 use Rattle.kernel_types.specs.declared.object.LinkKey.{LinkKey}
 use Rattle.kernel_types.specs.declared.object.LinkKind.{LinkKind}
@@ -188,30 +185,3 @@ pub gone_may_go : (att : Att) (host : Host) (found : Link) → IsSound host → 
 gone_may_go att host found sound f =
     list_all-both (λ m. not (goes_with found.ns found.name m) || is_own att m.tag) (λ m. link_fits_tag m m.tag) (λ m. not (goes_with found.ns found.name m) || may_go (is_own att) m)
     (λ m w h. grind (arith, w, own_no_bridge att m m.tag, h)) host.links (gone_owned att host found sound f) sound.links.tags
-
-TouchesOwnAlone-without_link : (att : Att) (host : Host) (found : Link) → IsSound host → find (λ l. is_own att l.tag) host.links ≡ Some found → TouchesOwnAlone att host (without_links (goes_with found.ns found.name) host)
-TouchesOwnAlone-without_link att host found sound f =
-    let gone : Link → Bool = goes_with found.ns found.name in
-    let may : list_all (λ m. not (goes_with found.ns found.name m) || may_go (is_own att) m) host.links ≡ true = gone_may_go att host found sound f in
-    record {
-      own = record {
-        namespaces = refl;
-        links = ChangesOnly-filter (λ l. is_own att l.tag) (λ l. not (gone l)) host.links (gone_owned att host found sound f);
-        addresses = ChangesOnly-filter (λ a. is_own att a.tag) (λ a. not (list_any (λ l. gone l && is_at a.ns a.link l) host.links)) host.addresses
-            (addresses_gone (is_own att) (is_own-tag_eq att) gone host.links host.addresses sound.links.keys may sound.addresses);
-        routes = ChangesOnly-filter (λ r. is_own att r.tag) (λ r. not (list_any (λ l. gone l && is_at r.ns r.link l) host.links)) host.routes
-            (routes_gone (is_own att) (is_own-tag_eq att) gone host.links host.routes sound.links.keys may sound.routes);
-        rules = ChangesOnly-nothing (λ r. is_own att r.tag) host.rules;
-        settings = ChangesOnly-nothing (λ s. is_own att s.tag) host.settings;
-        leases = ChangesOnly-nothing (λ l. is_own att l.tag) host.leases;
-        cached = ChangesOnly-nothing (λ c. is_own att c.tag) host.cached;
-      };
-      lasts = refl;
-    }
-
-touches_found : (att : Att) (host : Host) (o : Option Link) → IsSound host → find (λ l. is_own att l.tag) host.links ≡ o → TouchesOwnAlone att host (without_link host o).0
-touches_found att host None sound f = TouchesOwnAlone-nothing att host
-touches_found att host (Some found) sound f = TouchesOwnAlone-without_link att host found sound f
-
-pub TouchesOwnAlone-link_del : (host : Host) (att : Att) → IsSound host → TouchesOwnAlone att host (link_del_of host att).0
-TouchesOwnAlone-link_del host att sound = touches_found att host (find (λ l. is_own att l.tag) host.links) sound refl
