@@ -1,8 +1,8 @@
--- Whether an element is in a list, and lists in which each key stands once.
+-- Whether an element is in a list, a list without an element, and lists in which each key stands once.
 use Rattle.std.specs.Prelude.{◌≡◌, ◌⊎◌, Bool, true, not, ◌&&◌, List, [], ◌∷◌, ◌++◌, fold, if◌then◌else◌}
 use Rattle.std.specs.List.{list_any}
 
--- the element is in the list
+-- the element is in the list, told as one of so many cases: std tells a member by its place
 abbrev pub IsAmong : {X : Type 0} → X → List X → Type 0
 IsAmong x [] = ⊥
 IsAmong x (y ∷ ys) = (x ≡ y) ⊎ IsAmong x ys
