@@ -2,6 +2,7 @@
 use Rattle.std.proofs.Common.{◌≡◌, Bool, not, Option, Some, None, refl, subst}
 use Rattle.std.specs.Prelude.{find, ◌&&◌}
 use Rattle.std.specs.List.{list_any}
+use Rattle.std.proofs.lemmas.Option.{same_Some}
 use Rattle.kernel_types.specs.Words.{is_own, is_at}
 use Rattle.kernel_types.specs.Apply as apply
 use Rattle.kernel_types.specs.Apply.Calls.{goes_with, without_link, without_links, link_del_of, rule_del_of, setting_del_of, lease_del_of, cache_del_of}
@@ -127,9 +128,6 @@ RemovesOwn-link_del host att sound = removes_found att host (find (λ l. is_own 
 
 -- ---- each call that deletes
 
-the_attachment : (a b : Att) → Some a ≡ Some b → a ≡ b
-the_attachment a b e = cc
-
 pub RemovesOwn-apply : (host : Host) (call : Call) (att : Att) → IsSound host → deletes_for call ≡ Some att → RemovesOwn att host (apply.apply host call).0
 RemovesOwn-apply host (Begin a netns) att sound e = cc
 RemovesOwn-apply host (BridgeEnsure name mtu promisc) att sound e = cc
@@ -144,11 +142,11 @@ RemovesOwn-apply host (RuleAppend rule) att sound e = cc
 RemovesOwn-apply host (SettingSet setting) att sound e = cc
 RemovesOwn-apply host (LeaseNext a number set) att sound e = cc
 RemovesOwn-apply host (CachePut a cached) att sound e = cc
-RemovesOwn-apply host (LinkDel a) att sound e = let P : Att → Type 0 = λ b. RemovesOwn b host (link_del_of host a).0 in subst P (the_attachment a att e) (RemovesOwn-link_del host a sound)
-RemovesOwn-apply host (RuleDel a) att sound e = let P : Att → Type 0 = λ b. RemovesOwn b host (rule_del_of host a).0 in subst P (the_attachment a att e) (RemovesOwn-rule_del host a)
-RemovesOwn-apply host (SettingDel a) att sound e = let P : Att → Type 0 = λ b. RemovesOwn b host (setting_del_of host a).0 in subst P (the_attachment a att e) (RemovesOwn-setting_del host a)
-RemovesOwn-apply host (LeaseDel a) att sound e = let P : Att → Type 0 = λ b. RemovesOwn b host (lease_del_of host a).0 in subst P (the_attachment a att e) (RemovesOwn-lease_del host a)
-RemovesOwn-apply host (CacheDel a) att sound e = let P : Att → Type 0 = λ b. RemovesOwn b host (cache_del_of host a).0 in subst P (the_attachment a att e) (RemovesOwn-cache_del host a)
+RemovesOwn-apply host (LinkDel a) att sound e = let P : Att → Type 0 = λ b. RemovesOwn b host (link_del_of host a).0 in subst P (same_Some a att e) (RemovesOwn-link_del host a sound)
+RemovesOwn-apply host (RuleDel a) att sound e = let P : Att → Type 0 = λ b. RemovesOwn b host (rule_del_of host a).0 in subst P (same_Some a att e) (RemovesOwn-rule_del host a)
+RemovesOwn-apply host (SettingDel a) att sound e = let P : Att → Type 0 = λ b. RemovesOwn b host (setting_del_of host a).0 in subst P (same_Some a att e) (RemovesOwn-setting_del host a)
+RemovesOwn-apply host (LeaseDel a) att sound e = let P : Att → Type 0 = λ b. RemovesOwn b host (lease_del_of host a).0 in subst P (same_Some a att e) (RemovesOwn-lease_del host a)
+RemovesOwn-apply host (CacheDel a) att sound e = let P : Att → Type 0 = λ b. RemovesOwn b host (cache_del_of host a).0 in subst P (same_Some a att e) (RemovesOwn-cache_del host a)
 RemovesOwn-apply host (HasObj probe) att sound e = cc
 RemovesOwn-apply host (CacheGet a) att sound e = cc
 RemovesOwn-apply host (OwnersOf network kind) att sound e = cc

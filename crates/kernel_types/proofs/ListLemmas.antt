@@ -3,9 +3,13 @@ use Rattle.std.proofs.Common.{◌≡◌, ℕ, suc, ◌+◌, Bool, true, false, n
 use Rattle.std.specs.Prelude.{filter, find, map, remove, ◌&&◌, ◌||◌, if◌then◌else◌, nat_lt, position}
 use Rattle.std.specs.List.{list_any, list_all, position_or_len}
 use Rattle.std.proofs.lemmas.Bool.Decides.{nat_tests}
+use Rattle.std.proofs.lemmas.Bool.{and_from, or_from, or_left, or_right}
+use Rattle.std.proofs.lemmas.List.Folds as folds
+pub use Rattle.std.proofs.lemmas.List.Folds.{list_all-map}
+use Rattle.std.proofs.lemmas.Option.{cond_some}
 use Rattle.cni_addr.specs.Lists.{distinct, without_first}
 pub use Rattle.ip_pool.proofs.InOrder.{list_all-filter, list_all-weaker, passes-find}
-use Rattle.ip_pool.proofs.Lists.{place-none}
+use Rattle.ip_pool.proofs.Lists.{list_any-no_position}
 
 -- ---- the first that passes
 
@@ -30,21 +34,15 @@ list_any-position_or_len : {X : Type 0} (p : X → Bool) (xs : List X) → list_
 list_any-position_or_len p [] = refl
 list_any-position_or_len p (x ∷ xs) = any-step (p x) (position_or_len p xs) (length xs) (list_any p xs) (list_any-position_or_len p xs)
 
-place-step : (t : Bool) (n i : ℕ) → cond t (Some n) None ≡ Some i → (t ≡ true) × (n ≡ i)
-place-step true n i h = (refl, cc)
-place-step false n i h = cc
-
 -- what `position` and `remove` make together
 pub without_first-position : {X : Type 0} (p : X → Bool) (xs : List X) (i : ℕ) → position p xs ≡ Some i → (remove xs i ≡ without_first p xs) × (list_any p xs ≡ true)
 without_first-position p xs i h =
-    let e = place-step (nat_lt (position_or_len p xs) (length xs)) (position_or_len p xs) i h in
+    let e = cond_some (nat_lt (position_or_len p xs) (length xs)) (position_or_len p xs) i h in
     let there = list_any-position_or_len p xs ∙ e.0 in
     (ap (λ k. remove xs k) (sym e.1) ∙ remove-position_or_len p xs there, there)
 
-pub without_first-no_position : {X : Type 0} (p : X → Bool) (xs : List X) → position p xs ≡ None → (without_first p xs ≡ xs) × (list_any p xs ≡ false)
-without_first-no_position p xs h =
-    let none = list_any-position_or_len p xs ∙ place-none (nat_lt (position_or_len p xs) (length xs)) (position_or_len p xs) h in
-    (without_first-none p xs none, none)
+pub without_first-no_position : {X : Type 0} (p : X → Bool) (xs : List X) → position p xs ≡ None → without_first p xs ≡ xs
+without_first-no_position p xs h = without_first-none p xs (list_any-no_position p xs h)
 
 pub list_any-find_none : {X : Type 0} (p : X → Bool) (xs : List X) → find p xs ≡ None → list_any p xs ≡ false
 list_any-find_none p [] h = refl
@@ -58,11 +56,43 @@ pub filter_never : {X : Type 0} (p q : X → Bool) → ((x : X) → q x ≡ true
 filter_never p q w [] h = refl
 filter_never p q w (x ∷ xs) h = grind (arith, w x, filter_never p q w xs)
 
+-- ---- lists one after the other
+
+pub list_any-append_left : {X : Type 0} (p : X → Bool) (xs ys : List X) → list_any p xs ≡ true → list_any p (xs ++ ys) ≡ true
+list_any-append_left p xs ys h = folds.list_any-append p xs ys ∙ or_left (list_any p xs) (list_any p ys) h
+
+pub list_any-append_right : {X : Type 0} (p : X → Bool) (xs ys : List X) → list_any p ys ≡ true → list_any p (xs ++ ys) ≡ true
+list_any-append_right p xs ys h = folds.list_any-append p xs ys ∙ or_right (list_any p xs) (list_any p ys) h
+
+pub list_any-append_none : {X : Type 0} (p : X → Bool) (xs ys : List X) → list_any p xs ≡ false → list_any p ys ≡ false → list_any p (xs ++ ys) ≡ false
+list_any-append_none p xs ys h g = folds.list_any-append p xs ys ∙ or_from (list_any p xs) (list_any p ys) h g
+
+pub list_all-append : {X : Type 0} (p : X → Bool) (xs ys : List X) → list_all p xs ≡ true → list_all p ys ≡ true → list_all p (xs ++ ys) ≡ true
+list_all-append p xs ys h g = folds.list_all-append p xs ys ∙ and_from (list_all p xs) (list_all p ys) h g
+
+-- none of ys is the same as one of xs
+abbrev pub are_new : {X : Type 0} → (X → X → Bool) → List X → List X → Bool
+are_new same xs ys = list_all (λ y. not (list_any (λ x. same x y) xs)) ys
+
+are_new-head : {X : Type 0} (same : X → X → Bool) (x : X) (xs ys : List X) → are_new same (x ∷ xs) ys ≡ true → list_any (same x) ys ≡ false
+are_new-head same x xs [] h = refl
+are_new-head same x xs (y ∷ ys) h = grind (arith, are_new-head same x xs ys)
+
+are_new-tail : {X : Type 0} (same : X → X → Bool) (x : X) (xs ys : List X) → are_new same (x ∷ xs) ys ≡ true → are_new same xs ys ≡ true
+are_new-tail same x xs [] h = refl
+are_new-tail same x xs (y ∷ ys) h = grind (arith, are_new-tail same x xs ys)
+
+pub distinct-append : {X : Type 0} (same : X → X → Bool) (xs ys : List X) → distinct same xs ≡ true → distinct same ys ≡ true → are_new same xs ys ≡ true → distinct same (xs ++ ys) ≡ true
+distinct-append same [] ys h g n = g
+distinct-append same (x ∷ xs) ys h g n =
+    let tail : distinct same (xs ++ ys) ≡ true = distinct-append same xs ys (grind (arith, h)) g (are_new-tail same x xs ys n) in
+    let head : list_any (same x) (xs ++ ys) ≡ false = list_any-append_none (same x) xs ys (grind (arith, h)) (are_new-head same x xs ys n) in
+    grind (arith, head, tail)
+
 -- ---- each element passes
 
 pub list_all-push : {X : Type 0} (p : X → Bool) (xs : List X) (y : X) → list_all p xs ≡ true → p y ≡ true → list_all p (xs ++ y ∷ []) ≡ true
-list_all-push p [] y h g = grind arith
-list_all-push p (x ∷ xs) y h g = grind (arith, list_all-push p xs y)
+list_all-push p xs y h g = list_all-append p xs (y ∷ []) h (grind (arith, g))
 
 -- what passes and is kept passes another test
 pub list_all-kept : {X : Type 0} (p q keep : X → Bool) → ((x : X) → p x ≡ true → keep x ≡ true → q x ≡ true) → (xs : List X) → list_all p xs ≡ true → list_all q (filter keep xs) ≡ true
@@ -80,8 +110,7 @@ passes-list_all p q (x ∷ xs) y h g = grind (arith, passes-list_all p q xs y)
 -- ---- some element passes
 
 pub list_any-push : {X : Type 0} (p : X → Bool) (xs : List X) (y : X) → list_any p xs ≡ true → list_any p (xs ++ y ∷ []) ≡ true
-list_any-push p [] y h = grind arith
-list_any-push p (x ∷ xs) y h = grind (arith, list_any-push p xs y)
+list_any-push p xs y h = list_any-append_left p xs (y ∷ []) h
 
 pub list_any-kept : {X : Type 0} (p keep : X → Bool) → (xs : List X) → list_any p xs ≡ true → list_any (λ x. p x && not (keep x)) xs ≡ false → list_any p (filter keep xs) ≡ true
 list_any-kept p keep [] h g = grind arith
@@ -97,10 +126,6 @@ list_any-none p q w (x ∷ xs) h = grind (arith, w x, list_any-none p q w xs)
 
 -- ---- distinct keys
 
-list_any-last : {X : Type 0} (p : X → Bool) (xs : List X) (y : X) → list_any p xs ≡ false → p y ≡ false → list_any p (xs ++ y ∷ []) ≡ false
-list_any-last p [] y h g = grind arith
-list_any-last p (x ∷ xs) y h g = grind (arith, list_any-last p xs y)
-
 list_any-filter : {X : Type 0} (p keep : X → Bool) (xs : List X) → list_any p xs ≡ false → list_any p (filter keep xs) ≡ false
 list_any-filter p keep [] h = refl
 list_any-filter p keep (x ∷ xs) h = grind (arith, list_any-filter p keep xs)
@@ -110,8 +135,7 @@ list_any-without_first p gone [] h = refl
 list_any-without_first p gone (x ∷ xs) h = grind (arith, list_any-without_first p gone xs)
 
 pub distinct-push : {X : Type 0} (same : X → X → Bool) (xs : List X) (y : X) → distinct same xs ≡ true → list_any (λ x. same x y) xs ≡ false → distinct same (xs ++ y ∷ []) ≡ true
-distinct-push same [] y h g = grind arith
-distinct-push same (x ∷ xs) y h g = grind (arith, distinct-push same xs y, list_any-last (same x) xs y)
+distinct-push same xs y h g = distinct-append same xs (y ∷ []) h refl (grind (arith, g))
 
 pub distinct-filter : {X : Type 0} (same : X → X → Bool) (keep : X → Bool) (xs : List X) → distinct same xs ≡ true → distinct same (filter keep xs) ≡ true
 distinct-filter same keep [] h = refl
@@ -134,7 +158,7 @@ find-position_or_len p (x ∷ xs) y h e =
 
 pub find-position : {X : Type 0} (p : X → Bool) (xs : List X) (i : ℕ) (y : X) → position p xs ≡ Some i → y ≡ get_or xs i y → find p xs ≡ Some y
 find-position p xs i y h e =
-    let at = place-step (nat_lt (position_or_len p xs) (length xs)) (position_or_len p xs) i h in
+    let at = cond_some (nat_lt (position_or_len p xs) (length xs)) (position_or_len p xs) i h in
     find-position_or_len p xs y (list_any-position_or_len p xs ∙ at.0) (e ∙ ap (λ k. get_or xs k y) (sym at.1))
 
 find-list_any_none : {X : Type 0} (p : X → Bool) (xs : List X) → list_any p xs ≡ false → find p xs ≡ None
@@ -142,7 +166,7 @@ find-list_any_none p [] h = refl
 find-list_any_none p (x ∷ xs) h = grind (arith, find-list_any_none p xs)
 
 pub find-no_position : {X : Type 0} (p : X → Bool) (xs : List X) → position p xs ≡ None → find p xs ≡ None
-find-no_position p xs h = find-list_any_none p xs (without_first-no_position p xs h).1
+find-no_position p xs h = find-list_any_none p xs (list_any-no_position p xs h)
 
 -- ---- the first that passes goes along with others
 
@@ -156,52 +180,11 @@ filter-without_first_of p gone self xs y z f g =
     let same : y ≡ z = cc in
     filter-without_first_gone p (gone y) xs y f (self y) ∙ ap (λ v. filter (λ x. not (gone v x)) xs) same
 
--- ---- lists one after the other
-
-pub list_any-append_left : {X : Type 0} (p : X → Bool) (xs ys : List X) → list_any p xs ≡ true → list_any p (xs ++ ys) ≡ true
-list_any-append_left p [] ys h = grind arith
-list_any-append_left p (x ∷ xs) ys h = grind (arith, list_any-append_left p xs ys)
-
-pub list_any-append_right : {X : Type 0} (p : X → Bool) (xs ys : List X) → list_any p ys ≡ true → list_any p (xs ++ ys) ≡ true
-list_any-append_right p [] ys h = h
-list_any-append_right p (x ∷ xs) ys h = grind (arith, list_any-append_right p xs ys)
-
-pub list_any-append_none : {X : Type 0} (p : X → Bool) (xs ys : List X) → list_any p xs ≡ false → list_any p ys ≡ false → list_any p (xs ++ ys) ≡ false
-list_any-append_none p [] ys h g = g
-list_any-append_none p (x ∷ xs) ys h g = grind (arith, list_any-append_none p xs ys)
-
-pub list_all-append : {X : Type 0} (p : X → Bool) (xs ys : List X) → list_all p xs ≡ true → list_all p ys ≡ true → list_all p (xs ++ ys) ≡ true
-list_all-append p [] ys h g = g
-list_all-append p (x ∷ xs) ys h g = grind (arith, list_all-append p xs ys)
-
--- none of ys is the same as one of xs
-abbrev pub are_new : {X : Type 0} → (X → X → Bool) → List X → List X → Bool
-are_new same xs ys = list_all (λ y. not (list_any (λ x. same x y) xs)) ys
-
-are_new-head : {X : Type 0} (same : X → X → Bool) (x : X) (xs ys : List X) → are_new same (x ∷ xs) ys ≡ true → list_any (same x) ys ≡ false
-are_new-head same x xs [] h = refl
-are_new-head same x xs (y ∷ ys) h = grind (arith, are_new-head same x xs ys)
-
-are_new-tail : {X : Type 0} (same : X → X → Bool) (x : X) (xs ys : List X) → are_new same (x ∷ xs) ys ≡ true → are_new same xs ys ≡ true
-are_new-tail same x xs [] h = refl
-are_new-tail same x xs (y ∷ ys) h = grind (arith, are_new-tail same x xs ys)
-
-pub distinct-append : {X : Type 0} (same : X → X → Bool) (xs ys : List X) → distinct same xs ≡ true → distinct same ys ≡ true → are_new same xs ys ≡ true → distinct same (xs ++ ys) ≡ true
-distinct-append same [] ys h g n = g
-distinct-append same (x ∷ xs) ys h g n =
-    let tail : distinct same (xs ++ ys) ≡ true = distinct-append same xs ys (grind (arith, h)) g (are_new-tail same x xs ys n) in
-    let head : list_any (same x) (xs ++ ys) ≡ false = list_any-append_none (same x) xs ys (grind (arith, h)) (are_new-head same x xs ys n) in
-    grind (arith, head, tail)
-
 -- ---- lists changed in place
 
 pub list_any-map : {A B : Type 0} (p : B → Bool) (f : A → B) (xs : List A) → list_any p (map f xs) ≡ list_any (λ x. p (f x)) xs
 list_any-map p f [] = refl
 list_any-map p f (x ∷ xs) = grind (arith, list_any-map p f xs)
-
-pub list_all-map : {A B : Type 0} (p : B → Bool) (f : A → B) (xs : List A) → list_all p (map f xs) ≡ list_all (λ x. p (f x)) xs
-list_all-map p f [] = refl
-list_all-map p f (x ∷ xs) = grind (arith, list_all-map p f xs)
 
 pub list_any-same_test : {X : Type 0} (p q : X → Bool) → ((x : X) → p x ≡ q x) → (xs : List X) → list_any p xs ≡ list_any q xs
 list_any-same_test p q e [] = refl

@@ -1,8 +1,9 @@
 -- What goes with an attachment's link is the attachment's.
-use Rattle.std.proofs.Common.{◌≡◌, ℕ, Bool, true, false, not, cond, List, [], ◌∷◌, Option, Some, None, refl, subst, arith}
+use Rattle.std.proofs.Common.{◌≡◌, ℕ, Bool, true, false, not, List, [], ◌∷◌, Option, Some, None, refl, subst, arith}
 use Rattle.std.specs.Prelude.{find, ◌&&◌, ◌||◌}
 use Rattle.std.specs.List.{list_any, list_all}
 use Rattle.std.proofs.lemmas.Bool.{and_parts}
+use Rattle.std.proofs.lemmas.Option.{same_Some}
 use Rattle.std.specs.Cmp.Lexicographic.{nat_list_eq_equiv}
 use Rattle.std.proofs.lemmas.Slice.Eq.{bytes_eq-Decides}
 use Rattle.cni_addr.specs.Lists.{distinct}
@@ -37,15 +38,12 @@ fails-found : {X : Type 0} (p q : X → Bool) (xs : List X) (y : X) → list_any
 fails-found p q [] y h f = cc
 fails-found p q (x ∷ xs) y h f = grind (arith, fails-found p q xs y)
 
-found-head : {X : Type 0} (x y : X) (o : Option X) → cond true (Some x) o ≡ Some y → x ≡ y
-found-head x y o h = cc
-
 -- where keys are distinct, what is the same as the one that was found passes too
 same-found : {X : Type 0} (same : X → X → Bool) (p : X → Bool) → ((x y : X) → same x y ≡ same y x) → (xs : List X) (y : X) → distinct same xs ≡ true → find p xs ≡ Some y → list_all (λ z. not (same z y) || p z) xs ≡ true
 same-found same p s [] y d f = refl
 same-found {X} same p s (x ∷ xs) y d f =
     by_bool (p x)
-    (λ t. let e : x ≡ y = found-head x y (find p xs) (rw t at f) in
+    (λ t. let e : x ≡ y = same_Some x y (rw t at f) in
     let P : X → Type 0 = λ v. list_all (λ z. not (same z v) || p z) xs ≡ true in
     let tail : list_all (λ z. not (same z y) || p z) xs ≡ true = subst P e (none_same same p s x xs (grind (arith, d))) in
     grind (arith, t, tail))
