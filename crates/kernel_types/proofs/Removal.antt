@@ -31,7 +31,7 @@ passes_peer q (Some key) = q key.ns key.name
 abbrev pub goes_by : (List ℕ → List ℕ → Bool) → Link → Bool
 goes_by q link = q link.ns link.name || passes_peer q link.peer
 
-same_place : (a b c d : List ℕ) (q : List ℕ → List ℕ → Bool) → bytes_eq a c && bytes_eq b d ≡ true → q a b ≡ q c d
+pub same_place : (a b c d : List ℕ) (q : List ℕ → List ℕ → Bool) → bytes_eq a c && bytes_eq b d ≡ true → q a b ≡ q c d
 same_place a b c d q h =
     let ac : a ≡ c = (bytes_eq-Decides a c).0 (grind (arith, h)) in
     let bd : b ≡ d = (bytes_eq-Decides b d).0 (grind (arith, h)) in

@@ -1,5 +1,5 @@
 -- What goes with an attachment's link is the attachment's.
-use Rattle.std.proofs.Common.{◌≡◌, ℕ, Bool, true, false, not, List, [], ◌∷◌, Option, Some, None, refl, subst, arith}
+use Rattle.std.proofs.Common.{◌≡◌, ℕ, Bool, true, false, not, List, [], ◌∷◌, Option, Some, None, refl, ◌∙◌, subst, arith}
 use Rattle.std.specs.Prelude.{find, ◌&&◌, ◌||◌}
 use Rattle.std.specs.List.{list_any, list_all}
 use Rattle.std.proofs.lemmas.Bool.{and_parts}
@@ -12,6 +12,7 @@ use Rattle.kernel_types.specs.Words.{is_host_ns, is_own, is_at, is_peer_at, is_b
 use Rattle.kernel_types.specs.Apply.Calls.{goes_with}
 use Rattle.kernel_types.specs.Sound.{IsSound, AreAddresses, AreRoutes, peer_fits, peers_back, address_fits_tag, link_fits_tag, is_owned_kind}
 use Rattle.kernel_types.proofs.ListLemmas.{list_any-weaker, list_all-weaker}
+use Rattle.kernel_types.proofs.Removal.{same_place}
 use Rattle.kernel_types.specs.declared.object.Att.{Att}
 use Rattle.kernel_types.specs.declared.object.LinkKey.{LinkKey}
 use Rattle.kernel_types.specs.declared.object.LinkKind.{LinkKind}
@@ -92,12 +93,7 @@ pub is_at-symm : (a b : Link) → is_at b.ns b.name a ≡ is_at a.ns a.name b
 is_at-symm a b = grind (arith, nat_list_eq_equiv.symm a.ns b.ns, nat_list_eq_equiv.symm a.name b.name)
 
 pub one_place : (ns name : List ℕ) (a b : Link) → is_at ns name a ≡ true → is_at ns name b ≡ true → is_at b.ns b.name a ≡ true
-one_place ns name a b h g =
-    let an : a.ns ≡ ns = (bytes_eq-Decides a.ns ns).0 (grind (arith, h)) in
-    let am : a.name ≡ name = (bytes_eq-Decides a.name name).0 (grind (arith, h)) in
-    let bn : b.ns ≡ ns = (bytes_eq-Decides b.ns ns).0 (grind (arith, g)) in
-    let bm : b.name ≡ name = (bytes_eq-Decides b.name name).0 (grind (arith, g)) in
-    rw (an, am, bn, bm) (grind (arith, nat_list_eq_equiv.refl ns, nat_list_eq_equiv.refl name))
+one_place ns name a b h g = same_place b.ns b.name ns name (λ m n. is_at m n a) g ∙ h
 
 pub keeps_or_owns : (g o : Bool) → (g ≡ true → o ≡ true) → (not g || o) ≡ true
 keeps_or_owns true o h = h refl
@@ -154,10 +150,8 @@ peer_owned : (att : Att) (found : Link) (links : List Link) → list_all (λ z. 
     → (m : Link) (o : Option LinkKey) → peer_fits links m o ≡ true → is_peer_at found.ns found.name o ≡ true → is_own att m.tag ≡ true
 peer_owned att found links owned m None h p = cc
 peer_owned att found links owned m (Some key) h p =
-    let ns : key.ns ≡ found.ns = (bytes_eq-Decides key.ns found.ns).0 (grind (arith, p)) in
-    let name : key.name ≡ found.name = (bytes_eq-Decides key.name found.name).0 (grind (arith, p)) in
     from_one (peers_back m key) (λ z. not (is_at found.ns found.name z) || is_own att z.tag) (is_own att m.tag)
-    (λ x a w. let at : is_at found.ns found.name x ≡ true = rw (← ns, ← name) (grind (arith, a)) in grind (arith, a, w, at, is_own-tag_eq att x.tag m.tag))
+    (λ x a w. let at = same_place key.ns key.name found.ns found.name (λ m n. is_at m n x) p in grind (arith, a, w, at, is_own-tag_eq att x.tag m.tag))
     links (grind (arith, h)) owned
 
 pub owned_no_bridge : (ns : List ℕ) (k : LinkKind) → is_owned_kind ns k ≡ true → is_bridge k ≡ false
