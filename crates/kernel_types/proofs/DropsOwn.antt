@@ -10,7 +10,7 @@ use Rattle.kernel_types.specs.Isolation.{RemovesOwn, deletes_for}
 use Rattle.kernel_types.specs.Sound.{IsSound}
 use Rattle.kernel_types.specs.Touch.{TouchesOwn, TouchesOwnAlone}
 use Rattle.kernel_types.proofs.ChangeLemmas.{ChangesOnly-DropsOnly, DropsOnly-nothing, DropsOnly-filter, DropsOnly-without_first}
-use Rattle.kernel_types.proofs.TouchRemoval.{addresses_gone, routes_gone, gone_owned, gone_may_go, is_own-tag_eq}
+use Rattle.kernel_types.proofs.TouchRemoval.{addresses_gone, routes_gone, gone_owned, gone_may_go}
 use Rattle.kernel_types.specs.declared.object.Att.{Att}
 use Rattle.kernel_types.specs.declared.object.Link.{Link}
 use Rattle.kernel_types.specs.declared.object.Host.{Host}
@@ -109,9 +109,9 @@ removes-without_link att host found sound f =
       namespaces = refl;
       links = DropsOnly-filter (λ l. is_own att l.tag) (λ l. not (gone l)) host.links (gone_owned att host found sound f);
       addresses = DropsOnly-filter (λ a. is_own att a.tag) (λ a. not (list_any (λ l. gone l && is_at a.ns a.link l) host.links)) host.addresses
-          (addresses_gone (is_own att) (is_own-tag_eq att) gone host.links host.addresses sound.links.keys (gone_may_go att host found sound f) sound.addresses);
+          (addresses_gone (is_own att) gone host.links host.addresses sound.links.keys (gone_may_go att host found sound f) sound.addresses);
       routes = DropsOnly-filter (λ r. is_own att r.tag) (λ r. not (list_any (λ l. gone l && is_at r.ns r.link l) host.links)) host.routes
-          (routes_gone (is_own att) (is_own-tag_eq att) gone host.links host.routes sound.links.keys (gone_may_go att host found sound f) sound.routes);
+          (routes_gone (is_own att) gone host.links host.routes sound.links.keys (gone_may_go att host found sound f) sound.routes);
       rules = DropsOnly-nothing (λ r. is_own att r.tag) host.rules;
       settings = DropsOnly-nothing (λ s. is_own att s.tag) host.settings;
       leases = DropsOnly-nothing (λ l. is_own att l.tag) host.leases;

@@ -5,10 +5,11 @@ use Rattle.std.specs.Cmp.{IsPartialEquivalence}
 use Rattle.std.specs.Cmp.Lexicographic.{nat_list_eq_equiv}
 use Rattle.std.proofs.lemmas.Slice.Eq.{bytes_eq-Decides}
 use Rattle.kernel_types.specs.Allowed.{IsAllowed}
-use Rattle.kernel_types.specs.Equal.{att_eq}
+use Rattle.kernel_types.specs.Equal.{att_eq, tag_eq}
 use Rattle.kernel_types.specs.Isolation.{KeepsWhere, KeepsPart, KeepsUnowned, names_att, is_from_outside, ensures_shared}
 use Rattle.kernel_types.specs.Words.{is_own, is_owned}
 use Rattle.kernel_types.specs.Touch.{Touches, TouchesOwn, TouchesTag, AddsBridge, AddsAddress, AddsSetting, RemovesUnshared, is_base}
+use Rattle.kernel_types.proofs.Cases.{tag_eq-own}
 use Rattle.kernel_types.proofs.ChangeLemmas.{filter-ChangesOnly, filter-DropsOnly}
 use Rattle.kernel_types.proofs.ListLemmas.{filter-push_dropped}
 use Rattle.kernel_types.specs.declared.object.Att.{Att}
@@ -90,10 +91,19 @@ att_eq-laws = record {
   trans = λ a b c h k. ap (λ x. att_eq x c) (att_eq-same a b h) ∙ k;
 }
 
+pub tag_eq-same : (t u : Tag) → tag_eq t u ≡ true → t ≡ u
+tag_eq-same tags.Outside tags.Outside h = refl
+tag_eq-same tags.Outside tags.Base h = cc
+tag_eq-same tags.Outside (tags.Own b) h = cc
+tag_eq-same tags.Base tags.Outside h = cc
+tag_eq-same tags.Base tags.Base h = refl
+tag_eq-same tags.Base (tags.Own b) h = cc
+tag_eq-same (tags.Own a) tags.Outside h = cc
+tag_eq-same (tags.Own a) tags.Base h = cc
+tag_eq-same (tags.Own a) (tags.Own b) h = ap (λ x. tags.Own x) (att_eq-same a b h)
+
 pub is_own-one : (att : Att) (t : Tag) → is_own att t ≡ true → t ≡ tags.Own att
-is_own-one att tags.Outside h = cc
-is_own-one att tags.Base h = cc
-is_own-one att (tags.Own a) h = ap (λ x. tags.Own x) (att_eq-same a att h)
+is_own-one att t h = tag_eq-same t (tags.Own att) (tag_eq-own att t ∙ h)
 
 -- what one attachment owns no other does
 pub own_apart : (att other : Att) → att_eq att other ≡ false → (t : Tag) → is_own att t ≡ true → is_own other t ≡ false

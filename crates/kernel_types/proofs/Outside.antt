@@ -13,7 +13,7 @@ use Rattle.kernel_types.proofs.ChangeLemmas.{DropsOnly-nothing, DropsOnly-filter
 use Rattle.kernel_types.proofs.ListLemmas.{list_all-filter, list_all-weaker, distinct-filter, passes-find}
 use Rattle.kernel_types.proofs.OneList.{IsSound-with_rules}
 use Rattle.kernel_types.proofs.Removal.{IsSound-without_link}
-use Rattle.kernel_types.proofs.TouchRemoval.{addresses_gone, routes_gone, may_go, RespectsTags, keeps_or_owns, list_all-both}
+use Rattle.kernel_types.proofs.TouchRemoval.{addresses_gone, routes_gone, may_go, keeps_or_owns, list_all-both}
 use Rattle.kernel_types.specs.declared.object.LinkKey.{LinkKey}
 use Rattle.kernel_types.specs.declared.object.LinkKind.{LinkKind}
 use Rattle.kernel_types.specs.declared.object.LinkKind.TheVariants.{Device, Bridge, Veth, Macvlan}
@@ -28,17 +28,6 @@ use Rattle.kernel_types.specs.declared.call.Reply.{Reply}
 
 abbrev pub is_unshared : Tag → Bool
 is_unshared t = not (is_base t)
-
-RespectsTags-unshared : RespectsTags is_unshared
-RespectsTags-unshared Outside Outside h = refl
-RespectsTags-unshared Outside Base h = cc
-RespectsTags-unshared Outside (Own b) h = refl
-RespectsTags-unshared Base Outside h = cc
-RespectsTags-unshared Base Base h = refl
-RespectsTags-unshared Base (Own b) h = cc
-RespectsTags-unshared (Own a) Outside h = refl
-RespectsTags-unshared (Own a) Base h = cc
-RespectsTags-unshared (Own a) (Own b) h = refl
 
 owned-unshared : (t : Tag) → is_owned t ≡ true → is_unshared t ≡ true
 owned-unshared Outside h = refl
@@ -110,9 +99,9 @@ RemovesUnshared-without_links gone host sound loose =
       links = DropsOnly-filter (λ l. not (is_base l.tag)) (λ l. not (gone l)) host.links
           (list_all-weaker (λ l. not (gone l) || may_go is_unshared l) (λ l. not (gone l) || not (is_base l.tag)) (λ l h. grind (arith, h)) host.links may);
       addresses = DropsOnly-filter (λ a. not (is_base a.tag)) (λ a. not (list_any (λ l. gone l && is_at a.ns a.link l) host.links)) host.addresses
-          (addresses_gone is_unshared RespectsTags-unshared gone host.links host.addresses sound.links.keys may sound.addresses);
+          (addresses_gone is_unshared gone host.links host.addresses sound.links.keys may sound.addresses);
       routes = DropsOnly-filter (λ r. not (is_base r.tag)) (λ r. not (list_any (λ l. gone l && is_at r.ns r.link l) host.links)) host.routes
-          (routes_gone is_unshared RespectsTags-unshared gone host.links host.routes sound.links.keys may sound.routes);
+          (routes_gone is_unshared gone host.links host.routes sound.links.keys may sound.routes);
       rules = DropsOnly-nothing (λ r. not (is_base r.tag)) host.rules;
       settings = DropsOnly-nothing (λ s. not (is_base s.tag)) host.settings;
       leases = refl;

@@ -1,16 +1,16 @@
 -- What goes with an attachment's link is the attachment's.
-use Rattle.std.proofs.Common.{◌≡◌, ℕ, Bool, true, false, not, List, [], ◌∷◌, Option, Some, None, refl, ◌∙◌, subst, arith}
+use Rattle.std.proofs.Common.{◌≡◌, ℕ, Bool, true, false, not, List, [], ◌∷◌, Option, Some, None, refl, ◌∙◌, ap, subst, arith}
 use Rattle.std.specs.Prelude.{find, ◌&&◌, ◌||◌}
 use Rattle.std.specs.List.{list_any, list_all}
 use Rattle.std.proofs.lemmas.Bool.{and_parts}
 use Rattle.std.proofs.lemmas.Option.{same_Some}
 use Rattle.std.specs.Cmp.Lexicographic.{nat_list_eq_equiv}
-use Rattle.std.proofs.lemmas.Slice.Eq.{bytes_eq-Decides}
 use Rattle.cni_addr.specs.Lists.{distinct}
 use Rattle.kernel_types.specs.Equal.{tag_eq}
 use Rattle.kernel_types.specs.Words.{is_host_ns, is_own, is_at, is_peer_at, is_bridge, is_link_of, is_host_bridge}
 use Rattle.kernel_types.specs.Apply.Calls.{goes_with}
 use Rattle.kernel_types.specs.Sound.{IsSound, AreAddresses, AreRoutes, peer_fits, peers_back, address_fits_tag, link_fits_tag, is_owned_kind}
+use Rattle.kernel_types.proofs.Isolation.{tag_eq-same}
 use Rattle.kernel_types.proofs.ListLemmas.{list_any-weaker, list_all-weaker}
 use Rattle.kernel_types.proofs.Removal.{same_place}
 use Rattle.kernel_types.specs.declared.object.Att.{Att}
@@ -75,19 +75,7 @@ both_at same p q at wp wq one (x ∷ xs) d h g =
 -- ---- tags and places
 
 pub is_own-tag_eq : (att : Att) (t u : Tag) → tag_eq t u ≡ true → is_own att t ≡ is_own att u
-is_own-tag_eq att Outside Outside h = refl
-is_own-tag_eq att Base Base h = refl
-is_own-tag_eq att (Own a) (Own b) h =
-    let n : a.network ≡ b.network = (bytes_eq-Decides a.network b.network).0 (grind (arith, h)) in
-    let c : a.container ≡ b.container = (bytes_eq-Decides a.container b.container).0 (grind (arith, h)) in
-    let i : a.ifname ≡ b.ifname = (bytes_eq-Decides a.ifname b.ifname).0 (grind (arith, h)) in
-    rw (n, c, i) refl
-is_own-tag_eq att Outside Base h = cc
-is_own-tag_eq att Outside (Own b) h = cc
-is_own-tag_eq att Base Outside h = cc
-is_own-tag_eq att Base (Own b) h = cc
-is_own-tag_eq att (Own a) Outside h = cc
-is_own-tag_eq att (Own a) Base h = cc
+is_own-tag_eq att t u h = ap (is_own att) (tag_eq-same t u h)
 
 pub is_at-symm : (a b : Link) → is_at b.ns b.name a ≡ is_at a.ns a.name b
 is_at-symm a b = grind (arith, nat_list_eq_equiv.symm a.ns b.ns, nat_list_eq_equiv.symm a.name b.name)
@@ -105,43 +93,39 @@ keeps_or_owns false o h = refl
 abbrev pub may_go : (Tag → Bool) → Link → Bool
 may_go mine l = mine l.tag && not (is_host_ns l.ns && is_bridge l.kind)
 
--- a test of tags that tells no two apart that are the same
-abbrev pub RespectsTags : (Tag → Bool) → Type 0
-RespectsTags mine = (t u : Tag) → tag_eq t u ≡ true → mine t ≡ mine u
-
 -- an object whose link with its tag goes has such a tag
-on_gone : (mine : Tag → Bool) → RespectsTags mine → (gone : Link → Bool) (links : List Link) (ns name : List ℕ) (t : Tag) → distinct (λ a b. is_at b.ns b.name a) links ≡ true → list_all (λ m. not (gone m) || may_go mine m) links ≡ true
+on_gone : (mine : Tag → Bool) → (gone : Link → Bool) (links : List Link) (ns name : List ℕ) (t : Tag) → distinct (λ a b. is_at b.ns b.name a) links ≡ true → list_all (λ m. not (gone m) || may_go mine m) links ≡ true
     → list_any (is_link_of ns name t) links ≡ true → list_any (λ l. gone l && is_at ns name l) links ≡ true → mine t ≡ true
-on_gone mine respects gone links ns name t keys may lies goes =
+on_gone mine gone links ns name t keys may lies goes =
     from_one (λ x. is_link_of ns name t x && (gone x && is_at ns name x)) (λ m. not (gone m) || may_go mine m) (mine t)
-    (λ x a w. let same : mine x.tag ≡ mine t = respects x.tag t (grind (arith, a)) in grind (arith, a, w, same))
+    (λ x a w. let same : mine x.tag ≡ mine t = ap mine (tag_eq-same x.tag t (grind (arith, a))) in grind (arith, a, w, same))
     links
     (both_at (λ a b. is_at b.ns b.name a) (is_link_of ns name t) (λ l. gone l && is_at ns name l) (is_at ns name) (λ x h. (and_parts (is_at ns name x) (tag_eq x.tag t) h).0) (λ x h. (and_parts (gone x) (is_at ns name x) h).1) (one_place ns name) links keys lies goes)
     may
 
-address_gone : (mine : Tag → Bool) → RespectsTags mine → (gone : Link → Bool) (links : List Link) → distinct (λ a b. is_at b.ns b.name a) links ≡ true → list_all (λ m. not (gone m) || may_go mine m) links ≡ true
+address_gone : (mine : Tag → Bool) → (gone : Link → Bool) (links : List Link) → distinct (λ a b. is_at b.ns b.name a) links ≡ true → list_all (λ m. not (gone m) || may_go mine m) links ≡ true
     → (a : AddrObj) (t : Tag) → address_fits_tag links a t ≡ true → list_any (λ l. gone l && is_at a.ns a.link l) links ≡ true → mine t ≡ true
-address_gone mine respects gone links keys may a Outside lies goes = cc
-address_gone mine respects gone links keys may a Base lies goes =
+address_gone mine gone links keys may a Outside lies goes = cc
+address_gone mine gone links keys may a Base lies goes =
     let on = and_parts (is_host_ns a.ns) (list_any (is_host_bridge a.link) links) lies in
     from_one (λ x. is_host_bridge a.link x && (gone x && is_at a.ns a.link x)) (λ m. not (gone m) || may_go mine m) (mine Base)
     (λ x h w. grind (arith, h, w))
     links
     (both_at (λ x y. is_at y.ns y.name x) (is_host_bridge a.link) (λ l. gone l && is_at a.ns a.link l) (is_at a.ns a.link) (λ x b. host_bridge-at a.ns a.link x on.0 b) (λ x h. (and_parts (gone x) (is_at a.ns a.link x) h).1) (one_place a.ns a.link) links keys on.1 goes)
     may
-address_gone mine respects gone links keys may a (Own b) lies goes = on_gone mine respects gone links a.ns a.link (Own b) keys may lies goes
+address_gone mine gone links keys may a (Own b) lies goes = on_gone mine gone links a.ns a.link (Own b) keys may lies goes
 
-pub addresses_gone : (mine : Tag → Bool) → RespectsTags mine → (gone : Link → Bool) (links : List Link) (addresses : List AddrObj) → distinct (λ a b. is_at b.ns b.name a) links ≡ true → list_all (λ m. not (gone m) || may_go mine m) links ≡ true
+pub addresses_gone : (mine : Tag → Bool) → (gone : Link → Bool) (links : List Link) (addresses : List AddrObj) → distinct (λ a b. is_at b.ns b.name a) links ≡ true → list_all (λ m. not (gone m) || may_go mine m) links ≡ true
     → AreAddresses links addresses → list_all (λ a. not (list_any (λ l. gone l && is_at a.ns a.link l) links) || mine a.tag) addresses ≡ true
-addresses_gone mine respects gone links addresses keys may sound =
+addresses_gone mine gone links addresses keys may sound =
     list_all-weaker (λ a. address_fits_tag links a a.tag) (λ a. not (list_any (λ l. gone l && is_at a.ns a.link l) links) || mine a.tag)
-    (λ a h. keeps_or_owns (list_any (λ l. gone l && is_at a.ns a.link l) links) (mine a.tag) (address_gone mine respects gone links keys may a a.tag h)) addresses sound.lie
+    (λ a h. keeps_or_owns (list_any (λ l. gone l && is_at a.ns a.link l) links) (mine a.tag) (address_gone mine gone links keys may a a.tag h)) addresses sound.lie
 
-pub routes_gone : (mine : Tag → Bool) → RespectsTags mine → (gone : Link → Bool) (links : List Link) (routes : List RouteObj) → distinct (λ a b. is_at b.ns b.name a) links ≡ true → list_all (λ m. not (gone m) || may_go mine m) links ≡ true
+pub routes_gone : (mine : Tag → Bool) → (gone : Link → Bool) (links : List Link) (routes : List RouteObj) → distinct (λ a b. is_at b.ns b.name a) links ≡ true → list_all (λ m. not (gone m) || may_go mine m) links ≡ true
     → AreRoutes links routes → list_all (λ r. not (list_any (λ l. gone l && is_at r.ns r.link l) links) || mine r.tag) routes ≡ true
-routes_gone mine respects gone links routes keys may sound =
+routes_gone mine gone links routes keys may sound =
     list_all-weaker (λ r. list_any (is_link_of r.ns r.link r.tag) links) (λ r. not (list_any (λ l. gone l && is_at r.ns r.link l) links) || mine r.tag)
-    (λ r h. keeps_or_owns (list_any (λ l. gone l && is_at r.ns r.link l) links) (mine r.tag) (on_gone mine respects gone links r.ns r.link r.tag keys may h)) routes sound.lie
+    (λ r h. keeps_or_owns (list_any (λ l. gone l && is_at r.ns r.link l) links) (mine r.tag) (on_gone mine gone links r.ns r.link r.tag keys may h)) routes sound.lie
 
 -- ---- the links that go with one of an attachment
 
