@@ -1,9 +1,9 @@
 //! The modelled kernel: the trait, and the kernel over plain lists.
 //!
 //! What it promises above: a [`Kernel`] means a host; a call that may be made gives the host and the reply of `apply`
-//! (`kernel_types/specs/Apply.antt`), want of memory leaves the host as it was, ten calls never want memory, and no
-//! kernel replies with a fault. [`ListKernel`] keeps this contract over nine vectors, which it may scan: it is the
-//! plain definition made to run.
+//! (`kernel_types/specs/Apply.antt`), want of memory leaves the host as it was, nine calls and the removal of a
+//! namespace never want memory, and no kernel replies with a fault. [`ListKernel`] keeps this contract over nine
+//! vectors, which it may scan: it is the plain definition made to run.
 //!
 //! ```text
 //! let mut kernel = ListKernel::of_host(opening);

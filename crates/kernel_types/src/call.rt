@@ -1,4 +1,4 @@
-//! The calls of the modelled kernel, and its replies.
+//! The calls of the modelled kernel, its replies, and a leased address with what its range says of it.
 
 use crate::object::{AddrObj, Att, Lease, Link, LinkKey, RouteObj, Rule, Setting, Table, Tag};
 use cni_addr::{Addr, Cidr, Family, Items, Mac, RangeSet, Text};
