@@ -1,4 +1,3 @@
 pub mod LeavingLinks
 pub mod TaggedOwners
-pub mod NeverFault
 pub mod OnLeavingLinks
