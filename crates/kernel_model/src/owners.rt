@@ -14,16 +14,10 @@ use cni_addr::{Duplicate, Items, NoMemory, Text};
 use kernel_types::{Att, Tag};
 use std::alloc::Global;
 
-fn is_same_att(a: &Att, b: &Att) -> bool
-    ensures { result ≡ att_eq a.now b.now }
-{
-    a == b
-}
-
 fn has_att(atts: &[Att], att: &Att) -> bool
     ensures { result ≡ list_any (att_eq att.now) atts.now }
 {
-    atts.iter().any(|a| is_same_att(att, a))
+    atts.iter().any(|a| att == a)
 }
 
 /// Adds an attachment, unless it is there.
