@@ -1,6 +1,7 @@
 -- What lists of calls add to a share.
 use Rattle.std.proofs.Common.{◌≡◌, Bool, true, false, ap, List, [], ◌∷◌, ◌++◌, map, refl, sym, ◌∙◌, append_assoc}
 use Rattle.std.proofs.lemmas.List.{append-nil}
+use Rattle.std.proofs.lemmas.List.Sums.{fold-append}
 use Rattle.std.specs.Prelude.{if◌then◌else◌}
 use Rattle.cni_addr.specs.declared.address.Family.{Family}
 use Rattle.cni_addr.specs.declared.address.Family.TheVariants.{V4, V6}
@@ -17,8 +18,7 @@ use Rattle.plan_words.specs.Shapes.{forward_for, forward_calls}
 use Rattle.plan_words.specs.Share.{Share, no_objects, share_plus, share_after_call, share_after_calls}
 
 pub share_after_calls-append : (s : Share) (xs ys : List Call) → share_after_calls s (xs ++ ys) ≡ share_after_calls (share_after_calls s xs) ys
-share_after_calls-append s [] ys = refl
-share_after_calls-append s (x ∷ xs) ys = share_after_calls-append (share_after_call s x) xs ys
+share_after_calls-append s xs ys = fold-append share_after_call s xs ys
 
 pub share_after_calls-addresses : (s : Share) (xs : List AddrObj) → share_after_calls s (map AddrAdd xs) ≡ record s { addresses = s.addresses ++ xs }
 share_after_calls-addresses s [] = ap (λ l. record s { addresses = l }) (sym (append-nil s.addresses))

@@ -4,6 +4,7 @@ use Rattle.std.specs.Prelude.{fold, flat_map, option_map, slice_get, if◌then�
 use Rattle.std.specs.List.{list_any}
 use Rattle.std.proofs.lemmas.List.{length_push, map_push, map-append, length-append, length-map, length-replicate}
 use Rattle.std.proofs.lemmas.Option.{slice_get-map}
+use Rattle.std.proofs.lemmas.List.Elements.{filter_map-append}
 use Rattle.std.proofs.lemmas.List.Folds.{list_any-append}
 use Rattle.std.proofs.lemmas.List.Sums.{fold_push}
 use Rattle.std.specs.Cmp.{IsPartialEquivalence}
@@ -33,9 +34,7 @@ pub present-take_some : {X : Type 0} (row : List (Option X)) (i : ℕ) (x : X) �
 present-take_some row i x h = rw add-one (take_some row i x h)
 
 pub present-append : {X : Type 0} (a b : List (Option X)) → present (a ++ b) ≡ present a ++ present b
-present-append [] b = refl
-present-append (None ∷ a) b = present-append a b
-present-append (Some x ∷ a) b = ap (λ l. x ∷ l) (present-append a b)
+present-append a b = filter_map-append (λ o. o) a b
 
 pub present-map_some : {X : Type 0} (xs : List X) → present (map (λ x. Some x) xs) ≡ xs
 present-map_some [] = refl

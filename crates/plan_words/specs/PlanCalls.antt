@@ -1,5 +1,5 @@
 -- What the calls of a plan are, and that they append a share.
-use Rattle.std.specs.Prelude.{◌≡◌, Bool, true, not, ◌&&◌, ◌||◌, List, [], ◌∷◌, is_some}
+use Rattle.std.specs.Prelude.{◌≡◌, Bool, true, not, ◌&&◌, ◌||◌, List, [], ◌∷◌, fold, is_some}
 use Rattle.kernel_types.specs.Apply.{apply}
 use Rattle.kernel_types.specs.Isolation.{names_att, ensures_shared, deletes_for}
 use Rattle.kernel_types.specs.Sound.{IsSound}
@@ -31,9 +31,9 @@ abbrev pub AllDone : Host → List Call → Type 0
 AllDone host [] = Unit {0}
 AllDone host (call ∷ calls) = ((apply host call).1 ≡ Done) × AllDone (apply host call).0 calls
 
+-- the host after them
 abbrev pub applied : Host → List Call → Host
-applied host [] = host
-applied host (call ∷ calls) = applied (apply host call).0 calls
+applied host calls = fold (λ h call. (apply h call).0) host calls
 
 -- in every sound host in which they are all done, the calls append this share of the attachment's objects
 abbrev pub AppendsShare : Att → List Call → Share → Type 0

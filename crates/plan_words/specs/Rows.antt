@@ -1,11 +1,9 @@
 -- Rows: values by place, of which a place may have none.
-use Rattle.std.specs.Prelude.{ℕ, List, [], ◌∷◌, ◌++◌, map, replicate, Option, Some, None}
+use Rattle.std.specs.Prelude.{ℕ, List, [], ◌∷◌, ◌++◌, map, filter_map, replicate, Option, Some, None}
 
 -- the values that are there, in order
 abbrev pub present : {X : Type 0} → List (Option X) → List X
-present [] = []
-present (None ∷ row) = present row
-present (Some x ∷ row) = x ∷ present row
+present row = filter_map (λ o. o) row
 
 -- so many places for each, with what it has there, or with nothing
 abbrev pub laid : {X Y : Type 0} → (X → List (Option Y)) → ℕ → List (Option X) → List (Option Y)

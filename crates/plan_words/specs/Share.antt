@@ -1,5 +1,5 @@
 -- What an attachment has in a host, and what calls add to it.
-use Rattle.std.specs.Prelude.{List, [], ◌∷◌, ◌++◌, map, filter}
+use Rattle.std.specs.Prelude.{List, [], ◌∷◌, ◌++◌, fold, map, filter}
 use Rattle.kernel_types.specs.Words.{is_own}
 use Rattle.kernel_types.specs.Apply.Calls.{set_link}
 use Rattle.kernel_types.specs.declared.object.Att.{Att}
@@ -65,5 +65,4 @@ share_after_call s (CachePut att cached) = record s { cached = s.cached ++ recor
 share_after_call s call = s
 
 abbrev pub share_after_calls : Share → List Call → Share
-share_after_calls s [] = s
-share_after_calls s (call ∷ calls) = share_after_calls (share_after_call s call) calls
+share_after_calls s calls = fold share_after_call s calls
