@@ -9,6 +9,7 @@ use Rattle.std.proofs.lemmas.List.Folds.{list_any-append}
 use Rattle.std.proofs.lemmas.List.Sums.{fold_push}
 use Rattle.std.specs.Cmp.{IsPartialEquivalence}
 use Rattle.cni_addr.specs.Lists.{push_unless_there, each_key_once}
+use Rattle.kernel_types.proofs.ListLemmas.{list_any-map, list_any-same_test}
 use Rattle.plan_words.specs.Rows.{present, laid, spread}
 
 -- ---- what is present
@@ -179,10 +180,6 @@ count-more same e row i x at =
     ∙ length-unless (list_any (same x) (each_key_once same past)) (each_key_once same past) x
     ∙ ap (λ b. if b then length (each_key_once same past) else length (each_key_once same past) + 1) (list_any-each_key_once same e x past)
 
-any-map : {X Y : Type 0} (f : X → Y) (p : X → Bool) (q : Y → Bool) → ((x : X) → q (f x) ≡ p x) → (xs : List X) → list_any q (map f xs) ≡ list_any p xs
-any-map f p q w [] = refl
-any-map f p q w (x ∷ xs) = grind (arith, w x, any-map f p q w xs)
-
 unless-map : {X Y : Type 0} (f : X → Y) (b : Bool) (kept : List X) (x : X) → (if b then map f kept else map f kept ++ f x ∷ []) ≡ map f (if b then kept else kept ++ x ∷ [])
 unless-map f true kept x = refl
 unless-map f false kept x = sym (map_push f kept x)
@@ -191,7 +188,7 @@ kept-map : {X Y : Type 0} (f : X → Y) (same : X → X → Bool) (same_made : Y
 kept-map f same same_made w kept [] = refl
 kept-map f same same_made w kept (x ∷ xs) =
     ap (λ l. fold (push_unless_there same_made) l (map f xs))
-    (ap (λ b. if b then map f kept else map f kept ++ f x ∷ []) (any-map f (same x) (same_made (f x)) (w x) kept) ∙ unless-map f (list_any (same x) kept) kept x)
+    (ap (λ b. if b then map f kept else map f kept ++ f x ∷ []) (list_any-map (same_made (f x)) f kept ∙ list_any-same_test (λ y. same_made (f x) (f y)) (same x) (w x) kept) ∙ unless-map f (list_any (same x) kept) kept x)
     ∙ kept-map f same same_made w (push_unless_there same kept x) xs
 
 -- a test of keys is the test of what they are made of
