@@ -1,5 +1,6 @@
 -- Laws of the given addresses.
-use Rattle.std.specs.Prelude.{◌≡◌, true, List, [], ◌∷◌, map}
+use Rattle.std.specs.Prelude.{◌≡◌, true, List, map}
+use Rattle.std.specs.List.{AllZip}
 use Rattle.cni_addr.specs.declared.address.Addr.{Addr}
 use Rattle.cni_addr.specs.declared.range.RangeSet.{RangeSet}
 use Rattle.ip_pool.specs.NextAddress.{is_candidate}
@@ -7,10 +8,7 @@ use Rattle.host_local.specs.Leases.{given_of}
 
 -- one address a range set, each a candidate of its own set
 abbrev pub AreCandidates : List RangeSet → List Addr → Type 0
-AreCandidates [] [] = Unit {0}
-AreCandidates [] (addr ∷ addrs) = ⊥
-AreCandidates (set ∷ sets) [] = ⊥
-AreCandidates (set ∷ sets) (addr ∷ addrs) = (is_candidate set addr ≡ true) × AreCandidates sets addrs
+AreCandidates sets addrs = AllZip (λ set addr. is_candidate set addr ≡ true) sets addrs
 
 -- of candidates none is dropped, and none is moved
 abbrev pub CandidatesAreGiven : Type 0

@@ -2,6 +2,7 @@
 use Rattle.std.proofs.Common.{◌≡◌, ℕ, ◌+◌, Bool, true, false, List, [], ◌∷◌, ◌++◌, map, length, refl, sym, ◌∙◌, ap, subst, inl, inr, append_assoc, arith}
 use Rattle.std.proofs.lemmas.Bool.{cases_Bool}
 use Rattle.std.proofs.lemmas.List.{append-nil}
+use Rattle.std.proofs.lemmas.Slice.Zip.{all_zipped_more}
 use Rattle.std.specs.Prelude.{◌&&◌}
 use Rattle.std.specs.List.{list_any}
 use Rattle.std.specs.Str.{bytes_eq}
@@ -43,14 +44,6 @@ use Rattle.pod_laws.proofs.Entries.{until_last-own, until_last-other}
 use Rattle.pod_laws.proofs.States.{IsAside, IsNoResult, aside-advance, by-start, faulted-no_result}
 use Rattle.pod_laws.proofs.Runs.{IsRunFact, StartsWith, own-state}
 use Rattle.pod_laws.proofs.Steps.{by-entries, sound-changed, sound-entered}
-
--- ---- candidates
-
-candidates-push : (sets : List RangeSet) (addrs : List Addr) (set : RangeSet) (addr : Addr) → AreCandidates sets addrs → is_candidate set addr ≡ true → AreCandidates (sets ++ set ∷ []) (addrs ++ addr ∷ [])
-candidates-push [] [] set addr h g = (g, tt)
-candidates-push [] (a ∷ more) set addr h g = absurd h
-candidates-push (s ∷ ss) [] set addr h g = absurd h
-candidates-push (s ∷ ss) (a ∷ more) set addr h g = (h.0, candidates-push ss more set addr h.1 g)
 
 -- what a run of an ADD has been leased
 abbrev pub IsOverLeased : NetList → Ending → List Addr → Type 0
@@ -112,7 +105,7 @@ run-before list c es number left r s = by-call_before (λ st. LeasedRun list c e
 run-lease : (list : NetList) (c : Command) (es : List Entry) (number : ℕ) (set : RangeSet) (left past : List RangeSet) (given : List Addr) (r : Reply) (s : Share) → sets_of list ≡ past ++ set ∷ left → AreCandidates past given
     → ((a : Addr) → r ≡ Leased a → is_candidate set a ≡ true) → LeasedRun list c es (at_lease list c number left given r) s
 run-lease list c es number set left past given (Leased a) s all h fits =
-    to-leasing list c es (past ++ set ∷ []) left (given ++ a ∷ []) s (all ∙ sym (append_assoc past (set ∷ []) left)) (candidates-push past given set a h (fits a refl))
+    to-leasing list c es (past ++ set ∷ []) left (given ++ a ∷ []) s (all ∙ sym (append_assoc past (set ∷ []) left)) (all_zipped_more (λ (s : RangeSet) (x : Addr). is_candidate s x ≡ true) past given set a h (fits a refl))
 run-lease list c es number set left past given _ s all h fits = tt
 
 run-after : (list : NetList) (c : Command) (es : List Entry) (number : ℕ) (left : List Call) (given : List Addr) (r : Reply) (s : Share) → AreCandidates (sets_of list) given → LeasedRun list c es (at_call_after number left given r) s
