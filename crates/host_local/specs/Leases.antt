@@ -1,5 +1,5 @@
 -- The leases of an attachment, and what a leased address means by its range (the `host-local` plugin).
-use Rattle.std.specs.Prelude.{ℕ, ◌+◌, List, [], ◌∷◌, find, Option, option_map, option_to_list}
+use Rattle.std.specs.Prelude.{ℕ, ◌+◌, List, find, map, scan, zip, Option, option_map, option_to_list}
 use Rattle.cni_addr.specs.declared.address.Addr.{Addr}
 use Rattle.cni_addr.specs.declared.range.Range.{Range}
 use Rattle.cni_addr.specs.declared.range.RangeSet.{RangeSet}
@@ -12,8 +12,7 @@ use Rattle.plan_words.specs.Rows.{present}
 
 -- one lease of each set, in order
 abbrev pub lease_calls_from : Att → ℕ → List RangeSet → List Call
-lease_calls_from att number [] = []
-lease_calls_from att number (set ∷ sets) = LeaseNext att number set ∷ lease_calls_from att (number + 1) sets
+lease_calls_from att number sets = scan (λ n set. n + 1) (LeaseNext att) number sets
 
 abbrev pub lease_calls_of : List RangeSet → Att → List Call
 lease_calls_of sets att = lease_calls_from att 0 sets
@@ -31,9 +30,7 @@ given_in set addr = option_to_list (given_by_set set addr)
 
 -- what is at each place, where the k-th address has a range in the k-th set
 abbrev pub given_row : List RangeSet → List Addr → List (Option Given)
-given_row [] addrs = []
-given_row (set ∷ sets) [] = []
-given_row (set ∷ sets) (addr ∷ addrs) = given_by_set set addr ∷ given_row sets addrs
+given_row sets addrs = map (λ p. given_by_set p.0 p.1) (zip sets addrs)
 
 -- the k-th address by the k-th set; one that its set doesn't hold is passed over, which no candidate is (Laws.antt)
 abbrev pub given_of : List RangeSet → List Addr → List Given
