@@ -1,33 +1,34 @@
 -- Counts of faults and of failing calls.
-use Rattle.std.proofs.Common.{◌≡◌, ℕ, zero, suc, ◌+◌, ◌-◌, ◌^◌, ◌<◌, ◌≤◌, inl, inr, List, Bool, true, false, if◌then◌else◌, nat_lt, arith, refl, ◌∙◌, add-one}
+use Rattle.std.proofs.Common.{◌≡◌, ℕ, ◌+◌, ◌-◌, ◌^◌, ◌<◌, ◌≤◌, inl, inr, List, true, false, if◌then◌else◌, nat_lt, arith, refl, ◌∙◌}
 use Rattle.std.specs.Prelude.{⊤}
+use Rattle.std.specs.List.{count_by, range_with_len}
+use Rattle.std.proofs.lemmas.List.{map-id}
+use Rattle.std.proofs.lemmas.List.FromFn.{length-range_with_len, sum_by-map-range_with_len_more}
+use Rattle.std.proofs.lemmas.List.Sums.{count_by-le-length}
 use Rattle.std.proofs.lemmas.Bool.Decides.{nat_tests}
 use Rattle.std.proofs.lemmas.Bool.{cases_Bool}
 use Rattle.cni_io.specs.Faults.{Rose, CountsFault}
-use Rattle.cni_io.specs.FailingCalls.{CallsState, failures, failures_among, is_failing, fails_next, next_call}
+use Rattle.cni_io.specs.FailingCalls.{CallsState, failures, is_failing, fails_next, next_call}
 
 -- what rose later rose from the start on
 pub Rose-from_start : (start before now : ℕ) → start ≤ before → Rose before now → Rose start now
 Rose-from_start start before now earlier (inl higher) = inl (omega arith)
 Rose-from_start start before now earlier (inr last) = inr last
 
--- one call, of which as many fail
-abbrev failure_of : Bool → ℕ
-failure_of fails = if fails then 1 else 0
-
-failure_of-le : (fails : Bool) → failure_of fails ≤ 1
-failure_of-le true = omega arith
-failure_of-le false = omega arith
+-- the failures among the first calls
+abbrev failures_among : List ℕ → ℕ → ℕ
+failures_among failing calls = count_by (is_failing failing) (range_with_len 1 calls)
 
 -- no more calls fail than there are
-pub failures_among-le : (failing : List ℕ) (calls : ℕ) → failures_among failing calls ≤ calls
-failures_among-le failing zero = omega arith
-failures_among-le failing (suc calls) =
-    omega (arith, failures_among-le failing calls, failure_of-le (is_failing failing (suc calls)))
+failures_among-le : (failing : List ℕ) (calls : ℕ) → failures_among failing calls ≤ calls
+failures_among-le failing calls =
+    omega (arith, count_by-le-length (is_failing failing) (range_with_len 1 calls), length-range_with_len 1 calls)
 
 -- one call more
-failures_among-one_more : (failing : List ℕ) (calls : ℕ) → failures_among failing (calls + 1) ≡ failures_among failing calls + failure_of (is_failing failing (calls + 1))
-failures_among-one_more failing calls = rw add-one refl
+failures_among-one_more : (failing : List ℕ) (calls : ℕ) → failures_among failing (calls + 1) ≡ failures_among failing calls + (if is_failing failing (calls + 1) then 1 else 0)
+failures_among-one_more failing calls =
+    let grown = sum_by-map-range_with_len_more (λ k. if is_failing failing k then 1 else 0) (λ k. k) 1 calls (calls + 1) (omega arith) in
+    rw (map-id (range_with_len 1 (calls + 1)), map-id (range_with_len 1 calls)) at grown
 
 -- a call that fails is one failure more, and they still fit
 pub failures-fails : (s : CallsState) → fails_next s ≡ true → (failures (next_call s) ≡ failures s + 1) × (failures s + 1 < 2 ^ 64)

@@ -1,6 +1,6 @@
 -- Calls that are numbered from 1, some of which fail.
-use Rattle.std.specs.Prelude.{ℕ, zero, suc, ◌+◌, ◌-◌, ◌^◌, ◌==◌, ◌&&◌, List, nat_lt, Bool, if◌then◌else◌}
-use Rattle.std.specs.List.{list_any}
+use Rattle.std.specs.Prelude.{ℕ, ◌+◌, ◌-◌, ◌^◌, ◌==◌, ◌&&◌, List, nat_lt, Bool, if◌then◌else◌}
+use Rattle.std.specs.List.{count_by, list_any, range_with_len}
 
 -- the numbers of the calls that fail, and how many calls were numbered
 pub record CallsState : Type 0 where
@@ -19,12 +19,6 @@ fails_next s = nat_lt s.calls (2 ^ 64 - 1) && is_failing s.failing (s.calls + 1)
 abbrev pub next_call : CallsState → CallsState
 next_call s = record s { calls = (if nat_lt s.calls (2 ^ 64 - 1) then s.calls + 1 else s.calls) }
 
--- how many of the first calls fail
-abbrev pub failures_among : List ℕ → ℕ → ℕ
-failures_among failing zero = 0
-failures_among failing (suc calls) =
-    failures_among failing calls + (if is_failing failing (suc calls) then 1 else 0)
-
 -- how many of the calls so far failed
 abbrev pub failures : CallsState → ℕ
-failures s = failures_among s.failing s.calls
+failures s = count_by (is_failing s.failing) (range_with_len 1 s.calls)
