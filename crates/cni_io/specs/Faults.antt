@@ -1,9 +1,10 @@
 -- Counts of faults, kept in a u64.
-use Rattle.std.specs.Prelude.{◌≡◌, ℕ, ◌+◌, ◌-◌, ◌^◌, ◌<◌, ◌≤◌, ◌⊎◌, min}
+use Rattle.std.specs.Prelude.{◌≡◌, ℕ, ◌+◌, ◌-◌, ◌^◌, ◌<◌, ◌≤◌, ◌⊎◌}
+use Rattle.std.specs.Io.Iter.{u64_saturate}
 
 -- a count of one more, which stays at the greatest u64
 abbrev pub counted : ℕ → ℕ
-counted faults = min (faults + 1) (2 ^ 64 - 1)
+counted faults = u64_saturate (faults + 1)
 
 -- in a call the count rose: it is higher at the end than at the start, or is the greatest u64
 abbrev pub Rose : ℕ → ℕ → Type 0
