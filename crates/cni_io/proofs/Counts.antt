@@ -1,5 +1,5 @@
 -- Counts of faults and of failing calls.
-use Rattle.std.proofs.Common.{◌≡◌, ℕ, ◌+◌, ◌-◌, ◌^◌, ◌<◌, ◌≤◌, inl, inr, List, true, false, if◌then◌else◌, nat_lt, arith, refl, ◌∙◌}
+use Rattle.std.proofs.Common.{◌≡◌, ℕ, ◌+◌, ◌^◌, ◌<◌, ◌≤◌, inl, inr, List, true, false, if◌then◌else◌, arith, refl, ◌∙◌}
 use Rattle.std.specs.Prelude.{⊤}
 use Rattle.std.specs.List.{count_by, range_with_len}
 use Rattle.std.proofs.lemmas.List.{map-id}
@@ -8,7 +8,7 @@ use Rattle.std.proofs.lemmas.List.Sums.{count_by-le-length}
 use Rattle.std.proofs.lemmas.Bool.Decides.{nat_tests}
 use Rattle.std.proofs.lemmas.Bool.{cases_Bool}
 use Rattle.cni_io.specs.Faults.{Rose, CountsFault}
-use Rattle.cni_io.specs.FailingCalls.{CallsState, failures, is_failing, fails_next, next_call}
+use Rattle.cni_io.specs.FailingCalls.{CallsState, failures, is_failing, is_numbered, fails_next, next_call}
 
 -- what rose later rose from the start on
 pub Rose-from_start : (start before now : ℕ) → start ≤ before → Rose before now → Rose start now
@@ -33,7 +33,7 @@ failures_among-one_more failing calls =
 -- a call that fails is one failure more, and they still fit
 pub failures-fails : (s : CallsState) → fails_next s ≡ true → (failures (next_call s) ≡ failures s + 1) × (failures s + 1 < 2 ^ 64)
 failures-fails s fails =
-    elim (cases_Bool (nat_lt s.calls (2 ^ 64 - 1))) [
+    elim (cases_Bool (is_numbered s)) [
       | inl numbered ↦
           let failing : is_failing s.failing (s.calls + 1) ≡ true = rw numbered at fails in
           (rw numbered (failures_among-one_more s.failing s.calls ∙ rw failing refl), grind (arith, nat_tests, failures_among-le s.failing s.calls))
@@ -43,7 +43,7 @@ failures-fails s fails =
 -- a call that does not fail is none
 pub failures-passes : (s : CallsState) → fails_next s ≡ false → failures (next_call s) ≡ failures s
 failures-passes s passes =
-    elim (cases_Bool (nat_lt s.calls (2 ^ 64 - 1))) [
+    elim (cases_Bool (is_numbered s)) [
       | inl numbered ↦
           let passing : is_failing s.failing (s.calls + 1) ≡ false = rw numbered at passes in
           rw numbered (failures_among-one_more s.failing s.calls ∙ rw passing (omega arith))

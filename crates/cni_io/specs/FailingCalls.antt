@@ -11,13 +11,17 @@ pub record CallsState : Type 0 where
 abbrev pub is_failing : List ℕ → ℕ → Bool
 is_failing failing number = list_any (λ k. k == number) failing
 
--- the next call has a number, since numbers end at the greatest u64, and fails
+-- the next call has a number, since numbers end at the greatest u64
+abbrev pub is_numbered : CallsState → Bool
+is_numbered s = nat_lt s.calls (2 ^ 64 - 1)
+
+-- the next call has a number, and fails
 abbrev pub fails_next : CallsState → Bool
-fails_next s = nat_lt s.calls (2 ^ 64 - 1) && is_failing s.failing (s.calls + 1)
+fails_next s = is_numbered s && is_failing s.failing (s.calls + 1)
 
 -- the next call takes its number, if there is one
 abbrev pub next_call : CallsState → CallsState
-next_call s = record s { calls = (if nat_lt s.calls (2 ^ 64 - 1) then s.calls + 1 else s.calls) }
+next_call s = record s { calls = (if is_numbered s then s.calls + 1 else s.calls) }
 
 -- how many of the calls so far failed
 abbrev pub failures : CallsState → ℕ
