@@ -11,16 +11,5 @@ returns-clause-ok c =
     let named : has_named_ns c.args.self.now c.args.link.now.ns ≡ true = search rules in
     let over : has_master c.args.self.now c.args.link.now.master ≡ true = search rules in
     let stands : c.in_ok-taken.taken ≡ option_map (λ x. x.tag) (link_at c.args.self.now c.args.link.now.ns c.args.link.now.name) = search rules in
-    rw (named, over, ← stands, ← c.self.view_is)
-    (step (λ l. record {
-      namespaces = c.self.inside.namespaces.items;
-      links = l;
-      addresses = c.self.inside.addresses.items;
-      routes = c.self.inside.routes.items;
-      rules = c.self.inside.rules.items;
-      settings = c.self.inside.settings.items;
-      leases = c.self.inside.leases.items;
-      cached = c.self.inside.cached.items;
-      lasts = c.self.inside.lasts.items;
-    })))
+    rw (named, over, ← stands, ← c.self.view_is) (rw (← c.self.view_is) at (step (λ l. record c.args.self.now { links = l }))))
     c.append_unless_taken.ensures.ok

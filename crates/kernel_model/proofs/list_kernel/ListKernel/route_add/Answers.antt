@@ -10,16 +10,5 @@ returns-clause-ok c =
     IfOk-weaker c.append_unless_taken.result _ _ (λ reply step.
     let there : has_link_of c.args.self.now c.args.obj.now.ns c.args.obj.now.link c.args.obj.now.tag ≡ true = search rules in
     let stands : c.in_ok-taken.taken ≡ option_map (λ x. x.tag) (find (is_same_route c.args.obj.now) c.args.self.now.routes) = search rules in
-    rw (there, ← stands, ← c.self.view_is)
-    (step (λ l. record {
-      namespaces = c.self.inside.namespaces.items;
-      links = c.self.inside.links.items;
-      addresses = c.self.inside.addresses.items;
-      routes = l;
-      rules = c.self.inside.rules.items;
-      settings = c.self.inside.settings.items;
-      leases = c.self.inside.leases.items;
-      cached = c.self.inside.cached.items;
-      lasts = c.self.inside.lasts.items;
-    })))
+    rw (there, ← stands, ← c.self.view_is) (rw (← c.self.view_is) at (step (λ l. record c.args.self.now { routes = l }))))
     c.append_unless_taken.ensures.ok
