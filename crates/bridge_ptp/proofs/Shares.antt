@@ -18,13 +18,10 @@ use Rattle.plan_words.specs.Share.{Share, share_after_call, share_after_calls}
 use Rattle.plan_words.proofs.Appends.{AreOwnCalls, own-calls, own-append, own-if, own-each, own-address_calls, own-route_calls, own-rule_calls, own-forward_calls, own-addresses, own-routes, own-masquerades, share-laid_on, appends-share}
 use Rattle.plan_words.proofs.CallLists.{share_after_calls-append, share_after_calls-forward, share_after_calls-if, share_after_calls-rules, share_plus-links, share_plus-laid_on}
 use Rattle.plan_words.proofs.KeyLists.{list_all-append, list_all-every, list_all-map, list_all-flat, list_all-each_key_once}
-use Rattle.host_local.specs.Conf.{routes_of}
-use Rattle.host_local.specs.Results.{ip_of}
-use Rattle.bridge_ptp.specs.Bridge.{bridge_share_before, bridge_share_after, gateway_calls, bridge_calls_before, bridge_calls_after}
+use Rattle.bridge_ptp.specs.Bridge.{bridge_entries, bridge_share_before, bridge_share_after, gateway_calls, bridge_calls_before, bridge_calls_after}
 use Rattle.bridge_ptp.specs.declared.bridge.Gateway.{Gateway}
 use Rattle.bridge_ptp.specs.Gateways.{gateway_call, gateway_of, gateways_on, is_same_gateway}
 use Rattle.bridge_ptp.specs.Ptp.{AddressOrRoute, Address, Route, same_key, address_in, route_in, call_for, ptp_objects_for, ptp_objects, ptp_share_before, ptp_share_after, ptp_calls_before, ptp_calls_after}
-use Rattle.bridge_ptp.specs.Results.{bridge_routes}
 
 -- ---- bridge
 
@@ -41,7 +38,7 @@ own-gateway_calls att conf given = own-if conf.is_gateway (own-append (own-each 
 
 pub own-bridge_after : (conf : BridgeConf) (att : Att) (netns : List ℕ) (given : List Given) → AreOwnCalls att (bridge_calls_after conf att netns given)
 own-bridge_after conf att netns given =
-    let entries = bridge_routes conf.is_default_gateway (routes_of conf.ipam) (map ip_of given) in
+    let entries = bridge_entries conf given in
     own-append (own-address_calls att _ (own-addresses att netns given))
     (own-append (own-route_calls att _ (own-routes att netns given entries))
     (own-append (own-gateway_calls att conf given) (own-rule_calls att _ (own-masquerades conf.ip_masq att given))))
@@ -69,7 +66,7 @@ pub share-bridge_after : (conf : BridgeConf) (att : Att) (netns : List ℕ) (giv
     → let t = bridge_share_after conf att netns given in
     share_after_calls s (bridge_calls_after conf att netns given) ≡ record s { addresses = s.addresses ++ t.addresses; routes = s.routes ++ t.routes; rules = s.rules ++ t.rules }
 share-bridge_after conf att netns given s =
-    share-laid_on s (addresses_on att netns given) (routes_on att netns given (bridge_routes conf.is_default_gateway (routes_of conf.ipam) (map ip_of given)))
+    share-laid_on s (addresses_on att netns given) (routes_on att netns given (bridge_entries conf given))
     (gateway_calls conf given) (masquerade_rules conf.ip_masq att given) (share-gateways conf given)
 
 pub bridge-appends_after : (conf : BridgeConf) (att : Att) (netns : List ℕ) (given : List Given) → AppendsShare att (bridge_calls_after conf att netns given) (bridge_share_after conf att netns given)

@@ -1,6 +1,7 @@
 -- The plan of the `bridge` plugin: the container's end of a veth pair, whose other end has a bridge of the host as
 -- master.
 use Rattle.std.specs.Prelude.{ℕ, Bool, List, [], ◌∷◌, ◌++◌, map, Option, Some, None, if◌then◌else◌}
+use Rattle.cni_result.specs.declared.result.RouteEntry.{RouteEntry}
 use Rattle.net_conf.specs.declared.first.BridgeConf.{BridgeConf}
 use Rattle.net_conf.specs.declared.first.HostLocalConf.{HostLocalConf}
 use Rattle.kernel_types.specs.declared.object.Att.{Att}
@@ -17,6 +18,12 @@ use Rattle.bridge_ptp.specs.Gateways.{gateway_call, gateways_on}
 use Rattle.bridge_ptp.specs.Results.{bridge_routes}
 use Rattle.bridge_ptp.specs.Veth.{veth_share, veth_pair}
 
+-- ---- the routes
+
+-- those of the result, by which the container's end has its own
+abbrev pub bridge_entries : BridgeConf → List Given → List RouteEntry
+bridge_entries conf given = bridge_routes conf.is_default_gateway (routes_of conf.ipam) (map ip_of given)
+
 -- ---- the share
 
 abbrev pub bridge_share_before : BridgeConf → Att → List ℕ → Share
@@ -25,7 +32,7 @@ bridge_share_before conf att netns = veth_share att netns (Some conf.bridge) con
 abbrev pub bridge_share_after : BridgeConf → Att → List ℕ → List Given → Share
 bridge_share_after conf att netns given = record no_objects {
   addresses = addresses_on att netns given;
-  routes = routes_on att netns given (bridge_routes conf.is_default_gateway (routes_of conf.ipam) (map ip_of given));
+  routes = routes_on att netns given (bridge_entries conf given);
   rules = masquerade_rules conf.ip_masq att given;
 }
 
@@ -41,7 +48,7 @@ bridge_calls_before conf att netns =
 abbrev pub bridge_calls_after : BridgeConf → Att → List ℕ → List Given → List Call
 bridge_calls_after conf att netns given =
     map AddrAdd (addresses_on att netns given)
-    ++ (map RouteAdd (routes_on att netns given (bridge_routes conf.is_default_gateway (routes_of conf.ipam) (map ip_of given))) ++ (gateway_calls conf given ++ map RuleAppend (masquerade_rules conf.ip_masq att given)))
+    ++ (map RouteAdd (routes_on att netns given (bridge_entries conf given)) ++ (gateway_calls conf given ++ map RuleAppend (masquerade_rules conf.ip_masq att given)))
 
 -- ---- the kinds of objects that DEL takes back
 

@@ -129,6 +129,23 @@ fn result_routes(
     Ok(entries)
 }
 
+/// The routes of the result for these addresses.
+fn entries_for(
+    alloc: Global,
+    conf: &BridgeConf,
+    given: &[Given],
+) -> Result<Items<RouteEntry>, NoMemory>
+    ensures { IfOk result (λ entries. entries ≡ plan.bridge_entries conf.now given.now) }
+{
+    let ips = ips_of(alloc, given)?;
+    result_routes(
+        alloc,
+        conf.is_default_gateway,
+        routes_of(&conf.ipam),
+        ips.as_slice(),
+    )
+}
+
 // ---- gateways
 
 /// A gateway, and the bridge that has it as an address.
@@ -217,9 +234,7 @@ pub fn bridge_after(
 ) -> Result<Items<Call>, NoMemory>
     ensures { IfOk result (λ calls. calls ≡ plan.bridge_calls_after conf.now att.now netns.now given.now) }
 {
-    let configured = routes_of(&conf.ipam);
-    let ips = ips_of(alloc, given)?;
-    let entries = result_routes(alloc, conf.is_default_gateway, configured, ips.as_slice())?;
+    let entries = entries_for(alloc, conf, given)?;
     let addresses = addresses_on(alloc, att, netns, given)?;
     let routes = routes_on(alloc, att, netns, given, entries.as_slice())?;
     let rules = masquerade_rules(alloc, conf.ip_masq, att, given)?;

@@ -6,6 +6,7 @@ ghost use Rattle.kernel_types.specs.declared.call.Given.{Given};
 ghost use Rattle.plan_words.specs.Families.{first_of_family};
 ghost use Rattle.plan_words.specs.Rows.{present};
 ghost use Rattle.plan_words.specs.Shapes as shapes;
+ghost use Rattle.host_local.specs.Conf.{routes_of};
 ghost use Rattle.host_local.specs.Results.{ip_of};
 ghost use Rattle.bridge_ptp.specs.Bridge as plan;
 ghost use Rattle.bridge_ptp.specs.Gateways as gateways;
@@ -69,17 +70,14 @@ impl<'a> Row<Cidr> for RouteKeys<'a> {
     }
 }
 
-fn count_routes<G: GivenRow>(
-    is_default_gateway: bool,
-    configured: &[RouteEntry],
-    given: &G,
-) -> usize
+fn count_routes<G: GivenRow>(conf: &BridgeConf, given: &G) -> usize
     ensures count { (att : Att) (netns : List ℕ) (all : List Given)
-        → result ≡ length (shapes.routes_on att netns all (results.bridge_routes is_default_gateway configured.now (map ip_of (present (G.values given.now))))) }
-    ensures most { result ≤ length configured.now + 2 }
+        → result ≡ length (shapes.routes_on att netns all (plan.bridge_entries conf.now (present (G.values given.now)))) }
+    ensures most { result ≤ length (routes_of conf.now.ipam) + 2 }
 {
-    let v4 = default_of_family(is_default_gateway, configured, Family::V4, given);
-    let v6 = default_of_family(is_default_gateway, configured, Family::V6, given);
+    let configured = routes_of(&conf.ipam);
+    let v4 = default_of_family(conf.is_default_gateway, configured, Family::V4, given);
+    let v6 = default_of_family(conf.is_default_gateway, configured, Family::V6, given);
     count_keys(&RouteKeys { configured, v4, v6 })
 }
 
@@ -129,21 +127,18 @@ fn count_gateway_calls<G: GivenRow + Copy>(conf: &BridgeConf, given: G) -> usize
 
 // ---- all
 
-fn count_of_objects<G: GivenRow + Copy>(
-    conf: &BridgeConf,
-    configured: &[RouteEntry],
-    given: G,
-) -> usize
+fn count_of_objects<G: GivenRow + Copy>(conf: &BridgeConf, given: G) -> usize
     ensures count { (att : Att) (netns : List ℕ) (all : List Given)
         → result ≡ length (shapes.addresses_on att netns (present (G.values given)))
-        + length (shapes.routes_on att netns all (results.bridge_routes conf.now.is_default_gateway configured.now (map ip_of (present (G.values given)))))
+        + length (shapes.routes_on att netns all (plan.bridge_entries conf.now (present (G.values given))))
         + length (shapes.masquerade_rules conf.now.ip_masq att (present (G.values given))) }
-    ensures most { result ≤ 3 * length (G.values given) + length configured.now + 2 }
+    ensures most { result ≤ 3 * length (G.values given) + length (routes_of conf.now.ipam) + 2 }
 {
     let _places = given.places();
+    let configured = routes_of(&conf.ipam);
     let _few = 16 * configured.len();
     let addresses = count_addresses(given);
-    let routes = count_routes(conf.is_default_gateway, configured, &given);
+    let routes = count_routes(conf, &given);
     let rules = count_masquerade_rules(conf.ip_masq, given);
     addresses + routes + rules
 }
@@ -154,7 +149,7 @@ pub fn bridge_object_count<G: GivenRow + Copy>(conf: &BridgeConf, given: G) -> u
     ensures { (att : Att) (netns : List ℕ) → let share = plan.bridge_share_after conf.now att netns (present (G.values given)) in
         length share.addresses + length share.routes + length share.rules ≡ result }
 {
-    count_of_objects(conf, routes_of(&conf.ipam), given)
+    count_of_objects(conf, given)
 }
 
 /// How many calls `bridge` makes after the leases, for any attachment that is given these addresses: what comes twice
@@ -165,6 +160,6 @@ pub fn bridge_after_count<G: GivenRow + Copy>(conf: &BridgeConf, given: G) -> us
     let configured = routes_of(&conf.ipam);
     let _places = given.places();
     let _few = 16 * configured.len();
-    let objects = count_of_objects(conf, configured, given);
+    let objects = count_of_objects(conf, given);
     objects + count_gateway_calls(conf, given)
 }

@@ -3,10 +3,7 @@ use Rattle.std.proofs.lemmas.List.{length-append, length-map}
 use Rattle.kernel_types.specs.declared.call.Call.TheVariants.{AddrAdd, RouteAdd, RuleAppend}
 use Rattle.plan_words.specs.Rows.{present}
 use Rattle.plan_words.specs.Shapes.{addresses_on, routes_on, masquerade_rules}
-use Rattle.host_local.specs.Conf.{routes_of}
-use Rattle.host_local.specs.Results.{ip_of}
-use Rattle.bridge_ptp.specs.Bridge.{gateway_calls}
-use Rattle.bridge_ptp.specs.Results.{bridge_routes}
+use Rattle.bridge_ptp.specs.Bridge.{bridge_entries, gateway_calls}
 use Rattle.bridge_ptp.proofs.bridge_counts.bridge_after_count.Goals as goal
 
 pub returns : goal.returns
@@ -14,10 +11,10 @@ returns g c = λ att netns.
     let all = present (g.G.GivenRow.values c.args.given) in
     let conf = c.args.conf.now in
     let addresses = addresses_on att netns all in
-    let routes = routes_on att netns all (bridge_routes conf.is_default_gateway (routes_of conf.ipam) (map ip_of all)) in
+    let routes = routes_on att netns all (bridge_entries conf all) in
     let gateways = gateway_calls conf all in
     let rules = masquerade_rules conf.ip_masq att all in
-    let objects : c.count_of_objects-objects.result ≡ length addresses + length routes + length rules = rw c.routes_of-configured.ensures at (c.count_of_objects-objects.ensures.count att netns all) in
+    let objects : c.count_of_objects-objects.result ≡ length addresses + length routes + length rules = c.count_of_objects-objects.ensures.count att netns all in
     length-append (map AddrAdd addresses) (map RouteAdd routes ++ (gateways ++ map RuleAppend rules))
     ∙ omega (
       arith,
