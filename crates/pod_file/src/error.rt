@@ -48,10 +48,7 @@ fn shape(path: Result<Text, NoMemory>) -> PodError
     ensures made { IfOk path (λ text. result ≡ refusal.Shape text) }
     ensures not_made { IfErr path (λ _. result ≡ refusal.NoMemory) }
 {
-    match path {
-        Ok(path) => PodError::Shape { path },
-        Err(NoMemory) => PodError::NoMemory,
-    }
+    path.map_or_else(PodError::from, |path| PodError::Shape { path })
 }
 
 /// The refusal of the value at this place.
