@@ -23,7 +23,7 @@ use Rattle.kernel_types.specs.declared.object.LinkKind.TheVariants.{Device, Brid
 use Rattle.kernel_types.specs.declared.object.Tag.TheVariants.{Outside}
 use Rattle.cni_json.proofs.Endings.{goes, ok_same, passed, not_refused, each_after_keeps}
 use Rattle.pod_file.specs.Links.{name_at, kind_of, kind_at, is_place, ns_of, ns_at, mtu_at, outside_link, not_taken, link_at, next_link, links_of, links_at, wrong_link}
-use Rattle.pod_file.specs.Opening.{namespace_at, next_namespace, namespaces_of, namespaces_at, opening_members_at, opening_of, opening_at}
+use Rattle.pod_file.specs.Opening.{namespace_at, next_namespace, namespaces_of, namespaces_at, opening_members_at, opening_or_empty, opening_at}
 use Rattle.pod_file.specs.WellFormed.{IsOpening}
 use Rattle.pod_file.specs.declared.error.PodError.{PodError}
 
@@ -180,11 +180,11 @@ opening_members_at-ok d host is =
     let links = goes (links_at names.value d) _ host names.rest in
     subst IsOpening (ok_same links.rest) (opening_with-ok names.value links.value (namespaces_at-ok d names.value names.first) (links_at-ok names.value d links.value links.first))
 
-opening_of-ok : (f : Field Data) (host : Host) → opening_of f ≡ Ok host → IsOpening host
-opening_of-ok Absent host is = subst IsOpening (ok_same is) (opening_with-ok [] [] no_host (no_links []))
-opening_of-ok WrongKind host is = cc
-opening_of-ok (Here d) host is = opening_members_at-ok d host is
+opening_or_empty-ok : (f : Field Data) (host : Host) → opening_or_empty f ≡ Ok host → IsOpening host
+opening_or_empty-ok Absent host is = subst IsOpening (ok_same is) (opening_with-ok [] [] no_host (no_links []))
+opening_or_empty-ok WrongKind host is = cc
+opening_or_empty-ok (Here d) host is = opening_members_at-ok d host is
 
 pub opening_at-ok : (d : Data) (host : Host) → opening_at d ≡ Ok host → IsOpening host
 unfolding opening_at
-opening_at-ok d host is = opening_of-ok (object_field (codes "opening") d) host is
+opening_at-ok d host is = opening_or_empty-ok (object_field (codes "opening") d) host is

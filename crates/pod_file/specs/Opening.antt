@@ -42,9 +42,10 @@ opening_members_at d = do
   links ← links_at names d
   Ok (opening_with names links)
 
-abbrev pub opening_of : Field Data → Result Host PodError
-opening_of f = member_or (Ok (opening_with [] [])) (wrong (codes "opening")) opening_members_at f
+-- an empty host where there is no opening
+abbrev pub opening_or_empty : Field Data → Result Host PodError
+opening_or_empty f = member_or (Ok (opening_with [] [])) (wrong (codes "opening")) opening_members_at f
 
 -- the opening; the host is empty where there is none
 unfoldable pub opening_at : Data → Result Host PodError
-opening_at d = opening_of (object_field (codes "opening") d)
+opening_at d = opening_or_empty (object_field (codes "opening") d)
