@@ -1,6 +1,6 @@
 -- What the rounds of a pod file keep that are read.
-use Rattle.std.proofs.Common.{◌≡◌, ℕ, zero, suc, ◌+◌, ◌≤◌, Bool, true, false, not, List, [], ◌∷◌, ◌++◌, length, codes, Option, Some, None, Ok, Err, refl, ap, ap₂, ◌∙◌, subst, arith}
-use Rattle.std.specs.Prelude.{◌||◌, if◌then◌else◌, nat_le, is_some, All, slice_get}
+use Rattle.std.proofs.Common.{◌≡◌, ℕ, zero, suc, ◌+◌, ◌≤◌, Bool, true, false, not, List, [], ◌∷◌, ◌++◌, length, codes, Option, Some, None, Ok, Err, refl, sym, ap, ap₂, ◌∙◌, subst, arith}
+use Rattle.std.specs.Prelude.{◌||◌, if◌then◌else◌, nat_le, is_some, All, scan, slice_get}
 use Rattle.std.specs.List.{list_any}
 use Rattle.std.proofs.lemmas.Bool.Decides.{nat_tests}
 use Rattle.std.proofs.lemmas.List.{length-append}
@@ -18,8 +18,8 @@ use Rattle.cni_json.proofs.WholeNumbers.{u32_of-fits}
 use Rattle.pod_file.specs.Commands.{verb_at, needs_table, texts_at, table_or_wrong, table_of, table_at, stop_of, stop_at, is_call_number, fault_of, fault_at, faults_at, command_at}
 use Rattle.pod_file.specs.Members.{list_at, mappings_at, valid_at}
 use Rattle.pod_file.specs.Refusals.{wrong, wrong_key, command_path}
-use Rattle.pod_file.specs.Rounds.{command_in, round_at, rounds_of, rounds_at, command_count, is_exclusive, is_alone, each_alone, numbered, round_numbered, all_numbered}
-use Rattle.pod_file.specs.WellFormed.{IsCallNumber, IsWellFormedCommand, IsWellFormedRound, in_file_order}
+use Rattle.pod_file.specs.Rounds.{command_in, round_at, rounds_of, rounds_at, in_file_order, is_exclusive, is_alone, each_alone, numbered, round_numbered, all_numbered}
+use Rattle.pod_file.specs.WellFormed.{IsCallNumber, IsWellFormedCommand, IsWellFormedRound}
 use Rattle.pod_file.specs.declared.command.Command.{Command}
 use Rattle.pod_file.specs.declared.command.Verb.{Verb}
 use Rattle.pod_file.specs.declared.error.PodError.{PodError}
@@ -119,9 +119,12 @@ rounds_at-ok d rounds is = rounds_of-ok (list_field (codes "rounds") d) rounds i
 
 -- ---- numbers change nothing else
 
+pub length-scan : {S X Y : Type 0} (next : S → X → S) (out : S → X → Y) (s : S) (xs : List X) → length (scan next out s xs) ≡ length xs
+length-scan next out s [] = refl
+length-scan next out s (x ∷ xs) = ap suc (length-scan next out (next s x) xs)
+
 length-round_numbered : (first : ℕ) (commands : List Command) → length (round_numbered first commands) ≡ length commands
-length-round_numbered first [] = refl
-length-round_numbered first (c ∷ cs) = ap suc (length-round_numbered (first + 1) cs)
+length-round_numbered first commands = length-scan (λ (n : ℕ) (c : Command). n + 1) numbered first commands
 
 exclusive-round_numbered : (first : ℕ) (commands : List Command) → list_any is_exclusive (round_numbered first commands) ≡ list_any is_exclusive commands
 exclusive-round_numbered first [] = refl
@@ -162,14 +165,14 @@ all_numbered-ok first place (r ∷ rs) good alone =
     (all_numbered-ok (first + length r) (place + 1) rs (All-tail AreCommands r rs good) here.1)
 
 pub length-all_numbered : (first : ℕ) (rounds : List (List Command)) → length (all_numbered first rounds) ≡ length rounds
-length-all_numbered first [] = refl
-length-all_numbered first (r ∷ rs) = ap suc (length-all_numbered (first + length r) rs)
+length-all_numbered first rounds = length-scan (λ (n : ℕ) (commands : List Command). n + length commands) round_numbered first rounds
 
-pub count-all_numbered : (first : ℕ) (rounds : List (List Command)) → length (in_file_order (all_numbered first rounds)) ≡ command_count rounds
+pub count-all_numbered : (first : ℕ) (rounds : List (List Command)) → length (in_file_order (all_numbered first rounds)) ≡ length (in_file_order rounds)
 count-all_numbered first [] = refl
 count-all_numbered first (r ∷ rs) =
-    let more = count-all_numbered (first + length r) rs in
-    omega (arith, length-append (round_numbered first r) (in_file_order (all_numbered (first + length r) rs)), length-round_numbered first r, more)
+    length-append (round_numbered first r) (in_file_order (all_numbered (first + length r) rs))
+    ∙ ap₂ (λ m n. m + n) (length-round_numbered first r) (count-all_numbered (first + length r) rs)
+    ∙ sym (length-append r (in_file_order rs))
 
 -- ---- each command has its number
 

@@ -12,20 +12,20 @@ use Rattle.pod_file.proofs.OpeningFacts.{opening_at-ok}
 use Rattle.pod_file.specs.Opening.{opening_at}
 use Rattle.pod_file.specs.PodFile.{read_or_refused, pods_at, pods_of}
 use Rattle.pod_file.specs.Refusals.{wrong}
-use Rattle.pod_file.specs.Rounds.{rounds_at, command_count, file_limit, are_few, few, each_alone}
+use Rattle.pod_file.specs.Rounds.{rounds_at, in_file_order, file_limit, are_few, few, each_alone}
 use Rattle.pod_file.specs.WellFormed.{IsWellFormedPods}
 use Rattle.pod_file.specs.declared.command.Command.{Command}
 use Rattle.pod_file.specs.declared.pods.Pods.{Pods}
 
 record HasFew (rounds : List (List Command)) : Type 0 where
   few_rounds : length rounds ≤ file_limit
-  few_commands : command_count rounds ≤ file_limit
+  few_commands : length (in_file_order rounds) ≤ file_limit
 
 few-ok : (rounds : List (List Command)) (t : ⊤) → few rounds ≡ Ok t → HasFew rounds
 unfolding are_few
 few-ok rounds t is =
-    let test = passed (nat_le (length rounds) file_limit && nat_le (command_count rounds) file_limit) tt t _ is in
-    let both = and_parts (nat_le (length rounds) file_limit) (nat_le (command_count rounds) file_limit) test.0 in
+    let test = passed (nat_le (length rounds) file_limit && nat_le (length (in_file_order rounds)) file_limit) tt t _ is in
+    let both = and_parts (nat_le (length rounds) file_limit) (nat_le (length (in_file_order rounds)) file_limit) test.0 in
     record { few_rounds = grind (arith, nat_tests, both.0); few_commands = grind (arith, nat_tests, both.1) }
 
 pods_at-ok : (d : Data) (pods : Pods) → pods_at d ≡ Ok pods → IsWellFormedPods pods

@@ -1,5 +1,5 @@
 -- The rounds of a pod file: how many there may be, which commands stand alone, and how commands are numbered.
-use Rattle.std.specs.Prelude.{ℕ, ◌+◌, ◌&&◌, ◌||◌, List, [], ◌∷◌, length, codes, Bool, true, false, not, nat_le, if◌then◌else◌, Result, Ok, Err, ⊤}
+use Rattle.std.specs.Prelude.{ℕ, ◌+◌, ◌&&◌, ◌||◌, List, [], ◌∷◌, flat_map, scan, length, codes, Bool, true, false, not, nat_le, if◌then◌else◌, Result, Ok, Err, ⊤}
 use Rattle.std.specs.List.{list_any}
 use Rattle.serde_json.specs.Data.{Data, array, Items}
 use Rattle.cni_json.specs.Fields.{list_field, needed}
@@ -31,10 +31,9 @@ rounds_at d = rounds_of (list_field (codes "rounds") d)
 
 -- ---- limits
 
--- how many commands there are in all
-abbrev pub command_count : List (List Command) → ℕ
-command_count [] = 0
-command_count (commands ∷ rounds) = length commands + command_count rounds
+-- the commands of all rounds, in file order
+abbrev pub in_file_order : List (List Command) → List Command
+in_file_order rounds = flat_map (λ commands. commands) rounds
 
 -- the most rounds that a file may have, and the most commands
 abbrev pub file_limit : ℕ
@@ -42,7 +41,7 @@ file_limit = 65536
 
 -- neither the rounds nor the commands are too many
 unfoldable pub are_few : List (List Command) → Bool
-are_few rounds = nat_le (length rounds) file_limit && nat_le (command_count rounds) file_limit
+are_few rounds = nat_le (length rounds) file_limit && nat_le (length (in_file_order rounds)) file_limit
 
 abbrev pub few : List (List Command) → Result ⊤ PodError
 few rounds = if are_few rounds then Ok tt else wrong (codes "rounds")
@@ -76,10 +75,8 @@ numbered first command = record command { number = first }
 
 -- the commands of a round, numbered from the given number
 abbrev pub round_numbered : ℕ → List Command → List Command
-round_numbered first [] = []
-round_numbered first (command ∷ commands) = numbered first command ∷ round_numbered (first + 1) commands
+round_numbered first commands = scan (λ number command. number + 1) numbered first commands
 
 -- the commands of all rounds, numbered from the given number in file order
 abbrev pub all_numbered : ℕ → List (List Command) → List (List Command)
-all_numbered first [] = []
-all_numbered first (commands ∷ rounds) = round_numbered first commands ∷ all_numbered (first + length commands) rounds
+all_numbered first rounds = scan (λ number commands. number + length commands) round_numbered first rounds

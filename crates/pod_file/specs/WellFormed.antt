@@ -1,12 +1,12 @@
 -- What every pod file that is read keeps.
-use Rattle.std.specs.Prelude.{◌≡◌, ℕ, ◌+◌, ◌≤◌, List, [], ◌∷◌, ◌++◌, length, IsTrue, All, Some, is_some, slice_get}
+use Rattle.std.specs.Prelude.{◌≡◌, ℕ, ◌+◌, ◌≤◌, List, [], length, IsTrue, All, Some, is_some, slice_get}
 use Rattle.cni_json.specs.Fields.{has_32_bits}
 use Rattle.kernel_types.specs.Equal.{tag_eq}
 use Rattle.kernel_types.specs.Sound.{AllPassTest, IsSound}
 use Rattle.kernel_types.specs.declared.object.Host.{Host}
 use Rattle.kernel_types.specs.declared.object.Tag.TheVariants.{Outside}
 use Rattle.pod_file.specs.Commands.{is_call_number, needs_table}
-use Rattle.pod_file.specs.Rounds.{file_limit, is_alone}
+use Rattle.pod_file.specs.Rounds.{in_file_order, file_limit, is_alone}
 use Rattle.pod_file.specs.declared.command.Command.{Command}
 use Rattle.pod_file.specs.declared.pods.Pods.{Pods}
 
@@ -37,11 +37,6 @@ pub record IsWellFormedCommand (command : Command) : Type 0 where
 pub record IsWellFormedRound (commands : List Command) : Type 0 where
   pub each : All IsWellFormedCommand commands
   pub alone : IsTrue (is_alone commands)
-
--- the commands of all rounds, in file order
-abbrev pub in_file_order : List (List Command) → List Command
-in_file_order [] = []
-in_file_order (commands ∷ rounds) = commands ++ in_file_order rounds
 
 -- ---- the file
 

@@ -65,8 +65,9 @@ pub fn are_few(rounds: &[Items<Command>]) -> bool
     rounds.len() <= LIMIT && have_few_commands(rounds)
 }
 
+#[tactic(auto, using(crate::proofs::Numbering::counts))]
 fn have_few_commands(rounds: &[Items<Command>]) -> bool
-    ensures { result ≡ nat_le (wanted.command_count rounds.now) wanted.file_limit }
+    ensures { result ≡ nat_le (length (wanted.in_file_order rounds.now)) wanted.file_limit }
 {
     let mut left = LIMIT;
     for commands in rounds {

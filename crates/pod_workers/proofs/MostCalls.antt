@@ -1,5 +1,5 @@
 -- An ADD makes no more calls than its list has room for, whatever addresses it is leased.
-use Rattle.std.proofs.Common.{◌≡◌, ℕ, suc, ◌+◌, ◌*◌, ◌≤◌, Bool, true, false, List, [], ◌∷◌, ◌++◌, map, length, Option, Some, None, refl, ◌∙◌, ap, arith, mul-suc}
+use Rattle.std.proofs.Common.{◌≡◌, ℕ, ◌+◌, ◌*◌, ◌≤◌, Bool, true, false, List, [], ◌∷◌, ◌++◌, map, length, Option, Some, None, ◌∙◌, ap, arith, mul-suc}
 use Rattle.std.specs.Prelude.{find, flat_map, sum_by, option_to_list, if◌then◌else◌}
 use Rattle.std.specs.Option.{option_map}
 use Rattle.std.proofs.lemmas.List.{length-append, length-map}
@@ -29,13 +29,14 @@ use Rattle.ip_pool.specs.NextAddress.{is_between}
 use Rattle.kernel_types.specs.Apply.Calls.{is_same_addr, is_same_route, is_same_setting}
 use Rattle.kernel_types.specs.Equal.{rule_eq}
 use Rattle.kernel_types.specs.declared.object.Att.{Att}
-use Rattle.kernel_types.specs.declared.call.Call.TheVariants.{AddrAdd, CachePut, ForwardEnsure, LinkSet, RouteAdd, RuleAppend, SettingSet}
+use Rattle.kernel_types.specs.declared.call.Call.TheVariants.{AddrAdd, CachePut, ForwardEnsure, LeaseNext, LinkSet, RouteAdd, RuleAppend, SettingSet}
 use Rattle.kernel_types.specs.declared.call.Given.{Given}
 use Rattle.net_conf.specs.declared.chained.Chained.{Chained}
 use Rattle.net_conf.specs.declared.chained.Chained.TheVariants.{Portmap, Firewall, Tuning}
 use Rattle.net_conf.specs.declared.first.First.{First}
 use Rattle.net_conf.specs.declared.first.First.TheVariants.{Bridge, Ptp, Macvlan}
 use Rattle.net_conf.specs.declared.list.NetList.{NetList}
+use Rattle.pod_file.proofs.CommandFacts.{length-scan}
 use Rattle.pod_file.specs.declared.command.Command.{Command}
 use Rattle.plan_words.specs.Families.{has_family, first_of_family}
 use Rattle.plan_words.specs.Shapes.{address_on, addresses_on, forward_calls, forward_for, masquerade_of, masquerade_rules, route_on, routes_on}
@@ -79,8 +80,7 @@ length-given (set ∷ sets) (addr ∷ addrs) =
     omega arith
 
 length-leases : (att : Att) (number : ℕ) (sets : List RangeSet) → length (lease_calls_from att number sets) ≡ length sets
-length-leases att number [] = refl
-length-leases att number (set ∷ sets) = ap suc (length-leases att (number + 1) sets)
+length-leases att number sets = length-scan (λ (n : ℕ) (set : RangeSet). n + 1) (LeaseNext att) number sets
 
 -- ---- parts of the first plugin
 
