@@ -1,5 +1,5 @@
 -- The keys of what `bridge` makes after the leases.
-use Rattle.std.proofs.Common.{◌≡◌, ℕ, ◌+◌, ◌-◌, ◌<◌, Bool, true, false, not, cond, List, [], ◌∷◌, ◌++◌, map, length, Option, Some, None, refl, sym, ◌∙◌, ap, arith}
+use Rattle.std.proofs.Common.{◌≡◌, ℕ, ◌+◌, ◌-◌, ◌<◌, Bool, true, false, not, List, [], ◌∷◌, ◌++◌, map, length, Option, Some, None, refl, sym, ◌∙◌, ap, arith}
 use Rattle.std.specs.Prelude.{◌&&◌, slice_get, option_map, option_to_list, if◌then◌else◌}
 use Rattle.std.proofs.lemmas.List.{length-append, length-map, map-append}
 use Rattle.std.proofs.lemmas.Option.{slice_get-map, slice_get_read}
@@ -13,6 +13,7 @@ use Rattle.kernel_types.specs.declared.call.Given.{Given}
 use Rattle.plan_words.specs.Families.{is_of_family, first_given, first_of_family}
 use Rattle.plan_words.specs.Rows.{present}
 use Rattle.plan_words.specs.Shapes.{default_route, forward_calls}
+use Rattle.plan_words.proofs.CountLemmas.{find-map}
 use Rattle.plan_words.proofs.RowLemmas.{slice_get-before, slice_get-behind, present-append, present-keys}
 use Rattle.host_local.specs.Results.{ip_of}
 use Rattle.bridge_ptp.specs.Bridge.{gateway_calls}
@@ -21,14 +22,9 @@ use Rattle.bridge_ptp.specs.Results.{has_destination, added_default, bridge_rout
 
 -- ---- the default routes
 
-find-step : (b : Bool) (g : Given) (o : Option Given) (p : Option IpEntry) → p ≡ option_map ip_of o → cond b (Some (ip_of g)) p ≡ option_map ip_of (cond b (Some g) o)
-find-step true g o p h = refl
-find-step false g o p h = h
-
 -- the first address of a family is that of the first given one
 pub find-ips : (family : Family) (given : List Given) → first_of_family family (map ip_of given) ≡ option_map ip_of (first_given family given)
-find-ips family [] = refl
-find-ips family (g ∷ gs) = find-step (is_of_family family g.address) g (first_given family gs) (first_of_family family (map ip_of gs)) (find-ips family gs)
+find-ips family given = find-map ip_of (λ (ip : IpEntry). is_of_family family ip.address) given
 
 by-added : (b : Bool) (r : RouteEntry) → map (λ x. x.dst) (if b then r ∷ [] else []) ≡ (if b then r.dst ∷ [] else [])
 by-added true r = refl

@@ -1,6 +1,6 @@
 -- Objects are the same where their keys are.
-use Rattle.std.proofs.Common.{◌≡◌, ℕ, ◌+◌, ◌*◌, ◌/◌, ◌%◌, ◌≤◌, Bool, true, false, List, [], ◌∷◌, length, drop, Option, Some, None, refl, sym, ◌∙◌, ap, arith, cond}
-use Rattle.std.specs.Prelude.{◌&&◌, ◌||◌, find, is_some, slice_get}
+use Rattle.std.proofs.Common.{◌≡◌, ℕ, ◌+◌, ◌*◌, ◌/◌, ◌%◌, ◌≤◌, Bool, true, false, List, [], ◌∷◌, map, length, drop, Option, Some, None, refl, sym, ◌∙◌, ap, arith, cond}
+use Rattle.std.specs.Prelude.{◌&&◌, ◌||◌, find, is_some, option_map, slice_get}
 use Rattle.std.specs.List.{list_any}
 use Rattle.std.specs.Option.{option_eq}
 use Rattle.std.specs.Cmp.{nat_eq_equiv}
@@ -108,6 +108,11 @@ find-found p row i x at h = ap (find p) (present-drop row i (Some x) at) ∙ ap 
 
 pub find-end : {X : Type 0} (p : X → Bool) (row : List (Option X)) (i : ℕ) → length row ≤ i → find p (present (drop i row)) ≡ None
 find-end p row i h = ap (λ l. find p (present l)) (drop_all i row h)
+
+-- the first of what is made of the elements is made of the first element
+pub find-map : {X Y : Type 0} (f : X → Y) (p : Y → Bool) (xs : List X) → find p (map f xs) ≡ option_map f (find (λ x. p (f x)) xs)
+find-map f p [] = refl
+find-map f p (x ∷ xs) = grind (arith, find-map f p xs)
 
 any-step : {X : Type 0} (b c : Bool) (x : X) (o : Option X) → c ≡ is_some o → (b || c) ≡ is_some (cond b (Some x) o)
 any-step true c x o h = refl

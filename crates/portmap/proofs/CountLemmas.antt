@@ -1,6 +1,6 @@
 -- The keys of the rules of `portmap`.
-use Rattle.std.proofs.Common.{◌≡◌, ℕ, ◌-◌, ◌*◌, ◌/◌, ◌%◌, ◌<◌, ◌≤◌, Bool, true, false, cond, List, [], ◌∷◌, ◌++◌, map, length, Option, Some, None, refl, sym, ◌∙◌, ap, arith}
-use Rattle.std.specs.Prelude.{◌&&◌, ◌==◌, flat_map, option_map, slice_get, if◌then◌else◌}
+use Rattle.std.proofs.Common.{◌≡◌, ℕ, ◌-◌, ◌*◌, ◌/◌, ◌%◌, ◌<◌, ◌≤◌, Bool, true, false, List, [], ◌∷◌, ◌++◌, map, length, Option, Some, None, refl, sym, ◌∙◌, ap, arith}
+use Rattle.std.specs.Prelude.{◌&&◌, ◌==◌, find, flat_map, option_map, slice_get, if◌then◌else◌}
 use Rattle.std.specs.Option.{option_eq}
 use Rattle.std.proofs.lemmas.List.{length-append, map-append}
 use Rattle.cni_addr.specs.Equal.{addr_eq, cidr_eq}
@@ -19,7 +19,7 @@ use Rattle.kernel_types.specs.declared.object.Rule.{Rule}
 use Rattle.kernel_types.specs.declared.call.Given.{Given}
 use Rattle.plan_words.specs.Families.{is_of_family, first_given, first_of_family}
 use Rattle.plan_words.specs.Rows.{present, laid}
-use Rattle.plan_words.proofs.CountLemmas.{whole-same}
+use Rattle.plan_words.proofs.CountLemmas.{whole-same, find-map}
 use Rattle.plan_words.proofs.RowLemmas.{length-laid, laid-none, laid-some, present-laid, present-append, flat_map-made, slice_get-before, slice_get-behind}
 use Rattle.portmap.specs.PortKeys.{dnat_key, masquerade_key, from_host_key, keys_for, mapping_keys}
 use Rattle.portmap.specs.Portmap.{loopback, host_ip_allows, dnat_of, hostport_masquerade, from_host, rules_for, mapping_rules}
@@ -88,21 +88,11 @@ rules-for : (att : Att) (snat : Bool) (m : PortMapping) (ip : Option IpEntry) �
 rules-for att snat m None = refl
 rules-for att snat m (Some ip) = rules-to att (host_ip_allows m.host_ip ip.address.addr) snat ip.address.addr.family m ip.address
 
-find-step : (b : Bool) (ip : IpEntry) (g : Given) (o : Option IpEntry) (p : Option Given) → ip.address ≡ g.address → option_map (λ i. i.address) o ≡ option_map (λ x. x.address) p → option_map (λ i. i.address) (cond b (Some ip) o) ≡ option_map (λ x. x.address) (cond b (Some g) p)
-find-step true ip g o p e h = ap (λ a. Some a) e
-find-step false ip g o p e h = h
-
 -- the first address of a result with these addresses
 find-address : (family : Family) (ips : List IpEntry) (given : List Given) → map (λ ip. ip.address) ips ≡ map (λ g. g.address) given
     → option_map (λ ip. ip.address) (first_of_family family ips) ≡ option_map (λ g. g.address) (first_given family given)
-find-address family [] [] h = refl
-find-address family [] (g ∷ gs) h = cc
-find-address family (ip ∷ ips) [] h = cc
-find-address family (ip ∷ ips) (g ∷ gs) h =
-    let here : ip.address ≡ g.address = cc in
-    let rest : map (λ i. i.address) ips ≡ map (λ x. x.address) gs = cc in
-    ap (λ b. option_map (λ i. i.address) (cond b (Some ip) (first_of_family family ips))) (ap (is_of_family family) here)
-    ∙ find-step (is_of_family family g.address) ip g (first_of_family family ips) (first_given family gs) here (find-address family ips gs rest)
+find-address family ips given h =
+    sym (find-map (λ (ip : IpEntry). ip.address) (is_of_family family) ips) ∙ ap (find (is_of_family family)) h ∙ find-map (λ (g : Given). g.address) (is_of_family family) given
 
 pub rules-leading : (att : Att) (snat : Bool) (ips : List IpEntry) (given : List Given) (v4 v6 : Option Cidr) → map (λ ip. ip.address) ips ≡ map (λ g. g.address) given
     → v4 ≡ option_map (λ g. g.address) (first_given V4 given) → v6 ≡ option_map (λ g. g.address) (first_given V6 given)
