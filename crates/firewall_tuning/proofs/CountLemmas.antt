@@ -1,7 +1,7 @@
 -- How many rules `firewall` makes, and the keys of the settings of `tuning`.
-use Rattle.std.proofs.Common.{◌≡◌, ℕ, zero, suc, ◌+◌, ◌*◌, Bool, true, false, List, [], ◌∷◌, map, length, take, Some, refl, ◌∙◌, ap, arith}
+use Rattle.std.proofs.Common.{◌≡◌, ℕ, ◌+◌, ◌*◌, Bool, true, false, List, map, length, take, Some, ◌∙◌, ap, arith}
 use Rattle.std.specs.Prelude.{flat_map, option_map, slice_get, if◌then◌else◌}
-use Rattle.std.specs.List.{list_any}
+use Rattle.std.specs.List.{list_any, take-map}
 use Rattle.std.specs.Cmp.{IsPartialEquivalence, partial_equiv_from_equiv}
 use Rattle.std.specs.Cmp.Lexicographic.{nat_list_eq_equiv}
 use Rattle.std.proofs.lemmas.List.{length-map}
@@ -17,7 +17,7 @@ use Rattle.cni_addr.specs.Lists.{each_key_once}
 use Rattle.plan_words.specs.Rows.{present}
 use Rattle.plan_words.specs.Shapes.{address_on, addresses_on}
 use Rattle.plan_words.proofs.CountLemmas.{whole-same, same-address}
-use Rattle.plan_words.proofs.RowLemmas.{count-more, each_key_once-map, lengths-made}
+use Rattle.plan_words.proofs.RowLemmas.{count-more, each_key_once-map, lengths-made, present-map_some}
 use Rattle.firewall_tuning.specs.Counts.{is_same_key}
 use Rattle.firewall_tuning.specs.Firewall.{accept_replies_to, accept_from, forward_of}
 use Rattle.firewall_tuning.specs.Tuning.{setting_of}
@@ -55,9 +55,7 @@ same_key-laws =
     record { symm = λ x y. bytes.symm y.key x.key; trans = λ x y z h k. bytes.trans z.key y.key x.key k h }
 
 take-map_some : {X : Type 0} (i : ℕ) (xs : List X) → present (take i (map (λ x. Some x) xs)) ≡ take i xs
-take-map_some zero xs = refl
-take-map_some (suc i) [] = refl
-take-map_some (suc i) (x ∷ xs) = ap (λ l. x ∷ l) (take-map_some i xs)
+take-map_some i xs = ap present (take-map (λ x. Some x) i xs) ∙ present-map_some (take i xs)
 
 -- one more setting
 pub settings-more : (sysctls : List Sysctl) (i : ℕ) (s : Sysctl) → slice_get sysctls i ≡ Some s
