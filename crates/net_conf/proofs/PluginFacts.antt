@@ -4,7 +4,7 @@ use Rattle.std.specs.Prelude.{All, map, unwrap_or, if◌then◌else◌, ok_or}
 use Rattle.std.specs.List.{AllByRecursion, IsDistinct, list_any}
 use Rattle.std.specs.Str.{chars}
 use Rattle.std.proofs.lemmas.Bool.{or_parts, or_right}
-use Rattle.std.proofs.lemmas.List.Elements.{All-nil, All-cons, All-append}
+use Rattle.std.proofs.lemmas.List.Elements.{All-nil, All-push}
 use Rattle.serde_json.specs.Data.{Data, null, boolean, number, string, array, object, Items, no_items, item}
 use Rattle.serde_json.specs.Find.{get, as_array}
 use Rattle.cni_json.specs.Fields.{member_at, text_field, field_of, object_or}
@@ -253,7 +253,7 @@ later_at-ok before d next order kept is =
     let here = later_of-ok type.value d next order new.rest in
     let none = (not_refused (list_any (is_of_type type.value) before) _ _ _ new.first).0 in
     record {
-      all = All-append IsWellFormedChained before (next ∷ []) kept.all (All-cons IsWellFormedChained next [] here.1 (All-nil IsWellFormedChained));
+      all = All-push IsWellFormedChained before next kept.all here.1;
       once = once_more before next type.value here.0 none kept.once;
     }
 
