@@ -2,6 +2,7 @@
 -- project's own).
 use Rattle.std.specs.Prelude.{ℕ, Bool, List, [], ◌∷◌, ◌++◌, map, codes, if◌then◌else◌}
 use Rattle.std.specs.Fmt.{decimal}
+use Rattle.std.specs.List.{join_by}
 use Rattle.serde_json.specs.Data.{string}
 use Rattle.serde_json.specs.Written.{compact_text}
 use Rattle.cni_addr.specs.AddrText.{addr_text}
@@ -67,13 +68,8 @@ variables_of faults =
     ++ named_if faults.ifname (codes "CNI_IFNAME")
     ++ named_if faults.args (codes "CNI_ARGS")
 
-abbrev pub joined_after : List (List ℕ) → List ℕ
-joined_after [] = []
-joined_after (name ∷ names) = codes ", " ++ name ++ joined_after names
-
 abbrev pub joined_by_comma : List (List ℕ) → List ℕ
-joined_by_comma [] = []
-joined_by_comma (name ∷ names) = name ++ joined_after names
+joined_by_comma texts = join_by (λ text. text) (codes ", ") texts
 
 abbrev pub message_of : Cause → List ℕ
 message_of (BadWords faults) = message_about kinds.InvalidVariables (joined_by_comma (variables_of faults))

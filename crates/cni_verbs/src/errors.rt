@@ -57,35 +57,11 @@ fn variables_of(alloc: Global, faults: WordFaults) -> Result<Items<Text>, NoMemo
     Ok(names)
 }
 
-fn push_after(text: &mut String, names: &[Text]) -> Result<(), NoMemory>
-    ensures { OnOk result (string_bytes text.new ≡ string_bytes text.old ++ answers.joined_after names.now) }
-{
-    for name in names {
-        text.push_str(", ")?;
-        text.push_str(name.as_str())?;
-    }
-    Ok(())
-}
-
-fn push_joined(text: &mut String, names: &[Text]) -> Result<(), NoMemory>
-    ensures { OnOk result (string_bytes text.new ≡ string_bytes text.old ++ answers.joined_by_comma names.now) }
-{
-    match names {
-        [first, others @ ..] => {
-            text.push_str(first.as_str())?;
-            push_after(text, others)
-        }
-        [] => Ok(()),
-    }
-}
-
 /// The texts with `, ` between them.
 fn joined(alloc: Global, names: &[Text]) -> Result<Text, NoMemory>
     ensures { IfOk result (λ text. text ≡ answers.joined_by_comma names.now) }
 {
-    let mut text = String::new(alloc);
-    push_joined(&mut text, names)?;
-    Text::of(alloc, text.as_str())
+    Text::of(alloc, names.join(alloc, ", ")?.as_str())
 }
 
 fn words_message(alloc: Global, faults: WordFaults) -> Result<Text, NoMemory>
