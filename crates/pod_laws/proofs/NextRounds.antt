@@ -1,6 +1,7 @@
 -- Where two exclusive commands stand in one round and the next, nothing stands between their entries.
 use Rattle.std.proofs.Common.{◌≡◌, ◌≢◌, ℕ, ◌+◌, ◌≤◌, Bool, true, false, List, [], ◌∷◌, ◌++◌, Some, None, slice_get, refl, sym, ◌∙◌, ap, subst, inl, inr, ◌⊎◌, arith}
 use Rattle.std.specs.Prelude.{if◌then◌else◌}
+use Rattle.std.proofs.lemmas.Bool.{cases_lt, cases_order}
 use Rattle.std.proofs.lemmas.Bool.Decides.{eqb_tells}
 use Rattle.pod_file.specs.Rounds.{is_exclusive_verb}
 use Rattle.kernel_types.specs.declared.call.Call.{Call}
@@ -9,7 +10,7 @@ use Rattle.pod_workers.specs.Plans.{Placed, commands_of}
 use Rattle.pod_workers.specs.World.{World, IsReady, after, entry_of, host_of, replies_of}
 use Rattle.pod_workers.specs.declared.plan.Entry.{Entry}
 use Rattle.pod_workers.specs.declared.plan.Plan.{Plan}
-use Rattle.pod_workers.proofs.Order.{compared, in_order, not_both, ready_is}
+use Rattle.pod_workers.proofs.Order.{in_order, not_both, ready_is}
 use Rattle.pod_workers.proofs.Sound.{fine}
 use Rattle.pod_laws.specs.Moments.{host_at_end, host_at_start, is_of, own_entries, until_first, until_last}
 use Rattle.pod_laws.proofs.AloneRuns.{legal-of, ready-of, until_first-own}
@@ -30,18 +31,16 @@ no-own m h none = no-entries (own_entries m h) none
 
 -- a command that has made a call is of no later round
 begun-round : (w : World) → Legal w → (m : ℕ) (d : Placed) → slice_get (commands_of w.plan) m ≡ Some d → own_entries m w.history ≢ [] → d.round ≤ w.round
-begun-round w legal m d at some = elim (compared w.round d.round) [
+begun-round w legal m d at some = elim (cases_lt w.round d.round) [
   | inl less ↦ absurd (some (no-own m w.history ((in_order w legal).later m d at less).no_reply))
-  | inr (inl more) ↦ omega arith
-  | inr (inr same) ↦ omega arith
+  | inr within ↦ within
 ]
 
 -- one that isn't answered is of no earlier round
 open-round : (w : World) → Legal w → (n : ℕ) (c : Placed) → slice_get (commands_of w.plan) n ≡ Some c → slice_get w.answers n ≡ Some None → w.round ≤ c.round
-open-round w legal n c at is_open = elim (compared c.round w.round) [
+open-round w legal n c at is_open = elim (cases_lt c.round w.round) [
   | inl less ↦ absurd (not_both w n ((in_order w legal).past n c at less) is_open)
-  | inr (inl more) ↦ omega arith
-  | inr (inr same) ↦ omega arith
+  | inr within ↦ within
 ]
 
 alone-in : (w : World) → Legal w → (k m : ℕ) (x d : Placed) → slice_get (commands_of w.plan) k ≡ Some x → slice_get (commands_of w.plan) m ≡ Some d → x.round ≡ d.round → is_exclusive_verb d.command.verb ≡ true → k ≡ m
@@ -49,10 +48,10 @@ alone-in w legal k m x d at_k at_m round exclusive = stand_alone w.plan (fine w 
 
 -- between the first and the second no other command is ready
 no-third : (w : World) → Legal w → (k m n : ℕ) (x d c : Placed) → IsReady w k x → slice_get (commands_of w.plan) m ≡ Some d → slice_get (commands_of w.plan) n ≡ Some c → AreNext d c → d.round ≤ w.round → w.round ≤ c.round → (k ≡ m) ⊎ (k ≡ n)
-no-third w legal k m n x d c ready at_m at_n next after before = elim (compared d.round w.round) [
-  | inl less ↦ inr (alone-in w legal k n x c ready.there at_n (let here = ready.current in let r = next.round in omega arith) next.second)
-  | inr (inl more) ↦ absurd (omega arith)
-  | inr (inr same) ↦ inl (alone-in w legal k m x d ready.there at_m (ready.current ∙ sym same) next.first)
+no-third w legal k m n x d c ready at_m at_n next after before = elim (cases_order d.round w.round) [
+  | inl same ↦ inl (alone-in w legal k m x d ready.there at_m (ready.current ∙ sym same) next.first)
+  | inr (inl less) ↦ inr (alone-in w legal k n x c ready.there at_n (let here = ready.current in let r = next.round in omega arith) next.second)
+  | inr (inr more) ↦ absurd (omega arith)
 ]
 
 -- ---- entries

@@ -2,7 +2,7 @@
 use Rattle.std.proofs.Common.{◌≡◌, ℕ, zero, suc, ◌+◌, ◌<◌, ◌≤◌, true, List, [], ◌∷◌, ◌++◌, length, Option, Some, None, slice_get, refl, sym, ◌∙◌, ap, subst, inl, inr, ◌⊎◌, arith}
 use Rattle.std.proofs.lemmas.List.{append-nil, append_assoc}
 use Rattle.std.proofs.lemmas.Option.{same_Some, slice_get_within}
-use Rattle.std.proofs.lemmas.Bool.{cases_lt}
+use Rattle.std.proofs.lemmas.Bool.{cases_lt, cases_order}
 use Rattle.std.proofs.lemmas.Bool.Decides.{eqb_tells}
 use Rattle.cni_verbs.specs.Progress.{turn_by, answer_by}
 use Rattle.cni_verbs.specs.Script.{Turn, Calls, Finishes, Finish}
@@ -20,7 +20,7 @@ use Rattle.pod_workers.specs.declared.plan.Entry.{Entry}
 use Rattle.pod_workers.proofs.AnswersDue.{answer_is_due, at_own_stop}
 use Rattle.pod_workers.proofs.Facts.{each_follows, two_entries, one_command, uncut_at}
 use Rattle.pod_workers.proofs.Histories.{replies_of-append, has_reply, same_entry}
-use Rattle.pod_workers.proofs.Order.{in_order, compared}
+use Rattle.pod_workers.proofs.Order.{in_order}
 use Rattle.pod_workers.proofs.RoundsAscend.{rounds_ascend, all_answered, command_at}
 use Rattle.pod_workers.proofs.Splits.{cons_parts}
 
@@ -62,10 +62,10 @@ one_call p h e g f o place =
     same_entry e g (f.number ∙ ap (λ (n : ℕ). n + 1) place ∙ sym o.number) call reply
 
 one_next : (p : Plan) (h : List Entry) (e g : Entry) → IsNext p h e → IsNext p h g → e ≡ g
-one_next p h e g x y = elim (compared x.follows.place y.follows.place) [
-  | inl less ↦ absurd (goes_on p h e x.follows x.uncut (y.before x.follows.place x.follows.by less x.follows.there))
-  | inr (inl more) ↦ absurd (goes_on p h g y.follows y.uncut (x.before y.follows.place y.follows.by more y.follows.there))
-  | inr (inr same) ↦ one_call p h e g x.follows y.follows same
+one_next p h e g x y = elim (cases_order x.follows.place y.follows.place) [
+  | inl same ↦ one_call p h e g x.follows y.follows same
+  | inr (inl less) ↦ absurd (goes_on p h e x.follows x.uncut (y.before x.follows.place x.follows.by less x.follows.there))
+  | inr (inr more) ↦ absurd (goes_on p h g y.follows y.uncut (x.before y.follows.place y.follows.by more y.follows.there))
 ]
 
 -- ---- one trace

@@ -3,7 +3,7 @@ use Rattle.std.proofs.Common.{◌≡◌, ◌≢◌, ℕ, ◌+◌, ◌<◌, true,
 use Rattle.std.specs.Str.{bytes_eq}
 use Rattle.std.proofs.lemmas.List.{length-set}
 use Rattle.std.proofs.lemmas.Option.{same_Some, none-some, slice_get_within, slice_get-get_or}
-use Rattle.std.proofs.lemmas.Bool.{cases_Bool, cases_lt}
+use Rattle.std.proofs.lemmas.Bool.{cases_Bool, cases_order}
 use Rattle.std.proofs.lemmas.Bool.Decides.{eqb_tells}
 use Rattle.std.proofs.lemmas.Slice.Eq.{bytes_eq-Decides}
 use Rattle.cni_verbs.specs.declared.answer.Answer.{Answer}
@@ -151,23 +151,20 @@ same_or_other a b = elim (cases_Bool (bytes_eq a b)) [
   | inr other ↦ inr (λ is. let t = (bytes_eq-Decides a b).1 is in cc)
 ]
 
-pub compared : (a b : ℕ) → (a < b) ⊎ ((b < a) ⊎ (a ≡ b))
-compared a b = elim (cases_lt a b) [ inl l ↦ inl l | inr g ↦ elim (eqb_tells a b) [ inl t ↦ inr (inr t.1) | inr f ↦ inr (inl (let other = f.1 in omega arith)) ] ]
-
 apart_in_container : (w : World) (m n : ℕ) (d c : Placed) → IsInOrder w → IsReady w n c → m ≢ n → slice_get (commands_of w.plan) m ≡ Some d → slice_get w.answers m ≡ Some None
     → d.command.container ≡ c.command.container → own_replies w m ≡ []
 apart_in_container w m n d c order ready other at is_open container =
-    elim (compared d.round w.round) [
-      | inl less ↦ absurd (not_both w m (order.past m d at less) is_open)
-      | inr (inl more) ↦ (order.later m d at more).no_reply
-      | inr (inr same) ↦ elim (compared m n) [
-        | inl below ↦ absurd (not_both w m (before_ready w m n d c order ready below at (same ∙ sym ready.current) container) is_open)
-        | inr (inl above) ↦ elim (order.first n m c d above ready.there at (ready.current ∙ sym same) (sym container)) [
+    elim (cases_order d.round w.round) [
+      | inl same ↦ elim (cases_order m n) [
+        | inl eq ↦ absurd (other eq)
+        | inr (inl below) ↦ absurd (not_both w m (before_ready w m n d c order ready below at (same ∙ sym ready.current) container) is_open)
+        | inr (inr above) ↦ elim (order.first n m c d above ready.there at (ready.current ∙ sym same) (sym container)) [
           | inl u ↦ u.no_reply
           | inr a ↦ absurd (not_both w n a ready.unanswered)
         ]
-        | inr (inr eq) ↦ absurd (other eq)
       ]
+      | inr (inl less) ↦ absurd (not_both w m (order.past m d at less) is_open)
+      | inr (inr more) ↦ (order.later m d at more).no_reply
     ]
 
 -- beside a ready command, another one without an answer has made no call, or has another container
@@ -189,8 +186,8 @@ pub alone_apart : (w : World) → Legal w → (m n : ℕ) (d c : Placed) → IsR
     → (is_exclusive c.command ≡ true) ⊎ (is_exclusive d.command ≡ true) → own_replies w m ≡ []
 alone_apart w legal m n d c ready other at is_open exclusive =
     let order = in_order w legal in
-    elim (compared d.round w.round) [
-      | inl less ↦ absurd (not_both w m (order.past m d at less) is_open)
-      | inr (inl more) ↦ (order.later m d at more).no_reply
-      | inr (inr same) ↦ absurd (other (one_alone w.plan m n d c (stand_alone w.plan (fine w legal).plan) at ready.there (same ∙ sym ready.current) exclusive))
+    elim (cases_order d.round w.round) [
+      | inl same ↦ absurd (other (one_alone w.plan m n d c (stand_alone w.plan (fine w legal).plan) at ready.there (same ∙ sym ready.current) exclusive))
+      | inr (inl less) ↦ absurd (not_both w m (order.past m d at less) is_open)
+      | inr (inr more) ↦ (order.later m d at more).no_reply
     ]

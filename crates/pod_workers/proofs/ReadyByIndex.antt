@@ -1,7 +1,7 @@
 -- Who may step, by the index.
 use Rattle.std.proofs.Common.{◌≡◌, ◌≢◌, ℕ, ◌+◌, ◌-◌, ◌<◌, ◌==◌, Bool, true, false, List, [], ◌∷◌, length, get_or, Option, Some, None, slice_get, refl, sym, ◌∙◌, ap, subst, arith, inl, inr}
 use Rattle.std.specs.Prelude.{MatchBool, ◌&&◌}
-use Rattle.std.proofs.lemmas.Bool.{false≢true, and_parts, eqb-true, eq-eqb}
+use Rattle.std.proofs.lemmas.Bool.{false≢true, and_parts, cases_order, eqb-true, eq-eqb}
 use Rattle.std.proofs.lemmas.Option.{same_Some, none-some, slice_get-get_or, slice_get_within}
 use Rattle.cni_verbs.specs.declared.answer.Answer.{Answer}
 use Rattle.kernel_types.specs.declared.object.Host.{Host}
@@ -13,7 +13,7 @@ use Rattle.pod_workers.specs.World.{World, Blocks, IsAnswered, IsReady, IsReadyN
 use Rattle.pod_workers.specs.declared.index.Place.{Place}
 use Rattle.pod_workers.specs.declared.plan.Entry.{Entry}
 use Rattle.pod_workers.specs.declared.slots.Slot.{Slot}
-use Rattle.pod_workers.proofs.Order.{IsInOrder, in_order, not_both, compared}
+use Rattle.pod_workers.proofs.Order.{IsInOrder, in_order, not_both}
 
 is-open : (o : Option (Option Answer)) → is_open o ≡ true → o ≡ Some None
 is-open None h = absurd (false≢true h)
@@ -41,16 +41,14 @@ clear-by w n c (Some k) order within current latest through m d o less at_m answ
     let of_ : IsOf d c.round c.command.container = (blocks.0.0 ∙ sym current, blocks.0.1) in
     let x = latest.1.0 in
     let open_m : slice_get w.answers m ≡ Some None = answer ∙ ap Some blocks.1 in
-    elim (compared m k) [
-      | inl before ↦
+    elim (cases_order m k) [
+      | inl same ↦ not_both w m (subst (IsAnswered w) (sym same) a) open_m
+      | inr (inl before) ↦
           elim (order.first m k d x before at_m latest.1.1 (of_.0 ∙ sym latest.1.2.0) (of_.1 ∙ sym latest.1.2.1)) [
             | inl untouched ↦ not_both w k a untouched.no_answer
             | inr done ↦ not_both w m done open_m
           ]
-      | inr other ↦ elim other [
-        | inl after ↦ latest.2 m d (omega arith) less at_m of_
-        | inr same ↦ not_both w m (subst (IsAnswered w) (sym same) a) open_m
-      ]
+      | inr (inr after) ↦ latest.2 m d (omega arith) less at_m of_
     ]
 
 through-by : (w : World) (n : ℕ) (c : Placed) (previous : Option ℕ) → n < length w.answers → IsReady w n c → IsLatest (commands_of w.plan) n c.round c.command.container previous → lets_through w.answers previous ≡ true
