@@ -84,11 +84,6 @@ pub list_any-snoc : {X : Type 0} (p : X → Bool) (xs : List X) (y : X) → list
 list_any-snoc p [] y = grind arith
 list_any-snoc p (x ∷ xs) y = grind (arith, list_any-snoc p xs y)
 
--- some element passes also among those kept, where what passes is kept
-pub list_any-kept_all : {X : Type 0} (p keep : X → Bool) → ((x : X) → p x ≡ true → keep x ≡ true) → (xs : List X) → list_any p xs ≡ true → list_any p (filter keep xs) ≡ true
-list_any-kept_all p keep w [] h = h
-list_any-kept_all p keep w (x ∷ xs) h = grind (arith, w x, list_any-kept_all p keep w xs)
-
 pub list_all-none : {X : Type 0} (p : X → Bool) (xs : List X) → list_any p xs ≡ false → list_all (λ x. not (p x)) xs ≡ true
 list_all-none p [] h = refl
 list_all-none p (x ∷ xs) h = grind (arith, h, list_all-none p xs)

@@ -3,6 +3,7 @@ use Rattle.std.proofs.Common.{◌≡◌, ℕ, Bool, true, false, not, cond, List
 use Rattle.std.specs.Prelude.{filter, ◌&&◌, ◌||◌, is_some}
 use Rattle.std.specs.List.{list_any, list_all, filter_map, cons_option}
 use Rattle.std.specs.Str.{bytes_eq}
+use Rattle.std.proofs.lemmas.Map.Views.{any-filter_same}
 use Rattle.kernel_types.specs.Equal.{att_eq}
 use Rattle.cni_addr.specs.Lists.{each_key_once}
 use Rattle.kernel_types.specs.Words.{is_own}
@@ -20,7 +21,6 @@ use Rattle.kernel_types.proofs.ListLemmas.{list_all-weaker}
 use Rattle.kernel_types.proofs.TouchRemoval.{by_bool}
 use Rattle.plan_words.proofs.KeyLists.{list_all-each_key_once}
 use Rattle.plan_words.proofs.RowLemmas.{list_any-each_key_once}
-use Rattle.gc_sweep.proofs.Lists.{list_any-kept_all}
 
 -- the attachment is of the network and outside the valid list
 abbrev pub is_stale : List ℕ → List ValidAtt → Att → Bool
@@ -64,7 +64,7 @@ once_has xs (Own a) h = list_any-each_key_once att_eq att_eq-laws a xs ∙ h
 
 stale_has : (network : List ℕ) (valid : List ValidAtt) (xs : List Att) (t : Tag) → goes network valid t ≡ true → has_att xs t ≡ true → has_att (filter (λ a. not (is_valid valid a)) xs) t ≡ true
 stale_has network valid xs t stale h =
-    list_any-kept_all (λ a. is_own a t) (λ a. not (is_valid valid a)) (λ a own. let here : goes network valid (Own a) ≡ true = rw (is_own-one a t own) at stale in grind (arith, here, goes_own network valid a)) xs h
+    any-filter_same (λ a. is_own a t) (λ a. not (is_valid valid a)) true (λ a own. let here : goes network valid (Own a) ≡ true = rw (is_own-one a t own) at stale in grind (arith, here, goes_own network valid a)) xs ∙ h
 
 goes_of : (network : List ℕ) (valid : List ValidAtt) (t : Tag) → goes network valid t ≡ true → is_some (owner_in network t) ≡ true
 goes_of network valid Outside h = cc

@@ -2,7 +2,6 @@
 use Rattle.std.proofs.Common.{◌≡◌, ℕ, Bool, true, false, List, [], ◌∷◌, ◌++◌, map, refl, sym, ◌∙◌, ap, subst, append_assoc, arith}
 use Rattle.std.proofs.lemmas.List.{append-nil}
 use Rattle.std.proofs.lemmas.List.Folds.{list_all-append}
-use Rattle.std.specs.Prelude.{◌&&◌}
 use Rattle.std.specs.List.{AllByRecursion, list_all}
 use Rattle.kernel_types.specs.Apply.{apply}
 use Rattle.kernel_types.specs.Replies.{is_fault}
@@ -90,12 +89,6 @@ middle-fails p xs y ys h = let split = list_all-append p xs (y ∷ ys) in grind 
 
 pub denied-some : (host : Host) (all : List Question) (q : Question) → IsFirstDenied host all q → list_all (grants host) all ≡ false
 denied-some host all q d = ap (list_all (grants host)) d.are ∙ middle-fails (grants host) d.past q d.left d.denied
-
--- ---- lists of tests
-
-pub and-true : (b : Bool) → (b && true) ≡ b
-and-true true = refl
-and-true false = refl
 
 -- ---- entries without a fault
 

@@ -9,11 +9,12 @@ use Rattle.net_conf.specs.declared.first.First.{First}
 use Rattle.net_conf.specs.declared.first.First.TheVariants.{Bridge, Ptp, Macvlan}
 use Rattle.net_conf.specs.declared.list.NetList.{NetList}
 use Rattle.pod_file.specs.declared.command.Command.{Command}
-use Rattle.std.proofs.Math.Bool.{beq}
+use Rattle.std.proofs.Math.Bool.{beq, and-true}
 use Rattle.std.specs.Option.{option_eq}
 use Rattle.std.specs.Str.{bytes_eq}
 use Rattle.std.proofs.lemmas.Bool.{and_parts}
 use Rattle.std.proofs.lemmas.List.Folds.{list_all-append}
+use Rattle.std.proofs.lemmas.Map.Views.{any-filter_same}
 use Rattle.kernel_types.specs.Equal.{addr_obj_eq, chain_eq, cidr_eq, key_eq, lease_eq, link_eq, link_kind_eq, mac_eq, proto_eq, route_eq, rule_eq, setting_eq, table_eq, tag_eq, target_eq}
 use Rattle.kernel_types.specs.Words.{cached_in, is_own}
 use Rattle.kernel_types.proofs.TouchRemoval.{is_own-tag_eq}
@@ -36,7 +37,7 @@ use Rattle.cni_verbs.specs.declared.answer.Missed.TheVariants as missed
 use Rattle.cni_verbs.specs.declared.answer.Question.{Question}
 use Rattle.pod_laws.specs.Checked.{are_in, has_bridge_by, has_bridge_of, has_first_bridge, has_objects_of, holds_cached}
 use Rattle.pod_laws.specs.Granted.{grants}
-use Rattle.pod_laws.proofs.Asking.{and-true, each-append, each-map, tells}
+use Rattle.pod_laws.proofs.Asking.{each-append, each-map, tells}
 use Rattle.pod_laws.proofs.OwnWanted.{AreOwn, own-wanted}
 use Rattle.pod_laws.proofs.SteadyHosts.{KeepsAsked}
 
@@ -51,12 +52,8 @@ pub record IsSteadyQuestion (c : Command) (q : Question) : Type 0 where
   pub stays : (old new : Host) → KeepsAsked c old new → grants old q ≡ true → grants new q ≡ true
 
 -- what is the attachment's is among its share
-any-own : {X : Type 0} (p own : X → Bool) → ((x : X) → p x ≡ true → own x ≡ true) → (xs : List X) → list_any p (filter own xs) ≡ list_any p xs
-any-own p own w [] = refl
-any-own p own w (x ∷ xs) = grind (arith, w x, any-own p own w xs)
-
 same-own : {X : Type 0} (p own : X → Bool) → ((x : X) → p x ≡ true → own x ≡ true) → (old new : List X) → filter own new ≡ filter own old → list_any p old ≡ true → list_any p new ≡ true
-same-own p own w old new same there = sym (any-own p own w new) ∙ ap (list_any p) same ∙ any-own p own w old ∙ there
+same-own p own w old new same there = sym (any-filter_same p own true w new) ∙ ap (list_any p) same ∙ any-filter_same p own true w old ∙ there
 
 and-fifth : (a b d e r : Bool) → (a && (b && (d && (e && r)))) ≡ true → r ≡ true
 and-fifth a b d e r h = (and_parts e r (and_parts d (e && r) (and_parts b (d && (e && r)) (and_parts a (b && (d && (e && r))) h).1).1).1).1

@@ -1,5 +1,6 @@
 -- A STATUS asks of one host, and its answer is what that host has to give.
 use Rattle.std.proofs.Common.{◌≡◌, ℕ, ◌+◌, Bool, true, false, List, [], ◌∷◌, ◌++◌, length, refl, sym, ◌∙◌, ap, subst}
+use Rattle.std.proofs.Math.Bool.{and-true}
 use Rattle.std.specs.Prelude.{◌&&◌}
 use Rattle.std.specs.List.{AllByRecursion, list_all}
 use Rattle.std.proofs.lemmas.List.Folds.{list_all-append}
@@ -34,7 +35,7 @@ use Rattle.pod_laws.specs.Available.{EndsStatus, LacksService, WasAvailable, has
 use Rattle.pod_laws.specs.Granted.{grants, only_asks}
 use Rattle.pod_laws.specs.Moments.{has_fault, host_at_end, own_entries}
 use Rattle.pod_laws.specs.Answers.{EndsByFault, EndsByTest}
-use Rattle.pod_laws.proofs.Asking.{EndsAsked, HasAsked, IsAsking, and-true, asked-all, asked-none, asked-reply, calm-more, denied-some, each-append, each-at, fault-last, tells}
+use Rattle.pod_laws.proofs.Asking.{EndsAsked, HasAsked, IsAsking, asked-all, asked-none, asked-reply, calm-more, denied-some, each-append, each-at, fault-last, tells}
 use Rattle.pod_laws.proofs.CutOff.{over-by, answered-by}
 use Rattle.pod_laws.proofs.RunFacts.{HostFact, IsHostFact, StartsOn, each-run}
 use Rattle.pod_laws.proofs.QuestionRuns.{question-entered}

@@ -1,7 +1,7 @@
 -- What is left to a run before its first call, by its verb.
 use Rattle.std.proofs.Common.{◌≡◌, ◌≢◌, ℕ, ◌+◌, ◌*◌, ◌≤◌, false, List, [], ◌∷◌, ◌++◌, length, Option, Some, None, slice_get, refl, sym, ap, subst, arith}
 use Rattle.std.specs.Prelude.{if◌then◌else◌}
-use Rattle.std.proofs.lemmas.List.{length-append}
+use Rattle.std.proofs.lemmas.List.{length-append, nil_from_length}
 use Rattle.cni_addr.specs.declared.address.Addr.{Addr}
 use Rattle.cni_addr.specs.declared.mac.Mac.{Mac}
 use Rattle.cni_result.specs.declared.cached.Cached.{Cached}
@@ -174,10 +174,6 @@ by-first w legal n c list bound before first at listed verb asks is =
     let few = start.few (share_of (att_of c.command) (after w.plan.pods.opening (before ++ first ∷ []))) in
     omega arith
 
-no-replies : {X : Type 0} (xs : List X) → length xs ≤ 0 → xs ≡ []
-no-replies [] h = refl
-no-replies (x ∷ xs) h = absurd (omega arith)
-
 pub run_is_bounded : EachRunIsBounded
 run_is_bounded w legal n c list at listed =
     let most0 = most_calls list c.command in
@@ -206,7 +202,8 @@ run_is_bounded w legal n c list at listed =
           omega arith;
       version = λ verb.
           let starts = starts-by most0 list c.command verbs.Version (λ had. 0) verb (record { none = tt; few = λ had. omega arith }) in
-          no-replies (own_replies w n) (made-below w legal n c list most0 0 at listed in_most0 starts.none starts.few);
+          let made = made-below w legal n c list most0 0 at listed in_most0 starts.none starts.few in
+          nil_from_length (own_replies w n) (omega arith);
     }
 
 one-by-list : (w : World) → Legal w → (n : ℕ) (c : Placed) (o : Option NetList) → slice_get (commands_of w.plan) n ≡ Some c → is_of_network c.command.verb ≡ false → list_for w.plan c.command ≡ o → length (own_replies w n) ≤ 1
