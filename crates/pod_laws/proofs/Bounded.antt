@@ -1,5 +1,5 @@
 -- A run makes no more calls than were left to it before its first entry.
-use Rattle.std.proofs.Common.{◌≡◌, ◌≢◌, ℕ, ◌+◌, ◌≤◌, Bool, true, false, List, [], ◌∷◌, ◌++◌, length, Some, slice_get, refl, sym, ◌∙◌, ap, subst, inl, inr, ◌⊎◌, arith}
+use Rattle.std.proofs.Common.{◌≡◌, ◌≢◌, ℕ, ◌+◌, ◌≤◌, Bool, true, false, List, [], ◌∷◌, ◌++◌, length, Some, slice_get, refl, sym, ◌∙◌, ap, subst, inl, inr, arith}
 use Rattle.std.proofs.lemmas.List.{length-append, length-map}
 use Rattle.std.proofs.lemmas.Option.{same_Some, none-some}
 use Rattle.std.proofs.lemmas.Bool.Decides.{eqb_tells}
@@ -17,14 +17,14 @@ use Rattle.pod_workers.specs.Plans.{Placed, commands_of, list_for}
 use Rattle.pod_workers.specs.World.{World, after, host_of, own_replies, entry_of}
 use Rattle.pod_workers.specs.declared.plan.Entry.{Entry}
 use Rattle.pod_workers.specs.declared.plan.Plan.{Plan}
-use Rattle.pod_workers.proofs.Histories.{after-append, has_reply}
+use Rattle.pod_workers.proofs.Histories.{after-append, entry_or_none, has_reply}
 use Rattle.pod_workers.proofs.Order.{ready_is}
 use Rattle.pod_workers.proofs.Sound.{sound_host}
 use Rattle.pod_workers.proofs.Splits.{split_nil, split_snoc}
 use Rattle.pod_workers.proofs.StepsLeft.{IsNoCollection, entry-falls, none-stays}
 use Rattle.pod_workers.proofs.Replies.{true-from}
 use Rattle.pod_laws.specs.Moments.{is_of, own_entries, until_last}
-use Rattle.pod_laws.proofs.Entries.{is_of-own, is_of-other, own_entries-own, own_entries-other, replies_in, until_last-own, until_last-other}
+use Rattle.pod_laws.proofs.Entries.{is_of-own, is_of-other, own_entries-own, own_entries-other, replies_in, no-entries, until_last-own, until_last-other}
 use Rattle.pod_laws.proofs.RunFacts.{state_by, state_by-append}
 use Rattle.pod_laws.proofs.Runs.{own-state, share-kept}
 use Rattle.pod_laws.proofs.Steps.{GoesOn, IsKept, IsKeptOutside, by-entries}
@@ -145,23 +145,15 @@ made-within w legal n c list most before rest e at listed in_most none split own
 
 -- ---- the first entry
 
--- a command has no entry, or a first one
-pub first-or-none : (n : ℕ) (h : List Entry) → (own_entries n h ≡ []) ⊎ ((before rest : List Entry) × (e : Entry) × (h ≡ before ++ e ∷ rest) × (e.command ≡ n + 1) × (own_entries n before ≡ []))
-first-or-none n [] = inl refl
-first-or-none n (x ∷ xs) = elim (eqb_tells x.command (n + 1)) [
-  | inl t ↦ inr ([], xs, x, refl, t.1, refl)
-  | inr f ↦ elim (first-or-none n xs) [ inl none ↦ inl (rw f.0 none) | inr is ↦ inr (x ∷ is.0, is.1, is.2, ap (λ l. x ∷ l) is.3, is.4, rw f.0 is.5) ]
-]
-
 -- where what was left before the first call is no more than a number, no more calls were made
 pub made-below : (w : World) → Legal w → (n : ℕ) (c : Placed) (list : NetList) (most bound : ℕ) → slice_get (commands_of w.plan) n ≡ Some c → list_for w.plan c.command ≡ Some list → AddsInAtMost list c.command most
     → IsNoCollection (start_state list c.command) → ((s : Share) → calls_left most list c.command (start_state list c.command) s ≤ bound) → length (own_replies w n) ≤ bound
-made-below w legal n c list most bound at listed in_most none few = elim (first-or-none n w.history) [
+made-below w legal n c list most bound at listed in_most none few = elim (entry_or_none n w.history) [
   | inl nothing ↦
-      let no_reply : length (own_replies w n) ≡ 0 = ap length (ap replies_in nothing) in
+      let no_reply : length (own_replies w n) ≡ 0 = ap length nothing in
       omega arith
   | inr is ↦
-      let made = (made-within w legal n c list most is.0 is.1 is.2 at listed in_most none is.3 is.4 is.5).0 in
+      let made = (made-within w legal n c list most is.0 is.1 is.2 at listed in_most none is.3 is.4 (no-entries (own_entries n is.0) is.5)).0 in
       let left = few (share_of (att_of c.command) (after w.plan.pods.opening is.0)) in
       omega arith
 ]

@@ -97,12 +97,12 @@ last_entry-splits h e is = elim (empty_or_last h) [
   | inr split ↦ (split.0, split.2 ∙ ap (λ x. split.0 ++ x ∷ []) (same_Some split.1 e (sym (last_entry-append split.0 split.1) ∙ ap last_entry (sym split.2) ∙ is)))
 ]
 
--- a command has an entry, or no reply
-pub entry_or_none : (n : ℕ) (h : List Entry) → (replies_of n h ≡ []) ⊎ ((before rest : List Entry) × (e : Entry) × (h ≡ before ++ e ∷ rest) × (e.command ≡ n + 1))
+-- a command has no reply, or a first entry
+pub entry_or_none : (n : ℕ) (h : List Entry) → (replies_of n h ≡ []) ⊎ ((before rest : List Entry) × (e : Entry) × (h ≡ before ++ e ∷ rest) × (e.command ≡ n + 1) × (replies_of n before ≡ []))
 entry_or_none n [] = inl refl
 entry_or_none n (x ∷ xs) = elim (eqb_tells x.command (n + 1)) [
-  | inl t ↦ inr ([], xs, x, refl, t.1)
-  | inr f ↦ elim (entry_or_none n xs) [ inl none ↦ inl (rw f.0 none) | inr is ↦ inr (x ∷ is.0, is.1, is.2, ap (λ l. x ∷ l) is.3, is.4) ]
+  | inl t ↦ inr ([], xs, x, refl, t.1, refl)
+  | inr f ↦ elim (entry_or_none n xs) [ inl none ↦ inl (rw f.0 none) | inr is ↦ inr (x ∷ is.0, is.1, is.2, ap (λ l. x ∷ l) is.3, is.4, rw f.0 is.5) ]
 ]
 
 -- what was written is written back
