@@ -17,13 +17,13 @@ use Rattle.cni_verbs.specs.declared.answer.Answer.{Answer}
 use Rattle.cni_verbs.specs.declared.answer.Answer.TheVariants.{OutOfMemory}
 use Rattle.pod_workers.specs.Legal.{Legal, begins, steps, refused_memory, turns}
 use Rattle.pod_workers.specs.Plans.{Placed, IsWellFormed, commands_of, list_for}
-use Rattle.pod_workers.specs.World.{World, IsReady, host_on, host_of, own_replies, entry_of, with_entry, answered, done, next_of, is_cut}
+use Rattle.pod_workers.specs.World.{World, IsReady, host_on, host_of, own_replies, entry_of, with_entry, answered, done, next_of}
 use Rattle.pod_workers.specs.declared.plan.Entry.{Entry}
 use Rattle.pod_workers.specs.declared.plan.Next.{Next}
 use Rattle.pod_workers.specs.declared.plan.Next.TheVariants as next
 use Rattle.pod_workers.specs.declared.plan.Plan.{Plan}
 use Rattle.pod_workers.proofs.Histories.{slice_get-set_same, slice_get-set_other}
-use Rattle.pod_workers.proofs.Sound.{next-is-call, allowed_next, sound_host}
+use Rattle.pod_workers.proofs.Sound.{allowed_next, goes_in, sound_host}
 use Rattle.pod_workers.proofs.StepsLeft.{host-made}
 
 -- ---- a step that makes an entry
@@ -58,9 +58,9 @@ Goes w n c call faulty = ((list : NetList) × GoesOn w n c list call faulty) ⊎
 pub goes-on : (w : World) (n : ℕ) (c : Placed) (call : Call) (faulty : Bool) → Legal w → IsReady w n c → next_of w c.command (own_replies w n) ≡ next.Call call faulty → Goes w n c call faulty
 goes-on w n c call faulty legal ready is =
     let rs = own_replies w n in
-    let made = next-is-call (list_for w.plan c.command) c.command _ (is_cut w) (turn_by (list_for w.plan c.command) c.command rs) call faulty is in
+    let made = goes_in w n c.command call faulty is in
     let may : faulty ≡ false → IsAllowed (host_of w) call = λ f. allowed_next w n c call legal ready (is ∙ ap (λ b. next.Call call b) f) in
-    elim (turn-list (list_for w.plan c.command) c.command rs call made.0) [
+    elim (turn-list (list_for w.plan c.command) c.command rs call made.call_is) [
       | inl by ↦ inl (by.0, record { legal = legal; ready = ready; listed = by.1.0; turn_is = by.1.1; allowed = may })
       | inr by ↦ inr (record { legal = legal; ready = ready; unlisted = by.0; turn_is = by.1; allowed = may })
     ]

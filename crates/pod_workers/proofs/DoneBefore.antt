@@ -11,9 +11,10 @@ use Rattle.pod_workers.specs.declared.plan.Entry.{Entry}
 use Rattle.pod_workers.specs.declared.plan.Next.{Next}
 use Rattle.pod_workers.specs.declared.plan.Next.TheVariants as next
 use Rattle.pod_workers.proofs.AnswersDue.{answer_is_due}
-use Rattle.pod_workers.proofs.Facts.{two_entries, each_follows, cut_before, goes_in}
+use Rattle.pod_workers.proofs.Facts.{two_entries, each_follows, cut_before}
 use Rattle.pod_workers.proofs.Histories.{slice_get-set_other, replies_of-other}
 use Rattle.pod_workers.proofs.Order.{in_order, not_both, ready_is, before_ready, other_number}
+use Rattle.pod_workers.proofs.Sound.{goes_in}
 
 -- ---- what is done stays done
 

@@ -1,51 +1,23 @@
 -- Each entry of a legal world follows, entries stand in their order, and stops are kept.
 use Rattle.std.proofs.Common.{◌≡◌, ◌≢◌, ℕ, ◌+◌, ◌-◌, ◌<◌, ◌≤◌, ◌==◌, Bool, false, List, [], ◌∷◌, ◌++◌, length, Option, Some, None, slice_get, refl, sym, ◌∙◌, ap, subst, inl, inr, arith}
-use Rattle.std.specs.Prelude.{◌||◌, ◌&&◌}
+use Rattle.std.specs.Prelude.{◌&&◌}
 use Rattle.std.proofs.lemmas.List.{append_assoc, length_push}
 use Rattle.std.proofs.lemmas.Option.{same_Some, none-some}
-use Rattle.std.proofs.lemmas.Bool.{cases_lt, or_parts}
+use Rattle.std.proofs.lemmas.Bool.{cases_lt}
 use Rattle.std.proofs.lemmas.Bool.Decides.{eqb_tells, nat_tests}
-use Rattle.cni_verbs.specs.Progress.{turn_by}
-use Rattle.cni_verbs.specs.Script.{Turn, Calls, Finishes}
-use Rattle.cni_verbs.specs.declared.answer.Answer.TheVariants.{Stopped}
 use Rattle.kernel_types.specs.declared.call.Call.{Call}
-use Rattle.net_conf.specs.declared.list.NetList.{NetList}
-use Rattle.pod_file.specs.declared.command.Command.{Command}
 use Rattle.pod_workers.specs.Facts.{Follows, EachFollows, IsEntryOf, EachTwo, EntryIsInRound, AreOfOneContainer, GoesByRounds, Stops}
 use Rattle.pod_workers.specs.Legal.{Legal, begins, steps, refused_memory, turns}
-use Rattle.pod_workers.specs.Plans.{Placed, commands_of, list_for}
-use Rattle.pod_workers.specs.World.{World, IsReady, replies_of, own_replies, reply_to, host_of, is_faulty, is_stop, is_cut, is_cut_at, is_in_round, last_entry, done, entry_of, next_of, next_by}
+use Rattle.pod_workers.specs.Plans.{Placed, commands_of}
+use Rattle.pod_workers.specs.World.{World, IsReady, replies_of, own_replies, reply_to, host_of, is_stop, is_cut, is_cut_at, is_in_round, last_entry, done, entry_of, next_of}
 use Rattle.pod_workers.specs.declared.plan.Plan.{Plan}
 use Rattle.pod_workers.specs.declared.plan.Entry.{Entry}
 use Rattle.pod_workers.specs.declared.plan.Next.{Next}
 use Rattle.pod_workers.specs.declared.plan.Next.TheVariants as next
 use Rattle.pod_workers.proofs.Histories.{replies_of-own, replies_of-other, has_reply, last_entry-append}
 use Rattle.pod_workers.proofs.Order.{IsInOrder, in_order, not_both, other_number}
-use Rattle.pod_workers.proofs.Sound.{allowed_next, going_by}
+use Rattle.pod_workers.proofs.Sound.{allowed_next, goes_in}
 use Rattle.pod_workers.proofs.Splits.{split_nil, split_snoc, two_snoc}
-
--- ---- a step that makes a call
-
--- why a step makes this call
-pub record Goes (c : Command) (made : ℕ) (cut : Bool) (t : Turn) (call : Call) (faulty : Bool) : Type 0 where
-  pub call_is : t ≡ Calls call
-  pub fault_is : is_faulty c made ≡ faulty
-  pub no_stop : is_stop c.stop made ≡ false
-  pub no_cut : cut ≡ false
-
-pub goes_by : (list : Option NetList) (c : Command) (made : ℕ) (cut : Bool) (t : Turn) (call : Call) (faulty : Bool) → next_by list c made cut t ≡ next.Call call faulty → Goes c made cut t call faulty
-goes_by list c made cut (Finishes finish) call faulty is = absurd cc
-goes_by list c made cut (Calls k) call faulty is =
-    let g = going_by (Stopped made) c made k call faulty (is_stop c.stop made || cut) is in
-    let neither = or_parts (is_stop c.stop made) cut g.2 in
-    record { call_is = g.0; fault_is = g.1; no_stop = neither.0; no_cut = neither.1 }
-
--- the same of a command of a world
-abbrev pub GoesIn : World → ℕ → Command → Call → Bool → Type 0
-GoesIn w n c call faulty = Goes c (length (own_replies w n)) (is_cut w) (turn_by (list_for w.plan c) c (own_replies w n)) call faulty
-
-pub goes_in : (w : World) (n : ℕ) (c : Command) (call : Call) (faulty : Bool) → next_of w c (own_replies w n) ≡ next.Call call faulty → GoesIn w n c call faulty
-goes_in w n c call faulty is = goes_by (list_for w.plan c) c (length (own_replies w n)) (is_cut w) (turn_by (list_for w.plan c) c (own_replies w n)) call faulty is
 
 -- ---- each entry follows
 

@@ -11,10 +11,11 @@ use Rattle.pod_workers.specs.declared.plan.Entry.{Entry}
 use Rattle.pod_workers.specs.declared.plan.Next.{Next}
 use Rattle.pod_workers.specs.declared.plan.Next.TheVariants as next
 use Rattle.pod_workers.proofs.DoneBefore.{done-not_ready, done_before_answered, done_before_entered}
-use Rattle.pod_workers.proofs.Facts.{each_two-grows, none_two, is_reached, goes_in}
+use Rattle.pod_workers.proofs.Facts.{each_two-grows, none_two, is_reached}
 use Rattle.pod_workers.proofs.Histories.{has_reply}
 use Rattle.pod_workers.proofs.Order.{in_order}
 use Rattle.pod_workers.proofs.RoundsAscend.{rounds_ascend}
+use Rattle.pod_workers.proofs.Sound.{goes_in}
 
 -- ---- the first open command
 

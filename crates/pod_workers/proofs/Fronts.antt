@@ -14,9 +14,9 @@ use Rattle.pod_workers.specs.World.{World, IsReady, own_replies, host_of, done, 
 use Rattle.pod_workers.specs.declared.plan.Entry.{Entry}
 use Rattle.pod_workers.specs.declared.plan.Next.{Next}
 use Rattle.pod_workers.specs.declared.plan.Next.TheVariants as next
-use Rattle.pod_workers.proofs.Facts.{goes_in}
 use Rattle.pod_workers.proofs.Histories.{slice_get-set_same, slice_get-set_other, replies_of-other}
 use Rattle.pod_workers.proofs.Splits.{split_nil, split_snoc}
+use Rattle.pod_workers.proofs.Sound.{goes_in}
 
 -- ---- one world after another
 

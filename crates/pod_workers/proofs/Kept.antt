@@ -1,15 +1,15 @@
 -- Each change of a step keeps what a book keeps.
 use Rattle.std.proofs.Common.{◌≡◌, ℕ, ◌+◌, ◌-◌, ◌<◌, ◌≤◌, ◌^◌, Bool, true, false, List, [], ◌∷◌, ◌++◌, length, Option, Some, None, slice_get, slice_set, refl, sym, ◌∙◌, ap, subst, arith, inl, inr}
-use Rattle.std.specs.Prelude.{if◌then◌else◌, ◌||◌, nat_le, IsSome}
+use Rattle.std.specs.Prelude.{nat_le, IsSome}
 use Rattle.std.proofs.lemmas.List.{length-set, length_push}
 use Rattle.std.proofs.lemmas.Option.{same_Some, none-some, slice_get_within}
 use Rattle.std.proofs.lemmas.Bool.{false≢true}
 use Rattle.std.proofs.lemmas.Bool.Decides.{eqb_tells, leb_tells}
 use Rattle.cni_verbs.specs.Progress.{progress, advanced, turn_by}
-use Rattle.cni_verbs.specs.Script.{State, Turn, Calls, Finishes, turn, state_from, start_state, advance, outside_advance, outside_from, outside_start}
+use Rattle.cni_verbs.specs.Script.{State, turn, state_from, start_state, advance, outside_advance, outside_from, outside_start}
 use Rattle.cni_verbs.proofs.AfterReplies.{after_replies-append}
 use Rattle.cni_verbs.specs.declared.answer.Answer.{Answer}
-use Rattle.cni_verbs.specs.declared.answer.Answer.TheVariants.{OutOfMemory, Stopped}
+use Rattle.cni_verbs.specs.declared.answer.Answer.TheVariants.{OutOfMemory}
 use Rattle.kernel_types.specs.declared.call.Call.{Call}
 use Rattle.kernel_types.specs.declared.call.Reply.{Reply}
 use Rattle.kernel_types.specs.declared.object.Host.{Host}
@@ -19,7 +19,7 @@ use Rattle.pod_workers.specs.Index.{command_in, is_cut_by}
 use Rattle.pod_workers.specs.Legal.{Legal, steps, refused_memory}
 use Rattle.pod_workers.specs.Plans.{Placed, commands_of, list_for}
 use Rattle.pod_workers.specs.Slots.{Fits, CarriesOn, IsKept, IsWithin, MayBeMade, MayCarryOn, next_in, opened, opened_by, slot_after}
-use Rattle.pod_workers.specs.World.{World, IsReady, IsReadyNumber, answered, done, end_of, entry_by, entry_of, host_of, host_on, is_cut, is_faulty, is_stop, next_by, next_of, own_replies, stepped, with_entry}
+use Rattle.pod_workers.specs.World.{World, IsReady, IsReadyNumber, answered, done, end_of, entry_by, entry_of, host_of, host_on, is_cut, is_stop, next_by, next_of, own_replies, stepped, with_entry}
 use Rattle.pod_workers.specs.declared.index.Place.{Place}
 use Rattle.pod_workers.specs.declared.plan.Entry.{Entry}
 use Rattle.pod_workers.specs.declared.plan.Next.{Next}
@@ -31,7 +31,7 @@ use Rattle.pod_workers.specs.declared.slots.Outcome.{Outcome}
 use Rattle.pod_workers.specs.declared.slots.Outcome.TheVariants as outcome
 use Rattle.pod_workers.proofs.Histories.{slice_get-set_same, slice_get-set_other, replies_of-own, replies_of-other, after-append, length-replies_of}
 use Rattle.pod_workers.proofs.ReadyByIndex.{cut-is}
-use Rattle.pod_workers.proofs.Sound.{allowed_next, fine, list_for-found}
+use Rattle.pod_workers.proofs.Sound.{allowed_next, fine, goes_in, list_for-found}
 use Rattle.pod_workers.proofs.WellFormedPlans.{are_numbered}
 
 -- ---- a run and its replies
@@ -178,18 +178,10 @@ call_keeps host slots places before w n c e s kept ready legal own fits =
 nat-less : (most made : ℕ) → nat_le most made ≡ false → made + 1 ≤ most
 nat-less most made below = elim (leb_tells most made) [ inl t ↦ absurd (false≢true (sym below ∙ t.0)) | inr f ↦ (let less = f.1 in omega arith) ]
 
-not-stopped-by : (a b : Bool) (x : Answer) (k call : Call) (f g : Bool) → (if a || b then next.Answer x else next.Call k f) ≡ next.Call call g → a ≡ false
-not-stopped-by true b x k call f g is = absurd cc
-not-stopped-by false b x k call f g is = refl
-
 -- a call is made below the stop
 within-more : (stop : Option ℕ) (made : ℕ) → is_stop stop made ≡ false → IsWithin stop (made + 1)
 within-more None made below = tt
 within-more (Some most) made below = nat-less most made below
-
-not-stopped : (list : Option NetList) (c : Command) (made : ℕ) (cut : Bool) (t : Turn) (call : Call) (faulty : Bool) → next_by list c made cut t ≡ next.Call call faulty → is_stop c.stop made ≡ false
-not-stopped list c made cut (Finishes f) call faulty is = absurd cc
-not-stopped list c made cut (Calls k) call faulty is = not-stopped-by (is_stop c.stop made) cut (Stopped made) k call (is_faulty c made) faulty is
 
 -- ---- a step as it was done
 
@@ -216,10 +208,9 @@ went-by host host' slots places before w n c h' t (next.Call call faulty) kept r
     ap (λ k. entry_by k c.command.number call faulty) kept.host_is ∙ ap (λ k. entry_by (host_of w) k call faulty) number in
     let made : with_entry w e ≡ stepped w n c.command = ap (with_entry w) same_entry ∙ sym (ap (done w n) is) in
     let legal : Legal (with_entry w e) = steps w (with_entry w e) n c kept.legal ready made in
-    let goes = not-stopped list c.command (length rs) (is_cut w) (turn_by list c.command rs) call faulty is in
     let more = length_push rs e.reply in
     let fits : Fits list c.command (rs ++ e.reply ∷ []) (Some (slot_after (slot_at list c.command rs) e.reply)) =
-    (sym more, sym (progress-append list c.command rs e.reply), within-more c.command.stop (length rs) goes) in
+    (sym more, sym (progress-append list c.command rs e.reply), within-more c.command.stop (length rs) (goes_in w n c.command call faulty is).no_stop) in
     let still = call_keeps host slots places before w n c e (slot_after (slot_at list c.command rs) e.reply) kept ready legal number fits in
     record {
       kept = rw (d.0, d.1, d.2) still;

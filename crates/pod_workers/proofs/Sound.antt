@@ -2,9 +2,10 @@
 -- run makes may be made.
 use Rattle.std.proofs.Common.{◌≡◌, ℕ, zero, suc, Bool, true, false, cond, List, [], ◌∷◌, ◌++◌, map, length, Option, Some, None, refl, sym, ◌∙◌, ap, subst, arith, inl, inr}
 use Rattle.std.proofs.lemmas.Option.{same_Some, none-some}
+use Rattle.std.proofs.lemmas.Bool.{or_parts}
 use Rattle.std.proofs.lemmas.Bool.Decides.{eqb_tells}
 use Rattle.std.proofs.lemmas.Slice.Eq.{bytes_eq-Decides}
-use Rattle.std.specs.Prelude.{if◌then◌else◌, find, slice_get}
+use Rattle.std.specs.Prelude.{◌||◌, if◌then◌else◌, find, slice_get}
 use Rattle.std.specs.List.{list_all}
 use Rattle.std.specs.Option.{option_map}
 use Rattle.std.specs.Str.{bytes_eq}
@@ -47,7 +48,7 @@ use Rattle.pod_workers.specs.Lasts.{AreLastsOfSets, IsLastOfSet}
 use Rattle.pod_workers.specs.Legal.{Legal, IsBegun, begins, steps, refused_memory, turns}
 use Rattle.pod_file.specs.Commands.{is_of_network}
 use Rattle.pod_workers.specs.Plans.{Placed, IsWellFormed, list_for, list_in, list_named}
-use Rattle.pod_workers.specs.World.{World, IsReady, after, host_of, own_replies, next_by, next_of, is_cut, is_faulty, entry_of, done}
+use Rattle.pod_workers.specs.World.{World, IsReady, after, host_of, own_replies, next_by, next_of, is_cut, is_faulty, is_stop, entry_of, done}
 use Rattle.pod_workers.specs.declared.plan.Next.{Next}
 use Rattle.pod_workers.specs.declared.plan.Next.TheVariants as next
 use Rattle.pod_workers.specs.declared.plan.Plan.{Plan}
@@ -297,15 +298,31 @@ by-list p host c rs None call well sound lasts found is = outside-well p host c 
 by-list p host c rs (Some list) call well sound lasts found is =
     turn-well p host list c (state_after list c rs) call well sound lasts (if-listed (is_of_network c.verb) (list_named p.lists c.network) list found) (left-are-planned list c rs) is
 
-pub going_by : (a : Answer) (c : Command) (made : ℕ) (k call : Call) (faulty b : Bool) → (if b then next.Answer a else next.Call k (is_faulty c made)) ≡ next.Call call faulty
+going_by : (a : Answer) (c : Command) (made : ℕ) (k call : Call) (faulty b : Bool) → (if b then next.Answer a else next.Call k (is_faulty c made)) ≡ next.Call call faulty
     → (Calls k ≡ Calls call) × (is_faulty c made ≡ faulty) × (b ≡ false)
 going_by a c made k call faulty true is = absurd cc
 going_by a c made k call faulty false is = (cc, cc, refl)
 
--- a step that makes a call makes the script's
-pub next-is-call : (list : Option NetList) (c : Command) (made : ℕ) (cut : Bool) (t : Turn) (call : Call) (faulty : Bool) → next_by list c made cut t ≡ next.Call call faulty → (t ≡ Calls call) × (is_faulty c made ≡ faulty)
-next-is-call list c made cut (Finishes finish) call faulty is = absurd cc
-next-is-call list c made cut (Calls k) call faulty is = let g = going_by (Stopped made) c made k call faulty _ is in (g.0, g.1)
+-- why a step makes this call
+pub record Goes (c : Command) (made : ℕ) (cut : Bool) (t : Turn) (call : Call) (faulty : Bool) : Type 0 where
+  pub call_is : t ≡ Calls call
+  pub fault_is : is_faulty c made ≡ faulty
+  pub no_stop : is_stop c.stop made ≡ false
+  pub no_cut : cut ≡ false
+
+pub goes_by : (list : Option NetList) (c : Command) (made : ℕ) (cut : Bool) (t : Turn) (call : Call) (faulty : Bool) → next_by list c made cut t ≡ next.Call call faulty → Goes c made cut t call faulty
+goes_by list c made cut (Finishes finish) call faulty is = absurd cc
+goes_by list c made cut (Calls k) call faulty is =
+    let g = going_by (Stopped made) c made k call faulty (is_stop c.stop made || cut) is in
+    let neither = or_parts (is_stop c.stop made) cut g.2 in
+    record { call_is = g.0; fault_is = g.1; no_stop = neither.0; no_cut = neither.1 }
+
+-- the same of a command of a world
+abbrev pub GoesIn : World → ℕ → Command → Call → Bool → Type 0
+GoesIn w n c call faulty = Goes c (length (own_replies w n)) (is_cut w) (turn_by (list_for w.plan c) c (own_replies w n)) call faulty
+
+pub goes_in : (w : World) (n : ℕ) (c : Command) (call : Call) (faulty : Bool) → next_of w c (own_replies w n) ≡ next.Call call faulty → GoesIn w n c call faulty
+goes_in w n c call faulty is = goes_by (list_for w.plan c) c (length (own_replies w n)) (is_cut w) (turn_by (list_for w.plan c) c (own_replies w n)) call faulty is
 
 -- ---- every legal world
 
@@ -320,8 +337,8 @@ list_for-found p c = refl
 
 next-well : (w : World) (c : Command) (rs : List Reply) (call : Call) (faulty : Bool) → IsFine w → next_of w c rs ≡ next.Call call faulty → GoesWell w.plan (host_of w) call
 next-well w c rs call faulty fine is =
-    let t = next-is-call (list_for w.plan c) c (length rs) (is_cut w) (turn_by (list_for w.plan c) c rs) call faulty is in
-    by-list w.plan (host_of w) c rs (list_for w.plan c) call fine.plan fine.sound fine.lasts (list_for-found w.plan c) t.0
+    let goes = goes_by (list_for w.plan c) c (length rs) (is_cut w) (turn_by (list_for w.plan c) c rs) call faulty is in
+    by-list w.plan (host_of w) c rs (list_for w.plan c) call fine.plan fine.sound fine.lasts (list_for-found w.plan c) goes.call_is
 
 either-fine : (p : Plan) (b : Bool) (old new : Host) → IsSound old → AreLastsOfSets p old.lasts → IsSound new → AreLastsOfSets p new.lasts → IsSound (if b then old else new) × AreLastsOfSets p (if b then old else new).lasts
 either-fine p true old new a b d e = (a, b)

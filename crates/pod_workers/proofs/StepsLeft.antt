@@ -28,7 +28,7 @@ use Rattle.plan_words.specs.Share.{share_of}
 use Rattle.pod_workers.specs.CallsLeft.{AddsInAtMost, calls_left, collection_left, most_calls}
 use Rattle.pod_workers.specs.Legal.{Legal}
 use Rattle.pod_workers.specs.Plans.{Placed, commands_of, list_for}
-use Rattle.pod_workers.specs.World.{World, IsReady, IsReadyNumber, answered, done, entry_of, host_of, host_on, is_cut, next_of, own_replies, reply_to, with_entry}
+use Rattle.pod_workers.specs.World.{World, IsReady, IsReadyNumber, answered, done, entry_of, host_of, host_on, next_of, own_replies, reply_to, with_entry}
 use Rattle.pod_workers.specs.declared.plan.Next.{Next}
 use Rattle.pod_workers.specs.declared.plan.Next.TheVariants as next
 use Rattle.pod_workers.specs.declared.plan.StepEnd.{StepEnd}
@@ -38,7 +38,7 @@ use Rattle.pod_workers.proofs.Histories.{after-append, replies_of-own, slice_get
 use Rattle.pod_workers.proofs.MostCalls.{adds_in_most_calls}
 use Rattle.pod_workers.proofs.Planned.{LeftArePlanned, LeftIsOutside, left-are-planned, left-is-outside}
 use Rattle.pod_workers.proofs.RoundDone.{IsStepped}
-use Rattle.pod_workers.proofs.Sound.{allowed_next, next-is-call, sound_host}
+use Rattle.pod_workers.proofs.Sound.{allowed_next, goes_in, sound_host}
 use Rattle.pod_workers.proofs.Kept.{outside_from-append, state_from-append}
 use Rattle.pod_workers.proofs.Replies.{StaysTrue, true-advance}
 
@@ -207,7 +207,7 @@ call-takes w n number c call faulty legal ready is goes =
     let list = list_for w.plan c.command in
     let rs = own_replies w n in
     let e = entry_of (host_of w) n call faulty in
-    let turn_is = (next-is-call list c.command (length rs) (is_cut w) (turn_by list c.command rs) call faulty goes).0 in
+    let turn_is = (goes_in w n c.command call faulty goes).call_is in
     let may : MayGo (host_of w) call faulty = record { sound = sound_host w legal; allowed = λ f. allowed_next w n c call legal ready (goes ∙ ap (λ b. next.Call call b) f) } in
     let before = left-at w n number (Some c) (Some None) is ready.there ready.unanswered in
     let now = left-at (with_entry w e) n number (Some c) (Some None) is ready.there ready.unanswered in
