@@ -15,7 +15,7 @@ use Rattle.pod_file.specs.declared.command.Command.{Command}
 use Rattle.pod_workers.specs.Facts.{EachFollows, EntryIsInRound, IsScripts, IsStopped, AnswerIsDue, IsDue}
 use Rattle.pod_workers.specs.Legal.{Legal, begins, steps, refused_memory, turns}
 use Rattle.pod_workers.specs.Plans.{Placed, commands_of, list_for}
-use Rattle.pod_workers.specs.World.{World, IsReady, own_replies, host_of, is_faulty, is_stop, is_cut, is_cut_at, is_in_round, last_entry, done, answered, with_entry, entry_of, next_of, next_by}
+use Rattle.pod_workers.specs.World.{World, IsReady, IsWithin, own_replies, host_of, is_faulty, is_stop, is_cut, is_cut_at, is_in_round, last_entry, done, answered, with_entry, entry_of, next_of, next_by}
 use Rattle.pod_workers.specs.declared.plan.Plan.{Plan}
 use Rattle.pod_workers.specs.declared.plan.Entry.{Entry}
 use Rattle.pod_workers.specs.declared.plan.Next.{Next}
@@ -69,11 +69,11 @@ answers_by : (list : Option NetList) (c : Command) (made : ℕ) (cut : Bool) (t 
 answers_by list c made cut (Finishes finish) a is = inl (finish, refl, cc)
 answers_by list c made cut (Calls k) a is = let s = stopping_by c made k a (is_faulty c made) (is_stop c.stop made || cut) is in inr (k, refl, s.0, s.1)
 
-at_stop : (o : Option ℕ) (made : ℕ) → is_stop o made ≡ true → ((most : ℕ) → o ≡ Some most → made ≤ most) → o ≡ Some made
-at_stop None made is below = absurd (let t : false ≡ true = is in cc)
-at_stop (Some most) made is below =
+at_stop : (o : Option ℕ) (made : ℕ) → is_stop o made ≡ true → IsWithin o made → o ≡ Some made
+at_stop None made is within = absurd (let t : false ≡ true = is in cc)
+at_stop (Some most) made is within =
     let up : most ≤ made = grind (arith, nat_tests) in
-    let down = below most refl in
+    let down : made ≤ most = within in
     let same : most ≡ made = omega arith in
     ap Some same
 
@@ -88,7 +88,7 @@ due_now v n c a legal ready is =
       | inr stopped ↦ inr (
         (stopped.0, stopped.1, stopped.2),
         elim (or_cases (is_stop c.command.stop made) (is_cut v) stopped.3) [
-          | inl own ↦ inl (at_stop c.command.stop made own (λ most at. keeps_stop v legal n most c ready.there at))
+          | inl own ↦ inl (at_stop c.command.stop made own (keeps_stop v legal n c ready.there))
           | inr cut ↦ inr (subst (EntryIsInRound v.plan v.history v.plan.stop_at) (sym ready.current) (cut_stands v v.plan.stop_at (last_entry v.history) (each_follows v legal) refl cut))
         ],
       )

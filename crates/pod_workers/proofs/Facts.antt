@@ -2,14 +2,14 @@
 use Rattle.std.proofs.Common.{◌≡◌, ◌≢◌, ℕ, ◌+◌, ◌-◌, ◌<◌, ◌≤◌, ◌==◌, Bool, false, List, [], ◌∷◌, ◌++◌, length, Option, Some, None, slice_get, refl, sym, ◌∙◌, ap, subst, inl, inr, arith}
 use Rattle.std.specs.Prelude.{◌&&◌}
 use Rattle.std.proofs.lemmas.List.{append_assoc, length_push}
-use Rattle.std.proofs.lemmas.Option.{same_Some, none-some}
+use Rattle.std.proofs.lemmas.Option.{same_Some}
 use Rattle.std.proofs.lemmas.Bool.{cases_lt}
 use Rattle.std.proofs.lemmas.Bool.Decides.{eqb_tells, nat_tests}
 use Rattle.kernel_types.specs.declared.call.Call.{Call}
 use Rattle.pod_workers.specs.Facts.{Follows, EachFollows, IsEntryOf, EachTwo, EntryIsInRound, AreOfOneContainer, GoesByRounds, Stops}
 use Rattle.pod_workers.specs.Legal.{Legal, begins, steps, refused_memory, turns}
 use Rattle.pod_workers.specs.Plans.{Placed, commands_of}
-use Rattle.pod_workers.specs.World.{World, IsReady, replies_of, own_replies, reply_to, host_of, is_stop, is_cut, is_cut_at, is_in_round, last_entry, done, entry_of, next_of}
+use Rattle.pod_workers.specs.World.{World, IsReady, IsWithin, replies_of, own_replies, reply_to, host_of, is_stop, is_cut, is_cut_at, is_in_round, last_entry, done, entry_of, next_of}
 use Rattle.pod_workers.specs.declared.plan.Plan.{Plan}
 use Rattle.pod_workers.specs.declared.plan.Entry.{Entry}
 use Rattle.pod_workers.specs.declared.plan.Next.{Next}
@@ -177,28 +177,33 @@ uncut_at p h before rest e n c (Some number) cut at of_e named is =
 -- ---- the stop of a command
 
 abbrev KeepsStop : World → Type 0
-KeepsStop w = (n most : ℕ) (c : Placed) → slice_get (commands_of w.plan) n ≡ Some c → c.command.stop ≡ Some most → length (own_replies w n) ≤ most
+KeepsStop w = (n : ℕ) (c : Placed) → slice_get (commands_of w.plan) n ≡ Some c → IsWithin c.command.stop (length (own_replies w n))
 
-below_stop : (o : Option ℕ) (made most : ℕ) → is_stop o made ≡ false → o ≡ Some most → made < most
-below_stop None made most going is = absurd (none-some most is)
-below_stop (Some k) made most going is = let same = same_Some k most is in let less : made < k = grind (arith, nat_tests) in omega arith
+pub none-made : (stop : Option ℕ) → IsWithin stop 0
+none-made None = tt
+none-made (Some most) = omega arith
+
+-- a call is made below the stop
+pub within-more : (stop : Option ℕ) (made : ℕ) → is_stop stop made ≡ false → IsWithin stop (made + 1)
+within-more None made below = tt
+within-more (Some most) made below = let less : made < most = grind (arith, nat_tests) in omega arith
 
 stop_done : (v : World) (n : ℕ) (c : Placed) (x : Next) → KeepsStop v → IsReady v n c → next_of v c.command (own_replies v n) ≡ x → KeepsStop (done v n x)
 stop_done v n c (next.Answer a) keeps ready is = keeps
-stop_done v n c (next.Call call faulty) keeps ready is = λ m most d at stop.
+stop_done v n c (next.Call call faulty) keeps ready is = λ m d at.
     let e = entry_of (host_of v) n call faulty in
     elim (eqb_tells m n) [
       | inl t ↦
           let same : c ≡ d = same_Some c d (sym ready.there ∙ ap (slice_get (commands_of v.plan)) (sym t.1) ∙ at) in
-          let less = below_stop c.command.stop (length (own_replies v n)) most (goes_in v n c.command call faulty is).no_stop (ap (λ (q : Placed). q.command.stop) same ∙ stop) in
+          let more = within-more c.command.stop (length (own_replies v n)) (goes_in v n c.command call faulty is).no_stop in
           let grown : length (replies_of m (v.history ++ e ∷ [])) ≡ length (own_replies v n) + 1 =
           ap (λ j. length (replies_of j (v.history ++ e ∷ []))) t.1 ∙ ap length (replies_of-own n v.history e refl) ∙ length_push (own_replies v n) e.reply in
-          omega arith
-      | inr f ↦ rw (replies_of-other m v.history e (other_number e n m refl f.1)) (keeps m most d at stop)
+          subst (IsWithin d.command.stop) (sym grown) (subst (λ (q : Placed). IsWithin q.command.stop (length (own_replies v n) + 1)) same more)
+      | inr f ↦ rw (replies_of-other m v.history e (other_number e n m refl f.1)) (keeps m d at)
     ]
 
 pub keeps_stop : (w : World) → Legal w → KeepsStop w
-keeps_stop _ (begins w begun) = λ n most c at stop. rw (ap (replies_of n) begun.empty) (omega arith)
+keeps_stop _ (begins w begun) = λ n c at. rw (ap (replies_of n) begun.empty) (none-made c.command.stop)
 keeps_stop _ (steps v w n c legal ready is) = subst KeepsStop (sym is) (stop_done v n c (next_of v c.command (own_replies v n)) (keeps_stop v legal) ready refl)
 keeps_stop _ (refused_memory v w n c legal ready is) = subst KeepsStop (sym is) (keeps_stop v legal)
 keeps_stop _ (turns v w legal less over is) = subst KeepsStop (sym is) (keeps_stop v legal)

@@ -1,10 +1,9 @@
 -- Each change of a step keeps what a book keeps.
-use Rattle.std.proofs.Common.{◌≡◌, ℕ, ◌+◌, ◌-◌, ◌<◌, ◌≤◌, ◌^◌, Bool, true, false, List, [], ◌∷◌, ◌++◌, length, Option, Some, None, slice_get, slice_set, refl, sym, ◌∙◌, ap, subst, arith, inl, inr}
-use Rattle.std.specs.Prelude.{nat_le, IsSome}
+use Rattle.std.proofs.Common.{◌≡◌, ℕ, ◌+◌, ◌-◌, ◌<◌, ◌≤◌, ◌^◌, Bool, true, List, [], ◌∷◌, ◌++◌, length, Option, Some, None, slice_get, slice_set, refl, sym, ◌∙◌, ap, subst, arith, inl, inr}
+use Rattle.std.specs.Prelude.{IsSome}
 use Rattle.std.proofs.lemmas.List.{length-set, length_push}
 use Rattle.std.proofs.lemmas.Option.{same_Some, none-some, slice_get_within}
-use Rattle.std.proofs.lemmas.Bool.{false≢true}
-use Rattle.std.proofs.lemmas.Bool.Decides.{eqb_tells, leb_tells}
+use Rattle.std.proofs.lemmas.Bool.Decides.{eqb_tells}
 use Rattle.cni_verbs.specs.Progress.{progress, advanced, turn_by}
 use Rattle.cni_verbs.specs.Script.{State, turn, state_from, start_state, advance, outside_advance, outside_from, outside_start}
 use Rattle.cni_verbs.proofs.AfterReplies.{after_replies-append}
@@ -18,8 +17,8 @@ use Rattle.pod_file.specs.declared.command.Command.{Command}
 use Rattle.pod_workers.specs.Index.{command_in, is_cut_by}
 use Rattle.pod_workers.specs.Legal.{Legal, steps, refused_memory}
 use Rattle.pod_workers.specs.Plans.{Placed, commands_of, list_for}
-use Rattle.pod_workers.specs.Slots.{Fits, CarriesOn, IsKept, IsWithin, MayBeMade, MayCarryOn, next_in, opened, opened_by, slot_after}
-use Rattle.pod_workers.specs.World.{World, IsReady, IsReadyNumber, answered, done, end_of, entry_by, entry_of, host_of, host_on, is_cut, is_stop, next_by, next_of, own_replies, stepped, with_entry}
+use Rattle.pod_workers.specs.Slots.{Fits, CarriesOn, IsKept, MayBeMade, MayCarryOn, next_in, opened, opened_by, slot_after}
+use Rattle.pod_workers.specs.World.{World, IsReady, IsReadyNumber, IsWithin, answered, done, end_of, entry_by, entry_of, host_of, host_on, is_cut, next_by, next_of, own_replies, stepped, with_entry}
 use Rattle.pod_workers.specs.declared.index.Place.{Place}
 use Rattle.pod_workers.specs.declared.plan.Entry.{Entry}
 use Rattle.pod_workers.specs.declared.plan.Next.{Next}
@@ -29,6 +28,7 @@ use Rattle.pod_workers.specs.declared.plan.StepEnd.TheVariants as ends
 use Rattle.pod_workers.specs.declared.slots.Slot.{Slot}
 use Rattle.pod_workers.specs.declared.slots.Outcome.{Outcome}
 use Rattle.pod_workers.specs.declared.slots.Outcome.TheVariants as outcome
+use Rattle.pod_workers.proofs.Facts.{none-made, within-more}
 use Rattle.pod_workers.proofs.Histories.{slice_get-set_same, slice_get-set_other, replies_of-own, replies_of-other, after-append, length-replies_of}
 use Rattle.pod_workers.proofs.ReadyByIndex.{cut-is}
 use Rattle.pod_workers.proofs.Sound.{allowed_next, fine, goes_in, list_for-found}
@@ -59,10 +59,6 @@ turn-of : (list : Option NetList) (c : Command) (rs : List Reply) → turn c (pr
 unfolding turn
 turn-of None c rs = refl
 turn-of (Some list) c rs = refl
-
-none-made : (stop : Option ℕ) → IsWithin stop 0
-none-made None = tt
-none-made (Some most) = omega arith
 
 -- the run that was given these replies
 abbrev pub slot_at : Option NetList → Command → List Reply → Slot
@@ -174,14 +170,6 @@ call_keeps host slots places before w n c e s kept ready legal own fits =
       before_is = kept.before_is;
       round_within = kept.round_within;
     }
-
-nat-less : (most made : ℕ) → nat_le most made ≡ false → made + 1 ≤ most
-nat-less most made below = elim (leb_tells most made) [ inl t ↦ absurd (false≢true (sym below ∙ t.0)) | inr f ↦ (let less = f.1 in omega arith) ]
-
--- a call is made below the stop
-within-more : (stop : Option ℕ) (made : ℕ) → is_stop stop made ≡ false → IsWithin stop (made + 1)
-within-more None made below = tt
-within-more (Some most) made below = nat-less most made below
 
 -- ---- a step as it was done
 

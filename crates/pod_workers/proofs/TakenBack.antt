@@ -10,7 +10,7 @@ use Rattle.cni_verbs.specs.declared.answer.Answer.TheVariants.{Stopped}
 use Rattle.pod_workers.specs.Facts.{Follows, IsEntryOf, EachTwo, EntryIsInRound, IsUntouched, AreOfOneContainer, IsScripts, IsStopOf, IsDone, IsLegalByClauses, IsDue}
 use Rattle.pod_workers.specs.Legal.{Legal, steps, refused_memory, turns}
 use Rattle.pod_workers.specs.Plans.{Placed, commands_of, list_for}
-use Rattle.pod_workers.specs.World.{World, IsReady, IsAnswered, own_replies, host_of, is_faulty, is_stop, is_cut, is_cut_at, is_in_round, last_entry, answered, with_entry, entry_of, next_of, next_by, next_round, done}
+use Rattle.pod_workers.specs.World.{World, IsReady, IsAnswered, IsWithin, own_replies, host_of, is_faulty, is_stop, is_cut, is_cut_at, is_in_round, last_entry, answered, with_entry, entry_of, next_of, next_by, next_round, done}
 use Rattle.pod_workers.specs.declared.plan.Plan.{Plan}
 use Rattle.pod_workers.specs.declared.plan.Entry.{Entry}
 use Rattle.pod_workers.specs.declared.plan.Next.TheVariants as next
@@ -201,8 +201,9 @@ done-back v e n m d own other is =
     let same = replies-back v e n m own other in
     (is.0, is.1, elim is.2 [ inl scripts ↦ inl (rw (← same) scripts) | inr (inl most) ↦ inr (inl (rw (← same) most)) | inr (inr lacking) ↦ inr (inr lacking) ])
 
-stop-back : (v : World) (e : Entry) (m most : ℕ) → length (own_replies (with_entry v e) m) ≤ most → length (own_replies v m) ≤ most
-stop-back v e m most less = elim (eqb_tells e.command (m + 1)) [
+stop-back : (v : World) (e : Entry) (m : ℕ) (stop : Option ℕ) → IsWithin stop (length (own_replies (with_entry v e) m)) → IsWithin stop (length (own_replies v m))
+stop-back v e m None within = tt
+stop-back v e m (Some most) within = let less : length (own_replies (with_entry v e) m) ≤ most = within in elim (eqb_tells e.command (m + 1)) [
   | inl t ↦ let longer = ap length (replies_of-own m v.history e t.1) ∙ length_push (own_replies v m) e.reply in omega arith
   | inr f ↦ let same = ap length (replies_of-other m v.history e f.1) in omega arith
 ]
@@ -227,7 +228,7 @@ clauses_before_entry v e n c k may = record {
     entries = each_two-shrinks v.plan v.history e (λ number m d j b. AreOfOneContainer d b → m ≤ j) k.containers.entries;
   };
   stops = record {
-    own = λ m most d at stop. stop-back v e m most (k.stops.own m most d at stop);
+    own = λ m d at. stop-back v e m d.command.stop (k.stops.own m d at);
     round = each_two-shrinks v.plan v.history e (λ number m d j b. v.plan.stop_at ≡ Some number → d.round < b.round) k.stops.round;
   };
   answers = λ m a d at there.

@@ -10,7 +10,7 @@ use Rattle.pod_file.specs.declared.command.Command.{Command}
 use Rattle.pod_workers.specs.Index.{IsIndex}
 use Rattle.pod_workers.specs.Legal.{Legal}
 use Rattle.pod_workers.specs.Plans.{Placed, commands_of, list_for, list_in, placed_from}
-use Rattle.pod_workers.specs.World.{World, entry_by, host_of, host_on, next_by, own_replies, reply_to}
+use Rattle.pod_workers.specs.World.{World, IsWithin, entry_by, host_of, host_on, next_by, own_replies, reply_to}
 use Rattle.pod_workers.specs.declared.index.Place.{Place}
 use Rattle.pod_workers.specs.declared.plan.Entry.{Entry}
 use Rattle.pod_workers.specs.declared.plan.Next.{Next}
@@ -35,11 +35,6 @@ next_in c cut s = next_by s.run.list c s.made cut (turn c s.run.state)
 
 abbrev pub slot_after : Slot → Reply → Slot
 slot_after s r = record { run = advanced s.run r; made = s.made + 1 }
-
--- no more calls than the command is to make
-abbrev pub IsWithin : Option ℕ → ℕ → Type 0
-IsWithin None made = Unit {0}
-IsWithin (Some most) made = made ≤ most
 
 -- where the command is stopped, its number of calls fits the answer
 abbrev pub IsCountable : Command → Bool → ℕ → Type 0

@@ -1,5 +1,5 @@
 -- A plan, its history and answers, and what one step makes of them.
-use Rattle.std.specs.Prelude.{◌≡◌, ℕ, ◌+◌, ◌-◌, ◌<◌, ◌==◌, Bool, false, ◌||◌, ◌&&◌, List, [], ◌∷◌, ◌++◌, length, map, filter, Option, Some, None, slice_get, slice_set, nat_le, if◌then◌else◌}
+use Rattle.std.specs.Prelude.{◌≡◌, ℕ, ◌+◌, ◌-◌, ◌<◌, ◌≤◌, ◌==◌, Bool, false, ◌||◌, ◌&&◌, List, [], ◌∷◌, ◌++◌, length, map, filter, Option, Some, None, slice_get, slice_set, nat_le, if◌then◌else◌}
 use Rattle.std.specs.List.{list_any}
 use Rattle.cni_verbs.specs.Progress.{turn_by, answer_by}
 pub use Rattle.cni_verbs.specs.Replies.{reply_to}
@@ -75,6 +75,11 @@ is_faulty c made = list_any (λ k. k == made + 1) c.faults
 abbrev pub is_stop : Option ℕ → ℕ → Bool
 is_stop None made = false
 is_stop (Some most) made = nat_le most made
+
+-- no more calls than the command is to make
+abbrev pub IsWithin : Option ℕ → ℕ → Type 0
+IsWithin None made = Unit {0}
+IsWithin (Some most) made = made ≤ most
 
 abbrev pub last_entry : List Entry → Option Entry
 last_entry h = slice_get h (length h - 1)

@@ -6,9 +6,9 @@ ghost use Rattle.cni_verbs.specs.Replies.{host_after, reply_to};
 ghost use Rattle.cni_verbs.specs.Script.{IsOpen};
 ghost use Rattle.kernel_types.specs.Allowed.{IsAllowed};
 ghost use Rattle.kernel_types.specs.Replies.{holds_text_or_list, is_fault};
-ghost use Rattle.pod_workers.specs.Slots.{IsCountable, CarriesOn, IsWithin, MayCarryOn, next_in, opened_by, slot_after};
+ghost use Rattle.pod_workers.specs.Slots.{IsCountable, CarriesOn, MayCarryOn, next_in, opened_by, slot_after};
 ghost use Rattle.pod_workers.specs.Tasks.{IsListed};
-ghost use Rattle.pod_workers.specs.World.{entry_by, host_on, is_stop};
+ghost use Rattle.pod_workers.specs.World.{IsWithin, entry_by, host_on, is_stop};
 
 use crate::join::list_of;
 use crate::plan::{Entry, Next};
