@@ -101,7 +101,7 @@ whole _ (turns v w legal less over is) = subst (λ u. EachIsDoneBefore u AreOfOn
 
 pub goes_one_by_one : (w : World) → Legal w → GoesOneByOne w
 goes_one_by_one w legal = record {
-  first = λ m n d c less at_m at_n besides. (in_order w legal).first m n d c less at_m at_n besides.0 besides.1;
+  first = (in_order w legal).first;
   whole = whole w legal;
   entries = (two_entries w legal).containers;
 }

@@ -96,7 +96,7 @@ one_by_one : (w : World) (before rest : List Entry) (e : Entry) (m n : ℕ) (d c
     → AreOfOneContainer d c → m ≤ n
 one_by_one w before rest e m n d c order ready at of_e besides =
     elim (cases_lt n m) [
-      | inl less ↦ absurd (elim (order.first n m c d less ready.there of_e.there (sym besides.0) (sym besides.1)) [
+      | inl less ↦ absurd (elim (order.first n m c d less ready.there of_e.there (sym besides.0, sym besides.1)) [
         | inl u ↦ has_reply m w.history before rest e at of_e.number u.no_reply
         | inr a ↦ not_both w n a ready.unanswered
       ])

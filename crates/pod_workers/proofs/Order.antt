@@ -9,7 +9,7 @@ use Rattle.std.proofs.lemmas.Slice.Eq.{bytes_eq-Decides}
 use Rattle.cni_verbs.specs.declared.answer.Answer.{Answer}
 use Rattle.cni_verbs.specs.declared.answer.Answer.TheVariants.{OutOfMemory}
 use Rattle.pod_file.specs.Rounds.{is_exclusive}
-use Rattle.pod_workers.specs.Facts.{IsUntouched}
+use Rattle.pod_workers.specs.Facts.{EachWaits, IsUntouched, LaterAreUntouched, PastAreAnswered}
 use Rattle.pod_workers.specs.Legal.{Legal, IsBegun, begins, steps, refused_memory, turns}
 use Rattle.pod_workers.specs.Plans.{Placed, commands_of}
 use Rattle.pod_workers.specs.World.{World, IsAnswered, IsReady, IsRoundOver, replies_of, own_replies, answered, with_entry, entry_of, host_of, done, next_of, next_round}
@@ -24,10 +24,9 @@ use Rattle.pod_workers.proofs.WellFormedPlans.{stand_alone}
 
 pub record IsInOrder (w : World) : Type 0 where
   pub long : length w.answers ≡ length (commands_of w.plan)
-  pub past : (n : ℕ) (c : Placed) → slice_get (commands_of w.plan) n ≡ Some c → c.round < w.round → IsAnswered w n
-  pub later : (n : ℕ) (c : Placed) → slice_get (commands_of w.plan) n ≡ Some c → w.round < c.round → IsUntouched w n
-  pub first : (m n : ℕ) (d c : Placed) → m < n → slice_get (commands_of w.plan) m ≡ Some d → slice_get (commands_of w.plan) n ≡ Some c
-      → d.round ≡ c.round → d.command.container ≡ c.command.container → IsUntouched w n ⊎ IsAnswered w m
+  pub past : PastAreAnswered w
+  pub later : LaterAreUntouched w
+  pub first : EachWaits w
 
 -- ---- answers
 
@@ -82,12 +81,12 @@ order_answered w n c b order ready = record {
     | inl t ↦ absurd (let r : d.round ≡ c.round = ap (λ (x : Placed). x.round) (ready_is w n m c d ready t.1 at) in let here = ready.current in omega arith)
     | inr f ↦ untouched_answered w n m b f.1 (order.later m d at more)
   ];
-  first = λ l m d x less at_l at_m round container. elim (eqb_tells m n) [
+  first = λ l m d x less at_l at_m besides. elim (eqb_tells m n) [
     | inl t ↦
         let same = ready_is w n m c x ready t.1 at_m in
         inr (stays_answered w n l b ready.unanswered
-        (before_ready w l n d c order ready (subst (λ j. l < j) t.1 less) at_l (round ∙ ap (λ (y : Placed). y.round) same) (container ∙ ap (λ (y : Placed). y.command.container) same)))
-    | inr f ↦ elim (order.first l m d x less at_l at_m round container) [ inl u ↦ inl (untouched_answered w n m b f.1 u) | inr a ↦ inr (stays_answered w n l b ready.unanswered a) ]
+        (before_ready w l n d c order ready (subst (λ j. l < j) t.1 less) at_l (besides.0 ∙ ap (λ (y : Placed). y.round) same) (besides.1 ∙ ap (λ (y : Placed). y.command.container) same)))
+    | inr f ↦ elim (order.first l m d x less at_l at_m besides) [ inl u ↦ inl (untouched_answered w n m b f.1 u) | inr a ↦ inr (stays_answered w n l b ready.unanswered a) ]
   ];
 }
 
@@ -102,11 +101,11 @@ order_entered w n c e order ready own = record {
     | inl t ↦ absurd (let r : d.round ≡ c.round = ap (λ (x : Placed). x.round) (ready_is w n m c d ready t.1 at) in let here = ready.current in omega arith)
     | inr f ↦ untouched_entered w m e (other_number e n m own f.1) (order.later m d at more)
   ];
-  first = λ l m d x less at_l at_m round container. elim (eqb_tells m n) [
+  first = λ l m d x less at_l at_m besides. elim (eqb_tells m n) [
     | inl t ↦
         let same = ready_is w n m c x ready t.1 at_m in
-        inr (before_ready w l n d c order ready (subst (λ j. l < j) t.1 less) at_l (round ∙ ap (λ (y : Placed). y.round) same) (container ∙ ap (λ (y : Placed). y.command.container) same))
-    | inr f ↦ elim (order.first l m d x less at_l at_m round container) [ inl u ↦ inl (untouched_entered w m e (other_number e n m own f.1) u) | inr a ↦ inr a ]
+        inr (before_ready w l n d c order ready (subst (λ j. l < j) t.1 less) at_l (besides.0 ∙ ap (λ (y : Placed). y.round) same) (besides.1 ∙ ap (λ (y : Placed). y.command.container) same))
+    | inr f ↦ elim (order.first l m d x less at_l at_m besides) [ inl u ↦ inl (untouched_entered w m e (other_number e n m own f.1) u) | inr a ↦ inr a ]
   ];
 }
 
@@ -119,7 +118,7 @@ order_next_round w order over = record {
   long = order.long;
   past = λ n c at less. elim (eqb_tells c.round w.round) [ inl t ↦ over n c at t.1 | inr f ↦ order.past n c at (let other = f.1 in omega arith) ];
   later = λ n c at more. let u = order.later n c at (omega arith) in record { no_reply = u.no_reply; no_answer = u.no_answer };
-  first = λ m n d c less at_m at_n round container. elim (order.first m n d c less at_m at_n round container) [ inl u ↦ inl (record { no_reply = u.no_reply; no_answer = u.no_answer }) | inr a ↦ inr a ];
+  first = λ m n d c less at_m at_n besides. elim (order.first m n d c less at_m at_n besides) [ inl u ↦ inl (record { no_reply = u.no_reply; no_answer = u.no_answer }) | inr a ↦ inr a ];
 }
 
 -- ---- every legal world
@@ -134,7 +133,7 @@ order_begun w begun = record {
   long = begun.long;
   past = λ n c at less. absurd (let zero_round = begun.round in omega arith);
   later = λ n c at more. untouched_begun w n c begun at;
-  first = λ m n d c less at_m at_n round container. inl (untouched_begun w n c begun at_n);
+  first = λ m n d c less at_m at_n besides. inl (untouched_begun w n c begun at_n);
 }
 
 pub in_order : (w : World) → Legal w → IsInOrder w
@@ -158,7 +157,7 @@ apart_in_container w m n d c order ready other at is_open container =
       | inl same ↦ elim (cases_order m n) [
         | inl eq ↦ absurd (other eq)
         | inr (inl below) ↦ absurd (not_both w m (before_ready w m n d c order ready below at (same ∙ sym ready.current) container) is_open)
-        | inr (inr above) ↦ elim (order.first n m c d above ready.there at (ready.current ∙ sym same) (sym container)) [
+        | inr (inr above) ↦ elim (order.first n m c d above ready.there at (ready.current ∙ sym same, sym container)) [
           | inl u ↦ u.no_reply
           | inr a ↦ absurd (not_both w n a ready.unanswered)
         ]

@@ -44,7 +44,7 @@ clear-by w n c (Some k) order within current latest through m d o less at_m answ
     elim (cases_order m k) [
       | inl same ↦ not_both w m (subst (IsAnswered w) (sym same) a) open_m
       | inr (inl before) ↦
-          elim (order.first m k d x before at_m latest.1.1 (of_.0 ∙ sym latest.1.2.0) (of_.1 ∙ sym latest.1.2.1)) [
+          elim (order.first m k d x before at_m latest.1.1 (of_.0 ∙ sym latest.1.2.0, of_.1 ∙ sym latest.1.2.1)) [
             | inl untouched ↦ not_both w k a untouched.no_answer
             | inr done ↦ not_both w m done open_m
           ]

@@ -92,22 +92,34 @@ pub record IsUntouched (w : World) (n : ℕ) : Type 0 where
   pub no_reply : own_replies w n ≡ []
   pub no_answer : slice_get w.answers n ≡ Some None
 
--- commands of past rounds are answered, those of later ones untouched, and entries stand in the order of their rounds
+-- commands of past rounds are answered
+abbrev pub PastAreAnswered : World → Type 0
+PastAreAnswered w = (n : ℕ) (c : Placed) → slice_get (commands_of w.plan) n ≡ Some c → c.round < w.round → IsAnswered w n
+
+-- commands of later rounds are untouched
+abbrev pub LaterAreUntouched : World → Type 0
+LaterAreUntouched w = (n : ℕ) (c : Placed) → slice_get (commands_of w.plan) n ≡ Some c → w.round < c.round → IsUntouched w n
+
+-- rounds go one after another: so it is with past and later ones, and entries stand in the order of their rounds
 pub record GoesByRounds (w : World) : Type 0 where
-  pub past : (n : ℕ) (c : Placed) → slice_get (commands_of w.plan) n ≡ Some c → c.round < w.round → IsAnswered w n
-  pub later : (n : ℕ) (c : Placed) → slice_get (commands_of w.plan) n ≡ Some c → w.round < c.round → IsUntouched w n
+  pub past : PastAreAnswered w
+  pub later : LaterAreUntouched w
   pub entries : EachTwo w.plan w.history (λ number m d n c. d.round ≤ c.round)
 
 -- in one round
 abbrev pub AreOfOneContainer : Placed → Placed → Type 0
 AreOfOneContainer d c = IsOf d c.round c.command.container
 
+-- a command that has a call or an answer finds each earlier one of its container in the round answered
+abbrev pub EachWaits : World → Type 0
+EachWaits w =
+    (m n : ℕ) (d c : Placed) → m < n → slice_get (commands_of w.plan) m ≡ Some d → slice_get (commands_of w.plan) n ≡ Some c → AreOfOneContainer d c
+    → IsUntouched w n ⊎ IsAnswered w m
+
 -- In each container of a round one command goes after another (CNI specification, section 3, "Lifecycle & Ordering"):
--- one that has a call or an answer finds each earlier one answered, one that has a call finds it done, and entries
--- stand in file order.
+-- each waits for the earlier ones, one that has a call finds each of them done, and entries stand in file order.
 pub record GoesOneByOne (w : World) : Type 0 where
-  pub first : (m n : ℕ) (d c : Placed) → m < n → slice_get (commands_of w.plan) m ≡ Some d → slice_get (commands_of w.plan) n ≡ Some c → AreOfOneContainer d c
-      → IsUntouched w n ⊎ IsAnswered w m
+  pub first : EachWaits w
   pub whole : EachIsDoneBefore w AreOfOneContainer
   pub entries : EachTwo w.plan w.history (λ number m d n c. AreOfOneContainer d c → m ≤ n)
 
