@@ -1,5 +1,7 @@
 -- What a verb calls and what it answers, as a function of the list, the command and all replies so far.
 use Rattle.std.specs.Prelude.{ℕ, ◌+◌, Bool, true, false, List, [], ◌∷◌, ◌++◌, length, filter_map, Option, Some, None, option_map, unwrap_or, is_some, MatchOption, ⊤, if◌then◌else◌}
+use Rattle.std.specs.Bool.{then_some}
+use Rattle.std.specs.Option.{option_or}
 use Rattle.cni_addr.specs.declared.address.Addr.{Addr}
 use Rattle.cni_addr.specs.declared.range.RangeSet.{RangeSet}
 use Rattle.cni_result.specs.declared.cached.Cached.{Cached}
@@ -173,14 +175,22 @@ abbrev pub unless_refused : Option Cause → State → State
 unless_refused None state = state
 unless_refused (Some cause) state = refused cause
 
--- the verbs that came with version 1.1.0
-abbrev pub unless_old : Version → State → State
-unless_old V1_0 state = refused (causes.TooOld V1_0)
-unless_old V1_1 state = state
+abbrev pub unless_ended : Option Ending → State → State
+unless_ended None state = state
+unless_ended (Some ending) state = Over ending []
 
--- a collection with this work and these faults, where its list is new enough and doesn't disable it
+-- how a list ends a verb that came with version 1.1.0, where it is older
+abbrev pub old_ending : Version → Option Ending
+old_ending V1_0 = Some (Refused (causes.TooOld V1_0))
+old_ending V1_1 = None
+
+-- how a list ends a collection before its first call, where it is older than the verb or disables it
+abbrev pub early_ending : Version → Bool → Option Ending
+early_ending version disabled = option_or (old_ending version) (then_some disabled (Skipped skips.Gc))
+
+-- a collection with this work and these faults, where its list doesn't end it before
 abbrev pub collecting : Version → Bool → Work → List ℕ → State
-collecting version disabled work faults = unless_old version (if disabled then Over (Skipped skips.Gc) [] else Collecting work faults)
+collecting version disabled work faults = unless_ended (early_ending version disabled) (Collecting work faults)
 
 -- the verbs that speak of no network have no list, and are begun by `outside_start`
 abbrev pub start_of : NetList → Verb → Command → State
@@ -188,7 +198,7 @@ start_of list verbs.Add c = unless_refused (add_refusal c) AtBegin
 start_of list verbs.Del c = unless_refused (del_refusal c) (ReadingCache Yes)
 start_of list verbs.Check c = unless_refused (del_refusal c) (if list.disable_check then Over (Skipped skips.Check) [] else FindingEntry)
 start_of list verbs.Gc c = collecting list.version list.disable_gc (start_work (gc_of list c)) []
-start_of list verbs.Status c = unless_old list.version (asking (status_questions list c))
+start_of list verbs.Status c = unless_ended (old_ending list.version) (asking (status_questions list c))
 start_of list verbs.Version c = Over Versions []
 start_of list verb c = Over Yes []
 

@@ -24,7 +24,7 @@ use pod_file::Command;
 use std::alloc::Global;
 
 /// The answer to an ending without a result of its own, in this version.
-fn plain_answer(
+pub fn plain_answer(
     alloc: Global,
     version: Version,
     command: &Command,

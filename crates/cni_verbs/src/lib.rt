@@ -40,5 +40,7 @@ pub mod wanted;
 pub mod words;
 
 pub use answer::{Answer, Cause, Ending, Missed, Question, Skip, WordFaults};
+pub use ending::plain_answer;
 pub use error_kind::{ErrorKind, memory_error, message_of_field, plain_error, titled_error};
 pub use run::Run;
+pub use start::early_ending;

@@ -6,7 +6,8 @@ ghost use Rattle.kernel_types.specs.declared.call.Call.TheVariants as call;
 ghost use Rattle.kernel_types.specs.declared.call.Change.TheVariants as change;
 ghost use Rattle.cni_verbs.specs.CommandWords.{add_refusal, del_refusal, netns_refusal, drop_refusal};
 ghost use Rattle.cni_verbs.specs.Questions.{status_questions};
-ghost use Rattle.cni_verbs.specs.Script.{AtBegin, ReadingCache, Changing, start_of, start_state, outside_start, flush_by, unless_refused, unless_old, asking};
+ghost use Rattle.cni_verbs.specs.Script.{AtBegin, ReadingCache, Changing, start_of, start_state, outside_start, flush_by, unless_refused, unless_ended, asking};
+ghost use Rattle.cni_verbs.specs.Script as script;
 ghost use Rattle.cni_verbs.specs.Progress.{is_gc};
 ghost use Rattle.cni_verbs.specs.declared.answer.Ending.TheVariants as ending;
 ghost use Rattle.cni_verbs.specs.Phases.{IsPhaseOf, state_outside};
@@ -57,12 +58,30 @@ fn first_of_check(list: &NetList, command: &Command) -> Phase
     }
 }
 
-fn first_of_status(list: &NetList) -> Phase
-    ensures { (c : Command) → IsPhaseOf list.now c 0 [] result (unless_old list.now.version (asking (status_questions list.now c))) }
+/// How a list of this version ends a verb that came with version 1.1.0, if it does.
+fn old_ending(version: Version) -> Option<Ending>
+    ensures { result ≡ script.old_ending version }
 {
-    match list.version {
-        Version::V1_0 => Phase::refused(Cause::TooOld(Version::V1_0)),
-        Version::V1_1 => Phase::Asking(Inquiry {
+    match version {
+        Version::V1_0 => Some(Ending::Refused(Cause::TooOld(Version::V1_0))),
+        Version::V1_1 => None,
+    }
+}
+
+/// How the list ends a garbage collection before its first call, if it does: it is older than the verb, or disables it.
+/// Takes no memory.
+pub fn early_ending(list: &NetList) -> Option<Ending>
+    ensures { result ≡ script.early_ending list.now.version list.now.disable_gc }
+{
+    old_ending(list.version).or(list.disable_gc.then_some(Ending::Skipped(Skip::Gc)))
+}
+
+fn first_of_status(list: &NetList) -> Phase
+    ensures { (c : Command) → IsPhaseOf list.now c 0 [] result (unless_ended (script.old_ending list.now.version) (asking (status_questions list.now c))) }
+{
+    match old_ending(list.version) {
+        Some(ending) => Phase::Over(ending),
+        None => Phase::Asking(Inquiry {
             about: None,
             passed: 0,
             questions: None,

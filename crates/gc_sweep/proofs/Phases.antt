@@ -2,6 +2,7 @@
 use Rattle.std.proofs.Common.{◌≡◌, ℕ, ◌+◌, Bool, true, false, List, [], ◌∷◌, length, Option, Some, None, refl, sym, ◌∙◌, ap, subst, arith}
 use Rattle.std.specs.Prelude.{option_map, ◌==◌}
 use Rattle.std.proofs.lemmas.Bool.Decides.{nat_tests}
+use Rattle.std.proofs.lemmas.Option.{same_Some, none-some}
 use Rattle.cni_result.specs.declared.version.Version.{Version}
 use Rattle.cni_result.specs.declared.version.Version.TheVariants.{V1_0, V1_1}
 use Rattle.net_conf.specs.declared.list.NetList.{NetList}
@@ -11,14 +12,16 @@ use Rattle.pod_file.specs.declared.command.Verb.TheVariants as verbs
 use Rattle.kernel_types.specs.declared.call.Kind.{Kind}
 use Rattle.kernel_types.specs.declared.call.Reply.{Reply}
 use Rattle.kernel_types.specs.Replies.{is_fault}
-use Rattle.cni_verbs.specs.Answers.{answer_of, error_of}
+use Rattle.cni_verbs.specs.Answers.{answer_of, error_of, plain_answer}
 use Rattle.cni_verbs.specs.Progress.{Progress, is_gc, advanced, answer_by}
-use Rattle.cni_verbs.specs.Script.{State, Collecting, IsOpen, collecting, start_state, start_of, advance, next_call, call_of_work, finish_of, finish_of_work, gc_of, faults_after}
+use Rattle.cni_verbs.specs.Script.{State, Collecting, IsOpen, collecting, early_ending, start_state, start_of, advance, next_call, call_of_work, finish_of, finish_of_work, gc_of, faults_after}
 use Rattle.cni_verbs.specs.Sweep.{Job, Sweep, Work, start_work, work_after}
 use Rattle.cni_verbs.specs.Wanted.{kinds_of}
 use Rattle.cni_verbs.specs.declared.answer.Answer.{Answer}
-use Rattle.cni_verbs.specs.declared.answer.Answer.TheVariants.{Yes, Skipped, Refused}
+use Rattle.cni_verbs.specs.declared.answer.Answer.TheVariants.{Yes, Refused}
 use Rattle.cni_verbs.specs.declared.answer.Cause.TheVariants as causes
+use Rattle.cni_verbs.specs.declared.answer.Ending.{Ending}
+use Rattle.cni_verbs.specs.declared.answer.Ending.TheVariants as endings
 use Rattle.cni_verbs.specs.declared.answer.Skip.TheVariants as skips
 use Rattle.pod_file.specs.declared.command.ValidAtt.{ValidAtt}
 use Rattle.gc_sweep.specs.View.{HasTaken, is_early, progress_of, work_of, has_no_work, jobs_left, sweeps_after}
@@ -109,18 +112,12 @@ taken list c made ks ls valid p q faults more r opened ks_is ls_is valid_is work
 abbrev answer_in : NetList → Command → State → Option Answer
 answer_in list c s = option_map (answer_by (Some list) c) (finish_of s)
 
-pub answers_old : (list : NetList) (c : Command) (w : Work) (faults : List ℕ) (version : Version) (disabled : Bool) → version ≡ V1_0
-    → Some (Refused (error_of list.version c (causes.TooOld V1_0))) ≡ answer_in list c (collecting version disabled w faults)
+pub answers_early : (list : NetList) (c : Command) (w : Work) (faults : List ℕ) (version : Version) (disabled : Bool) (ending : Ending) → early_ending version disabled ≡ Some ending
+    → Some (plain_answer list.version c ending) ≡ answer_in list c (collecting version disabled w faults)
 unfolding finish_of answer_of
-answers_old list c w faults V1_0 disabled is = refl
-answers_old list c w faults V1_1 disabled is = cc
-
-pub answers_disabled : (list : NetList) (c : Command) (w : Work) (faults : List ℕ) (version : Version) (disabled : Bool) → version ≡ V1_1 → is_early version disabled ≡ true
-    → Some (Skipped skips.Gc) ≡ answer_in list c (collecting version disabled w faults)
-unfolding finish_of answer_of
-answers_disabled list c w faults V1_0 disabled is early = cc
-answers_disabled list c w faults V1_1 true is early = refl
-answers_disabled list c w faults V1_1 false is early = cc
+answers_early list c w faults V1_0 disabled ending is = ap (λ e. Some (plain_answer list.version c e)) (same_Some ending (endings.Refused (causes.TooOld V1_0)) (sym is))
+answers_early list c w faults V1_1 true ending is = ap (λ e. Some (plain_answer list.version c e)) (same_Some ending (endings.Skipped skips.Gc) (sym is))
+answers_early list c w faults V1_1 false ending is = absurd (none-some ending is)
 
 pub finish_working : (w : Work) (faults : List ℕ) → finish_of (Collecting w faults) ≡ finish_of_work w.jobs w.sweeps faults
 unfolding finish_of

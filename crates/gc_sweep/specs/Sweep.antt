@@ -1,7 +1,6 @@
 -- What a garbage collection leaves, and what it answers.
-use Rattle.std.specs.Prelude.{◌≡◌, ℕ, ◌+◌, Bool, true, false, ◌||◌, List, [], ◌∷◌, if◌then◌else◌}
+use Rattle.std.specs.Prelude.{◌≡◌, ℕ, ◌+◌, Bool, true, ◌||◌, List, [], ◌∷◌, None, if◌then◌else◌}
 use Rattle.std.specs.List.{list_all}
-use Rattle.cni_result.specs.declared.version.Version.TheVariants.{V1_1}
 use Rattle.kernel_types.specs.Apply.Calls.{tags_of}
 use Rattle.kernel_types.specs.Replies.{is_fault}
 use Rattle.kernel_types.specs.Sound.{IsSound}
@@ -12,17 +11,16 @@ use Rattle.kernel_types.specs.declared.call.Kind.TheVariants.{Links}
 use Rattle.net_conf.specs.declared.list.NetList.{NetList}
 use Rattle.pod_file.specs.declared.command.Command.{Command}
 use Rattle.pod_file.specs.declared.command.ValidAtt.{ValidAtt}
-use Rattle.cni_verbs.specs.Script.{swept}
+use Rattle.cni_verbs.specs.Script.{early_ending, swept}
 use Rattle.cni_verbs.specs.declared.answer.Ending.{Ending}
 use Rattle.cni_verbs.specs.declared.answer.Ending.TheVariants.{Yes}
 use Rattle.gc_sweep.specs.Keep.{stays, keep, IsWithin}
 use Rattle.gc_sweep.specs.Trace.{Made, IsRun, Ends, host_from, is_blamed}
 use Rattle.cni_verbs.specs.Progress.{is_gc}
 
--- the list is of the verb's version, and doesn't disable it
-pub record IsCollected (list : NetList) : Type 0 where
-  pub version : list.version ≡ V1_1
-  pub enabled : list.disable_gc ≡ false
+-- the list is of the verb's version and doesn't disable it, so it doesn't end a collection before its first call
+abbrev pub IsCollected : NetList → Type 0
+IsCollected list = early_ending list.version list.disable_gc ≡ None
 
 -- a collection that is answered without an error leaves what is kept
 abbrev pub YesKeeps : Type 0

@@ -9,10 +9,9 @@ ghost use Rattle.gc_sweep.specs.View.{is_early, jobs_left, sweeps_after, IsPlace
 
 use crate::place::{Place, next_call, take};
 use cni_addr::{Duplicate, Items, NoMemory};
-use cni_result::Version;
 use cni_verbs::errors::refused;
 use cni_verbs::wanted::kinds_of;
-use cni_verbs::{Answer, Cause, Skip};
+use cni_verbs::{Answer, Cause, early_ending, plain_answer};
 use kernel_types::{Call, Kind, Reply};
 use net_conf::NetList;
 use pod_file::Command;
@@ -127,10 +126,7 @@ impl GcRun {
 fn is_early(list: &NetList) -> bool
     ensures { result ≡ is_early list.now.version list.now.disable_gc }
 {
-    match list.version {
-        Version::V1_0 => true,
-        Version::V1_1 => list.disable_gc,
-    }
+    early_ending(list).is_some()
 }
 
 /// The answer that a list gives before any call.
@@ -138,9 +134,9 @@ fn early_answer(alloc: Global, list: &NetList, command: &Command) -> Result<Answ
     requires { is_early list.now.version list.now.disable_gc ≡ true }
     ensures { IfOk result (λ answer. (work : Work) (faults : List ℕ) → Some answer ≡ option_map (answer_by (Some list.now) command.now) (finish_of (collecting list.now.version list.now.disable_gc work faults))) }
 {
-    match list.version {
-        Version::V1_0 => refused(alloc, list.version, command, &Cause::TooOld(Version::V1_0)),
-        Version::V1_1 => Ok(Answer::Skipped(Skip::Gc)),
+    match early_ending(list) {
+        Some(ending) => plain_answer(alloc, list.version, command, &ending),
+        None => unreachable!(),
     }
 }
 

@@ -3,7 +3,6 @@ use Rattle.std.proofs.Common.{◌≡◌, ◌≢◌, ℕ, ◌+◌, ◌≤◌, Boo
 use Rattle.std.proofs.lemmas.Bool.{cases_Bool}
 use Rattle.std.proofs.lemmas.List.{length-map}
 use Rattle.std.proofs.lemmas.Option.{none-some}
-use Rattle.std.specs.Prelude.{if◌then◌else◌}
 use Rattle.cni_addr.specs.declared.address.Addr.{Addr}
 use Rattle.cni_result.specs.declared.version.Version.{Version}
 use Rattle.cni_result.specs.declared.version.Version.TheVariants.{V1_0, V1_1}
@@ -13,7 +12,7 @@ use Rattle.pod_file.specs.declared.command.Verb.TheVariants as verbs
 use Rattle.kernel_types.specs.Sound.{IsSound}
 use Rattle.kernel_types.specs.declared.object.Host.{Host}
 use Rattle.kernel_types.specs.declared.call.Reply.{Reply}
-use Rattle.cni_verbs.specs.Script.{State, Collecting, Over, advance, finish_of, gc_of, faults_after, next_call, start_of, start_state, state_after, state_from, swept, unless_old}
+use Rattle.cni_verbs.specs.Script.{State, Collecting, Over, advance, finish_of, gc_of, faults_after, next_call, start_of, start_state, state_after, state_from, swept, early_ending, unless_ended}
 use Rattle.cni_verbs.specs.Sweep.{Work, start_work, work_after}
 use Rattle.cni_verbs.specs.declared.answer.Answer.{Answer}
 use Rattle.cni_verbs.specs.declared.answer.Cause.TheVariants as causes
@@ -47,10 +46,10 @@ use Rattle.pod_laws.proofs.Runs.{listed-network}
 abbrev collecting : NetList → Command → State
 collecting list c = Collecting (start_work (gc_of list c)) []
 
-starts : (list : NetList) (c : Command) → c.verb ≡ verbs.Gc → (v : Version) (b : Bool) → list.version ≡ v → list.disable_gc ≡ b → start_state list c ≡ unless_old v (if b then Over (Skipped skips.Gc) [] else collecting list c)
+starts : (list : NetList) (c : Command) → c.verb ≡ verbs.Gc → (v : Version) (b : Bool) → list.version ≡ v → list.disable_gc ≡ b → start_state list c ≡ unless_ended (early_ending v b) (collecting list c)
 starts list c gc v b version disabled =
-    ap (λ x. start_of list x c) gc ∙ ap (λ x. unless_old x (if list.disable_gc then Over (Skipped skips.Gc) [] else collecting list c)) version
-    ∙ ap (λ x. unless_old v (if x then Over (Skipped skips.Gc) [] else collecting list c)) disabled
+    ap (λ x. start_of list x c) gc ∙ ap (λ x. unless_ended (early_ending x list.disable_gc) (collecting list c)) version
+    ∙ ap (λ x. unless_ended (early_ending v x) (collecting list c)) disabled
 
 over-none : (list : NetList) (c : Command) (st : State) (ending : Ending) (given : List Addr) (host : Host) (es : List Entry) → st ≡ Over ending given → trace.IsRunFrom list c 0 st host (made_in es) → es ≡ []
 unfolding next_call
@@ -168,7 +167,7 @@ answered-by w n c list a listed gc t over V1_1 false version disabled =
     let start = starts list c.command gc V1_1 false version disabled in
     let s = swept-of (state_by list c.command es) over.ending over.given (collects-after list c.command (replies_in es) start) over.state_is in
     let some = made-calls list c.command es over.ending start s in
-    let at = at-end w n c list over.ending listed gc (record { version = version; enabled = disabled }) t s in
+    let at = at-end w n c list over.ending listed gc (ap (λ x. early_ending x list.disable_gc) version ∙ ap (early_ending V1_1) disabled) t s in
     elim (ended-answer list c.command (after w.plan.pods.opening t.before) es over.ending over.given a (host_at_start w n) (host_at_end w n) at (says list c.command over.given over.ending a over.answer_is) some (alone-start w n c t some) (alone-end w n c t)) [
       | inl clean ↦ inr (inr (inl clean))
       | inr faulty ↦ inr (inr (inr (inl faulty)))

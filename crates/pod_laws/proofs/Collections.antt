@@ -1,6 +1,5 @@
 -- A garbage collection takes from stale attachments alone.
 use Rattle.std.proofs.Common.{◌≡◌, ℕ, ◌+◌, Bool, true, false, List, [], ◌∷◌, length, refl, ◌∙◌, ap, subst, arith}
-use Rattle.std.specs.Prelude.{if◌then◌else◌}
 use Rattle.std.specs.List.{list_all}
 use Rattle.net_conf.specs.declared.list.NetList.{NetList}
 use Rattle.pod_file.specs.declared.command.Command.{Command}
@@ -25,7 +24,6 @@ use Rattle.plan_words.specs.Share.{Share}
 use Rattle.cni_verbs.specs.Script.{State, Collecting, Over, Calls, gc_of, advance, start_of, turn, turn_of_work}
 use Rattle.cni_verbs.specs.Sweep.{Job, Step, AskCached, Delete, Sweep, after_job, job_of, start_work, step_call, work_after}
 use Rattle.cni_verbs.specs.Wanted.{deletion}
-use Rattle.cni_verbs.specs.declared.answer.Ending.TheVariants.{Skipped}
 use Rattle.cni_verbs.specs.declared.answer.Skip.TheVariants as skips
 use Rattle.pod_file.specs.Commands.{is_of_network}
 use Rattle.gc_sweep.specs.Keep.{stays}
@@ -35,7 +33,7 @@ use Rattle.gc_sweep.proofs.Deletions.{deletes}
 use Rattle.gc_sweep.proofs.Owners.{is_stale, own_goes, owners_stale}
 use Rattle.pod_workers.specs.World.{host_of, reply_to}
 use Rattle.pod_workers.specs.declared.plan.Entry.{Entry}
-use Rattle.pod_workers.proofs.Replies.{by-either, by-unless_old}
+use Rattle.pod_workers.proofs.Replies.{by-unless_early}
 use Rattle.pod_workers.proofs.Sound.{sound_host}
 use Rattle.pod_laws.specs.Apart.{EachCollectionTakesTheStaleAlone}
 use Rattle.pod_laws.specs.Moments.{own_entries}
@@ -89,8 +87,7 @@ Collects list c es st s = c.verb ≡ verbs.Gc → StaleLeft c st
 
 collects-start_of : (list : NetList) (c : Command) (v : Verb) → v ≡ verbs.Gc → StaleLeft c (start_of list v c)
 collects-start_of list c verbs.Gc is =
-    by-unless_old (StaleLeft c) list.version (if list.disable_gc then Over (Skipped skips.Gc) [] else Collecting (start_work (gc_of list c)) []) (λ cause. tt)
-    (by-either (StaleLeft c) list.disable_gc (Over (Skipped skips.Gc) []) (Collecting (start_work (gc_of list c)) []) tt refl)
+    by-unless_early (StaleLeft c) list.version list.disable_gc (Collecting (start_work (gc_of list c)) []) (λ cause. tt) tt refl
 collects-start_of list c _ is = cc
 
 collects-start : StartsWith Collects

@@ -4,7 +4,7 @@ use Rattle.std.specs.Prelude.{if◌then◌else◌}
 use Rattle.std.specs.List.{list_all}
 use Rattle.std.proofs.lemmas.Bool.{and_parts}
 use Rattle.pod_workers.proofs.Asked.{AreQuestionsOf, IsQuestionOf, check-asks, status-asks}
-use Rattle.pod_workers.proofs.Replies.{StaysTrue, by-either, by-entry, by-question, by-unless, by-unless_old, true-after}
+use Rattle.pod_workers.proofs.Replies.{StaysTrue, by-either, by-entry, by-question, by-unless, by-unless_early, by-unless_old, true-after}
 use Rattle.cni_addr.specs.declared.address.Addr.{Addr}
 use Rattle.cni_addr.specs.declared.range.RangeSet.{RangeSet}
 use Rattle.net_conf.specs.declared.list.NetList.{NetList}
@@ -176,8 +176,7 @@ aside-start list c verbs.Check h =
     by-unless IsAside (del_refusal c) (if list.disable_check then Over (Skipped skips.Check) [] else FindingEntry) (λ cause. tt)
     (λ none. by-either IsAside list.disable_check (Over (Skipped skips.Check) []) FindingEntry tt tt)
 aside-start list c verbs.Gc h =
-    by-unless_old IsAside list.version (if list.disable_gc then Over (Skipped skips.Gc) [] else Collecting (start_work (gc_of list c)) []) (λ cause. tt)
-    (by-either IsAside list.disable_gc (Over (Skipped skips.Gc) []) (Collecting (start_work (gc_of list c)) []) tt tt)
+    by-unless_early IsAside list.version list.disable_gc (Collecting (start_work (gc_of list c)) []) (λ cause. tt) tt tt
 aside-start list c verbs.Status h = by-unless_old IsAside list.version (asking (status_questions list c)) (λ cause. tt) (aside-asking (status_questions list c))
 aside-start list c verbs.Version h = tt
 aside-start list c verbs.NsAdd h = tt

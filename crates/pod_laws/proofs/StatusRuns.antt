@@ -23,7 +23,7 @@ use Rattle.kernel_types.proofs.Replies.{IsReplyOf-apply}
 use Rattle.kernel_types.specs.declared.object.Host.{Host}
 use Rattle.cni_verbs.specs.Answers.{code_of}
 use Rattle.cni_verbs.specs.Questions.{master_questions, pool_questions, status_questions}
-use Rattle.cni_verbs.specs.Script.{State, Asking, Over, Calls, advance, asking, at_question, start_of, turn, unless_old}
+use Rattle.cni_verbs.specs.Script.{State, Asking, Over, Calls, advance, asking, at_question, start_of, turn, old_ending, unless_ended}
 use Rattle.cni_verbs.specs.Wanted.{sets_of}
 use Rattle.cni_verbs.specs.declared.answer.Cause.TheVariants as causes
 use Rattle.cni_verbs.specs.declared.answer.Ending.{Ending}
@@ -118,7 +118,7 @@ status-fault list c es host number version fault is =
     subst (λ v. EndsStatus list c es host v ending) (sym version)
     (subst (λ b. EndsByFault es b ending (EndsByTest (is_available list c host) ending (LacksService list c host ending))) (sym fault) (ap (λ k. Refused (causes.Fault k)) is))
 
-status-old : (list : NetList) (c : Command) (host : Host) (v : Version) → list.version ≡ v → StatusAt list c [] (unless_old v (asking (status_questions list c))) host
+status-old : (list : NetList) (c : Command) (host : Host) (v : Version) → list.version ≡ v → StatusAt list c [] (unless_ended (old_ending v) (asking (status_questions list c))) host
 status-old list c host V1_0 is = (refl, subst (λ v. EndsStatus list c [] host v (Refused (causes.TooOld V1_0))) (sym is) (refl, refl))
 status-old list c host V1_1 is = status-asked list c [] host (asking (status_questions list c)) is refl (asked-all host (status_questions list c) (status_questions list c) (asked-none host (status_questions list c)))
 

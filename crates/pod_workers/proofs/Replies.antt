@@ -17,7 +17,7 @@ use Rattle.kernel_types.specs.declared.call.Reply.TheVariants.{Done, Leased, Gon
 use Rattle.cni_verbs.specs.CommandWords.{add_refusal, del_refusal}
 use Rattle.cni_verbs.specs.Questions.{check_questions, status_questions}
 use Rattle.cni_verbs.proofs.AfterReplies.{after_replies-keeps}
-use Rattle.cni_verbs.specs.Script.{State, AtBegin, BeforeLeases, Leasing, AfterLeases, ReadingCache, Deleting, FindingEntry, Asking, Changing, Collecting, Over, before_of, after_leases, leasing, before_leases, deleting, asking, gc_of, faulted, at_begin, at_call_before, at_lease, at_call_after, at_cache, at_deletion, checking, at_entry, at_question, changed, advance, unless_refused, unless_old, start_of, start_state, state_from, state_after}
+use Rattle.cni_verbs.specs.Script.{State, AtBegin, BeforeLeases, Leasing, AfterLeases, ReadingCache, Deleting, FindingEntry, Asking, Changing, Collecting, Over, before_of, after_leases, leasing, before_leases, deleting, asking, gc_of, faulted, at_begin, at_call_before, at_lease, at_call_after, at_cache, at_deletion, checking, at_entry, at_question, changed, advance, unless_refused, unless_ended, old_ending, early_ending, start_of, start_state, state_from, state_after}
 use Rattle.cni_verbs.specs.Sweep.{Work, start_work}
 use Rattle.cni_verbs.specs.Wanted.{kinds_of}
 use Rattle.cni_verbs.specs.declared.answer.Cause.{Cause}
@@ -125,9 +125,14 @@ pub by-unless : (P : State → Type 0) (o : Option Cause) (s : State) → OfRefu
 by-unless P None s refused h = h refl
 by-unless P (Some cause) s refused h = refused cause
 
-pub by-unless_old : (P : State → Type 0) (v : Version) (s : State) → OfRefusals P → P s → P (unless_old v s)
+pub by-unless_old : (P : State → Type 0) (v : Version) (s : State) → OfRefusals P → P s → P (unless_ended (old_ending v) s)
 by-unless_old P V1_0 s refused h = refused _
 by-unless_old P V1_1 s refused h = h
+
+pub by-unless_early : (P : State → Type 0) (v : Version) (b : Bool) (s : State) → OfRefusals P → P (Over (Skipped skips.Gc) []) → P s → P (unless_ended (early_ending v b) s)
+by-unless_early P V1_0 b s refused skipped h = refused _
+by-unless_early P V1_1 true s refused skipped h = skipped
+by-unless_early P V1_1 false s refused skipped h = h
 
 -- a verb that the list may disable
 pub by-either : (P : State → Type 0) (b : Bool) (s t : State) → P s → P t → P (if b then s else t)
@@ -147,8 +152,7 @@ true-start P list c verbs.Check stays starts is =
     by-unless P (del_refusal c) (if list.disable_check then Over (Skipped skips.Check) [] else FindingEntry) (λ cause. stays.over (Refused cause) [])
     (λ none. by-either P list.disable_check (Over (Skipped skips.Check) []) FindingEntry (stays.over (Skipped skips.Check) []) starts.finding)
 true-start P list c verbs.Gc stays starts is =
-    by-unless_old P list.version (if list.disable_gc then Over (Skipped skips.Gc) [] else Collecting (start_work (gc_of list c)) []) (λ cause. stays.over (Refused cause) [])
-    (by-either P list.disable_gc (Over (Skipped skips.Gc) []) (Collecting (start_work (gc_of list c)) []) (stays.over (Skipped skips.Gc) []) (starts.collecting is))
+    by-unless_early P list.version list.disable_gc (Collecting (start_work (gc_of list c)) []) (λ cause. stays.over (Refused cause) []) (stays.over (Skipped skips.Gc) []) (starts.collecting is)
 true-start P list c verbs.Status stays starts is = by-unless_old P list.version (asking (status_questions list c)) (λ cause. stays.over (Refused cause) []) starts.status
 true-start P list c verbs.Version stays starts is = stays.over Versions []
 true-start P list c verbs.NsAdd stays starts is = stays.over Yes []
