@@ -270,7 +270,7 @@ pub(crate) fn check_questions(
 fn pool_question(network: &Text, place: usize, set: &RangeSet) -> Result<Question, NoMemory>
     ensures { IfOk result (λ q. q ≡ record { call = calls.PoolFree network.now set.now; lack = Cause.NoFreeAddress place }) }
 {
-    // A list is read with 65,536 sets at most.
+    // The list of a run has no more than `MOST_SETS`, so the number fits.
     let Ok(number) = u32::try_from(place) else {
         return Err(NoMemory);
     };
@@ -322,8 +322,7 @@ fn ask_master(questions: &mut Vec<Question>, first: &First) -> Result<(), NoMemo
     }
 }
 
-/// The questions of a STATUS: a free address in each range set, then the master of `macvlan`. A list with 2^32 sets or
-/// more is refused as for want of memory.
+/// The questions of a STATUS: a free address in each range set, then the master of `macvlan`.
 #[tactic(auto, unfolding(crate::specs::Questions::status_questions))]
 pub(crate) fn status_questions(
     alloc: Global,
