@@ -1,29 +1,14 @@
 -- The entries of one command in a history that is one entry longer.
-use Rattle.std.proofs.Common.{◌≡◌, ◌≢◌, ℕ, ◌+◌, Bool, true, false, List, [], ◌∷◌, ◌++◌, refl, ◌∙◌, ap, inl, inr, arith}
-use Rattle.std.proofs.lemmas.Bool.Decides.{eqb_tells}
+use Rattle.std.proofs.Common.{◌≡◌, ℕ, ◌+◌, Bool, true, false, List, [], ◌∷◌, ◌++◌, refl, ◌∙◌, ap, arith}
 use Rattle.std.specs.Prelude.{if◌then◌else◌, ◌||◌}
 use Rattle.std.specs.List.{list_any}
 use Rattle.kernel_types.proofs.ListLemmas.{list_any-append_right}
-use Rattle.plan_words.proofs.KeyLists.{filter-push_kept, filter-push_dropped}
+pub use Rattle.pod_workers.proofs.Histories.{is_of-own, is_of-other, own_entries-own, own_entries-other}
 pub use Rattle.pod_workers.specs.World.{replies_in}
 use Rattle.pod_workers.specs.declared.plan.Entry.{Entry}
-use Rattle.pod_laws.specs.Moments.{is_of, own_entries, until_last}
-
--- ---- whose an entry is
-
-pub is_of-own : (n : ℕ) (e : Entry) → e.command ≡ n + 1 → is_of n e ≡ true
-is_of-own n e is = elim (eqb_tells e.command (n + 1)) [ inl t ↦ t.0 | inr f ↦ absurd (f.1 is) ]
-
-pub is_of-other : (n : ℕ) (e : Entry) → e.command ≢ n + 1 → is_of n e ≡ false
-is_of-other n e not = elim (eqb_tells e.command (n + 1)) [ inl t ↦ absurd (not t.1) | inr f ↦ f.0 ]
+use Rattle.pod_laws.specs.Moments.{is_of, until_last}
 
 -- ---- own entries
-
-pub own_entries-own : (n : ℕ) (h : List Entry) (e : Entry) → is_of n e ≡ true → own_entries n (h ++ e ∷ []) ≡ own_entries n h ++ e ∷ []
-own_entries-own n h e is = filter-push_kept (is_of n) h e is
-
-pub own_entries-other : (n : ℕ) (h : List Entry) (e : Entry) → is_of n e ≡ false → own_entries n (h ++ e ∷ []) ≡ own_entries n h
-own_entries-other n h e is = filter-push_dropped (is_of n) h e is
 
 pub no-entries : (es : List Entry) → replies_in es ≡ [] → es ≡ []
 no-entries [] h = refl

@@ -1,13 +1,15 @@
 -- Histories with one entry more, and answers with one that is written.
-use Rattle.std.proofs.Common.{◌≡◌, ◌≢◌, ℕ, zero, suc, ◌+◌, ◌-◌, ◌<◌, ◌≤◌, List, [], ◌∷◌, ◌++◌, length, Some, slice_get, slice_set, refl, sym, ◌∙◌, ap, inl, inr, ◌⊎◌, arith}
-use Rattle.std.proofs.lemmas.List.{length-append}
+use Rattle.std.proofs.Common.{◌≡◌, ◌≢◌, ℕ, zero, suc, ◌+◌, ◌-◌, ◌<◌, ◌≤◌, true, false, List, [], ◌∷◌, ◌++◌, length, Some, slice_get, slice_set, refl, sym, ◌∙◌, ap, inl, inr, ◌⊎◌, arith}
+use Rattle.std.proofs.lemmas.List.{length-append, map-append, map_push}
+use Rattle.std.proofs.lemmas.List.Elements.{filter-append}
 use Rattle.std.proofs.lemmas.Option.{same_Some, none-some}
 use Rattle.std.proofs.lemmas.Bool.Decides.{eqb_tells}
 use Rattle.kernel_types.specs.declared.object.Host.{Host}
 use Rattle.kernel_types.specs.declared.call.Call.{Call}
 use Rattle.kernel_types.specs.declared.call.Reply.{Reply}
+use Rattle.plan_words.proofs.KeyLists.{filter-push_dropped, filter-push_kept}
 use Rattle.pod_workers.specs.declared.plan.Entry.{Entry}
-use Rattle.pod_workers.specs.World.{replies_of, after, host_on, last_entry}
+use Rattle.pod_workers.specs.World.{is_of, own_entries, replies_in, replies_of, after, host_on, last_entry}
 use Rattle.pod_workers.proofs.Splits.{split_nil}
 
 -- ---- a place that is written
@@ -31,17 +33,23 @@ same_entry e g number call reply =
     let made : ℕ → Call → Reply → Entry = λ n k r. record { command = n; call = k; reply = r } in
     ap (λ (n : ℕ). made n e.call e.reply) number ∙ ap (λ (k : Call). made g.command k e.reply) call ∙ ap (made g.command g.call) reply
 
+pub is_of-own : (n : ℕ) (e : Entry) → e.command ≡ n + 1 → is_of n e ≡ true
+is_of-own n e is = elim (eqb_tells e.command (n + 1)) [ inl t ↦ t.0 | inr f ↦ absurd (f.1 is) ]
+
+pub is_of-other : (n : ℕ) (e : Entry) → e.command ≢ n + 1 → is_of n e ≡ false
+is_of-other n e not = elim (eqb_tells e.command (n + 1)) [ inl t ↦ absurd (not t.1) | inr f ↦ f.0 ]
+
+pub own_entries-own : (n : ℕ) (h : List Entry) (e : Entry) → is_of n e ≡ true → own_entries n (h ++ e ∷ []) ≡ own_entries n h ++ e ∷ []
+own_entries-own n h e is = filter-push_kept (is_of n) h e is
+
+pub own_entries-other : (n : ℕ) (h : List Entry) (e : Entry) → is_of n e ≡ false → own_entries n (h ++ e ∷ []) ≡ own_entries n h
+own_entries-other n h e is = filter-push_dropped (is_of n) h e is
+
 pub replies_of-own : (n : ℕ) (h : List Entry) (e : Entry) → e.command ≡ n + 1 → replies_of n (h ++ e ∷ []) ≡ replies_of n h ++ e.reply ∷ []
-replies_of-own n [] e is = elim (eqb_tells e.command (n + 1)) [ inl t ↦ rw t.0 refl | inr f ↦ absurd (f.1 is) ]
-replies_of-own n (x ∷ xs) e is =
-    let rest = replies_of-own n xs e is in
-    elim (eqb_tells x.command (n + 1)) [ inl t ↦ rw t.0 (ap (λ rs. x.reply ∷ rs) rest) | inr f ↦ rw f.0 rest ]
+replies_of-own n h e is = ap replies_in (own_entries-own n h e (is_of-own n e is)) ∙ map_push (λ (x : Entry). x.reply) (own_entries n h) e
 
 pub replies_of-other : (n : ℕ) (h : List Entry) (e : Entry) → e.command ≢ n + 1 → replies_of n (h ++ e ∷ []) ≡ replies_of n h
-replies_of-other n [] e not = elim (eqb_tells e.command (n + 1)) [ inl t ↦ absurd (not t.1) | inr f ↦ rw f.0 refl ]
-replies_of-other n (x ∷ xs) e not =
-    let rest = replies_of-other n xs e not in
-    elim (eqb_tells x.command (n + 1)) [ inl t ↦ rw t.0 (ap (λ rs. x.reply ∷ rs) rest) | inr f ↦ rw f.0 rest ]
+replies_of-other n h e not = ap replies_in (own_entries-other n h e (is_of-other n e not))
 
 -- a command has no more entries than the history
 pub length-replies_of : (n : ℕ) (h : List Entry) → length (replies_of n h) ≤ length h
@@ -57,10 +65,7 @@ after-append host (x ∷ xs) e = after-append (host_on host x) xs e
 -- ---- parts of a history
 
 pub replies_of-append : (n : ℕ) (g h : List Entry) → replies_of n (g ++ h) ≡ replies_of n g ++ replies_of n h
-replies_of-append n [] h = refl
-replies_of-append n (x ∷ xs) h =
-    let rest = replies_of-append n xs h in
-    elim (eqb_tells x.command (n + 1)) [ inl t ↦ rw t.0 (ap (λ rs. x.reply ∷ rs) rest) | inr f ↦ rw f.0 rest ]
+replies_of-append n g h = ap replies_in (filter-append (is_of n) g h) ∙ map-append (λ (x : Entry). x.reply) (own_entries n g) (own_entries n h)
 
 -- a command of which an entry stands in the history has a reply
 pub has_reply : (n : ℕ) (h before rest : List Entry) (e : Entry) → h ≡ before ++ e ∷ rest → e.command ≡ n + 1 → replies_of n h ≡ [] → ⊥
