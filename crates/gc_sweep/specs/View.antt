@@ -1,5 +1,6 @@
 -- What the fields of a run stand for.
-use Rattle.std.specs.Prelude.{◌≡◌, ℕ, ◌<◌, Bool, List, [], ◌∷◌, map, drop, length, Option, Some, None, is_none, is_some, if◌then◌else◌}
+use Rattle.std.specs.Prelude.{◌≡◌, ℕ, ◌<◌, Bool, List, [], ◌∷◌, map, drop, length, Option, Some, None, is_none, is_some}
+use Rattle.std.specs.List.{after_first}
 use Rattle.kernel_types.specs.Codes.{kind_eq}
 use Rattle.kernel_types.specs.declared.object.Att.{Att}
 use Rattle.kernel_types.specs.declared.call.Kind.{Kind}
@@ -20,16 +21,11 @@ use Rattle.gc_sweep.specs.declared.place.Place.{Place}
 
 -- ---- the work
 
--- the sweeps after the one of this kind
-abbrev pub sweeps_past : Kind → List Sweep → List Sweep
-sweeps_past kind [] = []
-sweeps_past kind (s ∷ sweeps) = if kind_eq s.kind kind then sweeps else sweeps_past kind sweeps
-
 -- the sweeps after the one at hand
 abbrev pub sweeps_after : List Kind → Stage → List Sweep
 sweeps_after ks Start = all_sweeps ks
 sweeps_after ks First = drop 1 (all_sweeps ks)
-sweeps_after ks (Of kind) = sweeps_past kind (drop 1 (all_sweeps ks))
+sweeps_after ks (Of kind) = after_first (λ s. kind_eq s.kind kind) (drop 1 (all_sweeps ks))
 
 -- the sweep at hand. (Before the first there is none, and no owner either.)
 abbrev pub sweep_of : List Kind → Stage → Sweep
