@@ -1,12 +1,12 @@
 -- What the index of a plan says of one more command, and of who may step.
-use Rattle.std.proofs.Common.{◌≡◌, ℕ, suc, ◌+◌, ◌<◌, ◌≤◌, Bool, true, false, cond, List, [], ◌∷◌, ◌++◌, length, get_or, map, take, Option, Some, None, slice_get, refl, sym, ◌∙◌, ap, subst, arith, inl, inr}
+use Rattle.std.proofs.Common.{◌≡◌, ℕ, suc, ◌+◌, ◌<◌, ◌≤◌, Bool, true, false, cond, List, [], ◌∷◌, ◌++◌, length, get_or, map, take, Option, Some, None, option_and_then, slice_get, refl, sym, ◌∙◌, ap, subst, arith, inl, inr}
 use Rattle.std.proofs.lemmas.List.{append-nil, append_assoc, length-append, map-append, length-take-le, take_more, take_all}
 use Rattle.std.proofs.lemmas.Option.{none-some, slice_get_read, slice_get-get_or}
 use Rattle.std.proofs.lemmas.Bool.{false≢true}
 use Rattle.std.proofs.lemmas.Slice.Eq.{bytes_eq-Decides}
 use Rattle.std.specs.Str.{bytes_eq}
 use Rattle.pod_file.specs.declared.command.Command.{Command}
-use Rattle.pod_workers.specs.Index.{AreBefore, IsIndex, IsLatest, IsPlaced, NoneOf, nth_of}
+use Rattle.pod_workers.specs.Index.{AreBefore, IsIndex, IsLatest, IsPlaced, NoneOf}
 use Rattle.pod_workers.specs.Plans.{Placed, in_round, placed_from, IsOf}
 use Rattle.pod_workers.specs.declared.index.Place.{Place}
 use Rattle.pod_workers.proofs.Elements.{at_snoc, slice_get-before, slice_get-middle}
@@ -97,7 +97,7 @@ one-indexed rounds before round commands some c p places latest latest' in_round
     let old = before ++ map (in_round round) some in
     let grown : before ++ map (in_round round) (some ++ c ∷ []) ≡ old ++ in_round round c ∷ [] =
     ap (λ m. before ++ m) (map-append (in_round round) some (c ∷ [])) ∙ sym (append_assoc before (map (in_round round) some) (in_round round c ∷ [])) in
-    let there : nth_of (slice_get rounds round) (length some) ≡ Some c = ap (λ o. nth_of o (length some)) in_rounds ∙ at_c in
+    let there : option_and_then (λ cs. slice_get cs (length some)) (slice_get rounds round) ≡ Some c = ap (option_and_then (λ cs. slice_get cs (length some))) in_rounds ∙ at_c in
     let here : IsPlaced rounds old (length old) (in_round round c) (record { round = round; within = length some; previous = latest c.container }) =
     record { command = there; round_is = refl; previous = h.last_of c.container } in
     let size : length (old ++ in_round round c ∷ []) ≡ length old + 1 = length-append old (in_round round c ∷ []) in

@@ -1,12 +1,13 @@
 -- Who may step, by the index.
 use Rattle.std.proofs.Common.{◌≡◌, ◌≢◌, ℕ, ◌+◌, ◌-◌, ◌<◌, ◌==◌, Bool, true, false, List, [], ◌∷◌, length, get_or, Option, Some, None, slice_get, refl, sym, ◌∙◌, ap, subst, arith, inl, inr}
-use Rattle.std.specs.Prelude.{MatchBool, ◌&&◌}
+use Rattle.std.specs.Prelude.{MatchBool, ◌&&◌, is_some}
 use Rattle.std.proofs.lemmas.Bool.{false≢true, and_parts, cases_order, eqb-true, eq-eqb}
+use Rattle.std.specs.Option.{option_flatten}
 use Rattle.std.proofs.lemmas.Option.{same_Some, none-some, slice_get-get_or, slice_get_within}
 use Rattle.cni_verbs.specs.declared.answer.Answer.{Answer}
 use Rattle.kernel_types.specs.declared.object.Host.{Host}
 use Rattle.pod_file.specs.declared.command.Command.{Command}
-use Rattle.pod_workers.specs.Index.{IsIndex, IsLatest, IsPlaced, is_answered, is_cut_by, is_open, lets_through, may_step_by}
+use Rattle.pod_workers.specs.Index.{IsIndex, IsLatest, IsPlaced, is_cut_by, is_open, lets_through, may_step_by}
 use Rattle.pod_workers.specs.Plans.{Placed, commands_of, IsOf}
 use Rattle.pod_workers.specs.Slots.{IsKept}
 use Rattle.pod_workers.specs.World.{World, Blocks, IsAnswered, IsReady, IsReadyNumber, cuts_round, is_cut, is_cut_at, is_in_round, is_there_in, last_entry}
@@ -20,12 +21,12 @@ is-open None h = absurd (false≢true h)
 is-open (Some None) h = refl
 is-open (Some (Some a)) h = absurd (false≢true h)
 
-is-answered : (o : Option (Option Answer)) → is_answered o ≡ true → (a : Answer) × (o ≡ Some (Some a))
+is-answered : (o : Option (Option Answer)) → is_some (option_flatten o) ≡ true → (a : Answer) × (o ≡ Some (Some a))
 is-answered None h = absurd (false≢true h)
 is-answered (Some None) h = absurd (false≢true h)
 is-answered (Some (Some a)) h = (a, refl)
 
-answered-is : (o : Option (Option Answer)) → ((x : Option Answer) → o ≡ Some x → x ≢ None) → o ≢ None → is_answered o ≡ true
+answered-is : (o : Option (Option Answer)) → ((x : Option Answer) → o ≡ Some x → x ≢ None) → o ≢ None → is_some (option_flatten o) ≡ true
 answered-is None h some = absurd (some refl)
 answered-is (Some None) h some = absurd (h None refl refl)
 answered-is (Some (Some a)) h some = refl

@@ -1,5 +1,6 @@
 -- Where each command stands, and the command before it of its container in its round.
-use Rattle.std.specs.Prelude.{◌≡◌, ℕ, ◌+◌, ◌<◌, ◌≤◌, ◌==◌, ◌&&◌, Bool, true, false, List, Option, Some, None, length, slice_get}
+use Rattle.std.specs.Prelude.{◌≡◌, ℕ, ◌+◌, ◌<◌, ◌≤◌, ◌==◌, ◌&&◌, Bool, true, false, List, Option, Some, None, is_some, length, option_and_then, slice_get}
+use Rattle.std.specs.Option.{option_flatten}
 use Rattle.cni_verbs.specs.declared.answer.Answer.{Answer}
 use Rattle.pod_file.specs.declared.command.Command.{Command}
 use Rattle.pod_workers.specs.Plans.{Placed, IsOf}
@@ -22,13 +23,9 @@ IsLatest commands end round container (Some m) =
 abbrev pub AreBefore : ℕ → List Placed → Type 0
 AreBefore round commands = (k : ℕ) (d : Placed) → slice_get commands k ≡ Some d → d.round < round
 
-abbrev pub nth_of : Option (List Command) → ℕ → Option Command
-nth_of None within = None
-nth_of (Some commands) within = slice_get commands within
-
 -- the command that stands at this place of the rounds
 abbrev pub command_in : List (List Command) → Place → Option Command
-command_in rounds p = nth_of (slice_get rounds p.round) p.within
+command_in rounds p = option_and_then (λ commands. slice_get commands p.within) (slice_get rounds p.round)
 
 -- the index is right about the command at place n
 pub record IsPlaced (rounds : List (List Command)) (commands : List Placed) (n : ℕ) (c : Placed) (p : Place) : Type 0 where
@@ -47,14 +44,9 @@ is_open None = false
 is_open (Some None) = true
 is_open (Some (Some a)) = false
 
-abbrev pub is_answered : Option (Option Answer) → Bool
-is_answered None = false
-is_answered (Some None) = false
-is_answered (Some (Some a)) = true
-
 abbrev pub lets_through : List (Option Answer) → Option ℕ → Bool
 lets_through answers None = true
-lets_through answers (Some m) = is_answered (slice_get answers m)
+lets_through answers (Some m) = is_some (option_flatten (slice_get answers m))
 
 -- of this round, not answered, and the command before it of its container is
 abbrev pub may_step_by : Place → List (Option Answer) → ℕ → ℕ → Bool

@@ -1,6 +1,7 @@
 -- A plan, its history and answers, and what one step makes of them.
 use Rattle.std.specs.Prelude.{◌≡◌, ℕ, ◌+◌, ◌-◌, ◌<◌, ◌≤◌, ◌==◌, Bool, false, ◌||◌, ◌&&◌, List, [], ◌∷◌, ◌++◌, length, map, filter, Option, Some, None, slice_get, slice_set, nat_le, if◌then◌else◌}
 use Rattle.std.specs.List.{list_any}
+use Rattle.std.specs.Option.{option_flatten}
 use Rattle.cni_verbs.specs.Progress.{turn_by, answer_by}
 pub use Rattle.cni_verbs.specs.Replies.{reply_to}
 use Rattle.cni_verbs.specs.Script.{Turn, Calls, Finishes}
@@ -178,12 +179,8 @@ IsReadyNumber w number = (n : ℕ) × (c : Placed) × (number ≡ n + 1) × IsRe
 abbrev pub begun : Plan → World
 begun p = record { plan = p; history = []; answers = map (λ (c : Placed). None) (commands_of p); round = 0 }
 
-abbrev pub answer_or_none : Option (Option Answer) → Option Answer
-answer_or_none None = None
-answer_or_none (Some o) = o
-
 abbrev pub answer_in : List (Option Answer) → ℕ → Option Answer
-answer_in answers number = if number == 0 then None else answer_or_none (slice_get answers (number - 1))
+answer_in answers number = if number == 0 then None else option_flatten (slice_get answers (number - 1))
 
 -- the answer of the command of this number, from 1
 abbrev pub answer_at : World → ℕ → Option Answer
