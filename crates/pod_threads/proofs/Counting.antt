@@ -18,10 +18,6 @@ count-cons p x xs =
     let one : 0 + cond (p x) 1 0 ≡ cond (p x) 1 0 = omega arith in
     sum_by-append (λ y. cond (p y) 1 0) (x ∷ []) xs ∙ ap (λ k. k + count_by p xs) one
 
-pub count-same : {X : Type 0} (p q : X → Bool) → ((x : X) → p x ≡ q x) → (xs : List X) → count_by p xs ≡ count_by q xs
-count-same p q same [] = refl
-count-same p q same (x ∷ xs) = count-cons p x xs ∙ ap (λ b. cond b 1 0 + count_by p xs) (same x) ∙ ap (λ k. cond (q x) 1 0 + k) (count-same p q same xs) ∙ sym (count-cons q x xs)
-
 -- ---- entries of a round
 
 count-all : (p : Plan) (round : ℕ) (es : List Entry) → All (IsOfRound p round) es → entries_of_round p round es ≡ length es

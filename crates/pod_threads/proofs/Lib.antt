@@ -1,4 +1,3 @@
 pub mod Counting
 pub mod Entered
 pub mod Formed
-pub mod Numbered

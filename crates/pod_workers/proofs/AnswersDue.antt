@@ -15,11 +15,12 @@ use Rattle.pod_file.specs.declared.command.Command.{Command}
 use Rattle.pod_workers.specs.Facts.{EachFollows, EntryIsInRound, IsScripts, IsStopped, AnswerIsDue, IsDue}
 use Rattle.pod_workers.specs.Legal.{Legal, begins, steps, refused_memory, turns}
 use Rattle.pod_workers.specs.Plans.{Placed, commands_of, list_for}
-use Rattle.pod_workers.specs.World.{World, IsReady, IsWithin, own_replies, host_of, is_faulty, is_stop, is_cut, is_cut_at, is_in_round, last_entry, done, answered, with_entry, entry_of, next_of, next_by}
+use Rattle.pod_workers.specs.World.{World, IsReady, IsWithin, own_replies, host_of, is_faulty, is_stop, is_cut, is_cut_at, is_in_round, last_entry, done, answered, with_entry, entry_of, next_of, next_by, at_number}
 use Rattle.pod_workers.specs.declared.plan.Plan.{Plan}
 use Rattle.pod_workers.specs.declared.plan.Entry.{Entry}
 use Rattle.pod_workers.specs.declared.plan.Next.{Next}
 use Rattle.pod_workers.specs.declared.plan.Next.TheVariants as next
+use Rattle.pod_workers.proofs.Elements.{at_number-is}
 use Rattle.pod_workers.proofs.Facts.{each_follows, keeps_stop}
 use Rattle.pod_workers.proofs.Histories.{slice_get-set_same, slice_get-set_other, replies_of-other, last_entry-splits}
 
@@ -31,13 +32,11 @@ pub cut_stands : (w : World) (stop : Option ℕ) (last : Option Entry) → EachF
 cut_stands w None last each is cut = absurd (let t : false ≡ true = cut in cc)
 cut_stands w (Some number) None each is cut = absurd (let t : false ≡ true = cut in cc)
 cut_stands w (Some number) (Some e) each is cut =
-    let both = and_parts (length w.history == number) (is_in_round w.round (slice_get (commands_of w.plan) (e.command - 1))) cut in
+    let both = and_parts (length w.history == number) (is_in_round w.round (at_number (commands_of w.plan) e.command)) cut in
     let split = last_entry-splits w.history e is in
     let follows = each split.0 [] e split.1 in
-    let own = follows.number in
-    let place : e.command - 1 ≡ follows.place = omega arith in
     let here : is_in_round w.round (Some follows.by) ≡ true =
-    ap (is_in_round w.round) (sym (ap (slice_get (commands_of w.plan)) place ∙ follows.there)) ∙ both.1 in (
+    ap (is_in_round w.round) (sym (at_number-is (commands_of w.plan) e.command follows.place follows.number ∙ follows.there)) ∙ both.1 in (
       split.0,
       [],
       e,

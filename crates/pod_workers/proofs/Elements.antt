@@ -1,8 +1,16 @@
--- Lists: an element by its place, in two lists joined and after a map.
-use Rattle.std.proofs.Common.{◌≡◌, ℕ, zero, suc, ◌+◌, ◌<◌, ◌⊎◌, List, [], ◌∷◌, ◌++◌, length, map, Some, slice_get, refl, sym, ap, arith, inl, inr}
+-- Lists: an element by its place and by its number, in two lists joined and after a map.
+use Rattle.std.proofs.Common.{◌≡◌, ℕ, zero, suc, ◌+◌, ◌-◌, ◌<◌, ◌⊎◌, Bool, List, [], ◌∷◌, ◌++◌, length, map, Some, None, slice_get, if◌then◌else◌, refl, sym, ap, ◌∙◌, arith, inl, inr}
+use Rattle.std.proofs.lemmas.Bool.Decides.{eqb_tells}
 use Rattle.std.proofs.lemmas.Option.{same_Some, none-some}
 use Rattle.plan_words.proofs.RowLemmas.{slice_get-behind}
 pub use Rattle.plan_words.proofs.RowLemmas.{slice_get-before}
+use Rattle.pod_workers.specs.World.{at_number}
+
+pub at_number-is : {X : Type 0} (xs : List X) (number n : ℕ) → number ≡ n + 1 → at_number xs number ≡ slice_get xs n
+at_number-is xs number n is = elim (eqb_tells number 0) [
+  | inl t ↦ absurd (let none = t.1 in omega arith)
+  | inr f ↦ (let place : number - 1 ≡ n = omega arith in ap (λ (b : Bool). if b then None else slice_get xs (number - 1)) f.0 ∙ ap (slice_get xs) place)
+]
 
 pub slice_get-right : {X : Type 0} (xs ys : List X) (i : ℕ) → slice_get (xs ++ ys) (length xs + i) ≡ slice_get ys i
 slice_get-right xs ys i = slice_get-behind xs ys (length xs) (length xs + i) i refl refl

@@ -9,11 +9,12 @@ use Rattle.kernel_types.specs.declared.call.Call.{Call}
 use Rattle.pod_workers.specs.Facts.{Follows, EachFollows, IsEntryOf, EachTwo, EntryIsInRound, AreOfOneContainer, GoesByRounds, Stops}
 use Rattle.pod_workers.specs.Legal.{Legal, begins, steps, refused_memory, turns}
 use Rattle.pod_workers.specs.Plans.{Placed, commands_of}
-use Rattle.pod_workers.specs.World.{World, IsReady, IsWithin, replies_of, own_replies, reply_to, host_of, is_stop, is_cut, is_cut_at, is_in_round, last_entry, done, entry_of, next_of}
+use Rattle.pod_workers.specs.World.{World, IsReady, IsWithin, replies_of, own_replies, reply_to, host_of, is_stop, is_cut, is_cut_at, is_in_round, last_entry, done, entry_of, next_of, at_number}
 use Rattle.pod_workers.specs.declared.plan.Plan.{Plan}
 use Rattle.pod_workers.specs.declared.plan.Entry.{Entry}
 use Rattle.pod_workers.specs.declared.plan.Next.{Next}
 use Rattle.pod_workers.specs.declared.plan.Next.TheVariants as next
+use Rattle.pod_workers.proofs.Elements.{at_number-is}
 use Rattle.pod_workers.proofs.Histories.{replies_of-own, replies_of-other, has_reply, last_entry-append}
 use Rattle.pod_workers.proofs.Order.{IsInOrder, in_order, not_both, other_number}
 use Rattle.pod_workers.proofs.Sound.{allowed_next, goes_in}
@@ -112,10 +113,8 @@ cut_at_last : (w : World) (before : List Entry) (e : Entry) (m : ℕ) (d : Place
 cut_at_last w before e m d at of_e stop no_cut = λ same.
     let number : length w.history ≡ length before + 1 = ap length at ∙ length_push before e in
     let last : last_entry w.history ≡ Some e = ap last_entry at ∙ last_entry-append before e in
-    let own = of_e.number in
-    let place : e.command - 1 ≡ m = omega arith in
-    let there : slice_get (commands_of w.plan) (e.command - 1) ≡ Some d = ap (slice_get (commands_of w.plan)) place ∙ of_e.there in
-    let cut : is_cut w ≡ ((length w.history == length before + 1) && is_in_round w.round (slice_get (commands_of w.plan) (e.command - 1))) =
+    let there : at_number (commands_of w.plan) e.command ≡ Some d = at_number-is (commands_of w.plan) e.command m of_e.number ∙ of_e.there in
+    let cut : is_cut w ≡ ((length w.history == length before + 1) && is_in_round w.round (at_number (commands_of w.plan) e.command)) =
     ap (λ (s : Option ℕ). is_cut_at s w (last_entry w.history)) stop ∙ ap (λ (l : Option Entry). is_cut_at (Some (length before + 1)) w l) last in
     let told : ((length before + 1 == length before + 1) && is_in_round w.round (Some d)) ≡ false =
     ap (λ (k : ℕ). (k == length before + 1) && is_in_round w.round (Some d)) (sym number) ∙ ap (λ (o : Option Placed). (length w.history == length before + 1) && is_in_round w.round o) (sym there) ∙ sym cut ∙ no_cut in

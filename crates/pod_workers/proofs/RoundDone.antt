@@ -1,5 +1,5 @@
 -- A round's commands are stepped to their answers one after another, and the next round is current.
-use Rattle.std.proofs.Common.{◌≡◌, ◌≢◌, ℕ, zero, suc, ◌+◌, ◌-◌, ◌<◌, ◌≤◌, ◌==◌, ◌&&◌, true, not, List, [], ◌∷◌, ◌++◌, length, map, take, Option, Some, None, Result, Ok, Err, OnOk, OnErr, slice_get, refl, sym, ◌∙◌, ap, subst, arith, inl, inr}
+use Rattle.std.proofs.Common.{◌≡◌, ◌≢◌, ℕ, zero, suc, ◌+◌, ◌-◌, ◌<◌, ◌≤◌, true, List, [], ◌∷◌, ◌++◌, length, map, take, Option, Some, None, Result, Ok, Err, OnOk, OnErr, slice_get, refl, sym, ◌∙◌, ap, subst, arith, inl, inr}
 use Rattle.std.specs.List.{All}
 use Rattle.std.proofs.lemmas.List.{append-nil, append_assoc, length-append, length-map}
 use Rattle.std.proofs.lemmas.List.Elements.{All-append, All-cons, All-nil}
@@ -29,7 +29,7 @@ use Rattle.pod_workers.proofs.FileOrder.{file_order_answered, file_order_next_ro
 use Rattle.pod_workers.proofs.Histories.{slice_get-set_other}
 use Rattle.pod_workers.proofs.Order.{in_order, not_both, open_or_answered}
 use Rattle.pod_workers.proofs.Rounds.{placed-fits, placed_from-more, placed_from-front, round-of, rounds-before}
-use Rattle.pod_workers.proofs.Elements.{slice_get-right, slice_get-before}
+use Rattle.pod_workers.proofs.Elements.{at_number-is, slice_get-right, slice_get-before}
 use Rattle.pod_workers.proofs.Sound.{fine}
 use Rattle.pod_workers.proofs.WellFormedPlans.{few_commands}
 
@@ -82,14 +82,7 @@ same-is-in round c is = elim (eqb_tells c.round round) [ inl t ↦ t.0 | inr f �
 
 of-round : (p : Plan) (round n : ℕ) (c : Placed) (e : Entry) → e.command ≡ n + 1 → slice_get (commands_of p) n ≡ Some c → c.round ≡ round → IsOfRound p round e
 of-round p round n c e number_is there round_is =
-    let P : ℕ → Type 0 = λ k. (not (k == 0) && is_in_round round (slice_get (commands_of p) (k - 1))) ≡ true in
-    let place : n + 1 - 1 ≡ n = omega arith in
-    subst P (sym number_is) (elim (eqb_tells (n + 1) 0) [
-      | inl t ↦ absurd (let none = t.1 in omega arith)
-      | inr f ↦
-          ap (λ b. not b && is_in_round round (slice_get (commands_of p) (n + 1 - 1))) f.0
-          ∙ ap (λ k. is_in_round round (slice_get (commands_of p) k)) place ∙ ap (is_in_round round) there ∙ same-is-in round c round_is
-    ])
+    ap (is_in_round round) (at_number-is (commands_of p) e.command n number_is ∙ there) ∙ same-is-in round c round_is
 
 done_extends : (w : World) (n : ℕ) (c : Placed) (x : Next) → IsReady w n c → Extends w (done w n x)
 done_extends w n c (next.Answer a) ready = answered_extends w n c a ready

@@ -10,11 +10,12 @@ use Rattle.cni_verbs.specs.declared.answer.Answer.TheVariants.{Stopped}
 use Rattle.pod_workers.specs.Facts.{Follows, IsEntryOf, EachTwo, EntryIsInRound, IsUntouched, AreOfOneContainer, IsScripts, IsStopOf, IsDone, IsLegalByClauses, IsDue}
 use Rattle.pod_workers.specs.Legal.{Legal, steps, refused_memory, turns}
 use Rattle.pod_workers.specs.Plans.{Placed, commands_of, list_for}
-use Rattle.pod_workers.specs.World.{World, IsReady, IsAnswered, IsWithin, own_replies, host_of, is_faulty, is_stop, is_cut, is_cut_at, is_in_round, last_entry, answered, with_entry, entry_of, next_of, next_by, next_round, done}
+use Rattle.pod_workers.specs.World.{World, IsReady, IsAnswered, IsWithin, own_replies, host_of, is_faulty, is_stop, is_cut, is_cut_at, is_in_round, last_entry, answered, with_entry, entry_of, next_of, next_by, next_round, done, at_number}
 use Rattle.pod_workers.specs.declared.plan.Plan.{Plan}
 use Rattle.pod_workers.specs.declared.plan.Entry.{Entry}
 use Rattle.pod_workers.specs.declared.plan.Next.TheVariants as next
 use Rattle.pod_workers.proofs.AnswersDue.{cut_stands, at_own_stop}
+use Rattle.pod_workers.proofs.Elements.{at_number-is}
 use Rattle.pod_workers.proofs.Facts.{one_command, uncut_at}
 use Rattle.pod_workers.proofs.Histories.{slice_get-set_same, slice_get-set_other, replies_of-own, replies_of-other, has_reply, last_entry-append, same_entry}
 use Rattle.pod_workers.proofs.Order.{not_both, other_number}
@@ -101,11 +102,9 @@ is_cut_now w None k named is = absurd is
 is_cut_now w (Some number) k named (before, [], e, n, c, split, long, of_e, round) =
     let last : last_entry w.history ≡ Some e = ap last_entry split ∙ last_entry-append before e in
     let numbered : length w.history ≡ number = ap length split ∙ length_push before e ∙ long in
-    let own = of_e.number in
-    let place : e.command - 1 ≡ n = omega arith in
-    let there : slice_get (commands_of w.plan) (e.command - 1) ≡ Some c = ap (slice_get (commands_of w.plan)) place ∙ of_e.there in
+    let there : at_number (commands_of w.plan) e.command ≡ Some c = at_number-is (commands_of w.plan) e.command n of_e.number ∙ of_e.there in
     ap (λ (l : Option Entry). is_cut_at (Some number) w l) last
-    ∙ ap (λ (j : ℕ). (j == number) && is_in_round w.round (slice_get (commands_of w.plan) (e.command - 1))) numbered
+    ∙ ap (λ (j : ℕ). (j == number) && is_in_round w.round (at_number (commands_of w.plan) e.command)) numbered
     ∙ ap (λ (o : Option Placed). (number == number) && is_in_round w.round o) there
     ∙ ap (λ (j : ℕ). (number == number) && (j == w.round)) round
     ∙ grind (arith, nat_tests)

@@ -1,16 +1,16 @@
 -- One world goes on from another.
-use Rattle.std.specs.Prelude.{◌≡◌, ℕ, ◌-◌, ◌==◌, ◌&&◌, Bool, true, not, List, ◌++◌, Option, Some, slice_get}
+use Rattle.std.specs.Prelude.{◌≡◌, ℕ, Bool, true, List, ◌++◌, Option, Some, slice_get}
 use Rattle.std.specs.List.{All}
 use Rattle.cni_verbs.specs.declared.answer.Answer.{Answer}
 use Rattle.pod_workers.specs.Legal.{Legal}
 use Rattle.pod_workers.specs.Plans.{Placed, commands_of}
-use Rattle.pod_workers.specs.World.{World, IsRoundOver, is_in_round, next_round}
+use Rattle.pod_workers.specs.World.{World, IsRoundOver, is_entry_in, next_round}
 use Rattle.pod_workers.specs.declared.plan.Entry.{Entry}
 use Rattle.pod_workers.specs.declared.plan.Plan.{Plan}
 
--- the entry is of a command of this round; commands are numbered from 1
+-- the entry is of a command of this round
 abbrev pub is_of_round : Plan → ℕ → Entry → Bool
-is_of_round p round e = not (e.command == 0) && is_in_round round (slice_get (commands_of p) (e.command - 1))
+is_of_round p round e = is_entry_in (λ (c : Placed). c.round) (commands_of p) round e
 
 abbrev pub IsOfRound : Plan → ℕ → Entry → Type 0
 IsOfRound p round e = is_of_round p round e ≡ true

@@ -85,6 +85,10 @@ IsWithin (Some most) made = made ≤ most
 abbrev pub last_entry : List Entry → Option Entry
 last_entry h = slice_get h (length h - 1)
 
+-- what stands at this number, from 1
+abbrev pub at_number : {X : Type 0} → List X → ℕ → Option X
+at_number xs number = if number == 0 then None else slice_get xs (number - 1)
+
 -- something is there, and it is of this round
 abbrev pub is_there_in : {X : Type 0} → (X → ℕ) → ℕ → Option X → Bool
 is_there_in round_of round None = false
@@ -93,12 +97,15 @@ is_there_in round_of round (Some x) = round_of x == round
 abbrev pub is_in_round : ℕ → Option Placed → Bool
 is_in_round round c = is_there_in (λ (c : Placed). c.round) round c
 
--- the last entry is the one that the plan's `stop_at` names, and it is of this round, by what stands at its command's
--- place
+-- the entry is of this round, by what stands at its command's number
+abbrev pub is_entry_in : {X : Type 0} → (X → ℕ) → List X → ℕ → Entry → Bool
+is_entry_in round_of items round e = is_there_in round_of round (at_number items e.command)
+
+-- the last entry is the one that the plan's `stop_at` names, and it is of this round
 abbrev pub cuts_round : {X : Type 0} → (X → ℕ) → List X → ℕ → List Entry → Option ℕ → Option Entry → Bool
 cuts_round round_of items round h None last = false
 cuts_round round_of items round h (Some number) None = false
-cuts_round round_of items round h (Some number) (Some e) = length h == number && is_there_in round_of round (slice_get items (e.command - 1))
+cuts_round round_of items round h (Some number) (Some e) = length h == number && is_entry_in round_of items round e
 
 abbrev pub is_cut_at : Option ℕ → World → Option Entry → Bool
 is_cut_at stop w last = cuts_round (λ (c : Placed). c.round) (commands_of w.plan) w.round w.history stop last
@@ -180,7 +187,7 @@ abbrev pub begun : Plan → World
 begun p = record { plan = p; history = []; answers = map (λ (c : Placed). None) (commands_of p); round = 0 }
 
 abbrev pub answer_in : List (Option Answer) → ℕ → Option Answer
-answer_in answers number = if number == 0 then None else option_flatten (slice_get answers (number - 1))
+answer_in answers number = option_flatten (at_number answers number)
 
 -- the answer of the command of this number, from 1
 abbrev pub answer_at : World → ℕ → Option Answer

@@ -3,13 +3,13 @@
 ghost use Rattle.std.specs.Prelude.{◌≡◌, ◌+◌, ◌<◌, ◌^◌, ℕ, ◌-◌, Some, slice_get, length, nat_le, IfOk, IsTrue, OnOk, OnErr, MatchBool};
 ghost use Rattle.std.specs.Option.{option_copied};
 ghost use Rattle.cni_verbs.specs.declared.answer.Answer.TheVariants.{OutOfMemory};
-ghost use Rattle.pod_workers.specs.Extends.{Extends, Rounds};
+ghost use Rattle.pod_workers.specs.Extends.{Extends, Rounds, is_of_round};
 ghost use Rattle.pod_workers.specs.Index.{is_cut_by};
 ghost use Rattle.pod_workers.specs.Legal.{Legal};
 ghost use Rattle.pod_workers.specs.Order.{EarlierAreAnswered, IsInFileOrder};
 ghost use Rattle.pod_workers.specs.Plans.{IsWellFormed, Placed, commands_of};
 ghost use Rattle.pod_workers.specs.Slots.{AreNumbersOf};
-ghost use Rattle.pod_workers.specs.World.{IsReadyNumber, IsRoundOver, answer_at, answer_in, answered, begun, end_of, host_of, is_there_in, next_of, next_round, own_replies, stepped};
+ghost use Rattle.pod_workers.specs.World.{IsReadyNumber, IsRoundOver, answer_at, answer_in, answered, at_number, begun, end_of, host_of, is_entry_in, next_of, next_round, own_replies, stepped};
 ghost use Rattle.pod_workers.specs.declared.index.Place.{Place};
 
 use crate::index::{Place, command_at, index_of, may_step, place_at, round_at};
@@ -120,6 +120,13 @@ impl<K: Kernel + Drop> Book<K> {
         ensures { result ≡ self.now.round }
     {
         self.round
+    }
+
+    /// Whether the entry is of a command of the current round. Takes no memory.
+    pub fn is_of_round(&self, entry: &Entry) -> bool
+        ensures { result ≡ is_of_round self.now.plan self.now.round entry.now }
+    {
+        is_entry_in(self.places.as_slice(), self.round, entry)
     }
 
     /// No round is left.
@@ -246,13 +253,20 @@ impl<K: Kernel + Drop> Book<K> {
 fn answer_in(answers: &[Option<Answer>], command: u32) -> Option<&Answer>
     ensures { option_copied result ≡ answer_in answers.now command }
 {
-    if command == 0 {
-        return None;
-    }
-    match answers.get((command - 1) as usize) {
+    match at_number(answers, command) {
         None => None,
         Some(answer) => answer.as_ref(),
     }
+}
+
+/// What stands at this number, from 1.
+fn at_number<T>(items: &[T], number: u32) -> Option<&T>
+    ensures { option_copied result ≡ at_number items.now number }
+{
+    if number == 0 {
+        return None;
+    }
+    items.get((number - 1) as usize)
 }
 
 /// Whether the plan stops the round here: its last allowed entry is the last of the history, and of this round.
@@ -264,17 +278,16 @@ fn is_cut(stop_at: Option<u32>, history: &[Entry], places: &[Place], round: u32)
         None => false,
         Some(number) => match history.last() {
             None => false,
-            Some(entry) => {
-                history.len() == number as usize && is_place_in(places, entry.command, round)
-            }
+            Some(entry) => history.len() == number as usize && is_entry_in(places, round, entry),
         },
     }
 }
 
-fn is_place_in(places: &[Place], command: u32, round: u32) -> bool
-    ensures { result ≡ is_there_in (λ (p : Place). p.round) round (slice_get places.now (command - 1)) }
+/// Whether the entry is of this round.
+fn is_entry_in(places: &[Place], round: u32, entry: &Entry) -> bool
+    ensures { result ≡ is_entry_in (λ (p : Place). p.round) places.now round entry.now }
 {
-    match places.get(command.saturating_sub(1) as usize) {
+    match at_number(places, entry.command) {
         None => false,
         Some(place) => place.round == round,
     }
