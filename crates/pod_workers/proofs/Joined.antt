@@ -8,11 +8,12 @@ use Rattle.std.proofs.lemmas.List.{drop_more, take_more}
 use Rattle.std.proofs.lemmas.Option.{none-some}
 use Rattle.cni_addr.specs.Lists.{distinct}
 use Rattle.net_conf.specs.declared.list.NetList.{NetList}
+use Rattle.plan_words.proofs.CountLemmas.{list_any-find}
 use Rattle.pod_file.specs.declared.command.Command.{Command}
 use Rattle.pod_workers.specs.Join.{joined, plan_unless, unless, first_repeat_after, first_without_list}
 use Rattle.pod_workers.specs.Laws.{JoinedPlansAreWellFormed}
 use Rattle.pod_file.specs.Commands.{is_of_network}
-use Rattle.pod_workers.specs.Plans.{placed_from, IsWellFormed, commands_of, list_for, list_in}
+use Rattle.pod_workers.specs.Plans.{placed_from, IsWellFormed, commands_of, list_for, list_in, list_named}
 use Rattle.pod_workers.specs.declared.plan.Plan.{Plan}
 use Rattle.pod_workers.specs.declared.plan.PlanError.{PlanError}
 use Rattle.pod_workers.specs.declared.plan.PlanError.TheVariants.{SameName, NoNetwork}
@@ -65,10 +66,10 @@ apart-more earlier l ls none apart =
 apart : (earlier : List NetList) (place : ℕ) (ls : List NetList) → first_repeat_after earlier place ls ≡ None → AreApart earlier ls
 apart earlier place [] none = (none-later earlier, refl)
 apart earlier place (l ∷ ls) none =
-    elim (list_any (λ e. bytes_eq e.name l.name) earlier)
-    as (λ b. list_any (λ e. bytes_eq e.name l.name) earlier ≡ b → cond b (Some place) (first_repeat_after (earlier ++ l ∷ []) (place + 1) ls) ≡ None → AreApart earlier (l ∷ ls)) [
+    elim (is_some (list_named earlier l.name))
+    as (λ b. is_some (list_named earlier l.name) ≡ b → cond b (Some place) (first_repeat_after (earlier ++ l ∷ []) (place + 1) ls) ≡ None → AreApart earlier (l ∷ ls)) [
       | true ↦ λ is h. absurd (none-some place (sym h))
-      | false ↦ λ is h. apart-more earlier l ls is (apart (earlier ++ l ∷ []) (place + 1) ls h)
+      | false ↦ λ is h. apart-more earlier l ls (list_any-find (λ e. bytes_eq e.name l.name) earlier ∙ is) (apart (earlier ++ l ∷ []) (place + 1) ls h)
     ] refl none
 
 -- ---- what was joined
@@ -123,18 +124,18 @@ joined_is_well_formed p q h lists pods =
 
 repeats-step : (lists : List NetList) (i : ℕ) (l : NetList) → i < length lists → l ≡ get_or lists i l
     → first_repeat_after (take i lists) i (drop i lists)
-    ≡ (if list_any (λ e. bytes_eq e.name l.name) (take i lists) then Some i else first_repeat_after (take (i + 1) lists) (i + 1) (drop (i + 1) lists))
+    ≡ (if is_some (list_named (take i lists) l.name) then Some i else first_repeat_after (take (i + 1) lists) (i + 1) (drop (i + 1) lists))
 repeats-step lists i l within is =
     ap (first_repeat_after (take i lists) i) (drop_more lists i l within ∙ ap (λ x. x ∷ drop (i + 1) lists) (sym is))
-    ∙ ap (λ earlier. if list_any (λ e. bytes_eq e.name l.name) (take i lists) then Some i else first_repeat_after earlier (i + 1) (drop (i + 1) lists))
+    ∙ ap (λ earlier. if is_some (list_named (take i lists) l.name) then Some i else first_repeat_after earlier (i + 1) (drop (i + 1) lists))
     (ap (λ x. take i lists ++ x ∷ []) is ∙ sym (take_more lists i l within))
 
-pub repeats-here : (lists : List NetList) (i : ℕ) (l : NetList) → i < length lists → l ≡ get_or lists i l → list_any (λ e. bytes_eq e.name l.name) (take i lists) ≡ true
+pub repeats-here : (lists : List NetList) (i : ℕ) (l : NetList) → i < length lists → l ≡ get_or lists i l → is_some (list_named (take i lists) l.name) ≡ true
     → first_repeat_after (take i lists) i (drop i lists) ≡ first_repeat_after [] 0 lists → Some i ≡ first_repeat_after [] 0 lists
 repeats-here lists i l within is has so_far =
     sym (sym so_far ∙ repeats-step lists i l within is ∙ ap (λ b. if b then Some i else first_repeat_after (take (i + 1) lists) (i + 1) (drop (i + 1) lists)) has)
 
-pub repeats-later : (lists : List NetList) (i : ℕ) (l : NetList) → i < length lists → l ≡ get_or lists i l → list_any (λ e. bytes_eq e.name l.name) (take i lists) ≡ false
+pub repeats-later : (lists : List NetList) (i : ℕ) (l : NetList) → i < length lists → l ≡ get_or lists i l → is_some (list_named (take i lists) l.name) ≡ false
     → first_repeat_after (take i lists) i (drop i lists) ≡ first_repeat_after [] 0 lists
     → first_repeat_after (take (i + 1) lists) (i + 1) (drop (i + 1) lists) ≡ first_repeat_after [] 0 lists
 repeats-later lists i l within is has_none so_far =

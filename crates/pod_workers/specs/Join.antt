@@ -1,10 +1,8 @@
 -- When lists and a pod file make a plan, and why they make none.
 use Rattle.std.specs.Prelude.{ℕ, ◌+◌, not, ◌&&◌, List, [], ◌∷◌, ◌++◌, position, is_some, Option, Some, None, Result, Ok, Err, if◌then◌else◌}
-use Rattle.std.specs.List.{list_any}
-use Rattle.std.specs.Str.{bytes_eq}
 use Rattle.net_conf.specs.declared.list.NetList.{NetList}
 use Rattle.pod_file.specs.Commands.{is_of_network}
-use Rattle.pod_workers.specs.Plans.{commands_of, list_for}
+use Rattle.pod_workers.specs.Plans.{commands_of, list_for, list_named}
 use Rattle.pod_workers.specs.declared.plan.Plan.{Plan}
 use Rattle.pod_workers.specs.declared.plan.PlanError.{PlanError}
 use Rattle.pod_workers.specs.declared.plan.PlanError.TheVariants.{SameName, NoNetwork}
@@ -13,7 +11,7 @@ use Rattle.pod_workers.specs.declared.plan.PlanError.TheVariants.{SameName, NoNe
 abbrev pub first_repeat_after : List NetList → ℕ → List NetList → Option ℕ
 first_repeat_after earlier place [] = None
 first_repeat_after earlier place (l ∷ ls) =
-    if list_any (λ e. bytes_eq e.name l.name) earlier then Some place else first_repeat_after (earlier ++ l ∷ []) (place + 1) ls
+    if is_some (list_named earlier l.name) then Some place else first_repeat_after (earlier ++ l ∷ []) (place + 1) ls
 
 -- the place of the first command of a network that no list has
 abbrev pub first_without_list : Plan → Option ℕ

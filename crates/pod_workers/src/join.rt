@@ -1,9 +1,7 @@
 //! Lists and a pod file as one plan.
 
 ghost use Rattle.std.specs.Prelude.{◌≡◌, ◌<◌, ◌≤◌, ◌^◌, ◌&&◌, [], is_some, length, not, position};
-ghost use Rattle.std.specs.List.{list_any};
 ghost use Rattle.std.specs.Option.{option_copied};
-ghost use Rattle.std.specs.Str.{bytes_eq};
 ghost use Rattle.pod_workers.specs.Join.{first_repeat_after, joined, plan_unless};
 ghost use Rattle.pod_workers.specs.Laws.{JoinedPlansAreWellFormed};
 ghost use Rattle.pod_workers.specs.declared.plan.Plan.{Plan};
@@ -103,9 +101,9 @@ fn first_without_list(lists: &[NetList], rounds: &[Items<Command>]) -> Option<u3
 }
 
 fn has_name(lists: &[NetList], name: &Text) -> bool
-    ensures { result ≡ list_any (λ e. bytes_eq e.name name.now) lists.now }
+    ensures { result ≡ is_some (list_named lists.now name.now) }
 {
-    lists.iter().any(|list| list.name == *name)
+    list_named(lists, name).is_some()
 }
 
 /// The place of the first list that has the name of an earlier one.
