@@ -13,7 +13,7 @@ use Rattle.pod_file.specs.declared.command.Command.{Command}
 use Rattle.pod_workers.specs.Join.{joined, plan_unless, unless, first_repeat_after, first_without_list}
 use Rattle.pod_workers.specs.Laws.{JoinedPlansAreWellFormed}
 use Rattle.pod_file.specs.Commands.{is_of_network}
-use Rattle.pod_workers.specs.Plans.{placed_from, IsWellFormed, commands_of, list_for, list_in, list_named}
+use Rattle.pod_workers.specs.Plans.{Placed, placed_from, IsWellFormed, commands_of, lacks_list, list_for, list_in, list_named}
 use Rattle.pod_workers.specs.declared.plan.Plan.{Plan}
 use Rattle.pod_workers.specs.declared.plan.PlanError.{PlanError}
 use Rattle.pod_workers.specs.declared.plan.PlanError.TheVariants.{SameName, NoNetwork}
@@ -81,7 +81,7 @@ unless-ok f (Some k) r q h = cc
 pub record IsJoined (p q : Plan) : Type 0 where
   pub same : p ≡ q
   pub names : first_repeat_after [] 0 p.lists ≡ None
-  pub networks : first_without_list p ≡ None
+  pub networks : first_without_list p.lists p.pods.rounds ≡ None
 
 -- ---- what isn't
 
@@ -89,11 +89,11 @@ pub joined-same_name : (p : Plan) (place : ℕ) → Some place ≡ first_repeat_
 unfolding joined
 joined-same_name p place is = rw (sym is) refl
 
-pub joined-no_network : (p : Plan) (place : ℕ) → None ≡ first_repeat_after [] 0 p.lists → Some place ≡ first_without_list p → joined p ≡ Err (NoNetwork (place + 1))
+pub joined-no_network : (p : Plan) (place : ℕ) → None ≡ first_repeat_after [] 0 p.lists → Some place ≡ first_without_list p.lists p.pods.rounds → joined p ≡ Err (NoNetwork (place + 1))
 unfolding joined
 joined-no_network p place names is = rw (sym names, sym is) refl
 
-pub joined-ok : (p : Plan) → None ≡ first_repeat_after [] 0 p.lists → None ≡ first_without_list p → joined p ≡ Ok p
+pub joined-ok : (p : Plan) → None ≡ first_repeat_after [] 0 p.lists → None ≡ first_without_list p.lists p.pods.rounds → joined p ≡ Ok p
 unfolding joined
 joined-ok p names networks = rw (sym names, sym networks) refl
 
@@ -101,13 +101,19 @@ pub is-joined : (p q : Plan) → joined p ≡ Ok q → IsJoined p q
 unfolding joined
 is-joined p q h =
     let b = unless-ok _ (first_repeat_after [] 0 p.lists) _ q h in
-    let d = unless-ok _ (first_without_list p) _ q b.1 in
+    let d = unless-ok _ (first_without_list p.lists p.pods.rounds) _ q b.1 in
     record { same = (let e = d.1 in cc); names = b.0; networks = d.0 }
 
 has-list : (a b : Bool) → (a && not b) ≡ false → (not a || b) ≡ true
 has-list true true h = refl
 has-list true false h = cc
 has-list false b h = refl
+
+each-listed : (p : Plan) → first_without_list p.lists p.pods.rounds ≡ None → list_all (λ c. not (is_of_network c.command.verb) || is_some (list_for p c.command)) (commands_of p) ≡ true
+unfolding commands_of list_for
+each-listed p none =
+    all-where_none (λ (c : Placed). lacks_list p.lists c.command) (λ (c : Placed). not (is_of_network c.command.verb) || is_some (list_in p.lists c.command))
+    (λ c passed. has-list (is_of_network c.command.verb) (is_some (list_in p.lists c.command)) passed) (placed_from 0 p.pods.rounds) none
 
 pub joined_is_well_formed : JoinedPlansAreWellFormed
 joined_is_well_formed p q h lists pods =
@@ -116,7 +122,7 @@ joined_is_well_formed p q h lists pods =
       lists = lists;
       pods = pods;
       names = (apart [] 0 p.lists j.names).1;
-      networks = all-where_none _ (λ c. not (is_of_network c.command.verb) || is_some (list_for p c.command)) (λ c passed. has-list _ _ passed) (commands_of p) j.networks;
+      networks = each-listed p j.networks;
     } in
     subst IsWellFormed j.same well
 
@@ -143,26 +149,19 @@ repeats-later lists i l within is has_none so_far =
 
 -- ---- refusals, by the lists and the rounds alone
 
-abbrev first_unlisted : List NetList → List (List Command) → Option ℕ
-first_unlisted lists rounds = position (λ c. is_of_network c.command.verb && not (is_some (list_in lists c.command))) (placed_from 0 rounds)
-
-unlisted-of : (p : Plan) → first_without_list p ≡ first_unlisted p.lists p.pods.rounds
-unfolding commands_of list_for
-unlisted-of p = refl
-
 pub refusal-same_name : (lists : List NetList) (rounds : List (List Command)) (place : ℕ) → Some place ≡ first_repeat_after [] 0 lists
     → (p : Plan) → p.lists ≡ lists → p.pods.rounds ≡ rounds → joined p ≡ plan_unless (Some (SameName place)) p
 refusal-same_name lists rounds place is p same_lists same_rounds =
     joined-same_name p place (is ∙ ap (first_repeat_after [] 0) (sym same_lists))
 
 pub refusal-no_network : (lists : List NetList) (rounds : List (List Command)) (place : ℕ) → None ≡ first_repeat_after [] 0 lists
-    → Some place ≡ first_unlisted lists rounds → (p : Plan) → p.lists ≡ lists → p.pods.rounds ≡ rounds → joined p ≡ plan_unless (Some (NoNetwork (place + 1))) p
+    → Some place ≡ first_without_list lists rounds → (p : Plan) → p.lists ≡ lists → p.pods.rounds ≡ rounds → joined p ≡ plan_unless (Some (NoNetwork (place + 1))) p
 refusal-no_network lists rounds place names is p same_lists same_rounds =
     joined-no_network p place (names ∙ ap (first_repeat_after [] 0) (sym same_lists))
-    (is ∙ ap (λ ls. first_unlisted ls rounds) (sym same_lists) ∙ ap (first_unlisted p.lists) (sym same_rounds) ∙ sym (unlisted-of p))
+    (is ∙ ap (λ ls. first_without_list ls rounds) (sym same_lists) ∙ ap (first_without_list p.lists) (sym same_rounds))
 
 pub refusal-none : (lists : List NetList) (rounds : List (List Command)) → None ≡ first_repeat_after [] 0 lists
-    → None ≡ first_unlisted lists rounds → (p : Plan) → p.lists ≡ lists → p.pods.rounds ≡ rounds → joined p ≡ plan_unless None p
+    → None ≡ first_without_list lists rounds → (p : Plan) → p.lists ≡ lists → p.pods.rounds ≡ rounds → joined p ≡ plan_unless None p
 refusal-none lists rounds names networks p same_lists same_rounds =
     joined-ok p (names ∙ ap (first_repeat_after [] 0) (sym same_lists))
-    (networks ∙ ap (λ ls. first_unlisted ls rounds) (sym same_lists) ∙ ap (first_unlisted p.lists) (sym same_rounds) ∙ sym (unlisted-of p))
+    (networks ∙ ap (λ ls. first_without_list ls rounds) (sym same_lists) ∙ ap (first_without_list p.lists) (sym same_rounds))

@@ -1,8 +1,8 @@
 -- When lists and a pod file make a plan, and why they make none.
-use Rattle.std.specs.Prelude.{ℕ, ◌+◌, not, ◌&&◌, List, [], ◌∷◌, ◌++◌, position, is_some, Option, Some, None, Result, Ok, Err, if◌then◌else◌}
+use Rattle.std.specs.Prelude.{ℕ, ◌+◌, List, [], ◌∷◌, ◌++◌, position, is_some, Option, Some, None, Result, Ok, Err, if◌then◌else◌}
 use Rattle.net_conf.specs.declared.list.NetList.{NetList}
-use Rattle.pod_file.specs.Commands.{is_of_network}
-use Rattle.pod_workers.specs.Plans.{commands_of, list_for, list_named}
+use Rattle.pod_file.specs.declared.command.Command.{Command}
+use Rattle.pod_workers.specs.Plans.{lacks_list, list_named, placed_from}
 use Rattle.pod_workers.specs.declared.plan.Plan.{Plan}
 use Rattle.pod_workers.specs.declared.plan.PlanError.{PlanError}
 use Rattle.pod_workers.specs.declared.plan.PlanError.TheVariants.{SameName, NoNetwork}
@@ -14,8 +14,8 @@ first_repeat_after earlier place (l ∷ ls) =
     if is_some (list_named earlier l.name) then Some place else first_repeat_after (earlier ++ l ∷ []) (place + 1) ls
 
 -- the place of the first command of a network that no list has
-abbrev pub first_without_list : Plan → Option ℕ
-first_without_list p = position (λ c. is_of_network c.command.verb && not (is_some (list_for p c.command))) (commands_of p)
+abbrev pub first_without_list : List NetList → List (List Command) → Option ℕ
+first_without_list lists rounds = position (λ c. lacks_list lists c.command) (placed_from 0 rounds)
 
 abbrev pub unless : {A : Type 0} → (ℕ → PlanError) → Option ℕ → Result A PlanError → Result A PlanError
 unless refusal None otherwise = otherwise
@@ -25,7 +25,7 @@ unless refusal (Some place) otherwise = Err (refusal place)
 unfoldable pub joined : Plan → Result Plan PlanError
 joined p =
     unless (λ place. SameName place) (first_repeat_after [] 0 p.lists)
-    (unless (λ place. NoNetwork (place + 1)) (first_without_list p) (Ok p))
+    (unless (λ place. NoNetwork (place + 1)) (first_without_list p.lists p.pods.rounds) (Ok p))
 
 -- the plan, unless it is refused
 abbrev pub plan_unless : Option PlanError → Plan → Result Plan PlanError

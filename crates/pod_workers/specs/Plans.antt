@@ -1,5 +1,5 @@
 -- What a plan says: its commands with their rounds, their lists, and when it is well formed.
-use Rattle.std.specs.Prelude.{◌≡◌, ℕ, ◌+◌, true, not, ◌||◌, List, [], ◌∷◌, ◌++◌, map, find, is_some, Option, None, if◌then◌else◌}
+use Rattle.std.specs.Prelude.{◌≡◌, ℕ, ◌+◌, Bool, true, not, ◌&&◌, ◌||◌, List, [], ◌∷◌, ◌++◌, map, find, is_some, Option, None, if◌then◌else◌}
 use Rattle.std.specs.List.{All, list_all}
 use Rattle.std.specs.Str.{bytes_eq}
 use Rattle.cni_addr.specs.Lists.{distinct}
@@ -39,6 +39,10 @@ list_named lists name = find (λ l. bytes_eq l.name name) lists
 -- the list of the command's network, where its verb speaks of one
 abbrev pub list_in : List NetList → Command → Option NetList
 list_in lists c = if is_of_network c.verb then list_named lists c.network else None
+
+-- the command is of a network that no list has
+abbrev pub lacks_list : List NetList → Command → Bool
+lacks_list lists c = is_of_network c.verb && not (is_some (list_in lists c))
 
 unfoldable pub list_for : Plan → Command → Option NetList
 list_for p c = list_in p.lists c

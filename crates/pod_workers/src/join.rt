@@ -1,13 +1,12 @@
 //! Lists and a pod file as one plan.
 
-ghost use Rattle.std.specs.Prelude.{◌≡◌, ◌<◌, ◌≤◌, ◌^◌, ◌&&◌, [], is_some, length, not, position};
+ghost use Rattle.std.specs.Prelude.{◌≡◌, ◌<◌, ◌≤◌, ◌^◌, [], is_some, length, position};
 ghost use Rattle.std.specs.Option.{option_copied};
-ghost use Rattle.pod_workers.specs.Join.{first_repeat_after, joined, plan_unless};
+ghost use Rattle.pod_workers.specs.Join.{first_repeat_after, first_without_list, joined, plan_unless};
 ghost use Rattle.pod_workers.specs.Laws.{JoinedPlansAreWellFormed};
 ghost use Rattle.pod_workers.specs.declared.plan.Plan.{Plan};
-ghost use Rattle.pod_file.specs.Commands.{is_of_network};
 ghost use Rattle.pod_file.specs.Rounds.{file_limit};
-ghost use Rattle.pod_workers.specs.Plans.{commands_of, list_in, list_named, placed_from};
+ghost use Rattle.pod_workers.specs.Plans.{commands_of, lacks_list, list_in, list_named, placed_from};
 
 use crate::plan::{Plan, PlanError};
 use cni_addr::{Items, Text};
@@ -56,7 +55,7 @@ pub(crate) fn list_of<'a>(lists: &'a [NetList], command: &Command) -> Option<&'a
 }
 
 fn lacks_list(lists: &[NetList], command: &Command) -> bool
-    ensures { result ≡ (is_of_network command.now.verb && not (is_some (list_in lists.now command.now))) }
+    ensures { result ≡ lacks_list lists.now command.now }
 {
     command.verb.is_of_network() && list_of(lists, command).is_none()
 }
@@ -77,7 +76,7 @@ fn refusal(lists: &[NetList], rounds: &[Items<Command>]) -> Option<PlanError>
 }
 
 fn without_list_in(lists: &[NetList], commands: &[Command]) -> Option<usize>
-    ensures { result ≡ position (λ c. is_of_network c.verb && not (is_some (list_in lists.now c))) commands.now }
+    ensures { result ≡ position (λ c. lacks_list lists.now c) commands.now }
 {
     commands
         .iter()
@@ -87,7 +86,7 @@ fn without_list_in(lists: &[NetList], commands: &[Command]) -> Option<usize>
 /// The place of the first command of a network that no list has.
 fn first_without_list(lists: &[NetList], rounds: &[Items<Command>]) -> Option<u32>
     requires { length (placed_from 0 rounds.now) ≤ file_limit }
-    ensures { result ≡ position (λ c. is_of_network c.command.verb && not (is_some (list_in lists.now c.command))) (placed_from 0 rounds.now) }
+    ensures { result ≡ first_without_list lists.now rounds.now }
 {
     let mut before: u32 = 0;
     for commands in rounds {

@@ -1,7 +1,5 @@
 use Rattle.std.proofs.Common.{sym, ◌∙◌, arith}
-use Rattle.std.specs.Prelude.{not, ◌&&◌, is_some}
-use Rattle.pod_file.specs.Commands.{is_of_network}
-use Rattle.pod_workers.specs.Plans.{list_in, placed_from}
+use Rattle.pod_workers.specs.Plans.{lacks_list, placed_from}
 use Rattle.pod_workers.proofs.Joined.{refusal-same_name, refusal-no_network, refusal-none}
 use Rattle.pod_workers.proofs.Positions.{found-within}
 use Rattle.pod_workers.proofs.join.refusal.Goals as goal
@@ -11,7 +9,7 @@ returns-in-Some c = refusal-same_name _ _ _ c.in-Some.ensures
 
 pub overflow_add-result : goal.overflow_add-result
 overflow_add-result c =
-    let within = found-within (λ x. is_of_network x.command.verb && not (is_some (list_in c.args.lists.now x.command))) (placed_from 0 c.args.rounds.now) c.in-Some-first_without_list.place c.in-Some-first_without_list.ensures in
+    let within = found-within (λ x. lacks_list c.args.lists.now x.command) (placed_from 0 c.args.rounds.now) c.in-Some-first_without_list.place c.in-Some-first_without_list.ensures in
     record { fits = omega (arith, within, c.requires.few_commands) }
 
 pub returns-in-Some-first_without_list : goal.returns-in-Some-first_without_list
