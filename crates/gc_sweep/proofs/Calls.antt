@@ -45,7 +45,7 @@ use Rattle.gc_sweep.specs.Trace.{Made, host_on}
 use Rattle.gc_sweep.proofs.Covered.{WorkKept, Next, work_step, work_start}
 use Rattle.gc_sweep.proofs.Deletions.{deletes}
 use Rattle.gc_sweep.proofs.Kept.{tags_within}
-use Rattle.gc_sweep.proofs.Lists.{list_all-none, list_all-drops}
+use Rattle.gc_sweep.proofs.Lists.{length-without_first, list_all-none, list_all-drops}
 use Rattle.gc_sweep.proofs.Machine.{Point, start_point, point_after, IsTrail}
 use Rattle.gc_sweep.proofs.Owners.{is_stale, goes_own, own_goes, owners_cover, owners_stale, has_att}
 use Rattle.gc_sweep.proofs.Runs.{trail, early_or, early_makes_none}
@@ -57,10 +57,6 @@ list_any-without_other : {X : Type 0} (p q : X → Bool) → ((y : X) → q y �
 list_any-without_other p q w [] h = h
 list_any-without_other p q w (y ∷ ys) h = grind (arith, h, w y, list_any-without_other p q w ys)
 
-length-without_first : {X : Type 0} (q : X → Bool) (ys : List X) → list_any q ys ≡ true → length (without_first q ys) < length ys
-length-without_first q [] h = cc
-length-without_first q (y ∷ ys) h = grind (arith, h, length-without_first q ys)
-
 apart_same : (x a y : Att) → not (att_eq x a) ≡ true → att_eq x y ≡ true → att_eq a y ≡ false
 apart_same x a y differ xy =
     by_bool (att_eq a y)
@@ -71,7 +67,7 @@ pigeon : (xs ys : List Att) → distinct att_eq xs ≡ true → list_all (λ a. 
 pigeon [] ys d h = omega arith
 pigeon (x ∷ xs) ys d h =
     let here : list_any (att_eq x) ys ≡ true = grind (arith, h) in
-    let shorter = length-without_first (att_eq x) ys here in
+    let shorter = rw here at (length-without_first (att_eq x) ys) in
     let others = list_all-none (att_eq x) xs (grind (arith, d)) in
     let later : list_all (λ a. list_any (att_eq a) (without_first (att_eq x) ys)) xs ≡ true =
     list_all-both (λ a. not (att_eq x a)) (λ a. list_any (att_eq a) ys) (λ a. list_any (att_eq a) (without_first (att_eq x) ys))

@@ -1,5 +1,5 @@
 -- What a deletion does to a sound host, for every kind.
-use Rattle.std.proofs.Common.{◌≡◌, ◌<◌, Bool, true, false, not, ap, List, [], ◌∷◌, Option, Some, None, length, map, refl, sym, ◌∙◌, arith}
+use Rattle.std.proofs.Common.{◌≡◌, ◌<◌, Bool, true, false, ap, List, Option, Some, None, length, map, refl, sym, ◌∙◌, arith}
 use Rattle.std.specs.Prelude.{filter, find}
 use Rattle.std.specs.List.{list_any}
 use Rattle.cni_addr.specs.Lists.{without_first}
@@ -23,7 +23,7 @@ use Rattle.kernel_types.proofs.ListLemmas.{without_first-none, list_any-find_non
 use Rattle.kernel_types.proofs.Removal.{IsSound-link_del, goes_with-itself}
 use Rattle.cni_verbs.specs.Wanted.{deletion}
 use Rattle.gc_sweep.specs.Keep.{IsWithin}
-use Rattle.gc_sweep.proofs.Lists.{any-found, count_drops, count_without_first, drops-filter}
+use Rattle.gc_sweep.proofs.Lists.{any-found, count_found, count_without_first}
 use Rattle.gc_sweep.proofs.Removes.{within_own, within_same}
 use Rattle.gc_sweep.specs.Weights.{total}
 
@@ -51,8 +51,8 @@ deletes_first a kind h tag_of xs put left any is_left is_any tags same less soun
       reply = ap Gone (is_any ∙ sym own);
       none = λ e. ap put (is_left ∙ without_first-none (λ x. is_own a (tag_of x)) xs (sym own ∙ e)) ∙ same;
       fewer = λ p w e.
-          let c = count_without_first (λ x. is_own a (tag_of x)) (λ x. p (tag_of x)) (λ x. w (tag_of x)) xs (sym own ∙ e) in
-          less p (rw is_left c);
+          let c = rw (sym own ∙ e) at (count_without_first (λ x. is_own a (tag_of x)) (λ x. p (tag_of x)) (λ x. w (tag_of x)) xs) in
+          less p (rw is_left (omega (arith, c)));
     }
 
 deletes_rules : (a : Att) (h : Host) → IsSound h → Deletes a Rules h (apply h (deletion a Rules))
@@ -76,11 +76,6 @@ deletes_cached a h sound =
     (within_own a h _ (RemovesOwn-cache_del h a))
 
 -- ---- links go with their peers
-
--- the link that was found passes and goes, so fewer pass
-count_found : {X : Type 0} (own gone pass : X → Bool) (xs : List X) (y : X) → find own xs ≡ Some y → gone y ≡ true → pass y ≡ true → length (filter pass (filter (λ x. not (gone x)) xs)) < length (filter pass xs)
-count_found own gone pass [] y f g w = cc
-count_found own gone pass (x ∷ xs) y f g w = let rest = count_drops pass (λ z. true) xs (filter (λ z. not (gone z)) xs) (drops-filter (λ z. not (gone z)) xs) in grind (arith, f, g, w, rest, count_found own gone pass xs y)
 
 deletes_found : (a : Att) (h : Host) (o : Option Link) → find (λ l. is_own a l.tag) h.links ≡ o → IsSound h → IsSound (without_link h o).0 → RemovesOwn a h (without_link h o).0 → TouchesOwn a h (without_link h o).0 → Deletes a Links h (without_link h o)
 deletes_found a h None is sound new removes touch =

@@ -1,8 +1,9 @@
 -- Laws of lists that lost elements and of filters, for a list of any objects.
-use Rattle.std.proofs.Common.{◌≡◌, ◌<◌, ◌≤◌, Bool, true, false, not, cond, ap, List, [], ◌∷◌, ◌++◌, length, Some, refl, sym, ◌∙◌, subst, inl, inr, arith}
+use Rattle.std.proofs.Common.{◌≡◌, ◌+◌, ◌≤◌, Bool, true, false, not, cond, ap, List, [], ◌∷◌, ◌++◌, length, Some, refl, sym, ◌∙◌, subst, inl, inr, arith}
 use Rattle.std.specs.Prelude.{filter, find, map, ◌||◌}
 use Rattle.std.specs.List.{list_any, list_all}
 use Rattle.cni_addr.specs.Lists.{without_first}
+use Rattle.net_conf.specs.Sets.{one_if}
 use Rattle.kernel_types.specs.Touch.{DropsOnly}
 use Rattle.kernel_types.proofs.ChangeLemmas.{DropsOnly-filter, DropsOnly-nothing}
 
@@ -74,9 +75,28 @@ pub filter_all : {X : Type 0} (p : X → Bool) (xs : List X) → list_all p xs �
 filter_all p [] h = refl
 filter_all p (x ∷ xs) h = grind (arith, h, filter_all p xs)
 
-pub count_without_first : {X : Type 0} (own gone : X → Bool) → ((x : X) → own x ≡ true → gone x ≡ true) → (xs : List X) → list_any own xs ≡ true → length (filter gone (without_first own xs)) < length (filter gone xs)
-count_without_first own gone w [] h = cc
-count_without_first own gone w (x ∷ xs) h = grind (arith, h, w x, count_without_first own gone w xs)
+filter_every : {X : Type 0} (xs : List X) → filter (λ x. true) xs ≡ xs
+filter_every xs = filter_all (λ x. true) xs (all_true (λ x. true) (λ x. refl) xs)
+
+-- ---- fewer, where one goes
+
+pub count_without_first : {X : Type 0} (own counts : X → Bool) → ((x : X) → own x ≡ true → counts x ≡ true) → (xs : List X)
+    → length (filter counts (without_first own xs)) + one_if (list_any own xs) ≤ length (filter counts xs)
+count_without_first own counts w [] = omega arith
+count_without_first own counts w (x ∷ xs) = grind (arith, w x, count_without_first own counts w xs)
+
+pub length-without_first : {X : Type 0} (own : X → Bool) (xs : List X) → length (without_first own xs) + one_if (list_any own xs) ≤ length xs
+length-without_first own xs = rw (filter_every (without_first own xs), filter_every xs) at (count_without_first own (λ x. true) (λ x h. refl) xs)
+
+-- the element that was found counts and goes, so fewer count
+pub count_found : {X : Type 0} (own gone counts : X → Bool) (xs : List X) (y : X) → find own xs ≡ Some y → gone y ≡ true → counts y ≡ true
+    → length (filter counts (filter (λ x. not (gone x)) xs)) + 1 ≤ length (filter counts xs)
+count_found own gone counts [] y f g w = cc
+count_found own gone counts (x ∷ xs) y f g w =
+    let rest = count_drops counts (λ z. true) xs (filter (λ z. not (gone z)) xs) (drops-filter (λ z. not (gone z)) xs) in grind (arith, f, g, w, rest, count_found own gone counts xs y)
+
+pub length-found : {X : Type 0} (own gone : X → Bool) (xs : List X) (y : X) → find own xs ≡ Some y → gone y ≡ true → length (filter (λ x. not (gone x)) xs) + 1 ≤ length xs
+length-found own gone xs y f g = rw (filter_every (filter (λ x. not (gone x)) xs), filter_every xs) at (count_found own gone (λ x. true) xs y f g refl)
 
 -- ---- some
 

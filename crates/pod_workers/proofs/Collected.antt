@@ -8,7 +8,7 @@ use Rattle.net_conf.specs.Sets.{one_if}
 use Rattle.kernel_types.specs.Apply.{apply}
 use Rattle.kernel_types.specs.Apply.Calls.{goes_with, owner_in, tags_of, without_link}
 use Rattle.kernel_types.specs.Equal.{att_eq}
-use Rattle.cni_addr.specs.Lists.{each_key_once, without_first}
+use Rattle.cni_addr.specs.Lists.{each_key_once}
 use Rattle.kernel_types.specs.Words.{is_own}
 use Rattle.kernel_types.proofs.Removal.{goes_with-itself}
 use Rattle.kernel_types.specs.declared.object.Att.{Att}
@@ -30,6 +30,7 @@ use Rattle.cni_verbs.specs.Script.{call_of_work}
 use Rattle.cni_verbs.specs.Sweep.{Gc, Job, AskCached, Delete, Step, Sweep, after_step, is_valid, job_of, step_call, work_after}
 use Rattle.cni_verbs.specs.Wanted.{deletion}
 use Rattle.gc_sweep.proofs.Calls.{jobs_weight-after, jobs_weight-map}
+use Rattle.gc_sweep.proofs.Lists.{length-found, length-without_first}
 use Rattle.gc_sweep.specs.Weights.{jobs_weight, sweeps_weight}
 use Rattle.pod_workers.specs.CallsLeft.{collection_left, objects_in}
 
@@ -59,14 +60,6 @@ tags-fit host kinds.Cached = let m = length-map host.cached (λ (c : CachedObj).
 
 -- ---- a deletion takes an object, or says that there is none
 
-length-without_first : {X : Type 0} (p : X → Bool) (xs : List X) → length (without_first p xs) + one_if (list_any p xs) ≤ length xs
-length-without_first p [] = omega arith
-length-without_first p (x ∷ xs) = grind (arith, length-without_first p xs)
-
-length-gone : {X : Type 0} (own gone : X → Bool) (xs : List X) (y : X) → find own xs ≡ Some y → gone y ≡ true → length (filter (λ x. not (gone x)) xs) + 1 ≤ length xs
-length-gone own gone [] y is goes = cc
-length-gone own gone (x ∷ xs) y is goes = let rest = fewer-filter (λ z. not (gone z)) xs in grind (arith, is, goes, rest, length-gone own gone xs y)
-
 record Shrinks (host : Host) (step : Host × Reply) : Type 0 where
   gone : Bool
   reply : step.1 ≡ Gone gone
@@ -77,7 +70,7 @@ links-shrink att host None is = record { gone = false; reply = refl; fewer = ome
 links-shrink att host (Some l) is = record {
   gone = true;
   reply = refl;
-  fewer = let c = length-gone (λ m. is_own att m.tag) (goes_with l.ns l.name) host.links l is (goes_with-itself l) in omega arith;
+  fewer = let c = length-found (λ m. is_own att m.tag) (goes_with l.ns l.name) host.links l is (goes_with-itself l) in omega arith;
 }
 
 deletion-shrinks : (att : Att) (kind : Kind) (host : Host) → Shrinks host (apply host (deletion att kind))

@@ -38,7 +38,7 @@ use Rattle.plan_words.specs.Share.{Share, share_of, share_after_call}
 use Rattle.plan_words.proofs.OwnCalls.{share-own, share-lease, share-begin}
 use Rattle.plan_words.proofs.Refusals.{refused-same, refused-lease}
 use Rattle.cni_verbs.specs.Wanted.{deletion}
-use Rattle.gc_sweep.proofs.Lists.{any-found}
+use Rattle.gc_sweep.proofs.Lists.{any-found, count_without_first}
 use Rattle.pod_workers.specs.CallsLeft.{deletions_of}
 
 -- ---- counts
@@ -56,8 +56,7 @@ count-map q f same [] = refl
 count-map q f same (x ∷ xs) = grind (arith, same x, count-map q f same xs)
 
 count-without_first : {X : Type 0} (own : X → Bool) (xs : List X) → length (filter own (without_first own xs)) + one_if (list_any own xs) ≤ length (filter own xs)
-count-without_first own [] = omega arith
-count-without_first own (x ∷ xs) = grind (arith, count-without_first own xs)
+count-without_first own xs = count_without_first own own (λ x h. h) xs
 
 count-fewer : {X : Type 0} (q own gone : X → Bool) (xs : List X) → length (filter q (filter own (filter (λ x. not (gone x)) xs))) ≤ length (filter q (filter own xs))
 count-fewer q own gone [] = omega arith
