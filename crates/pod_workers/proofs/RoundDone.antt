@@ -165,12 +165,12 @@ numbers-of host slots places before w v cs kept same is = subst (λ u. AreNumber
 
 -- each command of the round with a number below this one is answered
 abbrev pub AllBelow : World → ℕ → Type 0
-AllBelow w number = (n : ℕ) (c : Placed) → n + 1 < number → slice_get (commands_of w.plan) n ≡ Some c → c.round ≡ w.round → IsAnswered w n
+AllBelow w number = EarlierAreAnswered w (number - 1)
 
-below-stays : (v w : World) (number : ℕ) → Extends v w → AllBelow v number → AllBelow w number
-below-stays v w number e below n c less at_n current =
-    let a = below n c less (ap (λ p. slice_get (commands_of p) n) (sym e.plan_is) ∙ at_n) (current ∙ e.round_is) in
-    (a.0, e.answers_stand n a.0 a.1)
+earlier-stays : (v w : World) (n : ℕ) → Extends v w → EarlierAreAnswered v n → EarlierAreAnswered w n
+earlier-stays v w n e earlier m d less at_m current =
+    let a = earlier m d less (ap (λ p. slice_get (commands_of p) m) (sym e.plan_is) ∙ at_m) (current ∙ e.round_is) in
+    (a.0, e.answers_stand m a.0 a.1)
 
 -- a command of the round that may not step, though all before it are answered, has its answer
 answered-then : (w : World) (number n : ℕ) (c : Placed) → Legal w → AllBelow w number → (IsReadyNumber w number → ⊥) → number ≡ n + 1 → slice_get (commands_of w.plan) n ≡ Some c → c.round ≡ w.round → IsAnswered w n
@@ -192,7 +192,7 @@ answered-then w number n c legal below not is at_n current = elim (open_or_answe
 
 pub below-more : (v w : World) (number : ℕ) → Extends v w → Legal w → AllBelow v number → (IsReadyNumber w number → ⊥) → AllBelow w (number + 1)
 below-more v w number e legal below not n c less at_n current =
-    let stays = below-stays v w number e below in
+    let stays = earlier-stays v w (number - 1) e below in
     elim (eqb_tells (n + 1) number) [
       | inl t ↦ answered-then w number n c legal stays not (sym t.1) at_n current
       | inr f ↦ (let other = f.1 in stays n c (omega arith) at_n current)
@@ -253,11 +253,6 @@ still-left v w e less =
     omega (arith, plan, round, less)
 
 -- ---- the order of the file
-
-earlier-stays : (v w : World) (n : ℕ) → Extends v w → EarlierAreAnswered v n → EarlierAreAnswered w n
-earlier-stays v w n e earlier m d less at_m current =
-    let a = earlier m d less (ap (λ p. slice_get (commands_of p) m) (sym e.plan_is) ∙ at_m) (current ∙ e.round_is) in
-    (a.0, e.answers_stand m a.0 a.1)
 
 step-in-order : (r : Result StepEnd NoMemory) (v w : World) (number : ℕ) → IsReadyNumber v number → IsStepped r v w number → Legal v → IsInFileOrder v
     → ((n : ℕ) → number ≡ n + 1 → EarlierAreAnswered v n) → IsInFileOrder w
