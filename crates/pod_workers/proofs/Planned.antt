@@ -4,7 +4,6 @@ use Rattle.std.proofs.Common.{◌≡◌, ℕ, ◌+◌, Bool, true, false, not, L
 use Rattle.std.proofs.lemmas.Option.{none-some}
 use Rattle.std.proofs.lemmas.List.{append_assoc, length_push}
 use Rattle.std.specs.Prelude.{if◌then◌else◌, ◌||◌}
-use Rattle.std.specs.Option.{option_or}
 use Rattle.cni_addr.specs.declared.address.Addr.{Addr}
 use Rattle.cni_addr.specs.declared.range.RangeSet.{RangeSet}
 use Rattle.net_conf.specs.Names.{is_interface_name}
@@ -19,6 +18,7 @@ use Rattle.kernel_types.specs.declared.call.Call.TheVariants.{NsChange, Outside}
 use Rattle.kernel_types.specs.declared.call.Change.TheVariants.{DropLink}
 use Rattle.kernel_types.specs.declared.object.Table.{Table}
 use Rattle.kernel_types.specs.declared.call.Reply.{Reply}
+use Rattle.kernel_types.proofs.Cases.{none-option_or}
 use Rattle.cni_verbs.specs.CommandWords.{att_of, add_refusal, any_fault, add_faults, drop_refusal, netns_refusal, no_faults, refusal_by}
 use Rattle.cni_verbs.specs.Questions.{check_questions, status_questions}
 use Rattle.cni_verbs.proofs.AfterReplies.{after_replies-keeps}
@@ -98,13 +98,9 @@ if-some false x o h = refl
 names-place : (f : WordFaults) → refusal_by f ≡ None → f.netns ≡ false
 names-place f none = no-fault f.container f.netns f.ifname f.args (if-some (any_fault f) _ _ none)
 
-first-none : {X : Type 0} (o p : Option X) → option_or o p ≡ None → o ≡ None
-first-none None p none = refl
-first-none (Some x) p none = none
-
 has-place : (c : Command) → add_refusal c ≡ None → HasPlace c
 unfolding add_refusal
-has-place c none = names-place (add_faults c) (first-none (refusal_by (add_faults c)) _ none)
+has-place c none = names-place (add_faults c) (none-option_or (refusal_by (add_faults c)) _ none).0
 
 -- whatever a run was replied, the calls that are left to it are planned
 pub left-are-planned : (list : NetList) (c : Command) (rs : List Reply) → LeftArePlanned list c (state_after list c rs)
