@@ -40,12 +40,21 @@ either-part [] ys i x is = inr (i, omega arith, is)
 either-part (z ∷ zs) ys zero x is = inl is
 either-part (z ∷ zs) ys (suc i) x is = elim (either-part zs ys i x is) [ inl t ↦ inl t | inr t ↦ (let e = t.1 in inr (t.0, omega arith, t.2)) ]
 
+-- the command at a place is of this round's commands, or of those after them
+pub here_or_later : (round : ℕ) (cs : List Command) (later : List Placed) (n : ℕ) (c : Placed) → slice_get (map (in_round round) cs ++ later) n ≡ Some c
+    → ((c.round ≡ round) × (slice_get cs n ≡ Some c.command)) ⊎ ((k : ℕ) × (n ≡ length cs + k) × (slice_get later k ≡ Some c))
+here_or_later round cs later n c at =
+    elim (either-part (map (in_round round) cs) later n c at) [
+      | inl t ↦ (let m = slice_get-map_some (in_round round) cs n c t in inl (sym (ap (λ (p : Placed). p.round) m.2), m.1 ∙ ap (λ (p : Placed). Some p.command) m.2))
+      | inr t ↦ (let place = t.1 in let long = length-map cs (in_round round) in inr (t.0, omega arith, t.2))
+    ]
+
 -- a command of the rounds from r on is of one of them
 pub round-of : (r : ℕ) (rounds : List (List Command)) (n : ℕ) (c : Placed) → slice_get (placed_from r rounds) n ≡ Some c → (r ≤ c.round) × (c.round < r + length rounds)
 round-of r [] n c is = absurd (none-some c is)
 round-of r (x ∷ xs) n c is =
-    elim (either-part (map (in_round r) x) (placed_from (r + 1) xs) n c is) [
-      | inl t ↦ (let m = slice_get-map_some (in_round r) x n c t in let same : r ≡ c.round = ap (λ (p : Placed). p.round) m.2 in (omega arith, omega arith))
+    elim (here_or_later r x (placed_from (r + 1) xs) n c is) [
+      | inl t ↦ (let same = t.0 in (omega arith, omega arith))
       | inr t ↦ (let rest = round-of (r + 1) xs t.0 c t.2 in let low = rest.0 in let high = rest.1 in (omega arith, omega arith))
     ]
 

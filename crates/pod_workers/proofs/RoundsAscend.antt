@@ -1,29 +1,19 @@
 -- The commands of a plan stand in the order of their rounds.
-use Rattle.std.proofs.Common.{◌≡◌, ℕ, zero, suc, ◌+◌, ◌<◌, ◌≤◌, List, [], ◌∷◌, ◌++◌, map, length, Some, slice_get, sym, ap, inl, inr, ◌⊎◌, arith}
-use Rattle.std.proofs.lemmas.Option.{same_Some, none-some, slice_get_cases}
+use Rattle.std.proofs.Common.{◌≡◌, ℕ, ◌+◌, ◌<◌, ◌≤◌, List, [], ◌∷◌, length, Some, slice_get, inl, inr, arith}
+use Rattle.std.proofs.lemmas.Option.{none-some, slice_get_cases, slice_get_within}
 use Rattle.pod_file.specs.declared.command.Command.{Command}
-use Rattle.pod_workers.specs.Plans.{Placed, commands_of, placed_from, in_round}
+use Rattle.pod_workers.specs.Plans.{Placed, commands_of, placed_from}
 use Rattle.pod_workers.specs.World.{World, IsAnswered}
 use Rattle.pod_workers.specs.declared.plan.Plan.{Plan}
 use Rattle.pod_workers.proofs.Order.{IsInOrder}
-use Rattle.pod_workers.proofs.Rounds.{round-of}
-
--- the command at a place is of this round's commands, or of those after them
-here_or_later : (round : ℕ) (cs : List Command) (later : List Placed) (n : ℕ) (c : Placed) → slice_get (map (in_round round) cs ++ later) n ≡ Some c
-    → ((c.round ≡ round) × (n < length cs)) ⊎ ((k : ℕ) × (n ≡ length cs + k) × (slice_get later k ≡ Some c))
-here_or_later round [] later n c at = inr (n, omega arith, at)
-here_or_later round (x ∷ xs) later zero c at = inl (sym (ap (λ (p : Placed). p.round) (same_Some (in_round round x) c at)), omega arith)
-here_or_later round (x ∷ xs) later (suc n) c at = elim (here_or_later round xs later n c at) [
-  | inl t ↦ let less = t.1 in inl (t.0, omega arith)
-  | inr t ↦ let place = t.1 in inr (t.0, omega arith, t.2)
-]
+use Rattle.pod_workers.proofs.Rounds.{here_or_later, round-of}
 
 rounds_ascend_from : (round : ℕ) (rounds : List (List Command)) (m n : ℕ) (d c : Placed) → m < n → slice_get (placed_from round rounds) m ≡ Some d → slice_get (placed_from round rounds) n ≡ Some c → d.round ≤ c.round
 rounds_ascend_from round [] m n d c less at_m at_n = absurd (none-some d at_m)
 rounds_ascend_from round (cs ∷ rounds) m n d c less at_m at_n = elim (here_or_later round cs (placed_from (round + 1) rounds) m d at_m) [
   | inl first ↦ let same = first.0 in let low = (round-of round (cs ∷ rounds) n c at_n).0 in omega arith
   | inr first ↦ elim (here_or_later round cs (placed_from (round + 1) rounds) n c at_n) [
-    | inl second ↦ absurd (let place = first.1 in let within = second.1 in omega arith)
+    | inl second ↦ absurd (let place = first.1 in let within = slice_get_within cs n c.command second.1 in omega arith)
     | inr second ↦ rounds_ascend_from (round + 1) rounds first.0 second.0 d c (let one = first.1 in let two = second.1 in omega arith) first.2 second.2
   ]
 ]
