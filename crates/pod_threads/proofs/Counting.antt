@@ -1,9 +1,9 @@
 -- Entries of a round are counted.
-use Rattle.std.proofs.Common.{◌≡◌, ℕ, ◌+◌, ◌≤◌, Bool, cond, List, [], ◌∷◌, ◌++◌, length, refl, sym, ◌∙◌, ap, subst, arith}
+use Rattle.std.proofs.Common.{◌≡◌, ℕ, ◌+◌, ◌≤◌, cond, List, [], ◌∷◌, ◌++◌, length, refl, sym, ◌∙◌, ap, subst, arith}
 use Rattle.std.specs.List.{All, count_by}
 use Rattle.std.proofs.lemmas.List.{length-append}
 use Rattle.std.proofs.lemmas.List.Elements.{All-head, All-tail}
-use Rattle.std.proofs.lemmas.List.Sums.{sum_by-append}
+use Rattle.std.proofs.lemmas.List.Sums.{sum_by-append, sum_by-cons}
 use Rattle.pod_workers.proofs.RoundDone.{extends_trans}
 use Rattle.pod_workers.specs.Extends.{Extends, IsOfRound, Rounds, is_of_round}
 use Rattle.pod_workers.specs.World.{World}
@@ -11,19 +11,12 @@ use Rattle.pod_workers.specs.declared.plan.Entry.{Entry}
 use Rattle.pod_workers.specs.declared.plan.Plan.{Plan}
 use Rattle.pod_threads.specs.Counted.{entries_of_round}
 
--- ---- counts of a list
-
-count-cons : {X : Type 0} (p : X → Bool) (x : X) (xs : List X) → count_by p (x ∷ xs) ≡ cond (p x) 1 0 + count_by p xs
-count-cons p x xs =
-    let one : 0 + cond (p x) 1 0 ≡ cond (p x) 1 0 = omega arith in
-    sum_by-append (λ y. cond (p y) 1 0) (x ∷ []) xs ∙ ap (λ k. k + count_by p xs) one
-
 -- ---- entries of a round
 
 count-all : (p : Plan) (round : ℕ) (es : List Entry) → All (IsOfRound p round) es → entries_of_round p round es ≡ length es
 count-all p round [] all = refl
 count-all p round (e ∷ es) all =
-    count-cons (is_of_round p round) e es ∙ ap (λ b. cond b 1 0 + count_by (is_of_round p round) es) (All-head (IsOfRound p round) e es all)
+    sum_by-cons (λ x. cond (is_of_round p round x) 1 0) e es ∙ ap (λ b. cond b 1 0 + count_by (is_of_round p round) es) (All-head (IsOfRound p round) e es all)
     ∙ ap (λ k. 1 + k) (count-all p round es (All-tail (IsOfRound p round) e es all)) ∙ (omega arith)
 
 count-append : (p : Plan) (round : ℕ) (g h : List Entry) → entries_of_round p round (g ++ h) ≡ entries_of_round p round g + entries_of_round p round h
