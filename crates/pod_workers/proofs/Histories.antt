@@ -1,6 +1,6 @@
 -- Histories with one entry more, and answers with one that is written.
 use Rattle.std.proofs.Common.{◌≡◌, ◌≢◌, ℕ, zero, suc, ◌+◌, ◌-◌, ◌<◌, ◌≤◌, true, false, List, [], ◌∷◌, ◌++◌, length, Some, slice_get, slice_set, refl, sym, ◌∙◌, ap, inl, inr, ◌⊎◌, arith}
-use Rattle.std.proofs.lemmas.List.{length-append, map-append, map_push}
+use Rattle.std.proofs.lemmas.List.{length-append, map-append, map_push, length-map}
 use Rattle.std.proofs.lemmas.List.Elements.{filter-append}
 use Rattle.std.proofs.lemmas.Option.{same_Some, none-some}
 use Rattle.std.proofs.lemmas.Bool.Decides.{eqb_tells}
@@ -11,6 +11,8 @@ use Rattle.plan_words.proofs.KeyLists.{filter-push_dropped, filter-push_kept}
 use Rattle.pod_workers.specs.declared.plan.Entry.{Entry}
 use Rattle.pod_workers.specs.World.{is_of, own_entries, replies_in, replies_of, after, host_on, last_entry}
 use Rattle.pod_workers.proofs.Splits.{split_nil}
+use Rattle.std.proofs.lemmas.List.Sums.{count_by-le-length, length-filter}
+use Rattle.pod_workers.proofs.Elements.{slice_get-middle}
 
 -- ---- a place that is written
 
@@ -53,10 +55,7 @@ replies_of-other n h e not = ap replies_in (own_entries-other n h e (is_of-other
 
 -- a command has no more entries than the history
 pub length-replies_of : (n : ℕ) (h : List Entry) → length (replies_of n h) ≤ length h
-length-replies_of n [] = omega arith
-length-replies_of n (x ∷ xs) =
-    let rest = length-replies_of n xs in
-    elim (eqb_tells x.command (n + 1)) [ inl t ↦ rw t.0 (omega arith) | inr f ↦ rw f.0 (omega arith) ]
+length-replies_of n h = rw (length-map (own_entries n h) (λ (e : Entry). e.reply), length-filter (is_of n) h) (count_by-le-length (is_of n) h)
 
 pub after-append : (host : Host) (es : List Entry) (e : Entry) → after host (es ++ e ∷ []) ≡ host_on (after host es) e
 after-append host [] e = refl
@@ -86,15 +85,11 @@ empty_or_last (x ∷ xs) = elim (empty_or_last xs) [
   | inr is ↦ inr (x ∷ is.0, is.1, ap (λ l. x ∷ l) is.2)
 ]
 
-entry-at_end : (h : List Entry) (e : Entry) → slice_get (h ++ e ∷ []) (length h) ≡ Some e
-entry-at_end [] e = refl
-entry-at_end (x ∷ xs) e = entry-at_end xs e
-
 pub last_entry-append : (h : List Entry) (e : Entry) → last_entry (h ++ e ∷ []) ≡ Some e
 last_entry-append h e =
     let long = length-append h (e ∷ []) in
     let at : length (h ++ e ∷ []) - 1 ≡ length h = omega arith in
-    ap (slice_get (h ++ e ∷ [])) at ∙ entry-at_end h e
+    ap (slice_get (h ++ e ∷ [])) at ∙ slice_get-middle h [] e
 
 pub last_entry-splits : (h : List Entry) (e : Entry) → last_entry h ≡ Some e → (before : List Entry) × (h ≡ before ++ e ∷ [])
 last_entry-splits h e is = elim (empty_or_last h) [

@@ -1,6 +1,7 @@
 -- The commands of a plan, round by round.
 use Rattle.std.proofs.Common.{◌≡◌, ℕ, zero, suc, ◌+◌, ◌<◌, ◌≤◌, ◌⊎◌, List, [], ◌∷◌, ◌++◌, length, map, take, Some, slice_get, refl, sym, ◌∙◌, ap, arith, inl, inr}
-use Rattle.std.proofs.lemmas.List.{append-nil, append_assoc, length-append, length-map}
+use Rattle.std.proofs.lemmas.List.{append-nil, append_assoc, length-append, length-map, length-take}
+use Rattle.std.proofs.Math.Nat.{min-le_left}
 use Rattle.std.proofs.lemmas.Option.{same_Some, none-some}
 use Rattle.pod_file.specs.declared.command.Command.{Command}
 use Rattle.pod_workers.specs.Index.{AreBefore}
@@ -58,11 +59,6 @@ round-of r (x ∷ xs) n c is =
       | inr t ↦ (let rest = round-of (r + 1) xs t.0 c t.2 in let low = rest.0 in let high = rest.1 in (omega arith, omega arith))
     ]
 
-length-take-at : {X : Type 0} (xs : List X) (i : ℕ) → length (take i xs) ≤ i
-length-take-at xs zero = omega arith
-length-take-at [] (suc i) = omega arith
-length-take-at (x ∷ xs) (suc i) = let rest = length-take-at xs i in omega arith
-
 -- the commands of the rounds before one are of earlier rounds
 pub rounds-before : (i : ℕ) (rounds : List (List Command)) → AreBefore i (placed_from 0 (take i rounds))
-rounds-before i rounds k d is = let r = round-of 0 (take i rounds) k d is in let less = r.1 in let short = length-take-at rounds i in omega arith
+rounds-before i rounds k d is = let r = round-of 0 (take i rounds) k d is in let less = r.1 in let short : length (take i rounds) ≤ i = rw (length-take i rounds) (min-le_left i (length rounds)) in omega arith
