@@ -17,14 +17,6 @@ use Rattle.pod_workers.specs.declared.plan.Entry.{Entry}
 use Rattle.pod_workers.specs.declared.plan.Plan.{Plan}
 use Rattle.pod_workers.specs.declared.slots.Slot.{Slot}
 
-all-none : (xs : List Placed) → AllNone {T = Answer} (map (λ (c : Placed). None) xs)
-all-none [] n o is = absurd (none-some o is)
-all-none (x ∷ xs) zero o is = sym (same_Some None o is)
-all-none (x ∷ xs) (suc n) o is = all-none xs n o is
-
-is-begun : (p : Plan) → IsWellFormed p → IsBegun (begun p)
-is-begun p well = record { plan = well; empty = refl; long = length-map (commands_of p) _; unanswered = all-none (commands_of p); round = refl }
-
 replicate-none : {X : Type 0} (n : ℕ) (i : ℕ) (o : Option X) → slice_get (replicate n None) i ≡ Some o → o ≡ None
 replicate-none zero i o is = absurd (none-some o is)
 replicate-none (suc n) zero o is = sym (same_Some None o is)
@@ -33,6 +25,12 @@ replicate-none (suc n) (suc i) o is = replicate-none n i o is
 blanks-of : (xs : List Placed) → replicate {A = Option Answer} (length xs) None ≡ map (λ (c : Placed). None) xs
 blanks-of [] = refl
 blanks-of (x ∷ xs) = ap (λ (os : List (Option Answer)). None ∷ os) (blanks-of xs)
+
+all-none : (xs : List Placed) → AllNone {T = Answer} (map (λ (c : Placed). None) xs)
+all-none xs n o is = replicate-none (length xs) n o (ap (λ os. slice_get os n) (blanks-of xs) ∙ is)
+
+is-begun : (p : Plan) → IsWellFormed p → IsBegun (begun p)
+is-begun p well = record { plan = well; empty = refl; long = length-map (commands_of p) _; unanswered = all-none (commands_of p); round = refl }
 
 blank-answers : (xs : List Placed) (n : ℕ) → n ≡ length xs → replicate {A = Option Answer} n None ≡ map (λ (c : Placed). None) xs
 blank-answers xs n is = ap (λ k. replicate k None) is ∙ blanks-of xs
