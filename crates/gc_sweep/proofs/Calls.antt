@@ -45,7 +45,7 @@ use Rattle.gc_sweep.specs.Trace.{Made, host_on}
 use Rattle.gc_sweep.proofs.Covered.{WorkKept, Next, work_step, work_start}
 use Rattle.gc_sweep.proofs.Deletions.{deletes}
 use Rattle.gc_sweep.proofs.Kept.{tags_within}
-use Rattle.gc_sweep.proofs.Lists.{length-without_first, list_all-none, list_all-drops}
+use Rattle.gc_sweep.proofs.Lists.{count_append, length-without_first, list_all-none, list_all-drops}
 use Rattle.gc_sweep.proofs.Machine.{Point, start_point, point_after, IsTrail}
 use Rattle.gc_sweep.proofs.Owners.{is_stale, goes_own, own_goes, owners_cover, owners_stale, has_att}
 use Rattle.gc_sweep.proofs.Runs.{trail, early_or, early_makes_none}
@@ -184,10 +184,6 @@ run_bound gc h es s k (e ∷ rest) v run =
 count_map : {X : Type 0} (test : Tag → Bool) (tag : X → Tag) (xs : List X) → length (filter test (map tag xs)) ≡ length (filter (λ x. test (tag x)) xs)
 count_map test tag [] = refl
 count_map test tag (x ∷ xs) = grind (arith, count_map test tag xs)
-
-count_append : (test : Tag → Bool) (xs ys : List Tag) → length (filter test (xs ++ ys)) ≡ length (filter test xs) + length (filter test ys)
-count_append test [] ys = omega arith
-count_append test (x ∷ xs) ys = grind (arith, count_append test xs ys)
 
 count_more : (test : Tag → Bool) (n : ℕ) (xs ys : List Tag) → n ≤ length (filter test xs) → n + length (filter test ys) ≤ length (filter test (xs ++ ys))
 count_more test n xs ys le = let sum = count_append test xs ys in omega arith

@@ -2,6 +2,9 @@
 use Rattle.std.proofs.Common.{◌≡◌, ◌+◌, ◌≤◌, Bool, true, false, not, cond, ap, List, [], ◌∷◌, ◌++◌, length, Some, refl, sym, ◌∙◌, subst, inl, inr, arith}
 use Rattle.std.specs.Prelude.{filter, find, map, ◌||◌}
 use Rattle.std.specs.List.{list_any, list_all}
+use Rattle.std.proofs.lemmas.List.{length-append}
+use Rattle.std.proofs.lemmas.List.Elements.{filter-append}
+use Rattle.std.proofs.lemmas.List.Sums.{count_by-le-length, length-filter}
 use Rattle.cni_addr.specs.Lists.{without_first}
 use Rattle.net_conf.specs.Sets.{one_if}
 use Rattle.kernel_types.specs.Touch.{DropsOnly}
@@ -77,6 +80,12 @@ filter_all p (x ∷ xs) h = grind (arith, h, filter_all p xs)
 
 filter_every : {X : Type 0} (xs : List X) → filter (λ x. true) xs ≡ xs
 filter_every xs = filter_all (λ x. true) xs (all_true (λ x. true) (λ x. refl) xs)
+
+pub count_append : {X : Type 0} (p : X → Bool) (xs ys : List X) → length (filter p (xs ++ ys)) ≡ length (filter p xs) + length (filter p ys)
+count_append p xs ys = ap length (filter-append p xs ys) ∙ length-append (filter p xs) (filter p ys)
+
+pub fewer_filter : {X : Type 0} (p : X → Bool) (xs : List X) → length (filter p xs) ≤ length xs
+fewer_filter p xs = rw (length-filter p xs) (count_by-le-length p xs)
 
 -- ---- fewer, where one goes
 

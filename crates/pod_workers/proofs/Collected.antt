@@ -30,15 +30,11 @@ use Rattle.cni_verbs.specs.Script.{call_of_work}
 use Rattle.cni_verbs.specs.Sweep.{Gc, Job, AskCached, Delete, Step, Sweep, after_step, is_valid, job_of, step_call, work_after}
 use Rattle.cni_verbs.specs.Wanted.{deletion}
 use Rattle.gc_sweep.proofs.Calls.{jobs_weight-after, jobs_weight-map}
-use Rattle.gc_sweep.proofs.Lists.{length-found, length-without_first}
+use Rattle.gc_sweep.proofs.Lists.{fewer_filter, length-found, length-without_first}
 use Rattle.gc_sweep.specs.Weights.{jobs_weight, sweeps_weight}
 use Rattle.pod_workers.specs.CallsLeft.{collection_left, objects_in}
 
 -- ---- no more owners than objects
-
-fewer-filter : {X : Type 0} (p : X → Bool) (xs : List X) → length (filter p xs) ≤ length xs
-fewer-filter p [] = omega arith
-fewer-filter p (x ∷ xs) = grind (arith, fewer-filter p xs)
 
 fewer-cons : (o : Option Att) (xs : List Att) → length (cons_option o xs) ≤ 1 + length xs
 fewer-cons None xs = omega arith
@@ -100,7 +96,7 @@ owners-fall gc s ss host =
     let all = filter_map (owner_in gc.network) (tags_of host s.kind) in
     let owners = each_key_once att_eq all in
     let stale = filter (λ a. not (is_valid gc.valid a)) owners in
-    let a = fewer-filter (λ x. not (is_valid gc.valid x)) owners in
+    let a = fewer_filter (λ x. not (is_valid gc.valid x)) owners in
     let b = length-each_key_once att_eq all in
     let c = fewer-owners gc.network (tags_of host s.kind) in
     let d = tags-fit host s.kind in

@@ -3,7 +3,7 @@ use Rattle.std.proofs.Common.{◌≡◌, ℕ, ◌+◌, ◌≤◌, Bool, true, fa
 use Rattle.std.specs.Prelude.{filter, find, not, ◌&&◌}
 use Rattle.std.specs.List.{list_any}
 use Rattle.std.proofs.lemmas.Bool.{cases_Bool, not_from_true}
-use Rattle.std.proofs.lemmas.List.{length-append}
+use Rattle.std.proofs.lemmas.List.{length-append, length-map}
 use Rattle.std.proofs.lemmas.Slice.Eq.{bytes_eq-Decides}
 use Rattle.net_conf.specs.Sets.{one_if}
 use Rattle.cni_addr.specs.declared.address.Addr.{Addr}
@@ -35,25 +35,27 @@ use Rattle.kernel_types.specs.declared.call.Reply.{Reply}
 use Rattle.kernel_types.specs.declared.call.Reply.TheVariants.{Done, Leased, Gone}
 use Rattle.plan_words.specs.PlanCalls.{is_plan_call_of}
 use Rattle.plan_words.specs.Share.{Share, share_of, share_after_call}
+use Rattle.plan_words.proofs.KeyLists.{filter-map_kept}
 use Rattle.plan_words.proofs.OwnCalls.{share-own, share-lease, share-begin}
 use Rattle.plan_words.proofs.Refusals.{refused-same, refused-lease}
 use Rattle.cni_verbs.specs.Wanted.{deletion}
-use Rattle.gc_sweep.proofs.Lists.{any-found, count_without_first}
+use Rattle.gc_sweep.proofs.Lists.{any-found, count_append, count_without_first, fewer_filter}
 use Rattle.pod_workers.specs.CallsLeft.{deletions_of}
 
 -- ---- counts
 
 count-push : {X : Type 0} (q : X → Bool) (xs : List X) (x : X) → length (filter q (xs ++ x ∷ [])) ≤ length (filter q xs) + 1
-count-push q [] x = grind arith
-count-push q (y ∷ ys) x = grind (arith, count-push q ys x)
+count-push q xs x = let sum = count_append q xs (x ∷ []) in let one = fewer_filter q (x ∷ []) in omega arith
 
 count-pair : {X : Type 0} (q : X → Bool) (xs : List X) (x y : X) → q x ≡ false → length (filter q (xs ++ x ∷ y ∷ [])) ≤ length (filter q xs) + 1
-count-pair q [] x y h = grind arith
-count-pair q (z ∷ zs) x y h = grind (arith, count-pair q zs x y)
+count-pair q xs x y h =
+    let sum = count_append q xs (x ∷ y ∷ []) in
+    let later : length (filter q (x ∷ y ∷ [])) ≡ length (filter q (y ∷ [])) = rw h refl in
+    let one = fewer_filter q (y ∷ []) in
+    omega arith
 
 count-map : {X : Type 0} (q : X → Bool) (f : X → X) → ((x : X) → q (f x) ≡ q x) → (xs : List X) → length (filter q (map f xs)) ≡ length (filter q xs)
-count-map q f same [] = refl
-count-map q f same (x ∷ xs) = grind (arith, same x, count-map q f same xs)
+count-map q f same xs = ap length (filter-map_kept q f same xs) ∙ length-map (filter q xs) f
 
 count-without_first : {X : Type 0} (own : X → Bool) (xs : List X) → length (filter own (without_first own xs)) + one_if (list_any own xs) ≤ length (filter own xs)
 count-without_first own xs = count_without_first own own (λ x h. h) xs
