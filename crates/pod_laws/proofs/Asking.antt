@@ -1,8 +1,8 @@
 -- Questions that are asked one after another, until one is denied.
-use Rattle.std.proofs.Common.{◌≡◌, ℕ, Bool, true, false, List, [], ◌∷◌, ◌++◌, map, refl, sym, ◌∙◌, ap, subst, append_assoc, arith}
+use Rattle.std.proofs.Common.{◌≡◌, ℕ, Bool, true, false, List, [], ◌∷◌, ◌++◌, refl, sym, ◌∙◌, ap, subst, append_assoc, arith}
 use Rattle.std.proofs.lemmas.List.{append-nil}
 use Rattle.std.proofs.lemmas.List.Folds.{list_all-append}
-use Rattle.std.specs.List.{AllByRecursion, list_all}
+use Rattle.std.specs.List.{list_all}
 use Rattle.kernel_types.specs.Apply.{apply}
 use Rattle.kernel_types.specs.Replies.{is_fault}
 use Rattle.kernel_types.specs.declared.object.Host.{Host}
@@ -18,23 +18,7 @@ use Rattle.pod_workers.specs.declared.plan.Entry.{Entry}
 use Rattle.pod_laws.specs.Granted.{IsFirstDenied, grants, is_yes}
 use Rattle.pod_laws.specs.Moments.{has_fault}
 
--- ---- what holds of each question
-
-pub each-append : (P : Question → Type 0) (xs ys : List Question) → AllByRecursion P xs → AllByRecursion P ys → AllByRecursion P (xs ++ ys)
-each-append P [] ys h g = g
-each-append P (x ∷ xs) ys h g = (h.0, each-append P xs ys h.1 g)
-
-pub each-front : (P : Question → Type 0) (xs ys : List Question) → AllByRecursion P (xs ++ ys) → AllByRecursion P xs
-each-front P [] ys h = tt
-each-front P (x ∷ xs) ys h = (h.0, each-front P xs ys h.1)
-
-pub each-at : (P : Question → Type 0) (xs : List Question) (y : Question) (ys : List Question) → AllByRecursion P (xs ++ y ∷ ys) → P y
-each-at P [] y ys h = h.0
-each-at P (x ∷ xs) y ys h = each-at P xs y ys h.1
-
-pub each-map : {X : Type 0} (P : Question → Type 0) (f : X → Question) (own : X → Bool) → ((x : X) → own x ≡ true → P (f x)) → (xs : List X) → list_all own xs ≡ true → AllByRecursion P (map f xs)
-each-map P f own w [] h = tt
-each-map P f own w (x ∷ xs) h = (w x (grind (arith, h)), each-map P f own w xs (grind (arith, h)))
+-- ---- the reply to a question
 
 -- the kernel answers with a truth value
 abbrev pub tells : Call → Bool

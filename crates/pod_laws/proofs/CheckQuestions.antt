@@ -37,7 +37,8 @@ use Rattle.cni_verbs.specs.declared.answer.Missed.TheVariants as missed
 use Rattle.cni_verbs.specs.declared.answer.Question.{Question}
 use Rattle.pod_laws.specs.Checked.{are_in, has_bridge_by, has_bridge_of, has_first_bridge, has_objects_of, holds_cached}
 use Rattle.pod_laws.specs.Granted.{grants}
-use Rattle.pod_laws.proofs.Asking.{each-append, each-map, tells}
+use Rattle.pod_laws.proofs.Asking.{each-append, tells, and-true}
+use Rattle.pod_workers.proofs.Each.{each-append, each-map_of}
 use Rattle.pod_laws.proofs.OwnWanted.{AreOwn, own-wanted}
 use Rattle.pod_laws.proofs.SteadyHosts.{KeepsAsked}
 
@@ -136,12 +137,12 @@ steady-rules c number (r ∷ rs) h =
 steady-share : (c : Command) (s : Share) → AreOwn (att_of c) s → AllByRecursion (IsSteadyQuestion c) (share_questions s)
 steady-share c s own =
     let P = IsSteadyQuestion c in
-    each-append P (map link_question s.links) _ (each-map P link_question (λ x. is_own (att_of c) x.tag) (steady-link c) s.links own.links)
-    (each-append P (map address_question s.addresses) _ (each-map P address_question (λ x. is_own (att_of c) x.tag) (steady-address c) s.addresses own.addresses)
-    (each-append P (map route_question s.routes) _ (each-map P route_question (λ x. is_own (att_of c) x.tag) (steady-route c) s.routes own.routes)
+    each-append P (map link_question s.links) _ (each-map_of P link_question (λ x. is_own (att_of c) x.tag) (steady-link c) s.links own.links)
+    (each-append P (map address_question s.addresses) _ (each-map_of P address_question (λ x. is_own (att_of c) x.tag) (steady-address c) s.addresses own.addresses)
+    (each-append P (map route_question s.routes) _ (each-map_of P route_question (λ x. is_own (att_of c) x.tag) (steady-route c) s.routes own.routes)
     (each-append P (rule_questions 1 s.rules) _ (steady-rules c 1 s.rules own.rules)
-    (each-append P (map setting_question s.settings) (map lease_question s.leases) (each-map P setting_question (λ x. is_own (att_of c) x.tag) (steady-setting c) s.settings own.settings)
-    (each-map P lease_question (λ x. is_own (att_of c) x.tag) (steady-lease c) s.leases own.leases)))))
+    (each-append P (map setting_question s.settings) (map lease_question s.leases) (each-map_of P setting_question (λ x. is_own (att_of c) x.tag) (steady-setting c) s.settings own.settings)
+    (each-map_of P lease_question (λ x. is_own (att_of c) x.tag) (steady-lease c) s.leases own.leases)))))
 
 steady-mac : (c : Command) (name : List ℕ) (mac : Option Mac) → AllByRecursion (IsSteadyQuestion c) (bridge_by_mac name mac)
 steady-mac c name None = tt

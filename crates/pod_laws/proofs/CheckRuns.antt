@@ -30,7 +30,8 @@ use Rattle.pod_laws.specs.Checked.{EndsByEntry, EndsByList, EndsCheck, LacksObje
 use Rattle.pod_laws.specs.Granted.{only_asks}
 use Rattle.pod_laws.specs.Moments.{has_fault, host_at_end, own_entries}
 use Rattle.pod_laws.specs.Answers.{EndsByFault, EndsByTest}
-use Rattle.pod_laws.proofs.Asking.{EndsAsked, HasAsked, IsAsking, asked-all, asked-none, asked-reply, calm-more, denied-some, each-at, each-front, fault-last}
+use Rattle.pod_workers.proofs.Each.{each-at, each-front}
+use Rattle.pod_laws.proofs.Asking.{EndsAsked, HasAsked, IsAsking, asked-all, asked-none, asked-reply, calm-more, denied-some, fault-last}
 use Rattle.pod_laws.proofs.CheckQuestions.{IsSteadyQuestion, cached-stays, granted-check, granted-stay, steady-questions}
 use Rattle.pod_laws.proofs.CutOff.{over-by, answered-by}
 use Rattle.pod_laws.proofs.RunFacts.{HostFact, IsHostFact, StartsOn, each-run}

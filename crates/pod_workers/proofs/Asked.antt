@@ -1,5 +1,6 @@
 -- Each question of a CHECK or a STATUS looks for an object, or asks for a pool of the list.
 use Rattle.std.proofs.Common.{◌≡◌, ℕ, ◌+◌, List, [], ◌∷◌, ◌++◌, map, length, Option, Some, None, slice_get, refl, sym, ◌∙◌, ap, append_assoc}
+use Rattle.std.specs.List.{AllByRecursion}
 use Rattle.cni_addr.specs.declared.mac.Mac.{Mac}
 use Rattle.cni_addr.specs.declared.range.RangeSet.{RangeSet}
 use Rattle.cni_result.specs.declared.cached.Cached.{Cached}
@@ -15,6 +16,7 @@ use Rattle.plan_words.specs.Share.{Share}
 use Rattle.cni_verbs.specs.Questions.{address_question, bridge_by_mac, bridge_questions, cached_share, check_questions, first_interface, lease_question, link_question, master_questions, pool_questions, route_question, rule_questions, setting_question, share_questions, status_questions}
 use Rattle.cni_verbs.specs.Wanted.{sets_of}
 use Rattle.cni_verbs.specs.declared.answer.Question.{Question}
+use Rattle.pod_workers.proofs.Each.{each-append, each-map}
 use Rattle.pod_workers.proofs.Elements.{slice_get-middle}
 
 -- it looks for an object, or asks for one of the list's pools
@@ -23,17 +25,11 @@ IsQuestionOf list (HasObj probe) = Unit {0}
 IsQuestionOf list (PoolFree network set) = (number : ℕ) × (slice_get (sets_of list) number ≡ Some set)
 IsQuestionOf list _ = ⊥
 
+abbrev pub IsAskedOf : NetList → Question → Type 0
+IsAskedOf list question = IsQuestionOf list question.call
+
 abbrev pub AreQuestionsOf : NetList → List Question → Type 0
-AreQuestionsOf list [] = Unit {0}
-AreQuestionsOf list (question ∷ questions) = IsQuestionOf list question.call × AreQuestionsOf list questions
-
-asked-append : (list : NetList) (xs ys : List Question) → AreQuestionsOf list xs → AreQuestionsOf list ys → AreQuestionsOf list (xs ++ ys)
-asked-append list [] ys h g = g
-asked-append list (x ∷ xs) ys h g = (h.0, asked-append list xs ys h.1 g)
-
-asked-map : {X : Type 0} (list : NetList) (f : X → Question) → ((x : X) → IsQuestionOf list (f x).call) → (xs : List X) → AreQuestionsOf list (map f xs)
-asked-map list f each [] = tt
-asked-map list f each (x ∷ xs) = (each x, asked-map list f each xs)
+AreQuestionsOf list questions = AllByRecursion (IsAskedOf list) questions
 
 -- ---- a check
 
@@ -43,11 +39,11 @@ asked-rules list number (r ∷ rs) = (tt, asked-rules list (number + 1) rs)
 
 asked-share : (list : NetList) (s : Share) → AreQuestionsOf list (share_questions s)
 asked-share list s =
-    asked-append list (map link_question s.links) _ (asked-map list link_question (λ x. tt) s.links)
-    (asked-append list (map address_question s.addresses) _ (asked-map list address_question (λ x. tt) s.addresses)
-    (asked-append list (map route_question s.routes) _ (asked-map list route_question (λ x. tt) s.routes)
-    (asked-append list (rule_questions 1 s.rules) _ (asked-rules list 1 s.rules)
-    (asked-append list (map setting_question s.settings) (map lease_question s.leases) (asked-map list setting_question (λ x. tt) s.settings) (asked-map list lease_question (λ x. tt) s.leases)))))
+    each-append (IsAskedOf list) (map link_question s.links) _ (each-map (IsAskedOf list) link_question (λ x. tt) s.links)
+    (each-append (IsAskedOf list) (map address_question s.addresses) _ (each-map (IsAskedOf list) address_question (λ x. tt) s.addresses)
+    (each-append (IsAskedOf list) (map route_question s.routes) _ (each-map (IsAskedOf list) route_question (λ x. tt) s.routes)
+    (each-append (IsAskedOf list) (rule_questions 1 s.rules) _ (asked-rules list 1 s.rules)
+    (each-append (IsAskedOf list) (map setting_question s.settings) (map lease_question s.leases) (each-map (IsAskedOf list) setting_question (λ x. tt) s.settings) (each-map (IsAskedOf list) lease_question (λ x. tt) s.leases)))))
 
 asked-by_mac : (list : NetList) (name : List ℕ) (mac : Option Mac) → AreQuestionsOf list (bridge_by_mac name mac)
 asked-by_mac list name None = tt
@@ -65,7 +61,7 @@ asked-bridge list (Macvlan conf) interfaces = tt
 pub check-asks : (list : NetList) (c : Command) (cached : Cached) → AreQuestionsOf list (check_questions list c cached)
 unfolding check_questions
 check-asks list c cached =
-    asked-append list (bridge_questions list.first cached.result.interfaces) (share_questions (cached_share list c cached)) (asked-bridge list list.first cached.result.interfaces)
+    each-append (IsAskedOf list) (bridge_questions list.first cached.result.interfaces) (share_questions (cached_share list c cached)) (asked-bridge list list.first cached.result.interfaces)
     (asked-share list (cached_share list c cached))
 
 -- ---- a status
@@ -85,4 +81,4 @@ asked-master list (Macvlan conf) = (tt, tt)
 pub status-asks : (list : NetList) (c : Command) → AreQuestionsOf list (status_questions list c)
 unfolding status_questions
 status-asks list c =
-    asked-append list (pool_questions c.network 0 (sets_of list)) (master_questions list.first) (asked-pools list c.network 0 [] (sets_of list) refl) (asked-master list list.first)
+    each-append (IsAskedOf list) (pool_questions c.network 0 (sets_of list)) (master_questions list.first) (asked-pools list c.network 0 [] (sets_of list) refl) (asked-master list list.first)

@@ -5,6 +5,7 @@ pub mod Clauses
 pub mod Collected
 pub mod Deletable
 pub mod DoneBefore
+pub mod Each
 pub mod Elements
 pub mod Facts
 pub mod Falls

@@ -1,0 +1,24 @@
+-- What holds of each element of a list, where lists are joined and made by a map.
+use Rattle.std.proofs.Common.{◌≡◌, Bool, true, List, [], ◌∷◌, ◌++◌, map, get_or}
+use Rattle.std.proofs.lemmas.Bool.{and_parts}
+use Rattle.std.proofs.lemmas.List.Elements.{All-append, All-from_recursion, All-map, recursion_from_All}
+use Rattle.std.specs.List.{AllByRecursion, list_all}
+
+pub each-append : {X : Type 0} (P : X → Type 0) (xs ys : List X) → AllByRecursion P xs → AllByRecursion P ys → AllByRecursion P (xs ++ ys)
+each-append P xs ys h g = recursion_from_All P (xs ++ ys) (All-append P xs ys (All-from_recursion P xs h) (All-from_recursion P ys g))
+
+pub each-front : {X : Type 0} (P : X → Type 0) (xs ys : List X) → AllByRecursion P (xs ++ ys) → AllByRecursion P xs
+each-front P [] ys h = tt
+each-front P (x ∷ xs) ys h = (h.0, each-front P xs ys h.1)
+
+pub each-at : {X : Type 0} (P : X → Type 0) (xs : List X) (y : X) (ys : List X) → AllByRecursion P (xs ++ y ∷ ys) → P y
+each-at P [] y ys h = h.0
+each-at P (x ∷ xs) y ys h = each-at P xs y ys h.1
+
+pub each-map : {X Y : Type 0} (P : Y → Type 0) (f : X → Y) → ((x : X) → P (f x)) → (xs : List X) → AllByRecursion P (map f xs)
+each-map P f w xs = recursion_from_All P (map f xs) (All-map P f xs (λ k d lt. w (get_or xs k d)))
+
+-- where the elements pass a test
+pub each-map_of : {X Y : Type 0} (P : Y → Type 0) (f : X → Y) (q : X → Bool) → ((x : X) → q x ≡ true → P (f x)) → (xs : List X) → list_all q xs ≡ true → AllByRecursion P (map f xs)
+each-map_of P f q w [] h = tt
+each-map_of P f q w (x ∷ xs) h = let both = and_parts (q x) (list_all q xs) h in (w x both.0, each-map_of P f q w xs both.1)
