@@ -1,6 +1,7 @@
 pub mod Alone
 pub mod AnswersDue
 pub mod Asked
+pub mod BackCalls
 pub mod Clauses
 pub mod Collected
 pub mod Deletable
