@@ -1,18 +1,14 @@
 -- A plan's call finds what it stands on, unless it is `macvlan`'s: its links are there, and so is the list's bridge.
-use Rattle.std.proofs.Common.{◌≡◌, ℕ, Bool, true, false, List, [], ◌∷◌, ◌++◌, map, Option, Some, None, refl, ◌∙◌, arith}
-use Rattle.std.specs.Prelude.{find, flat_map, if◌then◌else◌}
+use Rattle.std.proofs.Common.{◌≡◌, ℕ, Bool, true, false, List, [], ◌∷◌, Option, Some, None, refl, sym, ◌∙◌, subst, arith}
+use Rattle.std.specs.Prelude.{find, if◌then◌else◌}
 use Rattle.std.specs.List.{list_any, list_all}
 use Rattle.std.specs.Option.{option_map, option_or}
 use Rattle.std.specs.Cmp.Lexicographic.{nat_list_eq_equiv}
 use Rattle.std.proofs.lemmas.Bool.{both_ways}
 use Rattle.cni_addr.specs.declared.address.Addr.{Addr}
-use Rattle.cni_addr.specs.declared.address.Family.TheVariants as families
 use Rattle.cni_addr.specs.declared.mac.Mac.{Mac}
+use Rattle.cni_result.proofs.ReadAgain.{each_of}
 use Rattle.cni_result.specs.declared.cached.PortMapping.{PortMapping}
-use Rattle.cni_result.specs.declared.result.AddResult.{AddResult}
-use Rattle.cni_result.specs.declared.result.IpEntry.{IpEntry}
-use Rattle.cni_result.specs.declared.result.RouteEntry.{RouteEntry}
-use Rattle.net_conf.specs.declared.first.BridgeConf.{BridgeConf}
 use Rattle.net_conf.specs.declared.first.PtpConf.{PtpConf}
 use Rattle.net_conf.specs.declared.first.First.{First}
 use Rattle.net_conf.specs.declared.first.First.TheVariants.{Bridge, Ptp, Macvlan}
@@ -30,32 +26,17 @@ use Rattle.kernel_types.specs.declared.object.Att.{Att}
 use Rattle.kernel_types.specs.declared.object.Host.{Host}
 use Rattle.kernel_types.specs.declared.object.Link.{Link}
 use Rattle.kernel_types.specs.declared.object.LinkKey.{LinkKey}
-use Rattle.kernel_types.specs.declared.object.AddrObj.{AddrObj}
-use Rattle.kernel_types.specs.declared.object.RouteObj.{RouteObj}
 use Rattle.kernel_types.specs.declared.object.Tag.{Tag}
 use Rattle.kernel_types.specs.declared.object.Tag.TheVariants.{Own}
 use Rattle.kernel_types.specs.declared.call.Call.{Call}
 use Rattle.kernel_types.specs.declared.call.Call.TheVariants.{BridgeEnsure, GatewayEnsure, ForwardEnsure, VethAdd, MacvlanAdd, LinkSet, AddrAdd, RouteAdd, RuleAppend, SettingSet, CachePut}
-use Rattle.kernel_types.specs.declared.call.Given.{Given}
 use Rattle.kernel_types.specs.declared.call.Reply.{Reply}
 use Rattle.kernel_types.specs.declared.call.Reply.TheVariants.{Done, NoLink, Taken}
-use Rattle.plan_words.specs.Families.{has_family}
 use Rattle.plan_words.specs.PlanCalls.{is_plan_call_of}
-use Rattle.plan_words.specs.Shapes.{host_end, inner_end, macvlan_link, address_on, route_on, addresses_on, routes_on, masquerade_rules, forward_for, forward_calls}
+use Rattle.plan_words.specs.Shapes.{host_end, inner_end, macvlan_link}
 use Rattle.plan_words.specs.Share.{Share, share_of, share_after_call, share_after_calls}
-use Rattle.plan_words.proofs.KeyLists.{list_all-append, list_all-every, list_all-map, list_all-flat, list_all-each_key_once, list_all-if}
-use Rattle.host_local.specs.Conf.{routes_of}
-use Rattle.host_local.specs.Results.{ip_of}
-use Rattle.bridge_ptp.specs.Bridge.{gateway_calls}
-use Rattle.bridge_ptp.specs.Gateways.{gateway_call, gateways_on}
-use Rattle.bridge_ptp.specs.declared.ptp.AddressOrRoute.{AddressOrRoute}
-use Rattle.bridge_ptp.specs.declared.ptp.AddressOrRoute.TheVariants.{Address, Route}
-use Rattle.bridge_ptp.specs.Ptp.{same_key, call_for, ptp_objects_for, ptp_objects}
-use Rattle.bridge_ptp.specs.Results.{bridge_routes}
-use Rattle.portmap.specs.Portmap.{portmap_rules}
-use Rattle.firewall_tuning.specs.Firewall.{firewall_rules}
-use Rattle.firewall_tuning.specs.Tuning.{tuning_settings, sets_any, link_set_calls}
-use Rattle.cni_verbs.specs.Wanted.{share_before, calls_before, calls_after, chained_calls, all_chained_calls, chained_result, back_calls, given_by_list, first_plugin_result, cached_of, untuned}
+use Rattle.cni_verbs.specs.Wanted.{share_before, calls_before, back_calls, untuned}
+use Rattle.pod_workers.proofs.BackCalls.{PassesChained, PassesFirst, passes-back}
 use Rattle.pod_laws.proofs.Tests.{any-filtered}
 
 -- ---- what a call stands on
@@ -165,35 +146,9 @@ lies-host att host _ h = refl
 
 -- ---- the calls of each plugin lie on its links
 
-abbrev AllLie : List Link → List Call → Type 0
-AllLie links calls = list_all (lies_on links) calls ≡ true
-
 -- the container's end
 abbrev HasInner : Att → List ℕ → List Link → Type 0
 HasInner att netns links = list_any (is_link_of netns att.ifname (Own att)) links ≡ true
-
-lie-addresses : (links : List Link) (att : Att) (netns : List ℕ) (given : List Given) → HasInner att netns links → AllLie links (map AddrAdd (addresses_on att netns given))
-lie-addresses links att netns given there =
-    let q : AddrObj → Bool = λ o. list_any (is_link_of o.ns o.link o.tag) links in
-    list_all-map (lies_on links) AddrAdd q (λ o h. h) (addresses_on att netns given)
-    (list_all-each_key_once q is_same_addr (map (address_on att netns) given) (list_all-every q (address_on att netns) (λ g. there) given))
-
-lie-routes : (links : List Link) (att : Att) (netns : List ℕ) (given : List Given) (entries : List RouteEntry) → HasInner att netns links → AllLie links (map RouteAdd (routes_on att netns given entries))
-lie-routes links att netns given entries there =
-    let q : RouteObj → Bool = λ o. list_any (is_link_of o.ns o.link o.tag) links in
-    list_all-map (lies_on links) RouteAdd q (λ o h. h) (routes_on att netns given entries)
-    (list_all-each_key_once q is_same_route (map (route_on att netns given) entries) (list_all-every q (route_on att netns given) (λ r. there) entries))
-
-lie-forward : (links : List Link) (given : List Given) → AllLie links (forward_calls given)
-lie-forward links given =
-    let v4 = has_family families.V4 given in
-    let v6 = has_family families.V6 given in
-    list_all-append (lies_on links) (forward_for families.V4 given) (forward_for families.V6 given) (list_all-if (lies_on links) v4 (ForwardEnsure families.V4 ∷ []) refl) (list_all-if (lies_on links) v6 (ForwardEnsure families.V6 ∷ []) refl)
-
-lie-gateways : (links : List Link) (conf : BridgeConf) (given : List Given) → AllLie links (gateway_calls conf given)
-lie-gateways links conf given =
-    list_all-if (lies_on links) conf.is_gateway (map gateway_call (gateways_on conf.bridge given) ++ forward_calls given)
-    (list_all-append (lies_on links) (map gateway_call (gateways_on conf.bridge given)) (forward_calls given) (list_all-every (lies_on links) gateway_call (λ g. refl) (gateways_on conf.bridge given)) (lie-forward links given))
 
 link-there : (ns name : List ℕ) (tag : Tag) (l : Link) → l.ns ≡ ns → l.name ≡ name → l.tag ≡ tag → is_link_of ns name tag l ≡ true
 link-there ns name tag l a b t =
@@ -210,74 +165,44 @@ inner-there (Macvlan conf) att netns =
     grind (arith, there)
 
 -- the host's end of a `ptp` pair
-host-there : (conf : PtpConf) (att : Att) (netns : List ℕ) → list_any (is_link_of [] (host_name_of att) (Own att)) (share_before (Ptp conf) att netns).links ≡ true
+abbrev HasOuter : Att → List Link → Type 0
+HasOuter att links = list_any (is_link_of [] (host_name_of att) (Own att)) links ≡ true
+
+host-there : (conf : PtpConf) (att : Att) (netns : List ℕ) → HasOuter att (share_before (Ptp conf) att netns).links
 host-there conf att netns =
     let there = link-there [] (host_name_of att) (Own att) (host_end att netns None conf.mtu false) refl refl refl in
     grind (arith, there)
 
-abbrev object_lies : List Link → AddressOrRoute → Bool
-object_lies links (Address o) = list_any (is_link_of o.ns o.link o.tag) links
-object_lies links (Route o) = list_any (is_link_of o.ns o.link o.tag) links
-
-lies-call_for : (links : List Link) (x : AddressOrRoute) → object_lies links x ≡ true → lies_on links (call_for x) ≡ true
-lies-call_for links (Address o) h = h
-lies-call_for links (Route o) h = h
-
-lie-objects_for : (links : List Link) (att : Att) (netns : List ℕ) (g : Given) → HasInner att netns links → list_any (is_link_of [] (host_name_of att) (Own att)) links ≡ true → list_all (object_lies links) (ptp_objects_for att netns g) ≡ true
-lie-objects_for links att netns g inner outer = grind (arith, inner, outer)
-
-lie-objects : (links : List Link) (conf : PtpConf) (att : Att) (netns : List ℕ) (given : List Given) → HasInner att netns links → list_any (is_link_of [] (host_name_of att) (Own att)) links ≡ true
-    → list_all (object_lies links) (ptp_objects conf att netns given) ≡ true
-lie-objects links conf att netns given inner outer =
-    list_all-each_key_once (object_lies links) same_key (flat_map (ptp_objects_for att netns) given ++ map (λ r. Route (route_on att netns given r)) conf.ipam.routes)
-    (list_all-append (object_lies links) (flat_map (ptp_objects_for att netns) given) (map (λ r. Route (route_on att netns given r)) conf.ipam.routes)
-    (list_all-flat (object_lies links) (ptp_objects_for att netns) (λ g. lie-objects_for links att netns g inner outer) given)
-    (list_all-every (object_lies links) (λ r. Route (route_on att netns given r)) (λ r. inner) conf.ipam.routes))
-
-lie-after : (first : First) (att : Att) (netns : List ℕ) (given : List Given) → AllLie (share_before first att netns).links (calls_after first att netns given)
-lie-after (Bridge conf) att netns given =
-    let links = (share_before (Bridge conf) att netns).links in
-    let there = inner-there (Bridge conf) att netns in
-    let entries = bridge_routes conf.is_default_gateway (routes_of conf.ipam) (map ip_of given) in
-    let rules = masquerade_rules conf.ip_masq att given in
-    list_all-append (lies_on links) (map AddrAdd (addresses_on att netns given)) (map RouteAdd (routes_on att netns given entries) ++ (gateway_calls conf given ++ map RuleAppend rules)) (lie-addresses links att netns given there)
-    (list_all-append (lies_on links) (map RouteAdd (routes_on att netns given entries)) (gateway_calls conf given ++ map RuleAppend rules) (lie-routes links att netns given entries there)
-    (list_all-append (lies_on links) (gateway_calls conf given) (map RuleAppend rules) (lie-gateways links conf given) (list_all-every (lies_on links) RuleAppend (λ r. refl) rules)))
-lie-after (Ptp conf) att netns given =
-    let links = (share_before (Ptp conf) att netns).links in
-    let rules = masquerade_rules conf.ip_masq att given in
-    list_all-append (lies_on links) (map call_for (ptp_objects conf att netns given)) (forward_calls given ++ map RuleAppend rules)
-    (list_all-map (lies_on links) call_for (object_lies links) (lies-call_for links) (ptp_objects conf att netns given) (lie-objects links conf att netns given (inner-there (Ptp conf) att netns) (host-there conf att netns)))
-    (list_all-append (lies_on links) (forward_calls given) (map RuleAppend rules) (lie-forward links given) (list_all-every (lies_on links) RuleAppend (λ r. refl) rules))
-lie-after (Macvlan conf) att netns given =
-    let links = (share_before (Macvlan conf) att netns).links in
-    let there = inner-there (Macvlan conf) att netns in
-    list_all-append (lies_on links) (map AddrAdd (addresses_on att netns given)) (map RouteAdd (routes_on att netns given (routes_of conf.ipam))) (lie-addresses links att netns given there) (lie-routes links att netns given (routes_of conf.ipam) there)
+lie-first : (first : First) (att : Att) (netns : List ℕ) → PassesFirst (lies_on (share_before first att netns).links) first att netns
+lie-first first att netns =
+    let inner = inner-there first att netns in
+    let outer : (conf : PtpConf) → first ≡ Ptp conf → HasOuter att (share_before first att netns).links =
+    λ conf is. subst (λ f. HasOuter att (share_before f att netns).links) (sym is) (host-there conf att netns) in
+    record {
+      address = λ g. inner;
+      route = λ dst gw. inner;
+      host_address = λ conf is gateway. outer conf is;
+      host_route = λ conf is addr. outer conf is;
+      gateway = λ conf is cidr. refl;
+      forward = λ family. refl;
+      rule = λ there rule. refl;
+    }
 
 -- an own link at the place is an own link of that tag
 own-at : (att : Att) (ns name : List ℕ) (links : List Link) → list_any (is_link_of ns name (Own att)) links ≡ true → list_any (is_own_at att (record { ns = ns; name = name })) links ≡ true
 own-at att ns name links h = list_any-weaker (is_link_of ns name (Own att)) (is_own_at att (record { ns = ns; name = name })) (λ l t. let e = tag_eq-own att l.tag in grind (arith, t, e)) links h
 
-lie-chained : (c : Chained) (att : Att) (netns : List ℕ) (mappings : List PortMapping) (ips : List IpEntry) (links : List Link) → HasInner att netns links → AllLie links (chained_calls c att netns mappings ips)
-lie-chained (Portmap conf) att netns mappings ips links there = list_all-every (lies_on links) RuleAppend (λ r. refl) (portmap_rules conf att mappings ips)
-lie-chained (Firewall conf) att netns mappings ips links there = list_all-every (lies_on links) RuleAppend (λ r. refl) (firewall_rules att ips)
-lie-chained (Tuning conf) att netns mappings ips links there =
-    list_all-append (lies_on links) (map SettingSet (tuning_settings conf att netns)) (link_set_calls conf att netns) (list_all-every (lies_on links) SettingSet (λ s. refl) (tuning_settings conf att netns))
-    (list_all-if (lies_on links) (sets_any conf) (LinkSet att (record { ns = netns; name = att.ifname }) conf.mac conf.mtu conf.tx_qlen conf.promisc conf.allmulti ∷ []) (let own = own-at att netns att.ifname links there in grind (arith, own)))
-
-lie-all_chained : (cs : List Chained) (att : Att) (netns : List ℕ) (mappings : List PortMapping) (prev : AddResult) (links : List Link) → HasInner att netns links → AllLie links (all_chained_calls cs att netns mappings prev)
-lie-all_chained [] att netns mappings prev links there = refl
-lie-all_chained (c ∷ cs) att netns mappings prev links there =
-    list_all-append (lies_on links) (chained_calls c att netns mappings prev.ips) (all_chained_calls cs att netns mappings (chained_result c prev)) (lie-chained c att netns mappings prev.ips links there)
-    (lie-all_chained cs att netns mappings (chained_result c prev) links there)
+lie-chained : (att : Att) (netns : List ℕ) (links : List Link) → HasInner att netns links → (c : Chained) → PassesChained (lies_on links) att netns c
+lie-chained att netns links there (Portmap conf) = λ rule. refl
+lie-chained att netns links there (Firewall conf) = λ rule. refl
+lie-chained att netns links there (Tuning conf) = (λ s. refl, own-at att netns att.ifname links there)
 
 -- each call after the leases lies on the links that were made before them
 pub lie-back : (list : NetList) (att : Att) (netns : List ℕ) (mappings : List PortMapping) (addrs : List Addr) → list_all (lies_on (untuned list att netns)) (back_calls list att netns mappings addrs) ≡ true
 lie-back list att netns mappings addrs =
     let links = untuned list att netns in
-    let chain = all_chained_calls list.chained att netns mappings (first_plugin_result list att netns addrs) in
-    list_all-append (lies_on links) (calls_after list.first att netns (given_by_list list addrs)) (chain ++ CachePut att (cached_of list att netns mappings addrs) ∷ []) (lie-after list.first att netns (given_by_list list addrs))
-    (list_all-append (lies_on links) chain (CachePut att (cached_of list att netns mappings addrs) ∷ []) (lie-all_chained list.chained att netns mappings (first_plugin_result list att netns addrs) links (inner-there list.first att netns)) refl)
+    passes-back (lies_on links) list att netns mappings addrs (lie-first list.first att netns)
+    (each_of (PassesChained (lies_on links) att netns) list.chained (lie-chained att netns links (inner-there list.first att netns))) (λ cached. refl)
 
 -- those before them lie on none
 pub lie-before : (first : First) (att : Att) (netns : List ℕ) (links : List Link) → list_all (lies_on links) (calls_before first att netns) ≡ true

@@ -1,48 +1,35 @@
 -- What an ADD makes is of the kinds that its list's plugins name, so a deletion of these kinds leaves nothing.
 use Rattle.std.proofs.Common.{◌≡◌, ℕ, Bool, true, false, List, [], ◌∷◌, ◌++◌, map, Option, Some, None, refl, sym, ◌∙◌, ap, inl, inr, arith}
-use Rattle.std.specs.Prelude.{filter, if◌then◌else◌}
-use Rattle.std.specs.List.{list_any, list_all}
+use Rattle.std.specs.Prelude.{filter}
+use Rattle.std.specs.List.{AllByRecursion, list_any, list_all}
 use Rattle.std.proofs.lemmas.Bool.{or_from, or_parts}
 use Rattle.pod_workers.proofs.Splits.{split_nil}
 use Rattle.cni_addr.specs.declared.address.Addr.{Addr}
-use Rattle.cni_addr.specs.declared.address.Family.TheVariants as families
 use Rattle.cni_addr.specs.declared.range.RangeSet.{RangeSet}
 use Rattle.cni_result.specs.declared.cached.PortMapping.{PortMapping}
-use Rattle.cni_result.specs.declared.result.AddResult.{AddResult}
-use Rattle.cni_result.specs.declared.result.IpEntry.{IpEntry}
-use Rattle.net_conf.specs.declared.first.BridgeConf.{BridgeConf}
 use Rattle.net_conf.specs.declared.first.First.{First}
 use Rattle.net_conf.specs.declared.first.First.TheVariants.{Bridge, Ptp, Macvlan}
 use Rattle.net_conf.specs.declared.first.HostLocalConf.{HostLocalConf}
 use Rattle.net_conf.specs.declared.chained.Chained.{Chained}
 use Rattle.net_conf.specs.declared.chained.Chained.TheVariants.{Portmap, Firewall, Tuning}
 use Rattle.net_conf.specs.declared.list.NetList.{NetList}
+use Rattle.kernel_types.proofs.ListLemmas.{list_any-append_left, list_any-append_right}
 use Rattle.kernel_types.specs.Codes.{kind_eq}
 use Rattle.kernel_types.specs.Touch.{DropsOnly}
 use Rattle.kernel_types.specs.Words.{is_own}
 use Rattle.kernel_types.specs.declared.object.Att.{Att}
 use Rattle.kernel_types.specs.declared.object.Host.{Host}
-use Rattle.kernel_types.specs.declared.object.Rule.{Rule}
-use Rattle.kernel_types.specs.declared.call.Given.{Given}
 use Rattle.kernel_types.specs.declared.call.Kind.{Kind}
 use Rattle.kernel_types.specs.declared.call.Kind.TheVariants as kinds
 use Rattle.kernel_types.specs.declared.call.Call.{Call}
-use Rattle.kernel_types.specs.declared.call.Call.TheVariants.{ForwardEnsure, VethAdd, MacvlanAdd, LinkSet, AddrAdd, RouteAdd, RuleAppend, SettingSet, CachePut}
-use Rattle.plan_words.specs.Families.{has_family}
-use Rattle.plan_words.specs.Shapes.{addresses_on, routes_on, masquerade_rules, forward_calls, forward_for}
+use Rattle.kernel_types.specs.declared.call.Call.TheVariants.{VethAdd, MacvlanAdd, LinkSet, AddrAdd, RouteAdd, RuleAppend, SettingSet, CachePut}
 use Rattle.plan_words.specs.Share.{Share, share_of, no_objects, share_after_call}
 use Rattle.plan_words.proofs.Deletions.{empty_none}
-use Rattle.plan_words.proofs.KeyLists.{filter-none, list_all-append, list_all-every, list_all-if}
-use Rattle.host_local.specs.Conf.{ipam_of, range_sets_of, routes_of}
-use Rattle.host_local.specs.Results.{ip_of}
-use Rattle.bridge_ptp.specs.Bridge.{gateway_calls, rule_kinds, lease_kinds}
-use Rattle.bridge_ptp.specs.Gateways.{gateway_call, gateways_on}
-use Rattle.bridge_ptp.specs.Results.{bridge_routes}
-use Rattle.bridge_ptp.specs.declared.ptp.AddressOrRoute.{AddressOrRoute}
-use Rattle.bridge_ptp.specs.declared.ptp.AddressOrRoute.TheVariants.{Address, Route}
-use Rattle.bridge_ptp.specs.Ptp.{call_for, ptp_objects}
-use Rattle.firewall_tuning.specs.Tuning.{tuning_settings, sets_any, link_set_calls}
-use Rattle.cni_verbs.specs.Wanted.{sets_of, calls_before, calls_after, chained_calls, all_chained_calls, chained_result, first_kinds, chained_kinds, chained_kinds_reversed, kinds_of, back_calls, given_by_list, first_plugin_result, cached_of}
+use Rattle.plan_words.proofs.KeyLists.{filter-none}
+use Rattle.host_local.specs.Conf.{ipam_of, range_sets_of}
+use Rattle.bridge_ptp.specs.Bridge.{rule_kinds, lease_kinds}
+use Rattle.cni_verbs.specs.Wanted.{sets_of, calls_before, first_kinds, chained_kinds, chained_kinds_reversed, kinds_of, back_calls}
+use Rattle.pod_workers.proofs.BackCalls.{PassesChained, PassesFirst, passes-back}
 use Rattle.pod_laws.proofs.Removes.{OnlyRemoves}
 
 -- ---- kinds in a list
@@ -51,12 +38,10 @@ abbrev pub has : Kind → List Kind → Bool
 has kind ks = list_any (kind_eq kind) ks
 
 pub has-left : (k : Kind) (xs ys : List Kind) → has k xs ≡ true → has k (xs ++ ys) ≡ true
-has-left k [] ys h = cc
-has-left k (x ∷ xs) ys h = grind (arith, has-left k xs ys)
+has-left k xs ys h = list_any-append_left (kind_eq k) xs ys h
 
 pub has-right : (k : Kind) (xs ys : List Kind) → has k ys ≡ true → has k (xs ++ ys) ≡ true
-has-right k [] ys h = h
-has-right k (x ∷ xs) ys h = grind (arith, has-right k xs ys)
+has-right k xs ys h = list_any-append_right (kind_eq k) xs ys h
 
 -- each kind of the one list is in the other
 abbrev pub Among : List Kind → List Kind → Type 0
@@ -108,87 +93,43 @@ IsWithin-call ks s (AddrAdd o) fits w = record { links = w.links; rules = w.rule
 IsWithin-call ks s (RouteAdd o) fits w = record { links = w.links; rules = w.rules; settings = w.settings; leases = w.leases; cached = w.cached }
 IsWithin-call ks s _ fits w = w
 
--- ---- the calls of each plugin are of its kinds
+-- ---- the calls of an ADD are of its list's kinds
 
-abbrev AllFit : List Kind → List Call → Type 0
-AllFit ks calls = list_all (call_fits ks) calls ≡ true
-
-fit-rules : (ks : List Kind) → has kinds.Rules ks ≡ true → (rules : List Rule) → AllFit ks (map RuleAppend rules)
-fit-rules ks h rules = list_all-every (call_fits ks) RuleAppend (λ r. h) rules
-
-fit-masquerades : (ks : List Kind) (b : Bool) (rules : List Rule) → (b ≡ true → has kinds.Rules ks ≡ true) → AllFit ks (map RuleAppend (if b then rules else []))
-fit-masquerades ks true rules h = fit-rules ks (h refl) rules
-fit-masquerades ks false rules h = refl
-
-fit-forward : (ks : List Kind) (given : List Given) → AllFit ks (forward_calls given)
-fit-forward ks given =
-    let v4 = has_family families.V4 given in
-    let v6 = has_family families.V6 given in
-    list_all-append (call_fits ks) (forward_for families.V4 given) (forward_for families.V6 given) (list_all-if (call_fits ks) v4 (ForwardEnsure families.V4 ∷ []) refl) (list_all-if (call_fits ks) v6 (ForwardEnsure families.V6 ∷ []) refl)
-
-fit-gateways : (ks : List Kind) (conf : BridgeConf) (given : List Given) → AllFit ks (gateway_calls conf given)
-fit-gateways ks conf given =
-    list_all-if (call_fits ks) conf.is_gateway (map gateway_call (gateways_on conf.bridge given) ++ forward_calls given)
-    (list_all-append (call_fits ks) (map gateway_call (gateways_on conf.bridge given)) (forward_calls given) (list_all-every (call_fits ks) gateway_call (λ g. refl) (gateways_on conf.bridge given)) (fit-forward ks given))
-
-fit-call_for : (ks : List Kind) (x : AddressOrRoute) → call_fits ks (call_for x) ≡ true
-fit-call_for ks (Address obj) = refl
-fit-call_for ks (Route obj) = refl
-
-masqueraded : (b : Bool) (rest : List Kind) → b ≡ true → has kinds.Rules (kinds.Links ∷ (rule_kinds b ++ rest)) ≡ true
-masqueraded true rest h = refl
-masqueraded false rest h = cc
-
-fit-before : (ks : List Kind) (first : First) (att : Att) (netns : List ℕ) → Among (first_kinds first) ks → AllFit ks (calls_before first att netns)
+fit-before : (ks : List Kind) (first : First) (att : Att) (netns : List ℕ) → Among (first_kinds first) ks → list_all (call_fits ks) (calls_before first att netns) ≡ true
 fit-before ks (Bridge conf) att netns among = let h : has kinds.Links ks ≡ true = among kinds.Links refl in grind (arith, h)
 fit-before ks (Ptp conf) att netns among = let h : has kinds.Links ks ≡ true = among kinds.Links refl in grind (arith, h)
 fit-before ks (Macvlan conf) att netns among = let h : has kinds.Links ks ≡ true = among kinds.Links refl in grind (arith, h)
 
-fit-after : (ks : List Kind) (first : First) (att : Att) (netns : List ℕ) (given : List Given) → Among (first_kinds first) ks → AllFit ks (calls_after first att netns given)
-fit-after ks (Bridge conf) att netns given among =
-    let routes = routes_on att netns given (bridge_routes conf.is_default_gateway (routes_of conf.ipam) (map ip_of given)) in
-    let rules = masquerade_rules conf.ip_masq att given in
-    list_all-append (call_fits ks) (map AddrAdd (addresses_on att netns given)) (map RouteAdd routes ++ (gateway_calls conf given ++ map RuleAppend rules)) (list_all-every (call_fits ks) AddrAdd (λ x. refl) (addresses_on att netns given))
-    (list_all-append (call_fits ks) (map RouteAdd routes) (gateway_calls conf given ++ map RuleAppend rules) (list_all-every (call_fits ks) RouteAdd (λ x. refl) routes)
-    (list_all-append (call_fits ks) (gateway_calls conf given) (map RuleAppend rules) (fit-gateways ks conf given)
-    (fit-masquerades ks conf.ip_masq _ (λ h. among kinds.Rules (masqueraded conf.ip_masq (lease_kinds conf.ipam) h)))))
-fit-after ks (Ptp conf) att netns given among =
-    let rules = masquerade_rules conf.ip_masq att given in
-    list_all-append (call_fits ks) (map call_for (ptp_objects conf att netns given)) (forward_calls given ++ map RuleAppend rules) (list_all-every (call_fits ks) call_for (fit-call_for ks) (ptp_objects conf att netns given))
-    (list_all-append (call_fits ks) (forward_calls given) (map RuleAppend rules) (fit-forward ks given)
-    (fit-masquerades ks conf.ip_masq _ (λ h. among kinds.Rules (masqueraded conf.ip_masq (kinds.Leases ∷ []) h))))
-fit-after ks (Macvlan conf) att netns given among =
-    let routes = routes_on att netns given (routes_of conf.ipam) in
-    list_all-append (call_fits ks) (map AddrAdd (addresses_on att netns given)) (map RouteAdd routes) (list_all-every (call_fits ks) AddrAdd (λ x. refl) (addresses_on att netns given)) (list_all-every (call_fits ks) RouteAdd (λ x. refl) routes)
+fit-first : (ks : List Kind) (first : First) (att : Att) (netns : List ℕ) → Among (first_kinds first) ks → PassesFirst (call_fits ks) first att netns
+fit-first ks first att netns among = record {
+  address = λ g. refl;
+  route = λ dst gw. refl;
+  host_address = λ conf is gateway. refl;
+  host_route = λ conf is addr. refl;
+  gateway = λ conf is cidr. refl;
+  forward = λ family. refl;
+  rule = λ there rule. among kinds.Rules there;
+}
 
-fit-chained : (ks : List Kind) (c : Chained) (att : Att) (netns : List ℕ) (mappings : List PortMapping) (ips : List IpEntry) → Among (chained_kinds c) ks → AllFit ks (chained_calls c att netns mappings ips)
-fit-chained ks (Portmap conf) att netns mappings ips among = fit-rules ks (among kinds.Rules refl) _
-fit-chained ks (Firewall conf) att netns mappings ips among = fit-rules ks (among kinds.Rules refl) _
-fit-chained ks (Tuning conf) att netns mappings ips among =
-    list_all-append (call_fits ks) (map SettingSet (tuning_settings conf att netns)) (link_set_calls conf att netns) (list_all-every (call_fits ks) SettingSet (λ x. among kinds.Settings refl) (tuning_settings conf att netns))
-    (list_all-if (call_fits ks) (sets_any conf) (LinkSet att (record { ns = netns; name = att.ifname }) conf.mac conf.mtu conf.tx_qlen conf.promisc conf.allmulti ∷ []) refl)
+fit-chained : (ks : List Kind) (c : Chained) (att : Att) (netns : List ℕ) → Among (chained_kinds c) ks → PassesChained (call_fits ks) att netns c
+fit-chained ks (Portmap conf) att netns among = λ rule. among kinds.Rules refl
+fit-chained ks (Firewall conf) att netns among = λ rule. among kinds.Rules refl
+fit-chained ks (Tuning conf) att netns among = (λ s. among kinds.Settings refl, refl)
 
-fit-all_chained : (ks : List Kind) (cs : List Chained) (att : Att) (netns : List ℕ) (mappings : List PortMapping) (prev : AddResult) → Among (chained_kinds_reversed cs) ks → AllFit ks (all_chained_calls cs att netns mappings prev)
-fit-all_chained ks [] att netns mappings prev among = refl
-fit-all_chained ks (c ∷ cs) att netns mappings prev among =
-    list_all-append (call_fits ks) (chained_calls c att netns mappings prev.ips) (all_chained_calls cs att netns mappings (chained_result c prev))
-    (fit-chained ks c att netns mappings prev.ips (λ k h. among k (has-right k (chained_kinds_reversed cs) (chained_kinds c) h)))
-    (fit-all_chained ks cs att netns mappings (chained_result c prev) (λ k h. among k (has-left k (chained_kinds_reversed cs) (chained_kinds c) h)))
-
--- ---- so are all calls of an ADD
+fit-all_chained : (ks : List Kind) (cs : List Chained) (att : Att) (netns : List ℕ) → Among (chained_kinds_reversed cs) ks → AllByRecursion (PassesChained (call_fits ks) att netns) cs
+fit-all_chained ks [] att netns among = tt
+fit-all_chained ks (c ∷ cs) att netns among = (
+  fit-chained ks c att netns (λ k h. among k (has-right k (chained_kinds_reversed cs) (chained_kinds c) h)),
+  fit-all_chained ks cs att netns (λ k h. among k (has-left k (chained_kinds_reversed cs) (chained_kinds c) h)),
+)
 
 pub fit-list_before : (list : NetList) (att : Att) (netns : List ℕ) → list_all (call_fits (kinds_of list)) (calls_before list.first att netns) ≡ true
 fit-list_before list att netns = fit-before (kinds_of list) list.first att netns (first-among list)
 
 pub fit-list_back : (list : NetList) (att : Att) (netns : List ℕ) (mappings : List PortMapping) (addrs : List Addr) → list_all (call_fits (kinds_of list)) (back_calls list att netns mappings addrs) ≡ true
 fit-list_back list att netns mappings addrs =
-    let ks = kinds_of list in
-    let chain = all_chained_calls list.chained att netns mappings (first_plugin_result list att netns addrs) in
-    let put : AllFit ks (CachePut att (cached_of list att netns mappings addrs) ∷ []) = let h = cached-among list in grind (arith, h) in
-    list_all-append (call_fits ks) (calls_after list.first att netns (given_by_list list addrs)) (chain ++ CachePut att (cached_of list att netns mappings addrs) ∷ [])
-    (fit-after ks list.first att netns (given_by_list list addrs) (first-among list))
-    (list_all-append (call_fits ks) chain (CachePut att (cached_of list att netns mappings addrs) ∷ [])
-    (fit-all_chained ks list.chained att netns mappings (first_plugin_result list att netns addrs) (chained-among list)) put)
+    passes-back (call_fits (kinds_of list)) list att netns mappings addrs (fit-first (kinds_of list) list.first att netns (first-among list)) (fit-all_chained (kinds_of list) list.chained att netns (chained-among list))
+    (λ cached. cached-among list)
 
 -- ---- a list that leases names the kind of leases
 

@@ -1,14 +1,12 @@
 -- Each call that a run makes finds the links and the bridge that it stands on.
-use Rattle.std.proofs.Common.{◌≡◌, ℕ, Bool, true, false, List, [], ◌∷◌, ◌++◌, map, length, Option, Some, None, refl, sym, ◌∙◌, ap, subst, inl, inr, ◌⊎◌, arith}
+use Rattle.std.proofs.Common.{◌≡◌, ℕ, Bool, true, false, List, [], ◌∷◌, ◌++◌, length, Option, Some, None, refl, sym, ◌∙◌, ap, subst, inl, inr, ◌⊎◌, arith}
 use Rattle.std.proofs.lemmas.Slice.Eq.{bytes_eq-Decides}
-use Rattle.std.specs.Prelude.{if◌then◌else◌}
 use Rattle.std.specs.List.{list_any, list_all}
+use Rattle.std.specs.Cmp.Lexicographic.{nat_list_eq_equiv}
 use Rattle.std.specs.Str.{bytes_eq}
 use Rattle.cni_addr.specs.declared.address.Addr.{Addr}
-use Rattle.cni_addr.specs.declared.address.Family.TheVariants as families
+use Rattle.cni_result.proofs.ReadAgain.{each_of}
 use Rattle.cni_result.specs.declared.cached.PortMapping.{PortMapping}
-use Rattle.cni_result.specs.declared.result.AddResult.{AddResult}
-use Rattle.cni_result.specs.declared.result.IpEntry.{IpEntry}
 use Rattle.net_conf.specs.declared.first.BridgeConf.{BridgeConf}
 use Rattle.net_conf.specs.declared.first.First.{First}
 use Rattle.net_conf.specs.declared.first.First.TheVariants.{Bridge, Ptp, Macvlan}
@@ -22,34 +20,20 @@ use Rattle.kernel_types.specs.Words.{has_host_bridge}
 use Rattle.kernel_types.specs.declared.object.Att.{Att}
 use Rattle.kernel_types.specs.declared.object.Host.{Host}
 use Rattle.kernel_types.specs.declared.call.Call.{Call}
-use Rattle.kernel_types.specs.declared.call.Call.TheVariants.{Begin, BridgeEnsure, VethAdd, MacvlanAdd, ForwardEnsure, LinkSet, AddrAdd, RouteAdd, RuleAppend, SettingSet, LeaseNext, CachePut, CacheGet, HasObj, OwnersOf, PoolFree}
-use Rattle.kernel_types.specs.declared.call.Given.{Given}
+use Rattle.kernel_types.specs.declared.call.Call.TheVariants.{Begin, BridgeEnsure, VethAdd, MacvlanAdd, LeaseNext, CacheGet, HasObj, OwnersOf, PoolFree}
 use Rattle.kernel_types.specs.declared.call.Kind.{Kind}
 use Rattle.kernel_types.specs.declared.call.Kind.TheVariants as kinds
 use Rattle.kernel_types.specs.declared.call.Reply.TheVariants.{NoLink}
-use Rattle.plan_words.specs.Families.{has_family}
 use Rattle.plan_words.specs.PlanCalls.{is_plan_call_of}
-use Rattle.plan_words.specs.Shapes.{host_end, inner_end, macvlan_link, addresses_on, routes_on, masquerade_rules, forward_for, forward_calls}
+use Rattle.plan_words.specs.Shapes.{host_end, inner_end, macvlan_link}
 use Rattle.plan_words.specs.Share.{Share, share_of}
-use Rattle.plan_words.proofs.KeyLists.{list_all-append, list_all-every, list_all-map}
-use Rattle.host_local.specs.Conf.{routes_of}
-use Rattle.host_local.specs.Results.{ip_of}
-use Rattle.bridge_ptp.proofs.Shares.{gateways-of_bridge}
-use Rattle.bridge_ptp.specs.Bridge.{gateway_calls}
-use Rattle.bridge_ptp.specs.Gateways.{gateway_call, gateways_on}
-use Rattle.bridge_ptp.specs.declared.ptp.AddressOrRoute.{AddressOrRoute}
-use Rattle.bridge_ptp.specs.declared.ptp.AddressOrRoute.TheVariants.{Address, Route}
-use Rattle.bridge_ptp.specs.Ptp.{call_for, ptp_objects}
-use Rattle.bridge_ptp.specs.Results.{bridge_routes}
-use Rattle.portmap.specs.Portmap.{portmap_rules}
-use Rattle.firewall_tuning.specs.Firewall.{firewall_rules}
-use Rattle.firewall_tuning.specs.Tuning.{tuning_settings, sets_any, link_set_calls}
 use Rattle.cni_verbs.specs.CommandWords.{att_of, mappings_of}
 use Rattle.cni_verbs.specs.Script.{State, AtBegin, BeforeLeases, Leasing, AfterLeases, ReadingCache, Deleting, FindingEntry, Asking, Changing, Collecting, Over, Calls, turn}
-use Rattle.cni_verbs.specs.Wanted.{calls_before, calls_after, chained_calls, all_chained_calls, chained_result, back_calls, given_by_list, first_plugin_result, cached_of, deletion, untuned}
+use Rattle.cni_verbs.specs.Wanted.{calls_before, back_calls, deletion, untuned}
 use Rattle.pod_workers.specs.Plans.{Placed}
 use Rattle.pod_workers.specs.World.{World, host_of}
 use Rattle.pod_workers.specs.declared.plan.Entry.{Entry}
+use Rattle.pod_workers.proofs.BackCalls.{PassesChained, PassesFirst, passes-back}
 use Rattle.pod_workers.proofs.Splits.{cons_parts, split_nil}
 use Rattle.pod_laws.specs.Moments.{own_entries}
 use Rattle.pod_laws.proofs.Achieved.{Achieved, achieved-start, achieved-step, with_leases}
@@ -78,69 +62,26 @@ named host None bridge h there = refl
 named host (Some name) None h there = cc
 named host (Some name) (Some bridge) h there = ap (has_host_bridge host) ((bytes_eq-Decides name bridge).0 h) ∙ there
 
-abbrev AllBridged : First → List Call → Type 0
-AllBridged first calls = list_all (is_bridged first) calls ≡ true
+bridged-first : (first : First) (att : Att) (netns : List ℕ) → PassesFirst (is_bridged first) first att netns
+bridged-first first att netns = record {
+  address = λ g. refl;
+  route = λ dst gw. refl;
+  host_address = λ conf is gateway. refl;
+  host_route = λ conf is addr. refl;
+  gateway = λ conf is cidr. subst (λ f. names_bridge (Some conf.bridge) (bridge_of f) ≡ true) (sym is) (nat_list_eq_equiv.refl conf.bridge);
+  forward = λ family. refl;
+  rule = λ there rule. refl;
+}
 
-bridged-append : (first : First) (xs ys : List Call) → AllBridged first xs → AllBridged first ys → AllBridged first (xs ++ ys)
-bridged-append first xs ys h g = list_all-append (is_bridged first) xs ys h g
+bridged-chained : (first : First) (att : Att) (netns : List ℕ) (c : Chained) → PassesChained (is_bridged first) att netns c
+bridged-chained first att netns (Portmap conf) = λ rule. refl
+bridged-chained first att netns (Firewall conf) = λ rule. refl
+bridged-chained first att netns (Tuning conf) = (λ s. refl, refl)
 
-bridged-every : {X : Type 0} (first : First) (f : X → Call) → ((x : X) → is_bridged first (f x) ≡ true) → (xs : List X) → AllBridged first (map f xs)
-bridged-every first f w xs = list_all-every (is_bridged first) f w xs
-
-bridged-if : (first : First) (b : Bool) (xs : List Call) → AllBridged first xs → AllBridged first (if b then xs else [])
-bridged-if first true xs h = h
-bridged-if first false xs h = refl
-
-bridged-forward : (first : First) (given : List Given) → AllBridged first (forward_calls given)
-bridged-forward first given =
-    let v4 = has_family families.V4 given in
-    let v6 = has_family families.V6 given in
-    bridged-append first (forward_for families.V4 given) (forward_for families.V6 given) (bridged-if first v4 (ForwardEnsure families.V4 ∷ []) refl) (bridged-if first v6 (ForwardEnsure families.V6 ∷ []) refl)
-
-bridged-gateways : (conf : BridgeConf) (given : List Given) → AllBridged (Bridge conf) (gateway_calls conf given)
-bridged-gateways conf given =
-    bridged-if (Bridge conf) conf.is_gateway (map gateway_call (gateways_on conf.bridge given) ++ forward_calls given)
-    (bridged-append (Bridge conf) (map gateway_call (gateways_on conf.bridge given)) (forward_calls given)
-    (list_all-map (is_bridged (Bridge conf)) gateway_call (λ g. bytes_eq g.bridge conf.bridge) (λ g h. h) (gateways_on conf.bridge given) (gateways-of_bridge conf.bridge given)) (bridged-forward (Bridge conf) given))
-
-bridged-call_for : (first : First) (x : AddressOrRoute) → is_bridged first (call_for x) ≡ true
-bridged-call_for first (Address obj) = refl
-bridged-call_for first (Route obj) = refl
-
-bridged-after : (first : First) (att : Att) (netns : List ℕ) (given : List Given) → AllBridged first (calls_after first att netns given)
-bridged-after (Bridge conf) att netns given =
-    let routes = routes_on att netns given (bridge_routes conf.is_default_gateway (routes_of conf.ipam) (map ip_of given)) in
-    let rules = masquerade_rules conf.ip_masq att given in
-    bridged-append (Bridge conf) (map AddrAdd (addresses_on att netns given)) (map RouteAdd routes ++ (gateway_calls conf given ++ map RuleAppend rules)) (bridged-every (Bridge conf) AddrAdd (λ x. refl) (addresses_on att netns given))
-    (bridged-append (Bridge conf) (map RouteAdd routes) (gateway_calls conf given ++ map RuleAppend rules) (bridged-every (Bridge conf) RouteAdd (λ x. refl) routes)
-    (bridged-append (Bridge conf) (gateway_calls conf given) (map RuleAppend rules) (bridged-gateways conf given) (bridged-every (Bridge conf) RuleAppend (λ x. refl) rules)))
-bridged-after (Ptp conf) att netns given =
-    let rules = masquerade_rules conf.ip_masq att given in
-    bridged-append (Ptp conf) (map call_for (ptp_objects conf att netns given)) (forward_calls given ++ map RuleAppend rules) (bridged-every (Ptp conf) call_for (bridged-call_for (Ptp conf)) (ptp_objects conf att netns given))
-    (bridged-append (Ptp conf) (forward_calls given) (map RuleAppend rules) (bridged-forward (Ptp conf) given) (bridged-every (Ptp conf) RuleAppend (λ x. refl) rules))
-bridged-after (Macvlan conf) att netns given =
-    let routes = routes_on att netns given (routes_of conf.ipam) in
-    bridged-append (Macvlan conf) (map AddrAdd (addresses_on att netns given)) (map RouteAdd routes) (bridged-every (Macvlan conf) AddrAdd (λ x. refl) (addresses_on att netns given)) (bridged-every (Macvlan conf) RouteAdd (λ x. refl) routes)
-
-bridged-chained : (first : First) (c : Chained) (att : Att) (netns : List ℕ) (mappings : List PortMapping) (ips : List IpEntry) → AllBridged first (chained_calls c att netns mappings ips)
-bridged-chained first (Portmap conf) att netns mappings ips = bridged-every first RuleAppend (λ r. refl) (portmap_rules conf att mappings ips)
-bridged-chained first (Firewall conf) att netns mappings ips = bridged-every first RuleAppend (λ r. refl) (firewall_rules att ips)
-bridged-chained first (Tuning conf) att netns mappings ips =
-    bridged-append first (map SettingSet (tuning_settings conf att netns)) (link_set_calls conf att netns) (bridged-every first SettingSet (λ s. refl) (tuning_settings conf att netns))
-    (bridged-if first (sets_any conf) (LinkSet att (record { ns = netns; name = att.ifname }) conf.mac conf.mtu conf.tx_qlen conf.promisc conf.allmulti ∷ []) refl)
-
-bridged-all_chained : (first : First) (cs : List Chained) (att : Att) (netns : List ℕ) (mappings : List PortMapping) (prev : AddResult) → AllBridged first (all_chained_calls cs att netns mappings prev)
-bridged-all_chained first [] att netns mappings prev = refl
-bridged-all_chained first (c ∷ cs) att netns mappings prev =
-    bridged-append first (chained_calls c att netns mappings prev.ips) (all_chained_calls cs att netns mappings (chained_result c prev)) (bridged-chained first c att netns mappings prev.ips)
-    (bridged-all_chained first cs att netns mappings (chained_result c prev))
-
-bridged-back : (list : NetList) (att : Att) (netns : List ℕ) (mappings : List PortMapping) (addrs : List Addr) → AllBridged list.first (back_calls list att netns mappings addrs)
+bridged-back : (list : NetList) (att : Att) (netns : List ℕ) (mappings : List PortMapping) (addrs : List Addr) → list_all (is_bridged list.first) (back_calls list att netns mappings addrs) ≡ true
 bridged-back list att netns mappings addrs =
-    let chain = all_chained_calls list.chained att netns mappings (first_plugin_result list att netns addrs) in
-    let put = CachePut att (cached_of list att netns mappings addrs) ∷ [] in
-    bridged-append list.first (calls_after list.first att netns (given_by_list list addrs)) (chain ++ put) (bridged-after list.first att netns (given_by_list list addrs))
-    (bridged-append list.first chain put (bridged-all_chained list.first list.chained att netns mappings (first_plugin_result list att netns addrs)) refl)
+    passes-back (is_bridged list.first) list att netns mappings addrs (bridged-first list.first att netns)
+    (each_of (PassesChained (is_bridged list.first) att netns) list.chained (bridged-chained list.first att netns)) (λ cached. refl)
 
 -- ---- one of a list
 

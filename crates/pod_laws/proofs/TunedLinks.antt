@@ -1,16 +1,13 @@
 -- Where `tuning` comes at most once, each link of an attachment is a wanted one, or one as it was before `tuning`.
 use Rattle.std.proofs.Common.{◌≡◌, ℕ, Bool, true, false, not, List, [], ◌∷◌, ◌++◌, map, refl, sym, ◌∙◌, ap, subst, inl, inr, ◌⊎◌, arith}
 use Rattle.std.specs.Prelude.{◌||◌, if◌then◌else◌}
-use Rattle.std.specs.List.{list_any}
+use Rattle.std.specs.List.{list_any, list_all}
 use Rattle.std.proofs.lemmas.Bool.{not-true}
 use Rattle.cni_addr.specs.declared.address.Addr.{Addr}
-use Rattle.cni_addr.specs.declared.address.Family.TheVariants as families
 use Rattle.cni_result.specs.declared.cached.PortMapping.{PortMapping}
 use Rattle.cni_result.specs.declared.result.AddResult.{AddResult}
 use Rattle.cni_result.specs.declared.result.IpEntry.{IpEntry}
-use Rattle.net_conf.specs.declared.first.BridgeConf.{BridgeConf}
 use Rattle.net_conf.specs.declared.first.First.{First}
-use Rattle.net_conf.specs.declared.first.First.TheVariants.{Bridge, Ptp, Macvlan}
 use Rattle.net_conf.specs.declared.chained.Chained.{Chained}
 use Rattle.net_conf.specs.declared.chained.Chained.TheVariants.{Portmap, Firewall, Tuning}
 use Rattle.net_conf.specs.declared.list.NetList.{NetList}
@@ -18,25 +15,16 @@ use Rattle.kernel_types.proofs.ListLemmas.{list_any-append_none}
 use Rattle.cni_addr.specs.Lists.{IsAmong}
 use Rattle.kernel_types.specs.declared.object.Att.{Att}
 use Rattle.kernel_types.specs.declared.call.Call.{Call}
-use Rattle.kernel_types.specs.declared.call.Call.TheVariants.{ForwardEnsure, VethAdd, MacvlanAdd, LinkSet, AddrAdd, RouteAdd, RuleAppend, SettingSet, CachePut}
+use Rattle.kernel_types.specs.declared.call.Call.TheVariants.{VethAdd, MacvlanAdd, LinkSet, RuleAppend, SettingSet, CachePut}
 use Rattle.kernel_types.specs.declared.call.Given.{Given}
-use Rattle.plan_words.specs.Families.{has_family}
-use Rattle.plan_words.specs.Shapes.{addresses_on, routes_on, masquerade_rules, forward_for, forward_calls}
 use Rattle.plan_words.specs.Share.{Share, no_objects, share_after_call, share_after_calls}
 use Rattle.plan_words.proofs.CallLists.{share_after_calls-append}
-use Rattle.host_local.specs.Conf.{routes_of}
-use Rattle.host_local.specs.Results.{ip_of}
-use Rattle.bridge_ptp.specs.Bridge.{gateway_calls}
-use Rattle.bridge_ptp.specs.Gateways.{gateway_call, gateways_on}
-use Rattle.bridge_ptp.specs.declared.ptp.AddressOrRoute.{AddressOrRoute}
-use Rattle.bridge_ptp.specs.declared.ptp.AddressOrRoute.TheVariants.{Address, Route}
-use Rattle.bridge_ptp.specs.Ptp.{call_for, ptp_objects}
-use Rattle.bridge_ptp.specs.Results.{bridge_routes}
 use Rattle.portmap.specs.Portmap.{portmap_rules}
 use Rattle.firewall_tuning.specs.Firewall.{firewall_rules}
 use Rattle.firewall_tuning.specs.Tuning.{tuning_settings, sets_any, link_set_calls}
 use Rattle.cni_verbs.specs.CommandWords.{att_of, mappings_of}
 use Rattle.cni_verbs.specs.Wanted.{calls_after, chained_calls, all_chained_calls, chained_result, back_calls, given_by_list, first_plugin_result, cached_of, untuned, wanted}
+use Rattle.pod_workers.proofs.BackCalls.{PassesFirst, passes-after}
 use Rattle.pod_laws.specs.AskedFor.{AreAmong, links_after_part, is_tuning, tunes_once, EachLinkIsWanted}
 use Rattle.pod_laws.proofs.Achieved.{with_leases}
 use Rattle.pod_laws.proofs.Fronts.{links-calls, untuned-links}
@@ -113,39 +101,23 @@ none-every f w (x ∷ xs) = grind (arith, w x, none-every f w xs)
 none-append : (xs ys : List Call) → NoneChange xs → NoneChange ys → NoneChange (xs ++ ys)
 none-append xs ys h g = list_any-append_none changes_links xs ys h g
 
-none-if : (b : Bool) (xs : List Call) → NoneChange xs → NoneChange (if b then xs else [])
-none-if true xs h = h
-none-if false xs h = refl
+none-passes : (calls : List Call) → list_all (λ x. not (changes_links x)) calls ≡ true → NoneChange calls
+none-passes [] h = refl
+none-passes (x ∷ xs) h = grind (arith, h, none-passes xs)
 
-none-forward : (given : List Given) → NoneChange (forward_calls given)
-none-forward given =
-    let v4 = has_family families.V4 given in
-    let v6 = has_family families.V6 given in
-    none-append (forward_for families.V4 given) (forward_for families.V6 given) (none-if v4 (ForwardEnsure families.V4 ∷ []) refl) (none-if v6 (ForwardEnsure families.V6 ∷ []) refl)
-
-none-gateways : (conf : BridgeConf) (given : List Given) → NoneChange (gateway_calls conf given)
-none-gateways conf given =
-    none-if conf.is_gateway (map gateway_call (gateways_on conf.bridge given) ++ forward_calls given)
-    (none-append (map gateway_call (gateways_on conf.bridge given)) (forward_calls given) (none-every gateway_call (λ g. refl) (gateways_on conf.bridge given)) (none-forward given))
-
-none-call_for : (x : AddressOrRoute) → changes_links (call_for x) ≡ false
-none-call_for (Address obj) = refl
-none-call_for (Route obj) = refl
+none-first : (first : First) (att : Att) (netns : List ℕ) → PassesFirst (λ x. not (changes_links x)) first att netns
+none-first first att netns = record {
+  address = λ g. refl;
+  route = λ dst gw. refl;
+  host_address = λ conf is gateway. refl;
+  host_route = λ conf is addr. refl;
+  gateway = λ conf is cidr. refl;
+  forward = λ family. refl;
+  rule = λ there rule. refl;
+}
 
 none-after : (first : First) (att : Att) (netns : List ℕ) (given : List Given) → NoneChange (calls_after first att netns given)
-none-after (Bridge conf) att netns given =
-    let routes = routes_on att netns given (bridge_routes conf.is_default_gateway (routes_of conf.ipam) (map ip_of given)) in
-    let rules = masquerade_rules conf.ip_masq att given in
-    none-append (map AddrAdd (addresses_on att netns given)) (map RouteAdd routes ++ (gateway_calls conf given ++ map RuleAppend rules)) (none-every AddrAdd (λ x. refl) (addresses_on att netns given))
-    (none-append (map RouteAdd routes) (gateway_calls conf given ++ map RuleAppend rules) (none-every RouteAdd (λ x. refl) routes)
-    (none-append (gateway_calls conf given) (map RuleAppend rules) (none-gateways conf given) (none-every RuleAppend (λ x. refl) rules)))
-none-after (Ptp conf) att netns given =
-    let rules = masquerade_rules conf.ip_masq att given in
-    none-append (map call_for (ptp_objects conf att netns given)) (forward_calls given ++ map RuleAppend rules) (none-every call_for none-call_for (ptp_objects conf att netns given))
-    (none-append (forward_calls given) (map RuleAppend rules) (none-forward given) (none-every RuleAppend (λ x. refl) rules))
-none-after (Macvlan conf) att netns given =
-    let routes = routes_on att netns given (routes_of conf.ipam) in
-    none-append (map AddrAdd (addresses_on att netns given)) (map RouteAdd routes) (none-every AddrAdd (λ x. refl) (addresses_on att netns given)) (none-every RouteAdd (λ x. refl) routes)
+none-after first att netns given = none-passes (calls_after first att netns given) (passes-after (λ x. not (changes_links x)) first att netns given (none-first first att netns))
 
 one-call : (b : Bool) → (if b then not (list_any changes_links []) else change_once []) ≡ true
 one-call true = refl
