@@ -33,7 +33,7 @@ use Rattle.pod_workers.proofs.Replies.{by-cache, by-deletion}
 use Rattle.pod_workers.proofs.StepsLeft.{host-made}
 use Rattle.pod_laws.specs.Moments.{own_entries}
 use Rattle.pod_laws.proofs.Entries.{replies_in}
-use Rattle.pod_laws.proofs.States.{IsAside, IsNoResult, aside-advance, by-start, faulted-no_result}
+use Rattle.pod_laws.proofs.States.{IsAside, IsNoResult, aside-advance, by-aside, by-start, faulted-no_result}
 use Rattle.pod_laws.proofs.Runs.{IsRunFact, StartsWith, own-state}
 use Rattle.cni_verbs.proofs.WantedShare.{share_with_leases, makes-wanted}
 
@@ -170,14 +170,7 @@ moves-deletion list c es number k ks ending r t was = by-deletion (λ st. Achiev
 -- ---- runs that make no attachment
 
 achieved-aside : (list : NetList) (c : Command) (es : List Entry) (st : State) (s : Share) → IsAside st → Achieved list c es st s
-achieved-aside list c es AtBegin s h = absurd h
-achieved-aside list c es (BeforeLeases x xs) s h = absurd h
-achieved-aside list c es (Leasing set sets given) s h = absurd h
-achieved-aside list c es (AfterLeases x xs given) s h = absurd h
-achieved-aside list c es (ReadingCache ending) s h = absurd h
-achieved-aside list c es (Deleting kind ks ending) s h = absurd h
-achieved-aside list c es (Over ending given) s h = achieved-end list c es ending given s h
-achieved-aside list c es _ s h = tt
+achieved-aside list c es st s = by-aside (λ x. Achieved list c es x s) tt (λ next left. tt) (λ change. tt) (λ work faults. tt) (λ ending given none. achieved-end list c es ending given s none) st
 
 achieved-next : (list : NetList) (c : Command) (es : List Entry) (number : ℕ) (st : State) (r : Reply) (s : Share) → IsAside st → Achieved list c es (advance list c number st r) s
 achieved-next list c es number st r s h = achieved-aside list c es (advance list c number st r) s (aside-advance list c number st r h)

@@ -53,7 +53,7 @@ use Rattle.pod_workers.proofs.Sound.{sound_host}
 use Rattle.pod_workers.proofs.StepsLeft.{host-made}
 use Rattle.pod_laws.specs.Moments.{is_of, own_entries}
 use Rattle.pod_laws.proofs.Entries.{is_of-own, is_of-other, no-entries, own_entries-own, own_entries-other}
-use Rattle.pod_laws.proofs.States.{IsAside, aside-advance, is_question, by-start}
+use Rattle.pod_laws.proofs.States.{IsAside, aside-advance, by-aside, is_question, by-start}
 use Rattle.pod_laws.proofs.RunFacts.{state_by, state_by-append}
 use Rattle.pod_laws.proofs.Runs.{own-state}
 use Rattle.pod_laws.proofs.Steps.{AllOpen, Changes, GoesOn, IsOpenKept, OpenFact, by-open, on-entry}
@@ -233,13 +233,7 @@ comes-done first k n x xs faulty stays (inl left) done = elim (cases_Bool (ensur
 ]
 
 bridge-aside : (list : NetList) (st : State) (host : Host) → IsAside st → HasBridge list st host
-bridge-aside list AtBegin host h = absurd h
-bridge-aside list (BeforeLeases x xs) host h = absurd h
-bridge-aside list (Leasing set sets given) host h = absurd h
-bridge-aside list (AfterLeases x xs given) host h = absurd h
-bridge-aside list (ReadingCache ending) host h = absurd h
-bridge-aside list (Deleting kind ks ending) host h = absurd h
-bridge-aside list _ host h = tt
+bridge-aside list st host = by-aside (λ x. HasBridge list x host) tt (λ next left. tt) (λ change. tt) (λ work faults. tt) (λ ending given none. tt) st
 
 bridge-advance : (list : NetList) (c : Command) (number : ℕ) (st : State) (k : Host) (n : ℕ) (call : Call) (faulty : Bool) → turn c st ≡ Calls call → (BridgeIn list.first k → BridgeIn list.first (host_on k (entry_of k n call faulty))) → HasBridge list st k
     → HasBridge list (advance list c number st (reply_to k call faulty)) (host_on k (entry_of k n call faulty))

@@ -41,7 +41,7 @@ use Rattle.pod_workers.proofs.Histories.{after-append}
 use Rattle.pod_workers.proofs.Replies.{by-begin, by-call_before, by-call_after, by-cache, by-deletion}
 use Rattle.pod_laws.specs.Moments.{host_at_end, is_of, own_entries, until_last}
 use Rattle.pod_laws.proofs.Entries.{until_last-own, until_last-other}
-use Rattle.pod_laws.proofs.States.{IsAside, IsNoResult, aside-advance, by-start, faulted-no_result}
+use Rattle.pod_laws.proofs.States.{IsAside, IsNoResult, aside-advance, by-aside, by-start, faulted-no_result}
 use Rattle.pod_laws.proofs.Runs.{IsRunFact, StartsWith, own-state}
 use Rattle.pod_laws.proofs.Steps.{by-entries, sound-changed, sound-entered}
 
@@ -120,14 +120,7 @@ run-deletion list c es number k ks ending r s h = by-deletion (λ st. LeasedRun 
 -- ---- runs that make no attachment
 
 leased-aside : (list : NetList) (c : Command) (es : List Entry) (st : State) (s : Share) → IsAside st → LeasedRun list c es st s
-leased-aside list c es AtBegin s h = absurd h
-leased-aside list c es (BeforeLeases x xs) s h = absurd h
-leased-aside list c es (Leasing set sets given) s h = absurd h
-leased-aside list c es (AfterLeases x xs given) s h = absurd h
-leased-aside list c es (ReadingCache ending) s h = absurd h
-leased-aside list c es (Deleting kind ks ending) s h = absurd h
-leased-aside list c es (Over ending given) s h = leased-end list ending given h
-leased-aside list c es _ s h = tt
+leased-aside list c es st s = by-aside (λ x. LeasedRun list c es x s) tt (λ next left. tt) (λ change. tt) (λ work faults. tt) (leased-end list) st
 
 leased-next : (list : NetList) (c : Command) (es : List Entry) (number : ℕ) (st : State) (r : Reply) (s : Share) → IsAside st → LeasedRun list c es (advance list c number st r) s
 leased-next list c es number st r s h = leased-aside list c es (advance list c number st r) s (aside-advance list c number st r h)

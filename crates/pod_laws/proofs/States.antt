@@ -20,7 +20,7 @@ use Rattle.kernel_types.specs.declared.call.Reply.TheVariants.{Gone}
 use Rattle.cni_verbs.specs.CommandWords.{att_of, del_refusal, add_refusal}
 use Rattle.cni_verbs.specs.Questions.{check_questions, status_questions}
 use Rattle.cni_verbs.specs.Script.{State, AtBegin, BeforeLeases, Leasing, AfterLeases, ReadingCache, Deleting, FindingEntry, Asking, Changing, Collecting, Over, before_of, back_of, after_leases, leasing, before_leases, asking, gc_of, changed, faulted, swept, advance, start_of, state_after}
-use Rattle.cni_verbs.specs.Sweep.{start_work}
+use Rattle.cni_verbs.specs.Sweep.{Work, start_work}
 use Rattle.cni_verbs.specs.Wanted.{sets_of, kinds_of}
 use Rattle.cni_verbs.specs.declared.answer.Ending.{Ending}
 use Rattle.cni_verbs.specs.declared.answer.Ending.TheVariants.{Added, Yes, Skipped, Versions, Refused}
@@ -125,6 +125,21 @@ IsAside (Asking next left) = Unit {0}
 IsAside (Changing change) = Unit {0}
 IsAside (Collecting work faults) = Unit {0}
 IsAside (Over ending given) = IsNoResult ending
+
+-- what holds of each of them, told by what it is of each kind
+pub by-aside : (P : State → Type 0) → P FindingEntry → ((next : Question) (left : List Question) → P (Asking next left)) → ((change : Call) → P (Changing change)) → ((work : Work) (faults : List ℕ) → P (Collecting work faults))
+    → ((ending : Ending) (given : List Addr) → IsNoResult ending → P (Over ending given)) → (st : State) → IsAside st → P st
+by-aside P entry asking change work over AtBegin h = absurd h
+by-aside P entry asking change work over (BeforeLeases next left) h = absurd h
+by-aside P entry asking change work over (Leasing next left given) h = absurd h
+by-aside P entry asking change work over (AfterLeases next left given) h = absurd h
+by-aside P entry asking change work over (ReadingCache ending) h = absurd h
+by-aside P entry asking change work over (Deleting next left ending) h = absurd h
+by-aside P entry asking change work over FindingEntry h = entry
+by-aside P entry asking change work over (Asking next left) h = asking next left
+by-aside P entry asking change work over (Changing call) h = change call
+by-aside P entry asking change work over (Collecting more faults) h = work more faults
+by-aside P entry asking change work over (Over ending given) h = over ending given h
 
 aside-asking : (qs : List Question) → IsAside (asking qs)
 aside-asking [] = tt

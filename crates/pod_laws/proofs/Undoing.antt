@@ -45,7 +45,7 @@ use Rattle.pod_laws.proofs.Footing.{IsMacvlan}
 use Rattle.pod_laws.proofs.OfKinds.{IsWithin, IsWithin-removes}
 use Rattle.pod_laws.proofs.Removes.{removes-deletion}
 use Rattle.pod_laws.proofs.Stands.{no_link-now}
-use Rattle.pod_laws.proofs.States.{IsAside, IsNoResult, IsOtherVerb, aside-advance, aside-start}
+use Rattle.pod_laws.proofs.States.{IsAside, IsNoResult, IsOtherVerb, aside-advance, aside-start, by-aside}
 use Rattle.pod_laws.proofs.Runs.{IsRunFact, StartsWith, own-state}
 use Rattle.pod_laws.proofs.Steps.{on-entry, sound-entered}
 use Rattle.pod_laws.proofs.Within.{within-entered}
@@ -284,14 +284,7 @@ undone-end c es Versions s other h = other
 undone-end c es (Refused cause) s other h = inr (inr other)
 
 undone-aside : (list : NetList) (c : Command) (es : List Entry) (st : State) (s : Share) → IsOther c → IsAside st → Undoing list c es st s
-undone-aside list c es AtBegin s other h = absurd h
-undone-aside list c es (BeforeLeases x xs) s other h = absurd h
-undone-aside list c es (Leasing set sets given) s other h = absurd h
-undone-aside list c es (AfterLeases x xs given) s other h = absurd h
-undone-aside list c es (ReadingCache ending) s other h = absurd h
-undone-aside list c es (Deleting kind ks ending) s other h = absurd h
-undone-aside list c es (Over ending given) s other h = undone-end c es ending s other h
-undone-aside list c es _ s other h = other
+undone-aside list c es st s other = by-aside (λ x. Undoing list c es x s) other (λ next left. other) (λ change. other) (λ work faults. other) (λ ending given none. undone-end c es ending s other none) st
 
 undone-next : (list : NetList) (c : Command) (es : List Entry) (number : ℕ) (st : State) (r : Reply) (s : Share) → IsOther c → IsAside st → Undoing list c es (advance list c number st r) s
 undone-next list c es number st r s other h = undone-aside list c es (advance list c number st r) s other (aside-advance list c number st r h)
