@@ -37,7 +37,7 @@ use Rattle.cni_verbs.specs.declared.answer.Missed.TheVariants as missed
 use Rattle.cni_verbs.specs.declared.answer.Question.{Question}
 use Rattle.pod_laws.specs.Checked.{are_in, has_bridge_by, has_bridge_of, has_first_bridge, has_objects_of, holds_cached}
 use Rattle.pod_laws.specs.Granted.{grants}
-use Rattle.pod_laws.proofs.Asking.{each-append, tells, and-true}
+use Rattle.pod_laws.proofs.Asking.{tells}
 use Rattle.pod_workers.proofs.Each.{each-append, each-map_of}
 use Rattle.pod_laws.proofs.OwnWanted.{AreOwn, own-wanted}
 use Rattle.pod_laws.proofs.SteadyHosts.{KeepsAsked}

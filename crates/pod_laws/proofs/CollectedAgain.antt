@@ -1,6 +1,7 @@
 -- A collection after another one leaves what the first was to keep.
 use Rattle.std.proofs.Common.{◌≡◌, ℕ, ◌≤◌, Bool, true, false, List, [], ◌∷◌, length, refl, sym, ◌∙◌, ap, subst, inl, inr, arith}
 use Rattle.std.specs.Prelude.{filter, if◌then◌else◌}
+use Rattle.plan_words.proofs.KeyLists.{filter-within}
 use Rattle.net_conf.specs.declared.list.NetList.{NetList}
 use Rattle.pod_file.specs.Rounds.{is_exclusive_verb}
 use Rattle.pod_file.specs.declared.command.Command.{Command}
@@ -56,19 +57,11 @@ filter-drops p (x ∷ old) (y ∷ new) d = elim d [
   | inr drop ↦ filter-drop-if (p x) x (filter p old) (filter p (y ∷ new)) (filter-drops p old (y ∷ new) drop.1)
 ]
 
-filter-again-if : {X : Type 0} (p : X → Bool) (b : Bool) (x : X) (fs : List X) → p x ≡ b → filter p fs ≡ fs → filter p (if b then x ∷ fs else fs) ≡ (if b then x ∷ fs else fs)
-filter-again-if p true x fs is h = grind (arith, is, h)
-filter-again-if p false x fs is h = h
-
-filter-again : {X : Type 0} (p : X → Bool) (xs : List X) → filter p (filter p xs) ≡ filter p xs
-filter-again p [] = refl
-filter-again p (x ∷ xs) = filter-again-if p (p x) x (filter p xs) refl (filter-again p xs)
-
 -- what passes is the same in a list between
 between : {X : Type 0} (p : X → Bool) (xs ys : List X) → DropsOnly (λ x. true) ys (filter p xs) → DropsOnly (λ x. true) xs ys → filter p ys ≡ filter p xs
 between p xs ys lower upper =
     let low = drops-length (filter p ys) (filter p (filter p xs)) (filter-drops p ys (filter p xs) lower) in
-    let same : length (filter p (filter p xs)) ≡ length (filter p xs) = ap length (filter-again p xs) in
+    let same : length (filter p (filter p xs)) ≡ length (filter p xs) = ap length (filter-within p p (λ x h. h) xs) in
     drops-none (filter p xs) (filter p ys) (filter-drops p xs ys upper) (omega arith)
 
 -- ---- what is to be kept is the same after a collection

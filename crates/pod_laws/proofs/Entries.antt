@@ -1,12 +1,13 @@
 -- The entries of one command in a history that is one entry longer.
 use Rattle.std.proofs.Common.{◌≡◌, ℕ, ◌+◌, Bool, true, false, List, [], ◌∷◌, ◌++◌, refl, ◌∙◌, ap, arith}
-use Rattle.std.specs.Prelude.{if◌then◌else◌, ◌||◌}
+use Rattle.std.specs.Prelude.{if◌then◌else◌}
 use Rattle.std.specs.List.{list_any}
 use Rattle.kernel_types.proofs.ListLemmas.{list_any-append_right}
 pub use Rattle.pod_workers.proofs.Histories.{is_of-own, is_of-other, own_entries-own, own_entries-other}
 pub use Rattle.pod_workers.specs.World.{replies_in}
 use Rattle.pod_workers.specs.declared.plan.Entry.{Entry}
 use Rattle.pod_laws.specs.Moments.{is_of, until_last}
+use Rattle.gc_sweep.proofs.Lists.{list_any-snoc}
 
 -- ---- own entries
 
@@ -28,8 +29,7 @@ until_last-own n (x ∷ xs) e is =
     (until_last-own n xs e is)
 
 any-other : {X : Type 0} (p : X → Bool) (xs : List X) (y : X) → p y ≡ false → list_any p (xs ++ y ∷ []) ≡ list_any p xs
-any-other p [] y h = grind (arith, h)
-any-other p (x ∷ xs) y h = ap (λ b. p x || b) (any-other p xs y h)
+any-other p xs y h = let e = list_any-snoc p xs y in grind (arith, e, h)
 
 pub until_last-other : (n : ℕ) (h : List Entry) (e : Entry) → is_of n e ≡ false → until_last n (h ++ e ∷ []) ≡ until_last n h
 until_last-other n [] e is = ap (λ b. if b then e ∷ [] else []) (any-other (is_of n) [] e is)

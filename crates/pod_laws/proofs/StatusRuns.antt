@@ -35,7 +35,7 @@ use Rattle.pod_laws.specs.Available.{EndsStatus, LacksService, WasAvailable, has
 use Rattle.pod_laws.specs.Granted.{grants, only_asks}
 use Rattle.pod_laws.specs.Moments.{has_fault, host_at_end, own_entries}
 use Rattle.pod_laws.specs.Answers.{EndsByFault, EndsByTest}
-use Rattle.pod_laws.proofs.Asking.{EndsAsked, HasAsked, IsAsking, asked-all, asked-none, asked-reply, calm-more, denied-some, each-append, each-at, fault-last, tells, and-true}
+use Rattle.pod_laws.proofs.Asking.{EndsAsked, HasAsked, IsAsking, asked-all, asked-none, asked-reply, calm-more, denied-some, fault-last, tells}
 use Rattle.pod_workers.proofs.Each.{each-append, each-at}
 use Rattle.pod_laws.proofs.CutOff.{over-by, answered-by}
 use Rattle.pod_laws.proofs.RunFacts.{HostFact, IsHostFact, StartsOn, each-run}
