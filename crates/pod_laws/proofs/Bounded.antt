@@ -1,7 +1,6 @@
 -- A run makes no more calls than were left to it before its first entry.
-use Rattle.std.proofs.Common.{◌≡◌, ◌≢◌, ℕ, ◌+◌, ◌≤◌, Bool, true, false, List, [], ◌∷◌, ◌++◌, length, Some, slice_get, refl, sym, ◌∙◌, ap, subst, inl, inr, arith}
+use Rattle.std.proofs.Common.{◌≡◌, ◌≢◌, ℕ, ◌+◌, ◌≤◌, Bool, true, false, List, [], ◌∷◌, ◌++◌, length, Some, slice_get, refl, ◌∙◌, ap, inl, inr, arith}
 use Rattle.std.proofs.lemmas.List.{length-append, length-map}
-use Rattle.std.proofs.lemmas.Option.{same_Some, none-some}
 use Rattle.std.proofs.lemmas.Bool.Decides.{eqb_tells}
 use Rattle.std.proofs.lemmas.Bool.{both_ways}
 use Rattle.net_conf.specs.declared.list.NetList.{NetList}
@@ -18,7 +17,6 @@ use Rattle.pod_workers.specs.World.{World, after, host_of, own_replies, entry_of
 use Rattle.pod_workers.specs.declared.plan.Entry.{Entry}
 use Rattle.pod_workers.specs.declared.plan.Plan.{Plan}
 use Rattle.pod_workers.proofs.Histories.{after-append, entry_or_none, has_reply}
-use Rattle.pod_workers.proofs.Order.{ready_is}
 use Rattle.pod_workers.proofs.Sound.{sound_host}
 use Rattle.pod_workers.proofs.Splits.{split_nil, split_snoc}
 use Rattle.pod_workers.proofs.StepsLeft.{IsNoCollection, entry-falls, none-stays}
@@ -27,7 +25,7 @@ use Rattle.pod_laws.specs.Moments.{is_of, own_entries, until_last}
 use Rattle.pod_laws.proofs.Entries.{is_of-own, is_of-other, own_entries-own, own_entries-other, replies_in, no-entries, until_last-own, until_last-other}
 use Rattle.pod_laws.proofs.RunFacts.{state_by, state_by-append}
 use Rattle.pod_laws.proofs.Runs.{own-state, share-kept}
-use Rattle.pod_laws.proofs.Steps.{GoesOn, IsKept, IsKeptOutside, by-entries}
+use Rattle.pod_laws.proofs.Steps.{GoesOn, IsKept, IsKeptOutside, at_its_place, by-entries, no_list_there}
 
 -- ---- calls made and calls left
 
@@ -117,16 +115,13 @@ from-entered w n c list call faulty on was = λ m d other_list at listed.
     let x = entry_of (host_of w) n call faulty in
     elim (eqb_tells m n) [
       | inl t ↦
-          let same : d ≡ c = ready_is w n m c d on.ready t.1 at in
-          let same_list : other_list ≡ list = same_Some other_list list (sym listed ∙ ap (λ (y : Placed). list_for w.plan y.command) same ∙ on.listed) in
-          let mine : RunFrom w.plan (h ++ x ∷ []) n c list = from-own w n c list call faulty on (was n c list on.ready.there on.listed) in
-          subst (λ j. RunFrom w.plan (h ++ x ∷ []) j d other_list) (sym t.1) (subst (λ y. RunFrom w.plan (h ++ x ∷ []) n y other_list) (sym same) (subst (RunFrom w.plan (h ++ x ∷ []) n c) (sym same_list) mine))
+          at_its_place w n c list call faulty on (RunFrom w.plan (h ++ x ∷ [])) m d other_list t.1 at listed (from-own w n c list call faulty on (was n c list on.ready.there on.listed))
       | inr f ↦ from-other w.plan h m d other_list x (other-number m n (host_of w) call faulty f.1) (was m d other_list at listed)
     ]
 
 from-changed : IsKeptOutside FromFirst
 from-changed w n c call faulty on was = λ m d list at listed. elim (eqb_tells m n) [
-  | inl t ↦ absurd (none-some list (sym on.unlisted ∙ ap (λ (y : Placed). list_for w.plan y.command) (sym (ready_is w n m c d on.ready t.1 at)) ∙ listed))
+  | inl t ↦ absurd (no_list_there w n c call faulty on m d list t.1 at listed)
   | inr f ↦ from-other w.plan w.history m d list (entry_of (host_of w) n call faulty) (other-number m n (host_of w) call faulty f.1) (was m d list at listed)
 ]
 

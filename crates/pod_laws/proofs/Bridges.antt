@@ -2,7 +2,6 @@
 use Rattle.std.proofs.Common.{◌≡◌, ◌≢◌, ℕ, ◌+◌, Bool, true, false, not, List, [], ◌∷◌, ◌++◌, length, Option, Some, None, slice_get, refl, sym, ◌∙◌, ap, subst, inl, inr, ◌⊎◌, arith}
 use Rattle.std.proofs.lemmas.Bool.{cases_Bool}
 use Rattle.std.proofs.lemmas.Bool.Decides.{eqb_tells}
-use Rattle.std.proofs.lemmas.Option.{same_Some, none-some}
 use Rattle.std.proofs.lemmas.Slice.Eq.{bytes_eq-Decides}
 use Rattle.std.specs.Prelude.{find, ◌&&◌, if◌then◌else◌}
 use Rattle.std.specs.List.{list_any}
@@ -47,7 +46,6 @@ use Rattle.pod_workers.specs.World.{World, after, entry_of, host_of, host_on, re
 use Rattle.pod_workers.specs.declared.plan.Entry.{Entry}
 use Rattle.pod_workers.specs.declared.plan.Plan.{Plan}
 use Rattle.pod_workers.proofs.Histories.{after-append, replies_of-other}
-use Rattle.pod_workers.proofs.Order.{ready_is}
 use Rattle.pod_workers.proofs.Replies.{by-begin, by-lease, by-call_after, by-cache, by-deletion}
 use Rattle.pod_workers.proofs.Sound.{sound_host}
 use Rattle.pod_workers.proofs.StepsLeft.{host-made}
@@ -56,7 +54,7 @@ use Rattle.pod_laws.proofs.Entries.{is_of-own, is_of-other, no-entries, own_entr
 use Rattle.pod_laws.proofs.States.{IsAside, aside-advance, by-aside, is_question, by-start}
 use Rattle.pod_laws.proofs.RunFacts.{state_by, state_by-append}
 use Rattle.pod_laws.proofs.Runs.{own-state}
-use Rattle.pod_laws.proofs.Steps.{AllOpen, Changes, GoesOn, IsOpenKept, OpenFact, by-open, on-entry}
+use Rattle.pod_laws.proofs.Steps.{AllOpen, Changes, GoesOn, IsOpenKept, OpenFact, at_its_place, by-open, no_list_there, on-entry}
 use Rattle.pod_laws.proofs.Turns.{IsTurnOf, alone-outside, turn-of}
 use Rattle.pod_laws.proofs.Tests.{any-filtered, none-by}
 
@@ -285,8 +283,6 @@ bridge-own w n m c d list call faulty on here at was = λ other listed.
     let h = w.history in
     let k = host_of w in
     let e = entry_of k n call faulty in
-    let same : d ≡ c = ready_is w n m c d on.ready here at in
-    let same_list : other ≡ list = same_Some other list (sym listed ∙ ap (λ (x : Placed). list_for w.plan x.command) same ∙ on.listed) in
     let es = own_entries n h in
     let now =
     bridge-advance list c.command (length es + 1) (state_by list c.command es) k n call faulty (own-state w n c list call faulty on).turn_is (bridge-entered list.first w n c list call faulty on)
@@ -296,7 +292,7 @@ bridge-own w n m c d list call faulty on here at was = λ other listed.
     subst (λ j. HasBridge list (state_by list c.command (own_entries n (h ++ e ∷ []))) j) (sym (after-append w.plan.pods.opening h e))
     (subst (λ l. HasBridge list (state_by list c.command l) (host_on k e)) (sym (own_entries-own n h e (is_of-own n e refl)))
     (subst (λ st. HasBridge list st (host_on k e)) (sym (state_by-append list c.command es e)) now)) in
-    subst (λ j. Q j d other) (sym here) (subst (λ x. Q n x other) (sym same) (subst (Q n c) (sym same_list) mine))
+    at_its_place w n c list call faulty on Q m d other here at listed mine
 
 bridge-other : (w : World) (n m : ℕ) (c d : Placed) (list : NetList) (call : Call) (faulty : Bool) → GoesOn w n c list call faulty → m ≢ n → RunBridge w.plan w.history m d → RunBridge w.plan (w.history ++ entry_of (host_of w) n call faulty ∷ []) m d
 bridge-other w n m c d list call faulty on differs was = λ other listed.
@@ -310,7 +306,7 @@ bridge-other w n m c d list call faulty on differs was = λ other listed.
 
 -- the world outside makes no entry of a command with a list
 bridge-unlisted : (w : World) (n m : ℕ) (c d : Placed) (call : Call) (faulty : Bool) → Changes w n c call faulty → m ≡ n → slice_get (commands_of w.plan) m ≡ Some d → (h : List Entry) → RunBridge w.plan h m d
-bridge-unlisted w n m c d call faulty on here at h = λ list listed. absurd (none-some list (sym on.unlisted ∙ ap (λ (x : Placed). list_for w.plan x.command) (sym (ready_is w n m c d on.ready here at)) ∙ listed))
+bridge-unlisted w n m c d call faulty on here at h = λ list listed. absurd (no_list_there w n c call faulty on m d list here at listed)
 
 bridge-kept : IsOpenKept RunBridge
 bridge-kept w n c call faulty goes was = λ m d at is_open.

@@ -1,7 +1,6 @@
 -- A fact about every run that its own entries keep, where the host keeps enough between them.
 use Rattle.std.proofs.Common.{◌≡◌, ℕ, ◌+◌, Bool, true, false, List, [], ◌∷◌, ◌++◌, length, Some, slice_get, refl, sym, ◌∙◌, ap, subst, inl, inr, ◌⊎◌, arith}
 use Rattle.std.proofs.lemmas.List.{length-map, map-append}
-use Rattle.std.proofs.lemmas.Option.{same_Some, none-some}
 use Rattle.std.proofs.lemmas.Bool.Decides.{eqb_tells}
 use Rattle.net_conf.specs.declared.list.NetList.{NetList}
 use Rattle.pod_file.specs.declared.command.Command.{Command}
@@ -15,10 +14,9 @@ use Rattle.pod_workers.specs.declared.plan.Entry.{Entry}
 use Rattle.pod_workers.specs.declared.plan.Plan.{Plan}
 use Rattle.pod_workers.proofs.Histories.{after-append}
 use Rattle.pod_workers.proofs.Kept.{state_from-append}
-use Rattle.pod_workers.proofs.Order.{ready_is}
 use Rattle.pod_laws.specs.Moments.{is_of, own_entries, until_last}
 use Rattle.pod_laws.proofs.Entries.{is_of-own, is_of-other, own_entries-own, own_entries-other, replies_in, no-entries, until_last-own, until_last-other}
-use Rattle.pod_laws.proofs.Steps.{AllOpen, GoesOn, IsKept, IsKeptOutside, by-entries}
+use Rattle.pod_laws.proofs.Steps.{AllOpen, GoesOn, IsKept, IsKeptOutside, at_its_place, by-entries, no_list_there}
 
 -- the state of a run after these entries
 abbrev pub state_by : NetList → Command → List Entry → State
@@ -89,8 +87,6 @@ run-entered R F kept start step w n c list call faulty on each = λ m d other_li
     let opening = w.plan.pods.opening in
     elim (eqb_tells m n) [
       | inl t ↦
-          let same : d ≡ c = ready_is w n m c d on.ready t.1 at in
-          let same_list : other_list ≡ list = same_Some other_list list (sym listed ∙ ap (λ (x : Placed). list_for w.plan x.command) same ∙ on.listed) in
           let own : is_of n e ≡ true = is_of-own n e refl in
           let es = own_entries n h in
           let before = run-now R F kept start w n c list on.legal on.ready each on.listed in
@@ -98,9 +94,8 @@ run-entered R F kept start step w n c list call faulty on each = λ m d other_li
           let at_state = subst (λ st. F list c.command (es ++ e ∷ []) st (host_on (host_of w) e)) (sym (state_by-append list c.command es e)) now in
           let at_entries = subst (λ l. F list c.command l (state_by list c.command l) (host_on (host_of w) e)) (sym (own_entries-own n h e own)) at_state in
           let at_end : host_on (host_of w) e ≡ after opening (until_last n (h ++ e ∷ [])) = sym (ap (after opening) (until_last-own n h e own) ∙ after-append opening h e) in
-          let Q : ℕ → Placed → NetList → Type 0 = λ j x l. RunAt F w.plan (h ++ e ∷ []) j x l in
-          let mine : Q n c list = subst (F list c.command (own_entries n (h ++ e ∷ [])) (state_by list c.command (own_entries n (h ++ e ∷ [])))) at_end at_entries in
-          subst (λ j. Q j d other_list) (sym t.1) (subst (λ x. Q n x other_list) (sym same) (subst (Q n c) (sym same_list) mine))
+          let mine : RunAt F w.plan (h ++ e ∷ []) n c list = subst (F list c.command (own_entries n (h ++ e ∷ [])) (state_by list c.command (own_entries n (h ++ e ∷ [])))) at_end at_entries in
+          at_its_place w n c list call faulty on (RunAt F w.plan (h ++ e ∷ [])) m d other_list t.1 at listed mine
       | inr f ↦ run-other F w.plan m d other_list h e (is_of-other m e (λ same. f.1 (let s : n + 1 ≡ m + 1 = same in omega (arith, s)))) (each m d other_list at listed)
     ]
 
@@ -108,7 +103,7 @@ run-changed : (F : HostFact) → IsKeptOutside (EachRun F)
 run-changed F w n c call faulty on each = λ m d list at listed.
     let e = entry_of (host_of w) n call faulty in
     elim (eqb_tells m n) [
-      | inl t ↦ absurd (none-some list (sym on.unlisted ∙ ap (λ (x : Placed). list_for w.plan x.command) (sym (ready_is w n m c d on.ready t.1 at)) ∙ listed))
+      | inl t ↦ absurd (no_list_there w n c call faulty on m d list t.1 at listed)
       | inr f ↦ run-other F w.plan m d list w.history e (is_of-other m e (λ same. f.1 (let s : n + 1 ≡ m + 1 = same in omega (arith, s)))) (each m d list at listed)
     ]
 

@@ -24,6 +24,7 @@ use Rattle.pod_workers.specs.declared.plan.Next.TheVariants as next
 use Rattle.pod_workers.specs.declared.plan.Plan.{Plan}
 use Rattle.pod_workers.proofs.Histories.{slice_get-set_same, slice_get-set_other}
 use Rattle.pod_workers.proofs.Sound.{allowed_next, goes_in, sound_host}
+use Rattle.pod_workers.proofs.Order.{ready_is}
 use Rattle.pod_workers.proofs.StepsLeft.{host-made}
 
 -- ---- a step that makes an entry
@@ -44,6 +45,20 @@ pub record Changes (w : World) (n : ℕ) (c : Placed) (call : Call) (faulty : Bo
   pub unlisted : list_for w.plan c.command ≡ None
   pub turn_is : turn c.command (outside_after c.command (own_replies w n)) ≡ Calls call
   pub allowed : faulty ≡ false → IsAllowed (host_of w) call
+
+-- what holds of the command that goes on, and of its list, holds of the command at its place
+pub at_its_place : (w : World) (n : ℕ) (c : Placed) (list : NetList) (call : Call) (faulty : Bool) → GoesOn w n c list call faulty → (P : ℕ → Placed → NetList → Type 0) → (m : ℕ) (d : Placed) (other : NetList)
+    → m ≡ n → slice_get (commands_of w.plan) m ≡ Some d → list_for w.plan d.command ≡ Some other → P n c list → P m d other
+at_its_place w n c list call faulty on P m d other place at listed mine =
+    let same : d ≡ c = ready_is w n m c d on.ready place at in
+    let same_list : other ≡ list = same_Some other list (sym listed ∙ ap (λ (x : Placed). list_for w.plan x.command) same ∙ on.listed) in
+    subst (λ j. P j d other) (sym place) (subst (λ x. P n x other) (sym same) (subst (P n c) (sym same_list) mine))
+
+-- no command with a list is at the place of a change of the world outside
+pub no_list_there : (w : World) (n : ℕ) (c : Placed) (call : Call) (faulty : Bool) → Changes w n c call faulty → (m : ℕ) (d : Placed) (list : NetList)
+    → m ≡ n → slice_get (commands_of w.plan) m ≡ Some d → list_for w.plan d.command ≡ Some list → ⊥
+no_list_there w n c call faulty on m d list place at listed =
+    none-some list (sym on.unlisted ∙ ap (λ (x : Placed). list_for w.plan x.command) (sym (ready_is w n m c d on.ready place at)) ∙ listed)
 
 abbrev GoesByList : Command → List Reply → Call → NetList → Option NetList → Type 0
 GoesByList c rs call list o = (o ≡ Some list) × (turn c (state_after list c rs) ≡ Calls call)
