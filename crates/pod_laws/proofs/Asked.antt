@@ -36,7 +36,7 @@ use Rattle.pod_workers.proofs.Order.{ready_is}
 use Rattle.pod_workers.proofs.Planned.{LeftArePlanned}
 use Rattle.pod_workers.proofs.Sound.{sound_host}
 use Rattle.pod_workers.proofs.Deletable.{done_or_not, leased_or_not}
-use Rattle.pod_laws.specs.AskedFor.{begins, is_begin_of, is_done, AreAskedFor, HasNothingUnasked, NothingIsUnasked}
+use Rattle.pod_laws.specs.AskedFor.{begins, is_begin_of, is_done, AreAskedFor, HasNothingUnasked, IsAskedFor, NothingIsUnasked}
 use Rattle.pod_laws.specs.Moments.{own_entries}
 use Rattle.pod_laws.proofs.Achieved.{Achieved, achieved-start, achieved-step, begun-none, leased-done, leased-push, leased-same, leased_in, leases-one, leases-push, own-made, with_leases}
 use Rattle.pod_laws.proofs.Begins.{all-last, begin-apart, deletion-no_begin, last_begun-same, not-begins, outside-no_begin, plan-no_begin, question-no_begin}
@@ -61,10 +61,10 @@ leases-quiet m h e none = elim (eqb_tells e.command (m + 1)) [
   | inr f ↦ ap leases_in (replies_of-other m h e f.1)
 ]
 
-asked-quiet : (p : Plan) (h : List Entry) (e : Entry) (att : Att) → begins att e ≡ false → leases_in (e.reply ∷ []) ≡ [] → OnlyRemoves (after p.pods.opening h) (after p.pods.opening (h ++ e ∷ [])) → HasNothingUnasked p h att
-    → HasNothingUnasked p (h ++ e ∷ []) att
-asked-quiet p h e att not no_lease d (inl none) = inl (share-removes_none att (after p.pods.opening h) (after p.pods.opening (h ++ e ∷ [])) d none)
-asked-quiet p h e att not no_lease d (inr a) = inr (record {
+-- after an entry that doesn't begin the attachment, with objects that are still asked for
+asked-still : (p : Plan) (h : List Entry) (e : Entry) (att : Att) (a : IsAskedFor p h att) → begins att e ≡ false
+    → AreAskedFor a.list a.by.command (leases_in (replies_of a.place (h ++ e ∷ []))) (share_of att (after p.pods.opening (h ++ e ∷ []))) → IsAskedFor p (h ++ e ∷ []) att
+asked-still p h e att a not objects = record {
   place = a.place;
   by = a.by;
   list = a.list;
@@ -73,9 +73,16 @@ asked-quiet p h e att not no_lease d (inr a) = inr (record {
   verb = a.verb;
   attachment = a.attachment;
   last = last_begun-same att h e not ∙ a.last;
-  objects = subst (λ g. AreAskedFor a.list a.by.command g (share_of att (after p.pods.opening (h ++ e ∷ [])))) (sym (leases-quiet a.place h e no_lease))
-      (asked-removes a.list a.by.command (leases_in (replies_of a.place h)) att (after p.pods.opening h) (after p.pods.opening (h ++ e ∷ [])) d a.objects);
-})
+  objects = objects;
+}
+
+asked-quiet : (p : Plan) (h : List Entry) (e : Entry) (att : Att) → begins att e ≡ false → leases_in (e.reply ∷ []) ≡ [] → OnlyRemoves (after p.pods.opening h) (after p.pods.opening (h ++ e ∷ [])) → HasNothingUnasked p h att
+    → HasNothingUnasked p (h ++ e ∷ []) att
+asked-quiet p h e att not no_lease d (inl none) = inl (share-removes_none att (after p.pods.opening h) (after p.pods.opening (h ++ e ∷ [])) d none)
+asked-quiet p h e att not no_lease d (inr a) =
+    inr (asked-still p h e att a not
+    (subst (λ g. AreAskedFor a.list a.by.command g (share_of att (after p.pods.opening (h ++ e ∷ [])))) (sym (leases-quiet a.place h e no_lease))
+    (asked-removes a.list a.by.command (leases_in (replies_of a.place h)) att (after p.pods.opening h) (after p.pods.opening (h ++ e ∷ [])) d a.objects)))
 
 abbrev NextAsked : World → ℕ → Att → Bool → Call → Type 0
 NextAsked w n att faulty call = HasNothingUnasked w.plan (w.history ++ entry_of (host_of w) n call faulty ∷ []) att
@@ -263,18 +270,9 @@ other-asked w n c list call faulty att on differ own was =
           let by : a.by ≡ c = ready_is w n a.place c a.by on.ready place a.there in
           let att_is : att_of c.command ≡ att = ap (λ (x : Placed). att_of x.command) (sym by) ∙ a.attachment in
           both_ways (att_eq (att_of c.command) att) differ (ap (att_eq (att_of c.command)) (sym att_is) ∙ att_eq-refl (att_of c.command)) in
-          inr (record {
-            place = a.place;
-            by = a.by;
-            list = a.list;
-            there = a.there;
-            listed = a.listed;
-            verb = a.verb;
-            attachment = a.attachment;
-            last = last_begun-same att h e (not-begins att e (begin-apart (att_of c.command) att call differ own)) ∙ a.last;
-            objects = subst (λ g. AreAskedFor a.list a.by.command g (share_of att (after w.plan.pods.opening (h ++ e ∷ [])))) (sym (ap leases_in (replies_of-other a.place h e far)))
-                (subst (AreAskedFor a.list a.by.command (leases_in (replies_of a.place h))) (sym same_share) a.objects);
-          })
+          inr (asked-still w.plan h e att a (not-begins att e (begin-apart (att_of c.command) att call differ own))
+          (subst (λ g. AreAskedFor a.list a.by.command g (share_of att (after w.plan.pods.opening (h ++ e ∷ [])))) (sym (ap leases_in (replies_of-other a.place h e far)))
+          (subst (AreAskedFor a.list a.by.command (leases_in (replies_of a.place h))) (sym same_share) a.objects)))
     ]
 
 abbrev AllAsked : Plan → List Entry → Type 0

@@ -134,17 +134,23 @@ was_added w legal n c list r at listed is =
       | inr cut ↦ absurd (both_ways (is_cut_off (answers.Added r)) refl cut)
     ]
 
+-- a run that was refused ended so
+refused-ending : (list : NetList) (c : Command) (given : List Addr) (ending : Ending) (error : CniError) → Says list c given ending (answers.Refused error) → (cause : Cause) × (error ≡ error_of list.version c cause) × (ending ≡ Refused cause)
+refused-ending list c given Added error says = cc
+refused-ending list c given Yes error says = cc
+refused-ending list c given (Skipped skip) error says = cc
+refused-ending list c given Versions error says = cc
+refused-ending list c given (Refused cause) error says = (cause, let e = says in cc, refl)
+
 abbrev IsRefusedWith : NetList → Command → List Entry → Share → CniError → Type 0
 IsRefusedWith list c es s error = (cause : Cause) × (error ≡ error_of list.version c cause) × IsRefusedFor c es s cause
 
 refused-by : (c : Command) (list : NetList) (es : List Entry) (s : Share) (error : CniError) (ending : Ending) (given : List Addr) → c.verb ≡ verbs.Add → Says list c given ending (answers.Refused error) → Ends c es ending s → IsRefusedWith list c es s error
-refused-by c list es s error Added given verb says ends = cc
-refused-by c list es s error Yes given verb says ends = cc
-refused-by c list es s error (Skipped skip) given verb says ends = cc
-refused-by c list es s error Versions given verb says ends = cc
-refused-by c list es s error (Refused cause) given verb says ends =
-    elim ends [
-      | inl why ↦ (cause, let e = says in cc, why.why)
+refused-by c list es s error ending given verb says ends =
+    let r = refused-ending list c given ending error says in
+    let by_cause : Ends c es (Refused r.0) s = subst (λ x. Ends c es x s) r.2 ends in
+    elim by_cause [
+      | inl why ↦ (r.0, r.1, why.why)
       | inr (inl del) ↦ absurd (not-both c verb del.verb)
       | inr (inr other) ↦ absurd (subst IsOtherVerb verb other)
     ]
@@ -199,14 +205,12 @@ abbrev IsUndeletedWith : NetList → Command → List Entry → CniError → Typ
 IsUndeletedWith list c es error = (cause : Cause) × (error ≡ error_of list.version c cause) × (IsUndeletedByWords c es cause ⊎ IsUndeletedByFault c es cause)
 
 undeleted-by : (c : Command) (list : NetList) (es : List Entry) (s : Share) (error : CniError) (ending : Ending) (given : List Addr) → c.verb ≡ verbs.Del → Says list c given ending (answers.Refused error) → Ends c es ending s → IsUndeletedWith list c es error
-undeleted-by c list es s error Added given verb says ends = cc
-undeleted-by c list es s error Yes given verb says ends = cc
-undeleted-by c list es s error (Skipped skip) given verb says ends = cc
-undeleted-by c list es s error Versions given verb says ends = cc
-undeleted-by c list es s error (Refused cause) given verb says ends =
-    elim ends [
+undeleted-by c list es s error ending given verb says ends =
+    let r = refused-ending list c given ending error says in
+    let by_cause : Ends c es (Refused r.0) s = subst (λ x. Ends c es x s) r.2 ends in
+    elim by_cause [
       | inl add ↦ absurd (not-both c add.verb verb)
-      | inr (inl why) ↦ (cause, let e = says in cc, why.why)
+      | inr (inl why) ↦ (r.0, r.1, why.why)
       | inr (inr other) ↦ absurd (subst IsOtherVerb verb other)
     ]
 
