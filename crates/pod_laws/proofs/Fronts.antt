@@ -6,6 +6,7 @@ use Rattle.std.proofs.lemmas.Bool.{and_parts}
 use Rattle.std.specs.Prelude.{filter, if◌then◌else◌}
 use Rattle.std.specs.List.{list_all}
 use Rattle.cni_addr.specs.declared.address.Addr.{Addr}
+use Rattle.cni_result.proofs.ReadAgain.{everywhere}
 use Rattle.net_conf.specs.declared.first.First.{First}
 use Rattle.net_conf.specs.declared.first.First.TheVariants.{Bridge, Ptp, Macvlan}
 use Rattle.net_conf.specs.declared.list.NetList.{NetList}
@@ -44,13 +45,23 @@ begins-more xs ys = (ys, refl)
 begins-on : {X : Type 0} (xs ys zs : List X) → BeginsWith ys xs → BeginsWith zs ys → BeginsWith zs xs
 begins-on xs ys zs h g = (h.0 ++ g.0, g.1 ∙ ap (λ l. l ++ g.0) h.1 ∙ append_assoc xs h.0 g.0)
 
-among-more : {X : Type 0} (xs all : List X) (y : X) → AreAmong xs all → AreAmong xs (y ∷ all)
-among-more [] all y h = tt
-among-more (x ∷ xs) all y h = (inr h.0, among-more xs all y h.1)
+among-left : {X : Type 0} (x : X) (xs ys : List X) → IsAmong x xs → IsAmong x (xs ++ ys)
+among-left x [] ys h = absurd h
+among-left x (z ∷ zs) ys h = elim h [ inl e ↦ inl e | inr more ↦ inr (among-left x zs ys more) ]
+
+among-right : {X : Type 0} (x : X) (xs ys : List X) → IsAmong x ys → IsAmong x (xs ++ ys)
+among-right x [] ys h = h
+among-right x (z ∷ zs) ys h = inr (among-right x zs ys h)
+
+pub are-left : {X : Type 0} (all xs ys : List X) → AreAmong all xs → AreAmong all (xs ++ ys)
+are-left all xs ys h = everywhere (λ x. IsAmong x xs) (λ x. IsAmong x (xs ++ ys)) all (λ x. among-left x xs ys) h
+
+pub are-right : {X : Type 0} (all xs ys : List X) → AreAmong all ys → AreAmong all (xs ++ ys)
+are-right all xs ys h = everywhere (λ x. IsAmong x ys) (λ x. IsAmong x (xs ++ ys)) all (λ x. among-right x xs ys) h
 
 among-append : {X : Type 0} (xs rest : List X) → AreAmong xs (xs ++ rest)
 among-append [] rest = tt
-among-append (x ∷ xs) rest = (inl refl, among-more xs (xs ++ rest) x (among-append xs rest))
+among-append (x ∷ xs) rest = (inl refl, are-right xs (x ∷ []) (xs ++ rest) (among-append xs rest))
 
 pub among-front : {X : Type 0} (long short : List X) → BeginsWith long short → AreAmong short long
 among-front long short h = subst (AreAmong short) (sym h.1) (among-append short h.0)

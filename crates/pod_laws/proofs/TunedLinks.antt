@@ -12,7 +12,6 @@ use Rattle.net_conf.specs.declared.chained.Chained.{Chained}
 use Rattle.net_conf.specs.declared.chained.Chained.TheVariants.{Portmap, Firewall, Tuning}
 use Rattle.net_conf.specs.declared.list.NetList.{NetList}
 use Rattle.kernel_types.proofs.ListLemmas.{list_any-append_none}
-use Rattle.cni_addr.specs.Lists.{IsAmong}
 use Rattle.kernel_types.specs.declared.object.Att.{Att}
 use Rattle.kernel_types.specs.declared.call.Call.{Call}
 use Rattle.kernel_types.specs.declared.call.Call.TheVariants.{VethAdd, MacvlanAdd, LinkSet, RuleAppend, SettingSet, CachePut}
@@ -27,7 +26,7 @@ use Rattle.cni_verbs.specs.Wanted.{calls_after, chained_calls, all_chained_calls
 use Rattle.pod_workers.proofs.BackCalls.{PassesFirst, passes-after}
 use Rattle.pod_laws.specs.AskedFor.{AreAmong, links_after_part, is_tuning, tunes_once, EachLinkIsWanted}
 use Rattle.pod_laws.proofs.Achieved.{with_leases}
-use Rattle.pod_laws.proofs.Fronts.{links-calls, untuned-links}
+use Rattle.pod_laws.proofs.Fronts.{are-left, are-right, links-calls, untuned-links}
 use Rattle.cni_verbs.proofs.WantedShare.{makes-wanted}
 
 -- ---- calls that change links
@@ -165,22 +164,6 @@ once-back list att netns mappings addrs h =
     (once-then_none chain put (once-all_chained list.chained att netns mappings (first_plugin_result list att netns addrs) h) refl)
 
 -- ---- links
-
-among-left : {X : Type 0} (x : X) (xs ys : List X) → IsAmong x xs → IsAmong x (xs ++ ys)
-among-left x [] ys h = absurd h
-among-left x (z ∷ zs) ys h = elim h [ inl e ↦ inl e | inr more ↦ inr (among-left x zs ys more) ]
-
-among-right : {X : Type 0} (x : X) (xs ys : List X) → IsAmong x ys → IsAmong x (xs ++ ys)
-among-right x [] ys h = h
-among-right x (z ∷ zs) ys h = inr (among-right x zs ys h)
-
-are-left : {X : Type 0} (links xs ys : List X) → AreAmong links xs → AreAmong links (xs ++ ys)
-are-left [] xs ys h = tt
-are-left (x ∷ more) xs ys h = (among-left x xs ys h.0, are-left more xs ys h.1)
-
-are-right : {X : Type 0} (links xs ys : List X) → AreAmong links ys → AreAmong links (xs ++ ys)
-are-right [] xs ys h = tt
-are-right (x ∷ more) xs ys h = (among-right x xs ys h.0, are-right more xs ys h.1)
 
 pub each_link_is_wanted : EachLinkIsWanted
 each_link_is_wanted list c given links once a =

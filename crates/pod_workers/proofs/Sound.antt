@@ -53,6 +53,7 @@ use Rattle.pod_workers.specs.declared.plan.Next.{Next}
 use Rattle.pod_workers.specs.declared.plan.Next.TheVariants as next
 use Rattle.pod_workers.specs.declared.plan.Plan.{Plan}
 use Rattle.pod_workers.proofs.Asked.{IsQuestionOf}
+use Rattle.pod_workers.proofs.Each.{each-append}
 use Rattle.pod_workers.proofs.Elements.{slice_get-middle}
 use Rattle.pod_workers.proofs.Planned.{IsOutside, IsRest, LeftArePlanned, LeftIsOutside, left-are-planned, left-is-outside}
 use Rattle.pod_workers.proofs.PlannedCalls.{IsPlanned}
@@ -67,10 +68,6 @@ list_all-at p (y ∷ ys) zero x h at = let e : y ≡ x = same_Some y x at in sub
 list_all-at p (y ∷ ys) (suc i) x h at = list_all-at p ys i x (grind (arith, h)) at
 
 -- ---- the last address of a pool
-
-each-push : (p : Plan) (xs : List Last) (x : Last) → AreLastsOfSets p xs → IsLastOfSet p x → AreLastsOfSets p (xs ++ x ∷ [])
-each-push p [] x h g = (g, tt)
-each-push p (y ∷ ys) x h g = (h.0, each-push p ys x h.1 g)
 
 same-pool : (network : List ℕ) (number : ℕ) (x : Last) → is_of_pool network number x ≡ true → (x.network ≡ network) × (x.set ≡ number)
 same-pool network number x h = (
@@ -106,7 +103,7 @@ each-found p q (y ∷ ys) x h is = found-step p (q y) y x (find q ys) h.0 (λ re
 last-with : (p : Plan) (host : Host) (network : List ℕ) (number : ℕ) (a : Addr) (b : Bool) → AreLastsOfSets p host.lasts → IsLastOfSet p (record { network = network; set = number; addr = a })
     → AreLastsOfSets p (if b then record host { lasts = map (moved_last network number a) host.lasts } else record host { lasts = host.lasts ++ record { network = network; set = number; addr = a } ∷ [] }).lasts
 last-with p host network number a true h g = each-moved p network number a host.lasts h g
-last-with p host network number a false h g = each-push p host.lasts _ h g
+last-with p host network number a false h g = each-append (IsLastOfSet p) host.lasts (record { network = network; set = number; addr = a } ∷ []) h (g, tt)
 
 -- a lease moves the last of its pool to a candidate of its set
 lasts-lease : (p : Plan) (host : Host) (att : Att) (number : ℕ) (set : RangeSet) (list : NetList) (o : Option Addr)
