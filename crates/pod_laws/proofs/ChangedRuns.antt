@@ -42,7 +42,7 @@ abbrev AllMakeOne : Plan → List Entry → Type 0
 AllMakeOne p h = (m : ℕ) (d : Placed) → slice_get (commands_of p) m ≡ Some d → list_for p d.command ≡ None → MakesOne d.command (own_entries m h)
 
 -- the first call
-first-change : (c : Command) (s : State) (call : Call) → LeftIsOutside s → turn c s ≡ Calls call → s ≡ Changing call
+first-change : (c : Command) (s : State) (call : Call) → LeftIsOutside c s → turn c s ≡ Calls call → s ≡ Changing call
 unfolding turn
 first-change c (Over ending given) call starts is = cc
 first-change c (Changing change) call starts is = cc
@@ -103,7 +103,7 @@ finishes-over : (c : Command) (ending : Ending) (given : List Addr) (finish : Fi
 unfolding turn answer_outside
 finishes-over c ending given finish is = let e : ending ≡ finish.ending = cc in ap (outside_by c) (sym e)
 
-unchanged-by : (c : Command) (s : State) (a : Answer) (finish : Finish) → LeftIsOutside s → turn c s ≡ Finishes finish → a ≡ answer_outside c finish → IsChangedBy c s [] a
+unchanged-by : (c : Command) (s : State) (a : Answer) (finish : Finish) → LeftIsOutside c s → turn c s ≡ Finishes finish → a ≡ answer_outside c finish → IsChangedBy c s [] a
 unfolding turn
 unchanged-by c (Over ending given) a finish starts is a_is = a_is ∙ finishes-over c ending given finish is
 unchanged-by c (Changing change) a finish starts is a_is = cc

@@ -1,5 +1,5 @@
 -- What a run calls: its attachment, a question, or for a garbage collection; and what the world outside calls.
-use Rattle.std.proofs.Common.{◌≡◌, ◌≢◌, ℕ, Bool, true, false, List, [], ◌∷◌, length, Option, Some, None, slice_get, refl, ap, subst, inl, inr, ◌⊎◌, arith}
+use Rattle.std.proofs.Common.{◌≡◌, ◌≢◌, ℕ, Bool, true, false, List, [], ◌∷◌, length, Some, None, slice_get, refl, ap, subst, inl, inr, ◌⊎◌, arith}
 use Rattle.std.proofs.lemmas.Bool.{cases_Bool}
 use Rattle.std.proofs.lemmas.Slice.Eq.{bytes_eq-Decides}
 use Rattle.net_conf.specs.declared.list.NetList.{NetList}
@@ -12,28 +12,23 @@ use Rattle.kernel_types.specs.Isolation.{is_from_outside}
 use Rattle.kernel_types.proofs.Cases.{att_eq-refl}
 use Rattle.kernel_types.specs.declared.object.Att.{Att}
 use Rattle.kernel_types.specs.declared.object.Host.{Host}
-use Rattle.kernel_types.specs.declared.object.Table.{Table}
 use Rattle.kernel_types.specs.declared.call.Call.{Call}
 use Rattle.kernel_types.specs.declared.call.Call.TheVariants.{Begin, LeaseNext, CacheGet, OwnersOf, NsChange, Outside}
-use Rattle.kernel_types.specs.declared.call.Change.TheVariants.{DropLink}
 use Rattle.kernel_types.specs.declared.call.Kind.{Kind}
 use Rattle.kernel_types.specs.declared.call.Kind.TheVariants as kinds
-use Rattle.kernel_types.specs.declared.call.Reply.{Reply}
 use Rattle.plan_words.specs.PlanCalls.{is_call_of}
 use Rattle.plan_words.specs.Share.{share_of}
 use Rattle.plan_words.proofs.OtherCalls.{share-other, call-plan}
-use Rattle.cni_verbs.specs.CommandWords.{att_of, netns_refusal, drop_refusal}
-use Rattle.cni_verbs.proofs.AfterReplies.{after_replies-keeps}
-use Rattle.cni_verbs.specs.Script.{State, AtBegin, BeforeLeases, Leasing, AfterLeases, ReadingCache, Deleting, FindingEntry, Asking, Changing, Collecting, Over, Calls, turn, turn_of_work, flush_by, outside_of, outside_start, outside_advance}
+use Rattle.cni_verbs.specs.CommandWords.{att_of}
+use Rattle.cni_verbs.specs.Script.{State, AtBegin, BeforeLeases, Leasing, AfterLeases, ReadingCache, Deleting, FindingEntry, Asking, Changing, Collecting, Over, Calls, turn, turn_of_work}
 use Rattle.cni_verbs.specs.Sweep.{Job, Step, AskCached, Delete, Sweep, step_call}
 use Rattle.cni_verbs.specs.Wanted.{deletion}
 use Rattle.pod_file.specs.Commands.{is_of_network}
 use Rattle.pod_workers.specs.Plans.{Placed, commands_of}
 use Rattle.pod_workers.specs.World.{World, host_on, host_of, own_replies, entry_of}
 use Rattle.pod_workers.proofs.Order.{alone_apart}
-use Rattle.pod_workers.proofs.Planned.{LeftArePlanned, left-are-planned}
+use Rattle.pod_workers.proofs.Planned.{IsOutside, LeftArePlanned, LeftIsOutside, left-are-planned, left-is-outside}
 use Rattle.pod_workers.proofs.Sound.{sound_host}
-use Rattle.pod_workers.proofs.Replies.{by-unless}
 use Rattle.pod_laws.proofs.Removes.{OnlyRemoves, removes-nothing, removes-outside}
 use Rattle.pod_laws.proofs.States.{LeftFit, is_question, left-fit, question-leaves, asked-is_question}
 use Rattle.pod_laws.proofs.Steps.{Changes, GoesOn, on-entry}
@@ -94,35 +89,19 @@ pub record IsFromOutside (c : Command) (call : Call) : Type 0 where
   pub call_is : is_from_outside call ≡ true
   pub verb_is : is_of_network c.verb ≡ false
 
-abbrev FitsOutside : Command → State → Type 0
-FitsOutside c (Changing change) = IsFromOutside c change
-FitsOutside c (Over ending given) = Unit {0}
-FitsOutside c _ = ⊥
+outside-call : (call : Call) → IsOutside call → is_from_outside call ≡ true
+outside-call (NsChange name add) h = refl
+outside-call (Outside change) h = refl
+outside-call _ h = absurd h
 
-outside-flush : (c : Command) (o : Option Table) → c.verb ≡ verbs.Flush → FitsOutside c (flush_by o)
-outside-flush c None is = tt
-outside-flush c (Some table) is = record { call_is = refl; verb_is = ap is_of_network is }
-
-outside-begun : (c : Command) (v : Verb) → c.verb ≡ v → FitsOutside c (outside_of v c)
-outside-begun c verbs.NsAdd is = by-unless (FitsOutside c) (netns_refusal c) (Changing (NsChange c.netns true)) (λ cause. tt) (λ none. record { call_is = refl; verb_is = ap is_of_network is })
-outside-begun c verbs.NsDel is = by-unless (FitsOutside c) (netns_refusal c) (Changing (NsChange c.netns false)) (λ cause. tt) (λ none. record { call_is = refl; verb_is = ap is_of_network is })
-outside-begun c verbs.Drop is = by-unless (FitsOutside c) (drop_refusal c) (Changing (Outside (DropLink (record { ns = c.netns; name = c.ifname })))) (λ cause. tt) (λ none. record { call_is = refl; verb_is = ap is_of_network is })
-outside-begun c verbs.Flush is = outside-flush c c.table is
-outside-begun c _ is = tt
-
-outside-advance : (c : Command) (number : ℕ) (s : State) (r : Reply) → FitsOutside c s → FitsOutside c (outside_advance number s r)
-outside-advance c number (Changing change) r h = tt
-outside-advance c number (Over ending given) r h = tt
-outside-advance c number _ r h = absurd h
-
-outside-turn : (c : Command) (s : State) (call : Call) → FitsOutside c s → turn c s ≡ Calls call → IsFromOutside c call
+outside-turn : (c : Command) (s : State) (call : Call) → LeftIsOutside c s → turn c s ≡ Calls call → IsFromOutside c call
 unfolding turn
-outside-turn c (Changing change) call h is = subst (IsFromOutside c) (let e : change ≡ call = cc in e) h
+outside-turn c (Changing change) call h is = subst (IsFromOutside c) (let e : change ≡ call = cc in e) (record { call_is = outside-call change h.0; verb_is = h.1 })
 outside-turn c (Over ending given) call h is = cc
 outside-turn c _ call h is = absurd h
 
 pub change-of : (w : World) (n : ℕ) (c : Placed) (call : Call) (faulty : Bool) → Changes w n c call faulty → IsFromOutside c.command call
-change-of w n c call faulty on = outside-turn c.command _ call (after_replies-keeps (FitsOutside c.command) outside_advance 0 (outside_start c.command) (own_replies w n) (outside-advance c.command) (outside-begun c.command c.command.verb refl)) on.turn_is
+change-of w n c call faulty on = outside-turn c.command _ call (left-is-outside c.command (own_replies w n)) on.turn_is
 
 -- it only removes
 pub removes-changed : (w : World) (n : ℕ) (c : Placed) (call : Call) (faulty : Bool) → Changes w n c call faulty → OnlyRemoves (host_of w) (host_on (host_of w) (entry_of (host_of w) n call faulty))

@@ -11,6 +11,7 @@ use Rattle.net_conf.specs.declared.list.NetList.{NetList}
 use Rattle.pod_file.specs.declared.command.Command.{Command}
 use Rattle.pod_file.specs.declared.command.Verb.{Verb}
 use Rattle.pod_file.specs.declared.command.Verb.TheVariants as verbs
+use Rattle.pod_file.specs.Commands.{is_of_network}
 use Rattle.kernel_types.specs.Allowed.{IsAllowedChange}
 use Rattle.kernel_types.specs.Words.{is_host_ns}
 use Rattle.kernel_types.specs.declared.call.Call.{Call}
@@ -116,11 +117,11 @@ IsOutside (NsChange name add) = is_host_ns name ≡ false
 IsOutside (Outside change) = IsAllowedChange change
 IsOutside _ = ⊥
 
--- the one change is left, or nothing
-abbrev pub LeftIsOutside : State → Type 0
-LeftIsOutside (Changing change) = IsOutside change
-LeftIsOutside (Over ending given) = Unit {0}
-LeftIsOutside _ = ⊥
+-- the one change is left, of a verb that has no network, or nothing
+abbrev pub LeftIsOutside : Command → State → Type 0
+LeftIsOutside c (Changing change) = IsOutside change × (is_of_network c.verb ≡ false)
+LeftIsOutside c (Over ending given) = Unit {0}
+LeftIsOutside c _ = ⊥
 
 netns-place : (c : Command) → netns_refusal c ≡ None → HasPlace c
 unfolding netns_refusal
@@ -130,26 +131,21 @@ drop-place : (c : Command) → drop_refusal c ≡ None → HasPlace c
 unfolding drop_refusal
 drop-place c none = names-place (record no_faults { netns = is_host_ns c.netns; ifname = not (is_interface_name c.ifname) }) none
 
-outside-flush : (o : Option Table) → LeftIsOutside (flush_by o)
-outside-flush None = tt
-outside-flush (Some table) = tt
+outside-flush : (c : Command) (o : Option Table) → is_of_network c.verb ≡ false → LeftIsOutside c (flush_by o)
+outside-flush c None far = tt
+outside-flush c (Some table) far = (tt, far)
 
-outside-of : (c : Command) (v : Verb) → LeftIsOutside (outside_of v c)
-outside-of c verbs.NsAdd = by-unless LeftIsOutside (netns_refusal c) (Changing (NsChange c.netns true)) (λ cause. tt) (netns-place c)
-outside-of c verbs.NsDel = by-unless LeftIsOutside (netns_refusal c) (Changing (NsChange c.netns false)) (λ cause. tt) (netns-place c)
-outside-of c verbs.Drop = by-unless LeftIsOutside (drop_refusal c) (Changing (Outside (DropLink _))) (λ cause. tt) (drop-place c)
-outside-of c verbs.Flush = outside-flush c.table
-outside-of c verbs.Add = tt
-outside-of c verbs.Check = tt
-outside-of c verbs.Del = tt
-outside-of c verbs.Gc = tt
-outside-of c verbs.Status = tt
-outside-of c verbs.Version = tt
+outside-of : (c : Command) (v : Verb) → c.verb ≡ v → LeftIsOutside c (outside_of v c)
+outside-of c verbs.NsAdd is = by-unless (LeftIsOutside c) (netns_refusal c) (Changing (NsChange c.netns true)) (λ cause. tt) (λ none. (netns-place c none, ap is_of_network is))
+outside-of c verbs.NsDel is = by-unless (LeftIsOutside c) (netns_refusal c) (Changing (NsChange c.netns false)) (λ cause. tt) (λ none. (netns-place c none, ap is_of_network is))
+outside-of c verbs.Drop is = by-unless (LeftIsOutside c) (drop_refusal c) (Changing (Outside (DropLink (record { ns = c.netns; name = c.ifname })))) (λ cause. tt) (λ none. (drop-place c none, ap is_of_network is))
+outside-of c verbs.Flush is = outside-flush c c.table (ap is_of_network is)
+outside-of c _ is = tt
 
-outside-advance : (number : ℕ) (s : State) (r : Reply) → LeftIsOutside s → LeftIsOutside (outside_advance number s r)
-outside-advance number (Changing change) r h = tt
-outside-advance number (Over ending given) r h = tt
-outside-advance number _ r h = absurd h
+outside-advance : (c : Command) (number : ℕ) (s : State) (r : Reply) → LeftIsOutside c s → LeftIsOutside c (outside_advance number s r)
+outside-advance c number (Changing change) r h = tt
+outside-advance c number (Over ending given) r h = tt
+outside-advance c number _ r h = absurd h
 
-pub left-is-outside : (c : Command) (rs : List Reply) → LeftIsOutside (outside_after c rs)
-left-is-outside c rs = after_replies-keeps LeftIsOutside outside_advance 0 (outside_start c) rs outside-advance (outside-of c c.verb)
+pub left-is-outside : (c : Command) (rs : List Reply) → LeftIsOutside c (outside_after c rs)
+left-is-outside c rs = after_replies-keeps (LeftIsOutside c) outside_advance 0 (outside_start c) rs (outside-advance c) (outside-of c c.verb refl)

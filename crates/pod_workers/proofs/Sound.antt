@@ -278,9 +278,9 @@ change-well p host (NsChange name add) sound lasts place = stays-well p host (Ns
 change-well p host (Outside change) sound lasts place = stays-well p host (Outside change) sound lasts refl place
 change-well p host _ sound lasts place = absurd place
 
-outside-well : (p : Plan) (host : Host) (c : Command) (s : State) (call : Call) → IsSound host → AreLastsOfSets p host.lasts → LeftIsOutside s → turn c s ≡ Calls call → GoesWell p host call
+outside-well : (p : Plan) (host : Host) (c : Command) (s : State) (call : Call) → IsSound host → AreLastsOfSets p host.lasts → LeftIsOutside c s → turn c s ≡ Calls call → GoesWell p host call
 unfolding turn
-outside-well p host c (Changing change) call sound lasts left is = subst (GoesWell p host) (let e : change ≡ call = cc in e) (change-well p host change sound lasts left)
+outside-well p host c (Changing change) call sound lasts left is = subst (GoesWell p host) (let e : change ≡ call = cc in e) (change-well p host change sound lasts left.0)
 outside-well p host c (Over ending given) call sound lasts left is = cc
 outside-well p host c _ call sound lasts left is = absurd left
 

@@ -160,7 +160,7 @@ state-falls list c number n s host call faulty may planned is =
     let none = no-work (advance list c number s r) (host_on host (entry_of host n call faulty)) (true-advance IsNoCollection list c number s r (none-stays list c) tt) in
     omega arith
 
-outside-falls : (number : ℕ) (c : Command) (s : State) (r : Reply) (call : Call) → LeftIsOutside s → turn c s ≡ Calls call → outside_left (outside_advance number s r) < outside_left s
+outside-falls : (number : ℕ) (c : Command) (s : State) (r : Reply) (call : Call) → LeftIsOutside c s → turn c s ≡ Calls call → outside_left (outside_advance number s r) < outside_left s
 unfolding turn
 outside-falls number c (Changing change) r call left is = omega arith
 outside-falls number c (Over ending given) r call left is = cc
