@@ -20,7 +20,7 @@ import examples
 import index
 from program import TOP
 
-CRATES = {it.name: it for it in (TOP / "crates").iterdir() if (it / "src").is_dir()}
+CRATES = {it.name: it for it in index.crates()}
 SUFFIXES = (".antt", ".rt", ".md", ".json", ".py", ".txt", ".edit")
 ON_THE_CODE = ("ARCHITECTURE.md", "DECISIONS.md", "DEFINITIONS.md", "GUARANTEES.md")
 
@@ -30,13 +30,8 @@ def documents():
     yield from sorted((TOP / "docs").rglob("*.md"))
 
 
-def texts_of(folder):
-    found = []
-    for part in ("src", "specs"):
-        for path in sorted((folder / part).rglob("*")):
-            if path.suffix in (".rt", ".antt"):
-                found.append(path.read_text(encoding="utf-8"))
-    return "\n".join(found)
+def text_of(paths):
+    return "\n".join(it.read_text(encoding="utf-8") for it in paths)
 
 
 def holds(text, name):
@@ -87,9 +82,9 @@ def missing_definitions(text):
             folder = str(pathlib.Path(file).parent) if "/specs/" in file and not file.endswith("/") else folder
             path = TOP / "crates" / (file if "/" in file else f"{folder}/{file}")
             if path.is_dir():
-                found += "\n".join(it.read_text(encoding="utf-8") for it in path.rglob("*.antt"))
+                found += text_of(path.rglob("*.antt"))
             elif path.exists():
-                found += path.read_text(encoding="utf-8")
+                found += text_of([path])
             else:
                 yield f"no file {path.relative_to(TOP)}"
         for name in re.findall(r"`([^`]+)`", cells[0]):
@@ -113,7 +108,7 @@ def wrong_in(path, sources, program):
 
 def main():
     program = str(pathlib.Path(sys.argv[1]).resolve()) if len(sys.argv) > 1 else None
-    sources = {name: texts_of(folder) for name, folder in CRATES.items()}
+    sources = {name: text_of(index.files_of(crate)) for name, crate in CRATES.items()}
     wrong = [f"{path.relative_to(TOP)}: {it}" for path in documents() for it in wrong_in(path, sources, program)]
     wrong += examples.unlike_crate()
     if not index.INDEX.exists() or index.INDEX.read_text(encoding="utf-8") != index.index():

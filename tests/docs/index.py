@@ -58,17 +58,22 @@ def names_in(path):
     return first_comment(text, "//!"), ITEM.findall(without_tests(text))
 
 
+def files_of(crate):
+    """The files of a crate that hold its definitions and its code."""
+    for part, suffix in (("specs", ".antt"), ("src", ".rt")):
+        yield from sorted((crate / part).rglob(f"*{suffix}"))
+
+
 def index():
     lines = [HEAD]
     for crate in crates():
         lines.append(f"## {crate.name}\n")
-        for part, suffix in (("specs", ".antt"), ("src", ".rt")):
-            for path in sorted((crate / part).rglob(f"*{suffix}")):
-                said, names = names_in(path)
-                if not names:
-                    continue
-                unique = ", ".join(f"`{it}`" for it in dict.fromkeys(names))
-                lines.append(f"- `{path.relative_to(TOP / 'crates')}`: {said} {unique}")
+        for path in files_of(crate):
+            said, names = names_in(path)
+            if not names:
+                continue
+            unique = ", ".join(f"`{it}`" for it in dict.fromkeys(names))
+            lines.append(f"- `{path.relative_to(TOP / 'crates')}`: {said} {unique}")
         lines.append("")
     return "\n".join(lines).rstrip("\n") + "\n"
 
