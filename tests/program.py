@@ -1,5 +1,5 @@
 """What the scripts of tests/ and bench/ share: the program, the files that it reads in a folder of their own, a run of it, and network
-lists as values."""
+lists and commands as values."""
 
 import contextlib
 import json
@@ -20,8 +20,12 @@ def program_of(words):
     return str(pathlib.Path(words[0]).resolve() if words else BUILT)
 
 
-def compact(value):
-    return json.dumps(value, separators=(",", ":"))
+def compact(value, ensure_ascii=True):
+    return json.dumps(value, separators=(",", ":"), ensure_ascii=ensure_ascii)
+
+
+def read_json(path):
+    return json.loads(path.read_text(encoding="utf-8"))
 
 
 @contextlib.contextmanager
@@ -40,6 +44,10 @@ def in_folder(files):
 def run(program, words, folder, stdout=subprocess.PIPE):
     """The run of the program with these words in this folder, as it ended."""
     return subprocess.run([program, *words], cwd=folder, stdout=stdout, check=False, timeout=LIMIT)
+
+
+def lines_of(printed):
+    return printed.decode("utf-8").splitlines()
 
 
 def least(runs, seconds):
@@ -70,3 +78,12 @@ def bridge(**ipam):
 
 def network_list(name, *plugins):
     return {"cniVersion": "1.1.0", "name": name, "plugins": [*plugins]}
+
+
+# a pod file without commands
+NO_PODS = {"rounds": []}
+
+
+def command(verb, network, container, netns):
+    """A command of a pod file."""
+    return {"verb": verb, "network": network, "container": container, "netns": netns}

@@ -18,7 +18,8 @@ sys.dont_write_bytecode = True
 
 import examples
 import index
-from program import TOP
+from program import TOP, program_of
+from written import is_other
 
 CRATES = {it.name: it for it in index.crates()}
 SUFFIXES = (".antt", ".rt", ".md", ".json", ".py", ".txt", ".edit")
@@ -107,11 +108,11 @@ def wrong_in(path, sources, program):
 
 
 def main():
-    program = str(pathlib.Path(sys.argv[1]).resolve()) if len(sys.argv) > 1 else None
+    program = program_of(sys.argv[1:]) if sys.argv[1:] else None
     sources = {name: text_of(index.files_of(crate)) for name, crate in CRATES.items()}
     wrong = [f"{path.relative_to(TOP)}: {it}" for path in documents() for it in wrong_in(path, sources, program)]
     wrong += examples.unlike_crate()
-    if not index.INDEX.exists() or index.INDEX.read_text(encoding="utf-8") != index.index():
+    if is_other(index.INDEX, index.index()):
         wrong.append("docs/INDEX.md isn't what tests/docs/index.py prints")
     for it in wrong:
         print(f"docs: {it}")

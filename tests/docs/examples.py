@@ -13,7 +13,7 @@ import sys
 
 sys.path.insert(0, str(pathlib.Path(__file__).resolve().parent.parent))
 
-from program import TOP, in_folder, network_list, run
+from program import NO_PODS, TOP, in_folder, network_list, run
 
 FIRST = ("bridge", "ptp", "macvlan")
 # each file of examples/first, and the file of crates/cnitool that says the same
@@ -46,16 +46,15 @@ def wrong_sessions(text, program):
 
 def files_of(value):
     """The pod file and the lists by which an example is read."""
-    no_pods = {"rounds": []}
     if "rounds" in value:
         networks = {command["network"] for a_round in value["rounds"] for command in a_round if "network" in command}
         return [value, *(network_list(name, {"type": "bridge"}) for name in sorted(networks))]
     if "plugins" in value:
-        return [no_pods, value]
+        return [NO_PODS, value]
     if value["type"] == "host-local":
-        return [no_pods, network_list("example", {"type": "bridge", "ipam": value})]
+        return [NO_PODS, network_list("example", {"type": "bridge", "ipam": value})]
     plugins = [value] if value["type"] in FIRST else [{"type": "bridge"}, value]
-    return [no_pods, network_list("example", *plugins)]
+    return [NO_PODS, network_list("example", *plugins)]
 
 
 def unread_examples(text, program):

@@ -1,11 +1,10 @@
 """What the `host-local` plugin did, as hostlocal.json has it: its own tests of its allocator, and sequences that were run."""
 
-import json
-import pathlib
+from program import TOP, read_json
 
 
 def recordings():
-    return json.loads((pathlib.Path(__file__).resolve().parent / "hostlocal.json").read_text(encoding="utf-8"))
+    return read_json(TOP / "tests/peers/hostlocal.json")
 
 
 def is_ipv6(given_set):

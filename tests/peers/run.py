@@ -24,7 +24,7 @@ import sys
 sys.dont_write_bytecode = True
 sys.path.insert(0, str(pathlib.Path(__file__).resolve().parent.parent))
 
-from program import bridge, count_failed, in_folder, network_list, program_of, run
+from program import bridge, command, count_failed, in_folder, lines_of, network_list, program_of, run
 from recorded import is_ipv6, recordings
 
 ADDRESSES = ("rangeStart", "rangeEnd", "gateway")
@@ -91,7 +91,7 @@ def pod_file(operations):
     for operation in operations:
         verb = "ADD" if "add" in operation else "DEL"
         container = operation[verb.lower()]
-        rounds.append([{"verb": verb, "network": "peer", "container": container, "netns": f"/ns/{container}"}])
+        rounds.append([command(verb, "peer", container, f"/ns/{container}")])
     return {"opening": {"namespaces": [f"/ns/{container}" for container in containers]}, "rounds": rounds}
 
 
@@ -121,7 +121,7 @@ def printed(program, files):
     """The status of a run with these files, and the lines that it prints."""
     with in_folder(files) as folder:
         done = run(program, ["--dump", *files], folder)
-    return done.returncode, [json.loads(line) for line in done.stdout.decode("utf-8").splitlines()]
+    return done.returncode, [json.loads(line) for line in lines_of(done.stdout)]
 
 
 def differences(program, recorded):

@@ -8,14 +8,13 @@ The rows are those of pod_files.json. A file that has white space around it, or 
 line of a table, and is left out there.
 """
 
-import json
 import pathlib
 import sys
 
 sys.dont_write_bytecode = True
 sys.path.insert(0, str(pathlib.Path(__file__).resolve().parent.parent))
 
-from program import TOP
+from program import TOP, read_json
 from written import settle
 
 TARGET = TOP / "crates/pod_file/src/tests/rows.rt"
@@ -31,7 +30,7 @@ def line(row):
 
 
 def main():
-    rows = json.loads((TOP / "tests/readers/pod_files.json").read_text(encoding="utf-8"))
+    rows = read_json(TOP / "tests/readers/pod_files.json")
     lines = [line(row) for row in rows if fits(row["input"])]
     return settle({TARGET: BEGIN + "\n".join(lines) + '"#;\n'})
 

@@ -31,9 +31,8 @@ import sys
 sys.dont_write_bytecode = True
 sys.path.insert(0, str(pathlib.Path(__file__).resolve().parent.parent))
 
-from program import DIRECTORY, count_failed, in_folder, program_of, run
+from program import DIRECTORY, NO_PODS, TOP, compact, count_failed, in_folder, lines_of, program_of, read_json, run
 
-HERE = pathlib.Path(__file__).resolve().parent
 LATER = re.compile(r"invalid pod file: no network for command \d+")
 LEASED = re.compile(r'(?<="ips":\[{"address":")([^"]*)')
 
@@ -80,14 +79,12 @@ def by_command(lines, key):
 def reader_rows():
     """The tables of what readers take and refuse, each row as a run."""
     for table, file in (("network_lists", "net.json"), ("pod_files", "pods.json")):
-        path = HERE.parent / "readers" / f"{table}.json"
-        found = json.loads(path.read_text(encoding="utf-8")) if path.exists() else []
-        for number, row in enumerate(found, 1):
-            files = {"pods.json": {"rounds": []}, file: {"text": row["input"]}}
+        for number, row in enumerate(read_json(TOP / f"tests/readers/{table}.json"), 1):
+            files = {"pods.json": NO_PODS, file: {"text": row["input"]}}
             run_row = {"name": f"{table} {number}, {row['about']}", "files": files, "words": list(files)}
             if "code" in row:
                 error = {"cniVersion": "1.1.0", "code": row["code"], "details": "", "msg": row["msg"]}
-                line = json.dumps({"error": error, "file": file}, separators=(",", ":"), ensure_ascii=False)
+                line = compact({"error": error, "file": file}, ensure_ascii=False)
                 yield {**run_row, "status": 3, "stdout": [line]}
             elif file == "net.json":
                 yield {**run_row, "status": 0, "stdout": []}
@@ -116,12 +113,12 @@ def trace_differences(row, trace):
 def differences(row, status, out):
     """What is other than expected, a text each."""
     if "later" in row:
-        if not is_read(status, out.decode("utf-8").splitlines()):
+        if not is_read(status, lines_of(out)):
             yield f"status {status}: {out.decode('utf-8')}"
         return
     if status != row["status"]:
         yield f"status {status} and not {row['status']}"
-    lines = out.decode("utf-8").splitlines()
+    lines = lines_of(out)
     if out and not out.endswith(b"\n"):
         yield "no line feed at the end"
     read = [json.loads(line) for line in lines]
@@ -157,7 +154,7 @@ def found_of(program, row, lists):
 def main():
     program = program_of(sys.argv[1:])
     word = sys.argv[2] if len(sys.argv) > 2 else ""
-    table = json.loads((HERE / "rows.json").read_text(encoding="utf-8"))
+    table = read_json(TOP / "tests/rows/rows.json")
     rows = [row for row in [*table["rows"], *reader_rows()] if word in row["name"]]
     failed = count_failed((row["name"], found_of(program, row, table["lists"])) for row in rows)
     print(f"rows: {len(rows) - failed} passed, {failed} failed")
