@@ -15,7 +15,7 @@ import time
 sys.dont_write_bytecode = True
 sys.path.insert(0, str(pathlib.Path(__file__).resolve().parent.parent / "tests"))
 
-from program import bridge, compact, in_folder, least, network_list, program_of
+from program import NO_PODS, bridge, command, compact, in_folder, least, network_list, program_of
 
 # the most bytes of a file, and the most commands or range sets in it
 LIMIT = 16_777_216
@@ -25,9 +25,9 @@ RUNS = 3
 
 def pod_file(size):
     """A pod file of as many commands as there may be, of a network that no list has, of nearly that many bytes."""
-    command = {"verb": "DEL", "network": "none", "container": "c", "netns": "/ns/a"}
-    fill = (size - MOST * (len(compact(command)) + 16) - 64) // MOST
-    rounds = [[{**command, "args": "A=" + "b" * max(fill, 0)}] for _ in range(MOST)]
+    deleted = command("DEL", "none", "c", "/ns/a")
+    fill = (size - MOST * (len(compact(deleted)) + 16) - 64) // MOST
+    rounds = [[{**deleted, "args": "A=" + "b" * max(fill, 0)}] for _ in range(MOST)]
     return compact({"rounds": rounds}).encode()
 
 
@@ -45,14 +45,17 @@ def measured(program, words, folder):
     return time.perf_counter() - start, used.ru_maxrss * 1024
 
 
+def seconds(program, words, folder):
+    return measured(program, words, folder)[0]
+
+
 def row(name, program, before, file, whole):
     """Times the file behind the files before it, as it is and in brackets."""
-    words = [*before, file]
-    with in_folder({**before, file: b"[" + whole[: LIMIT - 2] + b"]"}) as folder:
-        alone = least(RUNS, lambda: measured(program, words, folder)[0])
-    with in_folder({**before, file: whole}) as folder:
-        read = least(RUNS, lambda: measured(program, words, folder)[0])
-        _, most = measured(program, words, folder)
+    files = {**before, file: whole}
+    alone = least(RUNS, seconds, program, {**before, file: b"[" + whole[: LIMIT - 2] + b"]"})
+    read = least(RUNS, seconds, program, files)
+    with in_folder(files) as folder:
+        _, most = measured(program, files, folder)
     print(
         f"{name:13} {len(whole):9} bytes {read:8.3f} s: x{read / alone:.2f} of reading the JSON alone, "
         f"peak memory x{most / len(whole):.1f} of the file",
@@ -63,7 +66,7 @@ def row(name, program, before, file, whole):
 def main():
     program = program_of(sys.argv[1:])
     row("pod file", program, {}, "pods.json", pod_file(LIMIT))
-    row("network list", program, {"pods.json": {"rounds": []}}, "net.json", list_of_sets())
+    row("network list", program, {"pods.json": NO_PODS}, "net.json", list_of_sets())
 
 
 if __name__ == "__main__":

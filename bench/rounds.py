@@ -21,7 +21,7 @@ import sys
 sys.dont_write_bytecode = True
 sys.path.insert(0, str(pathlib.Path(__file__).resolve().parent.parent / "tests"))
 
-from program import LIMIT, bridge, in_folder, least, network_list, program_of, run
+from program import LIMIT, bridge, command, least, network_list, program_of, run
 
 RUNS = 25
 NET = network_list("pods", bridge(subnet="10.0.0.0/8"))
@@ -30,7 +30,7 @@ STEPS = {"faults": 2, "gone": 5, "adds": 7, "dels": 8}
 
 
 def round_of(verb, count, faults):
-    made = ({"verb": verb, "network": "pods", "container": f"c{i}", "netns": f"/ns/{i}"} for i in range(count))
+    made = (command(verb, "pods", f"c{i}", f"/ns/{i}") for i in range(count))
     return [{**it, "faults": [1]} if faults else it for it in made]
 
 
@@ -58,9 +58,7 @@ def seconds(program, words, folder):
 
 
 def least_of(program, pods):
-    files = {"pods.json": pods, "net.json": NET}
-    with in_folder(files) as folder:
-        return least(RUNS, lambda: seconds(program, files, folder))
+    return least(RUNS, seconds, program, {"pods.json": pods, "net.json": NET})
 
 
 def timed(program, kind, count):

@@ -50,14 +50,15 @@ def lines_of(printed):
     return printed.decode("utf-8").splitlines()
 
 
-def least(runs, seconds):
-    """The least of the seconds that so many runs give, fewer where they take long; none where one isn't over in time."""
+def least(runs, seconds, program, files):
+    """The least of the seconds of so many runs with these files, fewer where they take long; none where one isn't over in time."""
     times = []
-    while len(times) < runs and sum(times) < LIMIT / 8:
-        taken = seconds()
-        if taken is None:
-            return None
-        times.append(taken)
+    with in_folder(files) as folder:
+        while len(times) < runs and sum(times) < LIMIT / 8:
+            taken = seconds(program, files, folder)
+            if taken is None:
+                return None
+            times.append(taken)
     return min(times)
 
 
