@@ -8,7 +8,7 @@ import subprocess
 import tempfile
 
 TOP = pathlib.Path(__file__).resolve().parent.parent
-BUILT = TOP / "crates" / "cnitool" / "out" / "cnitool"
+BUILT = TOP / (TOP / "tests/built.txt").read_text(encoding="utf-8").strip()
 # in place of a file's content: a folder is to have that name
 DIRECTORY = object()
 # the most seconds that a run may take
