@@ -37,6 +37,16 @@ pub enum WordsEnd {
     NoMemory,
 }
 
+impl From<NoMemory> for WordsEnd {
+    ghost use Rattle.tool_words.specs.declared.words.WordsEnd.TheVariants as ends;
+
+    ghost from_gives = { λ _ e. e ≡ ends.NoMemory };
+
+    fn from(_refused: NoMemory) -> WordsEnd {
+        WordsEnd::NoMemory
+    }
+}
+
 /// Reads the words, without the program's own name, as clap takes them (its documentation of `Command` and `Arg`).
 ///
 /// Words that clap takes are refused where they name more than 64 lists, or where PODS begins `gen:`.
@@ -44,10 +54,7 @@ pub fn read_words(alloc: Global, words: &[Text]) -> Result<Words, WordsEnd>
     ensures exact { Reads (words_of words.now) result }
     ensures limits { IfOk result IsWithinLimits }
 {
-    let matches = match parse(alloc, words) {
-        Ok(matches) => matches,
-        Err(end) => return Err(end),
-    };
+    let matches = parse(alloc, words)?;
     let Some(pods) = pods(&matches) else {
         return Err(WordsEnd::Usage);
     };
@@ -55,17 +62,15 @@ pub fn read_words(alloc: Global, words: &[Text]) -> Result<Words, WordsEnd>
     if !are_within(pods, lists) {
         return Err(WordsEnd::Usage);
     }
-    match names(alloc, pods, lists) {
-        Ok((pods, lists)) => Ok(Words {
-            threads: threads(&matches).unwrap_or(1),
-            stop_at: stop_at(&matches),
-            trace: flag(&matches, TRACE_FLAG),
-            dump: flag(&matches, DUMP_FLAG),
-            pods,
-            lists,
-        }),
-        Err(NoMemory) => Err(WordsEnd::NoMemory),
-    }
+    let (pods, lists) = names(alloc, pods, lists)?;
+    Ok(Words {
+        threads: threads(&matches).unwrap_or(1),
+        stop_at: stop_at(&matches),
+        trace: flag(&matches, TRACE_FLAG),
+        dump: flag(&matches, DUMP_FLAG),
+        pods,
+        lists,
+    })
 }
 
 fn are_within(pods: &str, lists: &[&str]) -> bool
@@ -98,12 +103,7 @@ mod tests {
     fn read(alloc: Global, line: &str) -> Result<Words, WordsEnd> {
         let mut words = Items::new(alloc);
         for word in line.split(' ') {
-            let Ok(word) = Text::of(alloc, word) else {
-                return Err(WordsEnd::NoMemory);
-            };
-            if words.push(word).is_err() {
-                return Err(WordsEnd::NoMemory);
-            }
+            words.push(Text::of(alloc, word)?)?;
         }
         read_words(alloc, words.as_slice())
     }
