@@ -24,7 +24,7 @@ use Rattle.clap.specs.declared.parser.matches.MatchedArg.{MatchedArg}
 use Rattle.clap.proofs.CallerLemmas.{entry_by_id, same_rules_by_id}
 use Rattle.clap.proofs.SimpleLemmas.{is_false, is_nil}
 use Rattle.clap.proofs.WalkLemmas.{both}
-use Rattle.tool_words.specs.Command.{the_app, counts_to, most_threads, greatest_entry}
+use Rattle.tool_words.specs.Command.{the_app, counts_to, most_threads, greatest_entry, threads_option, stop_at_option, trace_flag, dump_flag}
 use Rattle.tool_words.specs.Parse.{Passes}
 
 abbrev the_rules : List Rule
@@ -195,22 +195,22 @@ passes_at c m p is k name q inside id parser exact only no_help no_version named
   no_version = not_same name (codes "version") no_version;
 }) (not_same name [] named)
 
-pub passes-threads : (c : Command) (m : ArgMatches) → IsParsedFrom c m → app_of c ≡ the_app → Passes m (codes "threads") (counts_to most_threads)
+pub passes-threads : (c : Command) (m : ArgMatches) → IsParsedFrom c m → app_of c ≡ the_app → Passes m threads_option (counts_to most_threads)
 passes-threads c m p is =
-    passes_at c m p is 0 (codes "threads") (counts_to most_threads) (omega arith) (λ d. refl) (λ d. refl) (λ d. refl)
-    (λ e. six (λ j. bytes_eq (slice_index_or the_rules j (rule_of e)).id (codes "threads") ≡ true → j ≡ 0) (λ h. refl) apart apart apart apart apart) refl refl refl
+    passes_at c m p is 0 threads_option (counts_to most_threads) (omega arith) (λ d. refl) (λ d. refl) (λ d. refl)
+    (λ e. six (λ j. bytes_eq (slice_index_or the_rules j (rule_of e)).id threads_option ≡ true → j ≡ 0) (λ h. refl) apart apart apart apart apart) refl refl refl
 
-pub passes-stop_at : (c : Command) (m : ArgMatches) → IsParsedFrom c m → app_of c ≡ the_app → Passes m (codes "stop-at") (counts_to greatest_entry)
+pub passes-stop_at : (c : Command) (m : ArgMatches) → IsParsedFrom c m → app_of c ≡ the_app → Passes m stop_at_option (counts_to greatest_entry)
 passes-stop_at c m p is =
-    passes_at c m p is 1 (codes "stop-at") (counts_to greatest_entry) (omega arith) (λ d. refl) (λ d. refl) (λ d. refl)
-    (λ e. six (λ j. bytes_eq (slice_index_or the_rules j (rule_of e)).id (codes "stop-at") ≡ true → j ≡ 1) apart (λ h. refl) apart apart apart apart) refl refl refl
+    passes_at c m p is 1 stop_at_option (counts_to greatest_entry) (omega arith) (λ d. refl) (λ d. refl) (λ d. refl)
+    (λ e. six (λ j. bytes_eq (slice_index_or the_rules j (rule_of e)).id stop_at_option ≡ true → j ≡ 1) apart (λ h. refl) apart apart apart apart) refl refl refl
 
-pub passes-trace : (c : Command) (m : ArgMatches) → IsParsedFrom c m → app_of c ≡ the_app → Passes m (codes "trace") parser.Bool
+pub passes-trace : (c : Command) (m : ArgMatches) → IsParsedFrom c m → app_of c ≡ the_app → Passes m trace_flag parser.Bool
 passes-trace c m p is =
-    passes_at c m p is 2 (codes "trace") parser.Bool (omega arith) (λ d. refl) (λ d. refl) (λ d. refl)
-    (λ e. six (λ j. bytes_eq (slice_index_or the_rules j (rule_of e)).id (codes "trace") ≡ true → j ≡ 2) apart apart (λ h. refl) apart apart apart) refl refl refl
+    passes_at c m p is 2 trace_flag parser.Bool (omega arith) (λ d. refl) (λ d. refl) (λ d. refl)
+    (λ e. six (λ j. bytes_eq (slice_index_or the_rules j (rule_of e)).id trace_flag ≡ true → j ≡ 2) apart apart (λ h. refl) apart apart apart) refl refl refl
 
-pub passes-dump : (c : Command) (m : ArgMatches) → IsParsedFrom c m → app_of c ≡ the_app → Passes m (codes "dump") parser.Bool
+pub passes-dump : (c : Command) (m : ArgMatches) → IsParsedFrom c m → app_of c ≡ the_app → Passes m dump_flag parser.Bool
 passes-dump c m p is =
-    passes_at c m p is 3 (codes "dump") parser.Bool (omega arith) (λ d. refl) (λ d. refl) (λ d. refl)
-    (λ e. six (λ j. bytes_eq (slice_index_or the_rules j (rule_of e)).id (codes "dump") ≡ true → j ≡ 3) apart apart apart (λ h. refl) apart apart) refl refl refl
+    passes_at c m p is 3 dump_flag parser.Bool (omega arith) (λ d. refl) (λ d. refl) (λ d. refl)
+    (λ e. six (λ j. bytes_eq (slice_index_or the_rules j (rule_of e)).id dump_flag ≡ true → j ≡ 3) apart apart apart (λ h. refl) apart apart) refl refl refl

@@ -1,9 +1,10 @@
-use Rattle.std.proofs.Common.{◌≡◌, ◌∙◌, ap, codes, List, [], map, Option, Some, None, option_map, unwrap_or}
+use Rattle.std.proofs.Common.{◌≡◌, ◌∙◌, ap, List, [], map, Option, Some, None, option_map, unwrap_or}
 use Rattle.std.specs.Borrow.{Bor}
 use Rattle.std.specs.Option.{UnwrapsOrElse}
 use Rattle.clap.specs.Matches.{found_of}
 use Rattle.clap.specs.Walk.{Text}
 use Rattle.clap.proofs.WalkLemmas.{raw_values-rows}
+use Rattle.tool_words.specs.Command.{lists_word}
 use Rattle.tool_words.proofs.parse.lists.Goals as goal
 
 or_none : (o : Option (Bor (List (Bor Text)))) (r : Bor (List (Bor Text))) → UnwrapsOrElse o (λ x. x.now ≡ []) r
@@ -14,4 +15,4 @@ or_none (Some x) r is = ap (λ (s : Bor (List (Bor Text))). map (λ (v : Bor Tex
 pub returns : goal.returns
 returns c =
     or_none _ _ c.unwrap_or_default.ensures
-    ∙ ap (λ o. unwrap_or o []) (c.get_strs.ensures ∙ raw_values-rows (found_of c.args.matches.now) (codes "LIST"))
+    ∙ ap (λ o. unwrap_or o []) (c.get_strs.ensures ∙ raw_values-rows (found_of c.args.matches.now) lists_word)
