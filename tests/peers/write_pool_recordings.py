@@ -23,13 +23,17 @@ from written import settle
 TARGET = TOP / "crates/ip_pool/src/tests"
 
 
+def bits_of(address):
+    return int(ipaddress.ip_address(address))
+
+
 def bounds(given):
     """The start, end and gateway of a range, by the plugin's defaults for IPv4."""
     subnet = ipaddress.ip_network(given["subnet"])
     start = given.get("rangeStart", subnet[1])
     end = given.get("rangeEnd", subnet[-2])
     gateway = given.get("gateway", subnet[1])
-    return [int(ipaddress.ip_address(address)) for address in (start, end, gateway)]
+    return [bits_of(address) for address in (start, end, gateway)]
 
 
 class Recording:
@@ -41,13 +45,12 @@ class Recording:
         self.words = []
 
     def add(self, sign, address):
-        bits = int(ipaddress.ip_address(address.split("/")[0]))
-        offset = bits - self.ranges[0][0]
+        offset = bits_of(address.split("/")[0]) - self.ranges[0][0]
         assert 0 <= offset < 65536
         self.words.append(f"{sign}{offset}")
 
     def has(self, address):
-        bits = int(ipaddress.ip_address(address))
+        bits = bits_of(address)
         return any(start <= bits <= end and bits != gateway for start, end, gateway in self.ranges)
 
     def text(self):
