@@ -1,6 +1,5 @@
 -- Lists that are read one after another.
-use Rattle.std.proofs.Common.{◌≡◌, ◌∙◌, ◌<◌, ◌≤◌, ℕ, suc, List, [], ◌∷◌, ◌++◌, refl, sym, ap, subst, arith, append_assoc, Ok, Err, length, drop, ◌+◌, Option, Result, is_err, OnOk, true≢false, false}
-use Rattle.std.specs.Prelude.{⊤}
+use Rattle.std.proofs.Common.{◌≡◌, ◌∙◌, ◌<◌, ◌≤◌, ℕ, suc, List, [], ◌∷◌, ◌++◌, refl, sym, ap, subst, arith, append_assoc, Ok, Err, length, drop, ◌+◌, Option}
 use Rattle.std.specs.List.{slice_index_or}
 use Rattle.cni_io.specs.Files.{StoredFiles}
 use Rattle.cni_json.specs.Outcome.{◌>>=◌}
@@ -30,10 +29,6 @@ pub lists-one_more : (files : StoredFiles) (front : List NetList) (name : List �
 lists-one_more files front name names list is =
     ap (λ (t : Told NetList). behind front (t >>= (λ (l : NetList). lists_in files names >>= (λ (ls : List NetList). Ok (l ∷ ls))))) is
     ∙ behind-cons front list (lists_in files names)
-
-pub pushed : {E : Type 0} (r : Result ⊤ E) (P : Type 0) → is_err r ≡ false → OnOk r P → P
-pushed (Ok u) P ok h = h
-pushed (Err e) P ok h = absurd (true≢false ok)
 
 -- ---- one step of the loop over the names
 

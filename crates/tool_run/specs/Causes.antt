@@ -36,18 +36,6 @@ GivesTold (Err (Line line)) wanted = wanted ≡ Err line.items
 GivesTold (Err (Unread line)) wanted = ⊥
 GivesTold (Err NoMemory) wanted = ⊤
 
--- a stop with this line, or memory ran out
-abbrev pub StopsWith : Stop → List ℕ → Type 0
-StopsWith (Line line) text = line.items ≡ text
-StopsWith (Unread line) text = ⊥
-StopsWith NoMemory text = ⊤
-
--- a stop for a read that failed
-abbrev pub StopsUnread : Stop → List ℕ → Type 0
-StopsUnread (Line line) text = ⊥
-StopsUnread (Unread line) text = line.items ≡ text
-StopsUnread NoMemory text = ⊤
-
 -- the list was read, whether its file is told or not
 abbrev pub IsReadList : NetList → Type 0
 IsReadList list = (bytes : List ℕ) × (list_of bytes ≡ Ok list)

@@ -1,18 +1,16 @@
 //! The plan that the words and the files come to, or why there is none.
 
-ghost use Rattle.std.specs.Prelude.{◌≡◌, ◌≤◌, ◌<◌, ◌^◌, ◌∷◌, [], IfOk, IfErr, All, length};
+ghost use Rattle.std.specs.Prelude.{◌≡◌, ◌≤◌, ◌<◌, ◌^◌, ◌∷◌, [], IfOk, All, length};
 ghost use Rattle.pod_workers.specs.Plans.{IsWellFormed};
 ghost use Rattle.tool_words.specs.Command.{most_lists};
-ghost use Rattle.tool_run.specs.Causes.{GivesTold, IsReadList, IsReadPods, Steps, StopsUnread, StopsWith};
-ghost use Rattle.tool_run.specs.Lines.{error_line, unread_line, word_line};
+ghost use Rattle.tool_run.specs.Causes.{GivesTold, IsReadList, IsReadPods, Steps};
 ghost use Rattle.tool_run.specs.Verdict.{bytes_in, list_in, lists_in, plan_of, pods_in, told_list, told_plan, told_pods};
 
 use crate::laws::read_plans_are_well_formed;
-use crate::lines;
+use crate::lines::{error_line, word_line};
 use crate::refusals::{file_at_fault, list_error, plan_error, pods_error};
 use cni_addr::{Items, NoMemory, Text};
 use cni_io::{FileFault, Files};
-use cni_result::CniError;
 use net_conf::{ConfError, NetList};
 use pod_file::{PodError, Pods};
 use pod_workers::Plan;
@@ -31,6 +29,16 @@ pub(crate) enum Stop {
     Unread(Vec<u8>),
     /// Memory ran out.
     NoMemory,
+}
+
+impl From<NoMemory> for Stop {
+    ghost use Rattle.tool_run.specs.declared.plan.Stop.TheVariants as stops;
+
+    ghost from_gives = { λ _ stop. stop ≡ stops.NoMemory };
+
+    fn from(_refused: NoMemory) -> Stop {
+        Stop::NoMemory
+    }
 }
 
 /// Reads the pod file, then each network list in order, and joins them.
@@ -60,7 +68,11 @@ fn join(alloc: Global, words: &Words, pods: Pods, lists: Items<NetList>) -> Resu
     read_plans_are_well_formed();
     match Plan::join(lists, pods, words.stop_at) {
         Ok(plan) => Ok(plan),
-        Err(end) => Err(refused(alloc, plan_error(alloc, end), file_at_fault(words, end))),
+        Err(end) => {
+            let error = plan_error(alloc, end)?;
+            let line = error_line(alloc, &error, file_at_fault(words, end))?;
+            Err(Stop::Line(line))
+        }
     }
 }
 
@@ -85,7 +97,11 @@ fn pods_of_bytes(alloc: Global, bytes: &[u8], file: &str) -> Result<Pods, Stop>
     match pod_file::read_pods(alloc, bytes) {
         Ok(pods) => Ok(pods),
         Err(PodError::NoMemory) => Err(Stop::NoMemory),
-        Err(end) => Err(refused(alloc, pods_error(alloc, &end), file)),
+        Err(end) => {
+            let error = pods_error(alloc, &end)?;
+            let line = error_line(alloc, &error, file)?;
+            Err(Stop::Line(line))
+        }
     }
 }
 
@@ -105,9 +121,7 @@ fn read_lists<F: Files>(
     let mut lists = Items::new(alloc);
     for name in names {
         let list = read_list(alloc, files, name.as_str())?;
-        if lists.push(list).is_err() {
-            return Err(Stop::NoMemory);
-        }
+        lists.push(list)?;
     }
     Ok(lists)
 }
@@ -133,7 +147,11 @@ fn list_of_bytes(alloc: Global, bytes: &[u8], file: &str) -> Result<NetList, Sto
     match net_conf::read_list(alloc, bytes) {
         Ok(list) => Ok(list),
         Err(ConfError::NoMemory) => Err(Stop::NoMemory),
-        Err(end) => Err(refused(alloc, list_error(alloc, &end), file)),
+        Err(end) => {
+            let error = list_error(alloc, &end)?;
+            let line = error_line(alloc, &error, file)?;
+            Err(Stop::Line(line))
+        }
     }
 }
 
@@ -147,41 +165,9 @@ fn read_bytes<F: Files>(alloc: Global, files: &mut F, file: &str) -> Result<Vec<
 {
     match files.read(alloc, file, LIMIT) {
         Ok(bytes) => Ok(bytes),
-        Err(FileFault::Missing) => Err(worded(alloc, "missing", file)),
-        Err(FileFault::TooLarge { .. }) => Err(worded(alloc, "too large", file)),
-        Err(FileFault::Failed) => Err(unread(alloc, file)),
+        Err(FileFault::Missing) => Err(Stop::Line(word_line(alloc, "missing", file)?)),
+        Err(FileFault::TooLarge { .. }) => Err(Stop::Line(word_line(alloc, "too large", file)?)),
+        Err(FileFault::Failed) => Err(Stop::Unread(word_line(alloc, "read", file)?)),
         Err(FileFault::NoMemory) => Err(Stop::NoMemory),
-    }
-}
-
-fn worded(alloc: Global, word: &str, file: &str) -> Stop
-    ensures { StopsWith result (word_line word.now file.now) }
-{
-    match lines::word_line(alloc, word, file) {
-        Ok(line) => Stop::Line(line),
-        Err(NoMemory) => Stop::NoMemory,
-    }
-}
-
-fn unread(alloc: Global, file: &str) -> Stop
-    ensures { StopsUnread result (unread_line file.now) }
-{
-    match lines::word_line(alloc, "read", file) {
-        Ok(line) => Stop::Unread(line),
-        Err(NoMemory) => Stop::NoMemory,
-    }
-}
-
-/// A stop with the line of an error, if there was memory for it.
-fn refused(alloc: Global, error: Result<CniError, NoMemory>, file: &str) -> Stop
-    ensures line { IfOk error (λ e. StopsWith result (error_line e file.now)) }
-    ensures memory { IfErr error (λ _. result ≡ Stop.NoMemory) }
-{
-    let Ok(error) = error else {
-        return Stop::NoMemory;
-    };
-    match lines::error_line(alloc, &error, file) {
-        Ok(line) => Stop::Line(line),
-        Err(NoMemory) => Stop::NoMemory,
     }
 }

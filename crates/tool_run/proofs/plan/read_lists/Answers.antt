@@ -4,7 +4,7 @@ use Rattle.std.proofs.lemmas.List.{length-append}
 use Rattle.std.proofs.lemmas.List.Elements.{All-push}
 use Rattle.net_conf.specs.declared.list.NetList.{NetList}
 use Rattle.tool_run.specs.Causes.{IsReadList}
-use Rattle.tool_run.proofs.Lists.{Rest, pushed, rest-next}
+use Rattle.tool_run.proofs.Lists.{Rest, rest-next}
 use Rattle.tool_run.proofs.plan.read_lists.Goals as goal
 
 pub loop-name-preserved : goal.loop-name-preserved
@@ -17,7 +17,7 @@ loop-name-preserved g c =
     let list = c.in_ok-list.list in
     let files = g.F.Files.files c.args.files.now in
     let name = c.as_str.result.now in
-    let grown : c.push.new.self ≡ front ++ list ∷ [] = pushed c.push.result _ (sym c.is_err.ensures.value ∙ c.if-is_err.false) c.push.ensures.ok in
+    let grown : c.push.new.self ≡ front ++ list ∷ [] = c.in_ok-push.ensures.ok in
     let at : name ≡ slice_index_or names i name = subst (λ (n : List ℕ). n ≡ slice_index_or names i n) (sym c.as_str.ensures) c.name-item.is in
     let rest = rest-next files names front i name list c.loop-name-test.true at before.rest (λ stored told. read.gives stored (before.keeps ∙ told)) in
     let longer : length (front ++ list ∷ []) ≡ i + 1 = length-append front (list ∷ []) ∙ ap (λ n. n + 1) before.count in
