@@ -13,12 +13,11 @@ use Rattle.pod_workers.specs.declared.plan.Plan.{Plan}
 use Rattle.tool_words.specs.Words.{words_of}
 use Rattle.tool_words.specs.declared.words.Words.{Words}
 use Rattle.tool_run.specs.Causes.{WhereTold}
-use Rattle.tool_run.specs.Ends.{Reported, Reports, Settles}
+use Rattle.tool_run.specs.Ends.{Due, Reported, Reports, Settles}
 use Rattle.tool_run.specs.Lines.{usage_line}
 use Rattle.tool_run.specs.Statuses.{ComesTo, Completes, HasCauses, IsCarriedOut, IsDue, IsTextOf, IsUnreadOf, Sides, Wrote, WroteFront}
 use Rattle.tool_run.specs.Verdict.{Verdict, carry, line, plan_of, usage, verdict_if, verdict_of, verdict_on}
-use Rattle.tool_run.specs.declared.settle.Due.{Due}
-use Rattle.tool_run.specs.declared.settle.Due.TheVariants as due
+use Rattle.tool_run.specs.declared.plan.Stop.TheVariants as stop
 use Rattle.tool_run.specs.declared.top.Outcome.{Outcome}
 
 abbrev pub Printed : List ℕ
@@ -84,26 +83,25 @@ of_text_due r o b bytes some carried text reports = elim reports [
 ]
 
 pub ended : (keeps : ℕ → Type 0) (r : Sides) (d : Due) (o : Outcome) → Settles keeps r.words r.files r.reads_before r.reads_now d → Reported r.old r.new r.writes_before r.writes_now d o → Ended r o.status o.book
-ended keeps r due.Usage o none rep =
+ended keeps r (Err stop.Usage) o none rep =
     of_line_due r o usage_line 2 rep.0 (inl (none, refl)) (λ status wrote. of_usage status rep.0 none wrote) rep.1
-ended keeps r (due.Line text) o settles rep =
+ended keeps r (Err (stop.Line text)) o settles rep =
     let comes = comes_to_line r.words r.files settles.0 text.items settles.1 settles.2 in
     of_line_due r o text.items 3 rep.0 (inr (inl comes)) (λ status wrote. of_line text.items status rep.0 settles.0 settles.1 comes wrote) rep.1
-ended keeps r (due.Unread text) o settles rep =
+ended keeps r (Err (stop.Unread text)) o settles rep =
     let unread : IsUnreadOf r.words r.reads_before r.reads_now text.items = record { by = settles.0; words_are = settles.1; unread = settles.2 } in
     of_line_due r o text.items 4 rep.0 (inr (inr unread)) (λ status wrote. of_read text.items status rep.0 unread wrote) rep.1
-ended keeps r (due.Text book text) o settles rep =
+ended keeps r (Ok made) o settles rep =
     let w = settles.0 in
-    let told = settles.2.0 in
-    let made = settles.2.1 in
-    of_text_due r o book text.items rep.0 (record {
+    let is = settles.2 in
+    of_text_due r o made.book made.text.items rep.0 (record {
       by = w;
       words_are = settles.1;
-      plan = comes_to_plan r.words r.files w book.plan settles.1 told;
-      over = made.1;
-      legal = made.2;
-    }) (record { by = w; words_are = settles.1; text = made.4 }) rep.1
-ended keeps r due.NoMemory o settles rep = of_memory rep.1 rep.0 rep.2
+      plan = comes_to_plan r.words r.files w made.book.plan settles.1 is.0;
+      over = is.1;
+      legal = is.2;
+    }) (record { by = w; words_are = settles.1; text = is.4 }) rep.1
+ended keeps r (Err stop.NoMemory) o settles rep = of_memory rep.1 rep.0 rep.2
 
 -- ---- what follows
 
@@ -258,13 +256,13 @@ without_book o none = subst IsOrdered (sym none) tt
 
 pub ordered : (keeps : ℕ → Type 0) (r : Sides) (d : Due) (o : Outcome) → Settles keeps r.words r.files r.reads_before r.reads_now d → Reported r.old r.new r.writes_before r.writes_now d o
     → (by : Words) → words_of r.words ≡ Some by → keeps by.threads → IsOrdered o.book
-ordered keeps r due.Usage o settles rep by is kept = without_book o rep.0
-ordered keeps r (due.Line text) o settles rep by is kept = without_book o rep.0
-ordered keeps r (due.Unread text) o settles rep by is kept = without_book o rep.0
-ordered keeps r (due.Text book text) o settles rep by is kept =
+ordered keeps r (Err stop.Usage) o settles rep by is kept = without_book o rep.0
+ordered keeps r (Err (stop.Line text)) o settles rep by is kept = without_book o rep.0
+ordered keeps r (Err (stop.Unread text)) o settles rep by is kept = without_book o rep.0
+ordered keeps r (Ok made) o settles rep by is kept =
     let same = same_Some by settles.0 (sym is ∙ settles.1) in
-    subst IsOrdered (sym rep.0) (settles.2.1.3 (subst (λ (w : Words). keeps w.threads) same kept))
-ordered keeps r due.NoMemory o settles rep by is kept = without_book o rep.0
+    subst IsOrdered (sym rep.0) (settles.2.3 (subst (λ (w : Words). keeps w.threads) same kept))
+ordered keeps r (Err stop.NoMemory) o settles rep by is kept = without_book o rep.0
 
 -- a book has words that are taken
 pub ordered_always : (r : Sides) (status : ℕ) (book : Option World) → HasCauses r status book → ((by : Words) → words_of r.words ≡ Some by → IsOrdered book) → IsOrdered book

@@ -10,7 +10,7 @@ use Rattle.tool_words.specs.declared.words.Words.{Words}
 use Rattle.tool_run.specs.Causes.{Steps, WhereTold}
 use Rattle.tool_run.specs.Verdict.{Told, list_in, lists_in, plan_of, pods_in, told_plan}
 use Rattle.tool_run.specs.declared.plan.Stop.{Stop}
-use Rattle.tool_run.specs.declared.plan.Stop.TheVariants.{Line, Unread, NoMemory}
+use Rattle.tool_run.specs.declared.plan.Stop.TheVariants.{Usage, Line, Unread, NoMemory}
 use Rattle.cni_io.proofs.Counts.{Rose-from_start}
 use Rattle.cni_verbs.proofs.Asked.{left_from}
 
@@ -49,6 +49,7 @@ pub plan-stops : (files later : Option StoredFiles) (start before now : ℕ) (wo
     → Steps {X = List NetList} (λ lists. lists) later before now words.lists (λ stored. lists_in stored words.lists) (Err stop)
     → Steps {X = Plan} (λ plan. plan) files start now (words.pods ∷ words.lists) (λ stored. plan_of stored words) (Err stop)
 unfolding plan_of
+plan-stops files later start before now words pods Usage same first up steps = absurd steps
 plan-stops files later start before now words pods (Line line) same first up steps = λ stored told.
     ap (λ (t : Told Pods). t >>= (λ (p : Pods). lists_in stored words.lists >>= told_plan words p)) (first stored told)
     ∙ ap (λ (t : Told (List NetList)). t >>= told_plan words pods) (steps stored (same ∙ told))

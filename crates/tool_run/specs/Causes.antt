@@ -9,7 +9,7 @@ use Rattle.pod_file.specs.declared.pods.Pods.{Pods}
 use Rattle.tool_run.specs.Lines.{unread_line}
 use Rattle.tool_run.specs.Verdict.{Told}
 use Rattle.tool_run.specs.declared.plan.Stop.{Stop}
-use Rattle.tool_run.specs.declared.plan.Stop.TheVariants.{Line, Unread, NoMemory}
+use Rattle.tool_run.specs.declared.plan.Stop.TheVariants.{Usage, Line, Unread, NoMemory}
 
 -- of the files, where they are told
 abbrev pub WhereTold : Option StoredFiles → (StoredFiles → Type 0) → Type 0
@@ -25,6 +25,7 @@ pub record IsUnread (names : List (List ℕ)) (before now : ℕ) (line : List �
 -- A step gives what told files want; or the line that they want; or a read of a named file failed; or memory ran out.
 abbrev pub Steps : {X Y : Type 0} → (X → Y) → Option StoredFiles → ℕ → ℕ → List (List ℕ) → (StoredFiles → Told Y) → Result X Stop → Type 0
 Steps view files before now names wanted (Ok x) = WhereTold files (λ stored. wanted stored ≡ Ok (view x))
+Steps view files before now names wanted (Err Usage) = ⊥
 Steps view files before now names wanted (Err (Line line)) = WhereTold files (λ stored. wanted stored ≡ Err line.items)
 Steps view files before now names wanted (Err (Unread line)) = IsUnread names before now line.items
 Steps view files before now names wanted (Err NoMemory) = ⊤
@@ -32,6 +33,7 @@ Steps view files before now names wanted (Err NoMemory) = ⊤
 -- a step that reads no file
 abbrev pub GivesTold : {X : Type 0} → Result X Stop → Told X → Type 0
 GivesTold (Ok x) wanted = wanted ≡ Ok x
+GivesTold (Err Usage) wanted = ⊥
 GivesTold (Err (Line line)) wanted = wanted ≡ Err line.items
 GivesTold (Err (Unread line)) wanted = ⊥
 GivesTold (Err NoMemory) wanted = ⊤

@@ -20,9 +20,11 @@ use tool_words::Words;
 /// The most bytes of a file.
 const LIMIT: u64 = 16_777_216;
 
-/// Why there is no plan.
+/// Why there is nothing to carry out.
 #[derive(Drop)]
 pub(crate) enum Stop {
+    /// The words aren't taken.
+    Usage,
     /// A file or the plan is refused, and this line says why.
     Line(Vec<u8>),
     /// A read failed, and this line names the file.

@@ -11,8 +11,9 @@ ghost use Rattle.tool_run.specs.Rounds.{KeepsFileOrder, MakesRounds};
 ghost use Rattle.tool_run.specs.Statuses.{AskForOneThread, HasCauses, sides};
 
 use crate::lines::USAGE;
+use crate::plan::Stop;
 use crate::rounds::{make_round, make_round_alone};
-use crate::settle::{Due, settle};
+use crate::settle::{Carried, settle};
 use cni_addr::Text;
 use cni_io::{Files, Sink, write_whole};
 use kernel_model::ListKernel;
@@ -113,27 +114,27 @@ fn run_by<M: Fn(Book<ListKernel>, u8) -> Book<ListKernel>, F: Files, S: Sink>(
 }
 
 /// Writes what is due.
-fn report<S: Sink>(sink: &mut S, due: Due) -> Outcome
+fn report<S: Sink>(sink: &mut S, due: Result<Carried, Stop>) -> Outcome
     ensures { Reported (S.written sink.old) (S.written sink.new) (S.faults sink.old) (S.faults sink.new) due result }
 {
     match due {
-        Due::Usage => Outcome {
-            status: write(sink, USAGE, 2),
-            book: None,
-        },
-        Due::Line(line) => Outcome {
-            status: write(sink, line.as_slice(), 3),
-            book: None,
-        },
-        Due::Unread(line) => Outcome {
-            status: write(sink, line.as_slice(), 4),
-            book: None,
-        },
-        Due::Text(book, text) => Outcome {
+        Ok(Carried { book, text }) => Outcome {
             status: write(sink, text.as_slice(), status(&book)),
             book: Some(book),
         },
-        Due::NoMemory => Outcome {
+        Err(Stop::Usage) => Outcome {
+            status: write(sink, USAGE, 2),
+            book: None,
+        },
+        Err(Stop::Line(line)) => Outcome {
+            status: write(sink, line.as_slice(), 3),
+            book: None,
+        },
+        Err(Stop::Unread(line)) => Outcome {
+            status: write(sink, line.as_slice(), 4),
+            book: None,
+        },
+        Err(Stop::NoMemory) => Outcome {
             status: MEMORY_STATUS,
             book: None,
         },

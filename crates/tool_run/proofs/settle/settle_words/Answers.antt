@@ -1,8 +1,17 @@
-use Rattle.tool_run.specs.Rounds.{KeepsFileOrder}
-use Rattle.tool_run.proofs.Settled.{settles_words}
+use Rattle.std.proofs.Common.{◌∙◌, ◌≤◌, Ok, ap, length, subst, sym}
+use Rattle.std.proofs.lemmas.Result.{err_from_is_err_and}
+use Rattle.pod_workers.specs.declared.plan.Plan.{Plan}
 use Rattle.tool_run.proofs.settle.settle_words.Goals as goal
 
-pub returns-in-Ok-clause-settles : goal.returns-in-Ok-clause-settles
-returns-in-Ok-clause-settles g c =
-    settles_words (KeepsFileOrder g.M.Fn c.args.make.now) c.args.words.now (g.F.Files.files c.args.files.now) (g.F.Files.faults c.args.files.now) (g.F.Files.faults c.read_plan.new.files) c.in-Ok.plan
-    c.settle_plan.result c.in-Ok.ensures.gives c.settle_plan.ensures
+pub returns-in_err-plan-clause-settles : goal.returns-in_err-plan-clause-settles
+returns-in_err-plan-clause-settles g c =
+    let p = err_from_is_err_and c.from_residual.result c.from_residual.ensures.1 in
+    rw (p.1, p.2) c.in_err-plan.ensures.gives
+
+pub returns-clause-settles : goal.returns-clause-settles
+returns-clause-settles g c =
+    let made = c.in_ok-book.ensures in
+    let same = sym made.plan in (
+      λ stored told. c.in_ok-plan.ensures.gives stored told ∙ ap (λ (p : Plan). Ok p) same,
+      (subst (λ (p : Plan). length p.pods.rounds ≤ c.in_ok-book.book.round) same made.over, (made.legal, (made.order, c.in_ok-text.ensures))),
+    )
