@@ -14,8 +14,7 @@ use Rattle.net_conf.specs.declared.first.First.{First}
 use Rattle.net_conf.specs.declared.first.First.TheVariants as first
 use Rattle.net_conf.specs.declared.first.HostLocalConf.{HostLocalConf}
 use Rattle.net_conf.specs.declared.list.NetList.{NetList}
-use Rattle.pod_file.specs.Rounds.{file_limit}
-use Rattle.pod_file.specs.Rounds.{in_file_order}
+use Rattle.pod_file.specs.Rounds.{file_limit, in_file_order}
 use Rattle.pod_file.specs.WellFormed.{IsWellFormedPods}
 use Rattle.pod_file.specs.declared.command.Command.{Command}
 use Rattle.pod_workers.specs.Plans.{IsWellFormed, Placed, commands_of, in_round, placed_from}
