@@ -3,8 +3,6 @@ use Rattle.std.proofs.Common.{◌≡◌, ℕ, Bool, true, false, ap, List, [], �
 use Rattle.std.proofs.lemmas.List.{append-nil}
 use Rattle.std.specs.Prelude.{filter_map, flat_map}
 use Rattle.std.specs.List.{list_all}
-use Rattle.std.specs.Str.{bytes_eq}
-use Rattle.std.specs.Cmp.Lexicographic.{nat_list_eq_equiv}
 use Rattle.net_conf.specs.declared.first.BridgeConf.{BridgeConf}
 use Rattle.net_conf.specs.declared.first.PtpConf.{PtpConf}
 use Rattle.kernel_types.specs.Words.{is_own}
@@ -20,7 +18,7 @@ use Rattle.plan_words.proofs.CallLists.{share_after_calls-append, share_after_ca
 use Rattle.plan_words.proofs.KeyLists.{list_all-append, list_all-every, list_all-map, list_all-flat, list_all-each_key_once}
 use Rattle.bridge_ptp.specs.Bridge.{bridge_entries, bridge_share_before, bridge_share_after, gateway_calls, bridge_calls_before, bridge_calls_after}
 use Rattle.bridge_ptp.specs.declared.bridge.Gateway.{Gateway}
-use Rattle.bridge_ptp.specs.Gateways.{gateway_call, gateway_of, gateways_on, is_same_gateway}
+use Rattle.bridge_ptp.specs.Gateways.{gateway_call, gateways_on}
 use Rattle.bridge_ptp.specs.Ptp.{AddressOrRoute, Address, Route, same_key, address_in, route_in, call_for, ptp_objects_for, ptp_objects, ptp_share_before, ptp_share_after, ptp_calls_before, ptp_calls_after}
 
 -- ---- bridge
@@ -42,12 +40,6 @@ own-bridge_after conf att netns given =
     own-append (own-address_calls att _ (own-addresses att netns given))
     (own-append (own-route_calls att _ (own-routes att netns given entries))
     (own-append (own-gateway_calls att conf given) (own-rule_calls att _ (own-masquerades conf.ip_masq att given))))
-
--- each gateway is one of its bridge
-pub gateways-of_bridge : (bridge : List ℕ) (given : List Given) → list_all (λ (g : Gateway). bytes_eq g.bridge bridge) (gateways_on bridge given) ≡ true
-gateways-of_bridge bridge given =
-    list_all-each_key_once (λ (g : Gateway). bytes_eq g.bridge bridge) is_same_gateway (map (gateway_of bridge) given)
-    (list_all-every (λ (g : Gateway). bytes_eq g.bridge bridge) (gateway_of bridge) (λ g. nat_list_eq_equiv.refl bridge) given)
 
 share-asked : (s : Share) (xs : List Gateway) → share_after_calls s (map gateway_call xs) ≡ s
 share-asked s [] = refl
