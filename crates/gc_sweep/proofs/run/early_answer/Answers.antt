@@ -4,8 +4,8 @@ use Rattle.std.proofs.lemmas.Result.{IfOk-weaker}
 use Rattle.gc_sweep.proofs.Phases.{answers_early}
 use Rattle.gc_sweep.proofs.run.early_answer.Goals as goal
 
-pub returns-in-Some : goal.returns-in-Some
-returns-in-Some c =
+pub returns : goal.returns
+returns c =
     let list = c.args.list.now in
     IfOk-weaker c.plain_answer.result _ _
     (λ answer is work faults. ap Some is ∙ answers_early list c.args.command.now work faults list.version list.disable_gc c.in-Some.ending (sym c.early_ending.ensures ∙ c.in-Some.is))
