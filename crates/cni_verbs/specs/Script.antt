@@ -82,7 +82,7 @@ gc_of list c = record { network = c.network; valid = c.valid; kinds = kinds_of l
 
 -- ---- a refusal
 
--- why a reply refuses an ADD. A reply that is no answer to the call counts as a fault
+-- why a reply refuses an ADD, whichever call it answers; what says none of four causes counts as a fault
 abbrev pub cause_of : ℕ → ℕ → Reply → Cause
 cause_of set number NoNs = causes.NoNamespace
 cause_of set number NoLink = causes.NoMaster
