@@ -8,12 +8,15 @@ A row has the files that lie where the program runs, the words, and what is expe
     status      the exit status
     stdout      all lines
     answers     the lines of the commands, which come first
+    ends_with   the last of these lines
     calls       by command number: how many calls it made, or their kinds in order (the words ask for a trace)
     replies     by command number: the replies to its calls, in order (the words ask for a trace)
     leased      the addresses that the results have, in any order; the answers write each as `<LEASED>`
     dump        the lines of the dump, or the kinds of its objects where they are single words
     later       instead of what is printed: the file is read, so a refusal is one that comes after reading
+    owners      whose objects the dump has, each attachment once
     stdout_to   the file that standard output goes to, in place of a pipe that is read
+    for_each    the row stands for as many as these lists have places: `<K>` is what the list K has at the row's place
 
 A file is a JSON value that is written compactly, or `@NAME`, one of the lists; or {"text": ..}, {"size": N} or {"directory": true}.
 In a line `<HV N/C/I>`, `<MH N/C/I>` and `<MC N/C/I>` are the host end's name, its MAC and the container end's MAC of the
@@ -66,6 +69,33 @@ def content_of(given, lists):
     if isinstance(given, dict) and "text" in given:
         return given["text"].encode("utf-8")
     return given
+
+
+def filled(value, of_place):
+    """A value of a row with what a place's lists have in it: a text that is one of their names alone becomes what the list has."""
+    if isinstance(value, dict):
+        return {key: filled(each, of_place) for key, each in value.items()}
+    if isinstance(value, list):
+        return [filled(each, of_place) for each in value]
+    if not isinstance(value, str):
+        return value
+    if value in of_place:
+        return of_place[value]
+    for name, given in of_place.items():
+        value = value.replace(name, str(given))
+    return value
+
+
+def each_of(row):
+    """The rows that a row stands for."""
+    lists = row.get("for_each")
+    if lists is None:
+        yield row
+        return
+    for place in zip(*lists.values(), strict=True):
+        of_place = dict(zip((f"<{name}>" for name in lists), place))
+        told = ", ".join(f"{name} {given}" for name, given in zip(lists, place))
+        yield {**filled(row, of_place), "name": f"{row['name']} {told}"}
 
 
 def by_command(lines, key):
@@ -129,10 +159,15 @@ def differences(row, status, out):
         if got != sorted(row["leased"]):
             yield f"leased: {got}"
         answers = [LEASED.sub("<LEASED>", line) for line in answers]
-    for key, got in (("stdout", lines), ("answers", answers)):
+    last = answers[-len(row.get("ends_with", answers)) :]
+    for key, got in (("stdout", lines), ("answers", answers), ("ends_with", last)):
         if key in row and got != [expanded(line) for line in row[key]]:
             yield f"{key}: {json.dumps(got)}"
     yield from trace_differences(row, [value for value in read if "call" in value])
+    if "owners" in row:
+        got = sorted({tag for value in read if (tag := value.get("tag", "base")) not in ("base", "outside")})
+        if got != row["owners"]:
+            yield f"owners: {got}"
     if "dump" in row:
         kinds = [json.loads(line)["kind"] for line in dump]
         got = kinds if all(line.isalpha() for line in row["dump"]) else dump
@@ -155,7 +190,8 @@ def main():
     program = program_of(sys.argv[1:])
     word = sys.argv[2] if len(sys.argv) > 2 else ""
     table = read_json(TOP / "tests/rows/rows.json")
-    rows = [row for row in [*table["rows"], *reader_rows()] if word in row["name"]]
+    told = (each for row in table["rows"] for each in each_of(row))
+    rows = [row for row in [*told, *reader_rows()] if word in row["name"]]
     failed = count_failed((row["name"], found_of(program, row, table["lists"])) for row in rows)
     print(f"rows: {len(rows) - failed} passed, {failed} failed")
     return 1 if failed else 0
