@@ -1,5 +1,5 @@
 -- A deletion removes the attachment's objects and changes nothing else, so it touches the attachment's alone.
-use Rattle.std.proofs.Common.{◌≡◌, Bool, not, Option, Some, None, refl, subst}
+use Rattle.std.proofs.Common.{◌≡◌, Bool, not, List, Option, Some, None, refl, subst}
 use Rattle.std.specs.Prelude.{find, ◌&&◌}
 use Rattle.std.specs.List.{list_any}
 use Rattle.std.proofs.lemmas.Option.{same_Some}
@@ -8,27 +8,37 @@ use Rattle.kernel_types.specs.Apply as apply
 use Rattle.kernel_types.specs.Apply.Calls.{goes_with, without_link, without_links, link_del_of, rule_del_of, setting_del_of, lease_del_of, cache_del_of}
 use Rattle.kernel_types.specs.Isolation.{RemovesOwn, deletes_for}
 use Rattle.kernel_types.specs.Sound.{IsSound}
-use Rattle.kernel_types.specs.Touch.{TouchesOwn, TouchesOwnAlone}
+use Rattle.kernel_types.specs.Touch.{DropsOnly, TouchesOwn, TouchesOwnAlone}
 use Rattle.kernel_types.proofs.ChangeLemmas.{ChangesOnly-DropsOnly, DropsOnly-nothing, DropsOnly-filter, DropsOnly-without_first}
 use Rattle.kernel_types.proofs.TouchRemoval.{addresses_gone, routes_gone, gone_owned, gone_may_go}
 use Rattle.kernel_types.specs.declared.object.Att.{Att}
 use Rattle.kernel_types.specs.declared.object.Link.{Link}
+use Rattle.kernel_types.specs.declared.object.Rule.{Rule}
+use Rattle.kernel_types.specs.declared.object.Setting.{Setting}
+use Rattle.kernel_types.specs.declared.object.Lease.{Lease}
+use Rattle.kernel_types.specs.declared.object.CachedObj.{CachedObj}
 use Rattle.kernel_types.specs.declared.object.Host.{Host}
 use Rattle.kernel_types.specs.declared.call.Call.{Call}
 use Rattle.kernel_types.specs.declared.call.Call.TheVariants.{Begin, BridgeEnsure, GatewayEnsure, ForwardEnsure, VethAdd, MacvlanAdd, LinkSet, AddrAdd, RouteAdd, RuleAppend, SettingSet, LeaseNext, CachePut, LinkDel, RuleDel, SettingDel, LeaseDel, CacheDel, HasObj, CacheGet, OwnersOf, PoolFree, NsChange, Outside}
 
-pub RemovesOwn-nothing : (att : Att) (host : Host) → RemovesOwn att host host
-RemovesOwn-nothing att host = record {
+-- no more than the attachment's objects of the lists that don't lie on links are removed
+RemovesOwn-with : (att : Att) (host : Host) (rules : List Rule) (settings : List Setting) (leases : List Lease) (cached : List CachedObj)
+    → DropsOnly (λ r. is_own att r.tag) host.rules rules → DropsOnly (λ s. is_own att s.tag) host.settings settings → DropsOnly (λ l. is_own att l.tag) host.leases leases → DropsOnly (λ c. is_own att c.tag) host.cached cached
+    → RemovesOwn att host (record host { rules = rules; settings = settings; leases = leases; cached = cached })
+RemovesOwn-with att host rules settings leases cached r s l c = record {
   namespaces = refl;
   links = DropsOnly-nothing (λ l. is_own att l.tag) host.links;
   addresses = DropsOnly-nothing (λ a. is_own att a.tag) host.addresses;
   routes = DropsOnly-nothing (λ r. is_own att r.tag) host.routes;
-  rules = DropsOnly-nothing (λ r. is_own att r.tag) host.rules;
-  settings = DropsOnly-nothing (λ s. is_own att s.tag) host.settings;
-  leases = DropsOnly-nothing (λ l. is_own att l.tag) host.leases;
-  cached = DropsOnly-nothing (λ c. is_own att c.tag) host.cached;
+  rules = r;
+  settings = s;
+  leases = l;
+  cached = c;
   lasts = refl;
 }
+
+pub RemovesOwn-nothing : (att : Att) (host : Host) → RemovesOwn att host host
+RemovesOwn-nothing att host = RemovesOwn-with att host host.rules host.settings host.leases host.cached (DropsOnly-nothing _ host.rules) (DropsOnly-nothing _ host.settings) (DropsOnly-nothing _ host.leases) (DropsOnly-nothing _ host.cached)
 
 -- what only removes the attachment's objects touches no other
 pub TouchesOwn-RemovesOwn : (att : Att) (old new : Host) → RemovesOwn att old new → TouchesOwn att old new
@@ -49,56 +59,16 @@ TouchesOwnAlone-RemovesOwn att old new removes = record { own = TouchesOwn-Remov
 -- ---- one object that isn't a link
 
 pub RemovesOwn-rule_del : (host : Host) (att : Att) → RemovesOwn att host (rule_del_of host att).0
-RemovesOwn-rule_del host att = record {
-  namespaces = refl;
-  links = DropsOnly-nothing (λ l. is_own att l.tag) host.links;
-  addresses = DropsOnly-nothing (λ a. is_own att a.tag) host.addresses;
-  routes = DropsOnly-nothing (λ r. is_own att r.tag) host.routes;
-  rules = DropsOnly-without_first (λ r. is_own att r.tag) host.rules;
-  settings = DropsOnly-nothing (λ s. is_own att s.tag) host.settings;
-  leases = DropsOnly-nothing (λ l. is_own att l.tag) host.leases;
-  cached = DropsOnly-nothing (λ c. is_own att c.tag) host.cached;
-  lasts = refl;
-}
+RemovesOwn-rule_del host att = RemovesOwn-with att host _ host.settings host.leases host.cached (DropsOnly-without_first (λ x. is_own att x.tag) host.rules) (DropsOnly-nothing _ host.settings) (DropsOnly-nothing _ host.leases) (DropsOnly-nothing _ host.cached)
 
 pub RemovesOwn-setting_del : (host : Host) (att : Att) → RemovesOwn att host (setting_del_of host att).0
-RemovesOwn-setting_del host att = record {
-  namespaces = refl;
-  links = DropsOnly-nothing (λ l. is_own att l.tag) host.links;
-  addresses = DropsOnly-nothing (λ a. is_own att a.tag) host.addresses;
-  routes = DropsOnly-nothing (λ r. is_own att r.tag) host.routes;
-  rules = DropsOnly-nothing (λ r. is_own att r.tag) host.rules;
-  settings = DropsOnly-without_first (λ s. is_own att s.tag) host.settings;
-  leases = DropsOnly-nothing (λ l. is_own att l.tag) host.leases;
-  cached = DropsOnly-nothing (λ c. is_own att c.tag) host.cached;
-  lasts = refl;
-}
+RemovesOwn-setting_del host att = RemovesOwn-with att host host.rules _ host.leases host.cached (DropsOnly-nothing _ host.rules) (DropsOnly-without_first (λ x. is_own att x.tag) host.settings) (DropsOnly-nothing _ host.leases) (DropsOnly-nothing _ host.cached)
 
 pub RemovesOwn-lease_del : (host : Host) (att : Att) → RemovesOwn att host (lease_del_of host att).0
-RemovesOwn-lease_del host att = record {
-  namespaces = refl;
-  links = DropsOnly-nothing (λ l. is_own att l.tag) host.links;
-  addresses = DropsOnly-nothing (λ a. is_own att a.tag) host.addresses;
-  routes = DropsOnly-nothing (λ r. is_own att r.tag) host.routes;
-  rules = DropsOnly-nothing (λ r. is_own att r.tag) host.rules;
-  settings = DropsOnly-nothing (λ s. is_own att s.tag) host.settings;
-  leases = DropsOnly-without_first (λ l. is_own att l.tag) host.leases;
-  cached = DropsOnly-nothing (λ c. is_own att c.tag) host.cached;
-  lasts = refl;
-}
+RemovesOwn-lease_del host att = RemovesOwn-with att host host.rules host.settings _ host.cached (DropsOnly-nothing _ host.rules) (DropsOnly-nothing _ host.settings) (DropsOnly-without_first (λ x. is_own att x.tag) host.leases) (DropsOnly-nothing _ host.cached)
 
 pub RemovesOwn-cache_del : (host : Host) (att : Att) → RemovesOwn att host (cache_del_of host att).0
-RemovesOwn-cache_del host att = record {
-  namespaces = refl;
-  links = DropsOnly-nothing (λ l. is_own att l.tag) host.links;
-  addresses = DropsOnly-nothing (λ a. is_own att a.tag) host.addresses;
-  routes = DropsOnly-nothing (λ r. is_own att r.tag) host.routes;
-  rules = DropsOnly-nothing (λ r. is_own att r.tag) host.rules;
-  settings = DropsOnly-nothing (λ s. is_own att s.tag) host.settings;
-  leases = DropsOnly-nothing (λ l. is_own att l.tag) host.leases;
-  cached = DropsOnly-without_first (λ c. is_own att c.tag) host.cached;
-  lasts = refl;
-}
+RemovesOwn-cache_del host att = RemovesOwn-with att host host.rules host.settings host.leases _ (DropsOnly-nothing _ host.rules) (DropsOnly-nothing _ host.settings) (DropsOnly-nothing _ host.leases) (DropsOnly-without_first (λ x. is_own att x.tag) host.cached)
 
 -- ---- a link, its peer and what is on them
 
