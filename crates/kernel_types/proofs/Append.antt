@@ -11,8 +11,8 @@ use Rattle.kernel_types.specs.Words.{is_host_ns, is_host_or_ns, is_host_link, is
 use Rattle.kernel_types.specs.Apply.Calls.{bridge_ensure_of, bridge_or_new, new_bridge, veth_add_of, macvlan_add_of, has_bridge_as_master, has_master}
 use Rattle.kernel_types.specs.Sound.{IsSound, peer_fits, peers_back, address_fits_tag, link_fits_tag, is_owned_kind}
 use Rattle.kernel_types.specs.Allowed.{IsVethPair, IsMacvlanLink, is_macvlan}
-use Rattle.kernel_types.specs.Touch.{AddsBridge, TouchesTag, TouchesOwnAlone}
-use Rattle.kernel_types.proofs.Cases.{by_test, by_way, none-option_map, none-option_or, tag_eq-refl, own-own, TouchesTag-owned, is_at-itself, host_ns-eq, other_host}
+use Rattle.kernel_types.specs.Touch.{AddsBridge, TouchesOwnAlone, TouchesTag}
+use Rattle.kernel_types.proofs.Cases.{by_test, by_addition, none-option_map, none-option_or, tag_eq-refl, own-own, TouchesTag-owned, is_at-itself, host_ns-eq, other_host}
 use Rattle.kernel_types.proofs.ChangeLemmas.{ChangesOnly-append}
 use Rattle.kernel_types.proofs.ListLemmas.{list_all-weaker, list_any-none, list_any-find_none, list_any-append_left, list_any-append_right, list_all-append, are_new, distinct-append}
 use Rattle.kernel_types.proofs.OneList.{TouchesOwnAlone-nothing, TouchesOwnAlone-with_links}
@@ -107,10 +107,10 @@ owned_veth ns Bridge h = cc
 owned_veth ns Veth h = refl
 owned_veth ns (Macvlan mode) h = cc
 
-tagged_end : (l : Link) (t : Tag) → is_owned t ≡ true → is_veth l.kind ≡ true → link_fits_tag l t ≡ true
-tagged_end l Outside h v = cc
-tagged_end l Base h v = cc
-tagged_end l (Own att) h v = owned_veth l.ns l.kind v
+tagged_owned : (l : Link) (t : Tag) → is_owned t ≡ true → is_owned_kind l.ns l.kind ≡ true → link_fits_tag l t ≡ true
+tagged_owned l Outside h k = cc
+tagged_owned l Base h k = cc
+tagged_owned l (Own att) h k = k
 
 -- the one end has the other as its peer
 end_has_peer : (links : List Link) (l m : Link) (o : Option LinkKey) → is_peer_at m.ns m.name o ≡ true → is_peer_at l.ns l.name m.peer ≡ true → tag_eq m.tag l.tag ≡ true → is_veth l.kind ≡ true
@@ -131,8 +131,8 @@ AreNewLinks-veth host h i pair there free_i free_h =
     let new_i : list_any (is_at i.ns i.name) host.links ≡ false = list_any-find_none (is_at i.ns i.name) host.links free_i in
     let at_h : is_at h.ns h.name h ≡ true = is_at-itself h in
     let at_i : is_at i.ns i.name i ≡ true = is_at-itself i in
-    let tagged_h : link_fits_tag h h.tag ≡ true = tagged_end h h.tag pair.owned pair.host_kind in
-    let tagged_i : link_fits_tag i i.tag ≡ true = tagged_end i i.tag owned pair.inner_kind in
+    let tagged_h : link_fits_tag h h.tag ≡ true = tagged_owned h h.tag pair.owned (owned_veth h.ns h.kind pair.host_kind) in
+    let tagged_i : link_fits_tag i i.tag ≡ true = tagged_owned i i.tag owned (owned_veth i.ns i.kind pair.inner_kind) in
     let peer_h : peer_fits (host.links ++ h ∷ i ∷ []) h h.peer ≡ true =
     end_has_peer (host.links ++ h ∷ i ∷ []) h i h.peer pair.to_inner pair.to_host same pair.host_kind (grind (arith, pair.outer, pair.inner)) (grind (arith, pair.outer))
     (list_any-append_right (λ x. is_at i.ns i.name x && is_peer_at h.ns h.name x.peer && tag_eq x.tag h.tag) host.links (h ∷ i ∷ []) (grind (arith, at_i, pair.to_host, same))) in
@@ -150,26 +150,21 @@ AreNewLinks-veth host h i pair there free_i free_h =
 pub IsSound-veth_add : (host : Host) (h i : Link) → IsVethPair h i → IsSound host → IsSound (veth_add_of host h i).0
 IsSound-veth_add host h i pair sound =
     by_test (λ (step : Host × Reply). IsSound step.0) (has_named_ns host i.ns) _ _
-    (λ there. by_test (λ (step : Host × Reply). IsSound step.0) (has_bridge_as_master host h.master) _ _
-    (λ master. by_way (λ (step : Host × Reply). IsSound step.0) (option_map (λ l. l.tag) (option_or (link_at host i.ns i.name) (link_at host h.ns h.name))) _ _
-    (λ _. sound)
-    (λ free.
+    (λ there. by_addition IsSound (has_bridge_as_master host h.master) (option_map (λ l. l.tag) (option_or (link_at host i.ns i.name) (link_at host h.ns h.name))) host _ _ sound
+    (λ master free.
     let none = none-option_or (link_at host i.ns i.name) (link_at host h.ns h.name) (none-option_map (λ l. l.tag) _ free) in
     IsSound-more_links host (h ∷ i ∷ []) sound (AreNewLinks-veth host h i pair there none.0 none.1)))
-    (λ _. sound))
     (λ _. sound)
 
 touches-veth : (host : Host) (h i : Link) (att : Att) → h.tag ≡ Own att → i.tag ≡ Own att → TouchesOwnAlone att host (veth_add_of host h i).0
 touches-veth host h i att own_h own_i =
     let at_h : is_own att h.tag ≡ true = own-own att h.tag own_h in
     let at_i : is_own att i.tag ≡ true = own-own att i.tag own_i in
+    let nothing : TouchesOwnAlone att host host = TouchesOwnAlone-nothing att host in
     by_test (λ (step : Host × Reply). TouchesOwnAlone att host step.0) (has_named_ns host i.ns) _ _
-    (λ there. by_test (λ (step : Host × Reply). TouchesOwnAlone att host step.0) (has_bridge_as_master host h.master) _ _
-    (λ master. by_way (λ (step : Host × Reply). TouchesOwnAlone att host step.0) (option_map (λ l. l.tag) (option_or (link_at host i.ns i.name) (link_at host h.ns h.name))) _ _
-    (λ _. TouchesOwnAlone-nothing att host)
-    (λ free. TouchesOwnAlone-with_links att host _ (ChangesOnly-append (λ l. is_own att l.tag) host.links (h ∷ i ∷ []) (grind (arith, at_h, at_i)))))
-    (λ _. TouchesOwnAlone-nothing att host))
-    (λ _. TouchesOwnAlone-nothing att host)
+    (λ there. by_addition (TouchesOwnAlone att host) (has_bridge_as_master host h.master) (option_map (λ l. l.tag) (option_or (link_at host i.ns i.name) (link_at host h.ns h.name))) host _ _ nothing
+    (λ _ _. TouchesOwnAlone-with_links att host _ (ChangesOnly-append (λ l. is_own att l.tag) host.links (h ∷ i ∷ []) (grind (arith, at_h, at_i)))))
+    (λ _. nothing)
 
 pub TouchesTag-veth_add : (host : Host) (h i : Link) → IsVethPair h i → TouchesTag h.tag host (veth_add_of host h i).0
 TouchesTag-veth_add host h i pair =
@@ -183,11 +178,6 @@ macvlan_fits ns Bridge h inner = cc
 macvlan_fits ns Veth h inner = cc
 macvlan_fits ns (Macvlan mode) h inner = (grind (arith, inner), refl)
 
-macvlan_tagged : (l : Link) (t : Tag) → is_owned t ≡ true → is_owned_kind l.ns l.kind ≡ true → link_fits_tag l t ≡ true
-macvlan_tagged l Outside h k = cc
-macvlan_tagged l Base h k = cc
-macvlan_tagged l (Own att) h k = k
-
 no_peer-fits : (links : List Link) (l : Link) (o : Option LinkKey) → o ≡ None → is_veth l.kind ≡ false → peer_fits links l o ≡ true
 no_peer-fits links l None e v = grind (arith, v)
 no_peer-fits links l (Some key) e v = cc
@@ -196,7 +186,7 @@ AreNewLinks-macvlan : (host : Host) (l : Link) → IsMacvlanLink l → has_named
 AreNewLinks-macvlan host l macvlan there free =
     let new : list_any (is_at l.ns l.name) host.links ≡ false = list_any-find_none (is_at l.ns l.name) host.links free in
     let fits = macvlan_fits l.ns l.kind macvlan.kind macvlan.inner in
-    let tagged : link_fits_tag l l.tag ≡ true = macvlan_tagged l l.tag macvlan.owned fits.0 in
+    let tagged : link_fits_tag l l.tag ≡ true = tagged_owned l l.tag macvlan.owned fits.0 in
     let alone : peer_fits (host.links ++ l ∷ []) l l.peer ≡ true = no_peer-fits (host.links ++ l ∷ []) l l.peer macvlan.alone fits.1 in
     record {
       distinct = refl;
@@ -209,23 +199,18 @@ AreNewLinks-macvlan host l macvlan there free =
 pub IsSound-macvlan_add : (host : Host) (l : Link) → IsMacvlanLink l → IsSound host → IsSound (macvlan_add_of host l).0
 IsSound-macvlan_add host l macvlan sound =
     by_test (λ (step : Host × Reply). IsSound step.0) (has_named_ns host l.ns) _ _
-    (λ there. by_test (λ (step : Host × Reply). IsSound step.0) (has_master host l.master) _ _
-    (λ master. by_way (λ (step : Host × Reply). IsSound step.0) (option_map (λ m. m.tag) (link_at host l.ns l.name)) _ _
-    (λ _. sound)
-    (λ free. IsSound-more_links host (l ∷ []) sound (AreNewLinks-macvlan host l macvlan there (none-option_map (λ m. m.tag) _ free))))
-    (λ _. sound))
+    (λ there. by_addition IsSound (has_master host l.master) (option_map (λ m. m.tag) (link_at host l.ns l.name)) host _ _ sound
+    (λ master free. IsSound-more_links host (l ∷ []) sound (AreNewLinks-macvlan host l macvlan there (none-option_map (λ m. m.tag) _ free))))
     (λ _. sound)
 
 touches-macvlan : (host : Host) (l : Link) (att : Att) → l.tag ≡ Own att → TouchesOwnAlone att host (macvlan_add_of host l).0
 touches-macvlan host l att own =
     let at : is_own att l.tag ≡ true = own-own att l.tag own in
+    let nothing : TouchesOwnAlone att host host = TouchesOwnAlone-nothing att host in
     by_test (λ (step : Host × Reply). TouchesOwnAlone att host step.0) (has_named_ns host l.ns) _ _
-    (λ there. by_test (λ (step : Host × Reply). TouchesOwnAlone att host step.0) (has_master host l.master) _ _
-    (λ master. by_way (λ (step : Host × Reply). TouchesOwnAlone att host step.0) (option_map (λ m. m.tag) (link_at host l.ns l.name)) _ _
-    (λ _. TouchesOwnAlone-nothing att host)
-    (λ free. TouchesOwnAlone-with_links att host _ (ChangesOnly-append (λ m. is_own att m.tag) host.links (l ∷ []) (grind (arith, at)))))
-    (λ _. TouchesOwnAlone-nothing att host))
-    (λ _. TouchesOwnAlone-nothing att host)
+    (λ there. by_addition (TouchesOwnAlone att host) (has_master host l.master) (option_map (λ m. m.tag) (link_at host l.ns l.name)) host _ _ nothing
+    (λ _ _. TouchesOwnAlone-with_links att host _ (ChangesOnly-append (λ m. is_own att m.tag) host.links (l ∷ []) (grind (arith, at)))))
+    (λ _. nothing)
 
 pub TouchesTag-macvlan_add : (host : Host) (l : Link) → IsMacvlanLink l → TouchesTag l.tag host (macvlan_add_of host l).0
 TouchesTag-macvlan_add host l macvlan = TouchesTag-owned l.tag host (macvlan_add_of host l).0 macvlan.owned (touches-macvlan host l)

@@ -7,7 +7,7 @@ use Rattle.std.specs.Cmp.Lexicographic.{nat_list_eq_equiv}
 use Rattle.std.proofs.lemmas.Bool.Decides.{nat_tests}
 use Rattle.kernel_types.specs.Equal.{att_eq, tag_eq}
 use Rattle.kernel_types.specs.Words.{is_host_ns, is_host_bridge, is_own, is_owned, is_at, is_veth}
-use Rattle.kernel_types.specs.Apply.Calls.{append_unless_taken}
+use Rattle.kernel_types.specs.Apply.Calls.{append_unless_taken, unless_there}
 use Rattle.kernel_types.specs.Sound.{is_shared_kind}
 use Rattle.kernel_types.specs.Touch.{TouchesOwnAlone, TouchesTag}
 use Rattle.kernel_types.specs.declared.object.Att.{Att}
@@ -18,6 +18,7 @@ use Rattle.kernel_types.specs.declared.object.Tag.{Tag}
 use Rattle.kernel_types.specs.declared.object.Tag.TheVariants.{Outside, Base, Own}
 use Rattle.kernel_types.specs.declared.object.Host.{Host}
 use Rattle.kernel_types.specs.declared.call.Reply.{Reply}
+use Rattle.kernel_types.specs.declared.call.Reply.TheVariants.{Done}
 
 -- ---- cases
 
@@ -28,6 +29,15 @@ by_test P false x y h g = g refl
 pub by_way : (P : Host × Reply → Type 0) (o : Option Tag) (host next : Host) → ((t : Tag) → P (append_unless_taken (Some t) host next)) → (o ≡ None → P (append_unless_taken None host next)) → P (append_unless_taken o host next)
 by_way P None host next h g = g refl
 by_way P (Some t) host next h g = h t
+
+-- the host stays where the place isn't there or is taken
+pub by_addition : (P : Host → Type 0) (there : Bool) (o : Option Tag) (host next : Host) (reply : Reply) → P host → (there ≡ true → o ≡ None → P next) → P (if there then append_unless_taken o host next else (host, reply)).0
+by_addition P there o host next reply h g =
+    by_test (λ (step : Host × Reply). P step.0) there (append_unless_taken o host next) (host, reply) (λ t. by_way (λ step. P step.0) o host next (λ _. h) (g t)) (λ _. h)
+
+-- the host stays where it is there already
+pub by_absence : (P : Host → Type 0) (there : Bool) (reply : Reply) (host next : Host) → P host → (there ≡ false → P next) → P (unless_there there reply host next).0
+by_absence P there reply host next h g = by_test (λ (step : Host × Reply). P step.0) there (host, reply) (next, Done) (λ _. h) g
 
 pub none-option_map : {A B : Type 0} (f : A → B) (o : Option A) → option_map f o ≡ None → o ≡ None
 none-option_map f None h = refl

@@ -9,7 +9,7 @@ use Rattle.kernel_types.specs.Words.{is_host_ns, is_host_or_ns, has_named_ns}
 use Rattle.kernel_types.specs.Apply.Calls.{ns_add_of, ns_del_of, goes_with_ns, has_peer_in, without_links, without_ns, is_same_setting}
 use Rattle.kernel_types.specs.Sound.{IsSound, setting_fits_tag}
 use Rattle.kernel_types.specs.Touch.{AddsNamespace, RemovesUnshared, is_base}
-use Rattle.kernel_types.proofs.Cases.{by_test}
+use Rattle.kernel_types.proofs.Cases.{by_absence, by_test}
 use Rattle.kernel_types.proofs.ChangeLemmas.{DropsOnly-filter}
 use Rattle.kernel_types.proofs.ListLemmas.{list_all-filter, list_all-kept, list_all-push, list_all-weaker, list_any-kept, list_any-push, distinct-filter, distinct-push}
 use Rattle.kernel_types.proofs.Removal.{IsSound-without_links, none_by}
@@ -35,8 +35,7 @@ setting_fits_tag-more namespaces more s (Own att) h = is_host_or_ns-more namespa
 
 pub IsSound-ns_add : (host : Host) (name : List ℕ) → is_host_ns name ≡ false → IsSound host → IsSound (ns_add_of host name).0
 IsSound-ns_add host name inner sound =
-    by_test (λ (step : Host × Reply). IsSound step.0) (has_named_ns host name) _ _
-    (λ _. sound)
+    by_absence IsSound (has_named_ns host name) _ host _ sound
     (λ none. record {
       namespaces = record {
         keys = distinct-push (λ a b. bytes_eq a.name b.name) host.namespaces (record { name = name; tag = Outside }) sound.namespaces.keys none;
@@ -65,7 +64,7 @@ IsSound-ns_add host name inner sound =
 
 pub AddsNamespace-ns_add : (host : Host) (name : List ℕ) → AddsNamespace host (ns_add_of host name).0
 AddsNamespace-ns_add host name =
-    by_test (λ (step : Host × Reply). AddsNamespace host step.0) (has_named_ns host name) _ _ (λ _. inl refl) (λ _. inr (record { name = name; tag = Outside }, refl, refl))
+    by_absence (AddsNamespace host) (has_named_ns host name) _ host _ (inl refl) (λ _. inr (record { name = name; tag = Outside }, refl, refl))
 
 -- ---- a namespace that goes
 
