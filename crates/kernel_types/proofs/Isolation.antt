@@ -1,5 +1,5 @@
 -- A call leaves the objects that are not its attachment's, list by list and in order.
-use Rattle.std.proofs.Common.{◌≡◌, ℕ, Bool, true, false, not, ◌&&◌, List, inl, inr, refl, sym, ◌∙◌, ap, subst, arith}
+use Rattle.std.proofs.Common.{◌≡◌, ℕ, Bool, true, false, not, ◌&&◌, List, [], ◌∷◌, ◌++◌, inl, inr, refl, sym, ◌∙◌, ap, subst, arith}
 use Rattle.std.specs.Prelude.{filter}
 use Rattle.std.specs.Cmp.{IsPartialEquivalence}
 use Rattle.std.specs.Cmp.Lexicographic.{nat_list_eq_equiv}
@@ -8,13 +8,16 @@ use Rattle.kernel_types.specs.Allowed.{IsAllowed}
 use Rattle.kernel_types.specs.Equal.{att_eq, tag_eq}
 use Rattle.kernel_types.specs.Isolation.{KeepsWhere, KeepsPart, KeepsUnowned, names_att, is_from_outside, ensures_shared}
 use Rattle.kernel_types.specs.Words.{is_own, is_owned}
-use Rattle.kernel_types.specs.Touch.{Touches, TouchesOwn, TouchesTag, AddsBridge, AddsAddress, AddsSetting, RemovesUnshared, is_base}
+use Rattle.kernel_types.specs.Touch.{Touches, TouchesOwn, TouchesTag, AddsOne, AddsBridge, AddsAddress, AddsSetting, RemovesUnshared, is_base}
 use Rattle.kernel_types.proofs.Cases.{tag_eq-own}
 use Rattle.kernel_types.proofs.ChangeLemmas.{filter-ChangesOnly, filter-DropsOnly}
 use Rattle.kernel_types.proofs.ListLemmas.{filter-push_dropped}
 use Rattle.kernel_types.specs.declared.object.Att.{Att}
 use Rattle.kernel_types.specs.declared.object.Tag.{Tag}
 use Rattle.kernel_types.specs.declared.object.Tag.TheVariants as tags
+use Rattle.kernel_types.specs.declared.object.AddrObj.{AddrObj}
+use Rattle.kernel_types.specs.declared.object.Link.{Link}
+use Rattle.kernel_types.specs.declared.object.Setting.{Setting}
 use Rattle.kernel_types.specs.declared.object.Host.{Host}
 use Rattle.kernel_types.specs.declared.call.Call.{Call}
 use Rattle.kernel_types.specs.declared.call.Call.TheVariants.{Begin, BridgeEnsure, GatewayEnsure, ForwardEnsure, VethAdd, MacvlanAdd, LinkSet, AddrAdd, RouteAdd, RuleAppend, SettingSet, LeaseNext, CachePut, LinkDel, RuleDel, SettingDel, LeaseDel, CacheDel, HasObj, CacheGet, OwnersOf, PoolFree, NsChange, Outside}
@@ -40,38 +43,27 @@ KeepsWhere-TouchesOwn test att old new apart touches = record {
   cached = filter-ChangesOnly (λ x. is_own att x.tag) (λ x. test x.tag) (λ x. apart x.tag) old.cached new.cached touches.cached;
 }
 
-pub KeepsWhere-AddsBridge : (test : Tag → Bool) (old new : Host) → test tags.Base ≡ false → AddsBridge old new → KeepsWhere test old new
-KeepsWhere-AddsBridge test old new fails adds =
+KeepsWhere-AddsOne : {X : Type 0} (test : Tag → Bool) (tag_of : X → Tag) (tag : Tag) (put : X → Host) (old new : Host) → ((x : X) → test (tag_of x) ≡ false → KeepsWhere test old (put x)) → test tag ≡ false → AddsOne tag_of tag put old new → KeepsWhere test old new
+KeepsWhere-AddsOne test tag_of tag put old new keeps fails adds =
     elim adds [
       | inl e ↦ KeepsWhere-same test old new e
-      | inr more ↦
-          let bridge = more.0 in
-          let out : test bridge.tag ≡ false = ap test more.1 ∙ fails in
-          subst (KeepsWhere test old) (sym more.2)
-          (record { namespaces = refl; links = filter-push_dropped (λ l. test l.tag) old.links bridge out; addresses = refl; routes = refl; rules = refl; settings = refl; leases = refl; cached = refl })
+      | inr more ↦ subst (KeepsWhere test old) (sym more.2) (keeps more.0 (ap test more.1 ∙ fails))
     ]
+
+pub KeepsWhere-AddsBridge : (test : Tag → Bool) (old new : Host) → test tags.Base ≡ false → AddsBridge old new → KeepsWhere test old new
+KeepsWhere-AddsBridge test old new fails adds =
+    KeepsWhere-AddsOne test (λ (x : Link). x.tag) tags.Base (λ x. record old { links = old.links ++ x ∷ [] }) old new
+    (λ bridge out. record { namespaces = refl; links = filter-push_dropped (λ l. test l.tag) old.links bridge out; addresses = refl; routes = refl; rules = refl; settings = refl; leases = refl; cached = refl }) fails adds
 
 pub KeepsWhere-AddsAddress : (test : Tag → Bool) (old new : Host) → test tags.Base ≡ false → AddsAddress old new → KeepsWhere test old new
 KeepsWhere-AddsAddress test old new fails adds =
-    elim adds [
-      | inl e ↦ KeepsWhere-same test old new e
-      | inr more ↦
-          let addr = more.0 in
-          let out : test addr.tag ≡ false = ap test more.1 ∙ fails in
-          subst (KeepsWhere test old) (sym more.2)
-          (record { namespaces = refl; links = refl; addresses = filter-push_dropped (λ a. test a.tag) old.addresses addr out; routes = refl; rules = refl; settings = refl; leases = refl; cached = refl })
-    ]
+    KeepsWhere-AddsOne test (λ (x : AddrObj). x.tag) tags.Base (λ x. record old { addresses = old.addresses ++ x ∷ [] }) old new
+    (λ addr out. record { namespaces = refl; links = refl; addresses = filter-push_dropped (λ a. test a.tag) old.addresses addr out; routes = refl; rules = refl; settings = refl; leases = refl; cached = refl }) fails adds
 
 pub KeepsWhere-AddsSetting : (test : Tag → Bool) (old new : Host) → test tags.Base ≡ false → AddsSetting old new → KeepsWhere test old new
 KeepsWhere-AddsSetting test old new fails adds =
-    elim adds [
-      | inl e ↦ KeepsWhere-same test old new e
-      | inr more ↦
-          let setting = more.0 in
-          let out : test setting.tag ≡ false = ap test more.1 ∙ fails in
-          subst (KeepsWhere test old) (sym more.2)
-          (record { namespaces = refl; links = refl; addresses = refl; routes = refl; rules = refl; settings = filter-push_dropped (λ s. test s.tag) old.settings setting out; leases = refl; cached = refl })
-    ]
+    KeepsWhere-AddsOne test (λ (x : Setting). x.tag) tags.Base (λ x. record old { settings = old.settings ++ x ∷ [] }) old new
+    (λ setting out. record { namespaces = refl; links = refl; addresses = refl; routes = refl; rules = refl; settings = filter-push_dropped (λ s. test s.tag) old.settings setting out; leases = refl; cached = refl }) fails adds
 
 -- ---- another attachment
 
