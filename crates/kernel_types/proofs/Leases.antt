@@ -16,7 +16,7 @@ use Rattle.kernel_types.specs.Touch.{ChangesOnly, TouchesOwn, TouchesOwnAndLast}
 use Rattle.kernel_types.proofs.Cases.{by_test, att_eq-refl}
 use Rattle.kernel_types.proofs.ChangeLemmas.{ChangesOnly-nothing, ChangesOnly-append, ChangesOnly-map}
 use Rattle.kernel_types.proofs.ListLemmas.{passes-find, list_all-push, list_any-map_filter, distinct-push, distinct-map}
-use Rattle.kernel_types.proofs.OneList.{IsSound-with_leases, IsSound-with_lasts, TouchesOwn-nothing, TouchesOwn-with_leases}
+use Rattle.kernel_types.proofs.OneList.{IsSound-with_leases, IsSound-with_lasts, TouchesOwn-nothing, TouchesOwn-with_lasts, TouchesOwn-with_leases}
 use Rattle.kernel_types.specs.declared.object.Att.{Att}
 use Rattle.kernel_types.specs.declared.object.Tag.TheVariants.{Own}
 use Rattle.kernel_types.specs.declared.object.Last.{Last}
@@ -70,8 +70,7 @@ ChangesOnly-with_last host network number addr =
 TouchesOwn-with_last : (att : Att) (old host : Host) (network : List ℕ) (number : ℕ) (addr : Addr) → TouchesOwn att old host → TouchesOwn att old (with_last host network number addr)
 TouchesOwn-with_last att old host network number addr touches =
     by_test (λ (next : Host). TouchesOwn att old next) (list_any (is_of_pool network number) host.lasts) _ _
-    (λ _. record { namespaces = touches.namespaces; links = touches.links; addresses = touches.addresses; routes = touches.routes; rules = touches.rules; settings = touches.settings; leases = touches.leases; cached = touches.cached })
-    (λ _. record { namespaces = touches.namespaces; links = touches.links; addresses = touches.addresses; routes = touches.routes; rules = touches.rules; settings = touches.settings; leases = touches.leases; cached = touches.cached })
+    (λ _. TouchesOwn-with_lasts att old host _ touches) (λ _. TouchesOwn-with_lasts att old host _ touches)
 
 -- ---- the lease
 

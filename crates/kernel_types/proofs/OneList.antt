@@ -84,3 +84,6 @@ TouchesOwn-with_cached att host xs c = record { namespaces = refl; links = Chang
 
 pub TouchesOwnAlone-with_cached : (att : Att) (host : Host) (xs : List CachedObj) → ChangesOnly (λ x. is_own att x.tag) host.cached xs → TouchesOwnAlone att host (record host { cached = xs })
 TouchesOwnAlone-with_cached att host xs c = record { own = TouchesOwn-with_cached att host xs c; lasts = refl }
+
+pub TouchesOwn-with_lasts : (att : Att) (old host : Host) (xs : List Last) → TouchesOwn att old host → TouchesOwn att old (record host { lasts = xs })
+TouchesOwn-with_lasts att old host xs touches = record { namespaces = touches.namespaces; links = touches.links; addresses = touches.addresses; routes = touches.routes; rules = touches.rules; settings = touches.settings; leases = touches.leases; cached = touches.cached }
