@@ -7,7 +7,7 @@ ghost use Rattle.kernel_types.specs.Words.{lease_of};
 use cni_addr::{Addr, Duplicate, NoMemory};
 use cni_result::Cached;
 use kernel_types::{
-    AddrObj, Att, CachedObj, Call, Lease, Link, RouteObj, Rule, Setting, Tag, set_links,
+    AddrObj, Att, CachedObj, Call, Lease, Link, LinkValues, RouteObj, Rule, Setting, Tag, set_links,
 };
 use std::alloc::Global;
 use std::marker::Model;
@@ -94,16 +94,14 @@ impl Objects {
                 promisc,
                 allmulti,
             } => {
-                set_links(
-                    &mut self.links,
-                    att,
-                    key,
-                    *mac,
-                    *mtu,
-                    *tx_qlen,
-                    *promisc,
-                    *allmulti,
-                );
+                let values = LinkValues {
+                    mac: *mac,
+                    mtu: *mtu,
+                    tx_qlen: *tx_qlen,
+                    promisc: *promisc,
+                    allmulti: *allmulti,
+                };
+                set_links(&mut self.links, att, key, values);
                 Ok(())
             }
             Call::AddrAdd { obj } => push(&mut self.addresses, obj),

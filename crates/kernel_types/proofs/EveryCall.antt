@@ -9,7 +9,7 @@ use Rattle.kernel_types.proofs.Append.{IsSound-bridge_ensure, AddsBridge-bridge_
 use Rattle.kernel_types.proofs.Deletes.{IsSound-rule_del, IsSound-setting_del, IsSound-lease_del, IsSound-cache_del}
 use Rattle.kernel_types.proofs.DropsOwn.{TouchesOwnAlone-RemovesOwn, RemovesOwn-link_del, RemovesOwn-rule_del, RemovesOwn-setting_del, RemovesOwn-lease_del, RemovesOwn-cache_del}
 use Rattle.kernel_types.proofs.Leases.{IsSound-lease_next, TouchesOwnAndLast-lease_next}
-use Rattle.kernel_types.proofs.LinkValues.{IsSound-link_set, TouchesOwnAlone-link_set}
+use Rattle.kernel_types.proofs.LinkSet.{IsSound-link_set, TouchesOwnAlone-link_set}
 use Rattle.kernel_types.proofs.Namespaces.{IsSound-ns_add, AddsNamespace-ns_add, IsSound-ns_del, RemovesUnshared-ns_del}
 use Rattle.kernel_types.proofs.Outside.{IsSound-drop_link, RemovesUnshared-drop_link, IsSound-flush, RemovesUnshared-flush}
 use Rattle.kernel_types.proofs.Removal.{IsSound-link_del}

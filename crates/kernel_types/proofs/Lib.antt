@@ -8,7 +8,7 @@ pub mod EveryCall
 pub mod Isolation
 pub mod LeasedAddress
 pub mod Leases
-pub mod LinkValues
+pub mod LinkSet
 pub mod ListLemmas
 pub mod Namespaces
 pub mod OneList

@@ -20,7 +20,7 @@ pub mod words;
 
 pub use call::{Call, Change, Given, Kind, Object, Probe, Reply};
 pub use found_host::opening_with;
-pub use link_values::set_links;
+pub use link_values::{LinkValues, set_links};
 pub use names::{host_name_bytes, link_mac};
 pub use object::{
     AddrObj, Att, CachedObj, Chain, Host, Last, Lease, Link, LinkKey, LinkKind, NsObj, RouteObj,

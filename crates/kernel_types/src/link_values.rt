@@ -8,6 +8,18 @@ use crate::object::{Att, Link, LinkKey, LinkKind, Tag};
 use crate::words::is_at;
 use cni_addr::Mac;
 
+/// What the call LinkSet gives a link: each value that is there, and each mode whose flag is set. All else stays.
+#[derive(Clone, Copy)]
+pub struct LinkValues {
+    pub mac: Option<Mac>,
+    /// In bytes.
+    pub mtu: Option<u32>,
+    /// In packets.
+    pub tx_qlen: Option<u32>,
+    pub promisc: bool,
+    pub allmulti: bool,
+}
+
 impl Link {
     /// A link as Linux makes a new one: under no master, without a peer, in no mode, with a queue of 1000 packets.
     /// Takes no memory.
@@ -37,55 +49,32 @@ impl Link {
         is_at(key.ns.as_str(), key.name.as_str(), self) && self.tag.is_own(att)
     }
 
-    fn set_values(
-        &mut self,
-        mac: Option<Mac>,
-        mtu: Option<u32>,
-        tx_qlen: Option<u32>,
-        promisc: bool,
-        allmulti: bool,
-    )
-        ensures { self.new ≡ with_values mac mtu tx_qlen promisc allmulti self.old }
+    fn set_values(&mut self, values: LinkValues)
+        ensures { self.new ≡ with_values values.mac values.mtu values.tx_qlen values.promisc values.allmulti self.old }
     {
-        self.mac = mac.unwrap_or(self.mac);
-        self.mtu = mtu.unwrap_or(self.mtu);
-        self.tx_qlen = tx_qlen.unwrap_or(self.tx_qlen);
-        self.promisc = promisc || self.promisc;
-        self.allmulti = allmulti || self.allmulti;
+        self.mac = values.mac.unwrap_or(self.mac);
+        self.mtu = values.mtu.unwrap_or(self.mtu);
+        self.tx_qlen = values.tx_qlen.unwrap_or(self.tx_qlen);
+        self.promisc = values.promisc || self.promisc;
+        self.allmulti = values.allmulti || self.allmulti;
     }
 
-    fn set_if_own(
-        &mut self,
-        att: &Att,
-        key: &LinkKey,
-        mac: Option<Mac>,
-        mtu: Option<u32>,
-        tx_qlen: Option<u32>,
-        promisc: bool,
-        allmulti: bool,
-    )
-        ensures { self.new ≡ set_link att.now key.now mac mtu tx_qlen promisc allmulti self.old }
+    fn set_if_own(&mut self, att: &Att, key: &LinkKey, values: LinkValues)
+        ensures { self.new ≡ set_link att.now key.now
+            values.mac values.mtu values.tx_qlen values.promisc values.allmulti self.old }
     {
         if self.is_own_at(att, key) {
-            self.set_values(mac, mtu, tx_qlen, promisc, allmulti);
+            self.set_values(values);
         }
     }
 }
 
-/// Gives the attachment's link at the place the values that are there; a mode is never turned off. Linear in the links.
-pub fn set_links(
-    links: &mut Vec<Link>,
-    att: &Att,
-    key: &LinkKey,
-    mac: Option<Mac>,
-    mtu: Option<u32>,
-    tx_qlen: Option<u32>,
-    promisc: bool,
-    allmulti: bool,
-)
-    ensures { links.new.items ≡ map (set_link att.now key.now mac mtu tx_qlen promisc allmulti) links.old.items }
+/// Gives the attachment's link at the place the values. Linear in the links.
+pub fn set_links(links: &mut Vec<Link>, att: &Att, key: &LinkKey, values: LinkValues)
+    ensures { links.new.items ≡ map (set_link att.now key.now
+        values.mac values.mtu values.tx_qlen values.promisc values.allmulti) links.old.items }
 {
     for link in links.iter_mut() {
-        link.set_if_own(att, key, mac, mtu, tx_qlen, promisc, allmulti);
+        link.set_if_own(att, key, values);
     }
 }

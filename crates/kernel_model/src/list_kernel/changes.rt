@@ -6,7 +6,7 @@ ghost use Rattle.kernel_types.specs.Apply.Calls.{is_own_at, link_set_of};
 
 use super::ListKernel;
 use cni_addr::Mac;
-use kernel_types::{Att, Link, LinkKey, Reply, set_links};
+use kernel_types::{Att, Link, LinkKey, LinkValues, Reply, set_links};
 
 /// Whether the attachment has a link at the place.
 fn has_own_at(links: &[Link], att: &Att, key: &LinkKey) -> bool
@@ -31,16 +31,14 @@ impl ListKernel {
         if !has_own_at(&self.links, att, key) {
             return Reply::NoLink;
         }
-        set_links(
-            &mut self.links,
-            att,
-            key,
+        let values = LinkValues {
             mac,
             mtu,
             tx_qlen,
             promisc,
             allmulti,
-        );
+        };
+        set_links(&mut self.links, att, key, values);
         Reply::Done
     }
 }
