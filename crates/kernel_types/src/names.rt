@@ -3,7 +3,7 @@
 //! Two attachments may derive one host name; the later ADD is then told that the name is taken.
 
 ghost use Rattle.std.specs.Prelude.{◌≡◌, IfOk};
-ghost use Rattle.kernel_types.specs.Names.{digest_of, host_name_of, link_mac_of};
+ghost use Rattle.kernel_types.specs.Names.{digest_of, host_name_of, link_mac_of, local_mac};
 
 use crate::object::Att;
 use cni_addr::{Mac, NoMemory, Text};
@@ -33,6 +33,16 @@ pub fn host_name_bytes(network: &str, container: &str, ifname: &str) -> [u8; 12]
     let mut name = *b"veth00000000";
     let _ = hex::encode_to_slice(&digest[..4], &mut name[4..]);
     name
+}
+
+/// The locally administered address (IEEE 802) with these five bytes behind the first.
+fn local_mac(bytes: [u8; 5]) -> Mac
+    ensures { result ≡ local_mac bytes }
+{
+    let [a, b, c, d, e] = bytes;
+    Mac {
+        bytes: [10, a, b, c, d, e],
+    }
 }
 
 impl Att {
@@ -69,11 +79,7 @@ impl Att {
         ensures { result ≡ host_mac_of self.now }
     {
         let digest = self.digest();
-        Mac {
-            bytes: [
-                10, digest[9], digest[10], digest[11], digest[12], digest[13],
-            ],
-        }
+        local_mac([digest[9], digest[10], digest[11], digest[12], digest[13]])
     }
 
     /// The hardware address of the container's end, and of a macvlan link.
@@ -81,9 +87,7 @@ impl Att {
         ensures { result ≡ inner_mac_of self.now }
     {
         let digest = self.digest();
-        Mac {
-            bytes: [10, digest[4], digest[5], digest[6], digest[7], digest[8]],
-        }
+        local_mac([digest[4], digest[5], digest[6], digest[7], digest[8]])
     }
 }
 
@@ -93,7 +97,5 @@ pub fn link_mac(name: &str) -> Mac
     ensures { result ≡ link_mac_of name.now }
 {
     let digest = Sha256::digest(name);
-    Mac {
-        bytes: [10, digest[0], digest[1], digest[2], digest[3], digest[4]],
-    }
+    local_mac([digest[0], digest[1], digest[2], digest[3], digest[4]])
 }
