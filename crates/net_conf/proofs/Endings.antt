@@ -1,6 +1,7 @@
--- What is read of lists whose items pass a test first, how many are read, and what passes a test itself.
+-- What is read of lists whose items pass a test first, how many are read, what passes a test itself, and what holds of
+-- a value that may be given.
 use Rattle.std.proofs.Common.{◌≡◌, ℕ, suc, List, [], ◌∷◌, length, Bool, true, Option, Some, None, Result, Ok, refl, sym, ap, ◌∙◌, subst}
-use Rattle.std.specs.Prelude.{All}
+use Rattle.std.specs.Prelude.{All, unwrap_or}
 use Rattle.std.proofs.lemmas.Bool.{and_parts}
 use Rattle.std.proofs.lemmas.List.Elements.{All-nil, All-cons}
 use Rattle.serde_json.specs.Data.{Data, Items, no_items, item}
@@ -35,3 +36,18 @@ passing-ok blamed test None x is = cc
 passing-ok blamed test (Some y) x is =
     let this = passed (test y) y x _ is in
     subst (λ z. (test z ≡ true) × (Some y ≡ Some z)) this.1 (this.0, refl)
+
+-- what holds of the value, if one is given
+abbrev pub IfGiven : {A : Type 0} → (A → Type 0) → Option A → Type 0
+IfGiven {A = A} P o = (x : A) → o ≡ Some x → P x
+
+pub none_given : {A : Type 0} (P : A → Type 0) → IfGiven P None
+none_given P x same = cc
+
+pub some_given : {A : Type 0} (P : A → Type 0) (x : A) → P x → IfGiven P (Some x)
+some_given P x holds y same = let this : x ≡ y = cc in subst P this holds
+
+-- what holds of the default holds of the value or the default
+pub or_default : {A : Type 0} (P : A → Type 0) (given : Option A) (default : A) → IfGiven P given → P default → P (unwrap_or given default)
+or_default P None default kept holds = holds
+or_default P (Some x) default kept holds = kept x refl

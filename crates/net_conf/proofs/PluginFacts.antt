@@ -1,6 +1,6 @@
 -- What the plugins of a list keep that is read.
 use Rattle.std.proofs.Common.{◌≡◌, ℕ, true, false, List, [], ◌∷◌, ◌++◌, codes, Option, Some, None, Ok, refl, sym, subst}
-use Rattle.std.specs.Prelude.{All, map, unwrap_or, if◌then◌else◌, ok_or}
+use Rattle.std.specs.Prelude.{All, map, if◌then◌else◌, ok_or}
 use Rattle.std.specs.List.{AllByRecursion, IsDistinct, list_any}
 use Rattle.std.specs.Str.{chars}
 use Rattle.std.proofs.lemmas.Bool.{or_parts, or_right}
@@ -13,8 +13,9 @@ use Rattle.cni_json.specs.declared.fields.Field.TheVariants.{Absent, WrongKind, 
 use Rattle.cni_json.proofs.Ascending.{get-everywhere}
 use Rattle.cni_json.specs.WellFormed.{EverywhereInItems, HasAscendingKeys, KeysAscend}
 use Rattle.cni_json.proofs.Endings.{goes, ok_same, passed, not_refused, each_after_keeps}
+use Rattle.net_conf.proofs.Endings.{or_default}
 use Rattle.net_conf.proofs.SetFacts.{sets_at-ok, routes_at-ok}
-use Rattle.net_conf.proofs.TuningFacts.{IsNew, by_test, given_mtu_at-ok, tuning_at-ok}
+use Rattle.net_conf.proofs.TuningFacts.{by_test, given_mtu_at-ok, tuning_at-ok}
 use Rattle.cni_result.specs.Dns.{dns_of_object}
 use Rattle.net_conf.specs.Bridge.{bridge_rows, bridge_name_of, bridge_name_at, gateway_role_at, mode_flags_at, is_one_mode, not_both, modes_at, bridge_at}
 use Rattle.net_conf.specs.Firewall.{firewall_at}
@@ -49,15 +50,11 @@ use Rattle.net_conf.specs.declared.plugins.PluginChain.{PluginChain}
 
 -- ---- members that several plugins have
 
-or_default : (given : Option ℕ) → IsNew IsMtu given → IsMtu (unwrap_or given default_mtu)
-or_default None kept = refl
-or_default (Some n) kept = kept n refl
-
 mtu_at-ok : (d : Data) (n : ℕ) → mtu_at d ≡ Ok n → IsMtu n
 unfolding mtu_at
 mtu_at-ok d n is =
     let given = goes (given_mtu_at d) _ n is in
-    subst IsMtu (ok_same given.rest) (or_default given.value (given_mtu_at-ok d given.value given.first))
+    subst IsMtu (ok_same given.rest) (or_default IsMtu given.value default_mtu (given_mtu_at-ok d given.value given.first) refl)
 
 host_local_at-ok : (d : Data) (conf : HostLocalConf) → host_local_at d ≡ Ok conf → IsWellFormedHostLocal conf
 unfolding host_local_at

@@ -1,22 +1,22 @@
 -- What a range keeps that is read.
-use Rattle.std.proofs.Common.{◌≡◌, ℕ, ◌<◌, true, List, codes, Some, Ok, refl, sym, ◌∙◌, subst, arith}
+use Rattle.std.proofs.Common.{◌≡◌, ℕ, ◌<◌, Bool, true, List, codes, Option, Some, Ok, refl, sym, ◌∙◌, subst, arith}
+use Rattle.std.proofs.lemmas.Bool.{eq-eqb}
 use Rattle.serde_json.specs.Data.{Data}
 use Rattle.cni_json.specs.declared.fields.Field.{Field}
 use Rattle.cni_json.specs.declared.fields.Field.TheVariants.{Absent, WrongKind, Here}
 use Rattle.cni_addr.proofs.AddrTexts.{read_is_spelled}
 use Rattle.cni_addr.proofs.CidrTexts.{network_read_is_spelled, spelled_is_cidr}
 use Rattle.cni_addr.proofs.Networks.{contains_between, family_eq-true, IsAddr-last_of}
-use Rattle.cni_addr.specs.declared.address.Family.{Family}
 use Rattle.cni_addr.specs.declared.range.Range.{Range}
 use Rattle.cni_addr.specs.AddrText.{addr_of_text}
 use Rattle.cni_addr.specs.CidrText.{cidr_of_text}
 use Rattle.cni_addr.specs.Network.{IsCidr, network_of, last_of, contains}
 use Rattle.cni_addr.specs.Value.{AddrValue, CidrValue, IsAddr, bits_below}
 use Rattle.cni_json.proofs.Endings.{goes, ok_same, passed}
-use Rattle.net_conf.proofs.Endings.{passing-ok}
+use Rattle.net_conf.proofs.Endings.{passing-ok, IfGiven, none_given, some_given, or_default}
 use Rattle.net_conf.proofs.RangeLemmas.{subnet_room}
-use Rattle.net_conf.specs.Members.{passing}
-use Rattle.net_conf.specs.Ranges.{is_subnet, subnet_of, subnet_at, bound_of, bound_at, first_host, last_host, is_in_order, in_order, is_address_of, gateway_of, gateway_at, range_at}
+use Rattle.net_conf.specs.Members.{passing, addr_if_of, addr_if_at}
+use Rattle.net_conf.specs.Ranges.{is_subnet, subnet_of, subnet_at, addr_or_at, first_host, last_host, is_in_order, in_order, is_address_of, range_at}
 use Rattle.net_conf.specs.WellFormed.{IsWellFormedRange}
 
 -- ---- what the readers of texts keep
@@ -50,6 +50,11 @@ first_host_inside c is =
     let room = subnet_room c is in
     (contains_between c (first_host c)).1 (refl, omega arith, omega arith)
 
+-- the first host has the network's family
+first_host_family : (c : CidrValue) → is_address_of c.addr.family (first_host c) ≡ true
+unfolding first_host
+first_host_family c = eq-eqb _ _ refl
+
 pub last_host_inside : (c : CidrValue) → is_subnet c ≡ true → contains c (last_host c) ≡ true
 unfolding last_host last_of network_of
 last_host_inside c is =
@@ -72,39 +77,32 @@ subnet_at-ok : (d : Data) (c : CidrValue) → subnet_at d ≡ Ok c → IsSubnet 
 unfolding subnet_at
 subnet_at-ok d c is = subnet_of-ok _ c is
 
-bound_of-ok : (key : List ℕ) (c : CidrValue) (default : AddrValue) (f : Field (List ℕ)) (a : AddrValue) → contains c default ≡ true → bound_of key c default f ≡ Ok a → contains c a ≡ true
-bound_of-ok key c default Absent a inside is = subst (λ w. contains c w ≡ true) (ok_same is) inside
-bound_of-ok key c default WrongKind a inside is = cc
-bound_of-ok key c default (Here text) a inside is = (passing-ok key (contains c) (addr_of_text text) a is).0
+-- an address that was read and passes the test
+abbrev IsRead : (AddrValue → Bool) → AddrValue → Type 0
+IsRead test a = IsAddr a × (test a ≡ true)
 
-bound_at-ok : (key : List ℕ) (c : CidrValue) (default : AddrValue) (d : Data) (a : AddrValue) → contains c default ≡ true → bound_at key c default d ≡ Ok a → contains c a ≡ true
-unfolding bound_at
-bound_at-ok key c default d a inside is = bound_of-ok key c default _ a inside is
+addr_if_of-ok : (blamed : List ℕ) (test : AddrValue → Bool) (f : Field (List ℕ)) (found : Option AddrValue) → addr_if_of blamed test f ≡ Ok found → IfGiven (IsRead test) found
+addr_if_of-ok blamed test Absent found is = subst (IfGiven (IsRead test)) (ok_same is) (none_given (IsRead test))
+addr_if_of-ok blamed test WrongKind found is = cc
+addr_if_of-ok blamed test (Here text) found is =
+    let read = goes (passing blamed test (addr_of_text text)) _ found is in
+    let kept = passing-ok blamed test (addr_of_text text) read.value read.first in
+    subst (IfGiven (IsRead test)) (ok_same read.rest) (some_given (IsRead test) read.value (read_is_addr text read.value kept.1, kept.0))
+
+pub addr_if_at-ok : (blamed key : List ℕ) (test : AddrValue → Bool) (d : Data) (found : Option AddrValue) → addr_if_at blamed key test d ≡ Ok found → IfGiven (IsRead test) found
+unfolding addr_if_at
+addr_if_at-ok blamed key test d found is = addr_if_of-ok blamed test _ found is
+
+addr_or_at-ok : (key : List ℕ) (default : AddrValue) (test : AddrValue → Bool) (d : Data) (a : AddrValue) → IsRead test default → addr_or_at key default test d ≡ Ok a → IsRead test a
+unfolding addr_or_at
+addr_or_at-ok key default test d a kept is =
+    let given = goes (addr_if_at key key test d) _ a is in
+    subst (IsRead test) (ok_same given.rest) (or_default (IsRead test) given.value default (addr_if_at-ok key key test d given.value given.first) kept)
 
 in_order-ok : (start end : AddrValue) → in_order start end ≡ Ok tt → is_in_order start end ≡ true
 unfolding in_order
 in_order-ok start end is =
     (passed (is_in_order start end) tt tt _ is).0
-
-abbrev pub IsOfFamily : Family → AddrValue → Type 0
-IsOfFamily family a = IsAddr a × (a.family ≡ family)
-
-pub of_family-ok : (blamed : List ℕ) (family : Family) (text : List ℕ) (a : AddrValue) → passing blamed (is_address_of family) (addr_of_text text) ≡ Ok a → IsOfFamily family a
-of_family-ok blamed family text a is =
-    let found = passing-ok blamed (is_address_of family) (addr_of_text text) a is in
-    (read_is_addr text a found.1, family_eq-true a.family family found.0)
-
-gateway_of-ok : (c : CidrValue) (f : Field (List ℕ)) (a : AddrValue) → IsSubnet c → gateway_of c f ≡ Ok a → IsOfFamily c.addr.family a
-unfolding first_host
-gateway_of-ok c Absent a subnet is =
-    let inside = first_host_inside c subnet.0 in
-    subst (IsOfFamily c.addr.family) (ok_same is) (contained_is_addr c (first_host c) subnet.1 inside, refl)
-gateway_of-ok c WrongKind a subnet is = cc
-gateway_of-ok c (Here text) a subnet is = of_family-ok (codes "gateway") c.addr.family text a is
-
-gateway_at-ok : (c : CidrValue) (d : Data) (a : AddrValue) → IsSubnet c → gateway_at c d ≡ Ok a → IsOfFamily c.addr.family a
-unfolding gateway_at
-gateway_at-ok c d a subnet is = gateway_of-ok c _ a subnet is
 
 pub range_at-ok : (d : Data) (r : Range) → range_at d ≡ Ok r → IsWellFormedRange r
 unfolding range_at
@@ -116,17 +114,19 @@ range_at-ok d r is =
     let gateway = goes _ _ _ order.rest in
     let c = subnet.value in
     let kept = subnet_at-ok d c subnet.first in
-    let start_inside = bound_at-ok _ c _ d start.value (first_host_inside c kept.0) start.first in
-    let end_inside = bound_at-ok _ c _ d end.value (last_host_inside c kept.0) end.first in
-    let gateway_kept = gateway_at-ok c d gateway.value kept gateway.first in
+    let first_is = contained_is_addr c (first_host c) kept.1 (first_host_inside c kept.0) in
+    let last_is = contained_is_addr c (last_host c) kept.1 (last_host_inside c kept.0) in
+    let start_kept = addr_or_at-ok _ _ (contains c) d start.value (first_is, first_host_inside c kept.0) start.first in
+    let end_kept = addr_or_at-ok _ _ (contains c) d end.value (last_is, last_host_inside c kept.0) end.first in
+    let gateway_kept = addr_or_at-ok _ _ (is_address_of c.addr.family) d gateway.value (first_is, first_host_family c) gateway.first in
     subst IsWellFormedRange (ok_same gateway.rest) (record {
       is_cidr = kept.1;
       subnet = kept.0;
-      start_is_addr = contained_is_addr c start.value kept.1 start_inside;
-      start_inside = start_inside;
-      end_is_addr = contained_is_addr c end.value kept.1 end_inside;
-      end_inside = end_inside;
+      start_is_addr = start_kept.0;
+      start_inside = start_kept.1;
+      end_is_addr = end_kept.0;
+      end_inside = end_kept.1;
       in_order = in_order-ok start.value end.value order.first;
       gateway_is_addr = gateway_kept.0;
-      gateway_family = gateway_kept.1;
+      gateway_family = family_eq-true gateway.value.family c.addr.family gateway_kept.1;
     })

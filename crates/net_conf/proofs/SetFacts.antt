@@ -1,5 +1,5 @@
 -- What sets of ranges and routes keep that are read.
-use Rattle.std.proofs.Common.{◌≡◌, ℕ, suc, ◌+◌, ◌<◌, Bool, true, false, List, [], ◌∷◌, ◌++◌, length, codes, Option, Some, None, Ok, refl, sym, ap, ◌∙◌, subst, arith, length-append}
+use Rattle.std.proofs.Common.{◌≡◌, ℕ, suc, ◌+◌, ◌<◌, Bool, true, false, List, [], ◌∷◌, ◌++◌, length, Option, Some, None, Ok, refl, sym, ap, ◌∙◌, subst, arith, length-append}
 use Rattle.std.specs.Prelude.{All}
 use Rattle.std.specs.List.{list_all}
 use Rattle.std.proofs.lemmas.Bool.{and_parts}
@@ -8,24 +8,21 @@ use Rattle.serde_json.specs.Data.{Data, null, boolean, number, string, array, ob
 use Rattle.serde_json.specs.Events.{items_len}
 use Rattle.cni_json.specs.declared.fields.Field.{Field}
 use Rattle.cni_json.specs.declared.fields.Field.TheVariants.{Absent, WrongKind, Here}
-use Rattle.cni_addr.proofs.Networks.{IsCidr-network_of, network_of_network}
-use Rattle.cni_addr.specs.declared.address.Family.{Family}
+use Rattle.cni_addr.proofs.Networks.{IsCidr-network_of, network_of_network, family_eq-true}
 use Rattle.cni_addr.specs.declared.range.RangeSet.{RangeSet}
-use Rattle.cni_addr.specs.AddrText.{addr_of_text}
 use Rattle.cni_addr.specs.CidrText.{cidr_of_text}
 use Rattle.cni_addr.specs.Network.{IsCidr, network_of}
-use Rattle.cni_addr.specs.Value.{AddrValue, CidrValue}
+use Rattle.cni_addr.specs.Value.{CidrValue}
 use Rattle.cni_result.specs.declared.result.RouteEntry.{RouteEntry}
 use Rattle.ip_pool.proofs.InOrder.{all_pairs-left, all_pairs-right}
 use Rattle.ip_pool.specs.Pool.{is_apart, are_apart}
 use Rattle.net_conf.proofs.Endings.{each_tested, each_count}
 use Rattle.cni_json.proofs.Endings.{goes, ok_same, passed, each_all}
 use Rattle.cni_json.proofs.EachLemmas.{each_after-front}
-use Rattle.net_conf.proofs.RangeFacts.{IsOfFamily, of_family-ok, range_at-ok, read_is_cidr}
+use Rattle.net_conf.proofs.RangeFacts.{addr_if_at-ok, range_at-ok, read_is_cidr}
 use Rattle.cni_json.specs.Each.{each, each_after, with_front}
-use Rattle.net_conf.specs.Members.{passing}
 use Rattle.net_conf.specs.Ranges.{is_address_of, range_at}
-use Rattle.net_conf.specs.Routes.{destination_or_refused, destination_of, destination_at, hop_of, hop_at, route_at, routes_of, routes_at}
+use Rattle.net_conf.specs.Routes.{destination_or_refused, destination_of, destination_at, route_at, routes_of, routes_at}
 use Rattle.net_conf.specs.Sets.{set_of, is_set, all_items, is_of_one_family, ranges_of, has_subnet, listed_at, is_set_count, one_if, well_formed, own_sets_of, separate, sets_at}
 use Rattle.net_conf.specs.WellFormed.{IsWellFormedRange, IsWellFormedSet, IsWellFormedRoute}
 
@@ -125,33 +122,15 @@ destination_at-ok : (d : Data) (c : CidrValue) → destination_at d ≡ Ok c →
 unfolding destination_at
 destination_at-ok d c is = destination_of-ok _ c is
 
--- the hop, if there is one, has the family
-abbrev IsHop : Family → Option AddrValue → Type 0
-IsHop family o = (gw : AddrValue) → o ≡ Some gw → IsOfFamily family gw
-
-some_hop : (family : Family) (v : AddrValue) → IsOfFamily family v → IsHop family (Some v)
-some_hop family v kept gw same = let this : v ≡ gw = cc in subst (IsOfFamily family) this kept
-
-hop_of-ok : (family : Family) (f : Field (List ℕ)) (found : Option AddrValue) → hop_of family f ≡ Ok found → IsHop family found
-hop_of-ok family Absent found is = subst (IsHop family) (ok_same is) (λ gw same. cc)
-hop_of-ok family WrongKind found is = cc
-hop_of-ok family (Here text) found is =
-    let gw = goes (passing (codes "routes") (is_address_of family) (addr_of_text text)) _ found is in
-    subst (IsHop family) (ok_same gw.rest) (some_hop family gw.value (of_family-ok (codes "routes") family text gw.value gw.first))
-
-hop_at-ok : (family : Family) (d : Data) (found : Option AddrValue) → hop_at family d ≡ Ok found → IsHop family found
-unfolding hop_at
-hop_at-ok family d found is = hop_of-ok family _ found is
-
 route_at-ok : (d : Data) (route : RouteEntry) → route_at d ≡ Ok route → IsWellFormedRoute route
 unfolding route_at
 route_at-ok d route is =
     let dst = goes _ _ _ is in
     let gw = goes _ _ _ dst.rest in
     let kept = destination_at-ok d dst.value dst.first in
-    let hop = hop_at-ok dst.value.addr.family d gw.value gw.first in
+    let hop = addr_if_at-ok _ _ (is_address_of dst.value.addr.family) d gw.value gw.first in
     subst IsWellFormedRoute (ok_same gw.rest)
-    (record { is_cidr = kept.0; no_host_bits = kept.1; hop_is_addr = λ a same. (hop a same).0; hop_family = λ a same. (hop a same).1 })
+    (record { is_cidr = kept.0; no_host_bits = kept.1; hop_is_addr = λ a same. (hop a same).0; hop_family = λ a same. family_eq-true a.family dst.value.addr.family (hop a same).1 })
 
 routes_of-ok : (f : Field Items) (routes : List RouteEntry) → routes_of f ≡ Ok routes → All IsWellFormedRoute routes
 routes_of-ok Absent routes is = subst (All IsWellFormedRoute) (ok_same is) (All-nil IsWellFormedRoute)

@@ -21,6 +21,7 @@ use Rattle.cni_json.proofs.Ascending.{IsBelow, get-everywhere}
 use Rattle.cni_json.proofs.Endings.{goes, ok_same, passed}
 use Rattle.cni_json.proofs.WholeNumbers.{member_at-found, u32_of-fits}
 use Rattle.cni_json.specs.WellFormed.{keys, AreAscending, HasAscendingKeys, KeysAscend}
+use Rattle.net_conf.proofs.Endings.{IfGiven, none_given, some_given}
 use Rattle.net_conf.specs.Members.{is_null, flag_at, is_mtu, given_mtu_of, given_mtu_at}
 use Rattle.net_conf.specs.Tuning.{has_part, is_network_setting, setting_or_refused, setting_of, settings_of, sysctl_of, sysctl_at, mac_or_refused, new_mac_of, new_mac_at, queue_length_of, queue_length_at, tuning_at}
 use Rattle.net_conf.specs.WellFormed.{IsMtu, IsNetworkSetting, IsWellFormedTuning}
@@ -109,55 +110,43 @@ sysctl_at-ok d settings order is = sysctl_of-ok (member_at (codes "sysctl") d) s
 
 -- ---- numbers
 
-abbrev IsNewMac : Option Mac → Type 0
-IsNewMac o = (mac : Mac) → o ≡ Some mac → IsMac mac
-
-mac_or_refused-ok : (o found : Option Mac) → IsNewMac o → mac_or_refused o ≡ Ok found → IsNewMac found
+mac_or_refused-ok : (o found : Option Mac) → IfGiven IsMac o → mac_or_refused o ≡ Ok found → IfGiven IsMac found
 mac_or_refused-ok None found kept is = cc
-mac_or_refused-ok (Some v) found kept is = subst IsNewMac (ok_same is) kept
+mac_or_refused-ok (Some v) found kept is = subst (IfGiven IsMac) (ok_same is) kept
 
-new_mac_of-ok : (f : Field (List ℕ)) (found : Option Mac) → new_mac_of f ≡ Ok found → IsNewMac found
-new_mac_of-ok Absent found is = subst IsNewMac (ok_same is) (λ mac same. cc)
+new_mac_of-ok : (f : Field (List ℕ)) (found : Option Mac) → new_mac_of f ≡ Ok found → IfGiven IsMac found
+new_mac_of-ok Absent found is = subst (IfGiven IsMac) (ok_same is) (none_given IsMac)
 new_mac_of-ok WrongKind found is = cc
 new_mac_of-ok (Here text) found is =
     by_test (bytes_eq text []) _ _ _ is
-    (λ empty same. subst IsNewMac (ok_same same) (λ mac same. cc))
+    (λ empty same. subst (IfGiven IsMac) (ok_same same) (none_given IsMac))
     (λ some same. mac_or_refused-ok (mac_of_text text) found (λ mac read. (mac_read_is_spelled text mac read).fits) same)
 
-new_mac_at-ok : (d : Data) (found : Option Mac) → new_mac_at d ≡ Ok found → IsNewMac found
+new_mac_at-ok : (d : Data) (found : Option Mac) → new_mac_at d ≡ Ok found → IfGiven IsMac found
 unfolding new_mac_at
 new_mac_at-ok d found is = new_mac_of-ok _ found is
 
-abbrev pub IsNew : (ℕ → Type 0) → Option ℕ → Type 0
-IsNew P o = (n : ℕ) → o ≡ Some n → P n
-
-none_new : (P : ℕ → Type 0) → IsNew P None
-none_new P n same = cc
-
-some_new : (P : ℕ → Type 0) (m : ℕ) → P m → IsNew P (Some m)
-some_new P m holds n same = let this : m ≡ n = cc in subst P this holds
-
-given_mtu_of-ok : (f : Field ℕ) (found : Option ℕ) → given_mtu_of f ≡ Ok found → IsNew IsMtu found
-given_mtu_of-ok Absent found is = subst (IsNew IsMtu) (ok_same is) (none_new IsMtu)
+given_mtu_of-ok : (f : Field ℕ) (found : Option ℕ) → given_mtu_of f ≡ Ok found → IfGiven IsMtu found
+given_mtu_of-ok Absent found is = subst (IfGiven IsMtu) (ok_same is) (none_given IsMtu)
 given_mtu_of-ok WrongKind found is = cc
 given_mtu_of-ok (Here n) found is =
     by_test (nat_eq n 0) _ _ _ is
-    (λ zero same. subst (IsNew IsMtu) (ok_same same) (none_new IsMtu))
-    (λ some same. let test = passed (is_mtu n) (Some n) found _ same in subst (IsNew IsMtu) test.1 (some_new IsMtu n test.0))
+    (λ zero same. subst (IfGiven IsMtu) (ok_same same) (none_given IsMtu))
+    (λ some same. let test = passed (is_mtu n) (Some n) found _ same in subst (IfGiven IsMtu) test.1 (some_given IsMtu n test.0))
 
-pub given_mtu_at-ok : (d : Data) (found : Option ℕ) → given_mtu_at d ≡ Ok found → IsNew IsMtu found
+pub given_mtu_at-ok : (d : Data) (found : Option ℕ) → given_mtu_at d ≡ Ok found → IfGiven IsMtu found
 unfolding given_mtu_at
 given_mtu_at-ok d found is = given_mtu_of-ok (u64_field (codes "mtu") d) found is
 
 abbrev HasWord : ℕ → Type 0
 HasWord n = has_32_bits n ≡ true
 
-queue_length_of-ok : (f : Field ℕ) (found : Option ℕ) → ((n : ℕ) → f ≡ Here n → HasWord n) → queue_length_of f ≡ Ok found → IsNew HasWord found
-queue_length_of-ok Absent found fits is = subst (IsNew HasWord) (ok_same is) (none_new HasWord)
+queue_length_of-ok : (f : Field ℕ) (found : Option ℕ) → ((n : ℕ) → f ≡ Here n → HasWord n) → queue_length_of f ≡ Ok found → IfGiven HasWord found
+queue_length_of-ok Absent found fits is = subst (IfGiven HasWord) (ok_same is) (none_given HasWord)
 queue_length_of-ok WrongKind found fits is = cc
-queue_length_of-ok (Here n) found fits is = subst (IsNew HasWord) (ok_same is) (some_new HasWord n (fits n refl))
+queue_length_of-ok (Here n) found fits is = subst (IfGiven HasWord) (ok_same is) (some_given HasWord n (fits n refl))
 
-queue_length_at-ok : (d : Data) (found : Option ℕ) → queue_length_at d ≡ Ok found → IsNew HasWord found
+queue_length_at-ok : (d : Data) (found : Option ℕ) → queue_length_at d ≡ Ok found → IfGiven HasWord found
 unfolding queue_length_at
 queue_length_at-ok d found is = queue_length_of-ok (u32_field (codes "txQLen") d) found (u32_of-fits (get (codes "txQLen") d)) is
 

@@ -1,13 +1,17 @@
 -- Members of a plugin's object, each with its refusal.
-use Rattle.std.specs.Prelude.{◌==◌, ◌&&◌, ℕ, List, codes, Bool, nat_le, if◌then◌else◌, Result, Ok, Option, Some, None, unwrap_or, is_some}
+use Rattle.std.specs.Prelude.{◌≡◌, ◌==◌, ◌&&◌, ℕ, List, codes, Bool, nat_le, if◌then◌else◌, Result, Ok, Option, Some, None, unwrap_or, is_some}
 use Rattle.serde_json.specs.Data.{Data}
 use Rattle.serde_json.specs.Find.{as_null}
-use Rattle.cni_json.specs.Fields.{bool_field, u64_field, member_or}
+use Rattle.cni_addr.specs.AddrText.{addr_of_text}
+use Rattle.cni_addr.specs.declared.address.Addr.{Addr}
+use Rattle.cni_json.specs.Fields.{bool_field, text_field, u64_field, member_or}
 use Rattle.cni_json.specs.Outcome.{◌>>=◌}
 use Rattle.cni_json.specs.declared.fields.Field.{Field}
 use Rattle.net_conf.specs.Names.{is_interface_name}
 use Rattle.net_conf.specs.Refusals.{invalid}
 use Rattle.net_conf.specs.declared.error.ConfError.{ConfError}
+use Rattle.std.specs.Fn.{Shared}
+use denote.Ref.{Bor}
 
 abbrev pub is_null : Data → Bool
 is_null d = is_some (as_null d)
@@ -34,6 +38,17 @@ flag_within outer key default d = optional outer default Ok (bool_field key d)
 -- the truth value under the key
 unfoldable pub flag_at : List ℕ → Bool → Data → Result Bool ConfError
 flag_at key default d = flag_within key key default d
+
+abbrev pub addr_if_of : List ℕ → (Addr → Bool) → Field (List ℕ) → Result (Option Addr) ConfError
+addr_if_of blamed test f = optional blamed None (λ text. of_kind Some (passing blamed test (addr_of_text text))) f
+
+-- the address under the key, which must pass the test, if one is given; else `blamed` is to blame
+unfoldable pub addr_if_at : List ℕ → List ℕ → (Addr → Bool) → Data → Result (Option Addr) ConfError
+addr_if_at blamed key test d = addr_if_of blamed test (text_field key d)
+
+-- the function tells which addresses pass the test
+pub record IsTest {F : Type 0} (calls : Shared F (Bor Addr × Unit {0}) Bool) (passes : F) (test : Addr → Bool) : Type 0 where
+  pub tells : (addr : Bor Addr) (b : Bool) → calls.post passes (addr, tt) b → b ≡ test addr.now
 
 -- the text, which must be the name of an interface; else this key is to blame
 abbrev pub interface_name : List ℕ → List ℕ → Result (List ℕ) ConfError

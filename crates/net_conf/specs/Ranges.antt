@@ -1,5 +1,5 @@
 -- A range of addresses (the `host-local` plugin, `subnet`, `rangeStart`, `rangeEnd` and `gateway`).
-use Rattle.std.specs.Prelude.{◌+◌, ◌-◌, ◌&&◌, ℕ, List, codes, Bool, nat_le, if◌then◌else◌, Result, Ok, ⊤}
+use Rattle.std.specs.Prelude.{◌+◌, ◌-◌, ◌&&◌, ℕ, List, codes, Bool, nat_le, if◌then◌else◌, Result, Ok, unwrap_or, ⊤}
 use Rattle.serde_json.specs.Data.{Data}
 use Rattle.cni_json.specs.Fields.{text_field, needed}
 use Rattle.cni_json.specs.Outcome.{◌>>=◌}
@@ -8,12 +8,11 @@ use Rattle.cni_addr.specs.declared.address.Family.{Family}
 use Rattle.cni_addr.specs.declared.address.Addr.{Addr}
 use Rattle.cni_addr.specs.declared.address.Cidr.{Cidr}
 use Rattle.cni_addr.specs.declared.range.Range.{Range}
-use Rattle.cni_addr.specs.AddrText.{addr_of_text}
 use Rattle.cni_addr.specs.CidrText.{cidr_of_text}
 use Rattle.cni_addr.specs.Codes.{family_eq}
 use Rattle.cni_addr.specs.Equal.{cidr_eq}
 use Rattle.cni_addr.specs.Network.{network_of, last_of, contains}
-use Rattle.net_conf.specs.Members.{optional, passing}
+use Rattle.net_conf.specs.Members.{addr_if_at, passing}
 use Rattle.net_conf.specs.Refusals.{invalid}
 use Rattle.net_conf.specs.declared.error.ConfError.{ConfError}
 
@@ -28,13 +27,11 @@ subnet_of f = needed (invalid (codes "subnet")) (λ text. passing (codes "subnet
 unfoldable pub subnet_at : Data → Result Cidr ConfError
 subnet_at d = subnet_of (text_field (codes "subnet") d)
 
--- an address of the subnet that the key gives
-abbrev pub bound_of : List ℕ → Cidr → Addr → Field (List ℕ) → Result Addr ConfError
-bound_of key subnet default f = optional key default (λ text. passing key (contains subnet) (addr_of_text text)) f
-
--- the first or the last address to lease, or the default
-unfoldable pub bound_at : List ℕ → Cidr → Addr → Data → Result Addr ConfError
-bound_at key subnet default d = bound_of key subnet default (text_field key d)
+-- the address under the key, which must pass the test, or the default where none is given
+unfoldable pub addr_or_at : List ℕ → Addr → (Addr → Bool) → Data → Result Addr ConfError
+addr_or_at key default test d = do
+  given ← addr_if_at key key test d
+  Ok (unwrap_or given default)
 
 -- the address after the network's own
 unfoldable pub first_host : Cidr → Addr
@@ -54,22 +51,13 @@ in_order start end = if is_in_order start end then Ok tt else invalid (codes "ra
 abbrev pub is_address_of : Family → Addr → Bool
 is_address_of family addr = family_eq addr.family family
 
--- an address of the family, which need not be of the subnet
-abbrev pub gateway_of : Cidr → Field (List ℕ) → Result Addr ConfError
-gateway_of subnet f =
-    optional (codes "gateway") (first_host subnet)
-    (λ text. passing (codes "gateway") (is_address_of subnet.addr.family) (addr_of_text text)) f
-
--- the gateway of a range, or the subnet's first address
-unfoldable pub gateway_at : Cidr → Data → Result Addr ConfError
-gateway_at subnet d = gateway_of subnet (text_field (codes "gateway") d)
-
--- the range that an object gives by `subnet`, `rangeStart`, `rangeEnd` and `gateway`
+-- the range that an object gives by `subnet`, `rangeStart`, `rangeEnd` and `gateway`; the gateway need not be in the
+-- subnet
 unfoldable pub range_at : Data → Result Range ConfError
 range_at d = do
   subnet ← subnet_at d
-  start ← bound_at (codes "rangeStart") subnet (first_host subnet) d
-  end ← bound_at (codes "rangeEnd") subnet (last_host subnet) d
+  start ← addr_or_at (codes "rangeStart") (first_host subnet) (contains subnet) d
+  end ← addr_or_at (codes "rangeEnd") (last_host subnet) (contains subnet) d
   _ ← in_order start end
-  gateway ← gateway_at subnet d
+  gateway ← addr_or_at (codes "gateway") (first_host subnet) (is_address_of subnet.addr.family) d
   Ok (record { subnet = subnet; start = start; end = end; gateway = gateway })

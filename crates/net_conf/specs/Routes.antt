@@ -7,12 +7,11 @@ use Rattle.cni_json.specs.declared.fields.Field.{Field}
 use Rattle.cni_addr.specs.declared.address.Family.{Family}
 use Rattle.cni_addr.specs.declared.address.Addr.{Addr}
 use Rattle.cni_addr.specs.declared.address.Cidr.{Cidr}
-use Rattle.cni_addr.specs.AddrText.{addr_of_text}
 use Rattle.cni_addr.specs.CidrText.{cidr_of_text}
 use Rattle.cni_addr.specs.Network.{network_of}
 use Rattle.cni_result.specs.declared.result.RouteEntry.{RouteEntry}
 use Rattle.cni_json.specs.Each.{list_or}
-use Rattle.net_conf.specs.Members.{optional, of_kind, passing}
+use Rattle.net_conf.specs.Members.{addr_if_at}
 use Rattle.net_conf.specs.Ranges.{is_address_of}
 use Rattle.net_conf.specs.Refusals.{invalid}
 use Rattle.net_conf.specs.declared.error.ConfError.{ConfError}
@@ -31,14 +30,9 @@ destination_of f = needed wrong_routes (λ text. destination_or_refused (cidr_of
 unfoldable pub destination_at : Data → Result Cidr ConfError
 destination_at d = destination_of (text_field (codes "dst") d)
 
-abbrev pub hop_of : Family → Field (List ℕ) → Result (Option Addr) ConfError
-hop_of family f =
-    optional (codes "routes") None
-    (λ text. of_kind Some (passing (codes "routes") (is_address_of family) (addr_of_text text))) f
-
 -- the next hop, of the destination's family, if one is given
-unfoldable pub hop_at : Family → Data → Result (Option Addr) ConfError
-hop_at family d = hop_of family (text_field (codes "gw") d)
+abbrev pub hop_at : Family → Data → Result (Option Addr) ConfError
+hop_at family d = addr_if_at (codes "routes") (codes "gw") (is_address_of family) d
 
 -- the members of a route's object; a value that is no object has no `dst`
 unfoldable pub route_at : Data → Result RouteEntry ConfError

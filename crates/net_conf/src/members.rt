@@ -1,13 +1,16 @@
 //! Members of a plugin's object that several types have.
 
-ghost use Rattle.std.specs.Prelude.{◌≡◌};
+ghost use Rattle.std.specs.Prelude.{◌≡◌, Bool};
 ghost use Rattle.serde_json.specs.View.{view};
+ghost use Rattle.cni_addr.specs.declared.address.Addr.{Addr};
 ghost use Rattle.cni_json.specs.Outcome.{GivesAs};
 ghost use Rattle.net_conf.specs.Members as members;
+ghost use Rattle.net_conf.specs.Members.{IsTest};
 ghost use Rattle.net_conf.specs.Refusals.{is_want_of_memory};
 
 use crate::error::{ConfError, invalid};
-use cni_json::{Field, Value, field_bool, field_u64};
+use cni_addr::{Addr, read_addr};
+use cni_json::{Field, Value, field_bool, field_str, field_u64};
 use std::alloc::Global;
 
 /// A truth value, or the default where it is absent.
@@ -33,6 +36,29 @@ pub fn flag_within(
         Field::Absent => Ok(default),
         Field::WrongKind => Err(invalid(alloc, outer)),
         Field::Here(flag) => Ok(flag),
+    }
+}
+
+/// The address under the key, which must pass the test, if one is given; else `blamed` is to blame.
+#[tactic(auto, using(cni_json::proofs::Steps::steps), unfolding(crate::specs::Members::addr_if_at))]
+pub fn addr_if<P: Fn(&Addr) -> bool>(
+    alloc: Global,
+    object: &Value,
+    blamed: &str,
+    key: &str,
+    passes: P,
+) -> Result<Option<Addr>, ConfError>
+    requires { P.IsAlwaysCallable passes }
+    ensures { (test : Addr → Bool) → IsTest P.Fn passes test
+        → GivesAs is_want_of_memory (λ addr. addr) result (members.addr_if_at blamed.now key.now test (view object.now)) }
+{
+    match field_str(object, key) {
+        Field::Absent => Ok(None),
+        Field::WrongKind => Err(invalid(alloc, blamed)),
+        Field::Here(text) => match read_addr(text.as_bytes()) {
+            Some(addr) if passes(&addr) => Ok(Some(addr)),
+            _ => Err(invalid(alloc, blamed)),
+        },
     }
 }
 

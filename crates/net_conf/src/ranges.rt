@@ -1,14 +1,17 @@
 //! The reader of one range of addresses.
 
-ghost use Rattle.std.specs.Prelude.{◌≡◌, ◌+◌, ◌-◌, true, IfOk};
+ghost use Rattle.std.specs.Prelude.{◌≡◌, Bool, true, IfOk};
 ghost use Rattle.serde_json.specs.View.{view};
 ghost use Rattle.cni_addr.specs.Codes.{family_eq};
+ghost use Rattle.cni_addr.specs.declared.address.Addr.{Addr};
 ghost use Rattle.cni_json.specs.Outcome.{GivesAs};
+ghost use Rattle.net_conf.specs.Members.{IsTest};
 ghost use Rattle.net_conf.specs.Ranges as ranges;
 ghost use Rattle.net_conf.specs.Refusals.{is_want_of_memory};
 
 use crate::error::{ConfError, invalid};
-use cni_addr::{Addr, Cidr, Range, contains, last_of, network_of, read_addr, read_cidr};
+use crate::members::addr_if;
+use cni_addr::{Addr, Cidr, Range, contains, last_of, network_of, read_cidr};
 use cni_json::{Field, Value, field_str};
 use std::alloc::Global;
 
@@ -18,10 +21,29 @@ pub fn range(alloc: Global, object: &Value) -> Result<Range, ConfError>
     ensures { GivesAs is_want_of_memory (λ range. range) result (ranges.range_at (view object.now)) }
 {
     let subnet = subnet(alloc, object)?;
-    let start = bound(alloc, object, "rangeStart", &subnet, first_host(&subnet))?;
-    let end = bound(alloc, object, "rangeEnd", &subnet, last_host(&subnet))?;
+    let first = first_host(&subnet);
+    let start = addr_or(
+        alloc,
+        object,
+        "rangeStart",
+        first,
+        |addr| contains(&subnet, addr),
+    )?;
+    let end = addr_or(
+        alloc,
+        object,
+        "rangeEnd",
+        last_host(&subnet),
+        |addr| contains(&subnet, addr),
+    )?;
     in_order(alloc, &start, &end)?;
-    let gateway = gateway(alloc, object, &subnet)?;
+    let gateway = addr_or(
+        alloc,
+        object,
+        "gateway",
+        first,
+        |addr| shares_family(addr, &subnet),
+    )?;
     Ok(Range {
         subnet,
         start,
@@ -77,24 +99,21 @@ fn last_host(subnet: &Cidr) -> Addr
     }
 }
 
-#[tactic(auto, using(cni_json::proofs::Steps::steps), unfolding(crate::specs::Ranges::bound_at))]
-fn bound(
+/// The address under the key, which must pass the test, or the default where none is given.
+#[tactic(auto, using(cni_json::proofs::Steps::steps), unfolding(crate::specs::Ranges::addr_or_at))]
+fn addr_or<P: Fn(&Addr) -> bool>(
     alloc: Global,
     object: &Value,
     key: &str,
-    subnet: &Cidr,
     default: Addr,
+    passes: P,
 ) -> Result<Addr, ConfError>
-    ensures { GivesAs is_want_of_memory (λ addr. addr) result (ranges.bound_at key.now subnet.now default (view object.now)) }
+    requires { P.IsAlwaysCallable passes }
+    ensures { (test : Addr → Bool) → IsTest P.Fn passes test
+        → GivesAs is_want_of_memory (λ addr. addr) result (ranges.addr_or_at key.now default test (view object.now)) }
 {
-    match field_str(object, key) {
-        Field::Absent => Ok(default),
-        Field::WrongKind => Err(invalid(alloc, key)),
-        Field::Here(text) => match read_addr(text.as_bytes()) {
-            Some(addr) if contains(subnet, &addr) => Ok(addr),
-            _ => Err(invalid(alloc, key)),
-        },
-    }
+    let given = addr_if(alloc, object, key, key, passes)?;
+    Ok(given.unwrap_or(default))
 }
 
 #[tactic(auto, using(cni_json::proofs::Steps::steps), unfolding(crate::specs::Ranges::in_order))]
@@ -105,21 +124,6 @@ fn in_order(alloc: Global, start: &Addr, end: &Addr) -> Result<(), ConfError>
         Ok(())
     } else {
         Err(invalid(alloc, "rangeStart"))
-    }
-}
-
-#[tactic(auto, using(cni_json::proofs::Steps::steps), unfolding(crate::specs::Ranges::gateway_at))]
-fn gateway(alloc: Global, object: &Value, subnet: &Cidr) -> Result<Addr, ConfError>
-    requires { ranges.is_subnet subnet.now ≡ true }
-    ensures { GivesAs is_want_of_memory (λ addr. addr) result (ranges.gateway_at subnet.now (view object.now)) }
-{
-    match field_str(object, "gateway") {
-        Field::Absent => Ok(first_host(subnet)),
-        Field::WrongKind => Err(invalid(alloc, "gateway")),
-        Field::Here(text) => match read_addr(text.as_bytes()) {
-            Some(addr) if shares_family(&addr, subnet) => Ok(addr),
-            _ => Err(invalid(alloc, "gateway")),
-        },
     }
 }
 

@@ -8,7 +8,8 @@ ghost use Rattle.net_conf.specs.Refusals.{is_want_of_memory};
 ghost use Rattle.net_conf.specs.declared.error.ConfError.TheVariants as refusal;
 
 use crate::error::{ConfError, invalid};
-use cni_addr::{Addr, Cidr, Family, Items, network_of, read_addr, read_cidr};
+use crate::members::addr_if;
+use cni_addr::{Addr, Cidr, Family, Items, network_of, read_cidr};
 use cni_json::{Field, Value, field_str, read_list_or};
 use cni_result::RouteEntry;
 use std::alloc::Global;
@@ -49,18 +50,10 @@ fn destination(alloc: Global, member: &Value) -> Result<Cidr, ConfError>
     }
 }
 
-#[tactic(auto, using(cni_json::proofs::Steps::steps), unfolding(crate::specs::Routes::hop_at))]
 fn hop(alloc: Global, member: &Value, family: Family) -> Result<Option<Addr>, ConfError>
     ensures { GivesAs is_want_of_memory (λ gw. gw) result (routes.hop_at family (view member.now)) }
 {
-    match field_str(member, "gw") {
-        Field::Absent => Ok(None),
-        Field::WrongKind => Err(wrong(alloc)),
-        Field::Here(text) => match read_addr(text.as_bytes()) {
-            Some(addr) if addr.family == family => Ok(Some(addr)),
-            _ => Err(wrong(alloc)),
-        },
-    }
+    addr_if(alloc, member, "routes", "gw", |addr| addr.family == family)
 }
 
 fn wrong(alloc: Global) -> ConfError
