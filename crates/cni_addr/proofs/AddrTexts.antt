@@ -107,12 +107,3 @@ written_is_spelled a kept = record {
   fits = kept;
   spelled = subst (λ f. Spells (bits_text f a.bits) f a.bits) (sym kept.built) (IsDotted-ipv4_text (to_be_bytes w32 a.bits) refl (λ k. written_small a.bits k));
 }
-
--- a text is one address at most
-pub addr_text_unique : (text : List ℕ) (a b : AddrValue) → IsAddrText text a → IsAddrText text b → a ≡ b
-addr_text_unique text a b h k = some_same a b (sym (spelled_is_read text a h) ∙ spelled_is_read text b k)
-
--- and an address has a text of its own
-pub addr_text_injective : (a b : AddrValue) → IsAddr a → IsAddr b → addr_text a ≡ addr_text b → a ≡ b
-addr_text_injective a b kept_a kept_b same =
-    addr_text_unique (addr_text b) a b (subst (λ t. IsAddrText t a) same (written_is_spelled a kept_a)) (written_is_spelled b kept_b)

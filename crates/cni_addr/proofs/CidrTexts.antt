@@ -26,7 +26,7 @@ use Rattle.cni_addr.specs.AddrText.{addr_of_text, addr_text}
 use Rattle.cni_addr.specs.Value.{AddrValue, CidrValue, longest_prefix}
 use Rattle.std.specs.List.{position, position_or_len, before_first, after_first}
 use Rattle.std.proofs.NetLemmas.Options.{cond_some}
-use Rattle.cni_addr.proofs.AddrTexts.{whole_some, none_of, some_same, octet_fits, address_dotted, spelled_is_read, read_is_spelled, written_is_spelled}
+use Rattle.cni_addr.proofs.AddrTexts.{whole_some, none_of, octet_fits, address_dotted, spelled_is_read, read_is_spelled, written_is_spelled}
 
 -- the decimal text of a number is read
 pub read_decimal : (n : ℕ) → n < 256 → prefix_of_text (decimal n) ≡ Some n
@@ -255,12 +255,3 @@ network_written_is_spelled c kept = record {
   fits = kept.prefix;
   spelled = refl;
 }
-
--- a text is one network at most
-pub cidr_text_unique : (text : List ℕ) (a b : CidrValue) → IsCidrText text a → IsCidrText text b → a ≡ b
-cidr_text_unique text a b h k = some_same a b (sym (network_spelled_is_read text a h) ∙ network_spelled_is_read text b k)
-
--- and a network has a text of its own
-pub cidr_text_injective : (a b : CidrValue) → IsCidr a → IsCidr b → cidr_text a ≡ cidr_text b → a ≡ b
-cidr_text_injective a b kept_a kept_b same =
-    cidr_text_unique (cidr_text b) a b (subst (λ t. IsCidrText t a) same (network_written_is_spelled a kept_a)) (network_written_is_spelled b kept_b)

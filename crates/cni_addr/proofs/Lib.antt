@@ -3,3 +3,4 @@ pub mod CidrTexts
 pub mod HexDigits
 pub mod MacTexts
 pub mod Networks
+pub mod Spellings

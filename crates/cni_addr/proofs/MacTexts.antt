@@ -15,7 +15,6 @@ use Rattle.std.proofs.lemmas.Slice.Eq.{text_from_reads}
 use Rattle.cni_addr.specs.declared.mac.Mac.{Mac}
 use Rattle.cni_addr.specs.MacText.{colon, byte_text, mac_text, has_colons, digits_in, mac_of_bytes, mac_of_digits, mac_of_text, IsMac, IsMacText}
 use Rattle.hex.proofs.HexLemmas.{decode_pairs-ok}
-use Rattle.cni_addr.proofs.AddrTexts.{some_same}
 use Rattle.std.proofs.lemmas.Bool.{and_parts}
 use Rattle.std.proofs.lemmas.Option.{none-some}
 use Rattle.std.proofs.NetLemmas.Options.{map_some}
@@ -197,12 +196,3 @@ mac_written_is_spelled m kept =
     let items = six_items m.bytes kept.six in
     let lower = lower_written _ _ _ _ _ _ (subst IsBytes items kept.bytes) in
     record { fits = kept; spelled = subst (λ bs. str_to_ascii_lowercase (mac_text (mac_of_bytes bs)) ≡ mac_text (mac_of_bytes bs)) (sym items) lower }
-
--- a text is one hardware address at most
-pub mac_text_unique : (text : List ℕ) (m n : Mac) → IsMacText text m → IsMacText text n → m ≡ n
-mac_text_unique text m n h k = some_same m n (sym (mac_spelled_is_read text m h) ∙ mac_spelled_is_read text n k)
-
--- and a hardware address has a text of its own
-pub mac_text_injective : (m n : Mac) → IsMac m → IsMac n → mac_text m ≡ mac_text n → m ≡ n
-mac_text_injective m n kept_m kept_n same =
-    mac_text_unique (mac_text n) m n (subst (λ t. IsMacText t m) same (mac_written_is_spelled m kept_m)) (mac_written_is_spelled n kept_n)

@@ -6,5 +6,6 @@ pub mod Lists
 pub mod MacText
 pub mod Modes
 pub mod Network
+pub mod Spelling
 pub mod TextLaws
 pub mod Value

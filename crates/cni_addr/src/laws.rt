@@ -7,32 +7,22 @@ ghost use Rattle.cni_addr.specs.AddrText.{IsAddrText, addr_of_text, addr_text};
 ghost use Rattle.cni_addr.specs.CidrText.{IsCidrText, cidr_of_text, cidr_text};
 ghost use Rattle.cni_addr.specs.MacText.{IsMac, IsMacText, mac_of_text, mac_text};
 ghost use Rattle.cni_addr.specs.Network.{IsCidr, contains, last_of, network_of, network_size, next_addr, whole};
-ghost use Rattle.cni_addr.specs.declared.mac.Mac.{Mac};
+ghost use Rattle.cni_addr.specs.Spelling.{IsSpelling};
 
-/// What is read of an address's text is its grammar, both ways; what is written is read again as the same address; no
-/// text is two addresses, and no two addresses have one text.
+/// The text of an address is a spelling: what is read is its grammar, and what is written is read again.
 pub fn addr_text_laws()
-    ensures grammar { (text : List ℕ) (a : AddrValue) → IsAddrText text a ↔ (addr_of_text text ≡ Some a) }
-    ensures written { (a : AddrValue) → IsAddr a → addr_of_text (addr_text a) ≡ Some a }
-    ensures one_value { (text : List ℕ) (a b : AddrValue) → IsAddrText text a → IsAddrText text b → a ≡ b }
-    ensures one_text { (a b : AddrValue) → IsAddr a → IsAddr b → addr_text a ≡ addr_text b → a ≡ b }
+    ensures { IsSpelling IsAddrText IsAddr addr_of_text addr_text }
 {}
 
 /// The same of a network's text. What is read is a network that a [`Cidr`](crate::Cidr) can be.
 pub fn cidr_text_laws()
-    ensures grammar { (text : List ℕ) (c : CidrValue) → IsCidrText text c ↔ (cidr_of_text text ≡ Some c) }
+    ensures spelling { IsSpelling IsCidrText IsCidr cidr_of_text cidr_text }
     ensures kept { (text : List ℕ) (c : CidrValue) → IsCidrText text c → IsCidr c }
-    ensures written { (c : CidrValue) → IsCidr c → cidr_of_text (cidr_text c) ≡ Some c }
-    ensures one_value { (text : List ℕ) (b c : CidrValue) → IsCidrText text b → IsCidrText text c → b ≡ c }
-    ensures one_text { (b c : CidrValue) → IsCidr b → IsCidr c → cidr_text b ≡ cidr_text c → b ≡ c }
 {}
 
 /// The same of a hardware address's text, which may have digits of either case, and is written in lower case.
 pub fn mac_text_laws()
-    ensures grammar { (text : List ℕ) (m : Mac) → IsMacText text m ↔ (mac_of_text text ≡ Some m) }
-    ensures written { (m : Mac) → IsMac m → mac_of_text (mac_text m) ≡ Some m }
-    ensures one_value { (text : List ℕ) (m n : Mac) → IsMacText text m → IsMacText text n → m ≡ n }
-    ensures one_text { (m n : Mac) → IsMac m → IsMac n → mac_text m ≡ mac_text n → m ≡ n }
+    ensures { IsSpelling IsMacText IsMac mac_of_text mac_text }
 {}
 
 /// A network has just the addresses of its family from its first to its last, these two among them. Its first has no
