@@ -1,6 +1,7 @@
 -- A line feed behind a text changes no reading. Each part of the grammar gives the same for both, or leaves the line
 -- feed behind what it leaves.
 use Rattle.std.proofs.Common.{◌≡◌, ℕ, suc, ◌+◌, ◌-◌, ◌≤◌, Bool, true, false, cond, ◌&&◌, ◌||◌, ◌==◌, List, [], ◌∷◌, ◌++◌, length, take, drop, Option, Some, None, option_map, option_and_then, nat_eq, nat_lt, IsUtf8, refl, sym, ap, ap₂, ◌∙◌, subst, arith, length-append}
+use Rattle.std.proofs.Math.Bool.{and-false}
 use Rattle.std.proofs.Math.Seq.{take-append_seam}
 use Rattle.std.proofs.lemmas.List.{take-append-le}
 use Rattle.std.proofs.lemmas.Str.{IsUtf8-from_is_utf8, is_utf8-from_IsUtf8, IsUtf8-append, IsUtf8-take, IsCharBoundary-at_seam}
@@ -142,10 +143,6 @@ word-line_feed t =
 
 -- ---- the content of a string
 
-and_false : (b : Bool) → (b && false) ≡ false
-and_false true = refl
-and_false false = refl
-
 none_if : {A : Type 0} (b : Bool) → cond {A = Option A} b None None ≡ None
 none_if true = refl
 none_if false = refl
@@ -153,7 +150,7 @@ none_if false = refl
 -- a line feed is no hex digit
 code_unit-line_feed : (a b c : ℕ) → code_unit a b c 10 ≡ None
 unfolding code_unit
-code_unit-line_feed a b c = rw and_false
+code_unit-line_feed a b c = rw and-false
 
 each : {A B : Type 0} (f g : A → Option B) (o : Option A) → ((x : A) → f x ≡ g x) → option_and_then f o ≡ option_and_then g o
 each f g None same = refl
