@@ -1,6 +1,7 @@
 -- The entries of a result that were printed are read again.
 use Rattle.std.proofs.Common.{◌≡◌, ℕ, ◌^◌, ◌<◌, List, Option, Some, None, Ok, refl, ap, ◌∙◌}
 use Rattle.std.specs.Prelude.{codes, IfSome}
+use Rattle.serde_json.proofs.Views.{get_member-put}
 use Rattle.serde_json.specs.Data.{Members, no_members, put}
 use Rattle.serde_json.specs.Find.{as_str}
 use Rattle.cni_addr.proofs.AddrTexts.{spelled_is_read, written_is_spelled}
@@ -13,7 +14,7 @@ use Rattle.cni_addr.specs.Network.{IsCidr}
 use Rattle.cni_addr.specs.Value.{AddrValue, CidrValue, IsAddr}
 use Rattle.cni_addr.specs.declared.mac.Mac.{Mac}
 use Rattle.cni_json.specs.Fields.{field_of, u32_of, needed}
-use Rattle.cni_result.proofs.Lookups.{at_other, at_other_if, at_key, at_key_if}
+use Rattle.cni_result.proofs.Lookups.{at_other, at_other_if, at_key_if}
 use Rattle.cni_result.proofs.ReadAgain.{cidr_again, optional_again, number_again}
 use Rattle.cni_result.specs.Fields.{optional, as_it_is}
 use Rattle.cni_result.specs.Laws.{IsInterfaceOf, IsIpEntry, IsRouteEntry}
@@ -61,7 +62,7 @@ name_again : (version : Version) (i : Interface) → text_at (codes "interfaces"
 unfolding text_at interface_data
 name_again version i =
     ap (λ g. needed (invalid (codes "interfaces")) Ok (field_of as_str g))
-    (at_other_if text_data (codes "name") (codes "sandbox") i.sandbox (up_to_name version i) refl ∙ at_key (codes "name") (text_data i.name) (up_to_mtu version i))
+    (at_other_if text_data (codes "name") (codes "sandbox") i.sandbox (up_to_name version i) refl ∙ get_member-put (codes "name") (text_data i.name) (up_to_mtu version i))
 
 mac_again : (version : Version) (i : Interface) → IfSome i.mac IsMac → mac_if_at (codes "interfaces") (codes "mac") (interface_data version i) ≡ Ok i.mac
 unfolding mac_if_at interface_data
@@ -112,7 +113,7 @@ address_again ip kept =
     ap (λ g. cidr_of (codes "ips") (field_of as_str g))
     (at_other_if number_data (codes "address") (codes "interface") ip.interface (up_to_gateway ip) refl
     ∙ at_other_if addr_data (codes "address") (codes "gateway") ip.gateway (up_to_address ip) refl
-    ∙ at_key (codes "address") (cidr_data ip.address) no_members)
+    ∙ get_member-put (codes "address") (cidr_data ip.address) no_members)
     ∙ cidr_again (codes "ips") (cidr_text ip.address) ip.address (cidr_read ip.address kept)
 
 gateway_again : (ip : IpEntry) → IfSome ip.gateway IsAddr → addr_if_at (codes "ips") (codes "gateway") (ip_data ip) ≡ Ok ip.gateway
@@ -145,7 +146,7 @@ dst_again : (route : RouteEntry) → IsCidr route.dst → cidr_at (codes "routes
 unfolding cidr_at route_data
 dst_again route kept =
     ap (λ g. cidr_of (codes "routes") (field_of as_str g))
-    (at_other_if addr_data (codes "dst") (codes "gw") route.gw (up_to_dst route) refl ∙ at_key (codes "dst") (cidr_data route.dst) no_members)
+    (at_other_if addr_data (codes "dst") (codes "gw") route.gw (up_to_dst route) refl ∙ get_member-put (codes "dst") (cidr_data route.dst) no_members)
     ∙ cidr_again (codes "routes") (cidr_text route.dst) route.dst (cidr_read route.dst kept)
 
 gw_again : (route : RouteEntry) → IfSome route.gw IsAddr → addr_if_at (codes "routes") (codes "gw") (route_data route) ≡ Ok route.gw

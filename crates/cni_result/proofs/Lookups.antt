@@ -33,12 +33,9 @@ at_other_object q k (member l d inner) ms differ = at_other q k _ ms differ
 
 -- ---- at the key itself
 
-pub at_key : (k : List ℕ) (d : Data) (ms : Members) → get_member k (put k d ms) ≡ Some d
-at_key k d ms = get_member-put k d ms
-
 pub at_key_if : {A : Type 0} (f : A → Data) (k : List ℕ) (o : Option A) (ms : Members) → get_member k ms ≡ None → get_member k (put_if f k o ms) ≡ option_map f o
 at_key_if f k None ms before = before
-at_key_if f k (Some x) ms before = at_key k (f x) ms
+at_key_if f k (Some x) ms before = get_member-put k (f x) ms
 
 -- a text, if it isn't empty
 abbrev pub text_member : List ℕ → Option Data
@@ -47,7 +44,7 @@ text_member (c ∷ text) = Some (string (c ∷ text))
 
 pub at_key_text : (k text : List ℕ) (ms : Members) → get_member k ms ≡ None → get_member k (put_text_unless_empty k text ms) ≡ text_member text
 at_key_text k [] ms before = before
-at_key_text k (c ∷ text) ms before = at_key k _ ms
+at_key_text k (c ∷ text) ms before = get_member-put k _ ms
 
 -- a list, if it isn't empty
 abbrev pub list_member : {A : Type 0} → (A → Data) → List A → Option Data
@@ -56,7 +53,7 @@ list_member f (x ∷ xs) = Some (list_data f (x ∷ xs))
 
 pub at_key_list : {A : Type 0} (f : A → Data) (k : List ℕ) (xs : List A) (ms : Members) → get_member k ms ≡ None → get_member k (put_list_unless_empty f k xs ms) ≡ list_member f xs
 at_key_list f k [] ms before = before
-at_key_list f k (x ∷ xs) ms before = at_key k _ ms
+at_key_list f k (x ∷ xs) ms before = get_member-put k _ ms
 
 -- an object, if it has a member
 abbrev pub object_member : Members → Option Data
@@ -65,4 +62,4 @@ object_member (member k d inner) = Some (object (member k d inner))
 
 pub at_key_object : (k : List ℕ) (inner ms : Members) → get_member k ms ≡ None → get_member k (put_object_unless_empty k inner ms) ≡ object_member inner
 at_key_object k no_members ms before = before
-at_key_object k (member l d inner) ms before = at_key k _ ms
+at_key_object k (member l d inner) ms before = get_member-put k _ ms

@@ -2,6 +2,7 @@
 use Rattle.std.proofs.Common.{◌≡◌, ℕ, ◌≤◌, List, [], ◌∷◌, Some, Ok, length, refl, ap, ◌∙◌, arith}
 use Rattle.std.specs.Prelude.{codes}
 use Rattle.std.specs.List.{AllByRecursion}
+use Rattle.serde_json.proofs.Views.{get_member-put}
 use Rattle.serde_json.specs.Data.{Data, object, Members, no_members, put, depth}
 use Rattle.serde_json.specs.Find.{as_str, as_array}
 use Rattle.serde_json.specs.Read.{max_depth}
@@ -9,7 +10,7 @@ use Rattle.cni_json.specs.Json.{json_of}
 use Rattle.cni_json.specs.Fields.{field_of, object_of}
 use Rattle.cni_result.proofs.Depths.{result_depth}
 use Rattle.cni_result.proofs.EntriesAgain.{interface_again, ip_again, route_again}
-use Rattle.cni_result.proofs.Lookups.{at_other, at_other_text, at_other_list, at_other_object, at_key, at_key_text, at_key_list, at_key_object, list_member}
+use Rattle.cni_result.proofs.Lookups.{at_other, at_other_text, at_other_list, at_other_object, at_key_text, at_key_list, at_key_object, list_member}
 use Rattle.cni_result.proofs.ReadAgain.{each_again, list_again, list_if_again, domain_again, dns_again, everywhere, each_of}
 use Rattle.cni_result.specs.Dns.{word_of, words_of, words_at, domain_of, domain_at, dns_members_at, dns_of, dns_of_object}
 use Rattle.cni_result.specs.Fields.{list_of, list_at}
@@ -114,7 +115,7 @@ version_again r =
     ∙ at_other_list ip_data (codes "cniVersion") (codes "ips") r.ips (up_to_interfaces r) refl
     ∙ at_other (codes "cniVersion") (codes "interfaces") (list_data (interface_data r.version) r.interfaces) (up_to_dns r) refl
     ∙ at_other_object (codes "cniVersion") (codes "dns") (dns_members r.dns) (up_to_version r) refl
-    ∙ at_key (codes "cniVersion") (version_data r.version) no_members)
+    ∙ get_member-put (codes "cniVersion") (version_data r.version) no_members)
     ∙ version_named_again r.version
 
 interfaces_again : (r : AddResult) → IsReadable r → interfaces_at r.version (result_data r) ≡ Ok r.interfaces
@@ -124,7 +125,7 @@ interfaces_again r kept =
     ap (λ g. list_of (codes "interfaces") (interface_at r.version) (field_of as_array g))
     (at_other_list route_data (codes "interfaces") (codes "routes") r.routes (up_to_ips r) refl
     ∙ at_other_list ip_data (codes "interfaces") (codes "ips") r.ips (up_to_interfaces r) refl
-    ∙ at_key (codes "interfaces") (list_data (interface_data r.version) r.interfaces) (up_to_dns r))
+    ∙ get_member-put (codes "interfaces") (list_data (interface_data r.version) r.interfaces) (up_to_dns r))
     ∙ list_again (codes "interfaces") (interface_data r.version) (interface_at r.version) r.interfaces all
 
 ips_again : (r : AddResult) → IsReadable r → ips_at (result_data r) ≡ Ok r.ips

@@ -2,8 +2,9 @@
 use Rattle.std.proofs.Common.{◌≡◌, false, refl}
 use Rattle.serde_json.specs.Data.{Members}
 use Rattle.serde_json.specs.Written.{has_float, members_have_float}
+use Rattle.cni_json.proofs.Building.{members_have_float-put}
 use Rattle.cni_result.proofs.ResultLemmas.{result_is_whole, error_is_whole}
-use Rattle.cni_result.proofs.WholeNumbers.{put_is_whole, puts_are_whole}
+use Rattle.cni_result.proofs.WholeNumbers.{puts_are_whole}
 use Rattle.cni_result.specs.declared.version.Version.{Version}
 use Rattle.cni_verbs.specs.declared.answer.Answer.{Answer}
 use Rattle.cni_verbs.specs.declared.answer.Answer.TheVariants.{Added, Yes, Skipped, Versions, Refused, OutOfMemory, Stopped}
@@ -16,13 +17,13 @@ unfolding versions_data
 versions_are_whole version = refl
 
 pub put_answer_is_whole : (answer : Answer) (ms : Members) → members_have_float ms ≡ false → members_have_float (put_answer answer ms) ≡ false
-put_answer_is_whole (Added added) ms rest = put_is_whole _ _ ms (result_is_whole added) rest
-put_answer_is_whole Yes ms rest = put_is_whole _ _ ms refl rest
-put_answer_is_whole (Skipped skip) ms rest = put_is_whole _ _ ms refl rest
-put_answer_is_whole (Versions version) ms rest = put_is_whole _ _ ms (versions_are_whole version) rest
-put_answer_is_whole (Refused error) ms rest = put_is_whole _ _ ms (error_is_whole error) rest
-put_answer_is_whole OutOfMemory ms rest = put_is_whole _ _ ms (error_is_whole memory_error) rest
-put_answer_is_whole (Stopped calls) ms rest = put_is_whole _ _ ms refl rest
+put_answer_is_whole (Added added) ms rest = members_have_float-put _ _ ms (result_is_whole added) rest
+put_answer_is_whole Yes ms rest = members_have_float-put _ _ ms refl rest
+put_answer_is_whole (Skipped skip) ms rest = members_have_float-put _ _ ms refl rest
+put_answer_is_whole (Versions version) ms rest = members_have_float-put _ _ ms (versions_are_whole version) rest
+put_answer_is_whole (Refused error) ms rest = members_have_float-put _ _ ms (error_is_whole error) rest
+put_answer_is_whole OutOfMemory ms rest = members_have_float-put _ _ ms (error_is_whole memory_error) rest
+put_answer_is_whole (Stopped calls) ms rest = members_have_float-put _ _ ms refl rest
 
 pub answer_is_whole : (command : Command) (answer : Answer) → has_float (answer_data command answer) ≡ false
 unfolding answer_data
