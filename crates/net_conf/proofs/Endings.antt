@@ -8,7 +8,9 @@ use Rattle.serde_json.specs.Data.{Data, Items, no_items, item}
 use Rattle.serde_json.specs.Events.{items_len}
 use Rattle.cni_json.proofs.Endings.{goes, ok_same, passed}
 use Rattle.cni_json.specs.Each.{each}
-use Rattle.net_conf.specs.Members.{passing}
+use Rattle.cni_json.specs.declared.fields.Field.{Field}
+use Rattle.cni_json.specs.declared.fields.Field.TheVariants.{Absent, WrongKind, Here}
+use Rattle.net_conf.specs.Members.{passing, needed_text}
 use Rattle.net_conf.specs.Sets.{all_items}
 use Rattle.net_conf.specs.declared.error.ConfError.{ConfError}
 
@@ -36,6 +38,12 @@ passing-ok blamed test None x is = cc
 passing-ok blamed test (Some y) x is =
     let this = passed (test y) y x _ is in
     subst (λ z. (test z ≡ true) × (Some y ≡ Some z)) this.1 (this.0, refl)
+
+-- a text that must be there passed the test
+pub needed_text-ok : (key : List ℕ) (test : List ℕ → Bool) (f : Field (List ℕ)) (text : List ℕ) → needed_text key test f ≡ Ok text → test text ≡ true
+needed_text-ok key test Absent text is = cc
+needed_text-ok key test WrongKind text is = cc
+needed_text-ok key test (Here found) text is = (passing-ok key test (Some found) text is).0
 
 -- what holds of the value, if one is given
 abbrev pub IfGiven : {A : Type 0} → (A → Type 0) → Option A → Type 0

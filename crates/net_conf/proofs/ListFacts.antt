@@ -3,15 +3,14 @@ use Rattle.std.proofs.Common.{◌≡◌, ℕ, true, List, codes, Result, Ok, Err
 use Rattle.serde_json.specs.Data.{Data}
 use Rattle.cni_json.specs.Fields.{text_field, object_or}
 use Rattle.cni_json.specs.Json.{json_of}
-use Rattle.cni_json.specs.declared.fields.Field.{Field}
-use Rattle.cni_json.specs.declared.fields.Field.TheVariants.{Absent, WrongKind, Here}
 use Rattle.cni_json.specs.declared.reading.ReadEnd.{ReadEnd}
 use Rattle.cni_json.specs.declared.reading.ReadEnd.TheVariants as ends
 use Rattle.cni_json.proofs.Ascending.{KeysAscend-json_of}
-use Rattle.cni_json.proofs.Endings.{goes, ok_same, passed}
+use Rattle.cni_json.proofs.Endings.{goes, ok_same}
 use Rattle.cni_json.specs.WellFormed.{KeysAscend}
+use Rattle.net_conf.proofs.Endings.{needed_text-ok}
 use Rattle.net_conf.proofs.PluginFacts.{chain_at-ok}
-use Rattle.net_conf.specs.List.{read_or_refused, version_at, name_of, name_at, switch_at, disable_check_key, disable_gc_key, list_at, list_of}
+use Rattle.net_conf.specs.List.{read_or_refused, version_at, name_at, switch_at, disable_check_key, disable_gc_key, list_at, list_of}
 use Rattle.net_conf.specs.Names.{is_network_name}
 use Rattle.net_conf.specs.Outside.{supported}
 use Rattle.net_conf.specs.Plugins.{chain_at}
@@ -20,17 +19,9 @@ use Rattle.net_conf.specs.WellFormed.{IsWellFormedList}
 use Rattle.net_conf.specs.declared.list.NetList.{NetList}
 use Rattle.net_conf.specs.declared.outside.Accepted.TheVariants.{Nothing}
 
-abbrev IsName : List ℕ → Type 0
-IsName name = is_network_name name ≡ true
-
-name_of-ok : (f : Field (List ℕ)) (name : List ℕ) → name_of f ≡ Ok name → IsName name
-name_of-ok Absent name is = cc
-name_of-ok WrongKind name is = cc
-name_of-ok (Here text) name is = let test = passed (is_network_name text) text name _ is in subst IsName test.1 test.0
-
-name_at-ok : (d : Data) (name : List ℕ) → name_at d ≡ Ok name → IsName name
+name_at-ok : (d : Data) (name : List ℕ) → name_at d ≡ Ok name → is_network_name name ≡ true
 unfolding name_at
-name_at-ok d name is = name_of-ok (text_field (codes "name") d) name is
+name_at-ok d name is = needed_text-ok (codes "name") is_network_name (text_field (codes "name") d) name is
 
 list_at-ok : (d : Data) (list : NetList) → KeysAscend d → list_at d ≡ Ok list → IsWellFormedList list
 unfolding list_at

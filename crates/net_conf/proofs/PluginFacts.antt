@@ -13,14 +13,14 @@ use Rattle.cni_json.specs.declared.fields.Field.TheVariants.{Absent, WrongKind, 
 use Rattle.cni_json.proofs.Ascending.{get-everywhere}
 use Rattle.cni_json.specs.WellFormed.{EverywhereInItems, HasAscendingKeys, KeysAscend}
 use Rattle.cni_json.proofs.Endings.{goes, ok_same, passed, not_refused, each_after_keeps}
-use Rattle.net_conf.proofs.Endings.{or_default}
+use Rattle.net_conf.proofs.Endings.{needed_text-ok, or_default, passing-ok}
 use Rattle.net_conf.proofs.SetFacts.{sets_at-ok, routes_at-ok}
 use Rattle.net_conf.proofs.TuningFacts.{by_test, given_mtu_at-ok, tuning_at-ok}
 use Rattle.cni_result.specs.Dns.{dns_of_object}
 use Rattle.net_conf.specs.Bridge.{bridge_rows, bridge_name_of, bridge_name_at, gateway_role_at, mode_flags_at, is_one_mode, not_both, modes_at, bridge_at}
 use Rattle.net_conf.specs.Firewall.{firewall_at}
 use Rattle.net_conf.specs.Ipam.{manager_at, host_local_at, is_empty, ipam_of, ipam_at, addressing_at}
-use Rattle.net_conf.specs.Macvlan.{macvlan_rows, master_of, master_at, mode_at, macvlan_at}
+use Rattle.net_conf.specs.Macvlan.{macvlan_rows, master_at, mode_at, macvlan_at}
 use Rattle.net_conf.specs.Members.{flag_at, default_mtu, given_mtu_at, mtu_at, of_kind}
 use Rattle.net_conf.specs.Names.{is_interface_name}
 use Rattle.net_conf.specs.Outside.{supported, all_supported}
@@ -103,20 +103,15 @@ bridge_name_of-ok : (f : Field (List ℕ)) (name : List ℕ) → bridge_name_of 
 unfolding is_interface_name chars
 bridge_name_of-ok Absent name is = subst IsName (ok_same is) refl
 bridge_name_of-ok WrongKind name is = cc
-bridge_name_of-ok (Here text) name is = let test = passed (is_interface_name text) text name _ is in subst IsName test.1 test.0
+bridge_name_of-ok (Here text) name is = (passing-ok (codes "bridge") is_interface_name (Some text) name is).0
 
 bridge_name_at-ok : (d : Data) (name : List ℕ) → bridge_name_at d ≡ Ok name → IsName name
 unfolding bridge_name_at
 bridge_name_at-ok d name is = bridge_name_of-ok (text_field (codes "bridge") d) name is
 
-master_of-ok : (f : Field (List ℕ)) (name : List ℕ) → master_of f ≡ Ok name → IsName name
-master_of-ok Absent name is = cc
-master_of-ok WrongKind name is = cc
-master_of-ok (Here text) name is = let test = passed (is_interface_name text) text name _ is in subst IsName test.1 test.0
-
 master_at-ok : (d : Data) (name : List ℕ) → master_at d ≡ Ok name → IsName name
 unfolding master_at
-master_at-ok d name is = master_of-ok (text_field (codes "master") d) name is
+master_at-ok d name is = needed_text-ok (codes "master") is_interface_name (text_field (codes "master") d) name is
 
 abbrev IsRole : GatewayRole → Type 0
 IsRole role = role.is_default_gateway ≡ true → role.is_gateway ≡ true

@@ -3,13 +3,14 @@ use Rattle.std.specs.Prelude.{ℕ, List, [], codes, Bool, true, false, if◌then
 use Rattle.std.specs.Str.{bytes_eq}
 use Rattle.serde_json.specs.Data.{Data, boolean, string}
 use Rattle.cni_json.specs.Json.{json_of}
-use Rattle.cni_json.specs.Fields.{member_at, text_field, member_or, needed, object_or}
+use Rattle.cni_json.specs.Fields.{member_at, text_field, member_or, object_or}
 use Rattle.cni_json.specs.Outcome.{◌>>=◌}
 use Rattle.cni_json.specs.declared.fields.Field.{Field}
 use Rattle.cni_json.specs.declared.reading.ReadEnd.{ReadEnd}
 use Rattle.cni_json.specs.declared.reading.ReadEnd.TheVariants as ends
 use Rattle.cni_result.specs.Versions.{version_named}
 use Rattle.cni_result.specs.declared.version.Version.{Version}
+use Rattle.net_conf.specs.Members.{needed_text}
 use Rattle.net_conf.specs.Names.{is_network_name}
 use Rattle.net_conf.specs.Outside.{supported}
 use Rattle.net_conf.specs.Plugins.{chain_at}
@@ -35,15 +36,9 @@ version_of f =
 unfoldable pub version_at : Data → Result Version ConfError
 version_at d = version_of (text_field (codes "cniVersion") d)
 
-abbrev pub name_or_refused : List ℕ → Result (List ℕ) ConfError
-name_or_refused text = if is_network_name text then Ok text else invalid (codes "name")
-
-abbrev pub name_of : Field (List ℕ) → Result (List ℕ) ConfError
-name_of f = needed (invalid (codes "name")) name_or_refused f
-
 -- the name of the network
 unfoldable pub name_at : Data → Result (List ℕ) ConfError
-name_at d = name_of (text_field (codes "name") d)
+name_at d = needed_text (codes "name") is_network_name (text_field (codes "name") d)
 
 abbrev pub switch_named : List ℕ → List ℕ → Result Bool ConfError
 switch_named key text =

@@ -1,16 +1,16 @@
 -- The configuration of the `macvlan` plugin, key by key in the order of its refusals.
 use Rattle.std.specs.Prelude.{ℕ, List, [], ◌∷◌, codes, false, Result, Ok, ok_or}
 use Rattle.serde_json.specs.Data.{Data}
-use Rattle.cni_json.specs.Fields.{text_field, needed}
+use Rattle.cni_json.specs.Fields.{text_field}
 use Rattle.cni_json.specs.Outcome.{◌>>=◌}
 use Rattle.cni_json.specs.declared.fields.Field.{Field}
 use Rattle.cni_addr.specs.declared.macvlan.MacvlanMode.{MacvlanMode}
 use Rattle.cni_addr.specs.Modes.{mode_named}
 use Rattle.cni_addr.specs.declared.macvlan.MacvlanMode.TheVariants.{Bridge}
 use Rattle.net_conf.specs.Ipam.{addressing_at}
-use Rattle.net_conf.specs.Members.{optional, interface_name, mtu_at}
+use Rattle.net_conf.specs.Members.{optional, needed_text, mtu_at}
+use Rattle.net_conf.specs.Names.{is_interface_name}
 use Rattle.net_conf.specs.Outside.{Row, all_supported}
-use Rattle.net_conf.specs.Refusals.{invalid}
 use Rattle.net_conf.specs.declared.error.ConfError.{ConfError}
 use Rattle.net_conf.specs.declared.error.ConfError.TheVariants as refusal
 use Rattle.net_conf.specs.declared.first.MacvlanConf.{MacvlanConf}
@@ -20,12 +20,9 @@ use Rattle.net_conf.specs.declared.outside.Accepted.TheVariants.{IsFlag}
 abbrev pub macvlan_rows : List Row
 macvlan_rows = (codes "linkInContainer", IsFlag false) ∷ []
 
-abbrev pub master_of : Field (List ℕ) → Result (List ℕ) ConfError
-master_of f = needed (invalid (codes "master")) (interface_name (codes "master")) f
-
 -- the host's interface that the link goes through
 unfoldable pub master_at : Data → Result (List ℕ) ConfError
-master_at d = master_of (text_field (codes "master") d)
+master_at d = needed_text (codes "master") is_interface_name (text_field (codes "master") d)
 
 abbrev pub mode_of : Field (List ℕ) → Result MacvlanMode ConfError
 mode_of f = optional (codes "mode") Bridge (λ text. ok_or (mode_named text) (refusal.Invalid (codes "mode"))) f

@@ -4,10 +4,9 @@ use Rattle.serde_json.specs.Data.{Data}
 use Rattle.serde_json.specs.Find.{as_null}
 use Rattle.cni_addr.specs.AddrText.{addr_of_text}
 use Rattle.cni_addr.specs.declared.address.Addr.{Addr}
-use Rattle.cni_json.specs.Fields.{bool_field, text_field, u64_field, member_or}
+use Rattle.cni_json.specs.Fields.{bool_field, text_field, u64_field, member_or, needed}
 use Rattle.cni_json.specs.Outcome.{◌>>=◌}
 use Rattle.cni_json.specs.declared.fields.Field.{Field}
-use Rattle.net_conf.specs.Names.{is_interface_name}
 use Rattle.net_conf.specs.Refusals.{invalid}
 use Rattle.net_conf.specs.declared.error.ConfError.{ConfError}
 use Rattle.std.specs.Fn.{Shared}
@@ -20,10 +19,18 @@ is_null d = is_some (as_null d)
 abbrev pub optional : {A B : Type 0} → List ℕ → B → (A → Result B ConfError) → Field A → Result B ConfError
 optional blamed default read f = member_or (Ok default) (invalid blamed) read f
 
--- a value that was found and passes the test; else this key or part is to blame
+-- a value that passes the test; else this key or part is to blame
+abbrev pub tested : {A : Type 0} → List ℕ → (A → Bool) → A → Result A ConfError
+tested blamed test x = if test x then Ok x else invalid blamed
+
+-- a value that was found and passes the test
 abbrev pub passing : {A : Type 0} → List ℕ → (A → Bool) → Option A → Result A ConfError
 passing blamed test None = invalid blamed
-passing blamed test (Some x) = if test x then Ok x else invalid blamed
+passing blamed test (Some x) = tested blamed test x
+
+-- a text that must be there and pass the test
+abbrev pub needed_text : List ℕ → (List ℕ → Bool) → Field (List ℕ) → Result (List ℕ) ConfError
+needed_text key test f = needed (invalid key) (tested key test) f
 
 -- the configuration, as one of a kind
 abbrev pub of_kind : {A B : Type 0} → (A → B) → Result A ConfError → Result B ConfError
@@ -49,10 +56,6 @@ addr_if_at blamed key test d = addr_if_of blamed test (text_field key d)
 -- the function tells which addresses pass the test
 pub record IsTest {F : Type 0} (calls : Shared F (Bor Addr × Unit {0}) Bool) (passes : F) (test : Addr → Bool) : Type 0 where
   pub tells : (addr : Bor Addr) (b : Bool) → calls.post passes (addr, tt) b → b ≡ test addr.now
-
--- the text, which must be the name of an interface; else this key is to blame
-abbrev pub interface_name : List ℕ → List ℕ → Result (List ℕ) ConfError
-interface_name blamed text = if is_interface_name text then Ok text else invalid blamed
 
 -- from the least MTU of IPv4 (RFC 791, section 3.2) to the greatest length of a packet
 abbrev pub is_mtu : ℕ → Bool
