@@ -12,7 +12,7 @@ use Rattle.kernel_types.proofs.Isolation.{KeepsPart-Touches, att_eq-same, own_ap
 use Rattle.kernel_types.specs.declared.object.Att.{Att}
 use Rattle.kernel_types.specs.declared.object.Host.{Host}
 use Rattle.kernel_types.specs.declared.call.Call.{Call}
-use Rattle.kernel_types.specs.declared.call.Call.TheVariants.{Begin, BridgeEnsure, GatewayEnsure, ForwardEnsure, VethAdd, MacvlanAdd, LinkSet, AddrAdd, RouteAdd, RuleAppend, SettingSet, LeaseNext, CachePut, LinkDel, RuleDel, SettingDel, LeaseDel, CacheDel, HasObj, CacheGet, OwnersOf, PoolFree, NsChange, Outside}
+use Rattle.kernel_types.specs.declared.call.Call.TheVariants.{Begin, BridgeEnsure, GatewayEnsure, ForwardEnsure, VethAdd, MacvlanAdd, LinkSet, AddrAdd, RouteAdd, RuleAppend, SettingSet, LeaseNext, CachePut, LinkDel, RuleDel, SettingDel, LeaseDel, CacheDel, CacheGet}
 use Rattle.plan_words.specs.PlanCalls.{is_beside_plans, is_plan_call_of, is_call_of}
 use Rattle.plan_words.specs.Share.{share_of}
 
@@ -47,12 +47,8 @@ call-apart att other (RuleDel a) differ is = record { inside = refl; unnamed = a
 call-apart att other (SettingDel a) differ is = record { inside = refl; unnamed = apart_att att other a differ is }
 call-apart att other (LeaseDel a) differ is = record { inside = refl; unnamed = apart_att att other a differ is }
 call-apart att other (CacheDel a) differ is = record { inside = refl; unnamed = apart_att att other a differ is }
-call-apart att other (HasObj probe) differ is = cc
 call-apart att other (CacheGet a) differ is = record { inside = refl; unnamed = apart_att att other a differ is }
-call-apart att other (OwnersOf network kind) differ is = cc
-call-apart att other (PoolFree network set) differ is = cc
-call-apart att other (NsChange name add) differ is = cc
-call-apart att other (Outside change) differ is = cc
+call-apart att other _ differ is = cc
 
 -- a call of one attachment that may be made leaves the share of every other
 pub share-other : (att other : Att) (host : Host) (call : Call) → att_eq att other ≡ false → IsSound host → IsAllowed host call → is_call_of att call ≡ true → share_of other (apply host call).0 ≡ share_of other host

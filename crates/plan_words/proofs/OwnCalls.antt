@@ -15,11 +15,12 @@ use Rattle.ip_pool.specs.Pool.{pick_of}
 use Rattle.kernel_types.specs.Equal.{att_eq, rule_eq}
 use Rattle.kernel_types.specs.Words.{is_own, is_host_or_ns, has_named_ns, link_at, is_host_link, has_host_bridge, has_objects, lease_of}
 use Rattle.kernel_types.specs.Apply.{apply}
-use Rattle.kernel_types.specs.Apply.Calls.{begin_of, bridge_or_new, new_bridge, gateway_ensure_of, forward_ensure_of, has_bridge_as_master, veth_add_of, has_master, macvlan_add_of, with_values, set_link, is_own_at, link_set_of, has_link_of, is_same_addr, addr_add_of, is_same_route, route_add_of, rule_append_of, is_same_setting, setting_set_of, leased_addresses, last_leased, is_of_pool, with_last, lease_taken, lease_next_of, cache_put_of}
-use Rattle.kernel_types.proofs.Cases.{by_test, by_way, att_eq-refl}
+use Rattle.kernel_types.specs.Apply.Calls.{append_unless_taken, unless_there, begin_of, bridge_or_new, new_bridge, gateway_ensure_of, forward_ensure_of, has_bridge_as_master, veth_add_of, has_master, macvlan_add_of, with_values, set_link, is_own_at, link_set_of, has_link_of, is_same_addr, addr_add_of, is_same_route, route_add_of, rule_append_of, is_same_setting, setting_set_of, leased_addresses, last_leased, is_of_pool, with_last, lease_taken, lease_next_of, cache_put_of}
+use Rattle.kernel_types.proofs.Cases.{by_test, att_eq-refl}
 use Rattle.kernel_types.proofs.LeasedAddress.{same_leased}
 use Rattle.kernel_types.specs.declared.object.Att.{Att}
 use Rattle.kernel_types.specs.declared.object.LinkKey.{LinkKey}
+use Rattle.kernel_types.specs.declared.object.Tag.{Tag}
 use Rattle.kernel_types.specs.declared.object.Tag.TheVariants.{Base}
 use Rattle.kernel_types.specs.declared.object.Link.{Link}
 use Rattle.kernel_types.specs.declared.object.AddrObj.{AddrObj}
@@ -28,7 +29,7 @@ use Rattle.kernel_types.specs.declared.object.Rule.{Rule}
 use Rattle.kernel_types.specs.declared.object.Setting.{Setting}
 use Rattle.kernel_types.specs.declared.object.Host.{Host}
 use Rattle.kernel_types.specs.declared.call.Call.{Call}
-use Rattle.kernel_types.specs.declared.call.Call.TheVariants.{Begin, BridgeEnsure, GatewayEnsure, ForwardEnsure, VethAdd, MacvlanAdd, LinkSet, AddrAdd, RouteAdd, RuleAppend, SettingSet, LeaseNext, CachePut, LinkDel, RuleDel, SettingDel, LeaseDel, CacheDel, HasObj, CacheGet, OwnersOf, PoolFree, NsChange, Outside}
+use Rattle.kernel_types.specs.declared.call.Call.TheVariants.{BridgeEnsure, GatewayEnsure, ForwardEnsure, VethAdd, MacvlanAdd, LinkSet, AddrAdd, RouteAdd, RuleAppend, SettingSet, CachePut}
 use Rattle.kernel_types.specs.declared.call.Reply.{Reply}
 use Rattle.kernel_types.specs.declared.call.Reply.TheVariants.{Done, Leased}
 use Rattle.plan_words.specs.Share.{Share, share_of, no_objects, share_after_call}
@@ -45,66 +46,72 @@ own-bridge_or_new : (att : Att) (host : Host) (o : Option Link) (bridge : Link) 
 own-bridge_or_new att host (Some link) bridge base = λ done. refl
 own-bridge_or_new att host None bridge base = λ done. ap (λ l. record (share_of att host) { links = l }) (filter-push_dropped (λ l. is_own att l.tag) host.links bridge (ap (is_own att) base))
 
+-- what a step that is done makes of the share, by the ways in which a call goes
+module _ (att : Att) (next : Share) where
+  grows-if : (b : Bool) (host : Host) (step : Host × Reply) (reply : Reply) → (reply ≡ Done → ⊥) → Grows att next step → Grows att next (if b then step else (host, reply))
+  grows-if true host step reply not h = h
+  grows-if false host step reply not h = λ done. absurd (not done)
+
+  grows-appended : (o : Option Tag) (host more : Host) → share_of att more ≡ next → Grows att next (append_unless_taken o host more)
+  grows-appended None host more h = λ done. h
+  grows-appended (Some tag) host more h = λ done. cc
+
+  grows-there : (b : Bool) (reply : Reply) (host more : Host) → (reply ≡ Done → share_of att host ≡ next) → share_of att more ≡ next → Grows att next (unless_there b reply host more)
+  grows-there true reply host more there h = there
+  grows-there false reply host more there h = λ done. h
+
 own-gateway : (att : Att) (host : Host) (bridge : List ℕ) (cidr : Cidr) → Grows att (share_of att host) (gateway_ensure_of host bridge cidr)
 own-gateway att host bridge cidr =
-    by_test (Grows att (share_of att host)) (has_host_bridge host bridge) _ _
-    (λ _. by_test (Grows att (share_of att host)) (list_any _ host.addresses) _ _ (λ _ _. refl)
-    (λ _ _. ap (λ l. record (share_of att host) { addresses = l }) (filter-push_dropped (λ a. is_own att a.tag) host.addresses _ refl)))
-    (λ _ _. refl)
+    grows-if att (share_of att host) (has_host_bridge host bridge) host _ _ (λ e. cc)
+    (grows-there att (share_of att host) (list_any _ host.addresses) Done host _ (λ _. refl)
+    (ap (λ l. record (share_of att host) { addresses = l }) (filter-push_dropped (λ a. is_own att a.tag) host.addresses _ refl)))
 
 own-forward : (att : Att) (host : Host) (family : Family) → Grows att (share_of att host) (forward_ensure_of host family)
 own-forward att host family =
-    by_test (Grows att (share_of att host)) (list_any _ host.settings) _ _ (λ _ _. refl)
-    (λ _ _. ap (λ l. record (share_of att host) { settings = l }) (filter-push_dropped (λ s. is_own att s.tag) host.settings _ refl))
+    grows-there att (share_of att host) (list_any _ host.settings) Done host _ (λ _. refl)
+    (ap (λ l. record (share_of att host) { settings = l }) (filter-push_dropped (λ s. is_own att s.tag) host.settings _ refl))
 
 own-veth : (att : Att) (host : Host) (h i : Link) → is_own att h.tag ≡ true → is_own att i.tag ≡ true → Grows att (share_after_call (share_of att host) (VethAdd h i)) (veth_add_of host h i)
 own-veth att host h i own_h own_i =
-    by_test (Grows att (share_after_call (share_of att host) (VethAdd h i))) (has_named_ns host i.ns) _ _
-    (λ _. by_test (Grows att (share_after_call (share_of att host) (VethAdd h i))) (has_bridge_as_master host h.master) _ _
-    (λ _. by_way (Grows att (share_after_call (share_of att host) (VethAdd h i))) (option_map (λ l. l.tag) (option_or (link_at host i.ns i.name) (link_at host h.ns h.name))) _ _ (λ t done. cc)
-    (λ _ _. ap (λ l. record (share_of att host) { links = l }) (filter-two_kept (λ l. is_own att l.tag) host.links h i own_h own_i)))
-    (λ _ done. cc))
-    (λ _ done. cc)
+    grows-if att _ (has_named_ns host i.ns) host _ _ (λ e. cc)
+    (grows-if att _ (has_bridge_as_master host h.master) host _ _ (λ e. cc)
+    (grows-appended att _ (option_map (λ l. l.tag) (option_or (link_at host i.ns i.name) (link_at host h.ns h.name))) host _
+    (ap (λ l. record (share_of att host) { links = l }) (filter-two_kept (λ l. is_own att l.tag) host.links h i own_h own_i))))
 
 own-macvlan : (att : Att) (host : Host) (link : Link) → is_own att link.tag ≡ true → Grows att (share_after_call (share_of att host) (MacvlanAdd link)) (macvlan_add_of host link)
 own-macvlan att host link own =
-    by_test (Grows att (share_after_call (share_of att host) (MacvlanAdd link))) (has_named_ns host link.ns) _ _
-    (λ _. by_test (Grows att (share_after_call (share_of att host) (MacvlanAdd link))) (has_master host link.master) _ _
-    (λ _. by_way (Grows att (share_after_call (share_of att host) (MacvlanAdd link))) (option_map (λ l. l.tag) (link_at host link.ns link.name)) _ _ (λ t done. cc)
-    (λ _ _. ap (λ l. record (share_of att host) { links = l }) (filter-push_kept (λ l. is_own att l.tag) host.links link own)))
-    (λ _ done. cc))
-    (λ _ done. cc)
+    grows-if att _ (has_named_ns host link.ns) host _ _ (λ e. cc)
+    (grows-if att _ (has_master host link.master) host _ _ (λ e. cc)
+    (grows-appended att _ (option_map (λ l. l.tag) (link_at host link.ns link.name)) host _
+    (ap (λ l. record (share_of att host) { links = l }) (filter-push_kept (λ l. is_own att l.tag) host.links link own))))
 
 own-addr : (att : Att) (host : Host) (obj : AddrObj) → is_own att obj.tag ≡ true → Grows att (share_after_call (share_of att host) (AddrAdd obj)) (addr_add_of host obj)
 own-addr att host obj own =
-    by_test (Grows att (share_after_call (share_of att host) (AddrAdd obj))) (has_link_of host obj.ns obj.link obj.tag) _ _
-    (λ _. by_way (Grows att (share_after_call (share_of att host) (AddrAdd obj))) (option_map (λ a. a.tag) (find (is_same_addr obj) host.addresses)) _ _ (λ t done. cc)
-    (λ _ _. ap (λ l. record (share_of att host) { addresses = l }) (filter-push_kept (λ a. is_own att a.tag) host.addresses obj own)))
-    (λ _ done. cc)
+    grows-if att _ (has_link_of host obj.ns obj.link obj.tag) host _ _ (λ e. cc)
+    (grows-appended att _ (option_map (λ a. a.tag) (find (is_same_addr obj) host.addresses)) host _
+    (ap (λ l. record (share_of att host) { addresses = l }) (filter-push_kept (λ a. is_own att a.tag) host.addresses obj own)))
 
 own-route : (att : Att) (host : Host) (obj : RouteObj) → is_own att obj.tag ≡ true → Grows att (share_after_call (share_of att host) (RouteAdd obj)) (route_add_of host obj)
 own-route att host obj own =
-    by_test (Grows att (share_after_call (share_of att host) (RouteAdd obj))) (has_link_of host obj.ns obj.link obj.tag) _ _
-    (λ _. by_way (Grows att (share_after_call (share_of att host) (RouteAdd obj))) (option_map (λ r. r.tag) (find (is_same_route obj) host.routes)) _ _ (λ t done. cc)
-    (λ _ _. ap (λ l. record (share_of att host) { routes = l }) (filter-push_kept (λ r. is_own att r.tag) host.routes obj own)))
-    (λ _ done. cc)
+    grows-if att _ (has_link_of host obj.ns obj.link obj.tag) host _ _ (λ e. cc)
+    (grows-appended att _ (option_map (λ r. r.tag) (find (is_same_route obj) host.routes)) host _
+    (ap (λ l. record (share_of att host) { routes = l }) (filter-push_kept (λ r. is_own att r.tag) host.routes obj own)))
 
 own-rule : (att : Att) (host : Host) (rule : Rule) → is_own att rule.tag ≡ true → Grows att (share_after_call (share_of att host) (RuleAppend rule)) (rule_append_of host rule)
 own-rule att host rule own =
-    by_test (Grows att (share_after_call (share_of att host) (RuleAppend rule))) (list_any (λ r. rule_eq r rule) host.rules) _ _ (λ _ done. cc)
-    (λ _ _. ap (λ l. record (share_of att host) { rules = l }) (filter-push_kept (λ r. is_own att r.tag) host.rules rule own))
+    grows-there att _ (list_any (λ r. rule_eq r rule) host.rules) _ host _ (λ done. cc)
+    (ap (λ l. record (share_of att host) { rules = l }) (filter-push_kept (λ r. is_own att r.tag) host.rules rule own))
 
 own-setting : (att : Att) (host : Host) (s : Setting) → is_own att s.tag ≡ true → Grows att (share_after_call (share_of att host) (SettingSet s)) (setting_set_of host s)
 own-setting att host s own =
-    by_test (Grows att (share_after_call (share_of att host) (SettingSet s))) (has_named_ns host s.ns) _ _
-    (λ _. by_way (Grows att (share_after_call (share_of att host) (SettingSet s))) (option_map (λ x. x.tag) (find (is_same_setting s) host.settings)) _ _ (λ t done. cc)
-    (λ _ _. ap (λ l. record (share_of att host) { settings = l }) (filter-push_kept (λ x. is_own att x.tag) host.settings s own)))
-    (λ _ done. cc)
+    grows-if att _ (has_named_ns host s.ns) host _ _ (λ e. cc)
+    (grows-appended att _ (option_map (λ x. x.tag) (find (is_same_setting s) host.settings)) host _
+    (ap (λ l. record (share_of att host) { settings = l }) (filter-push_kept (λ x. is_own att x.tag) host.settings s own)))
 
 own-cached : (att own : Att) (host : Host) (cached : Cached) → att_eq own att ≡ true → Grows att (share_after_call (share_of att host) (CachePut own cached)) (cache_put_of host own cached)
 own-cached att own host cached is =
-    by_test (Grows att (share_after_call (share_of att host) (CachePut own cached))) (list_any (λ c. is_own own c.tag) host.cached) _ _ (λ _ done. cc)
-    (λ _ _. ap (λ l. record (share_of att host) { cached = l }) (filter-push_kept (λ c. is_own att c.tag) host.cached _ is))
+    grows-there att _ (list_any (λ c. is_own own c.tag) host.cached) _ host _ (λ done. cc)
+    (ap (λ l. record (share_of att host) { cached = l }) (filter-push_kept (λ c. is_own att c.tag) host.cached _ is))
 
 set_link-tag_by : (b : Bool) (mac : Option Mac) (mtu tx_qlen : Option ℕ) (promisc allmulti : Bool) (link : Link) (att : Att)
     → is_own att (if b then with_values mac mtu tx_qlen promisc allmulti link else link).tag ≡ is_own att link.tag
@@ -119,10 +126,9 @@ set_link-tag own key mac mtu tx_qlen promisc allmulti link att = set_link-tag_by
 own-link_set : (att own : Att) (host : Host) (key : LinkKey) (mac : Option Mac) (mtu tx_qlen : Option ℕ) (promisc allmulti : Bool)
     → Grows att (share_after_call (share_of att host) (LinkSet own key mac mtu tx_qlen promisc allmulti)) (link_set_of host own key mac mtu tx_qlen promisc allmulti)
 own-link_set att own host key mac mtu tx_qlen promisc allmulti =
-    by_test (Grows att (share_after_call (share_of att host) (LinkSet own key mac mtu tx_qlen promisc allmulti))) (list_any (is_own_at own key) host.links) _ _
-    (λ _ _. ap (λ l. record (share_of att host) { links = l })
+    grows-if att _ (list_any (is_own_at own key) host.links) host _ _ (λ e. cc)
+    (λ _. ap (λ l. record (share_of att host) { links = l })
     (filter-map_kept (λ l. is_own att l.tag) (set_link own key mac mtu tx_qlen promisc allmulti) (λ l. set_link-tag own key mac mtu tx_qlen promisc allmulti l att) host.links))
-    (λ _ done. cc)
 
 -- ---- begin
 
@@ -181,16 +187,4 @@ share-own att host (RouteAdd obj) is = own-route att host obj is
 share-own att host (RuleAppend rule) is = own-rule att host rule is
 share-own att host (SettingSet s) is = own-setting att host s is
 share-own att host (CachePut own cached) is = own-cached att own host cached is
-share-own att host (Begin a n) is = cc
-share-own att host (LeaseNext a n s) is = cc
-share-own att host (LinkDel a) is = cc
-share-own att host (RuleDel a) is = cc
-share-own att host (SettingDel a) is = cc
-share-own att host (LeaseDel a) is = cc
-share-own att host (CacheDel a) is = cc
-share-own att host (HasObj p) is = cc
-share-own att host (CacheGet a) is = cc
-share-own att host (OwnersOf n k) is = cc
-share-own att host (PoolFree n s) is = cc
-share-own att host (NsChange n b) is = cc
-share-own att host (Outside c) is = cc
+share-own att host _ is = cc
