@@ -11,6 +11,7 @@ use Rattle.kernel_types.proofs.Isolation.{is_own-one}
 use Rattle.kernel_types.proofs.ListLemmas.{filter_never, list_any-find_none, without_first-none}
 use Rattle.kernel_types.proofs.TouchRemoval.{by_bool}
 use Rattle.kernel_types.specs.declared.object.Att.{Att}
+use Rattle.kernel_types.specs.declared.object.Tag.{Tag}
 use Rattle.kernel_types.specs.declared.object.Tag.TheVariants.{Own}
 use Rattle.kernel_types.specs.declared.object.Link.{Link}
 use Rattle.kernel_types.specs.declared.object.AddrObj.{AddrObj}
@@ -50,15 +51,16 @@ none_weaker : (att : Att) (ns name : List ℕ) (links : List Link) → list_any 
 none_weaker att ns name [] h = refl
 none_weaker att ns name (l ∷ ls) h = grind (arith, none_weaker att ns name ls)
 
+-- what would lie on a link of the attachment's, if it were the attachment's, is not
+unowned : (att : Att) (links : List Link) (ns name : List ℕ) (tag : Tag) → list_any (λ l. is_own att l.tag) links ≡ false → (is_own att tag ≡ true → list_any (is_link_of ns name (Own att)) links ≡ true) → is_own att tag ≡ false
+unowned att links ns name tag none lies =
+    by_bool (is_own att tag) (λ own. absurd (both_ways (list_any (is_link_of ns name (Own att)) links) (none_weaker att ns name links none) (lies own))) (λ f. f)
+
 addr_lies : (att : Att) (links : List Link) (a : AddrObj) → list_any (λ l. is_own att l.tag) links ≡ false → address_fits_tag links a a.tag ≡ true → is_own att a.tag ≡ false
-addr_lies att links a none lies = by_bool (is_own att a.tag)
-    (λ own. let lie : list_any (is_link_of a.ns a.link (Own att)) links ≡ true = rw (is_own-one att a.tag own) at lies in absurd (both_ways (list_any (is_link_of a.ns a.link (Own att)) links) (none_weaker att a.ns a.link links none) lie))
-    (λ f. f)
+addr_lies att links a none lies = unowned att links a.ns a.link a.tag none (λ own. rw (is_own-one att a.tag own) at lies)
 
 route_lies : (att : Att) (links : List Link) (r : RouteObj) → list_any (λ l. is_own att l.tag) links ≡ false → list_any (is_link_of r.ns r.link r.tag) links ≡ true → is_own att r.tag ≡ false
-route_lies att links r none lies = by_bool (is_own att r.tag)
-    (λ own. let lie : list_any (is_link_of r.ns r.link (Own att)) links ≡ true = rw (is_own-one att r.tag own) at lies in absurd (both_ways (list_any (is_link_of r.ns r.link (Own att)) links) (none_weaker att r.ns r.link links none) lie))
-    (λ f. f)
+route_lies att links r none lies = unowned att links r.ns r.link r.tag none (λ own. rw (is_own-one att r.tag own) at lies)
 
 pub no-links : (att : Att) (host : Host) → IsSound host → (share_of att host).links ≡ [] → ((share_of att host).addresses ≡ []) × ((share_of att host).routes ≡ [])
 no-links att host sound none =
