@@ -1,6 +1,6 @@
 -- Objects are the same where their keys are.
 use Rattle.std.proofs.Common.{◌≡◌, ℕ, ◌+◌, ◌*◌, ◌/◌, ◌%◌, ◌≤◌, Bool, true, false, List, [], ◌∷◌, map, length, drop, Option, Some, None, refl, sym, ◌∙◌, ap, arith, cond}
-use Rattle.std.specs.Prelude.{◌&&◌, ◌||◌, find, is_some, option_map, slice_get}
+use Rattle.std.specs.Prelude.{◌&&◌, find, is_some, option_map, slice_get}
 use Rattle.std.specs.List.{list_any}
 use Rattle.std.specs.Option.{option_eq}
 use Rattle.std.specs.Cmp.{nat_eq_equiv}
@@ -14,6 +14,7 @@ use Rattle.cni_addr.specs.declared.address.Cidr.{Cidr}
 use Rattle.cni_addr.specs.declared.address.Family.{Family}
 use Rattle.cni_addr.specs.declared.address.Family.TheVariants.{V4, V6}
 use Rattle.cni_result.specs.declared.result.RouteEntry.{RouteEntry}
+use Rattle.ip_pool.proofs.Lists.{is_some-find}
 use Rattle.kernel_types.specs.Apply.Calls.{is_same_addr, is_same_route}
 use Rattle.kernel_types.specs.Equal.{addr_eq, cidr_eq, rule_eq}
 use Rattle.kernel_types.proofs.Cases.{att_eq-refl}
@@ -114,13 +115,8 @@ pub find-map : {X Y : Type 0} (f : X → Y) (p : Y → Bool) (xs : List X) → f
 find-map f p [] = refl
 find-map f p (x ∷ xs) = grind (arith, find-map f p xs)
 
-any-step : {X : Type 0} (b c : Bool) (x : X) (o : Option X) → c ≡ is_some o → (b || c) ≡ is_some (cond b (Some x) o)
-any-step true c x o h = refl
-any-step false c x o h = h
-
 -- some one passes where one is found
 pub list_any-find : {X : Type 0} (p : X → Bool) (xs : List X) → list_any p xs ≡ is_some (find p xs)
-list_any-find p [] = refl
-list_any-find p (x ∷ xs) = any-step (p x) (list_any p xs) x (find p xs) (list_any-find p xs)
+list_any-find p xs = sym (is_some-find p xs)
 
 pub ruleset family_steps = (list_any-find)
