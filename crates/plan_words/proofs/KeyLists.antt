@@ -3,17 +3,16 @@ use Rattle.std.proofs.Common.{◌≡◌, ◌+◌, ◌≤◌, Bool, true, false, 
 use Rattle.std.specs.Prelude.{filter, fold, flat_map, if◌then◌else◌}
 use Rattle.std.specs.List.{list_any, list_all}
 use Rattle.std.proofs.lemmas.List.{length_push}
+use Rattle.std.proofs.lemmas.List.Elements.{filter-append}
 use Rattle.cni_addr.specs.Lists.{distinct, push_unless_there, each_key_once}
 use Rattle.kernel_types.proofs.ListLemmas.{distinct-push, list_all-push, list_any-same_test}
 pub use Rattle.kernel_types.proofs.ListLemmas.{filter-push_dropped, list_all-append}
 
 pub filter-push_kept : {X : Type 0} (p : X → Bool) (xs : List X) (y : X) → p y ≡ true → filter p (xs ++ y ∷ []) ≡ filter p xs ++ y ∷ []
-filter-push_kept p [] y h = grind arith
-filter-push_kept p (x ∷ xs) y h = grind (arith, filter-push_kept p xs y)
+filter-push_kept p xs y h = filter-append p xs (y ∷ []) ∙ grind (arith, h)
 
 pub filter-two_kept : {X : Type 0} (p : X → Bool) (xs : List X) (y z : X) → p y ≡ true → p z ≡ true → filter p (xs ++ y ∷ z ∷ []) ≡ filter p xs ++ y ∷ z ∷ []
-filter-two_kept p [] y z h g = grind arith
-filter-two_kept p (x ∷ xs) y z h g = grind (arith, filter-two_kept p xs y z)
+filter-two_kept p xs y z h g = filter-append p xs (y ∷ z ∷ []) ∙ grind (arith, h, g)
 
 pub filter-none : {X : Type 0} (p : X → Bool) (xs : List X) → list_any p xs ≡ false → filter p xs ≡ []
 filter-none p [] h = refl
