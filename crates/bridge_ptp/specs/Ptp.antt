@@ -4,9 +4,7 @@ use Rattle.cni_addr.specs.Network.{whole}
 use Rattle.cni_addr.specs.declared.address.Addr.{Addr}
 use Rattle.net_conf.specs.declared.first.PtpConf.{PtpConf}
 use Rattle.kernel_types.specs.Apply.Calls.{is_same_addr, is_same_route}
-use Rattle.kernel_types.specs.Names.{host_name_of}
 use Rattle.kernel_types.specs.declared.object.Att.{Att}
-use Rattle.kernel_types.specs.declared.object.Tag.TheVariants.{Own}
 use Rattle.kernel_types.specs.declared.object.AddrObj.{AddrObj}
 use Rattle.kernel_types.specs.declared.object.RouteObj.{RouteObj}
 use Rattle.kernel_types.specs.declared.call.Given.{Given}
@@ -14,7 +12,7 @@ use Rattle.kernel_types.specs.declared.call.Kind.{Kind}
 use Rattle.kernel_types.specs.declared.call.Call.{Call}
 use Rattle.kernel_types.specs.declared.call.Call.TheVariants.{AddrAdd, RouteAdd, RuleAppend}
 use Rattle.cni_addr.specs.Lists.{each_key_once}
-use Rattle.plan_words.specs.Shapes.{address_on, route_by, route_on, masquerade_rules, forward_calls}
+use Rattle.plan_words.specs.Shapes.{host_key, address_at, route_at, address_on, route_by, route_on, masquerade_rules, forward_calls}
 use Rattle.plan_words.specs.Share.{Share, no_objects}
 use Rattle.bridge_ptp.specs.Bridge.{interface_kinds}
 use Rattle.bridge_ptp.specs.Veth.{veth_share, veth_pair}
@@ -42,10 +40,10 @@ call_for (Route obj) = RouteAdd obj
 
 -- on the host's end: the gateway as its address, and the way to the container's address
 abbrev pub gateway_on_host : Att → Addr → AddrObj
-gateway_on_host att gateway = record { ns = []; link = host_name_of att; cidr = whole gateway; tag = Own att }
+gateway_on_host att gateway = address_at att (host_key att) (whole gateway)
 
 abbrev pub route_on_host : Att → Addr → RouteObj
-route_on_host att addr = record { ns = []; dst = whole addr; link = host_name_of att; gw = None; tag = Own att }
+route_on_host att addr = route_at att (host_key att) (whole addr) None
 
 -- what lies on both ends for one address
 abbrev pub ptp_objects_for : Att → List ℕ → Given → List AddressOrRoute

@@ -11,11 +11,11 @@ use crate::kinds::interface_kinds;
 use crate::veth::veth_pair;
 use cni_addr::{Addr, Duplicate, Items, NoMemory, Text, whole};
 use cni_result::{AddResult, RouteEntry};
-use kernel_types::{AddrObj, Att, Call, Given, Kind, RouteObj, Tag};
+use kernel_types::{AddrObj, Att, Call, Given, Kind, RouteObj};
 use net_conf::PtpConf;
 use plan_words::{
-    Asked, address_on, ask_all, ask_forward, masquerade_rules, push_unless_there, route_by,
-    route_on,
+    Asked, address_at, address_on, ask_all, ask_forward, host_key, masquerade_rules,
+    push_unless_there, route_at, route_by, route_on,
 };
 use std::alloc::Global;
 
@@ -80,25 +80,14 @@ pub fn ptp_before(
 fn gateway_on_host(alloc: Global, att: &Att, gateway: &Addr) -> Result<AddrObj, NoMemory>
     ensures { IfOk result (λ obj. obj ≡ plan.gateway_on_host att.now gateway.now) }
 {
-    Ok(AddrObj {
-        ns: Text::of(alloc, "")?,
-        link: att.host_name(alloc)?,
-        cidr: whole(gateway),
-        tag: Tag::Own(att.copy()?),
-    })
+    address_at(att, host_key(alloc, att)?, whole(gateway))
 }
 
 /// The host reaches the address by its own end.
 fn route_on_host(alloc: Global, att: &Att, addr: &Addr) -> Result<RouteObj, NoMemory>
     ensures { IfOk result (λ obj. obj ≡ plan.route_on_host att.now addr.now) }
 {
-    Ok(RouteObj {
-        ns: Text::of(alloc, "")?,
-        dst: whole(addr),
-        link: att.host_name(alloc)?,
-        gw: None,
-        tag: Tag::Own(att.copy()?),
-    })
+    route_at(att, host_key(alloc, att)?, whole(addr), None)
 }
 
 fn push_address(objects: &mut Vec<AddressOrRoute>, obj: AddrObj) -> Result<(), NoMemory>

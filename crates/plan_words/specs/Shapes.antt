@@ -63,17 +63,25 @@ inner_end att netns mtu = record (new_link (inner_key att netns) Veth (inner_mac
 abbrev pub macvlan_link : Att → List ℕ → List ℕ → MacvlanMode → ℕ → Link
 macvlan_link att netns master mode mtu = record (new_link (inner_key att netns) (Macvlan mode) (inner_mac_of att) mtu (Own att)) { master = Some master }
 
--- ---- on the container end
+-- ---- on an end
+
+abbrev pub address_at : Att → LinkKey → Cidr → AddrObj
+address_at att key cidr = record { ns = key.ns; link = key.name; cidr = cidr; tag = Own att }
+
+abbrev pub route_at : Att → LinkKey → Cidr → Option Addr → RouteObj
+route_at att key dst gw = record { ns = key.ns; dst = dst; link = key.name; gw = gw; tag = Own att }
+
+-- ---- on the container's end
 
 abbrev pub address_on : Att → List ℕ → Given → AddrObj
-address_on att netns g = record { ns = netns; link = att.ifname; cidr = g.address; tag = Own att }
+address_on att netns g = address_at att (inner_key att netns) g.address
 
 -- the route's own gateway, else the first given address's of its family
 abbrev pub gateway_for : List Given → RouteEntry → Option Addr
 gateway_for given r = option_or r.gw (option_map (λ g. g.gateway) (first_given r.dst.addr.family given))
 
 abbrev pub route_by : Att → List ℕ → Cidr → Option Addr → RouteObj
-route_by att netns dst gw = record { ns = netns; dst = dst; link = att.ifname; gw = gw; tag = Own att }
+route_by att netns dst gw = route_at att (inner_key att netns) dst gw
 
 abbrev pub route_on : Att → List ℕ → List Given → RouteEntry → RouteObj
 route_on att netns given r = route_by att netns r.dst (gateway_for given r)

@@ -21,6 +21,7 @@ pub use counts::{count_addresses, count_forward_calls, count_masquerade_rules, c
 pub use families::{first_given, first_of_family, has_family};
 pub use rows::{GivenRow, Row, count_keys};
 pub use shapes::{
-    address_on, addresses_on, ask_forward, default_route, host_end, inner_end, inner_key,
-    macvlan_link, masquerade_rules, route_by, route_on, routes_on, rule_for_all,
+    address_at, address_on, addresses_on, ask_forward, default_route, host_end, host_key,
+    inner_end, inner_key, macvlan_link, masquerade_rules, route_at, route_by, route_on, routes_on,
+    rule_for_all,
 };

@@ -48,7 +48,8 @@ fn multicast(family: Family) -> Cidr
 
 // ---- links
 
-fn host_key(alloc: Global, att: &Att) -> Result<LinkKey, NoMemory>
+/// Where the host's end of the attachment's veth pair is.
+pub fn host_key(alloc: Global, att: &Att) -> Result<LinkKey, NoMemory>
     ensures { IfOk result (λ key. key ≡ shapes.host_key att.now) }
 {
     Ok(LinkKey {
@@ -118,18 +119,42 @@ pub fn macvlan_link(
     })
 }
 
+// ---- on an end
+
+/// An address of the attachment's on its link at this place.
+pub fn address_at(att: &Att, key: LinkKey, cidr: Cidr) -> Result<AddrObj, NoMemory>
+    ensures { IfOk result (λ obj. obj ≡ shapes.address_at att.now key cidr) }
+{
+    let tag = Tag::Own(att.copy()?);
+    Ok(AddrObj {
+        ns: key.ns,
+        link: key.name,
+        cidr,
+        tag,
+    })
+}
+
+/// A route of the attachment's from its link at this place to this destination, by this gateway or directly.
+pub fn route_at(att: &Att, key: LinkKey, dst: Cidr, gw: Option<Addr>) -> Result<RouteObj, NoMemory>
+    ensures { IfOk result (λ obj. obj ≡ shapes.route_at att.now key dst gw) }
+{
+    let tag = Tag::Own(att.copy()?);
+    Ok(RouteObj {
+        ns: key.ns,
+        dst,
+        link: key.name,
+        gw,
+        tag,
+    })
+}
+
 // ---- on the container's end
 
 /// The given address on the container's end.
 pub fn address_on(att: &Att, netns: &Text, given: &Given) -> Result<AddrObj, NoMemory>
     ensures { IfOk result (λ obj. obj ≡ shapes.address_on att.now netns.now given.now) }
 {
-    Ok(AddrObj {
-        ns: netns.copy()?,
-        link: att.ifname.copy()?,
-        cidr: given.address,
-        tag: Tag::Own(att.copy()?),
-    })
+    address_at(att, inner_key(att, netns)?, given.address)
 }
 
 /// The given addresses on the container's end, each once.
@@ -171,13 +196,7 @@ fn gateway_for(given: &[Given], route: &RouteEntry) -> Option<Addr>
 pub fn route_by(att: &Att, netns: &Text, dst: Cidr, gw: Option<Addr>) -> Result<RouteObj, NoMemory>
     ensures { IfOk result (λ obj. obj ≡ shapes.route_by att.now netns.now dst gw) }
 {
-    Ok(RouteObj {
-        ns: netns.copy()?,
-        dst,
-        link: att.ifname.copy()?,
-        gw,
-        tag: Tag::Own(att.copy()?),
-    })
+    route_at(att, inner_key(att, netns)?, dst, gw)
 }
 
 /// The route from the container's end: by its own gateway, else by that of the first given address of its family.
