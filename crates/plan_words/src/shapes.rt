@@ -177,10 +177,7 @@ pub fn addresses_on(
 fn family_gateway(given: &[Given], family: Family) -> Option<Addr>
     ensures { result ≡ option_map (λ g. g.gateway) (families.first_given family given.now) }
 {
-    match first_given(&given, family) {
-        Some(g) => Some(g.gateway),
-        None => None,
-    }
+    first_given(&given, family).map(|g| g.gateway)
 }
 
 fn gateway_for(given: &[Given], route: &RouteEntry) -> Option<Addr>

@@ -158,10 +158,7 @@ impl<M: MappingRow> Row<PortKey> for PortKeys<M> {
 fn address_of_family<G: GivenRow>(given: &G, family: Family) -> Option<Cidr>
     ensures { result ≡ option_map (λ g. g.address) (families.first_given family (present (G.values given.now))) }
 {
-    match first_given(given, family) {
-        Some(g) => Some(g.address),
-        None => None,
-    }
+    first_given(given, family).map(|g| g.address)
 }
 
 /// How many calls `portmap` makes where the result before it has these given addresses: a rule that two mappings ask

@@ -53,10 +53,7 @@ pub(crate) fn host_ip_allows(mapping: &PortMapping, addr: &Addr) -> bool
 fn host_network(mapping: &PortMapping) -> Option<Cidr>
     ensures { result ≡ option_map network.whole mapping.now.host_ip }
 {
-    match mapping.host_ip {
-        Some(host_ip) => Some(whole(&host_ip)),
-        None => None,
-    }
+    mapping.host_ip.map(|host_ip| whole(&host_ip))
 }
 
 /// What comes to the port of the host goes on to the container.
