@@ -110,16 +110,10 @@ ends-by netns ifname name true false true e = grind (arith, e, nat_list_eq_equiv
 ends-by netns ifname name false false true e = grind (arith, e, nat_list_eq_equiv.symm netns [], nat_list_eq_equiv.symm ifname name)
 
 and-with : (a b c : Bool) → ((a && b) && c) ≡ ((a && c) && b)
-and-with true true true = refl
-and-with true true false = refl
-and-with true false true = refl
-and-with true false false = refl
-and-with false b c = refl
+and-with a b c = grind arith
 
 and-true : (a b : Bool) → (a && b) ≡ (a && (b && true))
-and-true true true = refl
-and-true true false = refl
-and-true false b = refl
+and-true a b = grind arith
 
 abbrev pub key_eq : PtpKey → PtpKey → Bool
 key_eq k l = beq k.on_host l.on_host && (option_eq addr_eq k.address l.address && option_eq cidr_eq k.destination l.destination)

@@ -117,15 +117,7 @@ port_key_eq k l = option_eq cidr_eq k.source l.source && (addr_eq k.to l.to && (
 
 -- the parts in another order
 other_order : (w p h a c : Bool) → (w && (p && (h && ((a && c) && true)))) ≡ (a && (w && (p && (h && c))))
-other_order false p h true c = refl
-other_order false p h false c = refl
-other_order true true true true true = refl
-other_order true true true true false = refl
-other_order true true false true c = refl
-other_order true false h true c = refl
-other_order true true true false c = refl
-other_order true true false false c = refl
-other_order true false h false c = refl
+other_order w p h a c = grind arith
 
 pub same-leading : (att : Att) (x y : Leading) → rule_eq (rule_of att x) (rule_of att y) ≡ port_key_eq (key_of x) (key_of y)
 same-leading att (ToContainer m a) (ToContainer n b) =
