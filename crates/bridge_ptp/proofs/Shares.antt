@@ -1,5 +1,5 @@
 -- The calls of `bridge` and `ptp` are of their attachment and append its share.
-use Rattle.std.proofs.Common.{◌≡◌, ℕ, Bool, true, false, ap, List, [], ◌∷◌, ◌++◌, map, refl, sym, ◌∙◌, arith, append_assoc}
+use Rattle.std.proofs.Common.{◌≡◌, ℕ, Bool, true, false, ap, List, [], ◌∷◌, ◌++◌, map, refl, ◌∙◌, arith, append_assoc}
 use Rattle.std.proofs.lemmas.List.{append-nil}
 use Rattle.std.specs.Prelude.{filter_map, flat_map}
 use Rattle.std.specs.List.{list_all}
@@ -13,9 +13,9 @@ use Rattle.kernel_types.specs.declared.call.Given.{Given}
 use Rattle.plan_words.specs.PlanCalls.{is_plan_call_of, AppendsShare}
 use Rattle.plan_words.specs.Shapes.{host_end, inner_end, route_on, addresses_on, routes_on, masquerade_rules, forward_calls}
 use Rattle.plan_words.specs.Share.{Share, share_after_call, share_after_calls}
-use Rattle.plan_words.proofs.Appends.{AreOwnCalls, own-calls, own-append, own-if, own-each, own-address_calls, own-route_calls, own-rule_calls, own-forward_calls, own-addresses, own-routes, own-masquerades, share-laid_on, appends-share}
-use Rattle.plan_words.proofs.CallLists.{share_after_calls-append, share_after_calls-forward, share_after_calls-if, share_after_calls-rules, share_plus-links, share_plus-laid_on}
-use Rattle.plan_words.proofs.KeyLists.{list_all-append, list_all-every, list_all-map, list_all-flat, list_all-each_key_once}
+use Rattle.plan_words.proofs.Appends.{AreOwnCalls, own-calls, own-made, own-append, own-if, own-each, own-address_calls, own-route_calls, own-rule_calls, own-forward_calls, own-addresses, own-routes, own-masquerades, share-laid_on, appends-links, appends-laid_on}
+use Rattle.plan_words.proofs.CallLists.{share_after_calls-then, share_after_calls-forward, share_after_calls-if, share_after_calls-shared_rules}
+use Rattle.plan_words.proofs.KeyLists.{list_all-append, list_all-every, list_all-flat, list_all-each_key_once}
 use Rattle.bridge_ptp.specs.Bridge.{bridge_entries, bridge_share_before, bridge_share_after, gateway_calls, bridge_calls_before, bridge_calls_after}
 use Rattle.bridge_ptp.specs.declared.bridge.Gateway.{Gateway}
 use Rattle.bridge_ptp.specs.Gateways.{gateway_call, gateways_on}
@@ -28,8 +28,7 @@ own-bridge_before conf att netns = own-calls (grind (arith, att_eq-refl att))
 
 pub bridge-appends_before : (conf : BridgeConf) (att : Att) (netns : List ℕ) → AppendsShare att (bridge_calls_before conf att netns) (bridge_share_before conf att netns)
 bridge-appends_before conf att netns =
-    appends-share att (bridge_calls_before conf att netns) (bridge_share_before conf att netns) (own-bridge_before conf att netns).all
-    (λ s. sym (share_plus-links s (host_end att netns _ conf.mtu conf.hairpin ∷ inner_end att netns conf.mtu ∷ [])))
+    appends-links att (bridge_calls_before conf att netns) (host_end att netns _ conf.mtu conf.hairpin ∷ inner_end att netns conf.mtu ∷ []) (own-bridge_before conf att netns) (λ s. refl)
 
 own-gateway_calls : (att : Att) (conf : BridgeConf) (given : List Given) → AreOwnCalls att (gateway_calls conf given)
 own-gateway_calls att conf given = own-if conf.is_gateway (own-append (own-each att gateway_call (λ g. refl) (gateways_on conf.bridge given)) (own-forward_calls att given))
@@ -49,9 +48,7 @@ share-gateways : (conf : BridgeConf) (given : List Given) (s : Share) → share_
 share-gateways conf given s =
     let asked = map gateway_call (gateways_on conf.bridge given) in
     share_after_calls-if s conf.is_gateway (asked ++ forward_calls given)
-    (share_after_calls-append s asked (forward_calls given)
-    ∙ ap (λ t. share_after_calls t (forward_calls given)) (share-asked s (gateways_on conf.bridge given))
-    ∙ share_after_calls-forward s given)
+    (share_after_calls-then s s s asked (forward_calls given) (share-asked s (gateways_on conf.bridge given)) (share_after_calls-forward s given))
 
 -- what the calls after the leases add to a share
 pub share-bridge_after : (conf : BridgeConf) (att : Att) (netns : List ℕ) (given : List Given) (s : Share)
@@ -63,8 +60,7 @@ share-bridge_after conf att netns given s =
 
 pub bridge-appends_after : (conf : BridgeConf) (att : Att) (netns : List ℕ) (given : List Given) → AppendsShare att (bridge_calls_after conf att netns given) (bridge_share_after conf att netns given)
 bridge-appends_after conf att netns given =
-    appends-share att (bridge_calls_after conf att netns given) (bridge_share_after conf att netns given) (own-bridge_after conf att netns given).all
-    (λ s. share-bridge_after conf att netns given s ∙ sym (share_plus-laid_on s _ _ _))
+    appends-laid_on att (bridge_calls_after conf att netns given) _ _ _ (own-bridge_after conf att netns given) (share-bridge_after conf att netns given)
 
 -- ---- ptp
 
@@ -73,8 +69,7 @@ own-ptp_before conf att netns = own-calls (grind (arith, att_eq-refl att))
 
 pub ptp-appends_before : (conf : PtpConf) (att : Att) (netns : List ℕ) → AppendsShare att (ptp_calls_before conf att netns) (ptp_share_before conf att netns)
 ptp-appends_before conf att netns =
-    appends-share att (ptp_calls_before conf att netns) (ptp_share_before conf att netns) (own-ptp_before conf att netns).all
-    (λ s. sym (share_plus-links s (host_end att netns _ conf.mtu false ∷ inner_end att netns conf.mtu ∷ [])))
+    appends-links att (ptp_calls_before conf att netns) (host_end att netns _ conf.mtu false ∷ inner_end att netns conf.mtu ∷ []) (own-ptp_before conf att netns) (λ s. refl)
 
 abbrev pub is_own_object : Att → AddressOrRoute → Bool
 is_own_object att (Address obj) = is_own att obj.tag
@@ -97,7 +92,7 @@ own-objects conf att netns given =
 pub own-ptp_after : (conf : PtpConf) (att : Att) (netns : List ℕ) (given : List Given) → AreOwnCalls att (ptp_calls_after conf att netns given)
 own-ptp_after conf att netns given =
     own-append
-    (own-calls (list_all-map (is_plan_call_of att) call_for (is_own_object att) (own-call_for att) (ptp_objects conf att netns given) (own-objects conf att netns given)))
+    (own-made att call_for (is_own_object att) (own-call_for att) (ptp_objects conf att netns given) (own-objects conf att netns given))
     (own-append (own-forward_calls att given) (own-rule_calls att _ (own-masquerades conf.ip_masq att given)))
 
 share-objects : (s : Share) (xs : List AddressOrRoute) → share_after_calls s (map call_for xs) ≡ record s { addresses = s.addresses ++ filter_map address_in xs; routes = s.routes ++ filter_map route_in xs }
@@ -117,13 +112,10 @@ share-ptp_after conf att netns given s =
     let xs = ptp_objects conf att netns given in
     let rules = masquerade_rules conf.ip_masq att given in
     let with_xs : Share = record s { addresses = s.addresses ++ filter_map address_in xs; routes = s.routes ++ filter_map route_in xs } in
-    share_after_calls-append s (map call_for xs) (forward_calls given ++ map RuleAppend rules)
-    ∙ ap (λ t. share_after_calls t (forward_calls given ++ map RuleAppend rules)) (share-objects s xs)
-    ∙ share_after_calls-append with_xs (forward_calls given) (map RuleAppend rules)
-    ∙ ap (λ t. share_after_calls t (map RuleAppend rules)) (share_after_calls-forward with_xs given)
-    ∙ share_after_calls-rules with_xs rules
+    let with_all : Share = record with_xs { rules = s.rules ++ rules } in
+    share_after_calls-then s with_xs with_all (map call_for xs) (forward_calls given ++ map RuleAppend rules) (share-objects s xs)
+    (share_after_calls-shared_rules with_xs (forward_calls given) rules (λ t. share_after_calls-forward t given))
 
 pub ptp-appends_after : (conf : PtpConf) (att : Att) (netns : List ℕ) (given : List Given) → AppendsShare att (ptp_calls_after conf att netns given) (ptp_share_after conf att netns given)
 ptp-appends_after conf att netns given =
-    appends-share att (ptp_calls_after conf att netns given) (ptp_share_after conf att netns given) (own-ptp_after conf att netns given).all
-    (λ s. share-ptp_after conf att netns given s ∙ sym (share_plus-laid_on s _ _ _))
+    appends-laid_on att (ptp_calls_after conf att netns given) _ _ _ (own-ptp_after conf att netns given) (share-ptp_after conf att netns given)

@@ -1,6 +1,6 @@
 -- The calls of `firewall` append its rules; those of `tuning` append its settings, and set the values of the
 -- container's link.
-use Rattle.std.proofs.Common.{◌≡◌, ℕ, Bool, true, false, ap, List, [], ◌∷◌, ◌++◌, map, refl, sym, ◌∙◌, arith}
+use Rattle.std.proofs.Common.{◌≡◌, ℕ, Bool, true, false, List, [], ◌∷◌, ◌++◌, map, refl, ◌∙◌, arith}
 use Rattle.std.specs.Prelude.{flat_map, if◌then◌else◌}
 use Rattle.std.specs.List.{list_all}
 use Rattle.cni_result.specs.declared.result.IpEntry.{IpEntry}
@@ -15,8 +15,8 @@ use Rattle.kernel_types.specs.declared.call.Call.{Call}
 use Rattle.kernel_types.specs.declared.call.Call.TheVariants.{SettingSet, LinkSet}
 use Rattle.plan_words.specs.PlanCalls.{AppendsShare}
 use Rattle.plan_words.specs.Share.{Share, share_of, share_after_call, share_after_calls}
-use Rattle.plan_words.proofs.Appends.{AreOwnCalls, own-one, own-append, own-if, own-rule_calls, own-setting_calls, appends-share, share-applied}
-use Rattle.plan_words.proofs.CallLists.{share_after_calls-append, share_after_calls-rules, share_after_calls-settings, share_plus-rules}
+use Rattle.plan_words.proofs.Appends.{AreOwnCalls, own-one, own-append, own-if, own-rule_calls, own-setting_calls, appends-rules, share-applied}
+use Rattle.plan_words.proofs.CallLists.{share_after_calls-then, share_after_calls-settings}
 use Rattle.plan_words.proofs.KeyLists.{list_all-every, list_all-flat, list_all-each_key_once}
 use Rattle.firewall_tuning.specs.Firewall.{forward_of, firewall_rules, firewall_calls_of}
 use Rattle.firewall_tuning.specs.Shares.{firewall_share_of, share_tuned, TunesShare}
@@ -34,9 +34,7 @@ pub own-firewall : (att : Att) (ips : List IpEntry) → AreOwnCalls att (firewal
 own-firewall att ips = own-rule_calls att (firewall_rules att ips) (own-firewall_rules att ips)
 
 pub firewall-appends : (att : Att) (ips : List IpEntry) → AppendsShare att (firewall_calls_of att ips) (firewall_share_of att ips)
-firewall-appends att ips =
-    appends-share att (firewall_calls_of att ips) (firewall_share_of att ips) (own-firewall att ips).all
-    (λ s. share_after_calls-rules s (firewall_rules att ips) ∙ sym (share_plus-rules s (firewall_rules att ips)))
+firewall-appends att ips = appends-rules att (firewall_rules att ips) (own-firewall_rules att ips)
 
 -- ---- tuning
 
@@ -59,10 +57,9 @@ pub share-tuning : (conf : TuningConf) (att : Att) (netns : List ℕ) (s : Share
 share-tuning conf att netns s =
     let settings = tuning_settings conf att netns in
     let with_settings : Share = record s { settings = s.settings ++ settings } in
-    share_after_calls-append s (map SettingSet settings) (link_set_calls conf att netns)
-    ∙ ap (λ t. share_after_calls t (link_set_calls conf att netns)) (share_after_calls-settings s settings)
-    ∙ share-link_set (sets_any conf) with_settings (LinkSet att (record { ns = netns; name = att.ifname }) conf.mac conf.mtu conf.tx_qlen conf.promisc conf.allmulti)
-    (map (set_link att (record { ns = netns; name = att.ifname }) conf.mac conf.mtu conf.tx_qlen conf.promisc conf.allmulti)) refl
+    share_after_calls-then s with_settings (share_tuned conf att netns s) (map SettingSet settings) (link_set_calls conf att netns) (share_after_calls-settings s settings)
+    (share-link_set (sets_any conf) with_settings (LinkSet att (record { ns = netns; name = att.ifname }) conf.mac conf.mtu conf.tx_qlen conf.promisc conf.allmulti)
+    (map (set_link att (record { ns = netns; name = att.ifname }) conf.mac conf.mtu conf.tx_qlen conf.promisc conf.allmulti)) refl)
 
 pub tuning-tunes : (conf : TuningConf) (att : Att) (netns : List ℕ) → TunesShare conf att netns
 tuning-tunes conf att netns = λ host sound done. share-applied att host (tuning_calls_of conf att netns) (own-tuning conf att netns).all done ∙ share-tuning conf att netns (share_of att host)

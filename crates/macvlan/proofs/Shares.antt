@@ -9,8 +9,7 @@ use Rattle.kernel_types.specs.declared.call.Given.{Given}
 use Rattle.plan_words.specs.PlanCalls.{AppendsShare}
 use Rattle.plan_words.specs.Shapes.{macvlan_link, addresses_on, routes_on}
 use Rattle.plan_words.specs.Share.{Share, share_after_calls}
-use Rattle.plan_words.proofs.Appends.{AreOwnCalls, own-one, own-append, own-address_calls, own-route_calls, own-addresses, own-routes, share-laid_on, appends-share}
-use Rattle.plan_words.proofs.CallLists.{share_plus-links, share_plus-laid_on}
+use Rattle.plan_words.proofs.Appends.{AreOwnCalls, own-one, own-append, own-address_calls, own-route_calls, own-addresses, own-routes, share-laid_on, appends-links, appends-laid_on}
 use Rattle.host_local.specs.Conf.{routes_of}
 use Rattle.macvlan.specs.Macvlan.{macvlan_share_before, macvlan_share_after, macvlan_calls_before, macvlan_calls_after}
 
@@ -19,8 +18,7 @@ own-macvlan_before conf att netns = own-one (att_eq-refl att)
 
 pub macvlan-appends_before : (conf : MacvlanConf) (att : Att) (netns : List ℕ) → AppendsShare att (macvlan_calls_before conf att netns) (macvlan_share_before conf att netns)
 macvlan-appends_before conf att netns =
-    appends-share att (macvlan_calls_before conf att netns) (macvlan_share_before conf att netns) (own-macvlan_before conf att netns).all
-    (λ s. sym (share_plus-links s (macvlan_link att netns conf.master conf.mode conf.mtu ∷ [])))
+    appends-links att (macvlan_calls_before conf att netns) (macvlan_link att netns conf.master conf.mode conf.mtu ∷ []) (own-macvlan_before conf att netns) (λ s. refl)
 
 pub own-macvlan_after : (conf : MacvlanConf) (att : Att) (netns : List ℕ) (given : List Given) → AreOwnCalls att (macvlan_calls_after conf att netns given)
 own-macvlan_after conf att netns given =
@@ -37,5 +35,4 @@ share-macvlan_after conf att netns given s =
 
 pub macvlan-appends_after : (conf : MacvlanConf) (att : Att) (netns : List ℕ) (given : List Given) → AppendsShare att (macvlan_calls_after conf att netns given) (macvlan_share_after conf att netns given)
 macvlan-appends_after conf att netns given =
-    appends-share att (macvlan_calls_after conf att netns given) (macvlan_share_after conf att netns given) (own-macvlan_after conf att netns given).all
-    (λ s. share-macvlan_after conf att netns given s ∙ sym (share_plus-laid_on s _ _ _))
+    appends-laid_on att (macvlan_calls_after conf att netns given) _ _ _ (own-macvlan_after conf att netns given) (share-macvlan_after conf att netns given)

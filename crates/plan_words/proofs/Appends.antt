@@ -1,5 +1,5 @@
 -- Calls of a plan append a share where each is the attachment's, and where they add it to every share.
-use Rattle.std.proofs.Common.{◌≡◌, ℕ, Bool, true, ap, List, [], ◌∷◌, ◌++◌, map, refl, ◌∙◌, arith}
+use Rattle.std.proofs.Common.{◌≡◌, ℕ, Bool, true, ap, List, [], ◌∷◌, ◌++◌, map, refl, sym, ◌∙◌, arith}
 use Rattle.std.specs.Prelude.{flat_map, if◌then◌else◌}
 use Rattle.std.specs.List.{list_all}
 use Rattle.std.proofs.lemmas.Bool.{and_parts}
@@ -11,6 +11,7 @@ use Rattle.kernel_types.specs.Equal.{rule_eq}
 use Rattle.kernel_types.specs.Words.{is_own}
 use Rattle.kernel_types.proofs.Cases.{att_eq-refl}
 use Rattle.kernel_types.specs.declared.object.Att.{Att}
+use Rattle.kernel_types.specs.declared.object.Link.{Link}
 use Rattle.kernel_types.specs.declared.object.AddrObj.{AddrObj}
 use Rattle.kernel_types.specs.declared.object.RouteObj.{RouteObj}
 use Rattle.kernel_types.specs.declared.object.Rule.{Rule}
@@ -22,8 +23,8 @@ use Rattle.kernel_types.specs.declared.call.Given.{Given}
 use Rattle.plan_words.specs.Families.{has_family}
 use Rattle.plan_words.specs.PlanCalls.{is_plan_call_of, AllDone, applied, AppendsShare}
 use Rattle.plan_words.specs.Shapes.{address_on, route_on, masquerade_of, addresses_on, routes_on, masquerade_rules, forward_calls}
-use Rattle.plan_words.specs.Share.{Share, share_of, share_plus, share_after_calls}
-use Rattle.plan_words.proofs.CallLists.{share_after_calls-append, share_after_calls-addresses, share_after_calls-routes, share_after_calls-rules}
+use Rattle.plan_words.specs.Share.{Share, share_of, no_objects, share_plus, share_after_calls}
+use Rattle.plan_words.proofs.CallLists.{share_after_calls-then, share_after_calls-addresses, share_after_calls-routes, share_after_calls-rules, share_after_calls-shared_rules, share_plus-laid_on, share_plus-links, share_plus-rules}
 use Rattle.plan_words.proofs.KeyLists.{list_all-append, list_all-map, list_all-every, list_all-flat, list_all-if, list_all-each_key_once}
 use Rattle.plan_words.proofs.OwnCalls.{share-own}
 
@@ -49,6 +50,10 @@ pub record AreOwnCalls (att : Att) (calls : List Call) : Type 0 where
 pub own-calls : {att : Att} {calls : List Call} → list_all (is_plan_call_of att) calls ≡ true → AreOwnCalls att calls
 own-calls h = record { all = h }
 
+-- of objects that are the attachment's own
+pub own-made : {X : Type 0} (att : Att) (call_for : X → Call) (is_owned : X → Bool) → ((x : X) → is_owned x ≡ true → is_plan_call_of att (call_for x) ≡ true) → (xs : List X) → list_all is_owned xs ≡ true → AreOwnCalls att (map call_for xs)
+own-made att call_for is_owned w xs h = own-calls (list_all-map (is_plan_call_of att) call_for is_owned w xs h)
+
 pub own-append : {att : Att} {xs ys : List Call} → AreOwnCalls att xs → AreOwnCalls att ys → AreOwnCalls att (xs ++ ys)
 own-append {att} {xs} {ys} h g = record { all = list_all-append (is_plan_call_of att) xs ys h.all g.all }
 
@@ -62,16 +67,16 @@ pub own-each : {X : Type 0} (att : Att) (f : X → Call) → ((x : X) → is_pla
 own-each att f w xs = own-calls (list_all-every (is_plan_call_of att) f w xs)
 
 pub own-address_calls : (att : Att) (xs : List AddrObj) → list_all (λ x. is_own att x.tag) xs ≡ true → AreOwnCalls att (map AddrAdd xs)
-own-address_calls att xs h = own-calls (list_all-map (is_plan_call_of att) AddrAdd (λ x. is_own att x.tag) (λ x own. own) xs h)
+own-address_calls att xs h = own-made att AddrAdd (λ x. is_own att x.tag) (λ x own. own) xs h
 
 pub own-route_calls : (att : Att) (xs : List RouteObj) → list_all (λ x. is_own att x.tag) xs ≡ true → AreOwnCalls att (map RouteAdd xs)
-own-route_calls att xs h = own-calls (list_all-map (is_plan_call_of att) RouteAdd (λ x. is_own att x.tag) (λ x own. own) xs h)
+own-route_calls att xs h = own-made att RouteAdd (λ x. is_own att x.tag) (λ x own. own) xs h
 
 pub own-rule_calls : (att : Att) (xs : List Rule) → list_all (λ x. is_own att x.tag) xs ≡ true → AreOwnCalls att (map RuleAppend xs)
-own-rule_calls att xs h = own-calls (list_all-map (is_plan_call_of att) RuleAppend (λ x. is_own att x.tag) (λ x own. own) xs h)
+own-rule_calls att xs h = own-made att RuleAppend (λ x. is_own att x.tag) (λ x own. own) xs h
 
 pub own-setting_calls : (att : Att) (xs : List Setting) → list_all (λ x. is_own att x.tag) xs ≡ true → AreOwnCalls att (map SettingSet xs)
-own-setting_calls att xs h = own-calls (list_all-map (is_plan_call_of att) SettingSet (λ x. is_own att x.tag) (λ x own. own) xs h)
+own-setting_calls att xs h = own-made att SettingSet (λ x. is_own att x.tag) (λ x own. own) xs h
 
 pub own-forward_calls : (att : Att) (given : List Given) → AreOwnCalls att (forward_calls given)
 own-forward_calls att given =
@@ -97,7 +102,23 @@ own-masquerades ip_masq att given =
     (list_all-each_key_once (λ x. is_own att x.tag) rule_eq (flat_map (masquerade_of att) given)
     (list_all-flat (λ x. is_own att x.tag) (masquerade_of att) (λ g. grind (arith, att_eq-refl att)) given))
 
--- ---- what a plugin that makes the interface adds
+-- ---- what a plugin adds
+
+-- calls that lay rules on append them
+pub appends-rules : (att : Att) (rules : List Rule) → list_all (λ x. is_own att x.tag) rules ≡ true → AppendsShare att (map RuleAppend rules) (record no_objects { rules = rules })
+appends-rules att rules own =
+    appends-share att (map RuleAppend rules) (record no_objects { rules = rules }) (own-rule_calls att rules own).all (λ s. share_after_calls-rules s rules ∙ sym (share_plus-rules s rules))
+
+-- calls that make links append them
+pub appends-links : (att : Att) (calls : List Call) (links : List Link) → AreOwnCalls att calls → ((s : Share) → share_after_calls s calls ≡ record s { links = s.links ++ links }) → AppendsShare att calls (record no_objects { links = links })
+appends-links att calls links own adds = appends-share att calls (record no_objects { links = links }) own.all (λ s. adds s ∙ sym (share_plus-links s links))
+
+-- calls that lay addresses, routes and rules on append them
+pub appends-laid_on : (att : Att) (calls : List Call) (addresses : List AddrObj) (routes : List RouteObj) (rules : List Rule) → AreOwnCalls att calls
+    → ((s : Share) → share_after_calls s calls ≡ record s { addresses = s.addresses ++ addresses; routes = s.routes ++ routes; rules = s.rules ++ rules })
+    → AppendsShare att calls (record no_objects { addresses = addresses; routes = routes; rules = rules })
+appends-laid_on att calls addresses routes rules own adds =
+    appends-share att calls (record no_objects { addresses = addresses; routes = routes; rules = rules }) own.all (λ s. adds s ∙ sym (share_plus-laid_on s addresses routes rules))
 
 -- addresses, routes, calls that add nothing, and rules
 pub share-laid_on : (s : Share) (addresses : List AddrObj) (routes : List RouteObj) (shared : List Call) (rules : List Rule) → ((t : Share) → share_after_calls t shared ≡ t)
@@ -106,10 +127,7 @@ pub share-laid_on : (s : Share) (addresses : List AddrObj) (routes : List RouteO
 share-laid_on s addresses routes shared rules adds_none =
     let with_as : Share = record s { addresses = s.addresses ++ addresses } in
     let with_rs : Share = record with_as { routes = s.routes ++ routes } in
-    share_after_calls-append s (map AddrAdd addresses) (map RouteAdd routes ++ (shared ++ map RuleAppend rules))
-    ∙ ap (λ t. share_after_calls t (map RouteAdd routes ++ (shared ++ map RuleAppend rules))) (share_after_calls-addresses s addresses)
-    ∙ share_after_calls-append with_as (map RouteAdd routes) (shared ++ map RuleAppend rules)
-    ∙ ap (λ t. share_after_calls t (shared ++ map RuleAppend rules)) (share_after_calls-routes with_as routes)
-    ∙ share_after_calls-append with_rs shared (map RuleAppend rules)
-    ∙ ap (λ t. share_after_calls t (map RuleAppend rules)) (adds_none with_rs)
-    ∙ share_after_calls-rules with_rs rules
+    let with_all : Share = record with_rs { rules = s.rules ++ rules } in
+    share_after_calls-then s with_as with_all (map AddrAdd addresses) (map RouteAdd routes ++ (shared ++ map RuleAppend rules)) (share_after_calls-addresses s addresses)
+    (share_after_calls-then with_as with_rs with_all (map RouteAdd routes) (shared ++ map RuleAppend rules) (share_after_calls-routes with_as routes)
+    (share_after_calls-shared_rules with_rs shared rules adds_none))

@@ -1,5 +1,5 @@
 -- The calls of `portmap` are of their attachment and append its rules.
-use Rattle.std.proofs.Common.{◌≡◌, Bool, true, false, List, ◌∷◌, Option, Some, None, refl, sym, ◌∙◌, arith}
+use Rattle.std.proofs.Common.{◌≡◌, Bool, true, false, List, ◌∷◌, Option, Some, None, refl, arith}
 use Rattle.std.specs.Prelude.{flat_map}
 use Rattle.std.specs.List.{list_all}
 use Rattle.cni_addr.specs.declared.address.Addr.{Addr}
@@ -15,8 +15,7 @@ use Rattle.kernel_types.specs.declared.object.Att.{Att}
 use Rattle.kernel_types.specs.declared.object.Rule.{Rule}
 use Rattle.plan_words.specs.Families.{first_of_family}
 use Rattle.plan_words.specs.PlanCalls.{AppendsShare}
-use Rattle.plan_words.proofs.Appends.{AreOwnCalls, own-rule_calls, appends-share}
-use Rattle.plan_words.proofs.CallLists.{share_after_calls-rules, share_plus-rules}
+use Rattle.plan_words.proofs.Appends.{AreOwnCalls, own-rule_calls, appends-rules}
 use Rattle.plan_words.proofs.KeyLists.{list_all-append, list_all-flat, list_all-if, list_all-each_key_once}
 use Rattle.portmap.specs.Portmap.{host_ip_allows, dnat_of, from_host, masquerades_of, rules_for, mapping_rules, portmap_rules, portmap_calls_of}
 use Rattle.portmap.specs.Share.{portmap_share_of}
@@ -51,6 +50,4 @@ pub own-portmap : (conf : PortmapConf) (att : Att) (mappings : List PortMapping)
 own-portmap conf att mappings ips = own-rule_calls att (portmap_rules conf att mappings ips) (own-portmap_rules conf att mappings ips)
 
 pub portmap-appends : (conf : PortmapConf) (att : Att) (mappings : List PortMapping) (ips : List IpEntry) → AppendsShare att (portmap_calls_of conf att mappings ips) (portmap_share_of conf att mappings ips)
-portmap-appends conf att mappings ips =
-    appends-share att (portmap_calls_of conf att mappings ips) (portmap_share_of conf att mappings ips) (own-portmap conf att mappings ips).all
-    (λ s. share_after_calls-rules s (portmap_rules conf att mappings ips) ∙ sym (share_plus-rules s (portmap_rules conf att mappings ips)))
+portmap-appends conf att mappings ips = appends-rules att (portmap_rules conf att mappings ips) (own-portmap_rules conf att mappings ips)
