@@ -24,7 +24,9 @@ pub share_after_calls-then : (s t u : Share) (xs ys : List Call) → share_after
 share_after_calls-then s t u xs ys first rest = share_after_calls-append s xs ys ∙ ap (λ v. share_after_calls v ys) first ∙ rest
 
 -- calls that each put their object at the end of one list put all there
-share_after_calls-each : {X : Type 0} (call_for : X → Call) (with_list : List X → Share) → ((old : List X) (x : X) → share_after_call (with_list old) (call_for x) ≡ with_list (old ++ x ∷ [])) → (old xs : List X) → share_after_calls (with_list old) (map call_for xs) ≡ with_list (old ++ xs)
+share_after_calls-each : {X : Type 0} (call_for : X → Call) (with_list : List X → Share)
+    → ((old : List X) (x : X) → share_after_call (with_list old) (call_for x) ≡ with_list (old ++ x ∷ []))
+    → (old xs : List X) → share_after_calls (with_list old) (map call_for xs) ≡ with_list (old ++ xs)
 share_after_calls-each call_for with_list w old [] = ap with_list (sym (append-nil old))
 share_after_calls-each call_for with_list w old (x ∷ xs) =
     ap (λ t. share_after_calls t (map call_for xs)) (w old x) ∙ share_after_calls-each call_for with_list w (old ++ x ∷ []) xs ∙ ap with_list (append_assoc old (x ∷ []) xs)
