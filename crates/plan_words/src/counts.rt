@@ -31,10 +31,7 @@ impl<G: GivenRow> Row<Addr> for AddressKeys<G> {
 
     #[tactic(auto, using(crate::proofs::RowLemmas::row_steps))]
     fn at(&self, place: usize) -> Option<Addr> {
-        match self.0.given_at(place) {
-            Some(g) => Some(g.address.addr),
-            None => None,
-        }
+        self.0.given_at(place).map(|g| g.address.addr)
     }
 }
 
