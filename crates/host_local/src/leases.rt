@@ -51,10 +51,7 @@ fn given_by(addr: &Addr, range: &Range) -> Given
 pub(crate) fn find_given(set: &RangeSet, addr: &Addr) -> Option<Given>
     ensures { result ≡ leases.given_by_set set.now addr.now }
 {
-    match range_with(set.ranges.as_slice(), addr) {
-        Some(range) => Some(given_by(addr, range)),
-        None => None,
-    }
+    range_with(set.ranges.as_slice(), addr).map(|range| given_by(addr, range))
 }
 
 /// The kinds of objects that DEL takes back.
