@@ -1,4 +1,4 @@
-use Rattle.std.proofs.Common.{◌≡◌, ◌&&◌, Bool, true, false, refl, rules, ◌∙◌}
+use Rattle.std.proofs.Common.{◌≡◌, ◌&&◌, Bool, rules, ◌∙◌, arith}
 use Rattle.std.specs.Str.{bytes_eq}
 use Rattle.std.specs.Option.{option_eq}
 use Rattle.kernel_types.specs.Equal.{addr_eq, cidr_eq, tag_eq}
@@ -6,11 +6,7 @@ use Rattle.kernel_model.proofs.compared.RouteObjCompared.is_same.Goals as goal
 
 -- five tests, from the right and from the left
 five_tests : (a b c d e : Bool) → (a && (b && (c && (d && e)))) ≡ (a && b && c && d && e)
-five_tests true true true true e = refl
-five_tests true true true false e = refl
-five_tests true true false d e = refl
-five_tests true false c d e = refl
-five_tests false b c d e = refl
+five_tests a b c d e = grind arith
 
 pub returns : goal.returns
 returns c =
