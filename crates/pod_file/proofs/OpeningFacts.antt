@@ -1,5 +1,5 @@
 -- What the opening of a pod file keeps that is read.
-use Rattle.std.proofs.Common.{◌≡◌, ℕ, Bool, true, false, not, List, [], ◌∷◌, ◌++◌, length, codes, Some, None, Ok, refl, sym, ◌∙◌, subst}
+use Rattle.std.proofs.Common.{◌≡◌, ℕ, Bool, true, false, not, List, [], ◌∷◌, ◌++◌, length, codes, Some, None, Result, Ok, refl, sym, ◌∙◌, subst}
 use Rattle.std.specs.Prelude.{◌&&◌, if◌then◌else◌, ok_or, map, is_none}
 use Rattle.std.specs.List.{list_any}
 use Rattle.std.specs.Str.{bytes_eq}
@@ -22,13 +22,20 @@ use Rattle.kernel_types.specs.declared.object.LinkKind.{LinkKind}
 use Rattle.kernel_types.specs.declared.object.LinkKind.TheVariants.{Device, Bridge}
 use Rattle.kernel_types.specs.declared.object.Tag.TheVariants.{Outside}
 use Rattle.cni_json.proofs.Endings.{goes, ok_same, passed, not_refused, each_after_keeps}
-use Rattle.pod_file.specs.Links.{name_at, kind_of, kind_at, is_place, ns_of, ns_at, mtu_at, outside_link, not_taken, link_at, next_link, links_of, links_at, wrong_link}
-use Rattle.pod_file.specs.Opening.{namespace_at, next_namespace, namespaces_of, namespaces_at, opening_members_at, opening_or_empty, opening_at}
+use Rattle.pod_file.specs.Links.{name_at, kind_of, kind_at, is_place, ns_of, ns_at, mtu_at, outside_link, not_taken, link_at, next_link, listed_of, listed_at, links_at, wrong_link}
+use Rattle.pod_file.specs.Opening.{namespace_at, next_namespace, namespaces_at, opening_members_at, opening_or_empty, opening_at}
 use Rattle.pod_file.specs.WellFormed.{IsOpening}
 use Rattle.pod_file.specs.declared.error.PodError.{PodError}
 
 bytes_eq-swap : (s t : List ℕ) → bytes_eq s t ≡ true → bytes_eq t s ≡ true
 bytes_eq-swap s t same = (bytes_eq-Decides t s).1 (sym ((bytes_eq-Decides s t).0 same))
+
+-- what the empty list keeps, and each list with one more that is read, is kept by the whole
+listed_of-ok : {A : Type 0} (P : List A → Type 0) (path : List ℕ) (read : List A → Data → Result A PodError) → P [] → ((before : List A) (d : Data) (x : A) → P before → read before d ≡ Ok x → P (before ++ x ∷ []))
+    → (f : Field Items) (xs : List A) → listed_of path read f ≡ Ok xs → P xs
+listed_of-ok P path read none step Absent xs is = subst P (ok_same is) none
+listed_of-ok P path read none step WrongKind xs is = cc
+listed_of-ok P path read none step (Here ds) xs is = each_after_keeps read (λ before rest. P before) (λ before d rest x. step before d x) [] ds xs none is
 
 -- ---- namespaces
 
@@ -54,17 +61,10 @@ names-push before name good can =
       distinct = distinct-push bytes_eq before name good.distinct (list_any-none (λ x. bytes_eq x name) (bytes_eq name) (λ x same. bytes_eq-swap x name same) before parts.1);
     }
 
-next_namespace-keeps : (before : List (List ℕ)) (d : Data) (ds : Items) (name : List ℕ) → AreNamespaceNames before → next_namespace before d ≡ Ok name → AreNamespaceNames (before ++ name ∷ [])
-next_namespace-keeps before d ds name good is = names-push before name good (namespace_at-ok before (length before) d name is)
-
-namespaces_of-ok : (f : Field Items) (names : List (List ℕ)) → namespaces_of f ≡ Ok names → AreNamespaceNames names
-namespaces_of-ok Absent names is = subst AreNamespaceNames (ok_same is) no_host
-namespaces_of-ok WrongKind names is = cc
-namespaces_of-ok (Here ds) names is = each_after_keeps next_namespace (λ before rest. AreNamespaceNames before) next_namespace-keeps [] ds names no_host is
-
 namespaces_at-ok : (d : Data) (names : List (List ℕ)) → namespaces_at d ≡ Ok names → AreNamespaceNames names
-unfolding namespaces_at
-namespaces_at-ok d names is = namespaces_of-ok (list_field (codes "namespaces") d) names is
+unfolding namespaces_at listed_at
+namespaces_at-ok d names is =
+    listed_of-ok AreNamespaceNames _ next_namespace no_host (λ before d name good is. names-push before name good (namespace_at-ok before (length before) d name is)) (list_field (codes "namespaces") d) names is
 
 -- ---- links
 
@@ -140,17 +140,10 @@ links-push names before link good next = record {
   keys = distinct-push (λ a b. is_at b.ns b.name a) before link good.keys next.new;
 }
 
-next_link-keeps : (names : List (List ℕ)) (before : List Link) (d : Data) (ds : Items) (link : Link) → AreOutsideLinks names before → next_link names before d ≡ Ok link → AreOutsideLinks names (before ++ link ∷ [])
-next_link-keeps names before d ds link good is = links-push names before link good (link_at-ok names before (length before) d link is)
-
-links_of-ok : (names : List (List ℕ)) (f : Field Items) (links : List Link) → links_of names f ≡ Ok links → AreOutsideLinks names links
-links_of-ok names Absent links is = subst (AreOutsideLinks names) (ok_same is) (no_links names)
-links_of-ok names WrongKind links is = cc
-links_of-ok names (Here ds) links is = each_after_keeps (next_link names) (λ before rest. AreOutsideLinks names before) (next_link-keeps names) [] ds links (no_links names) is
-
 links_at-ok : (names : List (List ℕ)) (d : Data) (links : List Link) → links_at names d ≡ Ok links → AreOutsideLinks names links
-unfolding links_at
-links_at-ok names d links is = links_of-ok names (list_field (codes "links") d) links is
+unfolding links_at listed_at
+links_at-ok names d links is =
+    listed_of-ok (AreOutsideLinks names) _ (next_link names) (no_links names) (λ before d link good is. links-push names before link good (link_at-ok names before (length before) d link is)) (list_field (codes "links") d) links is
 
 -- ---- the host
 

@@ -20,6 +20,13 @@ use Rattle.pod_file.specs.declared.error.PodError.{PodError}
 use Rattle.pod_file.specs.declared.error.PodError.TheVariants as refusal
 use Rattle.pod_file.specs.declared.links.TheConstants.{KINDS}
 
+abbrev pub listed_of : {A : Type 0} → List ℕ → (List A → Data → Result A PodError) → Field Items → Result (List A) PodError
+listed_of path read f = member_or (Ok []) (wrong path) (each_after read []) f
+
+-- the list under a key of the opening, each member read after those before it, and empty where it is absent
+unfoldable pub listed_at : {A : Type 0} → List ℕ → List ℕ → (List A → Data → Result A PodError) → Data → Result (List A) PodError
+listed_at path key read d = listed_of path read (list_field key d)
+
 -- a fault in a link has the link's place, and no deeper one
 abbrev pub wrong_link : {A : Type 0} → ℕ → Result A PodError
 wrong_link index = wrong (member_path (codes "opening.links") index)
@@ -88,9 +95,6 @@ link_at names before index d = do
 abbrev pub next_link : List (List ℕ) → List Link → Data → Result Link PodError
 next_link names before d = link_at names before (length before) d
 
-abbrev pub links_of : List (List ℕ) → Field Items → Result (List Link) PodError
-links_of names f = member_or (Ok []) (wrong (codes "opening.links")) (each_after (next_link names) []) f
-
 -- the links, none where there is no list
 unfoldable pub links_at : List (List ℕ) → Data → Result (List Link) PodError
-links_at names d = links_of names (list_field (codes "links") d)
+links_at names d = listed_at (codes "opening.links") (codes "links") (next_link names) d

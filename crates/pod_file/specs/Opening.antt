@@ -1,13 +1,12 @@
 -- The host as it is found.
 use Rattle.std.specs.Prelude.{ℕ, List, [], length, codes, if◌then◌else◌, Result, Ok}
-use Rattle.serde_json.specs.Data.{Data, string, Items}
-use Rattle.cni_json.specs.Each.{each_after}
-use Rattle.cni_json.specs.Fields.{list_field, object_field, member_or}
+use Rattle.serde_json.specs.Data.{Data, string}
+use Rattle.cni_json.specs.Fields.{object_field, member_or}
 use Rattle.cni_json.specs.Outcome.{◌>>=◌}
 use Rattle.cni_json.specs.declared.fields.Field.{Field}
 use Rattle.kernel_types.specs.Opening.{opening_with}
 use Rattle.kernel_types.specs.declared.object.Host.{Host}
-use Rattle.pod_file.specs.Links.{is_place, links_at}
+use Rattle.pod_file.specs.Links.{is_place, links_at, listed_at}
 use Rattle.pod_file.specs.Refusals.{wrong, member_path}
 use Rattle.pod_file.specs.declared.error.PodError.{PodError}
 
@@ -28,12 +27,9 @@ namespace_at before index d = wrong_namespace index
 abbrev pub next_namespace : List (List ℕ) → Data → Result (List ℕ) PodError
 next_namespace before d = namespace_at before (length before) d
 
-abbrev pub namespaces_of : Field Items → Result (List (List ℕ)) PodError
-namespaces_of f = member_or (Ok []) (wrong (codes "opening.namespaces")) (each_after next_namespace []) f
-
 -- the names of the namespaces, none where there is no list
 unfoldable pub namespaces_at : Data → Result (List (List ℕ)) PodError
-namespaces_at d = namespaces_of (list_field (codes "namespaces") d)
+namespaces_at d = listed_at (codes "opening.namespaces") (codes "namespaces") next_namespace d
 
 -- the members of the opening
 unfoldable pub opening_members_at : Data → Result Host PodError

@@ -1,13 +1,16 @@
 //! The reader of the opening's links.
 
-ghost use Rattle.std.specs.Prelude.{◌≡◌, codes};
+ghost use Rattle.std.specs.Prelude.{◌≡◌, List, Result, codes};
 ghost use Rattle.std.specs.List.{list_any};
 ghost use Rattle.std.specs.Str.{bytes_eq};
+ghost use Rattle.serde_json.specs.Data.{Data};
 ghost use Rattle.serde_json.specs.View.{view};
 ghost use Rattle.cni_json.specs.Outcome.{GivesAs, TellsAs};
+ghost use Rattle.cni_json.specs.Readers.{IsReaderAfter};
 ghost use Rattle.kernel_types.specs.Words as words;
 ghost use Rattle.pod_file.specs.Links as wanted;
 ghost use Rattle.pod_file.specs.Refusals.{is_want_of_memory, member_path};
+ghost use Rattle.pod_file.specs.declared.error.PodError.{PodError};
 ghost use Rattle.pod_file.specs.declared.error.PodError.TheVariants as refusal;
 
 use crate::error::{PodError, wrong, wrong_member};
@@ -26,16 +29,33 @@ const KINDS: [LinkKind; 2] = [LinkKind::Device, LinkKind::Bridge];
 pub fn links(alloc: Global, names: &[Text], opening: &Value) -> Result<Items<Link>, PodError>
     ensures { GivesAs is_want_of_memory (λ links. links) result (wanted.links_at names.now (view opening.now)) }
 {
-    match field_list(opening, "links") {
+    listed(
+        alloc,
+        opening,
+        "links",
+        "opening.links",
+        |before, member| next_link(alloc, names, before, member),
+    )
+}
+
+/// The list under the key, whose place is the path, each member as the function reads it after those before it; it is
+/// empty where it is absent.
+#[tactic(auto, using(cni_json::proofs::Steps::steps), unfolding(crate::specs::Links::listed_at))]
+pub fn listed<T: Drop, R: Fn(&[T], &Value) -> Result<T, PodError>>(
+    alloc: Global,
+    opening: &Value,
+    key: &str,
+    path: &str,
+    read: R,
+) -> Result<Items<T>, PodError>
+    requires { R.IsAlwaysCallable read }
+    ensures { (read_as : List T → Data → Result T PodError) → IsReaderAfter is_want_of_memory R.Fn read read_as
+        → GivesAs is_want_of_memory (λ xs. xs) result (wanted.listed_at path.now key.now read_as (view opening.now)) }
+{
+    match field_list(opening, key) {
         Field::Absent => Ok(Items::new(alloc)),
-        Field::WrongKind => Err(wrong(alloc, "opening.links")),
-        Field::Here(list) => {
-            read_each_after(
-                Items::new(alloc),
-                list,
-                |before, member| next_link(alloc, names, before, member),
-            )
-        }
+        Field::WrongKind => Err(wrong(alloc, path)),
+        Field::Here(list) => read_each_after(Items::new(alloc), list, read),
     }
 }
 

@@ -8,9 +8,9 @@ ghost use Rattle.pod_file.specs.Refusals.{is_want_of_memory, member_path};
 ghost use Rattle.pod_file.specs.declared.error.PodError.TheVariants as refusal;
 
 use crate::error::{PodError, wrong, wrong_member};
-use crate::links::{is_place, links};
+use crate::links::{is_place, links, listed};
 use cni_addr::{Items, Text};
-use cni_json::{Field, Value, field_list, field_object, read_each_after};
+use cni_json::{Field, Value, field_object};
 use kernel_types::{Host, opening_with};
 use std::alloc::Global;
 
@@ -40,17 +40,13 @@ fn opening_members(alloc: Global, members: &Value) -> Result<Host, PodError>
 fn namespaces(alloc: Global, members: &Value) -> Result<Items<Text>, PodError>
     ensures { GivesAs is_want_of_memory (λ names. names) result (wanted.namespaces_at (view members.now)) }
 {
-    match field_list(members, "namespaces") {
-        Field::Absent => Ok(Items::new(alloc)),
-        Field::WrongKind => Err(wrong(alloc, "opening.namespaces")),
-        Field::Here(list) => {
-            read_each_after(
-                Items::new(alloc),
-                list,
-                |before, member| next_namespace(alloc, before, member),
-            )
-        }
-    }
+    listed(
+        alloc,
+        members,
+        "namespaces",
+        "opening.namespaces",
+        |before, member| next_namespace(alloc, before, member),
+    )
 }
 
 fn next_namespace(alloc: Global, before: &[Text], member: &Value) -> Result<Text, PodError>
