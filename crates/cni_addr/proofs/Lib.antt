@@ -1,6 +1,7 @@
 pub mod AddrTexts
 pub mod CidrTexts
 pub mod HexDigits
+pub mod Lists
 pub mod MacTexts
 pub mod Networks
 pub mod Spellings

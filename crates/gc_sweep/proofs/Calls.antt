@@ -45,7 +45,8 @@ use Rattle.gc_sweep.specs.Trace.{Made, host_on}
 use Rattle.gc_sweep.proofs.Covered.{WorkKept, Next, work_step, work_start}
 use Rattle.gc_sweep.proofs.Deletions.{deletes}
 use Rattle.gc_sweep.proofs.Kept.{tags_within}
-use Rattle.gc_sweep.proofs.Lists.{count_append, length-without_first, list_all-none, list_all-drops}
+use Rattle.cni_addr.proofs.Lists.{list_all-none}
+use Rattle.gc_sweep.proofs.Lists.{count_append, length-without_first, list_all-drops}
 use Rattle.gc_sweep.proofs.Machine.{Point, start_point, point_after, IsTrail}
 use Rattle.gc_sweep.proofs.Owners.{is_stale, goes_own, own_goes, owners_cover, owners_stale, has_att}
 use Rattle.gc_sweep.proofs.Runs.{trail, early_or, early_makes_none}

@@ -27,7 +27,8 @@ use Rattle.gc_sweep.specs.Keep.{stays, goes}
 use Rattle.gc_sweep.specs.Trace.{Made, is_about, blames, is_blamed}
 use Rattle.kernel_types.specs.Codes.{kind_eq}
 use Rattle.gc_sweep.specs.Sweep.{is_excused}
-use Rattle.gc_sweep.proofs.Lists.{all_true, list_all-drops, list_any-snoc, list_all-none}
+use Rattle.cni_addr.proofs.Lists.{list_all-none}
+use Rattle.gc_sweep.proofs.Lists.{all_true, list_all-drops, list_any-snoc}
 use Rattle.gc_sweep.specs.Bound.{stale_owners}
 use Rattle.gc_sweep.proofs.Owners.{is_stale, owners_cover, owners_stale, has_att}
 use Rattle.gc_sweep.proofs.Deletions.{deletes}

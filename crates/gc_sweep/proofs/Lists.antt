@@ -113,10 +113,6 @@ pub list_any-snoc : {X : Type 0} (p : X → Bool) (xs : List X) (y : X) → list
 list_any-snoc p [] y = grind arith
 list_any-snoc p (x ∷ xs) y = grind (arith, list_any-snoc p xs y)
 
-pub list_all-none : {X : Type 0} (p : X → Bool) (xs : List X) → list_any p xs ≡ false → list_all (λ x. not (p x)) xs ≡ true
-list_all-none p [] h = refl
-list_all-none p (x ∷ xs) h = grind (arith, h, list_all-none p xs)
-
 pub any-found : {X : Type 0} (p q : X → Bool) (xs : List X) (y : X) → find p xs ≡ Some y → q y ≡ true → list_any q xs ≡ true
 any-found p q [] y is h = cc
 any-found p q (x ∷ xs) y is h = grind (arith, is, h, any-found p q xs y)

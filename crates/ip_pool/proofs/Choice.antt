@@ -1,10 +1,11 @@
 -- The choice by a search in order is the choice by the relation.
 use Rattle.std.proofs.Common.{◌≡◌, ◌↔◌, ℕ, ◌+◌, Bool, true, false, not, ◌&&◌, ◌||◌, ◌==◌, nat_lt, cond, max, Option, Some, None, List, [], ◌∷◌, take, drop, MatchBool, refl, ap, sym, ◌∙◌, arith}
-use Rattle.std.specs.List.{list_any, list_all, position_or_len}
+use Rattle.std.specs.List.{list_any, position_or_len}
 use Rattle.std.proofs.lemmas.Bool.{not-false, not-true}
 use Rattle.std.proofs.lemmas.Bool.Decides.{nat_tests}
 use Rattle.std.proofs.lemmas.List.{take-append-drop}
 use Rattle.std.proofs.lemmas.List.Folds.{list_any-append}
+use Rattle.cni_addr.proofs.Lists.{list_all-none}
 use Rattle.cni_addr.specs.declared.address.Addr.{Addr}
 use Rattle.cni_addr.specs.declared.range.Range.{Range}
 use Rattle.cni_addr.specs.declared.range.RangeSet.{RangeSet}
@@ -107,13 +108,9 @@ free-has_free set taken some =
 
 none_free-in_list : (taken : List Addr) (xs : List Addr) (a : Addr) → list_any (is_free taken) xs ≡ false → list_any (addr_eq a) xs ≡ true → is_taken taken a ≡ true
 none_free-in_list taken xs a none inside =
-    let each = none-pass (is_free taken) xs none in
+    let each = list_all-none (is_free taken) xs none in
     let here : not (not (is_taken taken a)) ≡ true = member-passes (λ x. not (is_free taken x)) xs a each inside in
     grind arith
-  where
-    none-pass : (p : Addr → Bool) (xs : List Addr) → list_any p xs ≡ false → list_all (λ x. not (p x)) xs ≡ true
-    none-pass p [] none = refl
-    none-pass p (x ∷ xs) none = grind (arith, none-pass p xs)
 
 pub none_free-exhausted : (set : RangeSet) (taken : List Addr) → has_free_of set taken ≡ false → IsExhausted set taken
 none_free-exhausted set taken none a inside =
