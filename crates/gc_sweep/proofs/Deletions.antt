@@ -24,7 +24,7 @@ use Rattle.kernel_types.proofs.Removal.{IsSound-link_del, goes_with-itself}
 use Rattle.cni_verbs.specs.Wanted.{deletion}
 use Rattle.gc_sweep.specs.Keep.{IsWithin}
 use Rattle.gc_sweep.proofs.Lists.{any-found, count_found, count_without_first}
-use Rattle.gc_sweep.proofs.Removes.{within_own, within_same}
+use Rattle.gc_sweep.proofs.Removes.{within_own}
 use Rattle.gc_sweep.specs.Weights.{total}
 
 -- all that the layer above uses of a deletion, as a host and a reply
@@ -36,18 +36,17 @@ pub record Deletes (a : Att) (kind : Kind) (h : Host) (step : Host × Reply) : T
   pub none : list_any (is_own a) (tags_of h kind) ≡ false → step.0 ≡ h
   pub fewer : (p : Tag → Bool) → ((t : Tag) → is_own a t ≡ true → p t ≡ true) → list_any (is_own a) (tags_of h kind) ≡ true → total p step.0 < total p h
 
--- One list loses the first of the attachment's objects, and nothing else changes. `put` sets that list in a host, and
--- `more` is what the other lists add to a total.
+-- One list loses the first of the attachment's objects, and nothing else changes. `put` sets that list in a host.
 deletes_first : {X : Type 0} (a : Att) (kind : Kind) (h : Host) (tag_of : X → Tag) (xs : List X) (put : List X → Host) (left : List X) (any : Bool)
     → left ≡ without_first (λ x. is_own a (tag_of x)) xs → any ≡ list_any (λ x. is_own a (tag_of x)) xs → tags_of h kind ≡ map tag_of xs → put xs ≡ h
     → ((p : Tag → Bool) → length (filter (λ x. p (tag_of x)) left) < length (filter (λ x. p (tag_of x)) xs) → total p (put left) < total p h)
-    → IsSound (put left) → TouchesOwn a h (put left) → IsWithin (put left) h → Deletes a kind h (put left, Gone any)
-deletes_first a kind h tag_of xs put left any is_left is_any tags same less sound touch within =
+    → IsSound (put left) → RemovesOwn a h (put left) → Deletes a kind h (put left, Gone any)
+deletes_first a kind h tag_of xs put left any is_left is_any tags same less sound removes =
     let own : list_any (is_own a) (tags_of h kind) ≡ list_any (λ x. is_own a (tag_of x)) xs = ap (list_any (is_own a)) tags ∙ list_any-map (is_own a) tag_of xs in
     record {
       sound = sound;
-      touch = touch;
-      within = within;
+      touch = TouchesOwn-RemovesOwn a h _ removes;
+      within = within_own a h _ removes;
       reply = ap Gone (is_any ∙ sym own);
       none = λ e. ap put (is_left ∙ without_first-none (λ x. is_own a (tag_of x)) xs (sym own ∙ e)) ∙ same;
       fewer = λ p w e.
@@ -55,47 +54,27 @@ deletes_first a kind h tag_of xs put left any is_left is_any tags same less soun
           less p (rw is_left (omega (arith, c)));
     }
 
-deletes_rules : (a : Att) (h : Host) → IsSound h → Deletes a Rules h (apply h (deletion a Rules))
-deletes_rules a h sound =
-    deletes_first a Rules h (λ x. x.tag) h.rules (λ xs. record h { rules = xs }) _ _ refl refl refl refl (λ p c. omega arith) (IsSound-rule_del h a sound) (TouchesOwn-RemovesOwn a h _ (RemovesOwn-rule_del h a))
-    (within_own a h _ (RemovesOwn-rule_del h a))
-
-deletes_settings : (a : Att) (h : Host) → IsSound h → Deletes a Settings h (apply h (deletion a Settings))
-deletes_settings a h sound =
-    deletes_first a Settings h (λ x. x.tag) h.settings (λ xs. record h { settings = xs }) _ _ refl refl refl refl (λ p c. omega arith) (IsSound-setting_del h a sound) (TouchesOwn-RemovesOwn a h _ (RemovesOwn-setting_del h a))
-    (within_own a h _ (RemovesOwn-setting_del h a))
-
-deletes_leases : (a : Att) (h : Host) → IsSound h → Deletes a Leases h (apply h (deletion a Leases))
-deletes_leases a h sound =
-    deletes_first a Leases h (λ x. x.tag) h.leases (λ xs. record h { leases = xs }) _ _ refl refl refl refl (λ p c. omega arith) (IsSound-lease_del h a sound) (TouchesOwn-RemovesOwn a h _ (RemovesOwn-lease_del h a))
-    (within_own a h _ (RemovesOwn-lease_del h a))
-
-deletes_cached : (a : Att) (h : Host) → IsSound h → Deletes a Cached h (apply h (deletion a Cached))
-deletes_cached a h sound =
-    deletes_first a Cached h (λ x. x.tag) h.cached (λ xs. record h { cached = xs }) _ _ refl refl refl refl (λ p c. omega arith) (IsSound-cache_del h a sound) (TouchesOwn-RemovesOwn a h _ (RemovesOwn-cache_del h a))
-    (within_own a h _ (RemovesOwn-cache_del h a))
-
 -- ---- links go with their peers
 
-deletes_found : (a : Att) (h : Host) (o : Option Link) → find (λ l. is_own a l.tag) h.links ≡ o → IsSound h → IsSound (without_link h o).0 → RemovesOwn a h (without_link h o).0 → TouchesOwn a h (without_link h o).0 → Deletes a Links h (without_link h o)
-deletes_found a h None is sound new removes touch =
+deletes_found : (a : Att) (h : Host) (o : Option Link) → find (λ l. is_own a l.tag) h.links ≡ o → IsSound (without_link h o).0 → RemovesOwn a h (without_link h o).0 → Deletes a Links h (without_link h o)
+deletes_found a h None is sound removes =
     let any = list_any-map (is_own a) (λ (x : Link). x.tag) h.links in
     let none = list_any-find_none (λ l. is_own a l.tag) h.links is in
     record {
-      sound = new;
-      touch = touch;
-      within = within_same h;
+      sound = sound;
+      touch = TouchesOwn-RemovesOwn a h _ removes;
+      within = within_own a h _ removes;
       reply = ap Gone (sym (any ∙ none));
       none = λ e. refl;
       fewer = λ p w e. let off = sym (any ∙ none) ∙ e in cc;
     }
-deletes_found a h (Some l) is sound new removes touch =
+deletes_found a h (Some l) is sound removes =
     let any = list_any-map (is_own a) (λ (x : Link). x.tag) h.links in
     let own = passes-find (λ x. is_own a x.tag) h.links l is in
     let some = any-found (λ l. is_own a l.tag) (λ l. is_own a l.tag) h.links l is own in
     record {
-      sound = new;
-      touch = touch;
+      sound = sound;
+      touch = TouchesOwn-RemovesOwn a h _ removes;
       within = within_own a h _ removes;
       reply = ap Gone (sym (any ∙ some));
       none = λ e. let off = sym (any ∙ some) ∙ e in cc;
@@ -103,8 +82,12 @@ deletes_found a h (Some l) is sound new removes touch =
     }
 
 pub deletes : (a : Att) (kind : Kind) (h : Host) → IsSound h → Deletes a kind h (apply h (deletion a kind))
-deletes a Links h sound = deletes_found a h (find (λ l. is_own a l.tag) h.links) refl sound (IsSound-link_del h a sound) (RemovesOwn-link_del h a sound) (TouchesOwn-RemovesOwn a h _ (RemovesOwn-link_del h a sound))
-deletes a Rules h sound = deletes_rules a h sound
-deletes a Settings h sound = deletes_settings a h sound
-deletes a Leases h sound = deletes_leases a h sound
-deletes a Cached h sound = deletes_cached a h sound
+deletes a Links h sound = deletes_found a h (find (λ l. is_own a l.tag) h.links) refl (IsSound-link_del h a sound) (RemovesOwn-link_del h a sound)
+deletes a Rules h sound =
+    deletes_first a Rules h (λ x. x.tag) h.rules (λ xs. record h { rules = xs }) _ _ refl refl refl refl (λ p c. omega arith) (IsSound-rule_del h a sound) (RemovesOwn-rule_del h a)
+deletes a Settings h sound =
+    deletes_first a Settings h (λ x. x.tag) h.settings (λ xs. record h { settings = xs }) _ _ refl refl refl refl (λ p c. omega arith) (IsSound-setting_del h a sound) (RemovesOwn-setting_del h a)
+deletes a Leases h sound =
+    deletes_first a Leases h (λ x. x.tag) h.leases (λ xs. record h { leases = xs }) _ _ refl refl refl refl (λ p c. omega arith) (IsSound-lease_del h a sound) (RemovesOwn-lease_del h a)
+deletes a Cached h sound =
+    deletes_first a Cached h (λ x. x.tag) h.cached (λ xs. record h { cached = xs }) _ _ refl refl refl refl (λ p c. omega arith) (IsSound-cache_del h a sound) (RemovesOwn-cache_del h a)
