@@ -1,7 +1,6 @@
-use Rattle.std.proofs.Common.{◌≡◌, ◌∙◌, sym, subst, Option}
-use Rattle.std.specs.Prelude.{IfOk}
+use Rattle.std.proofs.Common.{◌∙◌, sym}
 use Rattle.cni_verbs.specs.Wanted.{kinds_of}
-use Rattle.cni_verbs.specs.declared.answer.Answer.{Answer}
+use Rattle.cni_verbs.proofs.NextCalls.{ok_by}
 use Rattle.gc_sweep.specs.View.{work_of}
 use Rattle.gc_sweep.proofs.Phases.{answers_late}
 use Rattle.gc_sweep.proofs.run.GcRun.answer.Goals as goal
@@ -14,6 +13,5 @@ returns-in_ok-early_answer c =
 pub returns-else-is_early : goal.returns-else-is_early
 returns-else-is_early c =
     let r = c.self.inside in
-    let P : Option Answer → Type 0 = λ x. IfOk c.work_answer.result (λ (answer : Option Answer). answer ≡ x) in
     rw (← c.self.view_is)
-    (subst P (answers_late r.list r.command r.place r.faults c.as_slice.result.now (c.as_slice.ensures ∙ c.self.invariant.0) (sym c.is_early.ensures ∙ c.if-is_early.false)) c.work_answer.ensures)
+    (ok_by c.work_answer.result (answers_late r.list r.command r.place r.faults c.as_slice.result.now (c.as_slice.ensures ∙ c.self.invariant.0) (sym c.is_early.ensures ∙ c.if-is_early.false)) c.work_answer.ensures)

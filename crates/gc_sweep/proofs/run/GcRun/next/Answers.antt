@@ -1,7 +1,6 @@
-use Rattle.std.proofs.Common.{◌≡◌, ◌∙◌, sym, subst, Option}
-use Rattle.std.specs.Prelude.{IfOk}
-use Rattle.kernel_types.specs.declared.call.Call.{Call}
+use Rattle.std.proofs.Common.{◌∙◌, sym}
 use Rattle.cni_verbs.specs.Wanted.{kinds_of}
+use Rattle.cni_verbs.proofs.NextCalls.{ok_by}
 use Rattle.gc_sweep.specs.View.{work_of}
 use Rattle.gc_sweep.proofs.Phases.{next_early, next_late}
 use Rattle.gc_sweep.proofs.run.GcRun.next.Goals as goal
@@ -14,6 +13,5 @@ returns-then-is_early c =
 pub returns-else-is_early : goal.returns-else-is_early
 returns-else-is_early c =
     let r = c.self.inside in
-    let P : Option Call → Type 0 = λ x. IfOk c.next_call.result (λ (call : Option Call). call ≡ x) in
     rw (← c.self.view_is)
-    (subst P (next_late r.list r.command r.place r.faults c.as_slice.result.now (c.as_slice.ensures ∙ c.self.invariant.0) (sym c.is_early.ensures ∙ c.if-is_early.false)) c.next_call.ensures)
+    (ok_by c.next_call.result (next_late r.list r.command r.place r.faults c.as_slice.result.now (c.as_slice.ensures ∙ c.self.invariant.0) (sym c.is_early.ensures ∙ c.if-is_early.false)) c.next_call.ensures)
