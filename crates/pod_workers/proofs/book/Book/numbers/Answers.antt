@@ -1,27 +1,26 @@
-use Rattle.std.proofs.Common.{◌≡◌, ◌+◌, length, subst, arith}
+use Rattle.std.proofs.Common.{◌≡◌, ◌+◌, ◌≤◌, length, subst, arith}
+use Rattle.pod_file.specs.Rounds.{file_limit}
 use Rattle.pod_workers.specs.Slots.{AreNumbersOf}
 use Rattle.pod_workers.proofs.RoundDone.{numbers-of, round-fits, round-there}
+use Rattle.pod_workers.proofs.book.Book.numbers.Given.{Over}
+use Rattle.pod_workers.proofs.book.Book.numbers.Goals.{After-round_at-commands}
 use Rattle.pod_workers.proofs.book.Book.numbers.Goals as goal
 
+-- the numbers of the round are within the limit of a file
+within : (g : Over) (c : After-round_at-commands g) → c.self.inside.before + length c.round_at-commands.result.now ≤ file_limit
+within g c = (round-fits _ _ _ _ _ _ c.self.invariant (round-there _ c.as_slice.ensures c.round_at-commands.ensures)).0
+
 pub overflow_cast-first : goal.overflow_cast-first
-overflow_cast-first g c =
-    let low = (round-fits _ _ _ _ _ _ c.self.invariant (round-there _ c.as_slice.ensures c.round_at-commands.ensures)).0 in
-    record { fits = omega arith }
+overflow_cast-first g c = let few = within g (goal.at.overflow_cast-first g c).After-round_at-commands in record { fits = omega arith }
 
 pub overflow_add-first : goal.overflow_add-first
-overflow_add-first g c =
-    let low = (round-fits _ _ _ _ _ _ c.self.invariant (round-there _ c.as_slice.ensures c.round_at-commands.ensures)).0 in
-    record { fits = omega arith }
+overflow_add-first g c = let few = within g (goal.at.overflow_add-first g c).After-round_at-commands in record { fits = omega arith }
 
 pub overflow_cast-result : goal.overflow_cast-result
-overflow_cast-result g c =
-    let low = (round-fits _ _ _ _ _ _ c.self.invariant (round-there _ c.as_slice.ensures c.round_at-commands.ensures)).0 in
-    record { fits = omega arith }
+overflow_cast-result g c = let few = within g (goal.at.overflow_cast-result g c).After-round_at-commands in record { fits = omega arith }
 
 pub overflow_add-result : goal.overflow_add-result
-overflow_add-result g c =
-    let low = (round-fits _ _ _ _ _ _ c.self.invariant (round-there _ c.as_slice.ensures c.round_at-commands.ensures)).0 in
-    record { fits = omega arith }
+overflow_add-result g c = let few = within g (goal.at.overflow_add-result g c).After-round_at-commands in record { fits = omega arith }
 
 pub returns : goal.returns
 returns g c =
