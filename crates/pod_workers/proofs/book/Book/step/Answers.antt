@@ -1,8 +1,25 @@
-use Rattle.std.proofs.Common.{◌-◌, ◌<◌, ◌^◌, length, slice_get, sym, ◌∙◌, ap, subst, arith}
+use Rattle.std.proofs.Common.{◌≡◌, ◌-◌, ◌<◌, ◌^◌, length, slice_get, sym, ◌∙◌, ap, subst, arith}
 use Rattle.std.proofs.lemmas.List.{length-set, set-set}
-use Rattle.pod_workers.proofs.Kept.{cut-by, found, found-may, found-over, found-refused, found-went, left-end, left-stepped, number-command, number-within, refused-answered}
+use Rattle.pod_workers.specs.Index.{is_cut_by}
+use Rattle.pod_workers.specs.World.{World}
+use Rattle.pod_workers.proofs.Kept.{IsFound, cut-by, found, found-may, found-over, found-refused, found-went, left-end, left-stepped, number-command, number-within, refused-answered}
 use Rattle.pod_workers.proofs.Listed.{found-listed}
+use Rattle.pod_workers.proofs.book.Book.step.Given.{Over}
+use Rattle.pod_workers.proofs.book.Book.step.Goals.{After-command_at-wanted}
 use Rattle.pod_workers.proofs.book.Book.step.Goals as goal
+
+-- the book as the step finds it
+abbrev world : (g : Over) (c : After-command_at-wanted g) → World
+world g c = record { plan = c.self.inside.plan; history = c.self.inside.history.items; answers = c.self.inside.answers.items; round = c.self.inside.round }
+
+-- what the step has read: the command that is ready, with its run, and whether the round is stopped
+seen : (g : Over) (c : After-command_at-wanted g)
+    → IsFound (g.K.Kernel.host c.self.inside.kernel) c.self.inside.slots.items c.self.inside.places.items c.self.inside.before (world g c) c.args.command (c.args.command - 1) c.take_at-slot.result c.command_at-wanted.result.now
+    × (c.is_cut-cut.result ≡ is_cut_by c.self.inside.plan.stop_at c.self.inside.history.items c.self.inside.places.items c.self.inside.round)
+seen g c = (
+  found c.self.invariant c.self.view_is c.requires c.as_slice.ensures.value c.place_at-place.ensures c.as_slice-4.ensures c.command_at-wanted.ensures c.take_at-slot.ensures.taken,
+  cut-by _ _ c.is_cut-cut.ensures.cut c.as_slice-2.ensures.value c.as_slice-3.ensures.value,
+)
 
 pub place_at-place-requires : goal.place_at-place-requires
 place_at-place-requires g c = rw c.as_slice.ensures.value (number-within _ _ _ _ _ _ _ c.self.invariant c.self.view_is c.requires).1
@@ -25,67 +42,48 @@ put_at-requires-in-Over g c = (number-within _ _ _ _ _ _ _ c.self.invariant c.se
 
 pub carry_on-requires-clause-may : goal.carry_on-requires-clause-may
 carry_on-requires-clause-may g c =
-    let f = found c.self.invariant c.self.view_is c.requires c.as_slice.ensures.value c.place_at-place.ensures c.as_slice-4.ensures c.command_at-wanted.ensures c.take_at-slot.ensures.taken in
-    let cut = cut-by _ _ c.is_cut-cut.ensures.cut c.as_slice-2.ensures.value c.as_slice-3.ensures.value in
+    let s = seen g (goal.at.carry_on-requires-clause-may g c).After-command_at-wanted in
     rw c.as_slice-5.ensures
-    (found-may _ _ _ _ _ _ _ _ _ _ f cut (λ reached. subst (λ h. length h < 2 ^ 32) c.as_slice-2.ensures.value (c.is_cut-cut.ensures.small reached)))
+    (found-may _ _ _ _ _ _ _ _ _ _ s.0 s.1 (λ reached. subst (λ h. length h < 2 ^ 32) c.as_slice-2.ensures.value (c.is_cut-cut.ensures.small reached)))
 
 pub carry_on-requires-clause-listed : goal.carry_on-requires-clause-listed
 carry_on-requires-clause-listed g c =
-    let f = found c.self.invariant c.self.view_is c.requires c.as_slice.ensures.value c.place_at-place.ensures c.as_slice-4.ensures c.command_at-wanted.ensures c.take_at-slot.ensures.taken in
-    rw c.as_slice-5.ensures (found-listed _ _ _ _ _ _ _ _ _ f)
+    let s = seen g (goal.at.carry_on-requires-clause-listed g c).After-command_at-wanted in
+    rw c.as_slice-5.ensures (found-listed _ _ _ _ _ _ _ _ _ s.0)
 
 pub invariant_of-self : goal.invariant_of-self
 invariant_of-self g c =
-    let f = found c.self.invariant c.self.view_is c.requires c.as_slice.ensures.value c.place_at-place.ensures c.as_slice-4.ensures c.command_at-wanted.ensures c.take_at-slot.ensures.taken in
-    rw (c.take_at-slot.ensures.left, c.put_at.ensures) (found-refused _ _ _ _ _ _ _ _ _ _ _ f c.in-Err.ensures.err)
+    let s = seen g (goal.at.invariant_of-self g c).After-command_at-wanted in
+    rw (c.take_at-slot.ensures.left, c.put_at.ensures) (found-refused _ _ _ _ _ _ _ _ _ _ _ s.0 c.in-Err.ensures.err)
 
 pub invariant_of-self-in-Went : goal.invariant_of-self-in-Went
 invariant_of-self-in-Went g c =
-    let f = found c.self.invariant c.self.view_is c.requires c.as_slice.ensures.value c.place_at-place.ensures c.as_slice-4.ensures c.command_at-wanted.ensures c.take_at-slot.ensures.taken in
-    let cut = cut-by _ _ c.is_cut-cut.ensures.cut c.as_slice-2.ensures.value c.as_slice-3.ensures.value in
-    let left = found-went _ _ _ _ _ _ _ _ _ _ _ _ _ _ f cut (rw c.as_slice-5.ensures at c.in-Ok.ensures.ok) c.in-Went.is in
+    let s = seen g (goal.at.invariant_of-self-in-Went g c).After-command_at-wanted in
+    let left = found-went _ _ _ _ _ _ _ _ _ _ _ _ _ _ s.0 s.1 (rw c.as_slice-5.ensures at c.in-Ok.ensures.ok) c.in-Went.is in
     rw (c.put_at-in-Went.ensures, c.take_at-slot.ensures.left, set-set) left.2.kept
 
 pub invariant_of-self-in-Over : goal.invariant_of-self-in-Over
 invariant_of-self-in-Over g c =
-    let f = found c.self.invariant c.self.view_is c.requires c.as_slice.ensures.value c.place_at-place.ensures c.as_slice-4.ensures c.command_at-wanted.ensures c.take_at-slot.ensures.taken in
-    let cut = cut-by _ _ c.is_cut-cut.ensures.cut c.as_slice-2.ensures.value c.as_slice-3.ensures.value in
-    let left = found-over _ _ _ _ _ _ _ _ _ _ _ _ _ _ f cut (rw c.as_slice-5.ensures at c.in-Ok.ensures.ok) c.in-Over.is in
+    let s = seen g (goal.at.invariant_of-self-in-Over g c).After-command_at-wanted in
+    let left = found-over _ _ _ _ _ _ _ _ _ _ _ _ _ _ s.0 s.1 (rw c.as_slice-5.ensures at c.in-Ok.ensures.ok) c.in-Over.is in
     rw (c.take_at-slot.ensures.left, c.put_at-in-Over.ensures) left.2.kept
 
 pub returns-in-Err-clause-err : goal.returns-in-Err-clause-err
 returns-in-Err-clause-err g c =
-    let f = found c.self.invariant c.self.view_is c.requires c.as_slice.ensures.value c.place_at-place.ensures c.as_slice-4.ensures c.command_at-wanted.ensures c.take_at-slot.ensures.taken in
-    rw c.put_at.ensures (refused-answered _ _ _ _ _ f.number_is c.self.view_is c.in-Err.ensures.err.1)
+    let s = seen g (goal.at.returns-in-Err-clause-err g c).After-command_at-wanted in
+    rw c.put_at.ensures (refused-answered _ _ _ _ _ s.0.number_is c.self.view_is c.in-Err.ensures.err.1)
 
-pub returns-in-Went-clause-ok : goal.returns-in-Went-clause-ok
-returns-in-Went-clause-ok g c =
-    let f = found c.self.invariant c.self.view_is c.requires c.as_slice.ensures.value c.place_at-place.ensures c.as_slice-4.ensures c.command_at-wanted.ensures c.take_at-slot.ensures.taken in
-    let cut = cut-by _ _ c.is_cut-cut.ensures.cut c.as_slice-2.ensures.value c.as_slice-3.ensures.value in
-    let left = found-went _ _ _ _ _ _ _ _ _ _ _ _ _ _ f cut (rw c.as_slice-5.ensures at c.in-Ok.ensures.ok) c.in-Went.is in
-    left-stepped _ _ _ _ _ _ _ _ _ _ f.number_is c.self.view_is left
+pub returns-in-Went : goal.returns-in-Went
+returns-in-Went g c =
+    let s = seen g (goal.at.returns-in-Went g c).After-command_at-wanted in
+    let left = found-went _ _ _ _ _ _ _ _ _ _ _ _ _ _ s.0 s.1 (rw c.as_slice-5.ensures at c.in-Ok.ensures.ok) c.in-Went.is in
+    record { ok = left-stepped _ _ _ _ _ _ _ _ _ _ s.0.number_is c.self.view_is left; end = left-end _ _ _ _ _ _ _ _ _ _ s.0.number_is c.self.view_is left; err = tt }
 
-pub returns-in-Went-clause-end : goal.returns-in-Went-clause-end
-returns-in-Went-clause-end g c =
-    let f = found c.self.invariant c.self.view_is c.requires c.as_slice.ensures.value c.place_at-place.ensures c.as_slice-4.ensures c.command_at-wanted.ensures c.take_at-slot.ensures.taken in
-    let cut = cut-by _ _ c.is_cut-cut.ensures.cut c.as_slice-2.ensures.value c.as_slice-3.ensures.value in
-    let left = found-went _ _ _ _ _ _ _ _ _ _ _ _ _ _ f cut (rw c.as_slice-5.ensures at c.in-Ok.ensures.ok) c.in-Went.is in
-    left-end _ _ _ _ _ _ _ _ _ _ f.number_is c.self.view_is left
-
-pub returns-in-Over-clause-ok : goal.returns-in-Over-clause-ok
-returns-in-Over-clause-ok g c =
-    let f = found c.self.invariant c.self.view_is c.requires c.as_slice.ensures.value c.place_at-place.ensures c.as_slice-4.ensures c.command_at-wanted.ensures c.take_at-slot.ensures.taken in
-    let cut = cut-by _ _ c.is_cut-cut.ensures.cut c.as_slice-2.ensures.value c.as_slice-3.ensures.value in
-    let left = found-over _ _ _ _ _ _ _ _ _ _ _ _ _ _ f cut (rw c.as_slice-5.ensures at c.in-Ok.ensures.ok) c.in-Over.is in
-    rw c.put_at-in-Over.ensures (left-stepped _ _ _ _ _ _ _ _ _ _ f.number_is c.self.view_is left)
-
-pub returns-in-Over-clause-end : goal.returns-in-Over-clause-end
-returns-in-Over-clause-end g c =
-    let f = found c.self.invariant c.self.view_is c.requires c.as_slice.ensures.value c.place_at-place.ensures c.as_slice-4.ensures c.command_at-wanted.ensures c.take_at-slot.ensures.taken in
-    let cut = cut-by _ _ c.is_cut-cut.ensures.cut c.as_slice-2.ensures.value c.as_slice-3.ensures.value in
-    let left = found-over _ _ _ _ _ _ _ _ _ _ _ _ _ _ f cut (rw c.as_slice-5.ensures at c.in-Ok.ensures.ok) c.in-Over.is in
-    left-end _ _ _ _ _ _ _ _ _ _ f.number_is c.self.view_is left
+pub returns-in-Over : goal.returns-in-Over
+returns-in-Over g c =
+    let s = seen g (goal.at.returns-in-Over g c).After-command_at-wanted in
+    let left = found-over _ _ _ _ _ _ _ _ _ _ _ _ _ _ s.0 s.1 (rw c.as_slice-5.ensures at c.in-Ok.ensures.ok) c.in-Over.is in
+    record { ok = rw c.put_at-in-Over.ensures (left-stepped _ _ _ _ _ _ _ _ _ _ s.0.number_is c.self.view_is left); end = left-end _ _ _ _ _ _ _ _ _ _ s.0.number_is c.self.view_is left; err = tt }
 
 pub overflow_sub-n : goal.overflow_sub-n
 overflow_sub-n g c = let r = c.requires in let is = r.2 in omega arith
