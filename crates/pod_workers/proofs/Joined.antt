@@ -1,7 +1,8 @@
 -- A plan that was joined is well formed.
-use Rattle.std.proofs.Common.{◌≡◌, ℕ, ◌+◌, ◌<◌, Bool, true, false, not, cond, List, [], ◌∷◌, ◌++◌, length, take, drop, get_or, Option, Some, None, Result, Ok, Err, refl, sym, ◌∙◌, ap, subst, arith}
-use Rattle.std.specs.Prelude.{if◌then◌else◌, ◌&&◌, ◌||◌, is_some, position}
+use Rattle.std.proofs.Common.{◌≡◌, ℕ, ◌+◌, ◌<◌, Bool, true, false, not, cond, List, [], ◌∷◌, ◌++◌, length, take, drop, get_or, Option, Some, None, Ok, refl, sym, ◌∙◌, ap, subst, arith}
+use Rattle.std.specs.Prelude.{if◌then◌else◌, ◌&&◌, ◌||◌, is_some, option_map, position}
 use Rattle.std.specs.List.{list_any, list_all, position_from}
+use Rattle.std.specs.Option.{option_or}
 use Rattle.std.specs.Str.{bytes_eq}
 use Rattle.std.proofs.lemmas.Iterator.Adapters.{position_from-zero}
 use Rattle.std.proofs.lemmas.List.{drop_more, take_more}
@@ -9,13 +10,11 @@ use Rattle.std.proofs.lemmas.Option.{none-some}
 use Rattle.cni_addr.specs.Lists.{distinct}
 use Rattle.net_conf.specs.declared.list.NetList.{NetList}
 use Rattle.plan_words.proofs.CountLemmas.{list_any-find}
-use Rattle.pod_file.specs.declared.command.Command.{Command}
-use Rattle.pod_workers.specs.Join.{joined, plan_unless, unless, first_repeat_after, first_without_list}
+use Rattle.pod_workers.specs.Join.{joined, plan_unless, first_repeat_after, first_without_list}
 use Rattle.pod_workers.specs.Laws.{JoinedPlansAreWellFormed}
 use Rattle.pod_file.specs.Commands.{is_of_network}
 use Rattle.pod_workers.specs.Plans.{Placed, placed_from, IsWellFormed, commands_of, lacks_list, list_for, list_in, list_named}
 use Rattle.pod_workers.specs.declared.plan.Plan.{Plan}
-use Rattle.pod_workers.specs.declared.plan.PlanError.{PlanError}
 use Rattle.pod_workers.specs.declared.plan.PlanError.TheVariants.{SameName, NoNetwork}
 
 -- where none passes a test, all pass another one
@@ -74,35 +73,11 @@ apart earlier place (l ∷ ls) none =
 
 -- ---- what was joined
 
-unless-ok : {A : Type 0} (f : ℕ → PlanError) (o : Option ℕ) (r : Result A PlanError) (q : A) → unless f o r ≡ Ok q → (o ≡ None) × (r ≡ Ok q)
-unless-ok f None r q h = (refl, h)
-unless-ok f (Some k) r q h = cc
-
-pub record IsJoined (p q : Plan) : Type 0 where
-  pub same : p ≡ q
-  pub names : first_repeat_after [] 0 p.lists ≡ None
-  pub networks : first_without_list p.lists p.pods.rounds ≡ None
-
--- ---- what isn't
-
-pub joined-same_name : (p : Plan) (place : ℕ) → Some place ≡ first_repeat_after [] 0 p.lists → joined p ≡ Err (SameName place)
-unfolding joined
-joined-same_name p place is = rw (sym is) refl
-
-pub joined-no_network : (p : Plan) (place : ℕ) → None ≡ first_repeat_after [] 0 p.lists → Some place ≡ first_without_list p.lists p.pods.rounds → joined p ≡ Err (NoNetwork (place + 1))
-unfolding joined
-joined-no_network p place names is = rw (sym names, sym is) refl
-
-pub joined-ok : (p : Plan) → None ≡ first_repeat_after [] 0 p.lists → None ≡ first_without_list p.lists p.pods.rounds → joined p ≡ Ok p
-unfolding joined
-joined-ok p names networks = rw (sym names, sym networks) refl
-
-pub is-joined : (p q : Plan) → joined p ≡ Ok q → IsJoined p q
-unfolding joined
-is-joined p q h =
-    let b = unless-ok _ (first_repeat_after [] 0 p.lists) _ q h in
-    let d = unless-ok _ (first_without_list p.lists p.pods.rounds) _ q b.1 in
-    record { same = (let e = d.1 in cc); names = b.0; networks = d.0 }
+by_refusal : (p q : Plan) (names networks : Option ℕ) → plan_unless (option_or (option_map (λ place. SameName place) names) (option_map (λ place. NoNetwork (place + 1)) networks)) p ≡ Ok q
+    → (p ≡ q) × (names ≡ None) × (networks ≡ None)
+by_refusal p q None None h = (cc, refl, refl)
+by_refusal p q None (Some place) h = absurd cc
+by_refusal p q (Some place) networks h = absurd cc
 
 has-list : (a b : Bool) → (a && not b) ≡ false → (not a || b) ≡ true
 has-list true true h = refl
@@ -116,15 +91,16 @@ each-listed p none =
     (λ c passed. has-list (is_of_network c.command.verb) (is_some (list_in p.lists c.command)) passed) (placed_from 0 p.pods.rounds) none
 
 pub joined_is_well_formed : JoinedPlansAreWellFormed
+unfolding joined
 joined_is_well_formed p q h lists pods =
-    let j = is-joined p q h in
+    let made = by_refusal p q (first_repeat_after [] 0 p.lists) (first_without_list p.lists p.pods.rounds) h in
     let well : IsWellFormed p = record {
       lists = lists;
       pods = pods;
-      names = (apart [] 0 p.lists j.names).1;
-      networks = each-listed p j.networks;
+      names = (apart [] 0 p.lists made.1).1;
+      networks = each-listed p made.2;
     } in
-    subst IsWellFormed j.same well
+    subst IsWellFormed made.0 well
 
 -- ---- a name that is there twice, list by list
 
@@ -146,22 +122,3 @@ pub repeats-later : (lists : List NetList) (i : ℕ) (l : NetList) → i < lengt
     → first_repeat_after (take (i + 1) lists) (i + 1) (drop (i + 1) lists) ≡ first_repeat_after [] 0 lists
 repeats-later lists i l within is has_none so_far =
     sym (repeats-step lists i l within is ∙ ap (λ b. if b then Some i else first_repeat_after (take (i + 1) lists) (i + 1) (drop (i + 1) lists)) has_none) ∙ so_far
-
--- ---- refusals, by the lists and the rounds alone
-
-pub refusal-same_name : (lists : List NetList) (rounds : List (List Command)) (place : ℕ) → Some place ≡ first_repeat_after [] 0 lists
-    → (p : Plan) → p.lists ≡ lists → p.pods.rounds ≡ rounds → joined p ≡ plan_unless (Some (SameName place)) p
-refusal-same_name lists rounds place is p same_lists same_rounds =
-    joined-same_name p place (is ∙ ap (first_repeat_after [] 0) (sym same_lists))
-
-pub refusal-no_network : (lists : List NetList) (rounds : List (List Command)) (place : ℕ) → None ≡ first_repeat_after [] 0 lists
-    → Some place ≡ first_without_list lists rounds → (p : Plan) → p.lists ≡ lists → p.pods.rounds ≡ rounds → joined p ≡ plan_unless (Some (NoNetwork (place + 1))) p
-refusal-no_network lists rounds place names is p same_lists same_rounds =
-    joined-no_network p place (names ∙ ap (first_repeat_after [] 0) (sym same_lists))
-    (is ∙ ap (λ ls. first_without_list ls rounds) (sym same_lists) ∙ ap (first_without_list p.lists) (sym same_rounds))
-
-pub refusal-none : (lists : List NetList) (rounds : List (List Command)) → None ≡ first_repeat_after [] 0 lists
-    → None ≡ first_without_list lists rounds → (p : Plan) → p.lists ≡ lists → p.pods.rounds ≡ rounds → joined p ≡ plan_unless None p
-refusal-none lists rounds names networks p same_lists same_rounds =
-    joined-ok p (names ∙ ap (first_repeat_after [] 0) (sym same_lists))
-    (networks ∙ ap (λ ls. first_without_list ls rounds) (sym same_lists) ∙ ap (first_without_list p.lists) (sym same_rounds))

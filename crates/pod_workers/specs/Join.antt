@@ -1,5 +1,6 @@
 -- When lists and a pod file make a plan, and why they make none.
-use Rattle.std.specs.Prelude.{ℕ, ◌+◌, List, [], ◌∷◌, ◌++◌, position, is_some, Option, Some, None, Result, Ok, Err, if◌then◌else◌}
+use Rattle.std.specs.Prelude.{ℕ, ◌+◌, List, [], ◌∷◌, ◌++◌, position, is_some, Option, Some, None, option_map, Result, Ok, Err, if◌then◌else◌}
+use Rattle.std.specs.Option.{option_or}
 use Rattle.net_conf.specs.declared.list.NetList.{NetList}
 use Rattle.pod_file.specs.declared.command.Command.{Command}
 use Rattle.pod_workers.specs.Plans.{lacks_list, list_named, placed_from}
@@ -17,17 +18,16 @@ first_repeat_after earlier place (l ∷ ls) =
 abbrev pub first_without_list : List NetList → List (List Command) → Option ℕ
 first_without_list lists rounds = position (λ c. lacks_list lists c.command) (placed_from 0 rounds)
 
-abbrev pub unless : {A : Type 0} → (ℕ → PlanError) → Option ℕ → Result A PlanError → Result A PlanError
-unless refusal None otherwise = otherwise
-unless refusal (Some place) otherwise = Err (refusal place)
-
--- the plan, or the first refusal: two lists of one name, a command of no list's network
-unfoldable pub joined : Plan → Result Plan PlanError
-joined p =
-    unless (λ place. SameName place) (first_repeat_after [] 0 p.lists)
-    (unless (λ place. NoNetwork (place + 1)) (first_without_list p.lists p.pods.rounds) (Ok p))
+-- why these make no plan: the first list that has the name of an earlier one, or else the first command of a network
+-- that no list has
+abbrev pub refusal_of : List NetList → List (List Command) → Option PlanError
+refusal_of lists rounds =
+    option_or (option_map (λ place. SameName place) (first_repeat_after [] 0 lists)) (option_map (λ place. NoNetwork (place + 1)) (first_without_list lists rounds))
 
 -- the plan, unless it is refused
 abbrev pub plan_unless : Option PlanError → Plan → Result Plan PlanError
 plan_unless None p = Ok p
 plan_unless (Some refusal) p = Err refusal
+
+unfoldable pub joined : Plan → Result Plan PlanError
+joined p = plan_unless (refusal_of p.lists p.pods.rounds) p

@@ -2,7 +2,7 @@
 
 ghost use Rattle.std.specs.Prelude.{◌≡◌, ◌<◌, ◌≤◌, ◌^◌, [], is_some, length, position};
 ghost use Rattle.std.specs.Option.{option_copied};
-ghost use Rattle.pod_workers.specs.Join.{first_repeat_after, first_without_list, joined, plan_unless};
+ghost use Rattle.pod_workers.specs.Join.{first_repeat_after, first_without_list, joined, refusal_of};
 ghost use Rattle.pod_workers.specs.Laws.{JoinedPlansAreWellFormed};
 ghost use Rattle.pod_workers.specs.declared.plan.Plan.{Plan};
 ghost use Rattle.pod_file.specs.Rounds.{file_limit};
@@ -16,6 +16,7 @@ use pod_file::{Command, Pods};
 impl Plan {
     /// The plan of these lists and this pod file. Refused are, in this order, the first list that has the name of an
     /// earlier one, and the first command of a network that no list has.
+    #[tactic(auto, unfolding(crate::specs::Join::joined))]
     pub fn join(lists: Items<NetList>, pods: Pods, stop_at: Option<u32>) -> Result<Plan, PlanError>
         requires few_lists { length lists < 2 ^ 32 }
         requires few_commands { length (commands_of (record { lists = lists; pods = pods; stop_at = stop_at })) ≤ file_limit }
@@ -64,7 +65,7 @@ fn lacks_list(lists: &[NetList], command: &Command) -> bool
 fn refusal(lists: &[NetList], rounds: &[Items<Command>]) -> Option<PlanError>
     requires few_lists { length lists.now < 2 ^ 32 }
     requires few_commands { length (placed_from 0 rounds.now) ≤ file_limit }
-    ensures { (p : Plan) → p.lists ≡ lists.now → p.pods.rounds ≡ rounds.now → joined p ≡ plan_unless result p }
+    ensures { result ≡ refusal_of lists.now rounds.now }
 {
     if let Some(list) = first_repeat(lists) {
         return Some(PlanError::SameName { list });
