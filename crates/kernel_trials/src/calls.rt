@@ -104,72 +104,6 @@ fn cache_put(alloc: Global, container: &str) -> Result<Call, RowError> {
     Ok(Call::CachePut { att, cached })
 }
 
-fn link_del(alloc: Global, container: &str) -> Result<Call, RowError> {
-    let att = att(alloc, container)?;
-    Ok(Call::LinkDel { att })
-}
-
-fn rule_del(alloc: Global, container: &str) -> Result<Call, RowError> {
-    let att = att(alloc, container)?;
-    Ok(Call::RuleDel { att })
-}
-
-fn setting_del(alloc: Global, container: &str) -> Result<Call, RowError> {
-    let att = att(alloc, container)?;
-    Ok(Call::SettingDel { att })
-}
-
-fn lease_del(alloc: Global, container: &str) -> Result<Call, RowError> {
-    let att = att(alloc, container)?;
-    Ok(Call::LeaseDel { att })
-}
-
-fn cache_del(alloc: Global, container: &str) -> Result<Call, RowError> {
-    let att = att(alloc, container)?;
-    Ok(Call::CacheDel { att })
-}
-
-fn cache_get(alloc: Global, container: &str) -> Result<Call, RowError> {
-    let att = att(alloc, container)?;
-    Ok(Call::CacheGet { att })
-}
-
-fn has_whole(object: Object) -> Call {
-    Call::HasObj {
-        probe: Probe::Whole(object),
-    }
-}
-
-fn has_link(alloc: Global, words: &str) -> Result<Call, RowError> {
-    let link = macvlan(alloc, words)?;
-    Ok(has_whole(Object::Link(link)))
-}
-
-fn has_address(alloc: Global, words: &str) -> Result<Call, RowError> {
-    let address = address(alloc, words)?;
-    Ok(has_whole(Object::Address(address)))
-}
-
-fn has_route(alloc: Global, words: &str) -> Result<Call, RowError> {
-    let route = route(alloc, words)?;
-    Ok(has_whole(Object::Route(route)))
-}
-
-fn has_rule(alloc: Global, words: &str) -> Result<Call, RowError> {
-    let rule = rule(alloc, words)?;
-    Ok(has_whole(Object::Rule(rule)))
-}
-
-fn has_setting(alloc: Global, words: &str) -> Result<Call, RowError> {
-    let setting = setting(alloc, words)?;
-    Ok(has_whole(Object::Setting(setting)))
-}
-
-fn has_lease(alloc: Global, words: &str) -> Result<Call, RowError> {
-    let lease = lease(alloc, words)?;
-    Ok(has_whole(Object::Lease(lease)))
-}
-
 /// `BridgeAt NAME OTHER` asks for the bridge with the hardware address of a link named `OTHER`.
 fn bridge_at(alloc: Global, words: &str) -> Result<Call, RowError> {
     let (name, other) = cut(words);
@@ -214,11 +148,23 @@ fn drop_link(alloc: Global, words: &str) -> Result<Call, RowError> {
 }
 
 fn flush(words: &str) -> Result<Call, RowError> {
-    match table_named(words) {
-        Some(table) => Ok(Call::Outside {
-            change: Change::Flush(table),
-        }),
-        None => Err(RowError::NoCall),
+    let table = table_named(words).ok_or(RowError::NoCall)?;
+    Ok(Call::Outside {
+        change: Change::Flush(table),
+    })
+}
+
+/// A call of a container alone.
+fn of_container(alloc: Global, verb: &str, words: &str) -> Result<Call, RowError> {
+    let att = att(alloc, words)?;
+    match verb {
+        "LinkDel" => Ok(Call::LinkDel { att }),
+        "RuleDel" => Ok(Call::RuleDel { att }),
+        "SettingDel" => Ok(Call::SettingDel { att }),
+        "LeaseDel" => Ok(Call::LeaseDel { att }),
+        "CacheDel" => Ok(Call::CacheDel { att }),
+        "CacheGet" => Ok(Call::CacheGet { att }),
+        _ => Err(RowError::NoCall),
     }
 }
 
@@ -228,41 +174,32 @@ fn outside(alloc: Global, verb: &str, words: &str) -> Result<Call, RowError> {
         "NsDel" => ns_change(alloc, words, false),
         "DropLink" => drop_link(alloc, words),
         "Flush" => flush(words),
-        _ => Err(RowError::NoCall),
+        _ => of_container(alloc, verb, words),
     }
 }
 
 fn object_question(alloc: Global, verb: &str, words: &str) -> Result<Call, RowError> {
-    match verb {
-        "HasLink" => has_link(alloc, words),
-        "HasAddress" => has_address(alloc, words),
-        "HasRoute" => has_route(alloc, words),
-        "HasRule" => has_rule(alloc, words),
-        "HasSetting" => has_setting(alloc, words),
-        "HasLease" => has_lease(alloc, words),
-        _ => outside(alloc, verb, words),
-    }
+    let object = match verb {
+        "HasLink" => Object::Link(macvlan(alloc, words)?),
+        "HasAddress" => Object::Address(address(alloc, words)?),
+        "HasRoute" => Object::Route(route(alloc, words)?),
+        "HasRule" => Object::Rule(rule(alloc, words)?),
+        "HasSetting" => Object::Setting(setting(alloc, words)?),
+        "HasLease" => Object::Lease(lease(alloc, words)?),
+        _ => return outside(alloc, verb, words),
+    };
+    Ok(Call::HasObj {
+        probe: Probe::Whole(object),
+    })
 }
 
 fn question(alloc: Global, verb: &str, words: &str) -> Result<Call, RowError> {
     match verb {
         "BridgeAt" => bridge_at(alloc, words),
         "Master" => has_master(alloc, words),
-        "CacheGet" => cache_get(alloc, words),
         "OwnersOf" => owners_of(alloc, words),
         "PoolFree" => pool_free(alloc, words),
         _ => object_question(alloc, verb, words),
-    }
-}
-
-fn deletion(alloc: Global, verb: &str, words: &str) -> Result<Call, RowError> {
-    match verb {
-        "LinkDel" => link_del(alloc, words),
-        "RuleDel" => rule_del(alloc, words),
-        "SettingDel" => setting_del(alloc, words),
-        "LeaseDel" => lease_del(alloc, words),
-        "CacheDel" => cache_del(alloc, words),
-        _ => question(alloc, verb, words),
     }
 }
 
@@ -275,7 +212,7 @@ fn addition(alloc: Global, verb: &str, words: &str) -> Result<Call, RowError> {
         "SettingSet" => setting_set(alloc, words),
         "LeaseNext" => lease_next(alloc, words),
         "CachePut" => cache_put(alloc, words),
-        _ => deletion(alloc, verb, words),
+        _ => question(alloc, verb, words),
     }
 }
 

@@ -49,24 +49,15 @@ pub(crate) fn placed(words: &str) -> Place<'_> {
 }
 
 pub(crate) fn addr_of(word: &str) -> Result<Addr, RowError> {
-    match read_addr(word.as_bytes()) {
-        Some(addr) => Ok(addr),
-        None => Err(RowError::NoCall),
-    }
+    read_addr(word.as_bytes()).ok_or(RowError::NoCall)
 }
 
 pub(crate) fn cidr_of(word: &str) -> Result<Cidr, RowError> {
-    match read_cidr(word.as_bytes()) {
-        Some(cidr) => Ok(cidr),
-        None => Err(RowError::NoCall),
-    }
+    read_cidr(word.as_bytes()).ok_or(RowError::NoCall)
 }
 
 pub(crate) fn port_of(word: &str) -> Result<u16, RowError> {
-    match word.parse::<u16>() {
-        Ok(port) => Ok(port),
-        Err(_) => Err(RowError::NoCall),
-    }
+    word.parse().or(Err(RowError::NoCall))
 }
 
 pub(crate) fn kind_of(word: &str) -> Result<Kind, RowError> {
