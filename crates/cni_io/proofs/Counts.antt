@@ -8,7 +8,7 @@ use Rattle.std.proofs.lemmas.List.Sums.{count_by-le-length}
 use Rattle.std.proofs.lemmas.Bool.Decides.{nat_tests}
 use Rattle.std.proofs.lemmas.Bool.{cases_Bool}
 use Rattle.cni_io.specs.Faults.{Rose, CountsFault}
-use Rattle.cni_io.specs.FailingCalls.{CallsState, failures, is_failing, is_numbered, fails_next, next_call}
+use Rattle.cni_io.specs.FailingCalls.{CallsState, failures, is_failing, is_numbered, fails_next, with_next_call}
 
 -- what rose later rose from the start on
 pub Rose-from_start : (start before now : ℕ) → start ≤ before → Rose before now → Rose start now
@@ -31,7 +31,7 @@ failures_among-one_more failing calls =
     rw (map-id (range_with_len 1 (calls + 1)), map-id (range_with_len 1 calls)) at grown
 
 -- a call that fails is one failure more, and they still fit
-pub failures-fails : (s : CallsState) → fails_next s ≡ true → (failures (next_call s) ≡ failures s + 1) × (failures s + 1 < 2 ^ 64)
+pub failures-fails : (s : CallsState) → fails_next s ≡ true → (failures (with_next_call s) ≡ failures s + 1) × (failures s + 1 < 2 ^ 64)
 failures-fails s fails =
     elim (cases_Bool (is_numbered s)) [
       | inl numbered ↦
@@ -41,7 +41,7 @@ failures-fails s fails =
     ]
 
 -- a call that does not fail is none
-pub failures-passes : (s : CallsState) → fails_next s ≡ false → failures (next_call s) ≡ failures s
+pub failures-passes : (s : CallsState) → fails_next s ≡ false → failures (with_next_call s) ≡ failures s
 failures-passes s passes =
     elim (cases_Bool (is_numbered s)) [
       | inl numbered ↦
@@ -51,7 +51,7 @@ failures-passes s passes =
     ]
 
 -- a call that fails counts its fault
-pub CountsFault-fails : (s : CallsState) → fails_next s ≡ true → CountsFault (failures s) (failures (next_call s)) ⊤
+pub CountsFault-fails : (s : CallsState) → fails_next s ≡ true → CountsFault (failures s) (failures (with_next_call s)) ⊤
 CountsFault-fails s fails = record {
   later = omega (arith, (failures-fails s fails).0);
   bounded = omega (arith, (failures-fails s fails).0, (failures-fails s fails).1);
@@ -59,7 +59,7 @@ CountsFault-fails s fails = record {
 }
 
 -- a call that does not fail has no fault to count
-pub CountsFault-passes : (s : CallsState) → fails_next s ≡ false → failures s < 2 ^ 64 → {fault : Type 0} → ¬ fault → CountsFault (failures s) (failures (next_call s)) fault
+pub CountsFault-passes : (s : CallsState) → fails_next s ≡ false → failures s < 2 ^ 64 → {fault : Type 0} → ¬ fault → CountsFault (failures s) (failures (with_next_call s)) fault
 CountsFault-passes s passes fits none = record {
   later = omega (arith, failures-passes s passes);
   bounded = omega (arith, failures-passes s passes);

@@ -20,8 +20,8 @@ abbrev pub fails_next : CallsState → Bool
 fails_next s = is_numbered s && is_failing s.failing (s.calls + 1)
 
 -- the next call takes its number, if there is one
-abbrev pub next_call : CallsState → CallsState
-next_call s = record s { calls = (if is_numbered s then s.calls + 1 else s.calls) }
+abbrev pub with_next_call : CallsState → CallsState
+with_next_call s = record s { calls = (if is_numbered s then s.calls + 1 else s.calls) }
 
 -- how many of the calls so far failed
 abbrev pub failures : CallsState → ℕ

@@ -7,7 +7,7 @@ use Rattle.cni_io.specs.declared.files.FileFault.{FileFault}
 use Rattle.cni_io.specs.declared.files.FileFault.TheVariants as file_fault
 use Rattle.cni_io.specs.declared.sink.SinkFault.{SinkFault}
 use Rattle.cni_io.specs.declared.sink.SinkFault.TheVariants.{Failed}
-use Rattle.cni_io.specs.FailingCalls.{CallsState, fails_next, next_call}
+use Rattle.cni_io.specs.FailingCalls.{CallsState, fails_next, with_next_call}
 use Rattle.cni_io.specs.Files.{StoredFiles, file_of}
 use Rattle.cni_io.specs.Sink.{taken_of, faults_after}
 
@@ -48,6 +48,6 @@ sink_after s bytes = let answer = next_write s (length bytes) in record {
   written = s.written ++ take (taken_of answer) bytes;
   most = s.most;
   room = s.room - taken_of answer;
-  writes = next_call s.writes;
+  writes = with_next_call s.writes;
   faults = faults_after s.faults answer (length bytes);
 }

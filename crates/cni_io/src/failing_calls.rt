@@ -1,7 +1,7 @@
 //! Which calls fail, by their numbers: what files and sinks in memory share.
 
 ghost use Rattle.std.specs.Prelude.{◌≡◌};
-ghost use Rattle.cni_io.specs.FailingCalls.{CallsState, fails_next, next_call};
+ghost use Rattle.cni_io.specs.FailingCalls.{CallsState, fails_next, with_next_call};
 
 use std::marker::Model;
 
@@ -30,7 +30,7 @@ impl FailingCalls {
     /// Counts a call, and says whether it fails.
     pub(crate) fn next_fails(&mut self) -> bool
         ensures fails { result ≡ fails_next self.old }
-        ensures counts { self.new ≡ next_call self.old }
+        ensures counts { self.new ≡ with_next_call self.old }
     {
         if self.calls == u64::MAX {
             return false;

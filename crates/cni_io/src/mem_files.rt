@@ -5,7 +5,7 @@ ghost use Rattle.std.specs.Str.{bytes_eq};
 ghost use Rattle.std.specs.Vec.{vec_capacity};
 ghost use Rattle.cni_io.specs.Faults.{CountsFault};
 ghost use Rattle.cni_io.specs.Files.{ReadsTold, IsFailed, GivesOrNoMemory, KeepsToLimit, bytes_of, file_of, answer_within};
-ghost use Rattle.cni_io.specs.FailingCalls.{next_call, failures};
+ghost use Rattle.cni_io.specs.FailingCalls.{with_next_call, failures};
 ghost use Rattle.cni_io.specs.Memory.{FilesState, stored_with, HasEachNameOnce, next_read};
 
 use crate::failing_calls::FailingCalls;
@@ -128,7 +128,7 @@ impl Files for MemFiles {
         ensures cause { CountsFault (failures self.old.reads) (failures self.new.reads)
             (IsFailed result) }
         ensures exact { GivesOrNoMemory result (next_read self.old limit name.now) }
-        ensures leaves { self.new ≡ record self.old { reads = next_call self.old.reads } }
+        ensures leaves { self.new ≡ record self.old { reads = with_next_call self.old.reads } }
     {
         let faults = self.faults;
         if self.reads.next_fails() {

@@ -16,12 +16,12 @@ portmap_rows =
     (codes "conditionsV4", EmptyList) ∷ (codes "conditionsV6", EmptyList) ∷ (codes "markMasqBit", AnyNumber)
     ∷ (codes "externalSetMarkChain", EmptyText) ∷ (codes "backend", Backend) ∷ []
 
-abbrev pub mappings_of : Field Data → Result Bool ConfError
-mappings_of f = optional (codes "capabilities") false (flag_within (codes "capabilities") (codes "portMappings") false) f
+abbrev pub mappings_flag : Field Data → Result Bool ConfError
+mappings_flag f = optional (codes "capabilities") false (flag_within (codes "capabilities") (codes "portMappings") false) f
 
 -- whether the plugin is to get the port mappings
 unfoldable pub mappings_at : Data → Result Bool ConfError
-mappings_at d = mappings_of (object_field (codes "capabilities") d)
+mappings_at d = mappings_flag (object_field (codes "capabilities") d)
 
 -- the configuration that a `portmap` plugin's object gives
 unfoldable pub portmap_at : Data → Result PortmapConf ConfError
