@@ -180,7 +180,7 @@ check-step w n c list call faulty old on keeps was = λ verb.
 -- ---- the answer
 
 pub was_checked : WasChecked
-was_checked w legal n c list a at listed verb is whole =
+was_checked w legal n c a at verb is = λ list listed whole.
     let es = own_entries n w.history in
     let host = host_at_end w n in
     let last = each-run KeepsAsked AsksCheck asked-kept check-start check-step w legal n c list at listed verb in

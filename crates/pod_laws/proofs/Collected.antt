@@ -174,7 +174,7 @@ answered-by w n c list a listed gc t over V1_1 false version disabled =
     ]
 
 pub collections_are_answered : CollectionsAreAnswered
-collections_are_answered w legal n c list a at listed gc is = elim (answer-due w legal n c list a at listed is) [
+collections_are_answered w legal n c a at gc is = λ list listed. elim (answer-due w legal n c list a at listed is) [
   | inl over ↦ answered-by w n c list a listed gc (stands_together w legal n c at (ap is_exclusive_verb gc)) over list.version list.disable_gc refl refl
   | inr cut ↦ inr (inr (inr (inr cut)))
 ]

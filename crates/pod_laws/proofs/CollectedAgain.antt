@@ -89,7 +89,7 @@ clean-of list c es old new (inr (inr (inr (inr cut)))) = absurd (let e : false �
 pub collections_in_a_row_keep : CollectionsInARowKeep
 collections_in_a_row_keep w legal m n d c at_m at_n row some answered =
     let found = listed-network w legal n c at_n (ap is_of_network row.second) in
-    let clean = clean-of found.0 c.command (own_entries n w.history) (host_at_start w n) (host_at_end w n) (collections_are_answered w legal n c found.0 answers.Yes at_n found.1 row.second answered) in
+    let clean = clean-of found.0 c.command (own_entries n w.history) (host_at_start w n) (host_at_end w n) (collections_are_answered w legal n c answers.Yes at_n row.second answered found.0 found.1) in
     let next = next-host w legal m n d c at_m at_n (record { first = ap is_exclusive_verb row.first; second = ap is_exclusive_verb row.second; round = row.round }) some clean.called in
     let P : List ℕ → List ValidAtt → Type 0 = λ network valid. host_at_end w n ≡ keep network valid (host_at_end w m) in
     let ended : P c.command.network c.command.valid = clean.leaves ∙ ap (keep c.command.network c.command.valid) next in

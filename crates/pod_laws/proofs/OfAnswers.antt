@@ -1,7 +1,7 @@
 -- What answers say, from what holds of the runs that came to them.
-use Rattle.std.proofs.Common.{◌≡◌, ℕ, Bool, true, false, List, [], ◌∷◌, ◌++◌, Option, Some, None, slice_get, refl, sym, ◌∙◌, ap, subst, inl, inr, ◌⊎◌, arith}
+use Rattle.std.proofs.Common.{◌≡◌, ℕ, Bool, true, false, List, [], Some, slice_get, refl, sym, ◌∙◌, ap, subst, inl, inr, ◌⊎◌}
 use Rattle.std.proofs.lemmas.Option.{none-some}
-use Rattle.std.proofs.lemmas.Bool.{both_ways}
+use Rattle.std.proofs.lemmas.Bool.{both_ways, cases_Bool}
 use Rattle.std.specs.Prelude.{if◌then◌else◌}
 use Rattle.std.specs.List.{list_all}
 use Rattle.cni_addr.specs.Lists.{distinct}
@@ -10,18 +10,19 @@ use Rattle.cni_result.specs.declared.error.CniError.{CniError}
 use Rattle.cni_result.specs.declared.result.AddResult.{AddResult}
 use Rattle.net_conf.specs.declared.list.NetList.{NetList}
 use Rattle.pod_file.specs.declared.command.Command.{Command}
+use Rattle.pod_file.specs.Commands.{is_of_network}
+use Rattle.pod_file.specs.declared.command.Verb.{Verb}
 use Rattle.pod_file.specs.declared.command.Verb.TheVariants as verbs
 use Rattle.kernel_types.specs.Equal.{addr_eq}
 use Rattle.kernel_types.specs.Replies.{is_fault}
 use Rattle.kernel_types.specs.Sound.{IsSound}
-use Rattle.kernel_types.proofs.ListLemmas.{list_any-append_right}
 use Rattle.kernel_types.specs.declared.call.Call.{Call}
 use Rattle.kernel_types.specs.declared.call.Reply.{Reply}
-use Rattle.kernel_types.specs.declared.call.Reply.TheVariants.{Fault}
 use Rattle.plan_words.specs.Share.{Share, share_of}
 use Rattle.cni_verbs.specs.Answers.{answer_of, error_of}
-use Rattle.cni_verbs.specs.CommandWords.{add_refusal, att_of, del_refusal, mappings_of}
-use Rattle.cni_verbs.specs.Script.{State, Over, leases_in}
+use Rattle.cni_verbs.specs.CommandWords.{att_of, mappings_of}
+use Rattle.cni_verbs.specs.Script.{State, Collecting, Over, leases_in}
+use Rattle.cni_verbs.specs.Sweep.{Work}
 use Rattle.cni_verbs.specs.Wanted.{result_of_add, sets_of, wanted}
 use Rattle.cni_verbs.specs.declared.answer.Answer.{Answer}
 use Rattle.cni_verbs.specs.declared.answer.Answer.TheVariants as answers
@@ -34,15 +35,17 @@ use Rattle.pod_workers.specs.World.{World, own_replies}
 use Rattle.pod_workers.specs.declared.plan.Entry.{Entry}
 use Rattle.host_local.specs.Laws.{AreCandidates}
 use Rattle.pod_laws.specs.Added.{WasAdded, HasMade}
-use Rattle.pod_laws.specs.Deleted.{WasDeleted, HasDeleted, IsUndeletedByWords, IsUndeletedByFault, WasNotDeleted, AnswersOfDel, IsAnswerOfDel, CalmIsDeleted}
+use Rattle.pod_laws.specs.Deleted.{WasDeleted, HasDeleted, IsUndeletedFor, IsYes, NothingFails, WasNotDeleted, AnswersOfDel, CalmIsDeleted}
 use Rattle.pod_laws.specs.Moments.{has_fault, host_at_end, own_entries}
-use Rattle.pod_laws.specs.Refused.{is_granted, lets_go_on, IsCause, no_namespace, name_taken, pool_empty, no_master, fault, UnrefusedIsAdded, WasRefused, IsRefusedFor, AnswersOfAdd, IsAnswerOfAdd, BeginLeavesTheHost}
-use Rattle.pod_laws.specs.Answers.{is_cut_off}
+use Rattle.pod_laws.specs.Refused.{is_granted, lets_go_on, IsCause, no_namespace, name_taken, pool_empty, no_master, fault, IsResult, NothingRefuses, UnrefusedIsAdded, WasRefused, IsRefusedFor, AnswersOfAdd, BeginLeavesTheHost}
+use Rattle.pod_laws.specs.Answers.{EachIsOrRefused, EachIsWhere, EachRefusal, IsRefusal, is_cut_off}
 use Rattle.pod_laws.proofs.Achieved.{Achieved, IsAddedWith, achieved-end, achieved-start, achieved-step}
-use Rattle.pod_laws.proofs.Due.{IsSwept, answer-due}
+use Rattle.pod_laws.proofs.Asking.{fault-last}
+use Rattle.pod_laws.proofs.CutOff.{over-by}
+use Rattle.pod_laws.proofs.Due.{IsSwept}
 use Rattle.pod_laws.proofs.LeasedRuns.{IsOverLeased, LeasedRun, leased-end, leased-start, leased-step, leases-distinct, sound-at_end}
 use Rattle.pod_laws.proofs.States.{IsNoResult, IsOtherVerb, swept-no_result, not-both}
-use Rattle.pod_laws.proofs.Runs.{every-run, listed-command}
+use Rattle.pod_laws.proofs.Runs.{RunFact, every-run, listed-network}
 use Rattle.pod_laws.proofs.Undoing.{Undoing, Ends, undone-end, undone-start, undone-step}
 use Rattle.pod_laws.proofs.Tests.{middle-passes}
 
@@ -77,33 +80,72 @@ pub record IsEnded (w : World) (n : ℕ) (c : Command) (list : NetList) (a : Ans
   pub leased : IsOverLeased list ending given
   pub ends : Ends c (own_entries n w.history) ending (share_of (att_of c) (host_at_end w n))
 
-achieved-over : (list : NetList) (c : Command) (es : List Entry) (st : State) (ending : Ending) (given : List Addr) (s : Share) → (st ≡ Over ending given) ⊎ IsSwept st ending → Achieved list c es st s → IsAddedWith list c es ending given s
-achieved-over list c es st ending given s (inl is) h = subst (λ u. Achieved list c es u s) is h
-achieved-over list c es st ending given s (inr swept) h = achieved-end list c es ending given s (swept-ending st ending swept)
+-- what a run's last state says of its ending, where a garbage collection says as much of each ending without a result
+at-over : (F : RunFact) (list : NetList) (c : Command) (es : List Entry) (st : State) (ending : Ending) (given : List Addr) (s : Share)
+    → ((work : Work) (faults : List ℕ) → F list c es (Collecting work faults) s → IsNoResult ending → F list c es (Over ending given) s) → (st ≡ Over ending given) ⊎ IsSwept st ending → F list c es st s → F list c es (Over ending given) s
+at-over F list c es st ending given s collected (inl is) h = subst (λ u. F list c es u s) is h
+at-over F list c es st ending given s collected (inr swept) h = collected swept.work swept.faults (subst (λ u. F list c es u s) swept.collecting h) (swept-ending st ending swept)
 
-leased-over : (list : NetList) (c : Command) (es : List Entry) (st : State) (ending : Ending) (given : List Addr) (s : Share) → (st ≡ Over ending given) ⊎ IsSwept st ending → LeasedRun list c es st s → IsOverLeased list ending given
-leased-over list c es st ending given s (inl is) h = subst (λ u. LeasedRun list c es u s) is h
-leased-over list c es st ending given s (inr swept) h = leased-end list ending given (swept-ending st ending swept)
-
-undone-over : (list : NetList) (c : Command) (es : List Entry) (st : State) (ending : Ending) (given : List Addr) (s : Share) → (st ≡ Over ending given) ⊎ IsSwept st ending → Undoing list c es st s → Ends c es ending s
-undone-over list c es st ending given s (inl is) h = subst (λ u. Undoing list c es u s) is h
-undone-over list c es st ending given s (inr swept) h = undone-end c es ending s (subst (λ u. Undoing list c es u s) swept.collecting h) (swept-ending st ending swept)
-
-ended : (w : World) → Legal w → (n : ℕ) (c : Placed) (list : NetList) (a : Answer) → slice_get (commands_of w.plan) n ≡ Some c → list_for w.plan c.command ≡ Some list → slice_get w.answers n ≡ Some (Some a)
-    → IsEnded w n c.command list a ⊎ (is_cut_off a ≡ true)
-ended w legal n c list a at listed is =
+ended : (w : World) → Legal w → (n : ℕ) (c : Placed) (list : NetList) (a : Answer) → slice_get (commands_of w.plan) n ≡ Some c → list_for w.plan c.command ≡ Some list → slice_get w.answers n ≡ Some (Some a) → is_cut_off a ≡ false
+    → IsEnded w n c.command list a
+ended w legal n c list a at listed is whole =
+    let over = over-by w legal n c list a at listed is whole in
     let es = own_entries n w.history in
     let s = share_of (att_of c.command) (host_at_end w n) in
-    elim (answer-due w legal n c list a at listed is) [
-      | inl over ↦ inl (record {
-        ending = over.ending;
-        given = over.given;
-        says = says list c.command over.given over.ending a over.answer_is;
-        achieved = achieved-over list c.command es _ over.ending over.given s over.state_is (every-run Achieved achieved-start achieved-step w legal n c list at listed);
-        leased = leased-over list c.command es _ over.ending over.given s over.state_is (every-run LeasedRun leased-start leased-step w legal n c list at listed);
-        ends = undone-over list c.command es _ over.ending over.given s over.state_is (every-run Undoing undone-start undone-step w legal n c list at listed);
-      })
-      | inr cut ↦ inr cut
+    let ending = over.ending in
+    let given = over.given in
+    record {
+      ending = ending;
+      given = given;
+      says = says list c.command given ending a over.answer_is;
+      achieved = at-over Achieved list c.command es _ ending given s (λ work faults h none. achieved-end list c.command es ending given s none) over.state_is (every-run Achieved achieved-start achieved-step w legal n c list at listed);
+      leased = at-over LeasedRun list c.command es _ ending given s (λ work faults h none. leased-end list ending given none) over.state_is (every-run LeasedRun leased-start leased-step w legal n c list at listed);
+      ends = at-over Undoing list c.command es _ ending given s (λ work faults other none. undone-end c.command es ending s other none) over.state_is (every-run Undoing undone-start undone-step w legal n c list at listed);
+    }
+
+-- ---- answers by the verb
+
+-- an answer is so, or a refusal, where each ending of such a run says so
+each-answered : (verb : Verb) (Is : Answer → Type 0) → is_of_network verb ≡ true
+    → ((c : Command) (list : NetList) (es : List Entry) (s : Share) (a : Answer) (ending : Ending) (given : List Addr) → c.verb ≡ verb → Says list c given ending a → Ends c es ending s → Is a ⊎ IsRefusal a) → EachIsOrRefused verb Is
+each-answered verb Is network by w legal n c a at is_verb is = elim (cases_Bool (is_cut_off a)) [
+  | inl cut ↦ inl (inr cut)
+  | inr whole ↦
+      let found = listed-network w legal n c at (ap is_of_network is_verb ∙ network) in
+      let e = ended w legal n c found.0 a at found.1 is whole in
+      elim (by c.command found.0 (own_entries n w.history) (share_of (att_of c.command) (host_at_end w n)) a e.ending e.given is_verb e.says e.ends) [
+        | inl so ↦ inl (inl so)
+        | inr refused ↦ inr refused
+      ]
+]
+
+-- a run that was refused ended so
+refused-ending : (list : NetList) (c : Command) (given : List Addr) (ending : Ending) (error : CniError) → Says list c given ending (answers.Refused error) → (cause : Cause) × (error ≡ error_of list.version c cause) × (ending ≡ Refused cause)
+refused-ending list c given Added error says = cc
+refused-ending list c given Yes error says = cc
+refused-ending list c given (Skipped skip) error says = cc
+refused-ending list c given Versions error says = cc
+refused-ending list c given (Refused cause) error says = (cause, let e = says in cc, refl)
+
+-- a refusal is for what the ending of such a run says
+each-refused : (verb : Verb) (IsFor : Command → List Entry → Share → Cause → Type 0) → ((c : Command) (es : List Entry) (s : Share) (cause : Cause) → c.verb ≡ verb → Ends c es (Refused cause) s → IsFor c es s cause) → EachRefusal verb IsFor
+each-refused verb IsFor why w legal n c a at is_verb is = λ list listed error refused.
+    let es = own_entries n w.history in
+    let s = share_of (att_of c.command) (host_at_end w n) in
+    let e = ended w legal n c list a at listed is (ap is_cut_off refused) in
+    let r = refused-ending list c.command e.given e.ending error (subst (Says list c.command e.given e.ending) refused e.says) in
+    (r.0, r.1, why c.command es s r.0 is_verb (subst (λ x. Ends c.command es x s) r.2 e.ends))
+
+-- what no cause goes with is answered so
+each-where : (verb : Verb) (AreGood : Command → List Entry → Type 0) (Is : Answer → Type 0) (IsFor : Command → List Entry → Share → Cause → Type 0) → is_of_network verb ≡ true → EachIsOrRefused verb Is → EachRefusal verb IsFor
+    → ((c : Command) (es : List Entry) (s : Share) (cause : Cause) → AreGood c es → IsFor c es s cause → ⊥) → EachIsWhere verb AreGood Is
+each-where verb AreGood Is IsFor network answered refused never w legal n c a at is_verb is = λ good.
+    elim (answered w legal n c a at is_verb is) [
+      | inl so ↦ so
+      | inr r ↦
+          let found = listed-network w legal n c at (ap is_of_network is_verb ∙ network) in
+          let why = refused w legal n c a at is_verb is found.0 found.1 r.0 r.1 in
+          absurd (never c.command (own_entries n w.history) (share_of (att_of c.command) (host_at_end w n)) why.0 good why.2)
     ]
 
 -- ---- ADD
@@ -129,53 +171,28 @@ added-by w n c list r (Refused cause) given says was candidates sound ends = cc
 
 pub was_added : WasAdded
 was_added w legal n c list r at listed is =
-    elim (ended w legal n c list (answers.Added r) at listed is) [
-      | inl e ↦ added-by w n c.command list r e.ending e.given e.says e.achieved e.leased (sound-at_end w legal n) e.ends
-      | inr cut ↦ absurd (both_ways (is_cut_off (answers.Added r)) refl cut)
-    ]
+    let e = ended w legal n c list (answers.Added r) at listed is refl in
+    added-by w n c.command list r e.ending e.given e.says e.achieved e.leased (sound-at_end w legal n) e.ends
 
--- a run that was refused ended so
-refused-ending : (list : NetList) (c : Command) (given : List Addr) (ending : Ending) (error : CniError) → Says list c given ending (answers.Refused error) → (cause : Cause) × (error ≡ error_of list.version c cause) × (ending ≡ Refused cause)
-refused-ending list c given Added error says = cc
-refused-ending list c given Yes error says = cc
-refused-ending list c given (Skipped skip) error says = cc
-refused-ending list c given Versions error says = cc
-refused-ending list c given (Refused cause) error says = (cause, let e = says in cc, refl)
-
-abbrev IsRefusedWith : NetList → Command → List Entry → Share → CniError → Type 0
-IsRefusedWith list c es s error = (cause : Cause) × (error ≡ error_of list.version c cause) × IsRefusedFor c es s cause
-
-refused-by : (c : Command) (list : NetList) (es : List Entry) (s : Share) (error : CniError) (ending : Ending) (given : List Addr) → c.verb ≡ verbs.Add → Says list c given ending (answers.Refused error) → Ends c es ending s → IsRefusedWith list c es s error
-refused-by c list es s error ending given verb says ends =
-    let r = refused-ending list c given ending error says in
-    let by_cause : Ends c es (Refused r.0) s = subst (λ x. Ends c es x s) r.2 ends in
-    elim by_cause [
-      | inl why ↦ (r.0, r.1, why.why)
-      | inr (inl del) ↦ absurd (not-both c verb del.verb)
-      | inr (inr other) ↦ absurd (subst IsOtherVerb verb other)
-    ]
-
-pub was_refused : WasRefused
-was_refused w legal n c list error at listed verb is =
-    elim (ended w legal n c list (answers.Refused error) at listed is) [
-      | inl e ↦ refused-by c.command list (own_entries n w.history) (share_of (att_of c.command) (host_at_end w n)) error e.ending e.given verb e.says e.ends
-      | inr cut ↦ absurd (both_ways (is_cut_off (answers.Refused error)) refl cut)
-    ]
-
-answer-add : (c : Command) (list : NetList) (es : List Entry) (s : Share) (a : Answer) (ending : Ending) (given : List Addr) → c.verb ≡ verbs.Add → Says list c given ending a → Ends c es ending s → IsAnswerOfAdd a
-answer-add c list es s a Added given verb says ends = inl (inl (_, says))
+answer-add : (c : Command) (list : NetList) (es : List Entry) (s : Share) (a : Answer) (ending : Ending) (given : List Addr) → c.verb ≡ verbs.Add → Says list c given ending a → Ends c es ending s → IsResult a ⊎ IsRefusal a
+answer-add c list es s a Added given verb says ends = inl (_, says)
 answer-add c list es s a Yes given verb says ends = elim ends [ inl del ↦ absurd (not-both c verb del.verb) | inr other ↦ absurd (subst IsOtherVerb verb other) ]
 answer-add c list es s a (Skipped skip) given verb says ends = absurd (subst IsOtherVerb verb ends)
 answer-add c list es s a Versions given verb says ends = absurd (subst IsOtherVerb verb ends)
 answer-add c list es s a (Refused cause) given verb says ends = inr (_, says)
 
 pub answers_of_add : AnswersOfAdd
-answers_of_add w legal n c a at verb is =
-    let has_list = listed-command w legal n c at (inl verb) in
-    elim (ended w legal n c has_list.0 a at has_list.1 is) [
-      | inl e ↦ answer-add c.command has_list.0 (own_entries n w.history) (share_of (att_of c.command) (host_at_end w n)) a e.ending e.given verb e.says e.ends
-      | inr cut ↦ inl (inr cut)
-    ]
+answers_of_add = each-answered verbs.Add IsResult refl answer-add
+
+why-refused : (c : Command) (es : List Entry) (s : Share) (cause : Cause) → c.verb ≡ verbs.Add → Ends c es (Refused cause) s → IsRefusedFor c es s cause
+why-refused c es s cause verb ends = elim ends [
+  | inl add ↦ add.why
+  | inr (inl del) ↦ absurd (not-both c verb del.verb)
+  | inr (inr other) ↦ absurd (subst IsOtherVerb verb other)
+]
+
+pub was_refused : WasRefused
+was_refused = each-refused verbs.Add IsRefusedFor why-refused
 
 same-either : {X : Type 0} (b : Bool) (x : X) → (if b then x else x) ≡ x
 same-either true x = refl
@@ -194,52 +211,32 @@ deleted-by c list es s Versions given verb says ends = cc
 deleted-by c list es s (Refused cause) given verb says ends = cc
 
 pub was_deleted : WasDeleted
-was_deleted w legal n c at verb is =
-    let has_list = listed-command w legal n c at (inr verb) in
-    elim (ended w legal n c has_list.0 answers.Yes at has_list.1 is) [
-      | inl e ↦ deleted-by c.command has_list.0 (own_entries n w.history) (share_of (att_of c.command) (host_at_end w n)) e.ending e.given verb e.says e.ends
-      | inr cut ↦ absurd (both_ways (is_cut_off answers.Yes) refl cut)
-    ]
+was_deleted w legal n c a at verb is = λ yes.
+    let found = listed-network w legal n c at (ap is_of_network verb) in
+    let e = ended w legal n c found.0 a at found.1 is (ap is_cut_off yes) in
+    deleted-by c.command found.0 (own_entries n w.history) (share_of (att_of c.command) (host_at_end w n)) e.ending e.given verb (subst (Says found.0 c.command e.given e.ending) yes e.says) e.ends
 
-abbrev IsUndeletedWith : NetList → Command → List Entry → CniError → Type 0
-IsUndeletedWith list c es error = (cause : Cause) × (error ≡ error_of list.version c cause) × (IsUndeletedByWords c es cause ⊎ IsUndeletedByFault c es cause)
-
-undeleted-by : (c : Command) (list : NetList) (es : List Entry) (s : Share) (error : CniError) (ending : Ending) (given : List Addr) → c.verb ≡ verbs.Del → Says list c given ending (answers.Refused error) → Ends c es ending s → IsUndeletedWith list c es error
-undeleted-by c list es s error ending given verb says ends =
-    let r = refused-ending list c given ending error says in
-    let by_cause : Ends c es (Refused r.0) s = subst (λ x. Ends c es x s) r.2 ends in
-    elim by_cause [
-      | inl add ↦ absurd (not-both c add.verb verb)
-      | inr (inl why) ↦ (r.0, r.1, why.why)
-      | inr (inr other) ↦ absurd (subst IsOtherVerb verb other)
-    ]
-
-pub was_not_deleted : WasNotDeleted
-was_not_deleted w legal n c list error at listed verb is =
-    elim (ended w legal n c list (answers.Refused error) at listed is) [
-      | inl e ↦ undeleted-by c.command list (own_entries n w.history) (share_of (att_of c.command) (host_at_end w n)) error e.ending e.given verb e.says e.ends
-      | inr cut ↦ absurd (both_ways (is_cut_off (answers.Refused error)) refl cut)
-    ]
-
-answer-del : (c : Command) (list : NetList) (es : List Entry) (s : Share) (a : Answer) (ending : Ending) (given : List Addr) → c.verb ≡ verbs.Del → Says list c given ending a → Ends c es ending s → IsAnswerOfDel a
+answer-del : (c : Command) (list : NetList) (es : List Entry) (s : Share) (a : Answer) (ending : Ending) (given : List Addr) → c.verb ≡ verbs.Del → Says list c given ending a → Ends c es ending s → IsYes a ⊎ IsRefusal a
 answer-del c list es s a Added given verb says ends = absurd (not-both c ends.verb verb)
-answer-del c list es s a Yes given verb says ends = inl (inl says)
+answer-del c list es s a Yes given verb says ends = inl says
 answer-del c list es s a (Skipped skip) given verb says ends = absurd (subst IsOtherVerb verb ends)
 answer-del c list es s a Versions given verb says ends = absurd (subst IsOtherVerb verb ends)
 answer-del c list es s a (Refused cause) given verb says ends = inr (_, says)
 
 pub answers_of_del : AnswersOfDel
-answers_of_del w legal n c a at verb is =
-    let has_list = listed-command w legal n c at (inr verb) in
-    elim (ended w legal n c has_list.0 a at has_list.1 is) [
-      | inl e ↦ answer-del c.command has_list.0 (own_entries n w.history) (share_of (att_of c.command) (host_at_end w n)) a e.ending e.given verb e.says e.ends
-      | inr cut ↦ inl (inr cut)
-    ]
+answers_of_del = each-answered verbs.Del IsYes refl answer-del
+
+why-undeleted : (c : Command) (es : List Entry) (s : Share) (cause : Cause) → c.verb ≡ verbs.Del → Ends c es (Refused cause) s → IsUndeletedFor c es cause
+why-undeleted c es s cause verb ends = elim ends [
+  | inl add ↦ absurd (not-both c add.verb verb)
+  | inr (inl del) ↦ del.why
+  | inr (inr other) ↦ absurd (subst IsOtherVerb verb other)
+]
+
+pub was_not_deleted : WasNotDeleted
+was_not_deleted = each-refused verbs.Del (λ c es s. IsUndeletedFor c es) why-undeleted
 
 -- ---- where nothing refuses
-
-some-none : {X : Type 0} (o : Option X) (x : X) → o ≡ Some x → o ≡ None → ⊥
-some-none o x a b = none-some x (sym b ∙ a)
 
 cause-refuses : (number : ℕ) (call : Call) (reply : Reply) (cause : Cause) → IsCause number call reply cause → is_granted reply ≡ false
 cause-refuses _ _ _ _ (no_namespace number call) = refl
@@ -248,33 +245,20 @@ cause-refuses _ _ _ _ (pool_empty number att set ranges) = refl
 cause-refuses _ _ _ _ (no_master number link) = refl
 cause-refuses _ _ _ _ (fault number call) = refl
 
-unrefused : (c : Command) (es : List Entry) (s : Share) (cause : Cause) → add_refusal c ≡ None → list_all lets_go_on es ≡ true → IsRefusedFor c es s cause → ⊥
-unrefused c es s cause words go_on (inl r) = some-none (add_refusal c) cause r.words words
-unrefused c es s cause words go_on (inr (inl r)) =
-    both_ways (lets_go_on r.by) (cause-refuses 1 r.by.call r.by.reply cause r.decides) (middle-passes lets_go_on [] r.by [] (ap (list_all lets_go_on) (sym r.alone) ∙ go_on))
-unrefused c es s cause words go_on (inr (inr r)) =
+never-refused : (c : Command) (es : List Entry) (s : Share) (cause : Cause) → NothingRefuses c es → IsRefusedFor c es s cause → ⊥
+never-refused c es s cause good (inl r) = none-some cause (sym good.0 ∙ r.words)
+never-refused c es s cause good (inr (inl r)) =
+    both_ways (lets_go_on r.by) (cause-refuses 1 r.by.call r.by.reply cause r.decides) (middle-passes lets_go_on [] r.by [] (ap (list_all lets_go_on) (sym r.alone) ∙ good.1))
+never-refused c es s cause good (inr (inr r)) =
     let f = r.first in
-    both_ways (lets_go_on f.by) f.refuses (middle-passes lets_go_on f.granted f.by f.later (ap (list_all lets_go_on) (sym f.are) ∙ go_on))
+    both_ways (lets_go_on f.by) f.refuses (middle-passes lets_go_on f.granted f.by f.later (ap (list_all lets_go_on) (sym f.are) ∙ good.1))
 
 pub unrefused_is_added : UnrefusedIsAdded
-unrefused_is_added w legal n c a at verb words go_on is =
-    let has_list = listed-command w legal n c at (inl verb) in
-    elim (answers_of_add w legal n c a at verb is) [
-      | inl good ↦ good
-      | inr refused ↦ absurd (let r = was_refused w legal n c has_list.0 refused.0 at has_list.1 verb (is ∙ ap (λ x. Some (Some x)) refused.1) in unrefused c.command (own_entries n w.history) _ r.0 words go_on r.2)
-    ]
+unrefused_is_added = each-where verbs.Add NothingRefuses IsResult IsRefusedFor refl answers_of_add was_refused never-refused
 
-faulted-last : (es calm : List Entry) (by : Entry) → es ≡ calm ++ by ∷ [] → by.reply ≡ Fault → has_fault es ≡ true
-faulted-last es calm by are reply = ap has_fault are ∙ list_any-append_right (λ e. is_fault e.reply) calm (by ∷ []) (let f : is_fault by.reply ≡ true = ap is_fault reply in grind (arith, f))
-
-undeleted : (c : Command) (es : List Entry) (cause : Cause) → del_refusal c ≡ None → has_fault es ≡ false → IsUndeletedByWords c es cause ⊎ IsUndeletedByFault c es cause → ⊥
-undeleted c es cause words calm (inl r) = some-none (del_refusal c) cause r.words words
-undeleted c es cause words calm (inr r) = both_ways (has_fault es) calm (faulted-last es r.calm r.by r.are r.fault)
+never-fails : (c : Command) (es : List Entry) (s : Share) (cause : Cause) → NothingFails c es → IsUndeletedFor c es cause → ⊥
+never-fails c es s cause good (inl r) = none-some cause (sym good.0 ∙ r.words)
+never-fails c es s cause good (inr r) = both_ways (has_fault es) good.1 (ap has_fault r.are ∙ fault-last r.calm r.by (ap is_fault r.fault))
 
 pub calm_is_deleted : CalmIsDeleted
-calm_is_deleted w legal n c a at verb words calm is =
-    let has_list = listed-command w legal n c at (inr verb) in
-    elim (answers_of_del w legal n c a at verb is) [
-      | inl good ↦ good
-      | inr refused ↦ absurd (let r = was_not_deleted w legal n c has_list.0 refused.0 at has_list.1 verb (is ∙ ap (λ x. Some (Some x)) refused.1) in undeleted c.command (own_entries n w.history) r.0 words calm r.2)
-    ]
+calm_is_deleted = each-where verbs.Del NothingFails IsYes (λ c es s. IsUndeletedFor c es) refl answers_of_del was_not_deleted never-fails

@@ -18,6 +18,7 @@ use Rattle.plan_words.specs.Share.{Share, share_of, no_objects}
 use Rattle.cni_verbs.specs.CommandWords.{att_of}
 use Rattle.cni_verbs.specs.Script.{State, AtBegin, BeforeLeases, Leasing, AfterLeases, ReadingCache, Deleting, FindingEntry, Asking, Changing, Collecting, Over, Calls, turn}
 use Rattle.cni_verbs.specs.Wanted.{deletion}
+use Rattle.cni_verbs.specs.declared.answer.Answer.TheVariants as answers
 use Rattle.pod_workers.specs.Legal.{Legal}
 use Rattle.pod_workers.specs.Plans.{Placed}
 use Rattle.pod_workers.specs.World.{World, entry_of, host_of, host_on}
@@ -127,7 +128,7 @@ gone_stays_gone w legal att before between later is without gone = stays-through
 pub repeated_deletions_leave : RepeatedDeletionsLeave
 repeated_deletions_leave w legal n m c d between later e at verb answer there again same number is without =
     let past = until_last n w.history in
-    let gone : IsGone w.plan (att_of c.command) past = (was_deleted w legal n c at verb answer).gone in
+    let gone : IsGone w.plan (att_of c.command) past = (was_deleted w legal n c answers.Yes at verb answer refl).gone in
     let still : IsGone w.plan (att_of c.command) (past ++ between) = gone_stays_gone w legal (att_of c.command) past between (e ∷ later) is without gone in
     let own = each_deletion_is_own w legal (past ++ between) later e is m d there number again in
     own.repeated (subst (λ a. IsGone w.plan a (past ++ between)) (sym same) still)

@@ -153,11 +153,3 @@ pub listed-network : (w : World) → Legal w → (n : ℕ) (c : Placed) → slic
 listed-network w legal n c at network =
     listed-some (is_of_network c.command.verb) (list_for w.plan c.command) network
     (list_all-at (λ (d : Placed). not (is_of_network d.command.verb) || is_some (list_for w.plan d.command)) (commands_of w.plan) n c (fine w legal).plan.networks at)
-
-of-network : (c : Command) → (c.verb ≡ verbs.Add) ⊎ (c.verb ≡ verbs.Del) → is_of_network c.verb ≡ true
-of-network c (inl verb) = ap is_of_network verb
-of-network c (inr verb) = ap is_of_network verb
-
--- so has that of an ADD and of a DEL
-pub listed-command : (w : World) → Legal w → (n : ℕ) (c : Placed) → slice_get (commands_of w.plan) n ≡ Some c → (c.command.verb ≡ verbs.Add) ⊎ (c.command.verb ≡ verbs.Del) → (list : NetList) × (list_for w.plan c.command ≡ Some list)
-listed-command w legal n c at verb = listed-network w legal n c at (of-network c.command verb)

@@ -165,7 +165,7 @@ status-step w n c list call faulty old on keeps was = λ verb.
 -- ---- the answer
 
 pub was_available : WasAvailable
-was_available w legal n c list a at listed verb is whole =
+was_available w legal n c a at verb is = λ list listed whole.
     let es = own_entries n w.history in
     let host = host_at_end w n in
     let last = each-run KeepsAsked AsksStatus asked-kept status-start status-step w legal n c list at listed verb in

@@ -37,7 +37,7 @@ use Rattle.pod_workers.specs.declared.plan.Entry.{Entry}
 use Rattle.pod_workers.proofs.Planned.{LeftArePlanned}
 use Rattle.pod_workers.proofs.Sound.{sound_host}
 use Rattle.pod_workers.proofs.StepsLeft.{host-made}
-use Rattle.pod_laws.specs.Deleted.{HasDeleted, IsUndeletedByWords, IsUndeletedByFault}
+use Rattle.pod_laws.specs.Deleted.{HasDeleted, IsUndeletedFor}
 use Rattle.pod_laws.specs.Moments.{has_fault, own_entries}
 use Rattle.pod_laws.specs.Refused.{is_granted, lets_go_on, FirstRefusal, IsRefusedFor}
 use Rattle.pod_laws.proofs.Causes.{Refuses, begin-refused, plan-refused, lease-refused}
@@ -94,7 +94,7 @@ pub record IsAddRefused (c : Command) (es : List Entry) (s : Share) (cause : Cau
 
 pub record IsDelRefused (c : Command) (es : List Entry) (cause : Cause) : Type 0 where
   pub verb : c.verb ≡ verbs.Del
-  pub why : IsUndeletedByWords c es cause ⊎ IsUndeletedByFault c es cause
+  pub why : IsUndeletedFor c es cause
 
 pub record IsDelDone (c : Command) (es : List Entry) (s : Share) : Type 0 where
   pub verb : c.verb ≡ verbs.Del

@@ -44,6 +44,6 @@ told-over list c st a is over = elim over.state_is [
 ]
 
 pub versions_are_the_lists : VersionsAreTheLists
-versions_are_the_lists w legal n c list a at listed verb is whole =
+versions_are_the_lists w legal n c a at verb is = λ list listed whole.
     let tells = every-run OnlyTells tells-start tells-step w legal n c list at listed verb in
     (tells.0, told-over list c.command _ a tells.1 (over-by w legal n c list a at listed is whole))

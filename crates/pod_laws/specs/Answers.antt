@@ -1,12 +1,24 @@
--- The kinds of an answer, and how a run that asks ends.
-use Rattle.std.specs.Prelude.{◌≡◌, Bool, true, false, List, length}
+-- The kinds of an answer, what is said of each answer of a verb, and how a run that asks ends.
+use Rattle.std.specs.Prelude.{◌≡◌, ℕ, ◌⊎◌, Bool, true, false, List, [], length, Option, Some, slice_get}
 use Rattle.cni_result.specs.declared.error.CniError.{CniError}
+use Rattle.cni_verbs.specs.Answers.{answer_of_ending, error_of}
+use Rattle.cni_verbs.specs.CommandWords.{att_of}
 use Rattle.cni_verbs.specs.declared.answer.Answer.{Answer}
 use Rattle.cni_verbs.specs.declared.answer.Answer.TheVariants as answers
+use Rattle.cni_verbs.specs.declared.answer.Cause.{Cause}
 use Rattle.cni_verbs.specs.declared.answer.Cause.TheVariants as causes
 use Rattle.cni_verbs.specs.declared.answer.Ending.{Ending}
 use Rattle.cni_verbs.specs.declared.answer.Ending.TheVariants.{Yes, Refused}
+use Rattle.kernel_types.specs.declared.object.Host.{Host}
+use Rattle.net_conf.specs.declared.list.NetList.{NetList}
+use Rattle.plan_words.specs.Share.{Share, share_of}
+use Rattle.pod_file.specs.declared.command.Command.{Command}
+use Rattle.pod_file.specs.declared.command.Verb.{Verb}
+use Rattle.pod_workers.specs.Legal.{Legal}
+use Rattle.pod_workers.specs.Plans.{Placed, commands_of, list_for}
+use Rattle.pod_workers.specs.World.{World}
 use Rattle.pod_workers.specs.declared.plan.Entry.{Entry}
+use Rattle.pod_laws.specs.Moments.{host_at_end, own_entries}
 
 -- the book gave the answer without the script: memory was refused, or the command was stopped
 abbrev pub is_cut_off : Answer → Bool
@@ -16,6 +28,44 @@ is_cut_off answer = false
 
 abbrev pub IsRefusal : Answer → Type 0
 IsRefusal a = (error : CniError) × (a ≡ answers.Refused error)
+
+-- by its words, before any call
+pub record IsRefusedByWords (refusal : Option Cause) (entries : List Entry) (cause : Cause) : Type 0 where
+  pub words : refusal ≡ Some cause
+  pub no_entry : entries ≡ []
+
+-- it is so, unless memory was refused or the command was stopped
+abbrev pub OrCutOff : (Answer → Type 0) → Answer → Type 0
+OrCutOff Is a = Is a ⊎ (is_cut_off a ≡ true)
+
+-- ---- each answer of a verb, in every legal history, whatever was interleaved, stopped, faulted or refused memory
+
+-- this holds of it, of its world and of its command, at place n
+abbrev pub EachAnswer : Verb → (World → ℕ → Command → Answer → Type 0) → Type 0
+EachAnswer verb Holds = (w : World) → Legal w → (n : ℕ) (c : Placed) (a : Answer)
+    → slice_get (commands_of w.plan) n ≡ Some c → c.command.verb ≡ verb → slice_get w.answers n ≡ Some (Some a) → Holds w n c.command a
+
+-- and of the list of its network
+abbrev pub EachListAnswer : Verb → (World → ℕ → Command → NetList → Answer → Type 0) → Type 0
+EachListAnswer verb Holds = EachAnswer verb (λ w n c a. (list : NetList) → list_for w.plan c ≡ Some list → Holds w n c list a)
+
+-- it is so or a refusal, unless it was cut off
+abbrev pub EachIsOrRefused : Verb → (Answer → Type 0) → Type 0
+EachIsOrRefused verb Is = EachAnswer verb (λ w n c a. OrCutOff Is a ⊎ IsRefusal a)
+
+-- it is so, unless it was cut off, where its command and the entries are good
+abbrev pub EachIsWhere : Verb → (Command → List Entry → Type 0) → (Answer → Type 0) → Type 0
+EachIsWhere verb AreGood Is = EachAnswer verb (λ w n c a. AreGood c (own_entries n w.history) → OrCutOff Is a)
+
+-- a refusal names a cause, which is so of its command, its entries and what its attachment has at the last of them
+abbrev pub EachRefusal : Verb → (Command → List Entry → Share → Cause → Type 0) → Type 0
+EachRefusal verb IsFor = EachListAnswer verb (λ w n c list a. (error : CniError) → a ≡ answers.Refused error
+    → (cause : Cause) × (error ≡ error_of list.version c cause) × IsFor c (own_entries n w.history) (share_of (att_of c) (host_at_end w n)) cause)
+
+-- it is by an ending, unless it was cut off, which is so of its command's entries and of the host at the last of them
+abbrev pub EachEnding : Verb → (NetList → Command → List Entry → Host → Ending → Type 0) → Type 0
+EachEnding verb EndsSo = EachListAnswer verb (λ w n c list a. is_cut_off a ≡ false
+    → (ending : Ending) × (a ≡ answer_of_ending list c ending []) × EndsSo list c (own_entries n w.history) (host_at_end w n) ending)
 
 -- ---- a run that asks
 

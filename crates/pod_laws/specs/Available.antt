@@ -1,12 +1,11 @@
 -- What a STATUS is answered (CNI specification, section 3, "Status").
-use Rattle.std.specs.Prelude.{◌≡◌, ℕ, ◌&&◌, Bool, true, false, List, [], Some, slice_get}
+use Rattle.std.specs.Prelude.{◌≡◌, ◌&&◌, Bool, true, List, []}
 use Rattle.std.specs.List.{list_all}
 use Rattle.cni_result.specs.declared.version.Version.{Version}
 use Rattle.cni_result.specs.declared.version.Version.TheVariants.{V1_0, V1_1}
-use Rattle.cni_verbs.specs.Answers.{answer_of_ending, code_of}
+use Rattle.cni_verbs.specs.Answers.{code_of}
 use Rattle.cni_verbs.specs.Questions.{status_questions}
 use Rattle.cni_verbs.specs.Wanted.{sets_of}
-use Rattle.cni_verbs.specs.declared.answer.Answer.{Answer}
 use Rattle.cni_verbs.specs.declared.answer.Cause.TheVariants as causes
 use Rattle.cni_verbs.specs.declared.answer.Ending.{Ending}
 use Rattle.cni_verbs.specs.declared.answer.Ending.TheVariants.{Refused}
@@ -20,13 +19,10 @@ use Rattle.net_conf.specs.declared.first.First.TheVariants as firsts
 use Rattle.net_conf.specs.declared.list.NetList.{NetList}
 use Rattle.pod_file.specs.declared.command.Command.{Command}
 use Rattle.pod_file.specs.declared.command.Verb.TheVariants as verbs
-use Rattle.pod_workers.specs.Legal.{Legal}
-use Rattle.pod_workers.specs.Plans.{Placed, commands_of, list_for}
-use Rattle.pod_workers.specs.World.{World}
 use Rattle.pod_workers.specs.declared.plan.Entry.{Entry}
 use Rattle.pod_laws.specs.Granted.{IsFirstDenied}
-use Rattle.pod_laws.specs.Moments.{has_fault, host_at_end, own_entries}
-use Rattle.pod_laws.specs.Answers.{is_cut_off, EndsByFault, EndsByTest}
+use Rattle.pod_laws.specs.Moments.{has_fault}
+use Rattle.pod_laws.specs.Answers.{EachEnding, EndsByFault, EndsByTest}
 
 -- the master of `macvlan` is a link of the host that no attachment owns
 abbrev pub has_master_of : Host → First → Bool
@@ -53,6 +49,4 @@ EndsStatus list c entries host V1_1 ending = EndsByFault entries (has_fault entr
 
 -- with the host at its last entry, which is the one at its first: it stands alone in its round
 abbrev pub WasAvailable : Type 0
-WasAvailable = (w : World) → Legal w → (n : ℕ) (c : Placed) (list : NetList) (a : Answer)
-    → slice_get (commands_of w.plan) n ≡ Some c → list_for w.plan c.command ≡ Some list → c.command.verb ≡ verbs.Status → slice_get w.answers n ≡ Some (Some a) → is_cut_off a ≡ false
-    → (ending : Ending) × (a ≡ answer_of_ending list c.command ending []) × EndsStatus list c.command (own_entries n w.history) (host_at_end w n) list.version ending
+WasAvailable = EachEnding verbs.Status (λ list c entries host. EndsStatus list c entries host list.version)

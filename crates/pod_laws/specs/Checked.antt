@@ -1,13 +1,11 @@
 -- What a CHECK is answered (CNI specification, section 3, "Checking attachment").
-use Rattle.std.specs.Prelude.{◌≡◌, ℕ, ◌&&◌, Bool, true, false, List, [], ◌∷◌, Option, Some, None, slice_get}
+use Rattle.std.specs.Prelude.{◌≡◌, ℕ, ◌&&◌, Bool, true, false, List, [], ◌∷◌, Option, Some, None}
 use Rattle.std.specs.List.{list_any, list_all}
 use Rattle.cni_addr.specs.declared.mac.Mac.{Mac}
 use Rattle.cni_result.specs.declared.cached.Cached.{Cached}
 use Rattle.cni_result.specs.declared.result.Interface.{Interface}
-use Rattle.cni_verbs.specs.Answers.{answer_of_ending}
 use Rattle.cni_verbs.specs.CommandWords.{att_of, del_refusal}
 use Rattle.cni_verbs.specs.Questions.{cached_share, check_questions}
-use Rattle.cni_verbs.specs.declared.answer.Answer.{Answer}
 use Rattle.cni_verbs.specs.declared.answer.Cause.{Cause}
 use Rattle.cni_verbs.specs.declared.answer.Cause.TheVariants as causes
 use Rattle.cni_verbs.specs.declared.answer.Ending.{Ending}
@@ -26,13 +24,10 @@ use Rattle.net_conf.specs.declared.list.NetList.{NetList}
 use Rattle.plan_words.specs.Share.{Share}
 use Rattle.pod_file.specs.declared.command.Command.{Command}
 use Rattle.pod_file.specs.declared.command.Verb.TheVariants as verbs
-use Rattle.pod_workers.specs.Legal.{Legal}
-use Rattle.pod_workers.specs.Plans.{Placed, commands_of, list_for}
-use Rattle.pod_workers.specs.World.{World}
 use Rattle.pod_workers.specs.declared.plan.Entry.{Entry}
 use Rattle.pod_laws.specs.Granted.{IsFirstDenied}
-use Rattle.pod_laws.specs.Moments.{has_fault, host_at_end, own_entries}
-use Rattle.pod_laws.specs.Answers.{is_cut_off, EndsByFault, EndsByTest}
+use Rattle.pod_laws.specs.Moments.{has_fault}
+use Rattle.pod_laws.specs.Answers.{EachEnding, EndsByFault, EndsByTest}
 
 -- ---- what the host holds
 
@@ -92,6 +87,4 @@ EndsCheck list c entries host None ending = EndsByList list c entries host list.
 
 -- with the host at its last entry, whatever other commands did between its entries
 abbrev pub WasChecked : Type 0
-WasChecked = (w : World) → Legal w → (n : ℕ) (c : Placed) (list : NetList) (a : Answer)
-    → slice_get (commands_of w.plan) n ≡ Some c → list_for w.plan c.command ≡ Some list → c.command.verb ≡ verbs.Check → slice_get w.answers n ≡ Some (Some a) → is_cut_off a ≡ false
-    → (ending : Ending) × (a ≡ answer_of_ending list c.command ending []) × EndsCheck list c.command (own_entries n w.history) (host_at_end w n) (del_refusal c.command) ending
+WasChecked = EachEnding verbs.Check (λ list c entries host. EndsCheck list c entries host (del_refusal c))

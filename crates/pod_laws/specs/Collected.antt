@@ -19,7 +19,7 @@ use Rattle.pod_workers.specs.Plans.{Placed, commands_of, list_for}
 use Rattle.pod_workers.specs.World.{World, made_in}
 use Rattle.pod_workers.specs.declared.plan.Entry.{Entry}
 use Rattle.pod_laws.specs.Moments.{has_fault, host_at_end, host_at_start, own_entries}
-use Rattle.pod_laws.specs.Answers.{is_cut_off}
+use Rattle.pod_laws.specs.Answers.{EachListAnswer, is_cut_off}
 
 -- ---- answers
 
@@ -57,9 +57,7 @@ IsCollectionAnswer list c entries old new a = IsTooOld list c entries a ⊎ (IsD
 -- each answer of a collection is of one of these kinds, from the host right before its first entry to the one right
 -- after its last
 abbrev pub CollectionsAreAnswered : Type 0
-CollectionsAreAnswered = (w : World) → Legal w → (n : ℕ) (c : Placed) (list : NetList) (a : Answer)
-    → slice_get (commands_of w.plan) n ≡ Some c → list_for w.plan c.command ≡ Some list → c.command.verb ≡ verbs.Gc → slice_get w.answers n ≡ Some (Some a)
-    → IsCollectionAnswer list c.command (own_entries n w.history) (host_at_start w n) (host_at_end w n) a
+CollectionsAreAnswered = EachListAnswer verbs.Gc (λ w n c list. IsCollectionAnswer list c (own_entries n w.history) (host_at_start w n) (host_at_end w n))
 
 -- ---- whatever it is answered
 
