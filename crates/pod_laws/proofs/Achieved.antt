@@ -1,14 +1,18 @@
--- What an ADD has of its objects after each of its entries.
-use Rattle.std.proofs.Common.{◌≡◌, ℕ, ◌+◌, Bool, true, false, List, [], ◌∷◌, ◌++◌, map, length, Option, Some, None, refl, sym, ◌∙◌, ap, subst, append_assoc, length-append}
+-- What an ADD was leased, and what it has of its objects, after each of its entries.
+use Rattle.std.proofs.Common.{◌≡◌, ℕ, ◌+◌, Bool, true, false, List, [], ◌∷◌, ◌++◌, map, length, Option, Some, None, refl, sym, ◌∙◌, ap, subst, append_assoc}
 use Rattle.std.proofs.lemmas.List.{append-nil, map-append}
+use Rattle.std.proofs.lemmas.Slice.Zip.{all_zipped_more}
 use Rattle.std.specs.List.{cons_option}
 use Rattle.cni_addr.specs.declared.address.Addr.{Addr}
 use Rattle.cni_addr.specs.declared.range.RangeSet.{RangeSet}
+use Rattle.host_local.specs.Laws.{AreCandidates}
+use Rattle.ip_pool.specs.NextAddress.{is_candidate}
 use Rattle.net_conf.specs.declared.first.First.{First}
 use Rattle.net_conf.specs.declared.first.First.TheVariants.{Bridge, Ptp, Macvlan}
 use Rattle.net_conf.specs.declared.list.NetList.{NetList}
 use Rattle.pod_file.specs.declared.command.Command.{Command}
 use Rattle.kernel_types.specs.Apply.{apply}
+use Rattle.kernel_types.proofs.LeasedAddress.{leased-candidate}
 use Rattle.kernel_types.specs.declared.object.Att.{Att}
 use Rattle.kernel_types.specs.declared.object.Host.{Host}
 use Rattle.kernel_types.specs.declared.call.Kind.{Kind}
@@ -34,7 +38,7 @@ use Rattle.pod_workers.proofs.StepsLeft.{host-made}
 use Rattle.pod_laws.specs.Moments.{own_entries}
 use Rattle.pod_laws.proofs.Entries.{replies_in}
 use Rattle.pod_laws.proofs.States.{IsAside, IsNoResult, aside-advance, by-aside, by-start, faulted-no_result}
-use Rattle.pod_laws.proofs.Runs.{IsRunFact, StartsWith, own-state}
+use Rattle.pod_laws.proofs.Runs.{AfterEntry, IsRunFact, StartsWith, own-state}
 use Rattle.cni_verbs.proofs.WantedShare.{share_with_leases, makes-wanted}
 
 -- the addresses that these entries leased, in order
@@ -47,9 +51,9 @@ with_leases list c given = share_with_leases list (att_of c) c.netns given
 abbrev pub wanted_by : NetList → Command → List Addr → Share
 wanted_by list c given = wanted list (att_of c) c.netns (mappings_of list c) given
 
--- one address a set was leased, and the objects are those that they ask for
+-- a candidate of each set was leased, and the objects are those that they ask for
 abbrev pub IsAddedWith : NetList → Command → List Entry → Ending → List Addr → Share → Type 0
-IsAddedWith list c es Added given s = (leased_in es ≡ given) × (length given ≡ length (sets_of list)) × (s ≡ wanted_by list c given)
+IsAddedWith list c es Added given s = (leased_in es ≡ given) × AreCandidates (sets_of list) given × (s ≡ wanted_by list c given)
 IsAddedWith list c es Yes given s = Unit {0}
 IsAddedWith list c es (Skipped skip) given s = Unit {0}
 IsAddedWith list c es Versions given s = Unit {0}
@@ -59,9 +63,9 @@ IsAddedWith list c es (Refused cause) given s = Unit {0}
 abbrev pub Achieved : NetList → Command → List Entry → State → Share → Type 0
 Achieved list c es AtBegin s = leased_in es ≡ []
 Achieved list c es (BeforeLeases next left) s = (made : List Call) × (before_of list c ≡ made ++ next ∷ left) × (s ≡ share_after_calls no_objects made) × (leased_in es ≡ [])
-Achieved list c es (Leasing next left given) s = (past : List RangeSet) × (sets_of list ≡ past ++ next ∷ left) × (length given ≡ length past) × (s ≡ with_leases list c given) × (leased_in es ≡ given)
+Achieved list c es (Leasing next left given) s = (past : List RangeSet) × (sets_of list ≡ past ++ next ∷ left) × AreCandidates past given × (s ≡ with_leases list c given) × (leased_in es ≡ given)
 Achieved list c es (AfterLeases next left given) s =
-    (made : List Call) × (back_of list c given ≡ made ++ next ∷ left) × (length given ≡ length (sets_of list)) × (s ≡ share_after_calls (with_leases list c given) made) × (leased_in es ≡ given)
+    (made : List Call) × (back_of list c given ≡ made ++ next ∷ left) × AreCandidates (sets_of list) given × (s ≡ share_after_calls (with_leases list c given) made) × (leased_in es ≡ given)
 Achieved list c es (ReadingCache ending) s = IsNoResult ending
 Achieved list c es (Deleting next left ending) s = IsNoResult ending
 Achieved list c es FindingEntry s = Unit {0}
@@ -92,17 +96,17 @@ leased-done es e given done was = leased-same es e given (ap (λ r. leases_in (r
 
 -- ---- where work is left
 
-to-after_leases : (list : NetList) (c : Command) (es : List Entry) (made left : List Call) (given : List Addr) (s : Share) → back_of list c given ≡ made ++ left → length given ≡ length (sets_of list)
+to-after_leases : (list : NetList) (c : Command) (es : List Entry) (made left : List Call) (given : List Addr) (s : Share) → back_of list c given ≡ made ++ left → AreCandidates (sets_of list) given
     → s ≡ share_after_calls (with_leases list c given) made → leased_in es ≡ given → Achieved list c es (after_leases left given) s
-to-after_leases list c es made [] given s back long is was =
+to-after_leases list c es made [] given s back fits is was =
     let all : back_of list c given ≡ made = back ∙ append-nil made in
-    (was, long, is ∙ ap (share_after_calls (with_leases list c given)) (sym all) ∙ makes-wanted list (att_of c) c.netns (mappings_of list c) given)
-to-after_leases list c es made (x ∷ xs) given s back long is was = (made, back, long, is, was)
+    (was, fits, is ∙ ap (share_after_calls (with_leases list c given)) (sym all) ∙ makes-wanted list (att_of c) c.netns (mappings_of list c) given)
+to-after_leases list c es made (x ∷ xs) given s back fits is was = (made, back, fits, is, was)
 
-to-leasing : (list : NetList) (c : Command) (es : List Entry) (past left : List RangeSet) (given : List Addr) (s : Share) → sets_of list ≡ past ++ left → length given ≡ length past → s ≡ with_leases list c given → leased_in es ≡ given
+to-leasing : (list : NetList) (c : Command) (es : List Entry) (past left : List RangeSet) (given : List Addr) (s : Share) → sets_of list ≡ past ++ left → AreCandidates past given → s ≡ with_leases list c given → leased_in es ≡ given
     → Achieved list c es (leasing list c left given) s
-to-leasing list c es past [] given s all long is was = to-after_leases list c es [] (back_of list c given) given s refl (long ∙ ap length (sym (all ∙ append-nil past))) is was
-to-leasing list c es past (x ∷ xs) given s all long is was = (past, all, long, is, was)
+to-leasing list c es past [] given s all fits is was = to-after_leases list c es [] (back_of list c given) given s refl (subst (λ l. AreCandidates l given) (sym (all ∙ append-nil past)) fits) is was
+to-leasing list c es past (x ∷ xs) given s all fits is was = (past, all, fits, is, was)
 
 pub no_leases : (first : First) (att : Att) (netns : List ℕ) → share_after_calls no_objects (calls_before first att netns) ≡ record (share_after_calls no_objects (calls_before first att netns)) { leases = [] }
 no_leases (Bridge conf) att netns = refl
@@ -111,7 +115,7 @@ no_leases (Macvlan conf) att netns = refl
 
 to-before_leases : (list : NetList) (c : Command) (es : List Entry) (made left : List Call) (s : Share) → before_of list c ≡ made ++ left → s ≡ share_after_calls no_objects made → leased_in es ≡ [] → Achieved list c es (before_leases list c left) s
 to-before_leases list c es made [] s all is was =
-    to-leasing list c es [] (sets_of list) [] s refl refl (is ∙ ap (share_after_calls no_objects) (sym (all ∙ append-nil made)) ∙ no_leases list.first (att_of c) c.netns) was
+    to-leasing list c es [] (sets_of list) [] s refl tt (is ∙ ap (share_after_calls no_objects) (sym (all ∙ append-nil made)) ∙ no_leases list.first (att_of c) c.netns) was
 to-before_leases list c es made (x ∷ xs) s all is was = (made, all, is, was)
 
 pub achieved-end : (list : NetList) (c : Command) (es : List Entry) (ending : Ending) (given : List Addr) (s : Share) → IsNoResult ending → IsAddedWith list c es ending given s
@@ -143,15 +147,15 @@ moves-before list c es e number x xs Done s t is was h =
 moves-before list c es e number x xs _ s t is was h = tt
 
 moves-lease : (list : NetList) (c : Command) (es : List Entry) (e : Entry) (number : ℕ) (set : RangeSet) (sets : List RangeSet) (given : List Addr) (r : Reply) (s t : Share) → e.reply ≡ r → Achieved list c es (Leasing set sets given) s
-    → ((a : Addr) → r ≡ Leased a → t ≡ record s { leases = s.leases ++ lease_of (att_of c) a ∷ [] }) → Achieved list c (es ++ e ∷ []) (at_lease list c number sets given r) t
-moves-lease list c es e number set sets given (Leased a) s t is was h =
+    → ((a : Addr) → r ≡ Leased a → is_candidate set a ≡ true) → ((a : Addr) → r ≡ Leased a → t ≡ record s { leases = s.leases ++ lease_of (att_of c) a ∷ [] }) → Achieved list c (es ++ e ∷ []) (at_lease list c number sets given r) t
+moves-lease list c es e number set sets given (Leased a) s t is was fits h =
     let past = was.0 in
-    let longer : length (given ++ a ∷ []) ≡ length (past ++ set ∷ []) = length-append given (a ∷ []) ∙ ap (λ n. n + 1) was.2 ∙ sym (length-append past (set ∷ [])) in
+    let candidates = all_zipped_more (λ (s : RangeSet) (x : Addr). is_candidate s x ≡ true) past given set a was.2 (fits a refl) in
     let more : map (lease_of (att_of c)) given ++ lease_of (att_of c) a ∷ [] ≡ map (lease_of (att_of c)) (given ++ a ∷ []) = sym (map-append (lease_of (att_of c)) given (a ∷ [])) in
-    to-leasing list c (es ++ e ∷ []) (past ++ set ∷ []) sets (given ++ a ∷ []) t (was.1 ∙ sym (append_assoc past (set ∷ []) sets)) longer
+    to-leasing list c (es ++ e ∷ []) (past ++ set ∷ []) sets (given ++ a ∷ []) t (was.1 ∙ sym (append_assoc past (set ∷ []) sets)) candidates
     (h a refl ∙ ap (λ (u : Share). record u { leases = u.leases ++ lease_of (att_of c) a ∷ [] }) was.3 ∙ ap (λ l. record (share_after_calls no_objects (before_of list c)) { leases = l }) more)
     (leased-push es e ∙ ap (λ q. leased_in es ++ leases_in (q ∷ [])) is ∙ ap (λ l. l ++ a ∷ []) was.4)
-moves-lease list c es e number set sets given _ s t is was h = tt
+moves-lease list c es e number set sets given _ s t is was fits h = tt
 
 moves-after : (list : NetList) (c : Command) (es : List Entry) (e : Entry) (number : ℕ) (x : Call) (xs : List Call) (given : List Addr) (r : Reply) (s t : Share) → e.reply ≡ r → Achieved list c es (AfterLeases x xs given) s → (r ≡ Done → t ≡ share_after_call s x)
     → Achieved list c (es ++ e ∷ []) (at_call_after number xs given r) t
@@ -192,26 +196,26 @@ pub leases-one : (att : Att) (number : ℕ) (set : RangeSet) (k : Host) (n : ℕ
     → share_of att (host_on k (entry_of k n (LeaseNext att number set) faulty)) ≡ record (share_of att k) { leases = (share_of att k).leases ++ lease_of att a ∷ [] }
 leases-one att number set k n faulty a h = let d = made_host k n (LeaseNext att number set) faulty (Leased a) (λ e. cc) h in ap (share_of att) d.0 ∙ share-lease att k number set a d.1
 
+lease-fits : (k : Host) (att : Att) (place : ℕ) (set : RangeSet) (faulty : Bool) (a : Addr) → reply_to k (LeaseNext att place set) faulty ≡ Leased a → is_candidate set a ≡ true
+lease-fits k att place set true a h = cc
+lease-fits k att place set false a h = leased-candidate k att place set a h
+
 -- ---- every run
 
-abbrev MovesBy : NetList → Command → List Entry → State → Host → ℕ → Bool → Call → Type 0
-MovesBy list c es st k n faulty call =
-    let e = entry_of k n call faulty in
-    Achieved list c (es ++ e ∷ []) (advance list c (length es + 1) st e.reply) (share_of (att_of c) (host_on k e))
-
-achieved-own : (list : NetList) (c : Command) (es : List Entry) (st : State) (k : Host) (n : ℕ) (faulty : Bool) (call : Call) → LeftArePlanned list c st → turn c st ≡ Calls call → Achieved list c es st (share_of (att_of c) k) → MovesBy list c es st k n faulty call
+achieved-own : (list : NetList) (c : Command) (es : List Entry) (st : State) (k : Host) (n : ℕ) (faulty : Bool) (call : Call) → LeftArePlanned list c st → turn c st ≡ Calls call → Achieved list c es st (share_of (att_of c) k) → AfterEntry Achieved list c es st k n faulty call
 unfolding turn advance
 achieved-own list c es AtBegin k n faulty call left is was =
-    subst (MovesBy list c es AtBegin k n faulty) (let e : Begin (att_of c) c.netns ≡ call = cc in e)
+    subst (AfterEntry Achieved list c es AtBegin k n faulty) (let e : Begin (att_of c) c.netns ≡ call = cc in e)
     (moves-at_begin list c es (entry_of k n (Begin (att_of c) c.netns) faulty) (length es + 1) _ _ refl was (begun-none (att_of c) c.netns k n faulty))
 achieved-own list c es (BeforeLeases x xs) k n faulty call left is was =
-    subst (MovesBy list c es (BeforeLeases x xs) k n faulty) (let e : x ≡ call = cc in e)
+    subst (AfterEntry Achieved list c es (BeforeLeases x xs) k n faulty) (let e : x ≡ call = cc in e)
     (moves-before list c es (entry_of k n x faulty) (length es + 1) x xs _ (share_of (att_of c) k) _ refl was (own-made (att_of c) k n x faulty left.0.0.0))
 achieved-own list c es (Leasing set sets given) k n faulty call left is was =
-    subst (MovesBy list c es (Leasing set sets given) k n faulty) (let e : LeaseNext (att_of c) (length given) set ≡ call = cc in e)
-    (moves-lease list c es (entry_of k n (LeaseNext (att_of c) (length given) set) faulty) (length es + 1) set sets given _ (share_of (att_of c) k) _ refl was (leases-one (att_of c) (length given) set k n faulty))
+    subst (AfterEntry Achieved list c es (Leasing set sets given) k n faulty) (let e : LeaseNext (att_of c) (length given) set ≡ call = cc in e)
+    (moves-lease list c es (entry_of k n (LeaseNext (att_of c) (length given) set) faulty) (length es + 1) set sets given _ (share_of (att_of c) k) _ refl was (lease-fits k (att_of c) (length given) set faulty)
+    (leases-one (att_of c) (length given) set k n faulty))
 achieved-own list c es (AfterLeases x xs given) k n faulty call left is was =
-    subst (MovesBy list c es (AfterLeases x xs given) k n faulty) (let e : x ≡ call = cc in e)
+    subst (AfterEntry Achieved list c es (AfterLeases x xs given) k n faulty) (let e : x ≡ call = cc in e)
     (moves-after list c es (entry_of k n x faulty) (length es + 1) x xs given _ (share_of (att_of c) k) _ refl was (own-made (att_of c) k n x faulty left.0.0))
 achieved-own list c es (ReadingCache ending) k n faulty call left is was = moves-cache list c (es ++ entry_of k n call faulty ∷ []) (length es + 1) ending _ _ was
 achieved-own list c es (Deleting kind ks ending) k n faulty call left is was = moves-deletion list c (es ++ entry_of k n call faulty ∷ []) (length es + 1) kind ks ending _ _ was

@@ -15,13 +15,13 @@ pub mod CollectedRuns
 pub mod Collections
 pub mod CutOff
 pub mod DeletedEntries
+pub mod DistinctLeases
 pub mod Due
 pub mod EachEntry
 pub mod Entries
 pub mod Footing
 pub mod Fronts
 pub mod LastAddresses
-pub mod LeasedRuns
 pub mod NextRounds
 pub mod OfAnswers
 pub mod OfKinds

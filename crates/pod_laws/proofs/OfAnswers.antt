@@ -42,8 +42,8 @@ use Rattle.pod_laws.specs.Answers.{EachIsOrRefused, EachIsWhere, EachRefusal, Is
 use Rattle.pod_laws.proofs.Achieved.{Achieved, IsAddedWith, achieved-end, achieved-start, achieved-step}
 use Rattle.pod_laws.proofs.Asking.{fault-last}
 use Rattle.pod_laws.proofs.CutOff.{over-by}
+use Rattle.pod_laws.proofs.DistinctLeases.{leases-distinct, sound-at_end}
 use Rattle.pod_laws.proofs.Due.{IsSwept}
-use Rattle.pod_laws.proofs.LeasedRuns.{IsOverLeased, LeasedRun, leased-end, leased-start, leased-step, leases-distinct, sound-at_end}
 use Rattle.pod_laws.proofs.States.{IsNoResult, IsOtherVerb, swept-no_result, not-both}
 use Rattle.pod_laws.proofs.Runs.{RunFact, every-run, listed-network}
 use Rattle.pod_laws.proofs.Undoing.{Undoing, Ends, undone-end, undone-start, undone-step}
@@ -77,7 +77,6 @@ pub record IsEnded (w : World) (n : ℕ) (c : Command) (list : NetList) (a : Ans
   pub given : List Addr
   pub says : Says list c given ending a
   pub achieved : IsAddedWith list c (own_entries n w.history) ending given (share_of (att_of c) (host_at_end w n))
-  pub leased : IsOverLeased list ending given
   pub ends : Ends c (own_entries n w.history) ending (share_of (att_of c) (host_at_end w n))
 
 -- what a run's last state says of its ending, where a garbage collection says as much of each ending without a result
@@ -99,7 +98,6 @@ ended w legal n c list a at listed is whole =
       given = given;
       says = says list c.command given ending a over.answer_is;
       achieved = at-over Achieved list c.command es _ ending given s (λ work faults h none. achieved-end list c.command es ending given s none) over.state_is (every-run Achieved achieved-start achieved-step w legal n c list at listed);
-      leased = at-over LeasedRun list c.command es _ ending given s (λ work faults h none. leased-end list ending given none) over.state_is (every-run LeasedRun leased-start leased-step w legal n c list at listed);
       ends = at-over Undoing list c.command es _ ending given s (λ work faults other none. undone-end c.command es ending s other none) over.state_is (every-run Undoing undone-start undone-step w legal n c list at listed);
     }
 
@@ -151,28 +149,28 @@ each-where verb AreGood Is IsFor network answered refused never w legal n c a at
 -- ---- ADD
 
 added-by : (w : World) (n : ℕ) (c : Command) (list : NetList) (r : AddResult) (ending : Ending) (given : List Addr) → Says list c given ending (answers.Added r)
-    → IsAddedWith list c (own_entries n w.history) ending given (share_of (att_of c) (host_at_end w n)) → IsOverLeased list ending given → IsSound (host_at_end w n) → Ends c (own_entries n w.history) ending (share_of (att_of c) (host_at_end w n)) → HasMade w n c list r
-added-by w n c list r Added given says was candidates sound ends =
+    → IsAddedWith list c (own_entries n w.history) ending given (share_of (att_of c) (host_at_end w n)) → IsSound (host_at_end w n) → Ends c (own_entries n w.history) ending (share_of (att_of c) (host_at_end w n)) → HasMade w n c list r
+added-by w n c list r Added given says was sound ends =
     let same : r ≡ result_of_add list (att_of c) c.netns given = let e = says in cc in
     let leased : leases_in (own_replies w n) ≡ given = was.0 in
     record {
       verb = ends.verb;
       words = ends.words;
       unrefused = ends.go_on;
-      leased = subst (AreCandidates (sets_of list)) (sym leased) candidates;
+      leased = subst (AreCandidates (sets_of list)) (sym leased) was.1;
       apart = ap (distinct addr_eq) leased ∙ leases-distinct (att_of c) (host_at_end w n) given sound (ap (λ (s : Share). s.leases) was.2);
       result = same ∙ ap (result_of_add list (att_of c) c.netns) (sym leased);
       objects = was.2 ∙ ap (wanted list (att_of c) c.netns (mappings_of list c)) (sym leased);
     }
-added-by w n c list r Yes given says was candidates sound ends = cc
-added-by w n c list r (Skipped skip) given says was candidates sound ends = cc
-added-by w n c list r Versions given says was candidates sound ends = cc
-added-by w n c list r (Refused cause) given says was candidates sound ends = cc
+added-by w n c list r Yes given says was sound ends = cc
+added-by w n c list r (Skipped skip) given says was sound ends = cc
+added-by w n c list r Versions given says was sound ends = cc
+added-by w n c list r (Refused cause) given says was sound ends = cc
 
 pub was_added : WasAdded
 was_added w legal n c list r at listed is =
     let e = ended w legal n c list (answers.Added r) at listed is refl in
-    added-by w n c.command list r e.ending e.given e.says e.achieved e.leased (sound-at_end w legal n) e.ends
+    added-by w n c.command list r e.ending e.given e.says e.achieved (sound-at_end w legal n) e.ends
 
 answer-add : (c : Command) (list : NetList) (es : List Entry) (s : Share) (a : Answer) (ending : Ending) (given : List Addr) → c.verb ≡ verbs.Add → Says list c given ending a → Ends c es ending s → IsResult a ⊎ IsRefusal a
 answer-add c list es s a Added given verb says ends = inl (_, says)

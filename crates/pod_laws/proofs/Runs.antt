@@ -5,7 +5,6 @@ use Rattle.std.proofs.lemmas.Bool.Decides.{eqb_tells}
 use Rattle.std.proofs.lemmas.Bool.{cases_Bool}
 use Rattle.net_conf.specs.declared.list.NetList.{NetList}
 use Rattle.pod_file.specs.declared.command.Command.{Command}
-use Rattle.pod_file.specs.declared.command.Verb.TheVariants as verbs
 use Rattle.kernel_types.specs.declared.object.Host.{Host}
 use Rattle.kernel_types.specs.declared.call.Call.{Call}
 use Rattle.plan_words.specs.Share.{Share, share_of}
@@ -95,11 +94,15 @@ RunFact = NetList → Command → List Entry → State → Share → Type 0
 abbrev pub AtRun : RunFact → World → ℕ → Placed → NetList → Host → Type 0
 AtRun F w n c list host = F list c.command (own_entries n w.history) (state_by list c.command (own_entries n w.history)) (share_of (att_of c.command) host)
 
+-- it holds after one more entry, of this call
+abbrev pub AfterEntry : RunFact → NetList → Command → List Entry → State → Host → ℕ → Bool → Call → Type 0
+AfterEntry F list c es st k n faulty call =
+    let e = entry_of k n call faulty in
+    F list c (es ++ e ∷ []) (advance list c (length es + 1) st e.reply) (share_of (att_of c) (host_on k e))
+
 abbrev pub IsRunFact : RunFact → Type 0
 IsRunFact F = (w : World) (n : ℕ) (c : Placed) (list : NetList) (call : Call) (faulty : Bool) → GoesOn w n c list call faulty → AtRun F w n c list (host_of w)
-    → let e = entry_of (host_of w) n call faulty in
-    let es = own_entries n w.history in
-    F list c.command (es ++ e ∷ []) (advance list c.command (length es + 1) (state_by list c.command es) e.reply) (share_of (att_of c.command) (host_on (host_of w) e))
+    → AfterEntry F list c.command (own_entries n w.history) (state_by list c.command (own_entries n w.history)) (host_of w) n faulty call
 
 -- it holds before the first entry, whatever is there
 abbrev pub StartsWith : RunFact → Type 0

@@ -46,7 +46,7 @@ use Rattle.pod_laws.proofs.OfKinds.{IsWithin, IsWithin-removes}
 use Rattle.pod_laws.proofs.Removes.{removes-deletion}
 use Rattle.pod_laws.proofs.Stands.{no_link-now}
 use Rattle.pod_laws.proofs.States.{IsAside, IsNoResult, IsOtherVerb, aside-advance, aside-start, by-aside}
-use Rattle.pod_laws.proofs.Runs.{IsRunFact, StartsWith, own-state}
+use Rattle.pod_laws.proofs.Runs.{AfterEntry, IsRunFact, StartsWith, own-state}
 use Rattle.pod_laws.proofs.Steps.{on-entry, sound-entered}
 use Rattle.pod_laws.proofs.Within.{within-entered}
 use Rattle.pod_laws.proofs.Asking.{calm-more, fault-last}
@@ -291,18 +291,13 @@ undone-next list c es number st r s other h = undone-aside list c es (advance li
 
 -- ---- every run
 
-abbrev UndoneBy : NetList → Command → List Entry → State → Host → ℕ → Bool → Call → Type 0
-UndoneBy list c es st k n faulty call =
-    let e = entry_of k n call faulty in
-    Undoing list c (es ++ e ∷ []) (advance list c (length es + 1) st e.reply) (share_of (att_of c) (host_on k e))
-
 -- what is known of the host after an entry
 pub record IsEntered (list : NetList) (c : Command) (k : Host) (n : ℕ) (faulty : Bool) (call : Call) : Type 0 where
   pub within : IsWithin (kinds_of list) (share_of (att_of c) (host_on k (entry_of k n call faulty)))
   pub sound : IsSound (host_on k (entry_of k n call faulty))
   pub over : is_plan_call_of (att_of c) call ≡ true → (apply k call).1 ≡ NoLink → IsMacvlan call
 
-begin-first : (list : NetList) (c : Command) (es : List Entry) (k : Host) (n : ℕ) (faulty : Bool) → IsAtBegin c es → UndoneBy list c es AtBegin k n faulty (Begin (att_of c) c.netns)
+begin-first : (list : NetList) (c : Command) (es : List Entry) (k : Host) (n : ℕ) (faulty : Bool) → IsAtBegin c es → AfterEntry Undoing list c es AtBegin k n faulty (Begin (att_of c) c.netns)
 unfolding advance
 begin-first list c es k n faulty h =
     let e = entry_of k n (Begin (att_of c) c.netns) faulty in
@@ -311,25 +306,25 @@ begin-first list c es k n faulty h =
     (undo-at_begin list c e _ _ refl refl (record { verb = h.verb; words = h.words; none = refl }) (λ not. begin-refused (att_of c) c.netns k faulty 1 not))
 
 undone-own : (list : NetList) (c : Command) (es : List Entry) (st : State) (k : Host) (n : ℕ) (faulty : Bool) (call : Call) → LeftArePlanned list c st → turn c st ≡ Calls call → IsSound k → IsEntered list c k n faulty call
-    → Undoing list c es st (share_of (att_of c) k) → UndoneBy list c es st k n faulty call
+    → Undoing list c es st (share_of (att_of c) k) → AfterEntry Undoing list c es st k n faulty call
 unfolding turn advance
 undone-own list c es AtBegin k n faulty call left is sound on was =
-    subst (UndoneBy list c es AtBegin k n faulty) (let e : Begin (att_of c) c.netns ≡ call = cc in e) (begin-first list c es k n faulty was)
+    subst (AfterEntry Undoing list c es AtBegin k n faulty) (let e : Begin (att_of c) c.netns ≡ call = cc in e) (begin-first list c es k n faulty was)
 undone-own list c es (BeforeLeases x xs) k n faulty call left is sound on was =
-    let P : Call → Type 0 = λ j. IsEntered list c k n faulty j → UndoneBy list c es (BeforeLeases x xs) k n faulty j in
+    let P : Call → Type 0 = λ j. IsEntered list c k n faulty j → AfterEntry Undoing list c es (BeforeLeases x xs) k n faulty j in
     subst P (let e : x ≡ call = cc in e)
     (λ here. undo-before list c es (entry_of k n x faulty) xs _ _ refl was (λ not. plan-refused (att_of c) k x faulty (length es + 1) left.0.0.0 (here.over left.0.0.0) not)) on
 undone-own list c es (Leasing set sets given) k n faulty call left is sound on was =
-    subst (UndoneBy list c es (Leasing set sets given) k n faulty) (let e : LeaseNext (att_of c) (length given) set ≡ call = cc in e)
+    subst (AfterEntry Undoing list c es (Leasing set sets given) k n faulty) (let e : LeaseNext (att_of c) (length given) set ≡ call = cc in e)
     (undo-lease list c es (entry_of k n (LeaseNext (att_of c) (length given) set) faulty) sets given _ _ refl was (λ not. lease-refused (att_of c) (length given) set k faulty (length es + 1) not))
 undone-own list c es (AfterLeases x xs given) k n faulty call left is sound on was =
-    let P : Call → Type 0 = λ j. IsEntered list c k n faulty j → UndoneBy list c es (AfterLeases x xs given) k n faulty j in
+    let P : Call → Type 0 = λ j. IsEntered list c k n faulty j → AfterEntry Undoing list c es (AfterLeases x xs given) k n faulty j in
     subst P (let e : x ≡ call = cc in e)
     (λ here. undo-after list c es (entry_of k n x faulty) xs given _ _ refl was (λ not. plan-refused (att_of c) k x faulty (length es + 1) left.0.0 (here.over left.0.0) not)) on
 undone-own list c es (ReadingCache ending) k n faulty call left is sound on was =
     undo-cache list c es (entry_of k n call faulty) ending _ _ refl was on.within (none-left (att_of c) (host_on k (entry_of k n call faulty)) on.sound)
 undone-own list c es (Deleting kind ks ending) k n faulty call left is sound on was =
-    let P : Call → Type 0 = λ j. IsEntered list c k n faulty j → UndoneBy list c es (Deleting kind ks ending) k n faulty j in
+    let P : Call → Type 0 = λ j. IsEntered list c k n faulty j → AfterEntry Undoing list c es (Deleting kind ks ending) k n faulty j in
     subst P (let e : deletion (att_of c) kind ≡ call = cc in e)
     (λ here. undo-deletion list c es (entry_of k n (deletion (att_of c) kind) faulty) kind ks ending _ _ refl was.0 (within-deleted (att_of c) k n faulty (kind ∷ ks) kind sound was.1)
     (λ h. gone-deleted (att_of c) k n faulty kind ks h was.1) (none-left (att_of c) (host_on k (entry_of k n (deletion (att_of c) kind) faulty)) here.sound)) on
