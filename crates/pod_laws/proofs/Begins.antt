@@ -1,5 +1,5 @@
 -- Begins in a history: while an ADD goes on, the last one of its attachment is its own.
-use Rattle.std.proofs.Common.{◌≡◌, ◌≢◌, ℕ, ◌+◌, Bool, true, false, List, [], ◌∷◌, ◌++◌, length, Option, Some, None, slice_get, refl, sym, ◌∙◌, ap, subst, inl, inr, ◌⊎◌, arith}
+use Rattle.std.proofs.Common.{◌≡◌, ◌≢◌, ℕ, ◌+◌, Bool, true, false, List, [], ◌∷◌, ◌++◌, length, Option, Some, None, slice_get, refl, sym, ◌∙◌, ap, subst, inl, inr, arith}
 use Rattle.std.proofs.lemmas.Bool.{and_parts}
 use Rattle.std.proofs.lemmas.Bool.Decides.{eqb_tells}
 use Rattle.std.proofs.lemmas.List.Folds.{list_all-append}
@@ -40,7 +40,7 @@ use Rattle.pod_laws.specs.AskedFor.{begins, is_begin_of, is_done, last_begun}
 use Rattle.pod_laws.specs.Moments.{own_entries}
 use Rattle.pod_laws.specs.Refused.{is_granted, lets_go_on}
 use Rattle.pod_laws.proofs.Causes.{IsPlanReply, begin-may}
-use Rattle.pod_laws.proofs.Entries.{is_of-own, is_of-other, own_entries-own, own_entries-other, no-entries}
+use Rattle.pod_laws.proofs.Entries.{is_of-own, is_of-other, own_entries-own, own_entries-other, no-entries, none-or-some}
 use Rattle.pod_laws.proofs.States.{IsOtherVerb, is_question, not-both}
 use Rattle.pod_laws.proofs.Runs.{every-run-now, own-state}
 use Rattle.pod_laws.proofs.Steps.{AllOpen, Changes, GoesOn, IsOpenKept, OpenFact, by-open}
@@ -141,10 +141,6 @@ later-call list c es _ s att call verb some left is was = absurd (subst IsOtherV
 
 -- ---- while an ADD goes on, the last Begin is its own
 
-nil-or-not : {X : Type 0} (xs : List X) → (xs ≡ []) ⊎ (xs ≢ [])
-nil-or-not [] = inl refl
-nil-or-not (x ∷ xs) = inr (λ e. cc)
-
 granted-done : (r : Reply) → IsPlanReply r → is_granted r ≡ true → is_done r ≡ true
 granted-done Done may h = refl
 granted-done (Leased addr) may h = absurd may
@@ -164,7 +160,7 @@ last-own w n c list call faulty on last = λ verb some go_on.
     let both = and_parts (list_all lets_go_on es) (list_all lets_go_on (e ∷ [])) (sym (list_all-append lets_go_on es (e ∷ [])) ∙ all) in
     let own = own-state w n c list call faulty on in
     let was = every-run-now Undoing undone-start undone-step w n c list call faulty on in
-    elim (nil-or-not es) [
+    elim (none-or-some es) [
       | inl none ↦
           let first : call ≡ Begin att c.command.netns = first-call list c.command es _ _ call verb none own.turn_is was in
           let done : is_done e.reply ≡ true = granted-done e.reply (subst (λ j. IsPlanReply (reply_to (host_of w) j faulty)) (sym first) (begin-may att c.command.netns (host_of w) faulty)) (and_parts (lets_go_on e) true both.1).0 in

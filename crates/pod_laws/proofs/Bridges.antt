@@ -22,7 +22,7 @@ use Rattle.kernel_types.specs.Sound.{IsSound, link_fits_tag}
 use Rattle.kernel_types.specs.Words.{is_bridge, is_host_bridge, is_host_link, is_owned, has_host_bridge}
 use Rattle.kernel_types.proofs.EveryCall.{Touches-apply}
 use Rattle.kernel_types.proofs.Isolation.{KeepsUnowned-Touches}
-use Rattle.kernel_types.proofs.ListLemmas.{list_any-append_left, list_any-append_right, list_any-kept}
+use Rattle.kernel_types.proofs.ListLemmas.{list_any-append_left, list_any-append_right, list_any-kept, passes-find}
 use Rattle.kernel_types.proofs.TouchRemoval.{owned_no_bridge}
 use Rattle.kernel_types.specs.declared.object.Att.{Att}
 use Rattle.kernel_types.specs.declared.object.Host.{Host}
@@ -35,6 +35,7 @@ use Rattle.kernel_types.specs.declared.call.Call.{Call}
 use Rattle.kernel_types.specs.declared.call.Call.TheVariants.{BridgeEnsure, GatewayEnsure, ForwardEnsure, NsChange, Outside}
 use Rattle.kernel_types.specs.declared.call.Reply.{Reply}
 use Rattle.kernel_types.specs.declared.call.Reply.TheVariants.{Done, Taken}
+use Rattle.gc_sweep.proofs.Lists.{any-found}
 use Rattle.plan_words.specs.PlanCalls.{is_call_of}
 use Rattle.cni_verbs.specs.CommandWords.{att_of}
 use Rattle.cni_verbs.specs.Script.{State, AtBegin, BeforeLeases, Leasing, AfterLeases, ReadingCache, Deleting, FindingEntry, Asking, Changing, Collecting, Over, Calls, before_of, back_of, after_leases, leasing, before_leases, deleting, at_call_before, advance, turn}
@@ -165,10 +166,6 @@ HasBridge list (Over ending given) host = Unit {0}
 
 -- ---- where it is ensured
 
-found-both : {X : Type 0} (p q : X → Bool) (xs : List X) (y : X) → find p xs ≡ Some y → q y ≡ true → list_any (λ x. p x && q x) xs ≡ true
-found-both p q [] y f h = cc
-found-both p q (x ∷ xs) y f h = grind (arith, f, h, found-both p q xs y)
-
 done-bridge : (b : Bool) (t : Tag) → (if b then Done else Taken t) ≡ Done → b ≡ true
 done-bridge true t h = refl
 done-bridge false t h = cc
@@ -177,7 +174,10 @@ ensured : (host : Host) (name : List ℕ) (o : Option Link) (mtu : ℕ) (promisc
     → has_host_bridge (bridge_or_new host o (new_bridge name mtu promisc)).0 name ≡ true
 ensured host name None mtu promisc found done =
     list_any-append_right (is_host_bridge name) host.links (new_bridge name mtu promisc ∷ []) (grind (arith, nat_list_eq_equiv.refl name))
-ensured host name (Some link) mtu promisc found done = found-both (is_host_link name) (λ l. is_bridge l.kind) host.links link found (done-bridge (is_bridge link.kind) link.tag done)
+ensured host name (Some link) mtu promisc found done =
+    let there = passes-find (is_host_link name) host.links link found in
+    let bridge = done-bridge (is_bridge link.kind) link.tag done in
+    any-found (is_host_link name) (is_host_bridge name) host.links link found (grind (arith, there, bridge))
 
 in-bridge : (conf : BridgeConf) (name : List ℕ) (host : Host) → bytes_eq name conf.bridge ≡ true → has_host_bridge host name ≡ true → BridgeIn (Bridge conf) host
 in-bridge conf name host same there = ap (has_host_bridge host) (sym ((bytes_eq-Decides name conf.bridge).0 same)) ∙ there

@@ -10,7 +10,7 @@ use Rattle.cni_addr.specs.declared.address.Addr.{Addr}
 use Rattle.kernel_types.specs.Equal.{addr_eq}
 use Rattle.kernel_types.specs.Sound.{IsSound}
 use Rattle.kernel_types.specs.Words.{is_own, lease_of}
-use Rattle.kernel_types.proofs.ListLemmas.{distinct-filter}
+use Rattle.kernel_types.proofs.ListLemmas.{distinct-filter, list_any-map, list_any-same_test}
 use Rattle.kernel_types.specs.declared.object.Att.{Att}
 use Rattle.kernel_types.specs.declared.object.Host.{Host}
 use Rattle.kernel_types.specs.declared.object.Lease.{Lease}
@@ -24,13 +24,11 @@ use Rattle.pod_laws.specs.Moments.{host_at_end, is_of, until_last}
 use Rattle.pod_laws.proofs.Entries.{until_last-own, until_last-other}
 use Rattle.pod_laws.proofs.Steps.{by-entries, sound-changed, sound-entered}
 
-any-of-map : {X Y : Type 0} (same : Y → Y → Bool) (f : X → Y) (test : X → X → Bool) → ((x y : X) → same (f x) (f y) ≡ test x y) → (x : X) (xs : List X) → list_any (same (f x)) (map f xs) ≡ list_any (test x) xs
-any-of-map same f test e x [] = refl
-any-of-map same f test e x (y ∷ ys) = grind (arith, e x y, any-of-map same f test e x ys)
-
 distinct-of-map : {X Y : Type 0} (same : Y → Y → Bool) (f : X → Y) (test : X → X → Bool) → ((x y : X) → same (f x) (f y) ≡ test x y) → (xs : List X) → distinct same (map f xs) ≡ distinct test xs
 distinct-of-map same f test e [] = refl
-distinct-of-map same f test e (x ∷ xs) = grind (arith, any-of-map same f test e x xs, distinct-of-map same f test e xs)
+distinct-of-map same f test e (x ∷ xs) =
+    let again : list_any (same (f x)) (map f xs) ≡ list_any (test x) xs = list_any-map (same (f x)) f xs ∙ list_any-same_test (λ y. same (f x) (f y)) (test x) (e x) xs in
+    grind (arith, again, distinct-of-map same f test e xs)
 
 same_lease : (att : Att) (a b : Addr) → (bytes_eq att.network att.network && addr_eq a b) ≡ addr_eq a b
 same_lease att a b = grind (arith, nat_list_eq_equiv.refl att.network)

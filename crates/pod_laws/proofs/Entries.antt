@@ -1,9 +1,10 @@
 -- The entries of one command in a history that is one entry longer.
-use Rattle.std.proofs.Common.{◌≡◌, ℕ, ◌+◌, Bool, true, false, List, [], ◌∷◌, ◌++◌, refl, ◌∙◌, ap, arith}
+use Rattle.std.proofs.Common.{◌≡◌, ◌≢◌, ℕ, ◌+◌, Bool, true, false, List, [], ◌∷◌, ◌++◌, refl, sym, ◌∙◌, ap, inl, inr, ◌⊎◌, arith}
 use Rattle.std.specs.Prelude.{if◌then◌else◌}
 use Rattle.std.specs.List.{list_any}
 use Rattle.kernel_types.proofs.ListLemmas.{list_any-append_right}
 pub use Rattle.pod_workers.proofs.Histories.{is_of-own, is_of-other, own_entries-own, own_entries-other}
+use Rattle.pod_workers.proofs.Splits.{split_nil}
 pub use Rattle.pod_workers.specs.World.{replies_in}
 use Rattle.pod_workers.specs.declared.plan.Entry.{Entry}
 use Rattle.pod_laws.specs.Moments.{is_of, until_last}
@@ -14,6 +15,14 @@ use Rattle.gc_sweep.proofs.Lists.{list_any-snoc}
 pub no-entries : (es : List Entry) → replies_in es ≡ [] → es ≡ []
 no-entries [] h = refl
 no-entries (x ∷ xs) h = cc
+
+pub none-or-some : (es : List Entry) → (es ≡ []) ⊎ (es ≢ [])
+none-or-some [] = inl refl
+none-or-some (x ∷ xs) = inr (λ e. cc)
+
+-- with one more there is some
+pub pushed : (es : List Entry) (e : Entry) → es ++ e ∷ [] ≢ []
+pushed es e = λ none. split_nil es [] e (sym none)
 
 -- ---- until the last entry
 

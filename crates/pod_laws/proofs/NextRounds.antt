@@ -14,7 +14,7 @@ use Rattle.pod_workers.proofs.Order.{in_order, not_both, ready_is}
 use Rattle.pod_workers.proofs.Sound.{fine}
 use Rattle.pod_laws.specs.Moments.{host_at_end, host_at_start, is_of, own_entries, until_first, until_last}
 use Rattle.pod_laws.proofs.AloneRuns.{legal-of, ready-of, until_first-own}
-use Rattle.pod_laws.proofs.Entries.{is_of-own, is_of-other, no-entries, own_entries-own, own_entries-other, until_last-own, until_last-other}
+use Rattle.pod_laws.proofs.Entries.{is_of-own, is_of-other, no-entries, none-or-some, own_entries-own, own_entries-other, pushed, until_last-own, until_last-other}
 use Rattle.pod_laws.proofs.Steps.{AllOpen, Goes, IsKept, IsKeptOutside, IsOpenKept, OpenFact, by-entries, by-open}
 use Rattle.pod_workers.proofs.WellFormedPlans.{stand_alone}
 
@@ -56,10 +56,6 @@ no-third w legal k m n x d c ready at_m at_n next after before = elim (cases_ord
 
 -- ---- entries
 
-pushed-own : (es : List Entry) (e : Entry) → es ++ e ∷ [] ≡ [] → ⊥
-pushed-own [] e h = cc
-pushed-own (x ∷ xs) e h = cc
-
 more-if : (n : ℕ) (b : Bool) (x : Entry) (t u own : List Entry) → (if b then x ∷ own else own) ≢ [] → (own ≢ [] → t ≡ u) → (if b then [] else x ∷ t) ≡ (if b then [] else x ∷ u)
 more-if n true x t u own some h = refl
 more-if n false x t u own some h = ap (λ l. x ∷ l) (h some)
@@ -67,10 +63,6 @@ more-if n false x t u own some h = ap (λ l. x ∷ l) (h some)
 until_first-more : (n : ℕ) (h : List Entry) (e : Entry) → own_entries n h ≢ [] → until_first n (h ++ e ∷ []) ≡ until_first n h
 until_first-more n [] e some = absurd (some refl)
 until_first-more n (x ∷ xs) e some = more-if n (is_of n x) x (until_first n (xs ++ e ∷ [])) (until_first n xs) (own_entries n xs) some (λ more. until_first-more n xs e more)
-
-none-or-some : (es : List Entry) → (es ≡ []) ⊎ (es ≢ [])
-none-or-some [] = inl refl
-none-or-some (x ∷ xs) = inr (λ e. cc)
 
 apart-entry : (w : World) (k m : ℕ) (call : Call) (faulty : Bool) → m ≢ k → is_of m (entry_of (host_of w) k call faulty) ≡ false
 apart-entry w k m call faulty far = is_of-other m (entry_of (host_of w) k call faulty) (λ same. far (let s : k + 1 ≡ m + 1 = same in omega (arith, s)))
@@ -87,7 +79,7 @@ waiting-kept w k x call faulty goes was = λ n c at_n is_open m d at_m next some
     elim (eqb_tells m k) [
       | inl t ↦ until_last-own m h e (is_of-own m e (ap (λ j. j + 1) (sym t.1)))
       | inr f ↦ elim (eqb_tells n k) [
-        | inl t ↦ absurd (pushed-own (own_entries n h) e (sym (own_entries-own n h e (is_of-own n e (ap (λ j. j + 1) (sym t.1)))) ∙ none))
+        | inl t ↦ absurd (pushed (own_entries n h) e (sym (own_entries-own n h e (is_of-own n e (ap (λ j. j + 1) (sym t.1)))) ∙ none))
         | inr g ↦
             let begun : own_entries m h ≢ [] = λ nothing. some (own_entries-other m h e (apart-entry w k m call faulty f.1) ∙ nothing) in
             elim (no-third w legal k m n x d c (ready-of w k x call faulty goes) at_m at_n next (begun-round w legal m d at_m begun) (open-round w legal n c at_n is_open)) [

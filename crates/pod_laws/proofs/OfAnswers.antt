@@ -1,8 +1,7 @@
 -- What answers say, from what holds of the runs that came to them.
-use Rattle.std.proofs.Common.{◌≡◌, ℕ, Bool, true, false, List, [], Some, slice_get, refl, sym, ◌∙◌, ap, subst, inl, inr, ◌⊎◌}
+use Rattle.std.proofs.Common.{◌≡◌, ℕ, true, false, List, [], Some, slice_get, refl, sym, ◌∙◌, ap, subst, inl, inr, ◌⊎◌}
 use Rattle.std.proofs.lemmas.Option.{none-some}
 use Rattle.std.proofs.lemmas.Bool.{both_ways, cases_Bool}
-use Rattle.std.specs.Prelude.{if◌then◌else◌}
 use Rattle.std.specs.List.{list_all}
 use Rattle.cni_addr.specs.Lists.{distinct}
 use Rattle.cni_addr.specs.declared.address.Addr.{Addr}
@@ -16,8 +15,10 @@ use Rattle.pod_file.specs.declared.command.Verb.TheVariants as verbs
 use Rattle.kernel_types.specs.Equal.{addr_eq}
 use Rattle.kernel_types.specs.Replies.{is_fault}
 use Rattle.kernel_types.specs.Sound.{IsSound}
+use Rattle.kernel_types.proofs.Cases.{by_test}
 use Rattle.kernel_types.specs.declared.call.Call.{Call}
 use Rattle.kernel_types.specs.declared.call.Reply.{Reply}
+use Rattle.kernel_types.specs.declared.object.Host.{Host}
 use Rattle.plan_words.specs.Share.{Share, share_of}
 use Rattle.cni_verbs.specs.Answers.{answer_of, error_of}
 use Rattle.cni_verbs.specs.CommandWords.{att_of, mappings_of}
@@ -192,12 +193,8 @@ why-refused c es s cause verb ends = elim ends [
 pub was_refused : WasRefused
 was_refused = each-refused verbs.Add IsRefusedFor why-refused
 
-same-either : {X : Type 0} (b : Bool) (x : X) → (if b then x else x) ≡ x
-same-either true x = refl
-same-either false x = refl
-
 pub begin_leaves_the_host : BeginLeavesTheHost
-begin_leaves_the_host host att netns n reply = same-either (is_fault reply) host
+begin_leaves_the_host host att netns n reply = by_test (λ (k : Host). k ≡ host) (is_fault reply) host host (λ _. refl) (λ _. refl)
 
 -- ---- DEL
 

@@ -1,8 +1,8 @@
 -- What an ADD makes is of the kinds that its list's plugins name, so a deletion of these kinds leaves nothing.
-use Rattle.std.proofs.Common.{◌≡◌, ℕ, Bool, true, false, List, [], ◌∷◌, ◌++◌, map, Option, Some, None, refl, sym, ◌∙◌, ap, inl, inr, arith}
+use Rattle.std.proofs.Common.{◌≡◌, ℕ, Bool, true, false, not, List, [], ◌∷◌, ◌++◌, map, Option, Some, None, refl, sym, ◌∙◌, ap, arith}
 use Rattle.std.specs.Prelude.{filter}
 use Rattle.std.specs.List.{AllByRecursion, list_any, list_all}
-use Rattle.std.proofs.lemmas.Bool.{or_from, or_parts}
+use Rattle.std.proofs.lemmas.Bool.{not-true}
 use Rattle.pod_workers.proofs.Splits.{split_nil}
 use Rattle.cni_addr.specs.declared.address.Addr.{Addr}
 use Rattle.cni_addr.specs.declared.range.RangeSet.{RangeSet}
@@ -13,7 +13,7 @@ use Rattle.net_conf.specs.declared.first.HostLocalConf.{HostLocalConf}
 use Rattle.net_conf.specs.declared.chained.Chained.{Chained}
 use Rattle.net_conf.specs.declared.chained.Chained.TheVariants.{Portmap, Firewall, Tuning}
 use Rattle.net_conf.specs.declared.list.NetList.{NetList}
-use Rattle.kernel_types.proofs.ListLemmas.{list_any-append_left, list_any-append_right}
+use Rattle.kernel_types.proofs.ListLemmas.{filter_never, list_any-append_left, list_any-append_right}
 use Rattle.kernel_types.specs.Codes.{kind_eq}
 use Rattle.kernel_types.specs.Touch.{DropsOnly}
 use Rattle.kernel_types.specs.Words.{is_own}
@@ -25,7 +25,7 @@ use Rattle.kernel_types.specs.declared.call.Call.{Call}
 use Rattle.kernel_types.specs.declared.call.Call.TheVariants.{VethAdd, MacvlanAdd, LinkSet, AddrAdd, RouteAdd, RuleAppend, SettingSet, CachePut}
 use Rattle.plan_words.specs.Share.{Share, share_of, no_objects, share_after_call}
 use Rattle.plan_words.proofs.Deletions.{empty_none}
-use Rattle.plan_words.proofs.KeyLists.{filter-none}
+use Rattle.gc_sweep.proofs.Lists.{list_all-drops, list_all-none}
 use Rattle.host_local.specs.Conf.{ipam_of, range_sets_of}
 use Rattle.bridge_ptp.specs.Bridge.{rule_kinds, lease_kinds}
 use Rattle.cni_verbs.specs.Wanted.{sets_of, calls_before, first_kinds, chained_kinds, chained_kinds_reversed, kinds_of, back_calls}
@@ -151,17 +151,9 @@ leases-kinds_of list past left next e = first-among list kinds.Leases (leases-fi
 
 -- ---- what removes only keeps a share within its kinds
 
-none_of : {X : Type 0} (p gone : X → Bool) (old new : List X) → DropsOnly gone old new → list_any p old ≡ false → list_any p new ≡ false
-none_of p gone [] new d h = ap (list_any p) d
-none_of p gone (x ∷ old) [] d h = refl
-none_of p gone (x ∷ old) (y ∷ new) d h =
-    elim d [
-      | inl same ↦ or_from (p y) (list_any p new) (ap p (sym same.0) ∙ (or_parts (p x) (list_any p old) h).0) (none_of p gone old new same.1 (or_parts (p x) (list_any p old) h).1)
-      | inr drop ↦ none_of p gone old (y ∷ new) drop.1 (or_parts (p x) (list_any p old) h).1
-    ]
-
 pub still_none : {X : Type 0} (p gone : X → Bool) (old new : List X) → DropsOnly gone old new → filter p old ≡ [] → filter p new ≡ []
-still_none p gone old new d h = filter-none p new (none_of p gone old new d (empty_none p old h))
+still_none p gone old new d h =
+    filter_never p (λ x. not (p x)) (λ x fails. not-true (p x) fails) new (list_all-drops (λ x. not (p x)) gone old new d (list_all-none p old (empty_none p old h)))
 
 pub IsWithin-removes : (att : Att) (ks : List Kind) (old new : Host) → OnlyRemoves old new → IsWithin ks (share_of att old) → IsWithin ks (share_of att new)
 IsWithin-removes att ks old new d w = record {

@@ -26,6 +26,7 @@ use Rattle.cni_verbs.specs.Wanted.{calls_after, chained_calls, all_chained_calls
 use Rattle.pod_workers.proofs.BackCalls.{PassesFirst, passes-after}
 use Rattle.pod_laws.specs.AskedFor.{AreAmong, links_after_part, is_tuning, tunes_once, EachLinkIsWanted}
 use Rattle.pod_laws.proofs.Achieved.{with_leases}
+use Rattle.pod_laws.proofs.Tests.{none-by}
 use Rattle.pod_laws.proofs.Fronts.{are-left, are-right, links-calls, untuned-links}
 use Rattle.cni_verbs.proofs.WantedShare.{makes-wanted}
 
@@ -101,8 +102,7 @@ none-append : (xs ys : List Call) → NoneChange xs → NoneChange ys → NoneCh
 none-append xs ys h g = list_any-append_none changes_links xs ys h g
 
 none-passes : (calls : List Call) → list_all (λ x. not (changes_links x)) calls ≡ true → NoneChange calls
-none-passes [] h = refl
-none-passes (x ∷ xs) h = grind (arith, h, none-passes xs)
+none-passes calls h = none-by (λ x. not (changes_links x)) changes_links (λ x plain. not-true (changes_links x) plain) calls h
 
 none-first : (first : First) (att : Att) (netns : List ℕ) → PassesFirst (λ x. not (changes_links x)) first att netns
 none-first first att netns = record {

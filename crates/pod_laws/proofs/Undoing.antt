@@ -41,6 +41,7 @@ use Rattle.pod_laws.specs.Deleted.{HasDeleted, IsUndeletedFor}
 use Rattle.pod_laws.specs.Moments.{has_fault, own_entries}
 use Rattle.pod_laws.specs.Refused.{is_granted, lets_go_on, FirstRefusal, IsRefusedFor}
 use Rattle.pod_laws.proofs.Causes.{Refuses, begin-refused, plan-refused, lease-refused}
+use Rattle.pod_laws.proofs.Entries.{pushed}
 use Rattle.pod_laws.proofs.Footing.{IsMacvlan}
 use Rattle.pod_laws.proofs.OfKinds.{IsWithin, IsWithin-removes}
 use Rattle.pod_laws.proofs.Removes.{removes-deletion}
@@ -136,10 +137,6 @@ to-leasing list c es (x ∷ xs) given s h = h
 to-before_leases : (list : NetList) (c : Command) (es : List Entry) (left : List Call) (s : Share) → IsUnrefused c es → Undoing list c es (before_leases list c left) s
 to-before_leases list c es [] s h = to-leasing list c es (sets_of list) [] s h
 to-before_leases list c es (x ∷ xs) s h = h
-
-pushed : (es : List Entry) (e : Entry) → es ++ e ∷ [] ≢ []
-pushed [] e h = cc
-pushed (x ∷ xs) e h = cc
 
 unrefused-more : (c : Command) (es : List Entry) (e : Entry) → IsUnrefused c es → lets_go_on e ≡ true → IsUnrefused c (es ++ e ∷ [])
 unrefused-more c es e h g = record { verb = h.verb; words = h.words; go_on = list_all-push lets_go_on es e h.go_on g; begun = pushed es e }
