@@ -25,7 +25,7 @@ use Rattle.plan_words.proofs.OtherCalls.{share-other}
 use Rattle.plan_words.proofs.Refusals.{refused-same, refused-lease}
 use Rattle.pod_file.specs.declared.command.Command.{Command}
 use Rattle.cni_verbs.specs.CommandWords.{att_of}
-use Rattle.cni_verbs.specs.Script.{State, AtBegin, BeforeLeases, Leasing, AfterLeases, ReadingCache, Deleting, FindingEntry, Asking, Changing, Collecting, Over, Calls, before_of, turn, leases_in}
+use Rattle.cni_verbs.specs.Script.{State, AtBegin, BeforeLeases, Leasing, AfterLeases, ReadingCache, Deleting, FindingEntry, Asking, Changing, Collecting, Over, Calls, before_of, back_of, turn, leases_in}
 use Rattle.cni_verbs.specs.Wanted.{deletion}
 use Rattle.pod_workers.specs.Plans.{Placed}
 use Rattle.pod_workers.specs.World.{World, after, done, entry_of, host_of, host_on, replies_of, reply_to}
@@ -164,42 +164,24 @@ unleased-entered : (att : Att) (k : Host) (n : ℕ) (place : ℕ) (set : RangeSe
 unleased-entered att k n place set faulty not =
     on-entry (λ j. share_of att j ≡ share_of att k) k n (LeaseNext att place set) faulty refl (λ f. ap (share_of att) (refused-lease k att place set (λ a d. not a (ap (reply_to k (LeaseNext att place set)) f ∙ d))))
 
-before-now : (w : World) (n : ℕ) (c : Placed) (list : NetList) (x : Call) (xs : List Call) (faulty : Bool) → GoesOn w n c list x faulty → is_plan_call_of (att_of c.command) x ≡ true → IsUnrefused c.command (own_entries n w.history)
-    → Achieved list c.command (own_entries n w.history) (BeforeLeases x xs) (share_of (att_of c.command) (host_of w)) → NextAsked w n (att_of c.command) faulty x
-before-now w n c list x xs faulty on own un ach =
+-- a call of a part of the plan, after these, where each front of that part leaves what is asked for
+planned-now : (w : World) (n : ℕ) (c : Placed) (list : NetList) (x : Call) (xs : List Call) (given : List Addr) (start : Share) (all made : List Call) (faulty : Bool) → GoesOn w n c list x faulty → is_plan_call_of (att_of c.command) x ≡ true
+    → IsUnrefused c.command (own_entries n w.history) → all ≡ made ++ x ∷ xs → share_of (att_of c.command) (host_of w) ≡ share_after_calls start made → leased_in (own_entries n w.history) ≡ given
+    → ((front left : List Call) → all ≡ front ++ left → AreAskedFor list c.command given (share_after_calls start front)) → NextAsked w n (att_of c.command) faulty x
+planned-now w n c list x xs given start all made faulty on own un part was leased asked =
     let k = host_of w in
     let att = att_of c.command in
     let e = entry_of k n x faulty in
     let es = own_entries n w.history in
-    let made = ach.0 in
     elim (done_or_not (reply_to k x faulty)) [
       | inl done ↦
-          let share = own-made att k n x faulty own done ∙ ap (λ u. share_after_call u x) ach.2 ∙ sym (share_after_calls-append no_objects made (x ∷ [])) in
-          making-now w n c list x faulty on un (plan-no_begin att att x own) [] (leased-done es e [] done ach.3)
-          (subst (AreAskedFor list c.command []) (sym share) (asked-before_leases list c.command (made ++ x ∷ []) xs (ach.1 ∙ sym (append_assoc made (x ∷ []) xs))))
+          let share = own-made att k n x faulty own done ∙ ap (λ u. share_after_call u x) was ∙ sym (share_after_calls-append start made (x ∷ [])) in
+          making-now w n c list x faulty on un (plan-no_begin att att x own) given (leased-done es e given done leased)
+          (subst (AreAskedFor list c.command given) (sym share) (asked (made ++ x ∷ []) xs (part ∙ sym (append_assoc made (x ∷ []) xs))))
       | inr not ↦
-          let share = refused-entered att k n x faulty own not ∙ ach.2 in
-          making-now w n c list x faulty on un (plan-no_begin att att x own) [] (leased-same es e [] (plan-no_lease (reply_to k x faulty) (plan-may att k x faulty own)) ach.3)
-          (subst (AreAskedFor list c.command []) (sym share) (asked-before_leases list c.command made (x ∷ xs) ach.1))
-    ]
-
-after-now : (w : World) (n : ℕ) (c : Placed) (list : NetList) (x : Call) (xs : List Call) (given : List Addr) (faulty : Bool) → GoesOn w n c list x faulty → is_plan_call_of (att_of c.command) x ≡ true → IsUnrefused c.command (own_entries n w.history)
-    → Achieved list c.command (own_entries n w.history) (AfterLeases x xs given) (share_of (att_of c.command) (host_of w)) → NextAsked w n (att_of c.command) faulty x
-after-now w n c list x xs given faulty on own un ach =
-    let k = host_of w in
-    let att = att_of c.command in
-    let e = entry_of k n x faulty in
-    let es = own_entries n w.history in
-    let made = ach.0 in
-    elim (done_or_not (reply_to k x faulty)) [
-      | inl done ↦
-          let share = own-made att k n x faulty own done ∙ ap (λ u. share_after_call u x) ach.3 ∙ sym (share_after_calls-append (with_leases list c.command given) made (x ∷ [])) in
-          making-now w n c list x faulty on un (plan-no_begin att att x own) given (leased-done es e given done ach.4)
-          (subst (AreAskedFor list c.command given) (sym share) (asked-after_leases list c.command given (made ++ x ∷ []) xs (ach.1 ∙ sym (append_assoc made (x ∷ []) xs))))
-      | inr not ↦
-          let share = refused-entered att k n x faulty own not ∙ ach.3 in
-          making-now w n c list x faulty on un (plan-no_begin att att x own) given (leased-same es e given (plan-no_lease (reply_to k x faulty) (plan-may att k x faulty own)) ach.4)
-          (subst (AreAskedFor list c.command given) (sym share) (asked-after_leases list c.command given made (x ∷ xs) ach.1))
+          let share = refused-entered att k n x faulty own not ∙ was in
+          making-now w n c list x faulty on un (plan-no_begin att att x own) given (leased-same es e given (plan-no_lease (reply_to k x faulty) (plan-may att k x faulty own)) leased)
+          (subst (AreAskedFor list c.command given) (sym share) (asked made (x ∷ xs) part))
     ]
 
 lease-now : (w : World) (n : ℕ) (c : Placed) (list : NetList) (set : RangeSet) (sets : List RangeSet) (given : List Addr) (faulty : Bool) → GoesOn w n c list (LeaseNext (att_of c.command) (length given) set) faulty → IsUnrefused c.command (own_entries n w.history)
@@ -236,11 +218,13 @@ unfolding turn
 own-asked w n c list call faulty AtBegin sound left fit is un ach was =
     subst (OwnAsked w n c list faulty) (let e : Begin (att_of c.command) c.command.netns ≡ call = cc in e) (λ on. begin-now w n (att_of c.command) c.command.netns faulty was)
 own-asked w n c list call faulty (BeforeLeases x xs) sound left fit is un ach was =
-    subst (OwnAsked w n c list faulty) (let e : x ≡ call = cc in e) (λ on. before-now w n c list x xs faulty on left.0.0.0 un ach)
+    subst (OwnAsked w n c list faulty) (let e : x ≡ call = cc in e)
+    (λ on. planned-now w n c list x xs [] no_objects (before_of list c.command) ach.0 faulty on left.0.0.0 un ach.1 ach.2 ach.3 (asked-before_leases list c.command))
 own-asked w n c list call faulty (Leasing set sets given) sound left fit is un ach was =
     subst (OwnAsked w n c list faulty) (let e : LeaseNext (att_of c.command) (length given) set ≡ call = cc in e) (λ on. lease-now w n c list set sets given faulty on un ach)
 own-asked w n c list call faulty (AfterLeases x xs given) sound left fit is un ach was =
-    subst (OwnAsked w n c list faulty) (let e : x ≡ call = cc in e) (λ on. after-now w n c list x xs given faulty on left.0.0 un ach)
+    subst (OwnAsked w n c list faulty) (let e : x ≡ call = cc in e)
+    (λ on. planned-now w n c list x xs given (with_leases list c.command given) (back_of list c.command given) ach.0 faulty on left.0.0 un ach.1 ach.3 ach.4 (asked-after_leases list c.command given))
 own-asked w n c list call faulty (ReadingCache ending) sound left fit is un ach was =
     subst (OwnAsked w n c list faulty) (let e : CacheGet (att_of c.command) ≡ call = cc in e) (λ on. question-now w n (att_of c.command) (CacheGet (att_of c.command)) faulty refl was)
 own-asked w n c list call faulty (Deleting kind ks ending) sound left fit is un ach was =
