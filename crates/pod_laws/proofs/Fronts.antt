@@ -25,6 +25,7 @@ use Rattle.plan_words.proofs.CallLists.{share_after_calls-append}
 use Rattle.cni_verbs.specs.CommandWords.{att_of, mappings_of}
 use Rattle.cni_verbs.specs.Script.{before_of, back_of}
 use Rattle.cni_verbs.specs.Wanted.{calls_before, share_before, untuned}
+use Rattle.pod_laws.specs.Apart.{GrowsAtEnd}
 use Rattle.pod_laws.specs.AskedFor.{AreAmong, links_after_part, AreLinksOf, AreAskedFor}
 use Rattle.pod_laws.proofs.Achieved.{with_leases, wanted_by, no_leases}
 use Rattle.pod_laws.proofs.Removes.{OnlyRemoves}
@@ -32,18 +33,14 @@ use Rattle.cni_verbs.proofs.WantedShare.{made-before, makes-wanted}
 
 -- ---- lists
 
--- the list begins with the other
-abbrev pub BeginsWith : {X : Type 0} → List X → List X → Type 0
-BeginsWith {X} long short = (rest : List X) × (long ≡ short ++ rest)
+grows-same : {X : Type 0} (xs : List X) → GrowsAtEnd xs xs
+grows-same xs = ([], sym (append-nil xs))
 
-begins-same : {X : Type 0} (xs : List X) → BeginsWith xs xs
-begins-same xs = ([], sym (append-nil xs))
+grows-more : {X : Type 0} (xs ys : List X) → GrowsAtEnd xs (xs ++ ys)
+grows-more xs ys = (ys, refl)
 
-begins-more : {X : Type 0} (xs ys : List X) → BeginsWith (xs ++ ys) xs
-begins-more xs ys = (ys, refl)
-
-begins-on : {X : Type 0} (xs ys zs : List X) → BeginsWith ys xs → BeginsWith zs ys → BeginsWith zs xs
-begins-on xs ys zs h g = (h.0 ++ g.0, g.1 ∙ ap (λ l. l ++ g.0) h.1 ∙ append_assoc xs h.0 g.0)
+grows-on : {X : Type 0} (xs ys zs : List X) → GrowsAtEnd xs ys → GrowsAtEnd ys zs → GrowsAtEnd xs zs
+grows-on xs ys zs h g = (h.0 ++ g.0, g.1 ∙ ap (λ l. l ++ g.0) h.1 ∙ append_assoc xs h.0 g.0)
 
 among-left : {X : Type 0} (x : X) (xs ys : List X) → IsAmong x xs → IsAmong x (xs ++ ys)
 among-left x [] ys h = absurd h
@@ -63,7 +60,7 @@ among-append : {X : Type 0} (xs rest : List X) → AreAmong xs (xs ++ rest)
 among-append [] rest = tt
 among-append (x ∷ xs) rest = (inl refl, are-right xs (x ∷ []) (xs ++ rest) (among-append xs rest))
 
-pub among-front : {X : Type 0} (long short : List X) → BeginsWith long short → AreAmong short long
+pub among-front : {X : Type 0} (long short : List X) → GrowsAtEnd short long → AreAmong short long
 among-front long short h = subst (AreAmong short) (sym h.1) (among-append short h.0)
 
 -- ---- what is left of a list is among what it was among
@@ -90,34 +87,34 @@ among-drops p gone all (x ∷ old) (y ∷ new) d h =
 
 -- list by list, but for the links, which a later call may set
 pub record IsFront (s t : Share) : Type 0 where
-  pub addresses : BeginsWith t.addresses s.addresses
-  pub routes : BeginsWith t.routes s.routes
-  pub rules : BeginsWith t.rules s.rules
-  pub settings : BeginsWith t.settings s.settings
-  pub leases : BeginsWith t.leases s.leases
-  pub cached : BeginsWith t.cached s.cached
+  pub addresses : GrowsAtEnd s.addresses t.addresses
+  pub routes : GrowsAtEnd s.routes t.routes
+  pub rules : GrowsAtEnd s.rules t.rules
+  pub settings : GrowsAtEnd s.settings t.settings
+  pub leases : GrowsAtEnd s.leases t.leases
+  pub cached : GrowsAtEnd s.cached t.cached
 
 front-same : (s : Share) → IsFront s s
-front-same s = record { addresses = begins-same s.addresses; routes = begins-same s.routes; rules = begins-same s.rules; settings = begins-same s.settings; leases = begins-same s.leases; cached = begins-same s.cached }
+front-same s = record { addresses = grows-same s.addresses; routes = grows-same s.routes; rules = grows-same s.rules; settings = grows-same s.settings; leases = grows-same s.leases; cached = grows-same s.cached }
 
 front-on : (s t u : Share) → IsFront s t → IsFront t u → IsFront s u
 front-on s t u h g = record {
-  addresses = begins-on s.addresses t.addresses u.addresses h.addresses g.addresses;
-  routes = begins-on s.routes t.routes u.routes h.routes g.routes;
-  rules = begins-on s.rules t.rules u.rules h.rules g.rules;
-  settings = begins-on s.settings t.settings u.settings h.settings g.settings;
-  leases = begins-on s.leases t.leases u.leases h.leases g.leases;
-  cached = begins-on s.cached t.cached u.cached h.cached g.cached;
+  addresses = grows-on s.addresses t.addresses u.addresses h.addresses g.addresses;
+  routes = grows-on s.routes t.routes u.routes h.routes g.routes;
+  rules = grows-on s.rules t.rules u.rules h.rules g.rules;
+  settings = grows-on s.settings t.settings u.settings h.settings g.settings;
+  leases = grows-on s.leases t.leases u.leases h.leases g.leases;
+  cached = grows-on s.cached t.cached u.cached h.cached g.cached;
 }
 
 front-call : (s : Share) (call : Call) → IsFront s (share_after_call s call)
-front-call s (AddrAdd obj) = record { addresses = begins-more s.addresses (obj ∷ []); routes = begins-same s.routes; rules = begins-same s.rules; settings = begins-same s.settings; leases = begins-same s.leases; cached = begins-same s.cached }
-front-call s (RouteAdd obj) = record { addresses = begins-same s.addresses; routes = begins-more s.routes (obj ∷ []); rules = begins-same s.rules; settings = begins-same s.settings; leases = begins-same s.leases; cached = begins-same s.cached }
-front-call s (RuleAppend obj) = record { addresses = begins-same s.addresses; routes = begins-same s.routes; rules = begins-more s.rules (obj ∷ []); settings = begins-same s.settings; leases = begins-same s.leases; cached = begins-same s.cached }
-front-call s (SettingSet obj) = record { addresses = begins-same s.addresses; routes = begins-same s.routes; rules = begins-same s.rules; settings = begins-more s.settings (obj ∷ []); leases = begins-same s.leases; cached = begins-same s.cached }
+front-call s (AddrAdd obj) = record { addresses = grows-more s.addresses (obj ∷ []); routes = grows-same s.routes; rules = grows-same s.rules; settings = grows-same s.settings; leases = grows-same s.leases; cached = grows-same s.cached }
+front-call s (RouteAdd obj) = record { addresses = grows-same s.addresses; routes = grows-more s.routes (obj ∷ []); rules = grows-same s.rules; settings = grows-same s.settings; leases = grows-same s.leases; cached = grows-same s.cached }
+front-call s (RuleAppend obj) = record { addresses = grows-same s.addresses; routes = grows-same s.routes; rules = grows-more s.rules (obj ∷ []); settings = grows-same s.settings; leases = grows-same s.leases; cached = grows-same s.cached }
+front-call s (SettingSet obj) = record { addresses = grows-same s.addresses; routes = grows-same s.routes; rules = grows-same s.rules; settings = grows-more s.settings (obj ∷ []); leases = grows-same s.leases; cached = grows-same s.cached }
 front-call s (CachePut att cached) =
-    record { addresses = begins-same s.addresses; routes = begins-same s.routes; rules = begins-same s.rules; settings = begins-same s.settings; leases = begins-same s.leases; cached = begins-more s.cached (record { cached = cached; tag = Own att } ∷ []) }
-front-call s _ = record { addresses = begins-same s.addresses; routes = begins-same s.routes; rules = begins-same s.rules; settings = begins-same s.settings; leases = begins-same s.leases; cached = begins-same s.cached }
+    record { addresses = grows-same s.addresses; routes = grows-same s.routes; rules = grows-same s.rules; settings = grows-same s.settings; leases = grows-same s.leases; cached = grows-more s.cached (record { cached = cached; tag = Own att } ∷ []) }
+front-call s _ = record { addresses = grows-same s.addresses; routes = grows-same s.routes; rules = grows-same s.rules; settings = grows-same s.settings; leases = grows-same s.leases; cached = grows-same s.cached }
 
 front-calls : (s : Share) (calls : List Call) → IsFront s (share_after_calls s calls)
 front-calls s [] = front-same s
@@ -145,11 +142,11 @@ abbrev appends_links : Call → Bool
 appends_links (LinkSet a b d f g i j) = false
 appends_links _ = true
 
-links-appended : (s : Share) (call : Call) → appends_links call ≡ true → BeginsWith (share_after_call s call).links s.links
-links-appended s (VethAdd h i) e = begins-more s.links (h ∷ i ∷ [])
-links-appended s (MacvlanAdd x) e = begins-more s.links (x ∷ [])
+links-appended : (s : Share) (call : Call) → appends_links call ≡ true → GrowsAtEnd s.links (share_after_call s call).links
+links-appended s (VethAdd h i) e = grows-more s.links (h ∷ i ∷ [])
+links-appended s (MacvlanAdd x) e = grows-more s.links (x ∷ [])
 links-appended s (LinkSet a b d f g i j) e = cc
-links-appended s _ e = begins-same s.links
+links-appended s _ e = grows-same s.links
 
 -- ---- what a run has is asked for
 
@@ -182,11 +179,11 @@ asked-leasing list c given = asked-after_leases list c given [] (back_of list c 
 
 -- ---- before the leases
 
-links-appended_all : (s : Share) (calls : List Call) → list_all appends_links calls ≡ true → BeginsWith (share_after_calls s calls).links s.links
-links-appended_all s [] h = begins-same s.links
+links-appended_all : (s : Share) (calls : List Call) → list_all appends_links calls ≡ true → GrowsAtEnd s.links (share_after_calls s calls).links
+links-appended_all s [] h = grows-same s.links
 links-appended_all s (x ∷ xs) h =
     let both = and_parts (appends_links x) (list_all appends_links xs) h in
-    begins-on s.links (share_after_call s x).links (share_after_calls (share_after_call s x) xs).links (links-appended s x both.0) (links-appended_all (share_after_call s x) xs both.1)
+    grows-on s.links (share_after_call s x).links (share_after_calls (share_after_call s x) xs).links (links-appended s x both.0) (links-appended_all (share_after_call s x) xs both.1)
 
 before-appends : (first : First) (att : Att) (netns : List ℕ) → list_all appends_links (calls_before first att netns) ≡ true
 before-appends (Bridge conf) att netns = refl
@@ -199,7 +196,7 @@ asked-before_leases list c made left part =
     let all : list_all appends_links (made ++ left) ≡ true = ap (list_all appends_links) (sym part) ∙ before-appends list.first (att_of c) c.netns in
     let appends : list_all appends_links left ≡ true = (and_parts (list_all appends_links made) (list_all appends_links left) (sym (list_all-append appends_links made left) ∙ all)).1 in
     let whole : share_after_calls s left ≡ share_before list.first (att_of c) c.netns = sym (share_after_calls-append no_objects made left) ∙ ap (share_after_calls no_objects) (sym part) ∙ made-before list.first (att_of c) c.netns in
-    let links : BeginsWith (untuned list (att_of c) c.netns) s.links = subst (λ (t : Share). BeginsWith t.links s.links) whole (links-appended_all s left appends) in
+    let links : GrowsAtEnd s.links (untuned list (att_of c) c.netns) = subst (λ (t : Share). GrowsAtEnd s.links t.links) whole (links-appended_all s left appends) in
     asked-front list c [] s
     (record { made = []; left = back_of list c []; part = refl; among = among-front (untuned list (att_of c) c.netns) s.links links })
     (front-on s (with_leases list c []) (wanted_by list c [])

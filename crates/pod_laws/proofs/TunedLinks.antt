@@ -24,7 +24,7 @@ use Rattle.firewall_tuning.specs.Tuning.{tuning_settings, sets_any, link_set_cal
 use Rattle.cni_verbs.specs.CommandWords.{att_of, mappings_of}
 use Rattle.cni_verbs.specs.Wanted.{calls_after, chained_calls, all_chained_calls, chained_result, back_calls, given_by_list, first_plugin_result, cached_of, untuned, wanted}
 use Rattle.pod_workers.proofs.BackCalls.{PassesFirst, passes-after}
-use Rattle.pod_laws.specs.AskedFor.{AreAmong, links_after_part, is_tuning, tunes_once, EachLinkIsWanted}
+use Rattle.pod_laws.specs.AskedFor.{AreAmong, links_after_part, is_tuning, at_most_one, EachLinkIsWanted}
 use Rattle.pod_laws.proofs.Achieved.{with_leases}
 use Rattle.pod_laws.proofs.Tests.{none-by}
 use Rattle.pod_laws.proofs.Fronts.{are-left, are-right, links-calls, untuned-links}
@@ -41,10 +41,8 @@ changes_links _ = false
 abbrev NoneChange : List Call → Type 0
 NoneChange calls = list_any changes_links calls ≡ false
 
--- at most one of them does
 abbrev change_once : List Call → Bool
-change_once [] = true
-change_once (x ∷ xs) = if changes_links x then not (list_any changes_links xs) else change_once xs
+change_once calls = at_most_one changes_links calls
 
 links-same : (s : Share) (call : Call) → changes_links call ≡ false → (share_after_call s call).links ≡ s.links
 links-same s (VethAdd h i) e = cc
@@ -144,19 +142,19 @@ none-all_chained (c ∷ cs) att netns mappings prev h =
     none-append (chained_calls c att netns mappings prev.ips) (all_chained_calls cs att netns mappings (chained_result c prev)) (none-chained c att netns mappings prev.ips (grind (arith, h)))
     (none-all_chained cs att netns mappings (chained_result c prev) (grind (arith, h)))
 
-once-all_step : (b : Bool) (c : Chained) (cs : List Chained) (att : Att) (netns : List ℕ) (mappings : List PortMapping) (prev : AddResult) → is_tuning c ≡ b → (if b then not (list_any is_tuning cs) else tunes_once cs) ≡ true
-    → (tunes_once cs ≡ true → change_once (all_chained_calls cs att netns mappings (chained_result c prev)) ≡ true) → change_once (all_chained_calls (c ∷ cs) att netns mappings prev) ≡ true
+once-all_step : (b : Bool) (c : Chained) (cs : List Chained) (att : Att) (netns : List ℕ) (mappings : List PortMapping) (prev : AddResult) → is_tuning c ≡ b → (if b then not (list_any is_tuning cs) else at_most_one is_tuning cs) ≡ true
+    → (at_most_one is_tuning cs ≡ true → change_once (all_chained_calls cs att netns mappings (chained_result c prev)) ≡ true) → change_once (all_chained_calls (c ∷ cs) att netns mappings prev) ≡ true
 once-all_step true c cs att netns mappings prev is h rest =
     once-then_none (chained_calls c att netns mappings prev.ips) (all_chained_calls cs att netns mappings (chained_result c prev)) (once-chained c att netns mappings prev.ips)
     (none-all_chained cs att netns mappings (chained_result c prev) (not-true (list_any is_tuning cs) h))
 once-all_step false c cs att netns mappings prev is h rest =
     once-after_none (chained_calls c att netns mappings prev.ips) (all_chained_calls cs att netns mappings (chained_result c prev)) (none-chained c att netns mappings prev.ips is) (rest h)
 
-once-all_chained : (cs : List Chained) (att : Att) (netns : List ℕ) (mappings : List PortMapping) (prev : AddResult) → tunes_once cs ≡ true → change_once (all_chained_calls cs att netns mappings prev) ≡ true
+once-all_chained : (cs : List Chained) (att : Att) (netns : List ℕ) (mappings : List PortMapping) (prev : AddResult) → at_most_one is_tuning cs ≡ true → change_once (all_chained_calls cs att netns mappings prev) ≡ true
 once-all_chained [] att netns mappings prev h = refl
 once-all_chained (c ∷ cs) att netns mappings prev h = once-all_step (is_tuning c) c cs att netns mappings prev refl h (λ g. once-all_chained cs att netns mappings (chained_result c prev) g)
 
-once-back : (list : NetList) (att : Att) (netns : List ℕ) (mappings : List PortMapping) (addrs : List Addr) → tunes_once list.chained ≡ true → change_once (back_calls list att netns mappings addrs) ≡ true
+once-back : (list : NetList) (att : Att) (netns : List ℕ) (mappings : List PortMapping) (addrs : List Addr) → at_most_one is_tuning list.chained ≡ true → change_once (back_calls list att netns mappings addrs) ≡ true
 once-back list att netns mappings addrs h =
     let chain = all_chained_calls list.chained att netns mappings (first_plugin_result list att netns addrs) in
     let put = CachePut att (cached_of list att netns mappings addrs) ∷ [] in

@@ -101,11 +101,11 @@ is_tuning (Portmap conf) = false
 is_tuning (Firewall conf) = false
 is_tuning (Tuning conf) = true
 
-abbrev pub tunes_once : List Chained → Bool
-tunes_once [] = true
-tunes_once (c ∷ cs) = if is_tuning c then not (list_any is_tuning cs) else tunes_once cs
+abbrev pub at_most_one : {X : Type 0} → (X → Bool) → List X → Bool
+at_most_one test [] = true
+at_most_one test (x ∷ xs) = if test x then not (list_any test xs) else at_most_one test xs
 
 -- each link is a wanted one, or one as it was before `tuning` set its values
 abbrev pub EachLinkIsWanted : Type 0
-EachLinkIsWanted = (list : NetList) (c : Command) (given : List Addr) (links : List Link) → tunes_once list.chained ≡ true → AreLinksOf list c given links
+EachLinkIsWanted = (list : NetList) (c : Command) (given : List Addr) (links : List Link) → at_most_one is_tuning list.chained ≡ true → AreLinksOf list c given links
     → AreAmong links ((wanted list (att_of c) c.netns (mappings_of list c) given).links ++ untuned list (att_of c) c.netns)
