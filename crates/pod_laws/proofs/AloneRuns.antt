@@ -1,5 +1,5 @@
 -- The entries of an exclusive command stand together.
-use Rattle.std.proofs.Common.{◌≡◌, ◌≢◌, ℕ, ◌+◌, Bool, true, false, List, [], ◌∷◌, ◌++◌, Some, slice_get, refl, sym, ◌∙◌, ap, subst, inl, inr, ◌⊎◌, append_assoc, arith}
+use Rattle.std.proofs.Common.{◌≡◌, ◌≢◌, ℕ, ◌+◌, Bool, true, false, List, [], ◌∷◌, ◌++◌, Some, slice_get, refl, sym, ◌∙◌, ap, subst, inl, inr, ◌⊎◌, append_assoc}
 use Rattle.std.specs.Prelude.{if◌then◌else◌}
 use Rattle.std.specs.List.{list_any}
 use Rattle.std.proofs.lemmas.Bool.Decides.{eqb_tells}
@@ -23,7 +23,7 @@ use Rattle.pod_workers.proofs.Histories.{replies_of-other}
 use Rattle.pod_workers.proofs.Order.{alone_apart, ready_is}
 use Rattle.pod_workers.proofs.Sound.{sound_host}
 use Rattle.pod_laws.specs.Moments.{host_at_end, host_at_start, is_of, own_entries, until_first, until_last}
-use Rattle.pod_laws.proofs.Entries.{is_of-own, is_of-other, no-entries, own_entries-own, own_entries-other, replies_in, until_last-own, until_last-other}
+use Rattle.pod_laws.proofs.Entries.{is_of-own, is_of-other, no-entries, other-number, own_entries-own, own_entries-other, replies_in, until_last-own, until_last-other}
 use Rattle.pod_laws.proofs.Runs.{own-state}
 use Rattle.pod_laws.proofs.Steps.{AllOpen, Goes, IsKept, IsKeptOutside, IsOpenKept, OpenFact, by-entries, by-open}
 
@@ -49,7 +49,7 @@ last-kept w n c call faulty goes was = λ m d at is_open exclusive.
     elim (eqb_tells m n) [
       | inl t ↦ inr (until_last-own m w.history e (is_of-own m e (ap (λ j. j + 1) (sym t.1))))
       | inr f ↦
-          let far : e.command ≢ m + 1 = λ same. f.1 (let s : n + 1 ≡ m + 1 = same in omega (arith, s)) in
+          let far : e.command ≢ m + 1 = other-number m n f.1 in
           inl (replies_of-other m w.history e far ∙ alone_apart w (legal-of w n c call faulty goes) m n d c (ready-of w n c call faulty goes) f.1 at is_open (inr exclusive))
     ]
 
@@ -153,7 +153,7 @@ together-next w n c call faulty goes was = λ m d at exclusive.
           let last = all-last_to_go w (legal-of w n c call faulty goes) n c ready.there ready.unanswered mine in
           let P : ℕ → Placed → Type 0 = λ j x. StandsTogether w.plan (w.history ++ e ∷ []) j x in
           subst (λ j. P j d) (sym t.1) (subst (P n) (sym same) (together-own w n c call faulty goes last (was n c ready.there mine)))
-      | inr f ↦ together-other w.plan w.history m d e (is_of-other m e (λ same. f.1 (let s : n + 1 ≡ m + 1 = same in omega (arith, s)))) (was m d at exclusive)
+      | inr f ↦ together-other w.plan w.history m d e (is_of-other m e (other-number m n f.1)) (was m d at exclusive)
     ]
 
 together-kept : IsKept AllTogether

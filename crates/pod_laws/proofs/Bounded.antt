@@ -1,12 +1,9 @@
 -- A run makes no more calls than were left to it before its first entry.
-use Rattle.std.proofs.Common.{◌≡◌, ◌≢◌, ℕ, ◌+◌, ◌≤◌, Bool, true, false, List, [], ◌∷◌, ◌++◌, length, Some, slice_get, refl, ◌∙◌, ap, inl, inr, arith}
+use Rattle.std.proofs.Common.{◌≡◌, ℕ, ◌+◌, ◌≤◌, true, List, [], ◌∷◌, ◌++◌, length, Some, slice_get, refl, ◌∙◌, ap, inl, inr, arith}
 use Rattle.std.proofs.lemmas.List.{length-append, length-map}
-use Rattle.std.proofs.lemmas.Bool.Decides.{eqb_tells}
 use Rattle.std.proofs.lemmas.Bool.{both_ways}
 use Rattle.net_conf.specs.declared.list.NetList.{NetList}
 use Rattle.pod_file.specs.declared.command.Command.{Command}
-use Rattle.kernel_types.specs.declared.object.Host.{Host}
-use Rattle.kernel_types.specs.declared.call.Call.{Call}
 use Rattle.plan_words.specs.Share.{Share, share_of}
 use Rattle.cni_verbs.specs.CommandWords.{att_of}
 use Rattle.cni_verbs.specs.Script.{advance, start_state}
@@ -22,10 +19,10 @@ use Rattle.pod_workers.proofs.Splits.{split_nil, split_snoc}
 use Rattle.pod_workers.proofs.StepsLeft.{IsNoCollection, entry-falls, none-stays}
 use Rattle.pod_workers.proofs.Replies.{true-from}
 use Rattle.pod_laws.specs.Moments.{is_of, own_entries, until_last}
-use Rattle.pod_laws.proofs.Entries.{is_of-own, is_of-other, own_entries-own, own_entries-other, replies_in, no-entries, until_last-own, until_last-other}
+use Rattle.pod_laws.proofs.Entries.{is_of-own, own_entries-own, own_entries-other, replies_in, no-entries, until_last-own, until_last-other}
 use Rattle.pod_laws.proofs.RunFacts.{state_by, state_by-append}
 use Rattle.pod_laws.proofs.Runs.{own-state, share-kept}
-use Rattle.pod_laws.proofs.Steps.{GoesOn, IsKept, IsKeptOutside, at_its_place, by-entries, no_list_there}
+use Rattle.pod_laws.proofs.Steps.{AllListed, IsOtherKept, IsOwnKept, by-listed}
 
 -- ---- calls made and calls left
 
@@ -48,12 +45,9 @@ RunFrom p h n c list =
     (most : ℕ) (before rest : List Entry) (e : Entry) → AddsInAtMost list c.command most → IsNoCollection (start_state list c.command) → h ≡ before ++ e ∷ rest → e.command ≡ n + 1 → own_entries n before ≡ []
     → (made_and_left p h n c.command list most ≤ at_start p before c.command list most) × (made_and_left p h n c.command list most ≤ at_first p before e c.command list most)
 
-abbrev FromFirst : Plan → List Entry → Type 0
-FromFirst p h = (n : ℕ) (c : Placed) (list : NetList) → slice_get (commands_of p) n ≡ Some c → list_for p c.command ≡ Some list → RunFrom p h n c list
-
 -- ---- an entry of another command
 
-from-other : (p : Plan) (h : List Entry) (n : ℕ) (c : Placed) (list : NetList) (x : Entry) → is_of n x ≡ false → RunFrom p h n c list → RunFrom p (h ++ x ∷ []) n c list
+from-other : IsOtherKept RunFrom
 from-other p h n c list x far was = λ most before rest e in_most none split own first.
     let same : made_and_left p (h ++ x ∷ []) n c.command list most ≡ made_and_left p h n c.command list most =
     ap (λ es. length es + calls_left most list c.command (state_by list c.command es) (share_of (att_of c.command) (after p.pods.opening (until_last n (h ++ x ∷ []))))) (own_entries-other n h x far)
@@ -63,12 +57,9 @@ from-other p h n c list x far was = λ most before rest e in_most none split own
       | inr t ↦ (let earlier = was most before t.0 e in_most none t.2 own first in (omega arith, omega arith))
     ]
 
-other-number : (n m : ℕ) (host : Host) (call : Call) (faulty : Bool) → n ≢ m → is_of n (entry_of host m call faulty) ≡ false
-other-number n m host call faulty differ = is_of-other n (entry_of host m call faulty) (λ same. differ (let s : m + 1 ≡ n + 1 = same in omega (arith, s)))
-
 -- ---- an own entry
 
-from-own : (w : World) (n : ℕ) (c : Placed) (list : NetList) (call : Call) (faulty : Bool) → GoesOn w n c list call faulty → RunFrom w.plan w.history n c list → RunFrom w.plan (w.history ++ entry_of (host_of w) n call faulty ∷ []) n c list
+from-own : IsOwnKept RunFrom
 from-own w n c list call faulty on was = λ most before rest e in_most none split own first.
     let h = w.history in
     let x = entry_of (host_of w) n call faulty in
@@ -109,24 +100,8 @@ from-own w n c list call faulty on was = λ most before rest e in_most none spli
 
 -- ---- every history
 
-from-entered : IsKept FromFirst
-from-entered w n c list call faulty on was = λ m d other_list at listed.
-    let h = w.history in
-    let x = entry_of (host_of w) n call faulty in
-    elim (eqb_tells m n) [
-      | inl t ↦
-          at_its_place w n c list call faulty on (RunFrom w.plan (h ++ x ∷ [])) m d other_list t.1 at listed (from-own w n c list call faulty on (was n c list on.ready.there on.listed))
-      | inr f ↦ from-other w.plan h m d other_list x (other-number m n (host_of w) call faulty f.1) (was m d other_list at listed)
-    ]
-
-from-changed : IsKeptOutside FromFirst
-from-changed w n c call faulty on was = λ m d list at listed. elim (eqb_tells m n) [
-  | inl t ↦ absurd (no_list_there w n c call faulty on m d list t.1 at listed)
-  | inr f ↦ from-other w.plan w.history m d list (entry_of (host_of w) n call faulty) (other-number m n (host_of w) call faulty f.1) (was m d list at listed)
-]
-
-from-first : (w : World) → Legal w → FromFirst w.plan w.history
-from-first w legal = by-entries FromFirst (λ p well n c list at listed most before rest e in_most none split own first. absurd (split_nil before rest e split)) from-entered from-changed w legal
+from-first : (w : World) → Legal w → AllListed RunFrom w.plan w.history
+from-first w legal = by-listed RunFrom (λ p n c list most before rest e in_most none split own first. absurd (split_nil before rest e split)) from-own from-other w legal
 
 -- the calls that a run has made, against what was left before its first, and after it
 pub made-within : (w : World) → Legal w → (n : ℕ) (c : Placed) (list : NetList) (most : ℕ) (before rest : List Entry) (e : Entry) → slice_get (commands_of w.plan) n ≡ Some c → list_for w.plan c.command ≡ Some list

@@ -22,7 +22,7 @@ use Rattle.pod_workers.specs.declared.plan.Plan.{Plan}
 use Rattle.pod_workers.proofs.Histories.{after-append}
 use Rattle.pod_laws.specs.Moments.{host_at_end, is_of, until_last}
 use Rattle.pod_laws.proofs.Entries.{until_last-own, until_last-other}
-use Rattle.pod_laws.proofs.Steps.{by-entries, sound-changed, sound-entered}
+use Rattle.pod_laws.proofs.Steps.{by-entries, sound-entered}
 
 distinct-of-map : {X Y : Type 0} (same : Y → Y → Bool) (f : X → Y) (test : X → X → Bool) → ((x y : X) → same (f x) (f y) ≡ test x y) → (xs : List X) → distinct same (map f xs) ≡ distinct test xs
 distinct-of-map same f test e [] = refl
@@ -54,5 +54,5 @@ sound-next w e sound was = λ m.
 
 pub sound-at_end : (w : World) → Legal w → (n : ℕ) → IsSound (host_at_end w n)
 sound-at_end w legal =
-    by-entries AllSound (λ p well m. well.pods.opening.sound) (λ v n c list call faulty on was. sound-next v (entry_of (host_of v) n call faulty) (sound-entered v n c list call faulty on) was)
-    (λ v n c call faulty on was. sound-next v (entry_of (host_of v) n call faulty) (sound-changed v n c call faulty on) was) w legal
+    by-entries AllSound (λ p well m. well.pods.opening.sound) (λ v n c list call faulty on was. sound-next v (entry_of (host_of v) n call faulty) (sound-entered v n call faulty on.legal on.allowed) was)
+    (λ v n c call faulty on was. sound-next v (entry_of (host_of v) n call faulty) (sound-entered v n call faulty on.legal on.allowed) was) w legal

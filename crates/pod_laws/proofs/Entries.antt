@@ -24,6 +24,10 @@ none-or-some (x ∷ xs) = inr (λ e. cc)
 pub pushed : (es : List Entry) (e : Entry) → es ++ e ∷ [] ≢ []
 pushed es e = λ none. split_nil es [] e (sym none)
 
+-- another command's entries have another number
+pub other-number : (m n : ℕ) → m ≢ n → n + 1 ≢ m + 1
+other-number m n differ = λ same. differ (omega (arith, same))
+
 -- ---- until the last entry
 
 until-own : (b : Bool) (x : Entry) (t u : List Entry) → b ≡ true → t ≡ u → (if b then x ∷ t else []) ≡ x ∷ u

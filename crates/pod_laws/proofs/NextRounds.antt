@@ -14,7 +14,7 @@ use Rattle.pod_workers.proofs.Order.{in_order, not_both, ready_is}
 use Rattle.pod_workers.proofs.Sound.{fine}
 use Rattle.pod_laws.specs.Moments.{host_at_end, host_at_start, is_of, own_entries, until_first, until_last}
 use Rattle.pod_laws.proofs.AloneRuns.{legal-of, ready-of, until_first-own}
-use Rattle.pod_laws.proofs.Entries.{is_of-own, is_of-other, no-entries, none-or-some, own_entries-own, own_entries-other, pushed, until_last-own, until_last-other}
+use Rattle.pod_laws.proofs.Entries.{is_of-own, is_of-other, no-entries, none-or-some, other-number, own_entries-own, own_entries-other, pushed, until_last-own, until_last-other}
 use Rattle.pod_laws.proofs.Steps.{AllOpen, Goes, IsKept, IsKeptOutside, IsOpenKept, OpenFact, by-entries, by-open}
 use Rattle.pod_workers.proofs.WellFormedPlans.{stand_alone}
 
@@ -65,7 +65,7 @@ until_first-more n [] e some = absurd (some refl)
 until_first-more n (x ∷ xs) e some = more-if n (is_of n x) x (until_first n (xs ++ e ∷ [])) (until_first n xs) (own_entries n xs) some (λ more. until_first-more n xs e more)
 
 apart-entry : (w : World) (k m : ℕ) (call : Call) (faulty : Bool) → m ≢ k → is_of m (entry_of (host_of w) k call faulty) ≡ false
-apart-entry w k m call faulty far = is_of-other m (entry_of (host_of w) k call faulty) (λ same. far (let s : k + 1 ≡ m + 1 = same in omega (arith, s)))
+apart-entry w k m call faulty far = is_of-other m (entry_of (host_of w) k call faulty) (other-number m k far)
 
 -- while the second has made no call, the first one's last entry is the last one
 abbrev IsWaiting : OpenFact

@@ -1,22 +1,21 @@
 -- A fact about every run that its own entries keep, where the host keeps enough between them.
-use Rattle.std.proofs.Common.{◌≡◌, ℕ, ◌+◌, Bool, true, false, List, [], ◌∷◌, ◌++◌, length, Some, slice_get, refl, sym, ◌∙◌, ap, subst, inl, inr, ◌⊎◌, arith}
+use Rattle.std.proofs.Common.{◌≡◌, ℕ, ◌+◌, Bool, true, List, [], ◌∷◌, ◌++◌, length, refl, sym, ◌∙◌, ap, subst, inl, inr, ◌⊎◌, arith}
 use Rattle.std.proofs.lemmas.List.{length-map, map-append}
-use Rattle.std.proofs.lemmas.Bool.Decides.{eqb_tells}
 use Rattle.net_conf.specs.declared.list.NetList.{NetList}
 use Rattle.pod_file.specs.declared.command.Command.{Command}
 use Rattle.kernel_types.specs.declared.object.Host.{Host}
 use Rattle.kernel_types.specs.declared.call.Call.{Call}
 use Rattle.cni_verbs.specs.Script.{State, advance, start_state, state_after}
 use Rattle.pod_workers.specs.Legal.{Legal}
-use Rattle.pod_workers.specs.Plans.{Placed, commands_of, list_for}
+use Rattle.pod_workers.specs.Plans.{Placed}
 use Rattle.pod_workers.specs.World.{World, IsReady, after, host_on, host_of, replies_of, entry_of}
 use Rattle.pod_workers.specs.declared.plan.Entry.{Entry}
 use Rattle.pod_workers.specs.declared.plan.Plan.{Plan}
 use Rattle.pod_workers.proofs.Histories.{after-append}
 use Rattle.pod_workers.proofs.Kept.{state_from-append}
 use Rattle.pod_laws.specs.Moments.{is_of, own_entries, until_last}
-use Rattle.pod_laws.proofs.Entries.{is_of-own, is_of-other, own_entries-own, own_entries-other, replies_in, no-entries, until_last-own, until_last-other}
-use Rattle.pod_laws.proofs.Steps.{AllOpen, GoesOn, IsKept, IsKeptOutside, at_its_place, by-entries, no_list_there}
+use Rattle.pod_laws.proofs.Entries.{is_of-own, own_entries-own, own_entries-other, replies_in, no-entries, until_last-own, until_last-other}
+use Rattle.pod_laws.proofs.Steps.{AllListed, AllOpen, GoesOn, IsOtherKept, IsOwnKept, by-listed}
 
 -- the state of a run after these entries
 abbrev pub state_by : NetList → Command → List Entry → State
@@ -56,7 +55,7 @@ abbrev pub RunAt : HostFact → Plan → List Entry → ℕ → Placed → NetLi
 RunAt F p h m d list = F list d.command (own_entries m h) (state_by list d.command (own_entries m h)) (after p.pods.opening (until_last m h))
 
 abbrev pub EachRun : HostFact → Plan → List Entry → Type 0
-EachRun F p h = (n : ℕ) (c : Placed) (list : NetList) → slice_get (commands_of p) n ≡ Some c → list_for p c.command ≡ Some list → RunAt F p h n c list
+EachRun F p h = AllListed (RunAt F) p h
 
 -- the fact about a ready run, at a host of which enough was kept since
 pub record IsNow (R : Keeping) (F : HostFact) (w : World) (n : ℕ) (c : Placed) (list : NetList) : Type 0 where
@@ -64,53 +63,40 @@ pub record IsNow (R : Keeping) (F : HostFact) (w : World) (n : ℕ) (c : Placed)
   pub keeps : R c.command old (host_of w)
   pub holds : F list c.command (own_entries n w.history) (state_by list c.command (own_entries n w.history)) old
 
-run-now : (R : Keeping) (F : HostFact) → IsKeptBetween R → StartsOn F → (w : World) (n : ℕ) (c : Placed) (list : NetList) → Legal w → IsReady w n c → EachRun F w.plan w.history → list_for w.plan c.command ≡ Some list
+run-now : (R : Keeping) (F : HostFact) → IsKeptBetween R → StartsOn F → (w : World) (n : ℕ) (c : Placed) (list : NetList) → Legal w → IsReady w n c → RunAt F w.plan w.history n c list
     → IsNow R F w n c list
-run-now R F kept start w n c list legal ready each listed = elim (kept.since w legal n c ready.there ready.unanswered) [
+run-now R F kept start w n c list legal ready last = elim (kept.since w legal n c ready.there ready.unanswered) [
   | inl none ↦
       let no_entry : own_entries n w.history ≡ [] = no-entries (own_entries n w.history) none in
       let P : List Entry → Type 0 = λ es. F list c.command es (state_by list c.command es) (host_of w) in
       record { old = host_of w; keeps = kept.same c.command (host_of w); holds = subst P (sym no_entry) (start list c.command (host_of w)) }
-  | inr keeps ↦ record { old = after w.plan.pods.opening (until_last n w.history); keeps = keeps; holds = each n c list ready.there listed }
+  | inr keeps ↦ record { old = after w.plan.pods.opening (until_last n w.history); keeps = keeps; holds = last }
 ]
 
 -- an entry of another command leaves what holds of a run
-run-other : (F : HostFact) (p : Plan) (m : ℕ) (d : Placed) (list : NetList) (h : List Entry) (e : Entry) → is_of m e ≡ false → RunAt F p h m d list → RunAt F p (h ++ e ∷ []) m d list
-run-other F p m d list h e far was =
+run-other : (F : HostFact) → IsOtherKept (RunAt F)
+run-other F p h m d list e far was =
     subst (λ l. F list d.command l (state_by list d.command l) (after p.pods.opening (until_last m (h ++ e ∷ [])))) (sym (own_entries-other m h e far))
     (subst (λ l. F list d.command (own_entries m h) (state_by list d.command (own_entries m h)) (after p.pods.opening l)) (sym (until_last-other m h e far)) was)
 
-run-entered : (R : Keeping) (F : HostFact) → IsKeptBetween R → StartsOn F → IsHostFact R F → IsKept (EachRun F)
-run-entered R F kept start step w n c list call faulty on each = λ m d other_list at listed.
+run-own : (R : Keeping) (F : HostFact) → IsKeptBetween R → StartsOn F → IsHostFact R F → IsOwnKept (RunAt F)
+run-own R F kept start step w n c list call faulty on last =
     let h = w.history in
     let e = entry_of (host_of w) n call faulty in
     let opening = w.plan.pods.opening in
-    elim (eqb_tells m n) [
-      | inl t ↦
-          let own : is_of n e ≡ true = is_of-own n e refl in
-          let es = own_entries n h in
-          let before = run-now R F kept start w n c list on.legal on.ready each on.listed in
-          let now = step w n c list call faulty before.old on before.keeps before.holds in
-          let at_state = subst (λ st. F list c.command (es ++ e ∷ []) st (host_on (host_of w) e)) (sym (state_by-append list c.command es e)) now in
-          let at_entries = subst (λ l. F list c.command l (state_by list c.command l) (host_on (host_of w) e)) (sym (own_entries-own n h e own)) at_state in
-          let at_end : host_on (host_of w) e ≡ after opening (until_last n (h ++ e ∷ [])) = sym (ap (after opening) (until_last-own n h e own) ∙ after-append opening h e) in
-          let mine : RunAt F w.plan (h ++ e ∷ []) n c list = subst (F list c.command (own_entries n (h ++ e ∷ [])) (state_by list c.command (own_entries n (h ++ e ∷ [])))) at_end at_entries in
-          at_its_place w n c list call faulty on (RunAt F w.plan (h ++ e ∷ [])) m d other_list t.1 at listed mine
-      | inr f ↦ run-other F w.plan m d other_list h e (is_of-other m e (λ same. f.1 (let s : n + 1 ≡ m + 1 = same in omega (arith, s)))) (each m d other_list at listed)
-    ]
-
-run-changed : (F : HostFact) → IsKeptOutside (EachRun F)
-run-changed F w n c call faulty on each = λ m d list at listed.
-    let e = entry_of (host_of w) n call faulty in
-    elim (eqb_tells m n) [
-      | inl t ↦ absurd (no_list_there w n c call faulty on m d list t.1 at listed)
-      | inr f ↦ run-other F w.plan m d list w.history e (is_of-other m e (λ same. f.1 (let s : n + 1 ≡ m + 1 = same in omega (arith, s)))) (each m d list at listed)
-    ]
+    let own : is_of n e ≡ true = is_of-own n e refl in
+    let es = own_entries n h in
+    let before = run-now R F kept start w n c list on.legal on.ready last in
+    let now = step w n c list call faulty before.old on before.keeps before.holds in
+    let at_state = subst (λ st. F list c.command (es ++ e ∷ []) st (host_on (host_of w) e)) (sym (state_by-append list c.command es e)) now in
+    let at_entries = subst (λ l. F list c.command l (state_by list c.command l) (host_on (host_of w) e)) (sym (own_entries-own n h e own)) at_state in
+    let at_end : host_on (host_of w) e ≡ after opening (until_last n (h ++ e ∷ [])) = sym (ap (after opening) (until_last-own n h e own) ∙ after-append opening h e) in
+    subst (F list c.command (own_entries n (h ++ e ∷ [])) (state_by list c.command (own_entries n (h ++ e ∷ [])))) at_end at_entries
 
 -- a fact that holds at the start of each run, and that each own entry keeps, holds of every run at its last entry
 pub each-run : (R : Keeping) (F : HostFact) → IsKeptBetween R → StartsOn F → IsHostFact R F → (w : World) → Legal w → EachRun F w.plan w.history
-each-run R F kept start step w legal = by-entries (EachRun F) (λ p well n c list at listed. start list c.command _) (run-entered R F kept start step) (run-changed F) w legal
+each-run R F kept start step w legal = by-listed (RunAt F) (λ p n c list. start list c.command _) (run-own R F kept start step) (run-other F) w legal
 
 -- and of a run that goes on, at its last entry
 pub each-run-now : (R : Keeping) (F : HostFact) → IsKeptBetween R → StartsOn F → IsHostFact R F → (w : World) (n : ℕ) (c : Placed) (list : NetList) (call : Call) (faulty : Bool) → GoesOn w n c list call faulty → IsNow R F w n c list
-each-run-now R F kept start step w n c list call faulty on = run-now R F kept start w n c list on.legal on.ready (each-run R F kept start step w on.legal) on.listed
+each-run-now R F kept start step w n c list call faulty on = run-now R F kept start w n c list on.legal on.ready (each-run R F kept start step w on.legal n c list on.ready.there on.listed)

@@ -26,6 +26,8 @@ use Rattle.pod_workers.proofs.Histories.{slice_get-set_same, slice_get-set_other
 use Rattle.pod_workers.proofs.Sound.{allowed_next, goes_in, sound_host}
 use Rattle.pod_workers.proofs.Order.{ready_is}
 use Rattle.pod_workers.proofs.StepsLeft.{host-made}
+use Rattle.pod_laws.specs.Moments.{is_of}
+use Rattle.pod_laws.proofs.Entries.{is_of-other, other-number}
 
 -- ---- a step that makes an entry
 
@@ -102,6 +104,39 @@ by-entries P start keep change _ (steps v w n c legal ready is) =
 by-entries P start keep change _ (refused_memory v w n c legal ready is) = subst (λ (u : World). P u.plan u.history) (sym is) (by-entries P start keep change v legal)
 by-entries P start keep change _ (turns v w legal less over is) = subst (λ (u : World). P u.plan u.history) (sym is) (by-entries P start keep change v legal)
 
+-- ---- what each entry keeps of the commands with a list
+
+abbrev pub ListFact : Type 1
+ListFact = Plan → List Entry → ℕ → Placed → NetList → Type 0
+
+abbrev pub AllListed : ListFact → Plan → List Entry → Type 0
+AllListed R p h = (n : ℕ) (c : Placed) (list : NetList) → slice_get (commands_of p) n ≡ Some c → list_for p c.command ≡ Some list → R p h n c list
+
+abbrev pub IsOwnKept : ListFact → Type 0
+IsOwnKept R = (w : World) (n : ℕ) (c : Placed) (list : NetList) (call : Call) (faulty : Bool) → GoesOn w n c list call faulty → R w.plan w.history n c list → R w.plan (w.history ++ entry_of (host_of w) n call faulty ∷ []) n c list
+
+abbrev pub IsOtherKept : ListFact → Type 0
+IsOtherKept R = (p : Plan) (h : List Entry) (m : ℕ) (d : Placed) (list : NetList) (e : Entry) → is_of m e ≡ false → R p h m d list → R p (h ++ e ∷ []) m d list
+
+listed-kept : (R : ListFact) → IsOwnKept R → IsOtherKept R → IsKept (AllListed R)
+listed-kept R own other w n c list call faulty on was = λ m d other_list at listed.
+    let e = entry_of (host_of w) n call faulty in
+    elim (eqb_tells m n) [
+      | inl t ↦ at_its_place w n c list call faulty on (R w.plan (w.history ++ e ∷ [])) m d other_list t.1 at listed (own w n c list call faulty on (was n c list on.ready.there on.listed))
+      | inr f ↦ other w.plan w.history m d other_list e (is_of-other m e (other-number m n f.1)) (was m d other_list at listed)
+    ]
+
+listed-changed : (R : ListFact) → IsOtherKept R → IsKeptOutside (AllListed R)
+listed-changed R other w n c call faulty on was = λ m d list at listed.
+    let e = entry_of (host_of w) n call faulty in
+    elim (eqb_tells m n) [
+      | inl t ↦ absurd (no_list_there w n c call faulty on m d list t.1 at listed)
+      | inr f ↦ other w.plan w.history m d list e (is_of-other m e (other-number m n f.1)) (was m d list at listed)
+    ]
+
+pub by-listed : (R : ListFact) → ((p : Plan) (n : ℕ) (c : Placed) (list : NetList) → R p [] n c list) → IsOwnKept R → IsOtherKept R → (w : World) → Legal w → AllListed R w.plan w.history
+by-listed R start own other w legal = by-entries (AllListed R) (λ p well n c list at listed. start p n c list) (listed-kept R own other) (listed-changed R other) w legal
+
 -- ---- what each entry keeps of the commands that aren't answered
 
 abbrev pub OpenFact : Type 1
@@ -138,12 +173,7 @@ pub on-entry : (P : Host → Type 0) (k : Host) (n : ℕ) (call : Call) (faulty 
 on-entry P k n call true h g = h
 on-entry P k n call false h g = subst P (sym (host-made k n call)) (g refl)
 
-pub sound-entered : (w : World) (n : ℕ) (c : Placed) (list : NetList) (call : Call) (faulty : Bool) → GoesOn w n c list call faulty → IsSound (host_on (host_of w) (entry_of (host_of w) n call faulty))
-sound-entered w n c list call faulty on =
-    let sound = sound_host w on.legal in
-    on-entry IsSound (host_of w) n call faulty sound (λ f. IsSound-apply (host_of w) call sound (on.allowed f))
-
-pub sound-changed : (w : World) (n : ℕ) (c : Placed) (call : Call) (faulty : Bool) → Changes w n c call faulty → IsSound (host_on (host_of w) (entry_of (host_of w) n call faulty))
-sound-changed w n c call faulty on =
-    let sound = sound_host w on.legal in
-    on-entry IsSound (host_of w) n call faulty sound (λ f. IsSound-apply (host_of w) call sound (on.allowed f))
+pub sound-entered : (w : World) (n : ℕ) (call : Call) (faulty : Bool) → Legal w → (faulty ≡ false → IsAllowed (host_of w) call) → IsSound (host_on (host_of w) (entry_of (host_of w) n call faulty))
+sound-entered w n call faulty legal allowed =
+    let sound = sound_host w legal in
+    on-entry IsSound (host_of w) n call faulty sound (λ f. IsSound-apply (host_of w) call sound (allowed f))

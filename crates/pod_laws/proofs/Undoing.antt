@@ -334,7 +334,7 @@ pub undone-step : IsRunFact Undoing
 undone-step w n c list call faulty on was =
     let own = own-state w n c list call faulty on in
     undone-own list c.command (own_entries n w.history) _ (host_of w) n faulty call own.planned own.turn_is (sound_host w on.legal)
-    (record { within = within-entered w n c list call faulty on; sound = sound-entered w n c list call faulty on; over = no_link-now w n c list call faulty on }) was
+    (record { within = within-entered w n c list call faulty on; sound = sound-entered w n call faulty on.legal on.allowed; over = no_link-now w n c list call faulty on }) was
 
 -- ---- the start
 
