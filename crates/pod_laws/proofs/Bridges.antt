@@ -175,8 +175,8 @@ ensured : (host : Host) (name : List ℕ) (o : Option Link) (mtu : ℕ) (promisc
 ensured host name None mtu promisc found done =
     list_any-append_right (is_host_bridge name) host.links (new_bridge name mtu promisc ∷ []) (grind (arith, nat_list_eq_equiv.refl name))
 ensured host name (Some link) mtu promisc found done =
-    let there = passes-find (is_host_link name) host.links link found in
-    let bridge = done-bridge (is_bridge link.kind) link.tag done in
+    let there : is_host_link name link ≡ true = passes-find (is_host_link name) host.links link found in
+    let bridge : is_bridge link.kind ≡ true = done-bridge (is_bridge link.kind) link.tag done in
     any-found (is_host_link name) (is_host_bridge name) host.links link found (grind (arith, there, bridge))
 
 in-bridge : (conf : BridgeConf) (name : List ℕ) (host : Host) → bytes_eq name conf.bridge ≡ true → has_host_bridge host name ≡ true → BridgeIn (Bridge conf) host

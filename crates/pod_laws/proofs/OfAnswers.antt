@@ -156,8 +156,7 @@ added-by w n c list r Added given says was sound ends =
     let leased : leases_in (own_replies w n) ≡ given = was.0 in
     record {
       verb = ends.verb;
-      words = ends.words;
-      unrefused = ends.go_on;
+      unrefused = (ends.words, ends.go_on);
       leased = subst (AreCandidates (sets_of list)) (sym leased) was.1;
       apart = ap (distinct addr_eq) leased ∙ leases-distinct (att_of c) (host_at_end w n) given sound (ap (λ (s : Share). s.leases) was.2);
       result = same ∙ ap (result_of_add list (att_of c) c.netns) (sym leased);

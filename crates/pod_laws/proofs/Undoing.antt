@@ -193,7 +193,7 @@ ends-gone : (c : Command) (es : List Entry) (ending : Ending) (s : Share) → Le
 ends-gone c es Added s h none = absurd h
 ends-gone c es (Skipped skip) s h none = absurd h
 ends-gone c es Versions s h none = absurd h
-ends-gone c es Yes s h none = inl (record { verb = h.verb; gone = record { words = h.words; calm = h.calm; gone = none } })
+ends-gone c es Yes s h none = inl (record { verb = h.verb; gone = record { calm = (h.words, h.calm); gone = none } })
 ends-gone c es (Refused cause) s h none = inl (record { verb = h.verb; why = inr (inr (record { words = h.words; first = h.first; begun = h.begun; undone = inl none })) })
 
 to-deleting : (list : NetList) (c : Command) (es : List Entry) (ks : List Kind) (ending : Ending) (s : Share) → Leads c es ending → IsWithin ks s → (IsWithin [] s → s ≡ no_objects) → Undoing list c es (deleting ks ending) s

@@ -1,10 +1,9 @@
 -- What an ADD that was answered with a result has made (CNI specification, section 3, "Adding an attachment").
-use Rattle.std.specs.Prelude.{◌≡◌, ℕ, true, Some, None, slice_get}
-use Rattle.std.specs.List.{list_all}
+use Rattle.std.specs.Prelude.{◌≡◌, ℕ, true, Some, slice_get}
 use Rattle.cni_addr.specs.Equal.{addr_eq}
 use Rattle.cni_addr.specs.Lists.{distinct}
 use Rattle.cni_result.specs.declared.result.AddResult.{AddResult}
-use Rattle.cni_verbs.specs.CommandWords.{add_refusal, att_of, mappings_of}
+use Rattle.cni_verbs.specs.CommandWords.{att_of, mappings_of}
 use Rattle.cni_verbs.specs.Script.{leases_in}
 use Rattle.cni_verbs.specs.Wanted.{result_of_add, sets_of, wanted}
 use Rattle.cni_verbs.specs.declared.answer.Answer.TheVariants as answers
@@ -17,14 +16,13 @@ use Rattle.pod_workers.specs.Legal.{Legal}
 use Rattle.pod_workers.specs.Plans.{Placed, commands_of, list_for}
 use Rattle.pod_workers.specs.World.{World, own_replies}
 use Rattle.pod_laws.specs.Moments.{host_at_end, own_entries}
-use Rattle.pod_laws.specs.Refused.{lets_go_on}
+use Rattle.pod_laws.specs.Refused.{NothingRefuses}
 
 -- It was leased one address a range set, no two the same, and these decide its result. At its last entry its attachment
--- has exactly the objects that they ask for, list by list, in order. No entry refused it.
+-- has exactly the objects that they ask for, list by list, in order. Neither its words nor an entry refused it.
 pub record HasMade (w : World) (n : ℕ) (c : Command) (list : NetList) (r : AddResult) : Type 0 where
   pub verb : c.verb ≡ verbs.Add
-  pub words : add_refusal c ≡ None
-  pub unrefused : list_all lets_go_on (own_entries n w.history) ≡ true
+  pub unrefused : NothingRefuses c (own_entries n w.history)
   pub leased : AreCandidates (sets_of list) (leases_in (own_replies w n))
   pub apart : distinct addr_eq (leases_in (own_replies w n)) ≡ true
   pub result : r ≡ result_of_add list (att_of c) c.netns (leases_in (own_replies w n))

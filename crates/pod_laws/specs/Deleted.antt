@@ -17,10 +17,13 @@ use Rattle.pod_laws.specs.Moments.{has_fault, host_at_end, own_entries}
 use Rattle.pod_laws.specs.Answers.{EachAnswer, EachIsOrRefused, EachIsWhere, EachRefusal, IsRefusedByWords}
 use Rattle.pod_laws.specs.Single.{EachEntry, ByVerb}
 
--- its words were good and no entry was a fault, and nothing of the attachment is left at its last entry
+-- its words are good, and no entry is a fault
+abbrev pub NothingFails : Command → List Entry → Type 0
+NothingFails c entries = (del_refusal c ≡ None) × (has_fault entries ≡ false)
+
+-- and nothing of the attachment is left at its last entry
 pub record HasDeleted (c : Command) (entries : List Entry) (objects : Share) : Type 0 where
-  pub words : del_refusal c ≡ None
-  pub calm : has_fault entries ≡ false
+  pub calm : NothingFails c entries
   pub gone : objects ≡ no_objects
 
 abbrev pub IsYes : Answer → Type 0
@@ -52,10 +55,6 @@ WasNotDeleted = EachRefusal verbs.Del (λ c entries objects. IsUndeletedFor c en
 
 abbrev pub AnswersOfDel : Type 0
 AnswersOfDel = EachIsOrRefused verbs.Del IsYes
-
--- its words are good, and no entry is a fault
-abbrev pub NothingFails : Command → List Entry → Type 0
-NothingFails c entries = (del_refusal c ≡ None) × (has_fault entries ≡ false)
 
 abbrev pub CalmIsDeleted : Type 0
 CalmIsDeleted = EachIsWhere verbs.Del NothingFails IsYes
