@@ -11,11 +11,13 @@ use Rattle.kernel_types.specs.declared.call.Call.TheVariants.{HasObj, PoolFree}
 use Rattle.kernel_types.specs.declared.call.Reply.TheVariants.{Has}
 use Rattle.kernel_types.proofs.ListLemmas.{list_all-push, list_any-append_none, list_any-append_right}
 use Rattle.cni_verbs.specs.Script.{State, Asking, Over, asking, at_question}
+use Rattle.cni_verbs.specs.declared.answer.Cause.{Cause}
 use Rattle.cni_verbs.specs.declared.answer.Ending.{Ending}
 use Rattle.cni_verbs.specs.declared.answer.Ending.TheVariants.{Added, Yes, Skipped, Versions, Refused}
 use Rattle.cni_verbs.specs.declared.answer.Question.{Question}
 use Rattle.pod_workers.specs.declared.plan.Entry.{Entry}
-use Rattle.pod_laws.specs.Granted.{IsFirstDenied, grants, is_yes}
+use Rattle.pod_laws.specs.Answers.{EndsByTest}
+use Rattle.pod_laws.specs.Granted.{EndsByDenied, IsFirstDenied, grants, is_yes}
 use Rattle.pod_laws.specs.Moments.{has_fault}
 
 -- ---- the reply to a question
@@ -71,8 +73,19 @@ asked-reply host all number q qs is a =
 middle-fails : {X : Type 0} (p : X → Bool) (xs : List X) (y : X) (ys : List X) → p y ≡ false → list_all p (xs ++ y ∷ ys) ≡ false
 middle-fails p xs y ys h = let split = list_all-append p xs (y ∷ ys) in grind (arith, split, h)
 
-pub denied-some : (host : Host) (all : List Question) (q : Question) → IsFirstDenied host all q → list_all (grants host) all ≡ false
+denied-some : (host : Host) (all : List Question) (q : Question) → IsFirstDenied host all q → list_all (grants host) all ≡ false
 denied-some host all q d = ap (list_all (grants host)) d.are ∙ middle-fails (grants host) d.past q d.left d.denied
+
+-- so it ends by a test that is whether all are granted
+pub by-asked : (host : Host) (questions : List Question) (IsLack : Cause → Type 0) (test : Bool) (ending : Ending) → list_all (grants host) questions ≡ test → ((question : Question) → IsFirstDenied host questions question → IsLack question.lack)
+    → EndsAsked host questions ending → EndsByTest test ending (EndsByDenied host questions IsLack ending)
+by-asked host questions IsLack test Yes same kind ends = subst (λ b. EndsByTest b Yes (EndsByDenied host questions IsLack Yes)) (sym ends ∙ same) refl
+by-asked host questions IsLack test (Refused cause) same kind ends =
+    let denied : EndsByDenied host questions IsLack (Refused cause) = record { question = ends.0; first = ends.1; lack = kind ends.0 ends.1; ending_is = ap Refused (sym ends.2) } in
+    subst (λ b. EndsByTest b (Refused cause) (EndsByDenied host questions IsLack (Refused cause))) (sym (denied-some host questions ends.0 ends.1) ∙ same) denied
+by-asked host questions IsLack test Added same kind ends = absurd ends
+by-asked host questions IsLack test (Skipped skip) same kind ends = absurd ends
+by-asked host questions IsLack test Versions same kind ends = absurd ends
 
 -- ---- entries without a fault
 

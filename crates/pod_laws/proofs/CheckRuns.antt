@@ -21,17 +21,17 @@ use Rattle.cni_verbs.specs.Script.{State, FindingEntry, Asking, Over, Calls, adv
 use Rattle.cni_verbs.specs.declared.answer.Cause.{Cause}
 use Rattle.cni_verbs.specs.declared.answer.Cause.TheVariants as causes
 use Rattle.cni_verbs.specs.declared.answer.Ending.{Ending}
-use Rattle.cni_verbs.specs.declared.answer.Ending.TheVariants.{Added, Yes, Skipped, Versions, Refused}
+use Rattle.cni_verbs.specs.declared.answer.Ending.TheVariants.{Skipped, Refused}
 use Rattle.cni_verbs.specs.declared.answer.Question.{Question}
 use Rattle.cni_verbs.specs.declared.answer.Skip.TheVariants as skips
 use Rattle.pod_workers.specs.World.{entry_of, host_of, reply_to}
 use Rattle.pod_workers.specs.declared.plan.Entry.{Entry}
-use Rattle.pod_laws.specs.Checked.{EndsByEntry, EndsByList, EndsCheck, LacksObject, WasChecked, holds_cached}
+use Rattle.pod_laws.specs.Checked.{EndsByEntry, EndsByList, EndsCheck, IsMissing, WasChecked, holds_cached}
 use Rattle.pod_laws.specs.Granted.{only_asks}
 use Rattle.pod_laws.specs.Moments.{has_fault, host_at_end, own_entries}
-use Rattle.pod_laws.specs.Answers.{EndsByFault, EndsByTest}
+use Rattle.pod_laws.specs.Answers.{EndsByFault}
 use Rattle.pod_workers.proofs.Each.{each-at, each-front}
-use Rattle.pod_laws.proofs.Asking.{EndsAsked, HasAsked, IsAsking, asked-all, asked-none, asked-reply, calm-more, denied-some, fault-last}
+use Rattle.pod_laws.proofs.Asking.{EndsAsked, HasAsked, IsAsking, asked-all, asked-none, asked-reply, by-asked, calm-more, fault-last}
 use Rattle.pod_laws.proofs.CheckQuestions.{IsSteadyQuestion, cached-stays, granted-check, granted-stay, steady-questions}
 use Rattle.pod_laws.proofs.CutOff.{over-by, answered-by}
 use Rattle.pod_laws.proofs.RunFacts.{HostFact, IsHostFact, StartsOn, each-run}
@@ -60,19 +60,10 @@ by-entry list c es host ending o may calm is ends =
     (subst (λ b. EndsByFault es b ending (EndsByEntry list c host (cached_in host (att_of c)) ending)) (sym calm) (subst (λ p. EndsByEntry list c host p ending) (sym is) ends))
 
 by-asking : (list : NetList) (c : Command) (cached : Cached) (host : Host) (ending : Ending) → EndsAsked host (check_questions list c cached) ending → EndsByEntry list c host (Some cached) ending
-by-asking list c cached host Yes ends =
-    let holds : holds_cached list c cached host ≡ true = sym (granted-check list c cached host) ∙ ends in
-    subst (λ b. EndsByTest b Yes (LacksObject list c cached host Yes)) (sym holds) refl
-by-asking list c cached host (Refused cause) ends =
-    let q = ends.0 in
-    let d = ends.1 in
-    let lacks : holds_cached list c cached host ≡ false = sym (granted-check list c cached host) ∙ denied-some host (check_questions list c cached) q d in
-    let steady : IsSteadyQuestion c q = each-at (IsSteadyQuestion c) d.past q d.left (subst (AllByRecursion (IsSteadyQuestion c)) d.are (steady-questions list c cached)) in
-    let lack : LacksObject list c cached host (Refused cause) = record { question = q; first = d; what = steady.what; lack = steady.lack; ending_is = ap Refused (sym ends.2 ∙ steady.lack) } in
-    subst (λ b. EndsByTest b (Refused cause) (LacksObject list c cached host (Refused cause))) (sym lacks) lack
-by-asking list c cached host Added ends = absurd ends
-by-asking list c cached host (Skipped skip) ends = absurd ends
-by-asking list c cached host Versions ends = absurd ends
+by-asking list c cached host ending ends =
+    let questions = check_questions list c cached in
+    by-asked host questions IsMissing (holds_cached list c cached host) ending (granted-check list c cached host)
+    (λ q d. let steady : IsSteadyQuestion c q = each-at (IsSteadyQuestion c) d.past q d.left (subst (AllByRecursion (IsSteadyQuestion c)) d.are (steady-questions list c cached)) in (steady.what, steady.lack)) ends
 
 -- ---- every run
 

@@ -21,21 +21,20 @@ use Rattle.kernel_types.specs.Apply.Calls.{leased_addresses}
 use Rattle.kernel_types.specs.Replies.{is_fault}
 use Rattle.kernel_types.proofs.Replies.{IsReplyOf-apply}
 use Rattle.kernel_types.specs.declared.object.Host.{Host}
-use Rattle.cni_verbs.specs.Answers.{code_of}
 use Rattle.cni_verbs.specs.Questions.{master_questions, pool_questions, status_questions}
 use Rattle.cni_verbs.specs.Script.{State, Asking, Over, Calls, advance, asking, at_question, start_of, turn, old_ending, unless_ended}
 use Rattle.cni_verbs.specs.Wanted.{sets_of}
 use Rattle.cni_verbs.specs.declared.answer.Cause.TheVariants as causes
 use Rattle.cni_verbs.specs.declared.answer.Ending.{Ending}
-use Rattle.cni_verbs.specs.declared.answer.Ending.TheVariants.{Added, Yes, Skipped, Versions, Refused}
+use Rattle.cni_verbs.specs.declared.answer.Ending.TheVariants.{Refused}
 use Rattle.cni_verbs.specs.declared.answer.Question.{Question}
 use Rattle.pod_workers.specs.World.{entry_of, host_of, reply_to}
 use Rattle.pod_workers.specs.declared.plan.Entry.{Entry}
-use Rattle.pod_laws.specs.Available.{EndsStatus, LacksService, WasAvailable, has_master_of, is_available}
+use Rattle.pod_laws.specs.Available.{EndsStatus, IsUnavailable, LacksService, WasAvailable, has_master_of, is_available}
 use Rattle.pod_laws.specs.Granted.{grants, only_asks}
 use Rattle.pod_laws.specs.Moments.{has_fault, host_at_end, own_entries}
 use Rattle.pod_laws.specs.Answers.{EndsByFault, EndsByTest}
-use Rattle.pod_laws.proofs.Asking.{EndsAsked, HasAsked, IsAsking, asked-all, asked-none, asked-reply, calm-more, denied-some, fault-last, tells}
+use Rattle.pod_laws.proofs.Asking.{EndsAsked, HasAsked, IsAsking, asked-all, asked-none, asked-reply, by-asked, calm-more, fault-last, tells}
 use Rattle.pod_workers.proofs.Each.{each-append, each-at}
 use Rattle.pod_laws.proofs.CutOff.{over-by, answered-by}
 use Rattle.pod_laws.proofs.RunFacts.{HostFact, IsHostFact, StartsOn, each-run}
@@ -47,7 +46,7 @@ use Rattle.pod_laws.proofs.SteadyHosts.{KeepsAsked, asked-kept}
 
 -- its reply is a truth value, and a denial means code 50
 abbrev IsServiceQuestion : Question → Type 0
-IsServiceQuestion q = (tells q.call ≡ true) × (code_of q.lack ≡ 50)
+IsServiceQuestion q = (tells q.call ≡ true) × IsUnavailable q.lack
 
 service-pools : (network : List ℕ) (number : ℕ) (sets : List RangeSet) → AllByRecursion IsServiceQuestion (pool_questions network number sets)
 service-pools network number [] = tt
@@ -93,20 +92,12 @@ StatusAt list c es (Over ending given) host = (given ≡ []) × EndsStatus list 
 StatusAt list c es _ host = ⊥
 
 status-ends : (list : NetList) (c : Command) (es : List Entry) (host : Host) (ending : Ending) → list.version ≡ V1_1 → has_fault es ≡ false → EndsAsked host (status_questions list c) ending → EndsStatus list c es host list.version ending
-status-ends list c es host Yes version calm ends =
-    let available : is_available list c host ≡ true = sym (granted-status list c host) ∙ ends in
-    subst (λ v. EndsStatus list c es host v Yes) (sym version)
-    (subst (λ b. EndsByFault es b Yes (EndsByTest (is_available list c host) Yes (LacksService list c host Yes))) (sym calm) (subst (λ b. EndsByTest b Yes (LacksService list c host Yes)) (sym available) refl))
-status-ends list c es host (Refused cause) version calm ends =
-    let lacks : is_available list c host ≡ false = sym (granted-status list c host) ∙ denied-some host (status_questions list c) ends.0 ends.1 in
-    let d = ends.1 in
-    let of_service : IsServiceQuestion ends.0 = each-at IsServiceQuestion d.past ends.0 d.left (subst (AllByRecursion IsServiceQuestion) d.are (service-questions list c)) in
-    let lack : LacksService list c host (Refused cause) = record { question = ends.0; first = d; code = of_service.1; ending_is = ap Refused (sym ends.2) } in
-    subst (λ v. EndsStatus list c es host v (Refused cause)) (sym version)
-    (subst (λ b. EndsByFault es b (Refused cause) (EndsByTest (is_available list c host) (Refused cause) (LacksService list c host (Refused cause)))) (sym calm) (subst (λ b. EndsByTest b (Refused cause) (LacksService list c host (Refused cause))) (sym lacks) lack))
-status-ends list c es host Added version calm ends = absurd ends
-status-ends list c es host (Skipped skip) version calm ends = absurd ends
-status-ends list c es host Versions version calm ends = absurd ends
+status-ends list c es host ending version calm ends =
+    let tested : EndsByTest (is_available list c host) ending (LacksService list c host ending) =
+    by-asked host (status_questions list c) IsUnavailable (is_available list c host) ending (granted-status list c host)
+    (λ q d. let of_service : IsServiceQuestion q = each-at IsServiceQuestion d.past q d.left (subst (AllByRecursion IsServiceQuestion) d.are (service-questions list c)) in of_service.1) ends in
+    subst (λ v. EndsStatus list c es host v ending) (sym version)
+    (subst (λ b. EndsByFault es b ending (EndsByTest (is_available list c host) ending (LacksService list c host ending))) (sym calm) tested)
 
 status-asked : (list : NetList) (c : Command) (es : List Entry) (host : Host) (st : State) → list.version ≡ V1_1 → has_fault es ≡ false → IsAsking host (status_questions list c) st → StatusAt list c es st host
 status-asked list c es host (Asking q qs) version calm a = record { version = version; calm = calm; asked = a }

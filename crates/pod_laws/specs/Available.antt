@@ -6,10 +6,10 @@ use Rattle.cni_result.specs.declared.version.Version.TheVariants.{V1_0, V1_1}
 use Rattle.cni_verbs.specs.Answers.{code_of}
 use Rattle.cni_verbs.specs.Questions.{status_questions}
 use Rattle.cni_verbs.specs.Wanted.{sets_of}
+use Rattle.cni_verbs.specs.declared.answer.Cause.{Cause}
 use Rattle.cni_verbs.specs.declared.answer.Cause.TheVariants as causes
 use Rattle.cni_verbs.specs.declared.answer.Ending.{Ending}
 use Rattle.cni_verbs.specs.declared.answer.Ending.TheVariants.{Refused}
-use Rattle.cni_verbs.specs.declared.answer.Question.{Question}
 use Rattle.ip_pool.specs.Pool.{has_free_of}
 use Rattle.kernel_types.specs.Apply.Calls.{has_object, leased_addresses}
 use Rattle.kernel_types.specs.declared.object.Host.{Host}
@@ -20,7 +20,7 @@ use Rattle.net_conf.specs.declared.list.NetList.{NetList}
 use Rattle.pod_file.specs.declared.command.Command.{Command}
 use Rattle.pod_file.specs.declared.command.Verb.TheVariants as verbs
 use Rattle.pod_workers.specs.declared.plan.Entry.{Entry}
-use Rattle.pod_laws.specs.Granted.{IsFirstDenied}
+use Rattle.pod_laws.specs.Granted.{EndsByDenied}
 use Rattle.pod_laws.specs.Moments.{has_fault}
 use Rattle.pod_laws.specs.Answers.{EachEnding, EndsByFault, EndsByTest}
 
@@ -34,12 +34,12 @@ has_master_of host (firsts.Macvlan conf) = has_object host (Master conf.master)
 abbrev pub is_available : NetList → Command → Host → Bool
 is_available list c host = list_all (λ set. has_free_of set (leased_addresses host c.network)) (sets_of list) && has_master_of host list.first
 
+abbrev pub IsUnavailable : Cause → Type 0
+IsUnavailable cause = code_of cause ≡ 50
+
 -- something is not available (code 50), and named is the first: the range sets in order, and then the master
-pub record LacksService (list : NetList) (c : Command) (host : Host) (ending : Ending) : Type 0 where
-  pub question : Question
-  pub first : IsFirstDenied host (status_questions list c) question
-  pub code : code_of question.lack ≡ 50
-  pub ending_is : ending ≡ Refused question.lack
+abbrev pub LacksService : NetList → Command → Host → Ending → Type 0
+LacksService list c host ending = EndsByDenied host (status_questions list c) IsUnavailable ending
 
 -- how a STATUS ends: a list of an older version has no such verb (code 1), and else by a fault, or by what the host has
 -- to give

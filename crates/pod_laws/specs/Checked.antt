@@ -11,7 +11,6 @@ use Rattle.cni_verbs.specs.declared.answer.Cause.TheVariants as causes
 use Rattle.cni_verbs.specs.declared.answer.Ending.{Ending}
 use Rattle.cni_verbs.specs.declared.answer.Ending.TheVariants.{Skipped, Refused}
 use Rattle.cni_verbs.specs.declared.answer.Missed.{Missed}
-use Rattle.cni_verbs.specs.declared.answer.Question.{Question}
 use Rattle.cni_verbs.specs.declared.answer.Skip.TheVariants as skips
 use Rattle.kernel_types.specs.Apply.Calls.{has_object}
 use Rattle.kernel_types.specs.Equal.{link_eq, addr_obj_eq, route_eq, rule_eq, setting_eq, lease_eq}
@@ -25,7 +24,7 @@ use Rattle.plan_words.specs.Share.{Share}
 use Rattle.pod_file.specs.declared.command.Command.{Command}
 use Rattle.pod_file.specs.declared.command.Verb.TheVariants as verbs
 use Rattle.pod_workers.specs.declared.plan.Entry.{Entry}
-use Rattle.pod_laws.specs.Granted.{IsFirstDenied}
+use Rattle.pod_laws.specs.Granted.{EndsByDenied}
 use Rattle.pod_laws.specs.Moments.{has_fault}
 use Rattle.pod_laws.specs.Answers.{EachEnding, EndsByFault, EndsByTest}
 
@@ -61,14 +60,13 @@ holds_cached list c cached host = has_bridge_of host list.first cached.result.in
 
 -- ---- the ending
 
+abbrev pub IsMissing : Cause → Type 0
+IsMissing cause = (what : Missed) × (cause ≡ causes.Missing what)
+
 -- an object is missing (code 110), and named is the first: of bridge, links, addresses, routes, rules, settings and
 -- leases
-pub record LacksObject (list : NetList) (c : Command) (cached : Cached) (host : Host) (ending : Ending) : Type 0 where
-  pub question : Question
-  pub first : IsFirstDenied host (check_questions list c cached) question
-  pub what : Missed
-  pub lack : question.lack ≡ causes.Missing what
-  pub ending_is : ending ≡ Refused (causes.Missing what)
+abbrev pub LacksObject : NetList → Command → Cached → Host → Ending → Type 0
+LacksObject list c cached host ending = EndsByDenied host (check_questions list c cached) IsMissing ending
 
 -- with no cached entry the attachment is unknown (code 3)
 abbrev pub EndsByEntry : NetList → Command → Host → Option Cached → Ending → Type 0

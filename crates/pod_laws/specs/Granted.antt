@@ -2,6 +2,9 @@
 -- attachment" and "Status").
 use Rattle.std.specs.Prelude.{◌≡◌, Bool, true, false, List, ◌∷◌, ◌++◌}
 use Rattle.std.specs.List.{list_all}
+use Rattle.cni_verbs.specs.declared.answer.Cause.{Cause}
+use Rattle.cni_verbs.specs.declared.answer.Ending.{Ending}
+use Rattle.cni_verbs.specs.declared.answer.Ending.TheVariants.{Refused}
 use Rattle.cni_verbs.specs.declared.answer.Question.{Question}
 use Rattle.kernel_types.specs.Apply.{apply}
 use Rattle.kernel_types.specs.declared.object.Host.{Host}
@@ -26,6 +29,13 @@ pub record IsFirstDenied (host : Host) (questions : List Question) (question : Q
   pub are : questions ≡ past ++ question ∷ left
   pub granted : list_all (grants host) past ≡ true
   pub denied : grants host question ≡ false
+
+-- it is refused for the first that is denied, which lacks something of this kind
+pub record EndsByDenied (host : Host) (questions : List Question) (IsLack : Cause → Type 0) (ending : Ending) : Type 0 where
+  pub question : Question
+  pub first : IsFirstDenied host questions question
+  pub lack : IsLack question.lack
+  pub ending_is : ending ≡ Refused question.lack
 
 -- ---- single entries
 
