@@ -1,43 +1,46 @@
 -- What a number that passed its range is read as, and a flag.
-use Rattle.std.proofs.Common.{◌≡◌, ◌∙◌, ◌<◌, ◌≤◌, ◌^◌, ◌||◌, ℕ, Bool, true, false, refl, sym, ap, subst, Option, Some, None, Result, Ok, option_map, IfSome, codes}
+use Rattle.std.proofs.Common.{◌≡◌, ◌<◌, ◌≤◌, ◌^◌, ◌||◌, ℕ, Bool, true, false, refl, sym, ap, subst, Option, Some, None, Result, option_map, IfSome, codes}
 use Rattle.std.specs.Option.{option_map_or}
 use Rattle.std.specs.Str.{bytes_eq}
 use Rattle.std.proofs.lemmas.Slice.Eq.{bytes_eq-Decides}
-use Rattle.std.specs.Str.Parse.{ParsesUnsigned}
+use Rattle.std.specs.Str.Parse.{ParsesUnsigned, HasUnsignedDigitsIfOk}
 use Rattle.std.specs.Prelude.{pos}
 use Rattle.clap.specs.Lexer.{without_minus}
-use Rattle.clap.specs.Matches.{ReadsOne}
+use Rattle.clap.specs.Matches.{ReadsOne, found_of, one_text}
 use Rattle.clap.specs.Values.{IsSignedIn}
-use Rattle.clap.specs.Walk.{Text}
+use Rattle.clap.specs.Walk.{Text, rows_of}
+use Rattle.clap.specs.declared.parser.matches.ArgMatches.{ArgMatches}
 use Rattle.clap.proofs.CallerReads.{signed_reads}
-use Rattle.tool_words.specs.Words.{number_of}
-
--- a text that passed the range
-number_in : (E : Type 0) (G : Text → Result ℕ E → Type 0) (k most : ℕ) (text given : Text) (r : Option ℕ)
-    → ((u : Text) (x : Result ℕ E) → G u x → ParsesUnsigned k 10 u x) → most < 2 ^ k
-    → ReadsOne G text r → text ≡ without_minus given → IsSignedIn (pos 1) (pos most) given
-    → (r ≡ Some (number_of text)) × (1 ≤ number_of text) × (number_of text ≤ most)
-number_in E G k most text given r unsigned fits read is accepted =
-    let got = signed_reads E G k 1 most given r (subst (λ (t : Text). ReadsOne G t r) is read) unsigned fits accepted in
-    let spelled : ReadsOne G text (Some got.0) = subst (λ (o : Option ℕ). ReadsOne G text o) got.1 read in
-    let value : got.0 ≡ number_of text = (unsigned text (Ok got.0) spelled).1 in
-    (got.1 ∙ ap (λ n. Some n) value, subst (λ n. 1 ≤ n) value got.2, subst (λ n. n ≤ most) value got.3)
+use Rattle.clap.proofs.WalkLemmas.{one_text-rows}
+use Rattle.tool_words.specs.Command.{counts_to}
+use Rattle.tool_words.specs.Parse.{Passes}
+use Rattle.tool_words.specs.Words.{number_at, number_of}
 
 abbrev IsRead : ℕ → Option Text → Option ℕ → Type 0
 IsRead most o r = (r ≡ option_map number_of o) × IfSome r (λ n. (1 ≤ n) × (n ≤ most))
 
--- the number of an argument that counts to the most
-pub number_read : (E : Type 0) (G : Text → Result ℕ E → Type 0) (k most : ℕ) (o : Option Text) (r : Option ℕ)
-    → ((u : Text) (x : Result ℕ E) → G u x → ParsesUnsigned k 10 u x) → most < 2 ^ k
-    → (o ≡ None → r ≡ None) → ((t : Text) → o ≡ Some t → ReadsOne G t r)
-    → ((t : Text) → o ≡ Some t → (given : Text) × (t ≡ without_minus given) × IsSignedIn (pos 1) (pos most) given)
-    → (r ≡ option_map number_of o) × IfSome r (λ n. (1 ≤ n) × (n ≤ most))
-number_read E G k most None r unsigned fits none some pass =
-    subst (λ (q : Option ℕ). IsRead most None q) (sym (none refl)) (refl, tt)
-number_read E G k most (Some t) r unsigned fits none some pass =
-    let given = pass t refl in
-    let got = number_in E G k most t given.0 r unsigned fits (some t refl) given.1 given.2 in
-    subst (λ (q : Option ℕ). IsRead most (Some t) q) (sym got.0) (refl, (got.1, got.2))
+-- what reading an unsigned number of so many bits gives, by what its error explains
+abbrev GivesUnsigned : {E : Type 0} → ℕ → (Text → Result ℕ E → Type 0) → Text → Result ℕ E → Type 0
+GivesUnsigned bits Explains text r = ParsesUnsigned bits 10 text r × Explains text r × HasUnsignedDigitsIfOk text r
+
+module _ {E : Type 0} (bits most : ℕ) (Explains : Text → Result ℕ E → Type 0) (fits : most < 2 ^ bits) where
+  -- a text that passed the range
+  read_of : (o : Option Text) (r : Option ℕ) → (o ≡ None → r ≡ None) → ((t : Text) → o ≡ Some t → ReadsOne (GivesUnsigned bits Explains) t r)
+      → ((t : Text) → o ≡ Some t → (given : Text) × (t ≡ without_minus given) × IsSignedIn (pos 1) (pos most) given) → IsRead most o r
+  read_of None r none some pass = rw (none refl) (refl, tt)
+  read_of (Some t) r none some pass =
+      let Gives = GivesUnsigned bits Explains in
+      let given = pass t refl in
+      let read = some t refl in
+      let got = signed_reads E Gives bits 1 most given.0 r (subst (λ (u : Text). ReadsOne Gives u r) given.1 read) (λ u x gives. gives.0) fits given.2 in
+      let spelled = rw got.1 at read in
+      rw got.1 (ap (λ n. Some n) spelled.0.1, (got.2, got.3))
+
+  -- the number of an argument that counts to the most
+  pub number_read : (m : ArgMatches) (name : Text) (r : Option ℕ) → (one_text (found_of m) name ≡ None → r ≡ None)
+      → ((t : Text) → one_text (found_of m) name ≡ Some t → ReadsOne (GivesUnsigned bits Explains) t r) → Passes m name (counts_to most)
+      → (r ≡ number_at name (rows_of (found_of m))) × IfSome r (λ n. (1 ≤ n) × (n ≤ most))
+  number_read m name r none some pass = rw (← one_text-rows (found_of m) name) (read_of (one_text (found_of m) name) r none some pass)
 
 abbrev is_true : Text → Bool
 is_true text = bytes_eq text (codes "true")

@@ -1,16 +1,10 @@
-use Rattle.std.proofs.Common.{◌∙◌, ap, arith, option_map}
-use Rattle.std.specs.Str.Parse.{ParsesUnsigned, ExplainsUnsignedError, HasUnsignedDigitsIfOk}
-use Rattle.clap.specs.Matches.{found_of, one_text}
-use Rattle.clap.proofs.WalkLemmas.{one_text-rows}
+use Rattle.std.proofs.Common.{arith}
+use Rattle.std.specs.Str.Parse.{ExplainsUnsignedError}
 use Rattle.tool_words.specs.Command.{most_threads, threads_option}
-use Rattle.tool_words.specs.Words.{number_of}
 use Rattle.tool_words.proofs.Numbers.{number_read}
 use Rattle.tool_words.proofs.parse.threads.Goals as goal
 
 pub returns : goal.returns
 returns c =
-    let found = found_of c.args.matches.now in
-    let name = threads_option in
-    let read = number_read _ (λ bs r. ParsesUnsigned 8 10 bs r × ExplainsUnsignedError 10 bs r × HasUnsignedDigitsIfOk bs r) 8 most_threads (one_text found name)
-    c.get_one.result (λ u x g. g.0) (omega arith) c.get_one.ensures.none c.get_one.ensures.value c.requires in
-    record { value = read.0 ∙ ap (option_map number_of) (one_text-rows found name); range = read.1 }
+    let read = number_read 8 most_threads (ExplainsUnsignedError 10) (omega arith) c.args.matches.now threads_option c.get_one.result c.get_one.ensures.none c.get_one.ensures.value c.requires in
+    record { value = read.0; range = read.1 }
