@@ -4,6 +4,7 @@ use Rattle.std.specs.Borrow.{Bor}
 use Rattle.std.specs.List.{All, slice_index_or}
 use Rattle.std.specs.Str.{bytes_eq}
 use Rattle.std.proofs.Math.ListN.{get_or-map}
+use Rattle.std.proofs.lemmas.Bool.Decides.{not_from_Decides}
 use Rattle.std.proofs.lemmas.List.{length-map}
 use Rattle.std.proofs.lemmas.List.Elements.{All-get_or}
 use Rattle.std.proofs.lemmas.Slice.Eq.{bytes_eq-Decides}
@@ -173,9 +174,6 @@ only_at : (c : Command) → app_of c ≡ the_app → (k : ℕ) (name : Text) →
 only_at c is k name h j e lt hit =
     h e j (subst (λ n. j < n) (arg_count c is) lt) (subst (λ (w : Text). bytes_eq w name ≡ true) (id_at c is j e) hit)
 
-not_same : (a b : Text) → bytes_eq a b ≡ false → a ≡ b → ⊥
-not_same a b is e = true≢false (sym ((bytes_eq-Decides a b).1 e) ∙ is)
-
 apart : {X : Type 0} → false ≡ true → X
 apart h = absurd (true≢false (sym h))
 
@@ -191,9 +189,9 @@ passes_at c m p is k name q inside id parser exact only no_help no_version named
   parser = λ d. ap (λ r. r.parser) (sym (rule_at c is k d)) ∙ parser d;
   exact = λ d. ap (λ r. r.ignore_case) (sym (rule_at c is k d)) ∙ exact d;
   only = only_at c is k name only;
-  no_help = not_same name (codes "help") no_help;
-  no_version = not_same name (codes "version") no_version;
-}) (not_same name [] named)
+  no_help = not_from_Decides _ (bytes_eq-Decides name (codes "help")) no_help;
+  no_version = not_from_Decides _ (bytes_eq-Decides name (codes "version")) no_version;
+}) (not_from_Decides _ (bytes_eq-Decides name []) named)
 
 pub passes-threads : (c : Command) (m : ArgMatches) → IsParsedFrom c m → app_of c ≡ the_app → Passes m threads_option (counts_to most_threads)
 passes-threads c m p is =
