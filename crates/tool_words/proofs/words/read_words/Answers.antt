@@ -1,10 +1,7 @@
-use Rattle.std.proofs.Common.{◌∙◌, ℕ, List, ap, sym, map, Some, None, unwrap_or}
+use Rattle.std.proofs.Common.{◌∙◌, ℕ, List, sym, map, true, false, None}
 use Rattle.std.specs.Borrow.{Bor}
 use Rattle.std.proofs.lemmas.Result.{err_from_is_err_and}
-use Rattle.clap.specs.Matches.{found_of}
-use Rattle.clap.specs.Walk.{rows_of}
-use Rattle.tool_words.proofs.Saying.{refused, says, beyond, within, read_of}
-use Rattle.tool_words.specs.declared.words.Words.{Words}
+use Rattle.tool_words.proofs.Saying.{by_limits, refused, says}
 use Rattle.tool_words.proofs.words.read_words.Goals as goal
 
 pub returns-in_err-matches-clause-exact : goal.returns-in_err-matches-clause-exact
@@ -17,19 +14,11 @@ returns-in_default-clause-exact c = says c.args.words.now c.in_ok-matches.matche
 
 pub returns-then-not-are_within-clause-exact : goal.returns-then-not-are_within-clause-exact
 returns-then-not-are_within-clause-exact c =
-    beyond c.args.words.now c.in_ok-matches.matches c.in-Some.pods.now (map (λ (v : Bor (List ℕ)). v.now) c.lists-lists.result.now) c.in_ok-matches.ensures c.in-Some.ensures
+    by_limits c.args.words.now c.in_ok-matches.matches c.in-Some.pods.now (map (λ (v : Bor (List ℕ)). v.now) c.lists-lists.result.now) false c.in_ok-matches.ensures c.in-Some.ensures
     c.lists-lists.ensures (sym c.are_within.ensures ∙ c.if-not-are_within.true)
 
 pub returns-clause-exact : goal.returns-clause-exact
 returns-clause-exact c =
-    within c.args.words.now c.in_ok-matches.matches c.in-Some.pods.now (map (λ (v : Bor (List ℕ)). v.now) c.lists-lists.result.now) c.in_ok-matches.ensures c.in-Some.ensures
-    c.lists-lists.ensures (sym c.are_within.ensures ∙ c.if-not-are_within.false)
-    ∙ ap (λ (w : Words). Some w) (read_of (rows_of (found_of c.in_ok-matches.matches)) c.in-Some.pods.now (record {
-      threads = c.unwrap_or.result;
-      stop_at = c.stop_at.result;
-      trace = c.flag.result;
-      dump = c.flag-2.result;
-      pods = c.in_ok-pods.pods;
-      lists = c.in_ok-pods.lists;
-    }) (c.unwrap_or.ensures ∙ ap (λ o. unwrap_or o 1) c.threads.ensures.value) c.stop_at.ensures.value c.flag.ensures c.flag-2.ensures
-    c.in_ok-pods.ensures.0 (c.in_ok-pods.ensures.1 ∙ c.lists-lists.ensures))
+    rw (c.unwrap_or.ensures, c.threads.ensures.value, c.stop_at.ensures.value, c.flag.ensures, c.flag-2.ensures, c.in_ok-pods.ensures.0, c.in_ok-pods.ensures.1, c.lists-lists.ensures)
+    (by_limits c.args.words.now c.in_ok-matches.matches c.in-Some.pods.now (map (λ (v : Bor (List ℕ)). v.now) c.lists-lists.result.now) true c.in_ok-matches.ensures c.in-Some.ensures
+    c.lists-lists.ensures (sym c.are_within.ensures ∙ c.if-not-are_within.false))
