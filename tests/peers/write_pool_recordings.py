@@ -4,9 +4,9 @@
     write_pool_recordings.py          writes rows.rt and sequences.rt into crates/ip_pool/src/tests
     write_pool_recordings.py --check  fails where one of them isn't what would be written
 
-Of hostlocal.json it takes the rows of the plugin's own tests, and recorded sequences of ADD and DEL. A sequence runs over several
-sets; each set leases by itself, so each becomes a recording of its own. Sets of IPv6 addresses and rows whose last address is no
-candidate are left out, and named in the file that is written. The layout is that of `rt fmt`.
+Of hostlocal.json it takes the rows of the plugin's own tests, and recorded sequences of ADD and DEL. A sequence runs
+over several sets; each set leases by itself, so each becomes a recording of its own. Sets of IPv6 addresses and rows
+whose last address is no candidate are left out, and named in the file that is written. The layout is that of `rt fmt`.
 """
 
 import ipaddress
@@ -61,32 +61,24 @@ class Recording:
         return "\n".join(["    Recording {", *(f"        {it}," for it in fields), "    },"])
 
 
-def from_tables(rows, orders):
-    for row in rows:
-        if is_ipv6(row["set"]):
-            yield row["name"], "IPv6"
-            continue
-        recording = Recording(row["name"], row["set"])
-        if row["last"] is not None:
-            if not recording.has(row["last"]):
-                yield row["name"], "its last address is no candidate"
-                continue
-            recording.add("=", row["last"])
-        for address in row["taken"]:
-            recording.add("*", address)
-        if row["given"] is None:
-            recording.words.append("full")
-        else:
-            recording.add("+", row["given"])
-        yield row["name"], recording
-    for row in orders:
-        recording = Recording(row["name"], row["set"])
-        if row["last"] is not None:
-            recording.add("=", row["last"])
-        for address in row["order"]:
-            recording.add("+", address)
+def recorded(row):
+    """The recording of a row: a pick after others are taken, or picks in order until none is left. A text says why there
+    is none."""
+    if is_ipv6(row["set"]):
+        return "IPv6"
+    recording = Recording(row["name"], row["set"])
+    if row["last"] is not None:
+        if not recording.has(row["last"]):
+            return "its last address is no candidate"
+        recording.add("=", row["last"])
+    for address in row.get("taken", []):
+        recording.add("*", address)
+    picked = row["order"] if "order" in row else [row["given"]] if row["given"] else []
+    for address in picked:
+        recording.add("+", address)
+    if "order" in row or not picked:
         recording.words.append("full")
-        yield row["name"], recording
+    return recording
 
 
 def from_sequences(sequences):
@@ -133,7 +125,7 @@ def text_of(constant, what, made):
 
 def main():
     data = recordings()
-    rows = [*from_tables(data["next_address"], data["order"])]
+    rows = [(row["name"], recorded(row)) for row in [*data["next_address"], *data["order"]]]
     sequences = [*from_sequences(data["sequences"])]
     texts = {
         "rows.rt": text_of("ROWS", "the rows of the `host-local` plugin's own tests of its allocator", rows),
