@@ -1,4 +1,4 @@
-"""Files of the crates that a script of tests/ writes from others: written, or with `--check` compared with what it would write."""
+"""Files that a script of tests/ writes from others: written, or with `--check` compared with what it would write."""
 
 import pathlib
 import sys

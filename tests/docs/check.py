@@ -3,10 +3,11 @@
 
     check.py [PROGRAM]
 
-Each file that a document names in backticks is there. Each `crate::item` is an item of that crate, each `crate/edit` an edit that must be
-refused, and each bare name in the documents on the code stands in some crate. Each definition of docs/DEFINITIONS.md stands in the file beside
-it. docs/INDEX.md names every public definition and function. examples/first is as the data of crates/cnitool. With a program, the
-documents' sessions and examples are run by examples.py.
+Each file that a document names in backticks is there. Each `crate::item` is an item of that crate, each `crate/edit` an
+edit that must be refused, and each bare name in the documents on the code stands in some crate. Each definition of
+docs/DEFINITIONS.md stands in the file beside it. docs/INDEX.md names every public definition and function.
+examples/first is as the data of crates/cnitool. With a program, the documents' sessions and examples are run by
+examples.py.
 """
 
 import os
@@ -113,12 +114,12 @@ def main():
     wrong = [f"{path.relative_to(TOP)}: {it}" for path in documents() for it in wrong_in(path, sources, program)]
     wrong += examples.unlike_crate()
     if is_other(index.INDEX, index.index()):
-        wrong.append("docs/INDEX.md isn't what tests/docs/index.py prints")
+        wrong.append("docs/INDEX.md isn't what tests/docs/index.py writes")
     for it in wrong:
         print(f"docs: {it}")
     print(f"docs: {len(wrong)} wrong")
-    sys.exit(1 if wrong else 0)
+    return 1 if wrong else 0
 
 
 if __name__ == "__main__":
-    main()
+    sys.exit(main())

@@ -1,10 +1,10 @@
 #!/usr/bin/env python3
 """The index of every public definition and function, crate by crate and file by file.
 
-    index.py          prints it
-    index.py --write  writes docs/INDEX.md
+    index.py          writes docs/INDEX.md
+    index.py --check  fails where it isn't what would be written
 
-check.py fails where docs/INDEX.md isn't what this prints.
+check.py looks at it too.
 """
 
 import pathlib
@@ -15,14 +15,16 @@ sys.dont_write_bytecode = True
 sys.path.insert(0, str(pathlib.Path(__file__).resolve().parent.parent))
 
 from program import TOP
+from written import settle
 
 INDEX = TOP / "docs" / "INDEX.md"
 DEFINITION = re.compile(r"^(?:(?:abbrev|unfoldable) pub|pub (?:record|data)) (\S+)", re.MULTILINE)
 ITEM = re.compile(r"^ *pub (?:fn|struct|enum|trait|const) (\w+)", re.MULTILINE)
 HEAD = """# Index
 
-Every public definition (`specs/`) and every public function and type (`src/`), by crate and file. `tests/docs/index.py --write` writes this page,
-and `./test` looks whether it is whole. What each means stands beside it in the file; `docs/DEFINITIONS.md` has those to read first.
+Every public definition (`specs/`) and every public function and type (`src/`), by crate and file.
+`tests/docs/index.py` writes this page, and `./test` looks whether it is whole. What each means stands beside it in the
+file; `docs/DEFINITIONS.md` has those to read first.
 """
 
 
@@ -79,11 +81,8 @@ def index():
 
 
 def main():
-    if "--write" in sys.argv[1:]:
-        INDEX.write_text(index(), encoding="utf-8")
-    else:
-        sys.stdout.write(index())
+    return settle({INDEX: index()})
 
 
 if __name__ == "__main__":
-    main()
+    sys.exit(main())
