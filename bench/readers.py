@@ -3,8 +3,9 @@
 
     readers.py [PROGRAM]
 
-Reading JSON alone is what the program does with the same bytes inside one pair of brackets: it reads them as JSON, finds that
-the top is no object, and refuses them. So each row is the time for the file over the time for the file in brackets.
+Reading JSON alone is what the program does with the same bytes inside one pair of brackets: it reads them as JSON, finds
+that the top is no object, and refuses them. So each row is the time for the file over the time for the file in
+brackets.
 """
 import os
 import pathlib
@@ -18,7 +19,7 @@ sys.path.insert(0, str(pathlib.Path(__file__).resolve().parent.parent / "tests")
 from program import NO_PODS, bridge, command, compact, in_folder, least, network_list, program_of
 
 # the most bytes of a file, and the most commands or range sets in it
-LIMIT = 16_777_216
+MOST_BYTES = 16_777_216
 MOST = 65_536
 RUNS = 3
 
@@ -40,8 +41,8 @@ def list_of_sets():
 def measured(program, words, folder):
     """The seconds of one run, and the most bytes of memory that it takes."""
     start = time.perf_counter()
-    made = subprocess.Popen([program, *words], cwd=folder, stdout=subprocess.DEVNULL)
-    _, _, used = os.wait4(made.pid, 0)
+    child = subprocess.Popen([program, *words], cwd=folder, stdout=subprocess.DEVNULL)
+    _, _, used = os.wait4(child.pid, 0)
     return time.perf_counter() - start, used.ru_maxrss * 1024
 
 
@@ -52,7 +53,7 @@ def seconds(program, words, folder):
 def row(name, program, before, file, whole):
     """Times the file behind the files before it, as it is and in brackets."""
     files = {**before, file: whole}
-    alone = least(RUNS, seconds, program, {**before, file: b"[" + whole[: LIMIT - 2] + b"]"})
+    alone = least(RUNS, seconds, program, {**before, file: b"[" + whole[: MOST_BYTES - 2] + b"]"})
     read = least(RUNS, seconds, program, files)
     with in_folder(files) as folder:
         _, most = measured(program, files, folder)
@@ -65,7 +66,7 @@ def row(name, program, before, file, whole):
 
 def main():
     program = program_of(sys.argv[1:])
-    row("pod file", program, {}, "pods.json", pod_file(LIMIT))
+    row("pod file", program, {}, "pods.json", pod_file(MOST_BYTES))
     row("network list", program, {"pods.json": NO_PODS}, "net.json", list_of_sets())
 
 

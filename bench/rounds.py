@@ -10,8 +10,8 @@ Each size N gives rounds of N commands, one a container, each timed less the sam
 - adds:   ADDs;
 - dels:   DELs of what the ADDs of a round before made.
 
-`adds` and `dels` show the kernel over plain lists. A time is the processor's, the least of some runs. What isn't over within LIMIT seconds is
-ended, and no figure is given.
+`adds` and `dels` show the kernel over plain lists. A time is the processor's, the least of some runs. What isn't over
+within MOST_SECONDS is ended, and no figure is given.
 """
 import pathlib
 import resource
@@ -21,7 +21,7 @@ import sys
 sys.dont_write_bytecode = True
 sys.path.insert(0, str(pathlib.Path(__file__).resolve().parent.parent / "tests"))
 
-from program import LIMIT, bridge, command, least, network_list, program_of, run
+from program import MOST_SECONDS, bridge, command, least, network_list, program_of, run
 
 RUNS = 25
 NET = network_list("pods", bridge(subnet="10.0.0.0/8"))
@@ -63,9 +63,9 @@ def least_of(program, pods):
 
 def timed(program, kind, count):
     whole, without = files(kind, count)
-    most = least_of(program, whole)
-    rest = None if most is None else least_of(program, without)
-    return None if rest is None else most - rest
+    of_whole = least_of(program, whole)
+    of_rest = None if of_whole is None else least_of(program, without)
+    return None if of_rest is None else of_whole - of_rest
 
 
 def main():
@@ -76,12 +76,17 @@ def main():
         for kind, steps in STEPS.items():
             taken = timed(program, kind, size)
             if taken is None or taken <= 0:
-                print(f"{kind:7} N={size:6} " + (f"not over within {LIMIT} s" if taken is None else "too short to be timed"), flush=True)
+                why = f"not over within {MOST_SECONDS} s" if taken is None else "too short to be timed"
+                print(f"{kind:7} N={size:6} {why}", flush=True)
                 continue
             a_step = taken / (size * steps)
             first.setdefault(kind, (size, a_step))
             base, of_base = first[kind]
-            print(f"{kind:7} N={size:6} {taken:8.4f} s {1 / a_step:12.0f} steps/s   a step: x{a_step / of_base:.2f} of N={base}", flush=True)
+            print(
+                f"{kind:7} N={size:6} {taken:8.4f} s {1 / a_step:12.0f} steps/s   "
+                f"a step: x{a_step / of_base:.2f} of N={base}",
+                flush=True,
+            )
 
 
 if __name__ == "__main__":

@@ -1,5 +1,5 @@
-"""What the scripts of tests/ and bench/ share: the program, the files that it reads in a folder of their own, a run of it, and network
-lists and commands as values."""
+"""What the scripts of tests/ and bench/ share: the program, the files that it reads in a folder of their own, a run of
+it, and network lists and commands as values."""
 
 import contextlib
 import json
@@ -12,7 +12,9 @@ BUILT = TOP / (TOP / "tests/built.txt").read_text(encoding="utf-8").strip()
 # in place of a file's content: a folder is to have that name
 DIRECTORY = object()
 # the most seconds that a run may take
-LIMIT = 120
+MOST_SECONDS = 120
+# the status where a file or a plan is refused
+REFUSED = 3
 
 
 def program_of(words):
@@ -43,7 +45,13 @@ def in_folder(files):
 
 def run(program, words, folder, stdout=subprocess.PIPE):
     """The run of the program with these words in this folder, as it ended."""
-    return subprocess.run([program, *words], cwd=folder, stdout=stdout, check=False, timeout=LIMIT)
+    return subprocess.run([program, *words], cwd=folder, stdout=stdout, check=False, timeout=MOST_SECONDS)
+
+
+def run_on(program, words, files, stdout=subprocess.PIPE):
+    """The run of the program with these words in a folder with these files, as it ended."""
+    with in_folder(files) as folder:
+        return run(program, words, folder, stdout)
 
 
 def lines_of(printed):
@@ -51,10 +59,11 @@ def lines_of(printed):
 
 
 def least(runs, seconds, program, files):
-    """The least of the seconds of so many runs with these files, fewer where they take long; none where one isn't over in time."""
+    """The least of the seconds of so many runs with these files, fewer where they take long; none where one isn't over
+    in time."""
     times = []
     with in_folder(files) as folder:
-        while len(times) < runs and sum(times) < LIMIT / 8:
+        while len(times) < runs and sum(times) < MOST_SECONDS / 8:
             taken = seconds(program, files, folder)
             if taken is None:
                 return None
@@ -63,7 +72,8 @@ def least(runs, seconds, program, files):
 
 
 def count_failed(found):
-    """Prints what is other than expected, each text behind the name that it is found of, and counts the names that have one."""
+    """Prints what is other than expected, each text behind the name that it is found of, and counts the names that have
+    one."""
     failed = 0
     for name, texts in found:
         failed += bool(texts)

@@ -1,8 +1,9 @@
 """Runs what the documents show of the program.
 
-A session is a block of lines that begin with four spaces: a command after `$ `, below it the lines that it prints. A line `..` stands
-for any lines. A block of JSON in docs/FORMATS.md or docs/plugins/ is a network list, a pod file, a plugin or the `ipam` of one, and is
-to be read. examples/first is the data of crates/cnitool, whose output `rt ci` compares.
+A session is a block of lines that begin with four spaces: a command after `$ `, below it the lines that it prints. A
+line `..` stands for any lines. A block of JSON in docs/FORMATS.md or docs/plugins/ is a network list, a pod file, a
+plugin or the `ipam` of one, and is to be read. examples/first is the data of crates/cnitool, whose output `rt ci`
+compares.
 """
 
 import json
@@ -13,12 +14,11 @@ import sys
 
 sys.path.insert(0, str(pathlib.Path(__file__).resolve().parent.parent))
 
-from program import NO_PODS, TOP, in_folder, network_list, run
+from program import NO_PODS, REFUSED, TOP, network_list, run, run_on
 
 FIRST = ("bridge", "ptp", "macvlan")
 # each file of examples/first, and the file of crates/cnitool that says the same
 TWICE = {"net.json": "data/net.json", "pods.json": "data/pods.json", "output.txt": "stdout"}
-REFUSED = 3
 
 
 def sessions(text):
@@ -60,8 +60,7 @@ def files_of(value):
 def unread_examples(text, program):
     for block in re.findall(r"^```json\n(.*?)^```$", text, flags=re.MULTILINE | re.DOTALL):
         files = {f"{number}.json": content for number, content in enumerate(files_of(json.loads(block)))}
-        with in_folder(files) as folder:
-            done = run(program, [*files], folder)
+        done = run_on(program, [*files], files)
         if done.returncode == REFUSED:
             yield f"an example is refused: {done.stdout.decode('utf-8').strip()}"
 

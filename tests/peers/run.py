@@ -24,7 +24,7 @@ import sys
 sys.dont_write_bytecode = True
 sys.path.insert(0, str(pathlib.Path(__file__).resolve().parent.parent))
 
-from program import bridge, command, count_failed, in_folder, lines_of, network_list, program_of, run
+from program import bridge, command, count_failed, lines_of, network_list, program_of, run_on
 from recorded import is_ipv6, recordings
 
 ADDRESSES = ("rangeStart", "rangeEnd", "gateway")
@@ -119,8 +119,7 @@ def lasts_of(lines, count):
 
 def printed(program, files):
     """The status of a run with these files, and the lines that it prints."""
-    with in_folder(files) as folder:
-        done = run(program, ["--dump", *files], folder)
+    done = run_on(program, ["--dump", *files], files)
     return done.returncode, [json.loads(line) for line in lines_of(done.stdout)]
 
 

@@ -4,8 +4,8 @@
     write_tables.py          writes rows.rt into crates/pod_file/src/tests
     write_tables.py --check  fails where it isn't what would be written
 
-The rows are those of pod_files.json. A file that has white space around it, or a character outside printable ASCII, doesn't fit in a
-line of a table, and is left out there.
+The rows are those of pod_files.json. A file that has white space around it, or a character outside printable ASCII,
+doesn't fit in a line of a table, and is left out there.
 """
 
 import pathlib
@@ -18,7 +18,10 @@ from program import TOP, read_json
 from written import settle
 
 TARGET = TOP / "crates/pod_file/src/tests/rows.rt"
-BEGIN = '//! Written by tests/readers/write_tables.py: what comes of a file, and the file.\n\npub(super) const ROWS: &str = r#"'
+BEGIN = (
+    "//! Written by tests/readers/write_tables.py: what comes of a file, and the file.\n\n"
+    'pub(super) const ROWS: &str = r#"'
+)
 
 
 def fits(text):

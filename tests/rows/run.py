@@ -34,7 +34,18 @@ import sys
 sys.dont_write_bytecode = True
 sys.path.insert(0, str(pathlib.Path(__file__).resolve().parent.parent))
 
-from program import DIRECTORY, NO_PODS, TOP, compact, count_failed, in_folder, lines_of, program_of, read_json, run
+from program import (
+    DIRECTORY,
+    NO_PODS,
+    REFUSED,
+    TOP,
+    compact,
+    count_failed,
+    lines_of,
+    program_of,
+    read_json,
+    run_on,
+)
 
 LATER = re.compile(r"invalid pod file: no network for command \d+")
 LEASED = re.compile(r'(?<="ips":\[{"address":")([^"]*)')
@@ -115,7 +126,7 @@ def reader_rows():
             if "code" in row:
                 error = {"cniVersion": "1.1.0", "code": row["code"], "details": "", "msg": row["msg"]}
                 line = compact({"error": error, "file": file}, ensure_ascii=False)
-                yield {**run_row, "status": 3, "stdout": [line]}
+                yield {**run_row, "status": REFUSED, "stdout": [line]}
             elif file == "net.json":
                 yield {**run_row, "status": 0, "stdout": []}
             else:
@@ -123,7 +134,7 @@ def reader_rows():
 
 
 def is_read(status, lines):
-    if status != 3:
+    if status != REFUSED:
         return status in (0, 1, 8)
     error = json.loads(lines[0])["error"] if lines else ""
     return isinstance(error, dict) and LATER.fullmatch(error["msg"]) is not None
@@ -179,10 +190,10 @@ def output_of(row):
     return open(row["stdout_to"], "wb") if "stdout_to" in row else contextlib.nullcontext(subprocess.PIPE)
 
 
-def found_of(program, row, lists):
+def wrong_in(program, row, lists):
     files = {name: content_of(given, lists) for name, given in row.get("files", {}).items()}
-    with in_folder(files) as folder, output_of(row) as out:
-        done = run(program, row["words"], folder, out)
+    with output_of(row) as out:
+        done = run_on(program, row["words"], files, out)
     return [*differences(row, done.returncode, done.stdout or b"")]
 
 
@@ -192,7 +203,7 @@ def main():
     table = read_json(TOP / "tests/rows/rows.json")
     told = (each for row in table["rows"] for each in each_of(row))
     rows = [row for row in [*told, *reader_rows()] if word in row["name"]]
-    failed = count_failed((row["name"], found_of(program, row, table["lists"])) for row in rows)
+    failed = count_failed((row["name"], wrong_in(program, row, table["lists"])) for row in rows)
     print(f"rows: {len(rows) - failed} passed, {failed} failed")
     return 1 if failed else 0
 
