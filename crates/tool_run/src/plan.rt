@@ -71,9 +71,8 @@ fn join(alloc: Global, words: &Words, pods: Pods, lists: Items<NetList>) -> Resu
     match Plan::join(lists, pods, words.stop_at) {
         Ok(plan) => Ok(plan),
         Err(end) => {
-            let error = plan_error(alloc, end)?;
-            let line = error_line(alloc, &error, file_at_fault(words, end))?;
-            Err(Stop::Line(line))
+            let file = file_at_fault(words, end);
+            Err(Stop::Line(error_line(alloc, &plan_error(alloc, end)?, file)?))
         }
     }
 }
@@ -99,11 +98,7 @@ fn pods_of_bytes(alloc: Global, bytes: &[u8], file: &str) -> Result<Pods, Stop>
     match pod_file::read_pods(alloc, bytes) {
         Ok(pods) => Ok(pods),
         Err(PodError::NoMemory) => Err(Stop::NoMemory),
-        Err(end) => {
-            let error = pods_error(alloc, &end)?;
-            let line = error_line(alloc, &error, file)?;
-            Err(Stop::Line(line))
-        }
+        Err(end) => Err(Stop::Line(error_line(alloc, &pods_error(alloc, &end)?, file)?)),
     }
 }
 
@@ -149,11 +144,7 @@ fn list_of_bytes(alloc: Global, bytes: &[u8], file: &str) -> Result<NetList, Sto
     match net_conf::read_list(alloc, bytes) {
         Ok(list) => Ok(list),
         Err(ConfError::NoMemory) => Err(Stop::NoMemory),
-        Err(end) => {
-            let error = list_error(alloc, &end)?;
-            let line = error_line(alloc, &error, file)?;
-            Err(Stop::Line(line))
-        }
+        Err(end) => Err(Stop::Line(error_line(alloc, &list_error(alloc, &end)?, file)?)),
     }
 }
 
