@@ -1,7 +1,7 @@
 -- Lists and pods that were read make a well-formed plan.
-use Rattle.std.proofs.Common.{◌≡◌, ◌≤◌, ℕ, List, [], ◌∷◌, length, arith, Ok}
+use Rattle.std.proofs.Common.{◌≡◌, ◌≤◌, ℕ, List, length, Ok}
 use Rattle.std.specs.List.{All}
-use Rattle.std.proofs.lemmas.List.Elements.{All-cons, All-drop, All-get_or, All-nil}
+use Rattle.std.proofs.lemmas.List.Elements.{All-weaker}
 use Rattle.net_conf.specs.List.{list_of}
 use Rattle.net_conf.specs.WellFormed.{IsWellFormedList}
 use Rattle.net_conf.specs.declared.list.NetList.{NetList}
@@ -23,10 +23,7 @@ abbrev pub PodsLaw : Type 0
 PodsLaw = (bytes : List ℕ) (pods : Pods) → pods_of bytes ≡ Ok pods → IsWellFormedPods pods
 
 lists_formed : ListLaw → (lists : List NetList) → All IsReadList lists → All IsWellFormedList lists
-lists_formed law [] all = All-nil IsWellFormedList
-lists_formed law (list ∷ lists) all =
-    let read = All-get_or IsReadList (list ∷ lists) 0 list (omega arith) all in
-    All-cons IsWellFormedList list lists (law read.0 list read.1) (lists_formed law lists (All-drop IsReadList 1 (list ∷ lists) all))
+lists_formed law lists all = All-weaker IsReadList IsWellFormedList (λ list read. law read.0 list read.1) lists all
 
 pub read_pods_are_few : PodsLaw → (p : Plan) → IsReadPods p.pods → length (commands_of p) ≤ file_limit
 read_pods_are_few law p read = few_commands p (law read.0 p.pods read.1)
