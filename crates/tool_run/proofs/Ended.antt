@@ -101,7 +101,7 @@ ended keeps r (Ok made) o settles rep =
       over = is.1;
       legal = is.2;
     }) (record { by = w; words_are = settles.1; text = is.4 }) rep.1
-ended keeps r (Err stop.NoMemory) o settles rep = of_memory rep.1 rep.0 rep.2
+ended keeps r (Err stop.NoMemory) o settles rep = of_memory rep.1.0 rep.0 rep.1.1
 
 -- ---- what follows
 
@@ -256,13 +256,10 @@ without_book o none = subst IsOrdered (sym none) tt
 
 pub ordered : (keeps : ℕ → Type 0) (r : Sides) (d : Due) (o : Outcome) → Settles keeps r.words r.files r.reads_before r.reads_now d → Reported r.old r.new r.writes_before r.writes_now d o
     → (by : Words) → words_of r.words ≡ Some by → keeps by.threads → IsOrdered o.book
-ordered keeps r (Err stop.Usage) o settles rep by is kept = without_book o rep.0
-ordered keeps r (Err (stop.Line text)) o settles rep by is kept = without_book o rep.0
-ordered keeps r (Err (stop.Unread text)) o settles rep by is kept = without_book o rep.0
+ordered keeps r (Err why) o settles rep by is kept = without_book o rep.0
 ordered keeps r (Ok made) o settles rep by is kept =
     let same = same_Some by settles.0 (sym is ∙ settles.1) in
     subst IsOrdered (sym rep.0) (settles.2.3 (subst (λ (w : Words). keeps w.threads) same kept))
-ordered keeps r (Err stop.NoMemory) o settles rep by is kept = without_book o rep.0
 
 -- a book has words that are taken
 pub ordered_always : (r : Sides) (status : ℕ) (book : Option World) → HasCauses r status book → ((by : Words) → words_of r.words ≡ Some by → IsOrdered book) → IsOrdered book

@@ -27,14 +27,18 @@ Reports old new before now bytes status result =
 abbrev pub Due : Type 0
 Due = Result Carried Stop
 
--- what is due was written so; want of memory writes nothing
+-- why there is nothing to carry out was written with this status; want of memory writes nothing
+abbrev pub ReportsStop : Option (List ℕ) → Option (List ℕ) → ℕ → ℕ → Stop → ℕ → Type 0
+ReportsStop old new before now Usage result = Reports old new before now usage_line 2 result
+ReportsStop old new before now (Line line) result = Reports old new before now line.items 3 result
+ReportsStop old new before now (Unread line) result = Reports old new before now line.items 4 result
+ReportsStop old new before now NoMemory result = (result ≡ 6) × (new ≡ old)
+
+-- what is due was written so
 abbrev pub Reported : Option (List ℕ) → Option (List ℕ) → ℕ → ℕ → Due → Outcome → Type 0
 Reported old new before now (Ok made) outcome =
     (outcome.book ≡ Some made.book) × Reports old new before now made.text.items (status_of made.book.answers) outcome.status
-Reported old new before now (Err Usage) outcome = (outcome.book ≡ None) × Reports old new before now usage_line 2 outcome.status
-Reported old new before now (Err (Line line)) outcome = (outcome.book ≡ None) × Reports old new before now line.items 3 outcome.status
-Reported old new before now (Err (Unread line)) outcome = (outcome.book ≡ None) × Reports old new before now line.items 4 outcome.status
-Reported old new before now (Err NoMemory) outcome = (outcome.book ≡ None) × (outcome.status ≡ 6) × (new ≡ old)
+Reported old new before now (Err stop) outcome = (outcome.book ≡ None) × ReportsStop old new before now stop outcome.status
 
 -- the text of a book of the plan that told files want, every round of which is over; where so many threads keep the file's
 -- order, its commands went in it; or the files stop the plan, or memory ran out

@@ -6,7 +6,7 @@ ghost use Rattle.pod_workers.specs.Extends.{Rounds};
 ghost use Rattle.pod_workers.specs.Order.{IsInFileOrder};
 ghost use Rattle.tool_words.specs.Words.{words_of};
 ghost use Rattle.tool_words.specs.declared.words.Words.{Words};
-ghost use Rattle.tool_run.specs.Ends.{Reported, Reports};
+ghost use Rattle.tool_run.specs.Ends.{Reported, Reports, ReportsStop};
 ghost use Rattle.tool_run.specs.Rounds.{KeepsFileOrder, MakesRounds};
 ghost use Rattle.tool_run.specs.Statuses.{AskForOneThread, HasCauses, sides};
 
@@ -122,22 +122,22 @@ fn report<S: Sink>(sink: &mut S, due: Result<Carried, Stop>) -> Outcome
             status: write(sink, text.as_slice(), status(&book)),
             book: Some(book),
         },
-        Err(Stop::Usage) => Outcome {
-            status: write(sink, USAGE, 2),
+        Err(stop) => Outcome {
+            status: report_stop(sink, stop),
             book: None,
         },
-        Err(Stop::Line(line)) => Outcome {
-            status: write(sink, line.as_slice(), 3),
-            book: None,
-        },
-        Err(Stop::Unread(line)) => Outcome {
-            status: write(sink, line.as_slice(), 4),
-            book: None,
-        },
-        Err(Stop::NoMemory) => Outcome {
-            status: MEMORY_STATUS,
-            book: None,
-        },
+    }
+}
+
+/// Writes why there is nothing to carry out, and answers the status.
+fn report_stop<S: Sink>(sink: &mut S, stop: Stop) -> u8
+    ensures { ReportsStop (S.written sink.old) (S.written sink.new) (S.faults sink.old) (S.faults sink.new) stop result }
+{
+    match stop {
+        Stop::Usage => write(sink, USAGE, 2),
+        Stop::Line(line) => write(sink, line.as_slice(), 3),
+        Stop::Unread(line) => write(sink, line.as_slice(), 4),
+        Stop::NoMemory => MEMORY_STATUS,
     }
 }
 
