@@ -15,7 +15,7 @@ use Rattle.tool_words.specs.declared.words.Words.{Words}
 use Rattle.tool_run.specs.Causes.{WhereTold}
 use Rattle.tool_run.specs.Ends.{Due, Reported, Reports, Settles}
 use Rattle.tool_run.specs.Lines.{usage_line}
-use Rattle.tool_run.specs.Statuses.{ComesTo, Completes, HasCauses, IsCarriedOut, IsDue, IsTextOf, IsUnreadOf, Sides, Wrote, WroteFront}
+use Rattle.tool_run.specs.Statuses.{ComesTo, Completes, HasCauses, IsCarriedOut, IsToWrite, IsTextOf, IsUnreadOf, Sides, Wrote, WroteFront, WroteNothing}
 use Rattle.tool_run.specs.Verdict.{Verdict, carry, line, plan_of, usage, verdict_if, verdict_of, verdict_on}
 use Rattle.tool_run.specs.declared.plan.Stop.TheVariants as stop
 use Rattle.tool_run.specs.declared.top.Outcome.{Outcome}
@@ -29,9 +29,9 @@ pub data Ended (r : Sides) (status : ℕ) (book : Option World) : Type 0 where
   of_read : (bytes : List ℕ) → status ≡ 4 → book ≡ None → IsUnreadOf r.words r.reads_before r.reads_now bytes → Wrote r.old r.new bytes → Ended r status book
   of_text : (b : World) (bytes : List ℕ) → IsAmong status Printed → status ≡ status_of b.answers → book ≡ Some b → IsCarriedOut r.words r.files b → IsTextOf r.words b bytes
       → Wrote r.old r.new bytes → Ended r status book
-  of_sink : (bytes : List ℕ) → status ≡ 5 → Rose r.writes_before r.writes_now → IfSome book (IsCarriedOut r.words r.files) → IsDue r.words r.files r.reads_before r.reads_now book bytes
+  of_sink : (bytes : List ℕ) → status ≡ 5 → Rose r.writes_before r.writes_now → IfSome book (IsCarriedOut r.words r.files) → IsToWrite r.words r.files r.reads_before r.reads_now book bytes
       → WroteFront r.old r.new bytes → Ended r status book
-  of_memory : status ≡ 6 → book ≡ None → r.new ≡ r.old → Ended r status book
+  of_memory : status ≡ 6 → book ≡ None → WroteNothing r.old r.new r.writes_before r.writes_now → Ended r status book
 
 -- ---- statuses of a text
 
@@ -64,7 +64,7 @@ no_book : (r : Sides) (book : Option World) → book ≡ None → IfSome book (I
 no_book r book none = subst (λ (b : Option World). IfSome b (IsCarriedOut r.words r.files)) (sym none) tt
 
 abbrev DueAt : Sides → List ℕ → Option World → Type 0
-DueAt r bytes book = IsDue r.words r.files r.reads_before r.reads_now book bytes
+DueAt r bytes book = IsToWrite r.words r.files r.reads_before r.reads_now book bytes
 
 -- a line was written, or the sink gave up
 of_line_due : (r : Sides) (o : Outcome) (bytes : List ℕ) (status : ℕ) → o.book ≡ None → DueAt r bytes None
@@ -117,7 +117,7 @@ only r status book (of_line bytes st none w words comes wrote) = inr (inr (inr (
 only r status book (of_read bytes st none unread wrote) = inr (inr (inr (inr (inl st))))
 only r status book (of_text b bytes one st some carried text wrote) = printed_is_one status one
 only r status book (of_sink bytes st rose carried is_due front) = inr (inr (inr (inr (inr (inl st)))))
-only r status book (of_memory st none same) = inr (inr (inr (inr (inr (inr (inl st))))))
+only r status book (of_memory st none nothing) = inr (inr (inr (inr (inr (inr (inl st))))))
 
 -- a status between 2 and 7 is no text's
 other : {X : Type 0} (status n : ℕ) → IsAmong status Printed → status ≡ n → 2 ≤ n → n ≤ 7 → X
@@ -132,7 +132,7 @@ text_clause r status book (of_line bytes st none w words comes wrote) h = other 
 text_clause r status book (of_read bytes st none unread wrote) h = other status 4 h st (omega arith) (omega arith)
 text_clause r status book (of_text b bytes one st some carried text wrote) h = subst (IsText r status) (sym some) (st, (bytes, text, wrote))
 text_clause r status book (of_sink bytes st rose carried is_due front) h = other status 5 h st (omega arith) (omega arith)
-text_clause r status book (of_memory st none same) h = other status 6 h st (omega arith) (omega arith)
+text_clause r status book (of_memory st none nothing) h = other status 6 h st (omega arith) (omega arith)
 
 pub usage_clause : (r : Sides) (status : ℕ) (book : Option World) → Ended r status book → status ≡ 2 → (words_of r.words ≡ None) × Wrote r.old r.new usage_line
 usage_clause r status book (of_usage st none words wrote) h = (words, wrote)
@@ -140,7 +140,7 @@ usage_clause r status book (of_line bytes st none w words comes wrote) h = absur
 usage_clause r status book (of_read bytes st none unread wrote) h = absurd (omega arith)
 usage_clause r status book (of_text b bytes one st some carried text wrote) h = other status 2 one h (omega arith) (omega arith)
 usage_clause r status book (of_sink bytes st rose carried is_due front) h = absurd (omega arith)
-usage_clause r status book (of_memory st none same) h = absurd (omega arith)
+usage_clause r status book (of_memory st none nothing) h = absurd (omega arith)
 
 -- no words, and words
 two_ways : {X : Type 0} (words : List (List ℕ)) (w : Words) → words_of words ≡ None → words_of words ≡ Some w → X
@@ -152,7 +152,7 @@ usage_only r status book (of_line bytes st none w words comes wrote) h = two_way
 usage_only r status book (of_read bytes st none unread wrote) h = two_ways r.words unread.by h unread.words_are
 usage_only r status book (of_text b bytes one st some carried text wrote) h = two_ways r.words carried.by h carried.words_are
 usage_only r status book (of_sink bytes st rose carried is_due front) h = inr (inl st)
-usage_only r status book (of_memory st none same) h = inr (inr (inl st))
+usage_only r status book (of_memory st none nothing) h = inr (inr (inl st))
 
 pub line_clause : (r : Sides) (status : ℕ) (book : Option World) → Ended r status book → status ≡ 3 → (bytes : List ℕ) × ComesTo r.words r.files (line bytes) × Wrote r.old r.new bytes
 line_clause r status book (of_usage st none words wrote) h = absurd (omega arith)
@@ -160,7 +160,7 @@ line_clause r status book (of_line bytes st none w words comes wrote) h = (bytes
 line_clause r status book (of_read bytes st none unread wrote) h = absurd (omega arith)
 line_clause r status book (of_text b bytes one st some carried text wrote) h = other status 3 one h (omega arith) (omega arith)
 line_clause r status book (of_sink bytes st rose carried is_due front) h = absurd (omega arith)
-line_clause r status book (of_memory st none same) h = absurd (omega arith)
+line_clause r status book (of_memory st none nothing) h = absurd (omega arith)
 
 pub read_clause : (r : Sides) (status : ℕ) (book : Option World) → Ended r status book → status ≡ 4 → (bytes : List ℕ) × IsUnreadOf r.words r.reads_before r.reads_now bytes × Wrote r.old r.new bytes
 read_clause r status book (of_usage st none words wrote) h = absurd (omega arith)
@@ -168,23 +168,23 @@ read_clause r status book (of_line bytes st none w words comes wrote) h = absurd
 read_clause r status book (of_read bytes st none unread wrote) h = (bytes, unread, wrote)
 read_clause r status book (of_text b bytes one st some carried text wrote) h = other status 4 one h (omega arith) (omega arith)
 read_clause r status book (of_sink bytes st rose carried is_due front) h = absurd (omega arith)
-read_clause r status book (of_memory st none same) h = absurd (omega arith)
+read_clause r status book (of_memory st none nothing) h = absurd (omega arith)
 
-pub sink_clause : (r : Sides) (status : ℕ) (book : Option World) → Ended r status book → status ≡ 5 → Rose r.writes_before r.writes_now × ((bytes : List ℕ) × IsDue r.words r.files r.reads_before r.reads_now book bytes × WroteFront r.old r.new bytes)
+pub sink_clause : (r : Sides) (status : ℕ) (book : Option World) → Ended r status book → status ≡ 5 → Rose r.writes_before r.writes_now × ((bytes : List ℕ) × IsToWrite r.words r.files r.reads_before r.reads_now book bytes × WroteFront r.old r.new bytes)
 sink_clause r status book (of_usage st none words wrote) h = absurd (omega arith)
 sink_clause r status book (of_line bytes st none w words comes wrote) h = absurd (omega arith)
 sink_clause r status book (of_read bytes st none unread wrote) h = absurd (omega arith)
 sink_clause r status book (of_text b bytes one st some carried text wrote) h = other status 5 one h (omega arith) (omega arith)
 sink_clause r status book (of_sink bytes st rose carried is_due front) h = (rose, (bytes, is_due, front))
-sink_clause r status book (of_memory st none same) h = absurd (omega arith)
+sink_clause r status book (of_memory st none nothing) h = absurd (omega arith)
 
-pub memory_clause : (r : Sides) (status : ℕ) (book : Option World) → Ended r status book → status ≡ 6 → r.new ≡ r.old
+pub memory_clause : (r : Sides) (status : ℕ) (book : Option World) → Ended r status book → status ≡ 6 → WroteNothing r.old r.new r.writes_before r.writes_now
 memory_clause r status book (of_usage st none words wrote) h = absurd (omega arith)
 memory_clause r status book (of_line bytes st none w words comes wrote) h = absurd (omega arith)
 memory_clause r status book (of_read bytes st none unread wrote) h = absurd (omega arith)
 memory_clause r status book (of_text b bytes one st some carried text wrote) h = other status 6 one h (omega arith) (omega arith)
 memory_clause r status book (of_sink bytes st rose carried is_due front) h = absurd (omega arith)
-memory_clause r status book (of_memory st none same) h = same
+memory_clause r status book (of_memory st none nothing) h = nothing
 
 usage_verdict : (words : List (List ℕ)) (stored : StoredFiles) → words_of words ≡ None → usage ≡ verdict_of words stored
 usage_verdict words stored none = sym (ap (λ (o : Option Words). verdict_if o stored) none)
@@ -206,7 +206,7 @@ complete r status book (of_line bytes st none w words comes wrote) stored told r
 complete r status book (of_read bytes st none unread wrote) stored told reads writes = absurd (reads unread.unread.rose)
 complete r status book (of_text b bytes one st some carried text wrote) stored told reads writes = subst (λ (v : Verdict). Completes v status) (sym (carried.plan stored told)) (printed_completes status one)
 complete r status book (of_sink bytes st rose carried is_due front) stored told reads writes = absurd (writes rose)
-complete r status book (of_memory st none same) stored told reads writes = memory_completes (verdict_of r.words stored) status st
+complete r status book (of_memory st none nothing) stored told reads writes = memory_completes (verdict_of r.words stored) status st
 
 pub book_clause : (r : Sides) (status : ℕ) (book : Option World) → Ended r status book → IfSome book (IsCarriedOut r.words r.files)
 book_clause r status book (of_usage st none words wrote) = no_book r book none
@@ -214,7 +214,7 @@ book_clause r status book (of_line bytes st none w words comes wrote) = no_book 
 book_clause r status book (of_read bytes st none unread wrote) = no_book r book none
 book_clause r status book (of_text b bytes one st some carried text wrote) = subst (λ (x : Option World). IfSome x (IsCarriedOut r.words r.files)) (sym some) carried
 book_clause r status book (of_sink bytes st rose carried is_due front) = carried
-book_clause r status book (of_memory st none same) = no_book r book none
+book_clause r status book (of_memory st none nothing) = no_book r book none
 
 -- one of 2, 3 and 4
 middle : (status : ℕ) → IsAmong status (2 ∷ 3 ∷ 4 ∷ []) → (2 ≤ status) × (status ≤ 4)
@@ -229,7 +229,7 @@ no_book_clause r status book (of_line bytes st none w words comes wrote) h = non
 no_book_clause r status book (of_read bytes st none unread wrote) h = none
 no_book_clause r status book (of_text b bytes one st some carried text wrote) h = let m = middle status h in other status status one refl m.0 (omega arith)
 no_book_clause r status book (of_sink bytes st rose carried is_due front) h = let m = middle status h in absurd (omega arith)
-no_book_clause r status book (of_memory st none same) h = none
+no_book_clause r status book (of_memory st none nothing) h = none
 
 pub causes : (r : Sides) (status : ℕ) (book : Option World) → Ended r status book → HasCauses r status book
 causes r status book how = record {

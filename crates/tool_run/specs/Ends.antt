@@ -11,7 +11,7 @@ use Rattle.tool_words.specs.Words.{words_of}
 use Rattle.tool_words.specs.declared.words.Words.{Words}
 use Rattle.tool_run.specs.Causes.{Steps, WhereTold}
 use Rattle.tool_run.specs.Lines.{usage_line}
-use Rattle.tool_run.specs.Statuses.{Wrote, WroteFront}
+use Rattle.tool_run.specs.Statuses.{Wrote, WroteFront, WroteNothing}
 use Rattle.tool_run.specs.Verdict.{plan_of}
 use Rattle.tool_run.specs.declared.plan.Stop.{Stop}
 use Rattle.tool_run.specs.declared.plan.Stop.TheVariants.{Usage, Line, Unread, NoMemory}
@@ -32,7 +32,7 @@ abbrev pub ReportsStop : Option (List ℕ) → Option (List ℕ) → ℕ → ℕ
 ReportsStop old new before now Usage result = Reports old new before now usage_line 2 result
 ReportsStop old new before now (Line line) result = Reports old new before now line.items 3 result
 ReportsStop old new before now (Unread line) result = Reports old new before now line.items 4 result
-ReportsStop old new before now NoMemory result = (result ≡ 6) × (new ≡ old)
+ReportsStop old new before now NoMemory result = (result ≡ 6) × WroteNothing old new before now
 
 -- what is due was written so
 abbrev pub Reported : Option (List ℕ) → Option (List ℕ) → ℕ → ℕ → Due → Outcome → Type 0

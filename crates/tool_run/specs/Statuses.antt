@@ -14,6 +14,10 @@ use Rattle.tool_run.specs.Causes.{IsUnread, WhereTold}
 use Rattle.tool_run.specs.Lines.{usage_line}
 use Rattle.tool_run.specs.Verdict.{Verdict, usage, line, carry, verdict_of}
 
+-- no write was tried: the sink has what it had, and its count of faults stands
+abbrev pub WroteNothing : Option (List ℕ) → Option (List ℕ) → ℕ → ℕ → Type 0
+WroteNothing old new before now = (new ≡ old) × (now ≡ before)
+
 -- exactly these bytes were appended, where the sink tells
 abbrev pub Wrote : Option (List ℕ) → Option (List ℕ) → List ℕ → Type 0
 Wrote old new bytes = new ≡ append_known old bytes
@@ -51,9 +55,9 @@ abbrev pub IsUsage : List (List ℕ) → List ℕ → Type 0
 IsUsage words bytes = (words_of words ≡ None) × (bytes ≡ usage_line)
 
 -- what is to be written where there is no book, and where there is one
-abbrev pub IsDue : List (List ℕ) → Option StoredFiles → ℕ → ℕ → Option World → List ℕ → Type 0
-IsDue words files before now None bytes = IsUsage words bytes ⊎ (ComesTo words files (line bytes) ⊎ IsUnreadOf words before now bytes)
-IsDue words files before now (Some book) bytes = IsTextOf words book bytes
+abbrev pub IsToWrite : List (List ℕ) → Option StoredFiles → ℕ → ℕ → Option World → List ℕ → Type 0
+IsToWrite words files before now None bytes = IsUsage words bytes ⊎ (ComesTo words files (line bytes) ⊎ IsUnreadOf words before now bytes)
+IsToWrite words files before now (Some book) bytes = IsTextOf words book bytes
 
 -- the statuses of a verdict, want of memory aside
 abbrev pub Completes : Verdict → ℕ → Type 0
@@ -93,8 +97,8 @@ pub record HasCauses (r : Sides) (status : ℕ) (book : Option World) : Type 0 w
   pub usage_only : words_of r.words ≡ None → IsAmong status (2 ∷ 5 ∷ 6 ∷ [])
   pub refused : status ≡ 3 → (bytes : List ℕ) × ComesTo r.words r.files (line bytes) × Wrote r.old r.new bytes
   pub read : status ≡ 4 → (bytes : List ℕ) × IsUnreadOf r.words r.reads_before r.reads_now bytes × Wrote r.old r.new bytes
-  pub sink : status ≡ 5 → Rose r.writes_before r.writes_now × ((bytes : List ℕ) × IsDue r.words r.files r.reads_before r.reads_now book bytes × WroteFront r.old r.new bytes)
-  pub memory : status ≡ 6 → r.new ≡ r.old
+  pub sink : status ≡ 5 → Rose r.writes_before r.writes_now × ((bytes : List ℕ) × IsToWrite r.words r.files r.reads_before r.reads_now book bytes × WroteFront r.old r.new bytes)
+  pub memory : status ≡ 6 → WroteNothing r.old r.new r.writes_before r.writes_now
   pub complete : (stored : StoredFiles) → r.files ≡ Some stored → (Rose r.reads_before r.reads_now → ⊥) → (Rose r.writes_before r.writes_now → ⊥) → Completes (verdict_of r.words stored) status
   pub carried : IfSome book (IsCarriedOut r.words r.files)
   pub no_book : IsAmong status (2 ∷ 3 ∷ 4 ∷ []) → book ≡ None
