@@ -15,6 +15,6 @@ IsFault (Ok taken) len = (taken ≡ 0) × (0 < len)
 IsFault (Err Failed) len = ⊤
 
 -- the count of faults after a write of a piece of this length
-abbrev pub faults_after : ℕ → Result ℕ SinkFault → ℕ → ℕ
-faults_after faults (Ok taken) len = if taken == 0 && nat_lt 0 len then counted faults else faults
-faults_after faults (Err Failed) len = counted faults
+abbrev pub faults_counted : ℕ → Result ℕ SinkFault → ℕ → ℕ
+faults_counted faults (Ok taken) len = if taken == 0 && nat_lt 0 len then counted faults else faults
+faults_counted faults (Err Failed) len = counted faults

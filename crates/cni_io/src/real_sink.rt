@@ -36,7 +36,7 @@ impl<W: Write + Drop> RealSink<W> {
 
 impl<W: Write> Sink for RealSink<W> {
     ghost use Rattle.std.specs.Prelude.{◌≡◌, None, length};
-    ghost use Rattle.cni_io.specs.Sink.{faults_after};
+    ghost use Rattle.cni_io.specs.Sink.{faults_counted};
 
     ghost written = { λ _. None };
 
@@ -44,7 +44,7 @@ impl<W: Write> Sink for RealSink<W> {
 
     // a write leaves this count
     ghost write_gives = { λ before bytes answer now.
-        now ≡ faults_after before answer (length bytes) };
+        now ≡ faults_counted before answer (length bytes) };
 
     fn write(&mut self, bytes: &[u8]) -> Result<usize, SinkFault> {
         let outcome = match self.writer.write(bytes) {

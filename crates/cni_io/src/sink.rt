@@ -1,7 +1,7 @@
 //! What it is to take output: the trait, and why a piece was not written.
 
 ghost use Rattle.std.specs.Prelude.{◌≡◌};
-ghost use Rattle.cni_io.specs.Sink.{faults_after};
+ghost use Rattle.cni_io.specs.Sink.{faults_counted};
 
 use thiserror::Error;
 
@@ -42,7 +42,7 @@ pub trait Sink {
 
 /// The count of faults after a write of a piece of this length.
 pub(crate) fn count_fault(faults: u64, outcome: &Result<usize, SinkFault>, len: usize) -> u64
-    ensures { result ≡ faults_after faults outcome.now len }
+    ensures { result ≡ faults_counted faults outcome.now len }
 {
     match outcome {
         Ok(taken) if *taken > 0 || len == 0 => faults,

@@ -31,7 +31,7 @@ use Rattle.portmap.specs.Portmap.{portmap_rules, portmap_calls_of}
 use Rattle.firewall_tuning.specs.Firewall.{firewall_rules, firewall_calls_of}
 use Rattle.firewall_tuning.specs.Tuning.{sets_any, tuned, tuning_settings}
 use Rattle.cni_verbs.specs.CommandWords.{att_of}
-use Rattle.cni_verbs.specs.Questions.{link_question, address_question, route_question, rule_questions, setting_question, lease_question, share_questions, bridge_questions, addresses_in, cached_share, check_questions, pool_questions, master_questions, status_questions}
+use Rattle.cni_verbs.specs.Questions.{link_question, address_question, route_question, rule_questions, setting_question, lease_question, share_questions, bridge_questions, addresses_of_result, cached_share, check_questions, pool_questions, master_questions, status_questions}
 use Rattle.cni_verbs.specs.Wanted.{sets_of, share_before, share_after, rules_of, settings_of, all_links_after, untuned, given_by_list, first_plugin_result}
 
 -- ---- the plugins
@@ -133,7 +133,7 @@ length-share s =
 -- the questions of a check are as many as the objects, and the bridge
 pub check-counted : (list : NetList) (c : Command) (cached : Cached) (objects made bridges links : ℕ)
     → let att = att_of c in
-    let addrs = addresses_in cached.result in
+    let addrs = addresses_of_result cached.result in
     let share = share_after list.first att cached.netns (given_by_list list addrs) in
     let ips = (first_plugin_result list att cached.netns addrs).ips in
     objects ≡ length share.addresses + length share.routes + length share.rules
@@ -144,7 +144,7 @@ pub check-counted : (list : NetList) (c : Command) (cached : Cached) (objects ma
 unfolding check_questions
 check-counted list c cached objects made bridges links of_objects of_made of_bridges of_links =
     let att = att_of c in
-    let addrs = addresses_in cached.result in
+    let addrs = addresses_of_result cached.result in
     let share = share_after list.first att cached.netns (given_by_list list addrs) in
     let ips = (first_plugin_result list att cached.netns addrs).ips in
     let s = cached_share list c cached in

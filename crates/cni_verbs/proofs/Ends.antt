@@ -10,7 +10,7 @@ use Rattle.kernel_types.specs.declared.call.Reply.{Reply}
 use Rattle.cni_verbs.specs.Wanted.{sets_of, kinds_of}
 use Rattle.cni_verbs.specs.Script.{State, Finish, IsOpen, before_of, back_of, finish_of}
 use Rattle.cni_verbs.specs.Script as script
-use Rattle.cni_verbs.specs.Phases.{IsKept, Stands, questions_about, questions_left, state_in, state_outside, state_by_phase}
+use Rattle.cni_verbs.specs.Phases.{KeepsPlan, Stands, questions_about, questions_left, state_in, state_outside, state_by_phase}
 use Rattle.cni_verbs.specs.declared.answer.Ending.{Ending}
 use Rattle.cni_verbs.specs.declared.answer.Ending.TheVariants.{Added, Yes}
 use Rattle.cni_verbs.specs.declared.inquiry.Inquiry.{Inquiry}
@@ -24,7 +24,7 @@ abbrev pub IsOverIf : Bool → State → Type 0
 IsOverIf over s = MatchBool over (IsOpen s → ⊥) (IsOpen s)
 
 pub early-open : (list : NetList) (c : Command) (before : List Call) (kinds : List Kind) (room made : ℕ) (addrs : List Addr) (phase : Phase)
-    → IsKept list c before kinds room made addrs phase
+    → KeepsPlan list c before kinds room made addrs phase
     → (phase ≡ phases.AtBegin) ⊎ (((passed : ℕ) × (phase ≡ phases.BeforeLeases passed)) ⊎ ((phase ≡ phases.Leasing) ⊎ (((ending : Ending) × (phase ≡ phases.ReadingCache ending)) ⊎ ((phase ≡ phases.FindingEntry) ⊎ ((change : Call) × (phase ≡ phases.Changing change))))))
     → IsOpen (state_in list c addrs phase)
 early-open list c before kinds room made addrs phase kept (inl is) = subst (λ p. IsOpen (state_in list c addrs p)) (sym is) tt

@@ -12,20 +12,20 @@ use Rattle.kernel_types.specs.declared.call.Call.{Call}
 use Rattle.kernel_types.specs.Words.{lease_of}
 use Rattle.plan_words.specs.Share.{Share, no_objects, share_after_calls}
 use Rattle.cni_verbs.specs.CommandWords.{att_of}
-use Rattle.cni_verbs.specs.Questions.{bridge_questions, share_questions, addresses_in, cached_share}
+use Rattle.cni_verbs.specs.Questions.{bridge_questions, share_questions, addresses_of_result, cached_share}
 use Rattle.cni_verbs.specs.Wanted.{calls_before, back_calls}
 use Rattle.cni_verbs.specs.declared.answer.Question.{Question}
 use Rattle.cni_verbs.proofs.WantedShare.{makes-wanted}
 
 pub gathered : (list : NetList) (c : Command) (cached : Cached) (att : Att) (addrs leased given : List Addr) (mappings : List PortMapping) (before first back second : List Call) (none made with_leases all : Share)
-    → att ≡ att_of c → addrs ≡ addresses_in cached.result → mappings ≡ cached.mappings
+    → att ≡ att_of c → addrs ≡ addresses_of_result cached.result → mappings ≡ cached.mappings
     → none ≡ no_objects → before ≡ calls_before list.first att cached.netns → first ≡ before → made ≡ share_after_calls none first
     → leased ≡ addrs → with_leases ≡ record made { leases = map (lease_of att) leased }
     → given ≡ addrs → back ≡ back_calls list att cached.netns mappings given → second ≡ back → all ≡ share_after_calls with_leases second
     → all ≡ cached_share list c cached
 gathered list c cached att addrs leased given mappings before first back second none made with_leases all is_att is_addrs is_mappings is_none is_before is_first is_made is_leased is_leases is_given is_back is_second is_all =
     rw (is_all, is_second, is_back, is_leases, is_made, is_first, is_before, is_none, is_leased, is_given, is_mappings, is_addrs, is_att)
-    (makes-wanted list (att_of c) cached.netns cached.mappings (addresses_in cached.result))
+    (makes-wanted list (att_of c) cached.netns cached.mappings (addresses_of_result cached.result))
 
 -- the questions of the bridge and of what was gathered are all that a check asks
 pub checked : (first : First) (listed interfaces : List Interface) (none front all : List Question) (made said : Share)

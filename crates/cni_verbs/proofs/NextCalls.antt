@@ -11,7 +11,7 @@ use Rattle.cni_verbs.specs.CommandWords.{att_of}
 use Rattle.cni_verbs.specs.Wanted.{sets_of, kinds_of, deletion}
 use Rattle.cni_verbs.specs.Script as script
 use Rattle.cni_verbs.specs.Script.{State, Finish, before_of, back_of, next_call, finish_of}
-use Rattle.cni_verbs.specs.Phases.{Stands, IsPrepared, IsKept, IsKeptBy, IsPhaseOf, IsSameButPrepared, denied, questions_about, questions_left, state_in, state_outside, state_by_phase}
+use Rattle.cni_verbs.specs.Phases.{Stands, IsPrepared, KeepsPlan, KeepsPlanBy, IsPhaseOf, IsSameButPrepared, denied, questions_about, questions_left, state_in, state_outside, state_by_phase}
 use Rattle.cni_verbs.specs.Progress.{answer_by}
 use Rattle.cni_verbs.specs.declared.answer.Ending.{Ending}
 use Rattle.cni_verbs.specs.declared.answer.Ending.TheVariants.{Yes, Refused}
@@ -42,7 +42,7 @@ at_before list c passed h =
     left.1.0 ∙ sym (ap (λ calls. next_call c (script.before_leases list c calls)) left.1.1)
 
 pub next_before : (list : NetList) (c : Command) (before : List Call) (kinds : List Kind) (room made passed : ℕ) (addrs : List Addr) (phase : Phase)
-    → IsKept list c before kinds room made addrs phase → phase ≡ phases.BeforeLeases passed → slice_get before passed ≡ next_call c (state_in list c addrs phase)
+    → KeepsPlan list c before kinds room made addrs phase → phase ≡ phases.BeforeLeases passed → slice_get before passed ≡ next_call c (state_in list c addrs phase)
 next_before list c before kinds room made passed addrs phase kept is =
     let S : Phase → Type 0 = λ p. Stands (length before) (length (sets_of list)) made addrs p in
     let here : (passed < length before) × (addrs ≡ []) = subst S is kept.stands in
@@ -61,7 +61,7 @@ at_lease list c addrs h =
     ∙ sym (ap (λ sets. next_call c (script.leasing list c sets addrs)) left.1.1)
 
 pub next_lease : (list : NetList) (c : Command) (before : List Call) (kinds : List Kind) (room made : ℕ) (addrs : List Addr) (phase : Phase)
-    → IsKept list c before kinds room made addrs phase → phase ≡ phases.Leasing
+    → KeepsPlan list c before kinds room made addrs phase → phase ≡ phases.Leasing
     → option_map (LeaseNext (att_of c) (length addrs)) (slice_get (sets_of list) (length addrs)) ≡ next_call c (state_in list c addrs phase)
 next_lease list c before kinds room made addrs phase kept is =
     let S : Phase → Type 0 = λ p. Stands (length before) (length (sets_of list)) made addrs p in
@@ -91,7 +91,7 @@ next_cache list c addrs phase (inl w) = sym (ap (λ p. next_call c (state_in lis
 next_cache list c addrs phase (inr is) = sym (ap (λ p. next_call c (state_in list c addrs p)) is)
 
 pub next_deletion : (list : NetList) (c : Command) (before : List Call) (kinds : List Kind) (room made passed : ℕ) (ending : Ending) (addrs : List Addr) (phase : Phase)
-    → IsKept list c before kinds room made addrs phase → phase ≡ phases.Deleting passed ending
+    → KeepsPlan list c before kinds room made addrs phase → phase ≡ phases.Deleting passed ending
     → option_map (deletion (att_of c)) (slice_get kinds passed) ≡ next_call c (state_in list c addrs phase)
 unfolding next_call
 next_deletion list c before kinds room made passed ending addrs phase kept is =
@@ -147,7 +147,7 @@ denied_none questions place f got =
 
 pub kept_at_start : (list : NetList) (c : Command) (before : List Call) (kinds : List Kind) (room : ℕ) (given : List Addr) (phase : Phase)
     → IsPhaseOf list c 0 [] phase (script.start_state list c) → before ≡ before_of list c → kinds ≡ kinds_of list → length (sets_of list) < 2 ^ 32
-    → length (sets_of list) ≤ room → given ≡ [] → IsKept list c before kinds room 0 given phase
+    → length (sets_of list) ≤ room → given ≡ [] → KeepsPlan list c before kinds room 0 given phase
 kept_at_start list c before kinds room given phase starts before_is kinds_is few room_is none =
     let B : List Call → Type 0 = λ calls. Stands (length calls) (length (sets_of list)) 0 [] phase in
     let G : List Addr → Type 0 = λ addrs. Stands (length before) (length (sets_of list)) 0 addrs phase in
@@ -177,12 +177,12 @@ starts_for l k c d phase same_list same h =
 -- the invariant holds on where the phase means the same
 pub kept_prepared : (list : Option NetList) (l : NetList) (c : Command) (before : List Call) (kinds : List Kind) (room made : ℕ) (given addrs : List Addr) (old new : Phase)
     → list ≡ Some l → addrs ≡ given → IsSameButPrepared l c addrs old new
-    → IsKeptBy list c before kinds room made given old → IsKeptBy list c before kinds room made given new
+    → KeepsPlanBy list c before kinds room made given old → KeepsPlanBy list c before kinds room made given new
 kept_prepared list l c before kinds room made given addrs old new is seen same kept =
-    let O : Option NetList → Type 0 = λ o. IsKeptBy o c before kinds room made given old in
-    let N : Option NetList → Type 0 = λ o. IsKeptBy o c before kinds room made given new in
+    let O : Option NetList → Type 0 = λ o. KeepsPlanBy o c before kinds room made given old in
+    let N : Option NetList → Type 0 = λ o. KeepsPlanBy o c before kinds room made given new in
     let A : List Addr → Type 0 = λ a. IsSameButPrepared l c a old new in
-    let before_that : IsKept l c before kinds room made given old = subst O is kept in
+    let before_that : KeepsPlan l c before kinds room made given old = subst O is kept in
     let goes_on : IsSameButPrepared l c given old new = subst A seen same in
     subst N (sym is) (record {
       before_is = before_that.before_is;

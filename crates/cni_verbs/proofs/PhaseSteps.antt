@@ -15,7 +15,7 @@ use Rattle.kernel_types.specs.declared.call.Reply.TheVariants.{Leased}
 use Rattle.cni_verbs.specs.Wanted.{sets_of, kinds_of}
 use Rattle.cni_verbs.specs.Script as script
 use Rattle.cni_verbs.specs.Script.{State, before_of, back_of, advance, IsOpen}
-use Rattle.cni_verbs.specs.Phases.{Stands, IsPrepared, IsReady, IsPhaseOf, denied, questions_about, questions_left, state_in}
+use Rattle.cni_verbs.specs.Phases.{Stands, IsPrepared, HasQuestionsOf, IsPhaseOf, denied, questions_about, questions_left, state_in}
 use Rattle.cni_verbs.specs.declared.answer.Ending.{Ending}
 use Rattle.cni_verbs.specs.declared.answer.Question.{Question}
 use Rattle.cni_verbs.specs.declared.inquiry.Inquiry.{Inquiry}
@@ -210,7 +210,7 @@ goes_entry list c made addrs phase r next is h =
 
 pub goes_asking : (list : NetList) (c : Command) (made : ℕ) (inquiry : Inquiry) (addrs : List Addr) (phase : Phase) (r : Reply) (next : Phase) → phase ≡ phases.Asking inquiry
     → IsPrepared list c addrs phase → IsOpen (state_in list c addrs phase)
-    → ((question : Question) → IsReady list c inquiry → questions_left list c inquiry ≡ question ∷ drop (inquiry.passed + 1) (questions_about list c inquiry.about)
+    → ((question : Question) → HasQuestionsOf list c inquiry → questions_left list c inquiry ≡ question ∷ drop (inquiry.passed + 1) (questions_about list c inquiry.about)
     → IsPhaseOf list c (made + 1) addrs next (script.at_question (made + 1) question (drop (inquiry.passed + 1) (questions_about list c inquiry.about)) r))
     → Goes list c made addrs addrs phase r next
 goes_asking list c made inquiry addrs phase r next is prepared opens h =

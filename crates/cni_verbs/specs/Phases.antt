@@ -71,18 +71,18 @@ Stands calls sets made given (phases.Asking inquiry) = inquiry.passed ≤ made
 Stands calls sets made given phase = ⊤
 
 -- where the questions are prepared, they are those of what is asked about
-abbrev pub IsReady : NetList → Command → Inquiry → Type 0
-IsReady list c inquiry = MatchOption inquiry.questions ⊤ (λ questions. questions ≡ questions_about list c inquiry.about)
+abbrev pub HasQuestionsOf : NetList → Command → Inquiry → Type 0
+HasQuestionsOf list c inquiry = MatchOption inquiry.questions ⊤ (λ questions. questions ≡ questions_about list c inquiry.about)
 
 -- where the calls after the leases are prepared, they are those of these addresses
 abbrev pub IsPrepared : NetList → Command → List Addr → Phase → Type 0
 IsPrepared list c given (phases.AfterLeases passed prepared) = MatchOption prepared ⊤ (λ calls. calls ≡ back_of list c given)
-IsPrepared list c given (phases.Asking inquiry) = IsReady list c inquiry
-IsPrepared list c given (phases.Denied inquiry) = IsReady list c inquiry
+IsPrepared list c given (phases.Asking inquiry) = HasQuestionsOf list c inquiry
+IsPrepared list c given (phases.Denied inquiry) = HasQuestionsOf list c inquiry
 IsPrepared list c given phase = ⊤
 
 -- a run of this list keeps the parts of its plan, and has room for an address of each set
-pub record IsKept (list : NetList) (c : Command) (before : List Call) (kinds : List Kind) (room : ℕ) (made : ℕ) (given : List Addr) (phase : Phase) : Type 0 where
+pub record KeepsPlan (list : NetList) (c : Command) (before : List Call) (kinds : List Kind) (room : ℕ) (made : ℕ) (given : List Addr) (phase : Phase) : Type 0 where
   pub before_is : before ≡ before_of list c
   pub kinds_is : kinds ≡ kinds_of list
   pub few : length (sets_of list) < 2 ^ 32
@@ -90,9 +90,9 @@ pub record IsKept (list : NetList) (c : Command) (before : List Call) (kinds : L
   pub stands : Stands (length before) (length (sets_of list)) made given phase
   pub prepared : IsPrepared list c given phase
 
-abbrev pub IsKeptBy : Option NetList → Command → List Call → List Kind → ℕ → ℕ → List Addr → Phase → Type 0
-IsKeptBy None c before kinds room made given phase = ⊤
-IsKeptBy (Some list) c before kinds room made given phase = IsKept list c before kinds room made given phase
+abbrev pub KeepsPlanBy : Option NetList → Command → List Call → List Kind → ℕ → ℕ → List Addr → Phase → Type 0
+KeepsPlanBy None c before kinds room made given phase = ⊤
+KeepsPlanBy (Some list) c before kinds room made given phase = KeepsPlan list c before kinds room made given phase
 
 -- the phase stands for this state
 pub record IsPhaseOf (list : NetList) (c : Command) (made : ℕ) (given : List Addr) (phase : Phase) (state : State) : Type 0 where

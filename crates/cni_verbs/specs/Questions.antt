@@ -74,12 +74,12 @@ bridge_questions (firsts.Ptp conf) interfaces = []
 bridge_questions (firsts.Macvlan conf) interfaces = []
 
 -- the addresses of a result
-abbrev pub addresses_in : AddResult → List Addr
-addresses_in r = map (λ ip. ip.address.addr) r.ips
+abbrev pub addresses_of_result : AddResult → List Addr
+addresses_of_result r = map (λ ip. ip.address.addr) r.ips
 
 -- what the cached entry says that there is
 abbrev pub cached_share : NetList → Command → Cached → Share
-cached_share list c cached = wanted list (att_of c) cached.netns cached.mappings (addresses_in cached.result)
+cached_share list c cached = wanted list (att_of c) cached.netns cached.mappings (addresses_of_result cached.result)
 
 unfoldable pub check_questions : NetList → Command → Cached → List Question
 check_questions list c cached = bridge_questions list.first cached.result.interfaces ++ share_questions (cached_share list c cached)

@@ -10,7 +10,7 @@ ghost use Rattle.cni_verbs.specs.Wanted.{sets_of, kinds_of};
 ghost use Rattle.cni_verbs.specs.Script.{IsOpen, before_of, back_of};
 ghost use Rattle.cni_verbs.specs.Script as script;
 ghost use Rattle.cni_verbs.specs.declared.answer.Question.{Question};
-ghost use Rattle.cni_verbs.specs.Phases.{Stands, IsPrepared, IsReady, IsPhaseOf, questions_about, questions_left, state_in, state_outside};
+ghost use Rattle.cni_verbs.specs.Phases.{Stands, IsPrepared, HasQuestionsOf, IsPhaseOf, questions_about, questions_left, state_in, state_outside};
 
 use crate::answer::{Cause, Ending};
 use crate::inquiry::Inquiry;
@@ -179,7 +179,7 @@ fn after_entry(number: u64, reply: Reply) -> Phase
 
 fn after_question(mut inquiry: Inquiry, number: u64, reply: Reply) -> Phase
     requires { inquiry.passed < number }
-    ensures { (list : NetList) (c : Command) (addrs : List Addr) (question : Question) → IsReady list c inquiry
+    ensures { (list : NetList) (c : Command) (addrs : List Addr) (question : Question) → HasQuestionsOf list c inquiry
         → questions_left list c inquiry ≡ question ∷ drop (inquiry.passed + 1) (questions_about list c inquiry.about)
         → IsPhaseOf list c number addrs result (script.at_question number question (drop (inquiry.passed + 1) (questions_about list c inquiry.about)) reply) }
 {

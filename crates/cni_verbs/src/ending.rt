@@ -7,7 +7,7 @@ ghost use Rattle.kernel_types.specs.declared.call.Kind.{Kind};
 ghost use Rattle.cni_verbs.specs.Script.{IsOpen, finish_of};
 ghost use Rattle.cni_verbs.specs.Answers.{answer_of_ending, plain_answer};
 ghost use Rattle.cni_verbs.specs.Progress as progress;
-ghost use Rattle.cni_verbs.specs.Phases.{IsKept, IsReady, denied, questions_left, state_in, state_outside};
+ghost use Rattle.cni_verbs.specs.Phases.{KeepsPlan, HasQuestionsOf, denied, questions_left, state_in, state_outside};
 
 use crate::answer::{Answer, Ending, Question};
 use crate::errors::refused;
@@ -99,7 +99,7 @@ fn denied(
     command: &Command,
     inquiry: &Inquiry,
 ) -> Result<Answer, NoMemory>
-    requires { IsReady list.now command.now inquiry.now }
+    requires { HasQuestionsOf list.now command.now inquiry.now }
     ensures { IfOk result (λ answer. Some answer ≡ option_map (progress.answer_by (Some list.now) command.now) (finish_of (denied (questions_left list.now command.now inquiry.now)))) }
 {
     let questions = questions_of(alloc, list, command, inquiry)?;
@@ -113,7 +113,7 @@ fn answer_at_end(
     given: &[Addr],
     phase: &Phase,
 ) -> Result<Answer, NoMemory>
-    requires kept { (before : List Call) × (kinds : List Kind) × (room : ℕ) × (made : ℕ) × IsKept list.now command.now before kinds room made given.now phase.now }
+    requires kept { (before : List Call) × (kinds : List Kind) × (room : ℕ) × (made : ℕ) × KeepsPlan list.now command.now before kinds room made given.now phase.now }
     requires over { IsOpen (state_in list.now command.now given.now phase.now) → ⊥ }
     ensures { IfOk result (λ answer. Some answer ≡ option_map (progress.answer_by (Some list.now) command.now) (finish_of (state_in list.now command.now given.now phase.now))) }
 {
@@ -141,7 +141,7 @@ pub(crate) fn answer_of(
     given: &[Addr],
     phase: &Phase,
 ) -> Result<Option<Answer>, NoMemory>
-    requires { (before : List Call) × (room : ℕ) × (made : ℕ) × IsKept list.now command.now before kinds.now room made given.now phase.now }
+    requires { (before : List Call) × (room : ℕ) × (made : ℕ) × KeepsPlan list.now command.now before kinds.now room made given.now phase.now }
     ensures { IfOk result (λ answer. answer ≡ option_map (progress.answer_by (Some list.now) command.now) (finish_of (state_in list.now command.now given.now phase.now))) }
 {
     if is_over(list, command, kinds, given, phase) {

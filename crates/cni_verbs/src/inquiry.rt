@@ -2,7 +2,7 @@
 
 ghost use Rattle.std.specs.Prelude.{◌≡◌, IfOk, option_map, slice_get};
 ghost use Rattle.std.specs.Cow.{cow_slice_items};
-ghost use Rattle.cni_verbs.specs.Phases.{IsReady, questions_about};
+ghost use Rattle.cni_verbs.specs.Phases.{HasQuestionsOf, questions_about};
 
 use crate::answer::Question;
 use crate::prepare::prepared_or_made;
@@ -69,7 +69,7 @@ pub(crate) fn questions_of<'a>(
     command: &Command,
     inquiry: &'a Inquiry,
 ) -> Result<CowSlice<'a, Question>, NoMemory>
-    requires { IsReady list.now command.now inquiry.now }
+    requires { HasQuestionsOf list.now command.now inquiry.now }
     ensures { IfOk result (λ questions. cow_slice_items questions ≡ questions_about list.now command.now inquiry.entry.now.about) }
 {
     prepared_or_made(&inquiry.questions, || {
@@ -84,7 +84,7 @@ pub(crate) fn call_asked(
     command: &Command,
     inquiry: &Inquiry,
 ) -> Result<Option<Call>, NoMemory>
-    requires { IsReady list.now command.now inquiry.now }
+    requires { HasQuestionsOf list.now command.now inquiry.now }
     ensures { IfOk result (λ next. next ≡ option_map (λ question. question.call) (slice_get (questions_about list.now command.now inquiry.now.about) inquiry.now.passed)) }
 {
     let questions = questions_of(alloc, list, command, inquiry)?;

@@ -5,7 +5,7 @@ ghost use Rattle.kernel_types.specs.declared.call.Call.TheVariants as call;
 ghost use Rattle.cni_verbs.specs.CommandWords.{att_of};
 ghost use Rattle.cni_verbs.specs.Wanted.{deletion, sets_of};
 ghost use Rattle.cni_verbs.specs.Script.{before_of, back_of, next_call};
-ghost use Rattle.cni_verbs.specs.Phases.{IsKept, state_in, state_outside};
+ghost use Rattle.cni_verbs.specs.Phases.{KeepsPlan, state_in, state_outside};
 
 use crate::inquiry::call_asked;
 use crate::phase::Phase;
@@ -116,7 +116,7 @@ pub(crate) fn next_of(
     given: &[Addr],
     phase: &Phase,
 ) -> Result<Option<Call>, NoMemory>
-    requires { (room : ℕ) × (made : ℕ) × IsKept list.now command.now before.now kinds.now room made given.now phase.now }
+    requires { (room : ℕ) × (made : ℕ) × KeepsPlan list.now command.now before.now kinds.now room made given.now phase.now }
     ensures { IfOk result (λ next. next ≡ next_call command.now (state_in list.now command.now given.now phase.now)) }
 {
     match phase {

@@ -4,7 +4,7 @@ ghost use Rattle.std.specs.Prelude.{◌≡◌, ◌≤◌, ◌<◌, ℕ, List, �
 ghost use Rattle.kernel_types.specs.declared.call.Call.{Call};
 ghost use Rattle.kernel_types.specs.declared.call.Reply.{Reply};
 ghost use Rattle.cni_verbs.specs.Script.{IsOpen, back_of, outside_advance};
-ghost use Rattle.cni_verbs.specs.Phases.{IsKept, IsReady, questions_about, state_in, state_outside};
+ghost use Rattle.cni_verbs.specs.Phases.{KeepsPlan, HasQuestionsOf, questions_about, state_in, state_outside};
 
 use crate::check_counts::count_questions;
 use crate::counts::back_count;
@@ -32,7 +32,7 @@ fn passed_all_calls(
 }
 
 fn passed_all_questions(list: &NetList, command: &Command, inquiry: &Inquiry) -> bool
-    requires { IsReady list.now command.now inquiry.now }
+    requires { HasQuestionsOf list.now command.now inquiry.now }
     ensures { MatchBool result
         (length (questions_about list.now command.now inquiry.now.about) ≤ inquiry.now.passed)
         (inquiry.now.passed < length (questions_about list.now command.now inquiry.now.about)) }
@@ -57,7 +57,7 @@ pub(crate) fn is_over(
     given: &[Addr],
     phase: &Phase,
 ) -> bool
-    requires { (before : List Call) × (room : ℕ) × (made : ℕ) × IsKept list.now command.now before kinds.now room made given.now phase.now }
+    requires { (before : List Call) × (room : ℕ) × (made : ℕ) × KeepsPlan list.now command.now before kinds.now room made given.now phase.now }
     ensures { MatchBool result
         (IsOpen (state_in list.now command.now given.now phase.now) → ⊥)
         (IsOpen (state_in list.now command.now given.now phase.now)) }

@@ -2,7 +2,7 @@
 
 ghost use Rattle.std.specs.Prelude.{◌≡◌, Ok, IfOk, MatchOption};
 ghost use Rattle.std.specs.Cow.{cow_slice_items};
-ghost use Rattle.cni_verbs.specs.Phases.{IsReady, IsSameButPrepared};
+ghost use Rattle.cni_verbs.specs.Phases.{HasQuestionsOf, IsSameButPrepared};
 
 use crate::inquiry::{Inquiry, questions_about};
 use crate::next::back_of;
@@ -35,7 +35,7 @@ fn prepare_inquiry(
 ) -> Result<(), NoMemory>
     ensures about { inquiry.new.about ≡ inquiry.old.about }
     ensures passed { inquiry.new.passed ≡ inquiry.old.passed }
-    ensures ready { IsReady list.now command.now inquiry.old → IsReady list.now command.now inquiry.new }
+    ensures ready { HasQuestionsOf list.now command.now inquiry.old → HasQuestionsOf list.now command.now inquiry.new }
 {
     if inquiry.questions.is_none() {
         let questions = questions_about(alloc, list, command, &inquiry.about)?;

@@ -211,8 +211,8 @@ fn ask_bridge(
 
 // ---- CHECK
 
-fn addresses_in(alloc: Global, added: &AddResult) -> Result<Vec<Addr>, NoMemory>
-    ensures { IfOk result (λ addrs. addrs.items ≡ asked.addresses_in added.now) }
+fn addresses_of_result(alloc: Global, added: &AddResult) -> Result<Vec<Addr>, NoMemory>
+    ensures { IfOk result (λ addrs. addrs.items ≡ asked.addresses_of_result added.now) }
 {
     Ok(
         added
@@ -233,7 +233,7 @@ fn cached_share(
     ensures { IfOk result (λ share. share ≡ asked.cached_share list.now command.now cached.now) }
 {
     let att = att_of(command)?;
-    let addrs = addresses_in(alloc, &cached.result)?;
+    let addrs = addresses_of_result(alloc, &cached.result)?;
     let mappings = cached.mappings.copy()?;
     let mut share = no_objects(alloc);
     let before = calls_before(alloc, &list.first, &att, &cached.netns)?;

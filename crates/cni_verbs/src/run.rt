@@ -39,14 +39,14 @@ pub struct Run {
 
 impl Model for Run {
     ghost use Rattle.std.specs.Prelude.{vec_capacity};
-    ghost use Rattle.cni_verbs.specs.Phases.{IsKeptBy, state_by_phase};
+    ghost use Rattle.cni_verbs.specs.Phases.{KeepsPlanBy, state_by_phase};
     ghost use Rattle.cni_verbs.specs.Progress.{Progress};
 
     ghost Value = { Progress };
 
     ghost view = { λ r. record { list = r.list; command = r.command; made = r.made; state = state_by_phase r.list r.command r.given.items r.phase } };
 
-    ghost invariant = { λ r. IsKeptBy r.list r.command r.before r.kinds (vec_capacity r.given) r.made r.given.items r.phase };
+    ghost invariant = { λ r. KeepsPlanBy r.list r.command r.before r.kinds (vec_capacity r.given) r.made r.given.items r.phase };
 }
 
 impl Run {

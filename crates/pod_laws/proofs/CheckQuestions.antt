@@ -30,7 +30,7 @@ use Rattle.kernel_types.specs.declared.object.CachedObj.{CachedObj}
 use Rattle.kernel_types.specs.declared.object.Tag.{Tag}
 use Rattle.plan_words.specs.Share.{Share}
 use Rattle.cni_verbs.specs.CommandWords.{att_of}
-use Rattle.cni_verbs.specs.Questions.{addresses_in, link_question, address_question, route_question, rule_questions, setting_question, lease_question, share_questions, bridge_by_mac, first_interface, bridge_questions, cached_share, check_questions}
+use Rattle.cni_verbs.specs.Questions.{addresses_of_result, link_question, address_question, route_question, rule_questions, setting_question, lease_question, share_questions, bridge_by_mac, first_interface, bridge_questions, cached_share, check_questions}
 use Rattle.cni_verbs.specs.declared.answer.Cause.TheVariants.{Missing}
 use Rattle.cni_verbs.specs.declared.answer.Missed.{Missed}
 use Rattle.cni_verbs.specs.declared.answer.Missed.TheVariants as missed
@@ -161,7 +161,7 @@ pub steady-questions : (list : NetList) (c : Command) (cached : Cached) → AllB
 unfolding check_questions
 steady-questions list c cached =
     each-append (IsSteadyQuestion c) (bridge_questions list.first cached.result.interfaces) (share_questions (cached_share list c cached)) (steady-bridge c list.first cached.result.interfaces)
-    (steady-share c (cached_share list c cached) (own-wanted list (att_of c) cached.netns cached.mappings (addresses_in cached.result)))
+    (steady-share c (cached_share list c cached) (own-wanted list (att_of c) cached.netns cached.mappings (addresses_of_result cached.result)))
 
 -- ---- all are granted where the host holds what the cached result says
 

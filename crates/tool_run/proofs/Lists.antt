@@ -8,7 +8,7 @@ use Rattle.pod_file.specs.declared.pods.Pods.{Pods}
 use Rattle.pod_workers.specs.declared.plan.Plan.{Plan}
 use Rattle.tool_words.specs.declared.words.Words.{Words}
 use Rattle.tool_run.specs.Causes.{Steps, WhereTold}
-use Rattle.tool_run.specs.Verdict.{Told, list_in, lists_in, plan_of, pods_in, told_plan}
+use Rattle.tool_run.specs.Verdict.{Told, stored_list, stored_lists, plan_of, stored_pods, told_plan}
 use Rattle.tool_run.specs.declared.plan.Stop.{Stop}
 use Rattle.tool_run.specs.declared.plan.Stop.TheVariants.{Usage, Line, Unread, NoMemory}
 use Rattle.cni_io.proofs.Counts.{Rose-from_start}
@@ -24,34 +24,34 @@ behind-cons front list (Ok lists) = ap (λ (xs : List NetList). Ok xs) (sym (app
 behind-cons front list (Err line) = refl
 
 -- one list more
-pub lists-one_more : (files : StoredFiles) (front : List NetList) (name : List ℕ) (names : List (List ℕ)) (list : NetList) → list_in files name ≡ Ok list
-    → behind front (lists_in files (name ∷ names)) ≡ behind (front ++ list ∷ []) (lists_in files names)
+pub lists-one_more : (files : StoredFiles) (front : List NetList) (name : List ℕ) (names : List (List ℕ)) (list : NetList) → stored_list files name ≡ Ok list
+    → behind front (stored_lists files (name ∷ names)) ≡ behind (front ++ list ∷ []) (stored_lists files names)
 lists-one_more files front name names list is =
-    ap (λ (t : Told NetList). behind front (t >>= (λ (l : NetList). lists_in files names >>= (λ (ls : List NetList). Ok (l ∷ ls))))) is
-    ∙ behind-cons front list (lists_in files names)
+    ap (λ (t : Told NetList). behind front (t >>= (λ (l : NetList). stored_lists files names >>= (λ (ls : List NetList). Ok (l ∷ ls))))) is
+    ∙ behind-cons front list (stored_lists files names)
 
 -- ---- one step of the loop over the names
 
 abbrev pub Rest : Option StoredFiles → List (List ℕ) → List NetList → ℕ → Type 0
-Rest files names front i = WhereTold files (λ stored. lists_in stored names ≡ behind front (lists_in stored (drop i names)))
+Rest files names front i = WhereTold files (λ stored. stored_lists stored names ≡ behind front (stored_lists stored (drop i names)))
 
 pub rest-next : (files : Option StoredFiles) (names : List (List ℕ)) (front : List NetList) (i : ℕ) (name : List ℕ) (list : NetList) → i < length names → name ≡ slice_index_or names i name
-    → Rest files names front i → WhereTold files (λ stored. list_in stored name ≡ Ok list) → Rest files names (front ++ list ∷ []) (i + 1)
+    → Rest files names front i → WhereTold files (λ stored. stored_list stored name ≡ Ok list) → Rest files names (front ++ list ∷ []) (i + 1)
 rest-next files names front i name list lt at rest read = λ stored told.
-    rest stored told ∙ ap (λ (ns : List (List ℕ)). behind front (lists_in stored ns)) (left_from names i name lt at)
+    rest stored told ∙ ap (λ (ns : List (List ℕ)). behind front (stored_lists stored ns)) (left_from names i name lt at)
     ∙ lists-one_more stored front name (drop (i + 1) names) list (read stored told)
 
 -- ---- the plan
 
 -- the lists stop the plan, behind the pod file
 pub plan-stops : (files later : Option StoredFiles) (start before now : ℕ) (words : Words) (pods : Pods) (stop : Stop) → later ≡ files
-    → WhereTold files (λ stored. pods_in stored words.pods ≡ Ok pods) → start ≤ before
-    → Steps {X = List NetList} (λ lists. lists) later before now words.lists (λ stored. lists_in stored words.lists) (Err stop)
+    → WhereTold files (λ stored. stored_pods stored words.pods ≡ Ok pods) → start ≤ before
+    → Steps {X = List NetList} (λ lists. lists) later before now words.lists (λ stored. stored_lists stored words.lists) (Err stop)
     → Steps {X = Plan} (λ plan. plan) files start now (words.pods ∷ words.lists) (λ stored. plan_of stored words) (Err stop)
 unfolding plan_of
 plan-stops files later start before now words pods Usage same first up steps = absurd steps
 plan-stops files later start before now words pods (Line line) same first up steps = λ stored told.
-    ap (λ (t : Told Pods). t >>= (λ (p : Pods). lists_in stored words.lists >>= told_plan words p)) (first stored told)
+    ap (λ (t : Told Pods). t >>= (λ (p : Pods). stored_lists stored words.lists >>= told_plan words p)) (first stored told)
     ∙ ap (λ (t : Told (List NetList)). t >>= told_plan words pods) (steps stored (same ∙ told))
 plan-stops files later start before now words pods (Unread line) same first up steps = record {
   file = steps.file;
@@ -63,9 +63,9 @@ plan-stops files later start before now words pods NoMemory same first up steps 
 
 -- the same of names that are equal to those of the words
 pub plan-stops-at : (files later : Option StoredFiles) (start before now : ℕ) (words : Words) (name : List ℕ) (names : List (List ℕ)) (pods : Pods) (stop : Stop)
-    → name ≡ words.pods → names ≡ words.lists → later ≡ files → WhereTold files (λ stored. pods_in stored name ≡ Ok pods) → start ≤ before
-    → Steps {X = List NetList} (λ lists. lists) later before now names (λ stored. lists_in stored names) (Err stop)
+    → name ≡ words.pods → names ≡ words.lists → later ≡ files → WhereTold files (λ stored. stored_pods stored name ≡ Ok pods) → start ≤ before
+    → Steps {X = List NetList} (λ lists. lists) later before now names (λ stored. stored_lists stored names) (Err stop)
     → Steps {X = Plan} (λ plan. plan) files start now (words.pods ∷ words.lists) (λ stored. plan_of stored words) (Err stop)
 plan-stops-at files later start before now words name names pods stop name_is names_are same first up steps =
-    plan-stops files later start before now words pods stop same (subst (λ (n : List ℕ). WhereTold files (λ stored. pods_in stored n ≡ Ok pods)) name_is first) up
-    (subst (λ (ns : List (List ℕ)). Steps {X = List NetList} (λ lists. lists) later before now ns (λ stored. lists_in stored ns) (Err stop)) names_are steps)
+    plan-stops files later start before now words pods stop same (subst (λ (n : List ℕ). WhereTold files (λ stored. stored_pods stored n ≡ Ok pods)) name_is first) up
+    (subst (λ (ns : List (List ℕ)). Steps {X = List NetList} (λ lists. lists) later before now ns (λ stored. stored_lists stored ns) (Err stop)) names_are steps)

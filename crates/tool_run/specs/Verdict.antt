@@ -35,8 +35,8 @@ abbrev pub told : {A E : Type 0} → (E → List ℕ) → Result A E → Told A
 told line (Ok x) = Ok x
 told line (Err e) = Err (line e)
 
-abbrev pub bytes_in : StoredFiles → List ℕ → Told (List ℕ)
-bytes_in files file = told (λ e. fault_line e file) (file_of files limit file)
+abbrev pub stored_bytes : StoredFiles → List ℕ → Told (List ℕ)
+stored_bytes files file = told (λ e. fault_line e file) (file_of files limit file)
 
 -- what the bytes of a file are read as, or the line of the error
 abbrev pub told_by : {A E : Type 0} → (List ℕ → Result A E) → (E → CniError) → List ℕ → List ℕ → Told A
@@ -48,18 +48,18 @@ told_pods file bytes = told_by pods_of pods_error file bytes
 abbrev pub told_list : List ℕ → List ℕ → Told NetList
 told_list file bytes = told_by list_of list_error file bytes
 
-unfoldable pub pods_in : StoredFiles → List ℕ → Told Pods
-pods_in files file = bytes_in files file >>= told_pods file
+unfoldable pub stored_pods : StoredFiles → List ℕ → Told Pods
+stored_pods files file = stored_bytes files file >>= told_pods file
 
-unfoldable pub list_in : StoredFiles → List ℕ → Told NetList
-list_in files file = bytes_in files file >>= told_list file
+unfoldable pub stored_list : StoredFiles → List ℕ → Told NetList
+stored_list files file = stored_bytes files file >>= told_list file
 
 -- each list in order, up to the first that is refused
-abbrev pub lists_in : StoredFiles → List (List ℕ) → Told (List NetList)
-lists_in files [] = Ok []
-lists_in files (name ∷ names) = do
-  list ← list_in files name
-  lists ← lists_in files names
+abbrev pub stored_lists : StoredFiles → List (List ℕ) → Told (List NetList)
+stored_lists files [] = Ok []
+stored_lists files (name ∷ names) = do
+  list ← stored_list files name
+  lists ← stored_lists files names
   Ok (list ∷ lists)
 
 abbrev pub plan_from : Words → Pods → List NetList → Plan
@@ -71,8 +71,8 @@ told_plan words pods lists = told (λ e. error_line (plan_error e) (file_at_faul
 -- the pod file, then each list, then the plan
 unfoldable pub plan_of : StoredFiles → Words → Told Plan
 plan_of files words = do
-  pods ← pods_in files words.pods
-  lists ← lists_in files words.lists
+  pods ← stored_pods files words.pods
+  lists ← stored_lists files words.lists
   told_plan words pods lists
 
 -- the words aren't taken; a line tells what is refused; or a plan is carried out, and printed with its trace and dump

@@ -4,7 +4,7 @@ ghost use Rattle.std.specs.Prelude.{◌≡◌, ◌≤◌, ◌<◌, ◌^◌, ◌�
 ghost use Rattle.pod_workers.specs.Plans.{IsWellFormed};
 ghost use Rattle.tool_words.specs.Command.{most_lists};
 ghost use Rattle.tool_run.specs.Causes.{GivesTold, IsReadList, IsReadPods, Steps};
-ghost use Rattle.tool_run.specs.Verdict.{bytes_in, list_in, lists_in, plan_of, pods_in, told_list, told_plan, told_pods};
+ghost use Rattle.tool_run.specs.Verdict.{stored_bytes, stored_list, stored_lists, plan_of, stored_pods, told_list, told_plan, told_pods};
 
 use crate::laws::read_plans_are_well_formed;
 use crate::lines::{error_line, word_line};
@@ -77,10 +77,10 @@ fn join(alloc: Global, words: &Words, pods: Pods, lists: Items<NetList>) -> Resu
     }
 }
 
-#[tactic(auto, using(crate::proofs::Stopping::stopping), unfolding(crate::specs::Verdict::pods_in))]
+#[tactic(auto, using(crate::proofs::Stopping::stopping), unfolding(crate::specs::Verdict::stored_pods))]
 fn read_pods<F: Files>(alloc: Global, files: &mut F, file: &str) -> Result<Pods, Stop>
     ensures gives { Steps (λ pods. pods) (F.files files.old) (F.faults files.old) (F.faults files.new)
-        (file.now ∷ []) (λ stored. pods_in stored file.now) result }
+        (file.now ∷ []) (λ stored. stored_pods stored file.now) result }
     ensures read { IfOk result IsReadPods }
     ensures keeps { F.files files.new ≡ F.files files.old }
     ensures later { F.faults files.old ≤ F.faults files.new }
@@ -108,7 +108,7 @@ fn read_lists<F: Files>(
     names: &[Text],
 ) -> Result<Items<NetList>, Stop>
     ensures gives { Steps (λ lists. lists) (F.files files.old) (F.faults files.old) (F.faults files.new)
-        names.now (λ stored. lists_in stored names.now) result }
+        names.now (λ stored. stored_lists stored names.now) result }
     ensures read { IfOk result (All IsReadList) }
     ensures count { IfOk result (λ lists. length lists ≡ length names.now) }
     ensures keeps { F.files files.new ≡ F.files files.old }
@@ -123,10 +123,10 @@ fn read_lists<F: Files>(
     Ok(lists)
 }
 
-#[tactic(auto, using(crate::proofs::Stopping::stopping), unfolding(crate::specs::Verdict::list_in))]
+#[tactic(auto, using(crate::proofs::Stopping::stopping), unfolding(crate::specs::Verdict::stored_list))]
 fn read_list<F: Files>(alloc: Global, files: &mut F, file: &str) -> Result<NetList, Stop>
     ensures gives { Steps (λ list. list) (F.files files.old) (F.faults files.old) (F.faults files.new)
-        (file.now ∷ []) (λ stored. list_in stored file.now) result }
+        (file.now ∷ []) (λ stored. stored_list stored file.now) result }
     ensures read { IfOk result IsReadList }
     ensures keeps { F.files files.new ≡ F.files files.old }
     ensures later { F.faults files.old ≤ F.faults files.new }
@@ -151,7 +151,7 @@ fn list_of_bytes(alloc: Global, bytes: &[u8], file: &str) -> Result<NetList, Sto
 #[tactic(auto, using(crate::proofs::Stopping::stopping))]
 fn read_bytes<F: Files>(alloc: Global, files: &mut F, file: &str) -> Result<Vec<u8>, Stop>
     ensures gives { Steps (λ bytes. bytes.items) (F.files files.old) (F.faults files.old) (F.faults files.new)
-        (file.now ∷ []) (λ stored. bytes_in stored file.now) result }
+        (file.now ∷ []) (λ stored. stored_bytes stored file.now) result }
     ensures keeps { F.files files.new ≡ F.files files.old }
     ensures later { F.faults files.old ≤ F.faults files.new }
     ensures bounded { F.faults files.new < 2 ^ 64 }

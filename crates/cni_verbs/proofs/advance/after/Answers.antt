@@ -1,7 +1,7 @@
 use Rattle.std.proofs.Common.{◌≡◌, ◌+◌, List, ◌∷◌, drop, Option, subst}
 use Rattle.kernel_types.specs.declared.call.Call.{Call}
 use Rattle.kernel_types.specs.declared.call.Kind.{Kind}
-use Rattle.cni_verbs.specs.Phases.{IsPhaseOf, IsPrepared, IsReady, questions_about, questions_left}
+use Rattle.cni_verbs.specs.Phases.{IsPhaseOf, IsPrepared, HasQuestionsOf, questions_about, questions_left}
 use Rattle.cni_verbs.specs.Script as script
 use Rattle.cni_verbs.specs.Wanted.{kinds_of}
 use Rattle.cni_verbs.specs.declared.answer.Ending.{Ending}
@@ -62,7 +62,7 @@ pub returns-in-Asking-clause-phase : goal.returns-in-Asking-clause-phase
 returns-in-Asking-clause-phase c = λ list command calls sets prepared opens.
     let items = c.args.given.now.items in
     let F : Inquiry → Type 0 =
-    λ q. (question : Question) → IsReady list command q → questions_left list command q ≡ question ∷ drop (q.passed + 1) (questions_about list command q.about)
+    λ q. (question : Question) → HasQuestionsOf list command q → questions_left list command q ≡ question ∷ drop (q.passed + 1) (questions_about list command q.about)
     → IsPhaseOf list command (c.args.made + 1) items c.after_question.result (script.at_question (c.args.made + 1) question (drop (q.passed + 1) (questions_about list command q.about)) c.args.reply) in
     goes_asking list command c.args.made _ items c.args.phase.now c.args.reply c.after_question.result
     c.in-Asking.is prepared opens (subst F c.hand_on.ensures (c.after_question.ensures list command items))

@@ -8,7 +8,7 @@ use Rattle.host_local.specs.Conf.{ipam_of}
 use Rattle.host_local.specs.Leases.{given_row}
 use Rattle.host_local.proofs.RowLemmas.{present-given_row}
 use Rattle.cni_verbs.specs.CommandWords.{att_of}
-use Rattle.cni_verbs.specs.Questions.{addresses_in, bridge_questions}
+use Rattle.cni_verbs.specs.Questions.{addresses_of_result, bridge_questions}
 use Rattle.cni_verbs.specs.Wanted.{sets_of, share_after, rules_of, settings_of, given_by_list, first_plugin_result}
 use Rattle.cni_verbs.proofs.BackCounts.{first-addresses}
 use Rattle.cni_verbs.proofs.CheckCounts.{check-counted}
@@ -20,7 +20,7 @@ returns c =
     let att = att_of c.args.command.now in
     let cached = c.args.cached.now in
     let netns = cached.netns in
-    let addrs = addresses_in cached.result in
+    let addrs = addresses_of_result cached.result in
     let given = given_by_list list addrs in
     let share = share_after list.first att netns given in
     let prev = first_plugin_result list att netns addrs in

@@ -1,7 +1,7 @@
 use Rattle.std.proofs.Common.{◌≡◌, ◌<◌, ◌≤◌, ◌^◌, drop, length}
 use Rattle.std.specs.List.{All}
 use Rattle.tool_run.specs.Causes.{IsReadList, WhereTold}
-use Rattle.tool_run.specs.Verdict.{lists_in}
+use Rattle.tool_run.specs.Verdict.{stored_lists}
 use Rattle.tool_run.proofs.Lists.{behind}
 use Rattle.tool_run.proofs.plan.read_lists.Given as goal
 
@@ -10,7 +10,7 @@ invariant-loop-name g l = record {
   keeps : g.F.Files.files l.files ≡ g.F.Files.files l.initial.files;
   later : g.F.Files.faults l.initial.files ≤ g.F.Files.faults l.files;
   bounded : g.F.Files.faults l.initial.files < 2 ^ 64 → g.F.Files.faults l.files < 2 ^ 64;
-  rest : WhereTold (g.F.Files.files l.initial.files) (λ stored. lists_in stored l.names ≡ behind l.lists (lists_in stored (drop l.name-index l.names)));
+  rest : WhereTold (g.F.Files.files l.initial.files) (λ stored. stored_lists stored l.names ≡ behind l.lists (stored_lists stored (drop l.name-index l.names)));
   read : All IsReadList l.lists;
   count : length l.lists ≡ l.name-index;
 }
