@@ -1,6 +1,7 @@
 -- Entries of a round are counted.
-use Rattle.std.proofs.Common.{◌≡◌, ℕ, ◌+◌, ◌≤◌, cond, List, [], ◌∷◌, ◌++◌, length, refl, sym, ◌∙◌, ap, subst, arith}
+use Rattle.std.proofs.Common.{◌≡◌, ℕ, ◌+◌, ◌≤◌, cond, List, [], ◌∷◌, ◌++◌, length, sum, refl, sym, ◌∙◌, ap, subst, arith}
 use Rattle.std.specs.List.{All, count_by}
+use Rattle.std.specs.Prelude.{slice_index, slice_set}
 use Rattle.std.proofs.lemmas.List.{length-append}
 use Rattle.std.proofs.lemmas.List.Elements.{All-head, All-tail}
 use Rattle.std.proofs.lemmas.List.Sums.{sum_by-append, sum_by-cons}
@@ -43,6 +44,11 @@ no-shorter u w r =
     let long = ap length r.extends.entries.1 ∙ length-append u.history r.extends.entries.0 in
     let same = ap (λ (v : World). length v.history) r.next_is in
     omega (arith, long, same)
+
+-- where the first count alone grows, by those that stood before and the rest, it has those that stood before
+pub first-count : (xs ys : List ℕ) (stood before rest : ℕ) → before ≡ stood → sum ys ≡ sum xs + (before + rest) → ys ≡ slice_set xs 0 (slice_index xs 0 + (before + rest)) → stood ≤ slice_index ys 0
+first-count [] ys stood before rest before_is sum_is is = let none : sum ys ≡ 0 = ap sum is in omega arith
+first-count (x ∷ xs) ys stood before rest before_is sum_is is = rw is (omega arith)
 
 -- the workers made so many entries, so many stood before, and the rest was made at the end
 pub whole-count : (u v w : World) (made before rest total : ℕ) → Extends u v → Rounds v w → length v.history ≡ length u.history + made → before ≡ entries_of_round u.plan u.round u.history

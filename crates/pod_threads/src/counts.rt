@@ -1,6 +1,6 @@
 //! How many entries a round has.
 
-ghost use Rattle.std.specs.Prelude.{◌≡◌, ◌+◌, ◌<◌, ◌^◌, length, sum};
+ghost use Rattle.std.specs.Prelude.{◌≡◌, ◌+◌, ◌<◌, ◌^◌, length, sum, slice_index, slice_set};
 ghost use Rattle.pod_threads.specs.Counted.{entries_of_round};
 
 use kernel_model::Kernel;
@@ -16,10 +16,11 @@ pub(crate) fn entries_of_current<K: Kernel + Drop>(book: &Book<K>) -> usize
         .count()
 }
 
-/// Adds to the first count.
+/// Adds to the first count, and to no other.
 pub(crate) fn add_first(counts: &mut Vec<u64>, more: u64)
     requires some { 0 < length counts.old.items }
     requires fits { sum counts.old.items + more < 2 ^ 64 }
+    ensures first { counts.new.items ≡ slice_set counts.old.items 0 (slice_index counts.old.items 0 + more) }
     ensures sum { sum counts.new.items ≡ sum counts.old.items + more }
     ensures long { length counts.new.items ≡ length counts.old.items }
 {
@@ -29,6 +30,7 @@ pub(crate) fn add_first(counts: &mut Vec<u64>, more: u64)
 fn add_to_first(counts: &mut [u64], more: u64)
     requires some { 0 < length counts.old }
     requires fits { sum counts.old + more < 2 ^ 64 }
+    ensures first { counts.new ≡ slice_set counts.old 0 (slice_index counts.old 0 + more) }
     ensures sum { sum counts.new ≡ sum counts.old + more }
     ensures long { length counts.new ≡ length counts.old }
 {

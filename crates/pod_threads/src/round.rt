@@ -1,6 +1,6 @@
 //! A round by several workers.
 
-ghost use Rattle.std.specs.Prelude.{◌≡◌, ◌+◌, ◌<◌, ◌≤◌, ◌^◌, length, sum, IfOk, IfErr};
+ghost use Rattle.std.specs.Prelude.{◌≡◌, ◌+◌, ◌<◌, ◌≤◌, ◌^◌, length, sum, slice_index, IfOk, IfErr};
 ghost use Rattle.pod_workers.specs.Extends.{Rounds};
 ghost use Rattle.pod_threads.specs.Counted.{entries_of_round};
 
@@ -18,8 +18,9 @@ use std::sync::{Mutex, Wait};
 use std::thread::Threads;
 
 /// The book after a round, and for each worker how many entries it made. The first worker's count has besides the
-/// round's entries that no worker made: those that stood before, and those of commands that were left to be done at the
-/// end.
+/// round's entries that no worker made: those that stood before (clause `first` of [`round_threads`]), and those of
+/// commands that were left to be done at the end (the sum has them; that they are the first's no clause says, since the
+/// book between is not shown).
 #[derive(Drop)]
 pub struct Rounded<K: Kernel> {
     pub book: Book<K>,
@@ -43,6 +44,7 @@ pub fn round_threads<R: Threads + Wait + Sync, K: Kernel + Send + Drop, G: Gate>
     ensures rounds { IfOk result (λ r. Rounds book r.book) }
     ensures many { IfOk result (λ r. length r.counts ≡ n) }
     ensures counts { IfOk result (λ r. sum r.counts ≡ entries_of_round book.plan book.round r.book.history) }
+    ensures first { IfOk result (λ r. entries_of_round book.plan book.round book.history ≤ slice_index r.counts 0) }
     ensures err { IfErr result (λ b. b ≡ book) }
 {
     round_as::<Brand, Brand, R, K, G>(rt, alloc, book, n, gate, Blank::new(n as u64))
@@ -71,6 +73,7 @@ fn round_as<
     ensures rounds { IfOk result (λ r. Rounds book r.book) }
     ensures many { IfOk result (λ r. length r.counts ≡ n) }
     ensures counts { IfOk result (λ r. sum r.counts ≡ entries_of_round book.plan book.round r.book.history) }
+    ensures first { IfOk result (λ r. entries_of_round book.plan book.round book.history ≤ slice_index r.counts 0) }
     ensures err { IfErr result (λ b. b ≡ book) }
 {
     let (made, all) = blank.open::<L>();
@@ -83,10 +86,8 @@ fn round_as<
     let mut book = shared.into_inner().into_book(&mut all);
     let rest = end_round(&mut book);
     add_first(&mut counts, (before + rest) as u64);
-    Ok(Rounded {
-        book,
-        counts: Items::of_vec(counts),
-    })
+    let counts = Items::of_vec(counts);
+    Ok(Rounded { book, counts })
 }
 
 /// Steps what is left of the current round, makes the next one current, and tells how many entries that made.
