@@ -21,7 +21,7 @@ mod crew;
 pub mod gate;
 mod owners;
 pub mod round;
-pub mod shared;
+mod shared;
 mod workers;
 
 pub use gate::{Gate, OpenGate};

@@ -3,7 +3,8 @@
 ghost use Rattle.std.specs.Prelude.{◌≡◌, ◌+◌, ◌<◌, ◌^◌, length};
 ghost use Rattle.pod_workers.specs.Extends.{Extends};
 ghost use Rattle.pod_workers.specs.World.{IsReadyNumber};
-ghost use Rattle.pod_threads.specs.Guarded.{entries_by, Guarded};
+ghost use Rattle.pod_workers.specs.declared.plan.StepEnd.TheVariants.{Over};
+ghost use Rattle.pod_threads.specs.Guarded.{entries_by, Guarded, MakesStep};
 
 use cni_addr::NoMemory;
 use kernel_model::Kernel;
@@ -13,7 +14,7 @@ use std::sync::ledger;
 use std::sync::ledger::{Ledger, Share};
 
 /// Names the world of the book that went in. Each round picks its own.
-pub trait Origin {
+pub(crate) trait Origin {
     ghost use Rattle.pod_workers.specs.World.{World};
 
     ghost from: { World };
@@ -28,7 +29,7 @@ impl Origin for Brand {
 /// The book, which goes on from the one that went in, and a ledger of the entries made since. Whoever takes the lock
 /// finds this true, and has to leave it so.
 #[derive(Drop)]
-pub struct Shared<J: Origin, L: Ledger, K: Kernel + Drop> {
+pub(crate) struct Shared<J: Origin, L: Ledger, K: Kernel + Drop> {
     book: Book<K>,
     made: ledger::Book<L>,
     of: PhantomData<J>,
@@ -48,7 +49,7 @@ impl<J: Origin, L: Ledger, K: Kernel + Drop> Model for Shared<J, L, K> {
 
 impl<J: Origin, L: Ledger, K: Kernel + Drop> Shared<J, L, K> {
     /// Nothing is counted yet.
-    pub fn new(book: Book<K>, made: ledger::Book<L>) -> Shared<J, L, K>
+    pub(crate) fn new(book: Book<K>, made: ledger::Book<L>) -> Shared<J, L, K>
         requires from { book ≡ J.from }
         requires none { made.total ≡ 0 }
         ensures { result ≡ record { world = book; total = 0 } }
@@ -61,8 +62,11 @@ impl<J: Origin, L: Ledger, K: Kernel + Drop> Shared<J, L, K> {
     }
 
     /// Steps a command if it is ready, and says whether a call was made, which counts for the share.
-    pub fn step(&mut self, command: u32, mine: &mut Share<L>) -> StepEnd
+    pub(crate) fn step(&mut self, command: u32, mine: &mut Share<L>) -> StepEnd
         requires { 0 < mine.old.parts }
+        ensures ready { IsReadyNumber self.old.world command → MakesStep self.old.world self.new.world command result }
+        ensures waits { (IsReadyNumber self.old.world command → ⊥) → (self.new.world ≡ self.old.world) × (result ≡ Over) }
+        ensures total { self.new.total ≡ self.old.total + entries_by result }
         ensures parts { mine.new.parts ≡ mine.old.parts }
         ensures amount { mine.new.amount ≡ mine.old.amount + entries_by result }
         ensures fits { mine.new.amount < 2 ^ 64 }
@@ -78,6 +82,7 @@ impl<J: Origin, L: Ledger, K: Kernel + Drop> Shared<J, L, K> {
 
     /// Changes nothing, and tells that a share's amount fits.
     fn tell(&mut self, mine: &mut Share<L>)
+        ensures same { self.new ≡ self.old }
         ensures parts { mine.new.parts ≡ mine.old.parts }
         ensures amount { mine.new.amount ≡ mine.old.amount }
         ensures fits { mine.old.amount < 2 ^ 64 }
@@ -86,9 +91,12 @@ impl<J: Origin, L: Ledger, K: Kernel + Drop> Shared<J, L, K> {
         self.made.audit(mine);
     }
 
+    /// Steps a ready command. One that is refused memory is answered so, and over.
     fn enter(&mut self, command: u32, mine: &mut Share<L>) -> StepEnd
         requires parts { 0 < mine.old.parts }
         requires ready { IsReadyNumber self.old.world command }
+        ensures step { MakesStep self.old.world self.new.world command result }
+        ensures total { self.new.total ≡ self.old.total + entries_by result }
         ensures parts { mine.new.parts ≡ mine.old.parts }
         ensures amount { mine.new.amount ≡ mine.old.amount + entries_by result }
     {
@@ -103,8 +111,10 @@ impl<J: Origin, L: Ledger, K: Kernel + Drop> Shared<J, L, K> {
     }
 
     /// The book, once all shares are in one.
-    pub fn into_book(self, all: &mut Share<L>) -> Book<K>
+    pub(crate) fn into_book(self, all: &mut Share<L>) -> Book<K>
         requires { all.old.parts ≡ L.parts }
+        ensures parts { all.new.parts ≡ all.old.parts }
+        ensures amount { all.new.amount ≡ all.old.amount }
         ensures book { result ≡ self.world }
         ensures extends { Extends J.from result }
         ensures entries { length result.history ≡ length J.from.history + all.old.amount }
