@@ -1,5 +1,6 @@
 pub mod Alone
 pub mod AnswersDue
+pub mod Appended
 pub mod Asked
 pub mod BackCalls
 pub mod Clauses

@@ -12,7 +12,7 @@ use Rattle.cni_verbs.specs.declared.answer.Answer.TheVariants.{OutOfMemory}
 use Rattle.kernel_types.specs.declared.object.Host.{Host}
 use Rattle.pod_file.specs.Rounds.{file_limit}
 use Rattle.pod_file.specs.declared.command.Command.{Command}
-use Rattle.pod_workers.specs.Extends.{Extends, IsOfRound, Rounds}
+use Rattle.pod_workers.specs.Extends.{Appends, Extends, IsOfRound, Rounds}
 use Rattle.pod_workers.specs.Legal.{Legal, turns}
 use Rattle.pod_workers.specs.Order.{EarlierAreAnswered, IsInFileOrder}
 use Rattle.pod_workers.specs.Plans.{Placed, commands_of, in_round, placed_from}
@@ -33,13 +33,21 @@ use Rattle.pod_workers.proofs.Elements.{at_number-is, slice_get-right, slice_get
 use Rattle.pod_workers.proofs.Sound.{fine}
 use Rattle.pod_workers.proofs.WellFormedPlans.{few_commands}
 
+-- ---- entries behind entries
+
+pub appends-none : (P : Entry → Type 0) (h : List Entry) → Appends h h (All P)
+appends-none P h = ([], sym (append-nil h), All-nil P)
+
+pub appends-more : (F G H : List Entry → Type 0) (g h k : List Entry) → ((xs ys : List Entry) → F xs → G ys → H (xs ++ ys)) → Appends g h F → Appends h k G → Appends g k H
+appends-more F G H g h k both first more = (first.0 ++ more.0, more.1 ∙ ap (λ es. es ++ more.0) first.1 ∙ append_assoc g first.0 more.0, both first.0 more.0 first.2 more.2)
+
 -- ---- one world goes on from another
 
 pub extends_refl : (w : World) → Extends w w
 extends_refl w = record {
   plan_is = refl;
   round_is = refl;
-  entries = ([], sym (append-nil w.history), All-nil (IsOfRound w.plan w.round));
+  entries = appends-none (IsOfRound w.plan w.round) w.history;
   answers_stand = λ n a is. is;
   others = λ n c at far. refl;
 }
@@ -51,11 +59,8 @@ pub extends_trans : (u v w : World) → Extends u v → Extends v w → Extends 
 extends_trans u v w e f = record {
   plan_is = f.plan_is ∙ e.plan_is;
   round_is = f.round_is ∙ e.round_is;
-  entries = (
-    e.entries.0 ++ f.entries.0,
-    f.entries.1 ∙ ap (λ h. h ++ f.entries.0) e.entries.1 ∙ append_assoc u.history e.entries.0 f.entries.0,
-    All-append (IsOfRound u.plan u.round) e.entries.0 f.entries.0 e.entries.2 (same-round u v f.entries.0 e.plan_is e.round_is f.entries.2),
-  );
+  entries = appends-more (All (IsOfRound u.plan u.round)) (All (IsOfRound v.plan v.round)) (All (IsOfRound u.plan u.round)) u.history v.history w.history
+      (λ xs ys first more. All-append (IsOfRound u.plan u.round) xs ys first (same-round u v ys e.plan_is e.round_is more)) e.entries f.entries;
   answers_stand = λ n a is. f.answers_stand n a (e.answers_stand n a is);
   others = λ n c at far. f.others n c (ap (λ p. slice_get (commands_of p) n) e.plan_is ∙ at) (λ same. far (same ∙ e.round_is)) ∙ e.others n c at far;
 }
@@ -69,7 +74,7 @@ answered_extends : (w : World) (n : ℕ) (c : Placed) (a : Answer) → IsReady w
 answered_extends w n c a ready = record {
   plan_is = refl;
   round_is = refl;
-  entries = ([], sym (append-nil w.history), All-nil (IsOfRound w.plan w.round));
+  entries = appends-none (IsOfRound w.plan w.round) w.history;
   answers_stand = λ m b is. elim (eqb_tells m n) [
     | inl t ↦ absurd (none-some b (same_Some None (Some b) (sym ready.unanswered ∙ ap (slice_get w.answers) (sym t.1) ∙ is)))
     | inr f ↦ slice_get-set_other w.answers n m (Some a) f.1 ∙ is

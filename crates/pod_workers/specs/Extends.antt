@@ -15,9 +15,13 @@ is_of_round p round e = is_entry_in (λ (c : Placed). c.round) (commands_of p) r
 abbrev pub IsOfRound : Plan → ℕ → Entry → Type 0
 IsOfRound p round e = is_of_round p round e ≡ true
 
--- what is new, behind what was there, is of this round
+-- what is new, behind what was there, fits
+abbrev pub Appends : List Entry → List Entry → (List Entry → Type 0) → Type 0
+Appends old new Fit = (rest : List Entry) × (new ≡ old ++ rest) × Fit rest
+
+-- it is of this round
 abbrev pub GrowsInRound : Plan → ℕ → List Entry → List Entry → Type 0
-GrowsInRound p round long short = (rest : List Entry) × (long ≡ short ++ rest) × All (IsOfRound p round) rest
+GrowsInRound p round long short = Appends short long (All (IsOfRound p round))
 
 -- each answer that was given stands
 abbrev pub KeepsAnswers : List (Option Answer) → List (Option Answer) → Type 0

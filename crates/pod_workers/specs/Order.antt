@@ -1,16 +1,31 @@
 -- Worlds in which commands go in the order of the file, as on one thread, and what is true of them.
-use Rattle.std.specs.Prelude.{◌≡◌, ◌≢◌, ℕ, ◌<◌, ◌≤◌, length, Some, slice_get}
+use Rattle.std.specs.Prelude.{◌≡◌, ◌≢◌, ℕ, ◌<◌, ◌≤◌, List, length, Some, slice_get}
 use Rattle.cni_verbs.specs.declared.answer.Answer.TheVariants.{OutOfMemory}
+use Rattle.pod_workers.specs.Extends.{Appends}
 use Rattle.pod_workers.specs.Facts.{EachTwo, EachIsDoneBefore}
 use Rattle.pod_workers.specs.Legal.{Legal}
 use Rattle.pod_workers.specs.Plans.{Placed, commands_of}
 use Rattle.pod_workers.specs.World.{World, IsAnswered, IsReady, stepped}
+use Rattle.pod_workers.specs.declared.plan.Entry.{Entry}
+use Rattle.pod_workers.specs.declared.plan.Plan.{Plan}
+
+-- entries of a command stand before those of each later one
+abbrev pub StandInFileOrder : Plan → List Entry → Type 0
+StandInFileOrder p h = EachTwo p h (λ number m d n c. m ≤ n)
 
 -- each command's entries stand together, commands stand in file order, and none is left half done for a later one of
 -- its round
 pub record IsInFileOrder (w : World) : Type 0 where
-  pub entries : EachTwo w.plan w.history (λ number m d n c. m ≤ n)
+  pub entries : StandInFileOrder w.plan w.history
   pub before : EachIsDoneBefore w (λ d c. d.round ≡ c.round)
+
+-- whatever stood there before, what is new is in file order
+abbrev pub AppendsInFileOrder : World → World → Type 0
+AppendsInFileOrder old new = Appends old.history new.history (StandInFileOrder old.plan)
+
+-- the entry is of the command of this number, from 1
+abbrev pub IsEntryBy : ℕ → Entry → Type 0
+IsEntryBy number e = e.command ≡ number
 
 -- each command of the current round that stands before this place has its answer
 abbrev pub EarlierAreAnswered : World → ℕ → Type 0

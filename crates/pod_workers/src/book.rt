@@ -1,12 +1,12 @@
 //! The book: a plan, the kernel that it is carried out on, what was done, and who is answered.
 
-ghost use Rattle.std.specs.Prelude.{◌≡◌, ◌+◌, ◌<◌, ◌^◌, ℕ, ◌-◌, Some, slice_get, length, nat_le, IfOk, IsTrue, OnOk, OnErr, MatchBool};
+ghost use Rattle.std.specs.Prelude.{◌≡◌, ◌+◌, ◌<◌, ◌^◌, ℕ, ◌-◌, Some, slice_get, length, nat_le, All, IfOk, IsTrue, OnOk, OnErr, MatchBool};
 ghost use Rattle.std.specs.Option.{option_copied};
 ghost use Rattle.cni_verbs.specs.declared.answer.Answer.TheVariants.{OutOfMemory};
-ghost use Rattle.pod_workers.specs.Extends.{Extends, Rounds, is_of_round};
+ghost use Rattle.pod_workers.specs.Extends.{Appends, Extends, Rounds, is_of_round};
 ghost use Rattle.pod_workers.specs.Index.{is_cut_by};
 ghost use Rattle.pod_workers.specs.Legal.{Legal};
-ghost use Rattle.pod_workers.specs.Order.{EarlierAreAnswered, IsInFileOrder};
+ghost use Rattle.pod_workers.specs.Order.{AppendsInFileOrder, EarlierAreAnswered, IsEntryBy, IsInFileOrder};
 ghost use Rattle.pod_workers.specs.Plans.{IsWellFormed, Placed, commands_of};
 ghost use Rattle.pod_workers.specs.Slots.{AreNumbersOf};
 ghost use Rattle.pod_workers.specs.World.{IsReadyNumber, IsRoundOver, answer_at, answer_in, answered, at_number, begun, end_of, host_of, is_entry_in, next_of, next_round, own_replies, stepped};
@@ -198,6 +198,7 @@ impl<K: Kernel + Drop> Book<K> {
     pub fn round_alone(&mut self)
         requires { self.old.round < length self.old.plan.pods.rounds }
         ensures rounds { Rounds self.old self.new }
+        ensures appends { AppendsInFileOrder self.old self.new }
         ensures order { IsInFileOrder self.old → IsInFileOrder self.new }
     {
         let (first, end) = self.numbers();
@@ -213,6 +214,7 @@ impl<K: Kernel + Drop> Book<K> {
     fn finish(&mut self, command: u32)
         ensures extends { Extends self.old self.new }
         ensures over { IsReadyNumber self.new command → ⊥ }
+        ensures own { Appends self.old.history self.new.history (All (IsEntryBy command)) }
         ensures order { ((n : ℕ) → command ≡ n + 1 → EarlierAreAnswered self.old n) → IsInFileOrder self.old → IsInFileOrder self.new }
     {
         while self.ready(command) {

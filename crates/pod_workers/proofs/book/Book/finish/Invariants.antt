@@ -1,12 +1,14 @@
 use Rattle.std.proofs.Common.{◌≡◌, ℕ, ◌+◌}
 use Rattle.pod_workers.specs.Extends.{Extends}
 use Rattle.pod_workers.specs.Order.{EarlierAreAnswered, IsInFileOrder}
+use Rattle.pod_workers.proofs.Appended.{AppendsOwn}
 use Rattle.pod_workers.proofs.StepsLeft.{steps_left}
 use Rattle.pod_workers.proofs.book.Book.finish.Given as goal
 
 abbrev pub invariant-loop-self : goal.invariant-loop-self
 invariant-loop-self g l = record {
   extends : Extends l.fn.self l.self;
+  own : AppendsOwn l.fn.self l.self l.command;
   order : ((n : ℕ) → l.command ≡ n + 1 → EarlierAreAnswered l.fn.self n) → IsInFileOrder l.fn.self → IsInFileOrder l.self;
 }
 
