@@ -4,6 +4,7 @@ use Rattle.std.specs.Prelude.{filter}
 use Rattle.std.specs.List.{AllByRecursion, list_any, list_all}
 use Rattle.std.proofs.lemmas.Bool.{not-true}
 use Rattle.pod_workers.proofs.Splits.{split_nil}
+use Rattle.cni_addr.proofs.Lists.{list_all-none}
 use Rattle.cni_addr.specs.declared.address.Addr.{Addr}
 use Rattle.cni_addr.specs.declared.range.RangeSet.{RangeSet}
 use Rattle.cni_result.specs.declared.cached.PortMapping.{PortMapping}
@@ -25,7 +26,7 @@ use Rattle.kernel_types.specs.declared.call.Call.{Call}
 use Rattle.kernel_types.specs.declared.call.Call.TheVariants.{VethAdd, MacvlanAdd, LinkSet, AddrAdd, RouteAdd, RuleAppend, SettingSet, CachePut}
 use Rattle.plan_words.specs.Share.{Share, share_of, no_objects, share_after_call}
 use Rattle.plan_words.proofs.Deletions.{empty_none}
-use Rattle.gc_sweep.proofs.Lists.{list_all-drops, list_all-none}
+use Rattle.gc_sweep.proofs.Lists.{list_all-drops}
 use Rattle.host_local.specs.Conf.{ipam_of, range_sets_of}
 use Rattle.bridge_ptp.specs.Bridge.{rule_kinds, lease_kinds}
 use Rattle.cni_verbs.specs.Wanted.{sets_of, calls_before, first_kinds, chained_kinds, chained_kinds_reversed, kinds_of, back_calls}
