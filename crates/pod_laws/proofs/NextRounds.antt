@@ -1,18 +1,23 @@
--- Where two exclusive commands stand in one round and the next, nothing stands between their entries.
-use Rattle.std.proofs.Common.{◌≡◌, ◌≢◌, ℕ, ◌+◌, ◌≤◌, Bool, true, false, List, [], ◌∷◌, ◌++◌, Some, None, slice_get, refl, sym, ◌∙◌, ap, subst, inl, inr, ◌⊎◌, arith}
-use Rattle.std.specs.Prelude.{if◌then◌else◌}
-use Rattle.std.proofs.lemmas.Bool.{cases_lt, cases_order}
+-- Where two exclusive commands stand in one round and the next, nothing stands between their entries, and nothing of
+-- its round before those of either.
+use Rattle.std.proofs.Common.{◌≡◌, ◌≢◌, ℕ, ◌+◌, ◌≤◌, Bool, true, false, List, [], ◌∷◌, ◌++◌, Some, None, slice_get, refl, sym, ◌∙◌, ap, subst, inl, inr, ◌⊎◌, append_assoc, arith}
+use Rattle.std.specs.Prelude.{◌<◌, if◌then◌else◌}
+use Rattle.std.proofs.lemmas.Bool.{cases_lt, cases_order, le-ltb, lt-ltb}
 use Rattle.std.proofs.lemmas.Bool.Decides.{eqb_tells}
 use Rattle.pod_file.specs.Rounds.{is_exclusive_verb}
 use Rattle.kernel_types.specs.declared.call.Call.{Call}
+use Rattle.pod_workers.specs.Facts.{IsEntryOf}
 use Rattle.pod_workers.specs.Legal.{Legal}
 use Rattle.pod_workers.specs.Plans.{Placed, commands_of}
-use Rattle.pod_workers.specs.World.{World, IsReady, after, entry_of, host_of, replies_of}
+use Rattle.pod_workers.specs.World.{World, IsReady, after, at_number, entry_of, host_of, replies_of, replies_in}
 use Rattle.pod_workers.specs.declared.plan.Entry.{Entry}
 use Rattle.pod_workers.specs.declared.plan.Plan.{Plan}
+use Rattle.pod_workers.proofs.Elements.{at_number-is}
+use Rattle.pod_workers.proofs.Facts.{each_follows, goes_by_rounds}
+use Rattle.pod_workers.proofs.Histories.{entry_or_none, has_reply}
 use Rattle.pod_workers.proofs.Order.{in_order, not_both, ready_is}
 use Rattle.pod_workers.proofs.Sound.{fine}
-use Rattle.pod_laws.specs.Moments.{host_at_end, host_at_start, is_of, own_entries, until_first, until_last}
+use Rattle.pod_laws.specs.Moments.{host_at_end, host_at_round, host_at_start, is_before, is_of, own_entries, until_first, until_last, until_round}
 use Rattle.pod_laws.proofs.AloneRuns.{legal-of, ready-of, until_first-own}
 use Rattle.pod_laws.proofs.Entries.{is_of-own, is_of-other, no-entries, none-or-some, other-number, own_entries-own, own_entries-other, pushed, until_last-own, until_last-other}
 use Rattle.pod_laws.proofs.Steps.{AllOpen, Goes, IsKept, IsKeptOutside, IsOpenKept, OpenFact, by-entries, by-open}
@@ -64,7 +69,7 @@ until_first-more : (n : ℕ) (h : List Entry) (e : Entry) → own_entries n h �
 until_first-more n [] e some = absurd (some refl)
 until_first-more n (x ∷ xs) e some = more-if n (is_of n x) x (until_first n (xs ++ e ∷ [])) (until_first n xs) (own_entries n xs) some (λ more. until_first-more n xs e more)
 
-apart-entry : (w : World) (k m : ℕ) (call : Call) (faulty : Bool) → m ≢ k → is_of m (entry_of (host_of w) k call faulty) ≡ false
+pub apart-entry : (w : World) (k m : ℕ) (call : Call) (faulty : Bool) → m ≢ k → is_of m (entry_of (host_of w) k call faulty) ≡ false
 apart-entry w k m call faulty far = is_of-other m (entry_of (host_of w) k call faulty) (other-number m k far)
 
 -- while the second has made no call, the first one's last entry is the last one
@@ -149,3 +154,71 @@ next-host w legal m n d c at_m at_n next some_m some_n =
     let P : Plan → List Entry → Type 0 = AllNextTo in
     let all = by-entries P (λ p well i j y z at_i at_j nx si sj. absurd (si refl)) next-to-listed next-to-changed w legal in
     ap (after w.plan.pods.opening) (all m n d c at_m at_n next some_m some_n)
+
+-- ---- and the first of them stands where its round starts
+
+before-is : (p : Plan) (round : ℕ) (e : Entry) (n : ℕ) (c : Placed) → IsEntryOf p e n c → c.round < round → is_before round (at_number (commands_of p) e.command) ≡ true
+before-is p round e n c of_e less = ap (is_before round) (at_number-is (commands_of p) e.command n of_e.number ∙ of_e.there) ∙ lt-ltb c.round round less
+
+not-before : (p : Plan) (round : ℕ) (e : Entry) (n : ℕ) (c : Placed) → IsEntryOf p e n c → round ≤ c.round → is_before round (at_number (commands_of p) e.command) ≡ false
+not-before p round e n c of_e within = ap (is_before round) (at_number-is (commands_of p) e.command n of_e.number ∙ of_e.there) ∙ le-ltb c.round round within
+
+-- each of these is of an earlier round
+abbrev AreBefore : Plan → ℕ → List Entry → Type 0
+AreBefore p round h = (before rest : List Entry) (e : Entry) → h ≡ before ++ e ∷ rest → is_before round (at_number (commands_of p) e.command) ≡ true
+
+until_round-split : (p : Plan) (round : ℕ) (before rest : List Entry) (e : Entry) → AreBefore p round before → is_before round (at_number (commands_of p) e.command) ≡ false → until_round p round (before ++ e ∷ rest) ≡ before
+until_round-split p round [] rest e are not = ap (λ b. if b then e ∷ until_round p round rest else []) not
+until_round-split p round (x ∷ xs) rest e are not =
+    ap (λ b. if b then x ∷ until_round p round (xs ++ e ∷ rest) else []) (are [] xs x refl)
+    ∙ ap (λ l. x ∷ l) (until_round-split p round xs rest e (λ before later y is. are (x ∷ before) later y (ap (λ l. x ∷ l) is)) not)
+
+-- no command from this round up to that of c has made a call
+abbrev NoneSince : World → ℕ → Placed → Type 0
+NoneSince w round c = (k : ℕ) (x : Placed) → slice_get (commands_of w.plan) k ≡ Some x → round ≤ x.round → x.round < c.round → own_entries k w.history ≡ []
+
+earlier-rounds : (w : World) → Legal w → (n : ℕ) (c : Placed) (round : ℕ) (before rest : List Entry) (e : Entry) → is_exclusive_verb c.command.verb ≡ true → NoneSince w round c → w.history ≡ before ++ e ∷ rest → IsEntryOf w.plan e n c
+    → replies_of n before ≡ [] → AreBefore w.plan round before
+earlier-rounds w legal n c round before rest e exclusive since split of_e none = λ first later y is.
+    let whole : w.history ≡ first ++ y ∷ (later ++ e ∷ rest) = split ∙ ap (λ l. l ++ e ∷ rest) is ∙ append_assoc first (y ∷ later) (e ∷ rest) in
+    let follows = each_follows w legal first (later ++ e ∷ rest) y whole in
+    let k = follows.place in
+    let x = follows.by in
+    let of_y : IsEntryOf w.plan y k x = record { number = follows.number; there = follows.there } in
+    let ascend : x.round ≤ c.round = (goes_by_rounds w legal).entries first later rest y e k n x c whole of_y of_e in
+    elim (cases_lt x.round round) [
+      | inl less ↦ before-is w.plan round y k x of_y less
+      | inr from ↦ absurd (elim (cases_order x.round c.round) [
+        | inl same ↦
+            let own : y.command ≡ n + 1 = of_y.number ∙ ap (λ j. j + 1) (alone-in w legal k n x c of_y.there of_e.there same exclusive) in
+            has_reply n before first later y is own none
+        | inr (inl less) ↦ has_reply k w.history first (later ++ e ∷ rest) y whole of_y.number (ap replies_in (since k x of_y.there from less))
+        | inr (inr more) ↦ absurd (omega arith)
+      ])
+    ]
+
+starts-round : (w : World) → Legal w → (n : ℕ) (c : Placed) (round : ℕ) → slice_get (commands_of w.plan) n ≡ Some c → is_exclusive_verb c.command.verb ≡ true → own_entries n w.history ≢ [] → round ≤ c.round → NoneSince w round c
+    → until_first n w.history ≡ until_round w.plan round w.history
+starts-round w legal n c round at exclusive some within since = elim (entry_or_none n w.history) [
+  | inl none ↦ absurd (some (no-own n w.history none))
+  | inr is ↦
+      let before = is.0 in
+      let e = is.2 in
+      let of_e : IsEntryOf w.plan e n c = record { number = is.4; there = at } in
+      ap (until_first n) is.3 ∙ until_first-own n before e is.1 (no-own n before is.5) (is_of-own n e is.4)
+      ∙ sym (ap (until_round w.plan round) is.3 ∙ until_round-split w.plan round before is.1 e (earlier-rounds w legal n c round before is.1 e exclusive since is.3 of_e is.5) (not-before w.plan round e n c of_e within))
+]
+
+-- an exclusive command that made a call starts from the host at the start of its round
+pub start-round : (w : World) → Legal w → (n : ℕ) (c : Placed) → slice_get (commands_of w.plan) n ≡ Some c → is_exclusive_verb c.command.verb ≡ true → own_entries n w.history ≢ [] → host_at_start w n ≡ host_at_round w c.round
+start-round w legal n c at exclusive some =
+    ap (after w.plan.pods.opening) (starts-round w legal n c c.round at exclusive some (omega arith) (λ k x there from less. absurd (omega arith)))
+
+-- the second starts from the host at the start of the first one's round, where the first made none
+pub start-after : (w : World) → Legal w → (m n : ℕ) (d c : Placed) → slice_get (commands_of w.plan) m ≡ Some d → slice_get (commands_of w.plan) n ≡ Some c → AreNext d c → own_entries m w.history ≡ [] → own_entries n w.history ≢ []
+    → host_at_start w n ≡ host_at_round w d.round
+start-after w legal m n d c at_m at_n next none some =
+    let r = next.round in
+    ap (after w.plan.pods.opening)
+    (starts-round w legal n c d.round at_n next.second some (omega arith) (λ k x there from less.
+    subst (λ j. own_entries j w.history ≡ []) (sym (alone-in w legal k m x d there at_m (let s : x.round ≡ d.round = omega arith in s) next.first)) none))

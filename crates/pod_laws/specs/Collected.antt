@@ -18,7 +18,7 @@ use Rattle.pod_workers.specs.Legal.{Legal}
 use Rattle.pod_workers.specs.Plans.{Placed, commands_of, list_for}
 use Rattle.pod_workers.specs.World.{World, made_in}
 use Rattle.pod_workers.specs.declared.plan.Entry.{Entry}
-use Rattle.pod_laws.specs.Moments.{has_fault, host_at_end, host_at_start, own_entries}
+use Rattle.pod_laws.specs.Moments.{has_fault, host_at_end, host_at_round, host_at_start, own_entries}
 use Rattle.pod_laws.specs.Answers.{EachListAnswer, is_cut_off}
 
 -- ---- answers
@@ -73,6 +73,11 @@ CollectionsAreShort = (w : World) → Legal w → (n : ℕ) (c : Placed) (list :
     → slice_get (commands_of w.plan) n ≡ Some c → list_for w.plan c.command ≡ Some list → c.command.verb ≡ verbs.Gc → own_entries n w.history ≢ []
     → length (own_entries n w.history) ≤ most_of_collection list c.command (host_at_start w n)
 
+-- each collection that made a call made the first one in the host at the start of its round
+abbrev pub CollectionsStartTheirRounds : Type 0
+CollectionsStartTheirRounds = (w : World) → Legal w → (n : ℕ) (c : Placed)
+    → slice_get (commands_of w.plan) n ≡ Some c → c.command.verb ≡ verbs.Gc → own_entries n w.history ≢ [] → host_at_start w n ≡ host_at_round w c.round
+
 -- ---- one after another
 
 -- the second is of the round after the first one's, with the same network and the same valid list
@@ -83,9 +88,9 @@ pub record AreInARow (d c : Placed) : Type 0 where
   pub network : d.command.network ≡ c.command.network
   pub valid : d.command.valid ≡ c.command.valid
 
--- where the second is answered without an error, it leaves what the first was to keep, whatever the first came to once
--- it had made a call
+-- where the second is answered without an error, it leaves what is to be kept of the host at the start of the first
+-- one's round, whatever the first came to, also where it made no call
 abbrev pub CollectionsInARowKeep : Type 0
 CollectionsInARowKeep = (w : World) → Legal w → (m n : ℕ) (d c : Placed)
-    → slice_get (commands_of w.plan) m ≡ Some d → slice_get (commands_of w.plan) n ≡ Some c → AreInARow d c → own_entries m w.history ≢ [] → slice_get w.answers n ≡ Some (Some answers.Yes)
-    → host_at_end w n ≡ keep d.command.network d.command.valid (host_at_start w m)
+    → slice_get (commands_of w.plan) m ≡ Some d → slice_get (commands_of w.plan) n ≡ Some c → AreInARow d c → slice_get w.answers n ≡ Some (Some answers.Yes)
+    → host_at_end w n ≡ keep d.command.network d.command.valid (host_at_round w d.round)

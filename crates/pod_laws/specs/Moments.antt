@@ -1,11 +1,13 @@
--- The moments of the first and the last entry of one command.
-use Rattle.std.specs.Prelude.{ℕ, Bool, List, [], ◌∷◌, if◌then◌else◌}
+-- The moments of the first and the last entry of one command, and of the start of a round.
+use Rattle.std.specs.Prelude.{ℕ, Bool, false, List, [], ◌∷◌, nat_lt, Option, Some, None, if◌then◌else◌}
 use Rattle.std.specs.List.{list_any}
 use Rattle.kernel_types.specs.Replies.{is_fault}
 use Rattle.kernel_types.specs.declared.object.Host.{Host}
-use Rattle.pod_workers.specs.World.{World, after}
+use Rattle.pod_workers.specs.Plans.{Placed, commands_of}
+use Rattle.pod_workers.specs.World.{World, after, at_number}
 pub use Rattle.pod_workers.specs.World.{is_of, own_entries}
 use Rattle.pod_workers.specs.declared.plan.Entry.{Entry}
+use Rattle.pod_workers.specs.declared.plan.Plan.{Plan}
 
 -- the history up to and with the last entry of the command at place n
 abbrev pub until_last : ℕ → List Entry → List Entry
@@ -28,3 +30,17 @@ until_first n (e ∷ es) = if is_of n e then [] else e ∷ until_first n es
 -- the host right before the first entry of the command at place n
 abbrev pub host_at_start : World → ℕ → Host
 host_at_start w n = after w.plan.pods.opening (until_first n w.history)
+
+-- the command is of an earlier round
+abbrev pub is_before : ℕ → Option Placed → Bool
+is_before round None = false
+is_before round (Some c) = nat_lt c.round round
+
+-- the history before the first entry of this round or of a later one
+abbrev pub until_round : Plan → ℕ → List Entry → List Entry
+until_round p round [] = []
+until_round p round (e ∷ es) = if is_before round (at_number (commands_of p) e.command) then e ∷ until_round p round es else []
+
+-- the host at the start of this round: right before that entry
+abbrev pub host_at_round : World → ℕ → Host
+host_at_round w round = after w.plan.pods.opening (until_round w.plan round w.history)
