@@ -114,7 +114,7 @@ no-lead c es (Skipped skip) verb none h = h
 no-lead c es Versions verb none h = h
 no-lead c es (Refused cause) verb none h = let f = h.first in split_nil f.granted f.later f.by (sym none ∙ f.are)
 
-first-call : (list : NetList) (c : Command) (es : List Entry) (st : State) (s : Share) (call : Call) → c.verb ≡ verbs.Add → es ≡ [] → turn c st ≡ Calls call → Undoing list c es st s → call ≡ Begin (att_of c) c.netns
+pub first-call : (list : NetList) (c : Command) (es : List Entry) (st : State) (s : Share) (call : Call) → c.verb ≡ verbs.Add → es ≡ [] → turn c st ≡ Calls call → Undoing list c es st s → call ≡ Begin (att_of c) c.netns
 unfolding turn
 first-call list c es AtBegin s call verb none is was = cc
 first-call list c es (BeforeLeases x xs) s call verb none is was = absurd (was.begun none)
@@ -141,7 +141,7 @@ later-call list c es _ s att call verb some left is was = absurd (subst IsOtherV
 
 -- ---- while an ADD goes on, the last Begin is its own
 
-granted-done : (r : Reply) → IsPlanReply r → is_granted r ≡ true → is_done r ≡ true
+pub granted-done : (r : Reply) → IsPlanReply r → is_granted r ≡ true → is_done r ≡ true
 granted-done Done may h = refl
 granted-done (Leased addr) may h = absurd may
 granted-done _ may h = cc

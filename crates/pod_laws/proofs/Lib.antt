@@ -19,8 +19,10 @@ pub mod DistinctLeases
 pub mod Due
 pub mod EachEntry
 pub mod Entries
+pub mod FirstEntries
 pub mod Footing
 pub mod Fronts
+pub mod InTurn
 pub mod LastAddresses
 pub mod NextRounds
 pub mod OfAnswers

@@ -1,43 +1,59 @@
--- An attachment that is gone stays gone until an ADD of it makes a call: any other entry leaves it, or only removes.
-use Rattle.std.proofs.Common.{◌≡◌, ◌≢◌, ℕ, ◌+◌, Bool, true, false, List, [], ◌∷◌, ◌++◌, refl, sym, ◌∙◌, ap, subst, inl, inr, append_assoc}
-use Rattle.std.proofs.lemmas.Bool.{cases_Bool}
+-- An attachment that is gone stays gone until a call of an ADD of it is granted after its Begin: any other entry leaves
+-- it, or only removes.
+use Rattle.std.proofs.Common.{◌≡◌, ◌≢◌, ℕ, ◌+◌, Bool, true, false, not, List, [], ◌∷◌, ◌++◌, Some, slice_get, refl, sym, ◌∙◌, ap, subst, inl, inr, ◌⊎◌, append_assoc}
+use Rattle.std.proofs.lemmas.Bool.{and_from, and_parts, both_ways, cases_Bool, false_from_ne_true, not-true, or_parts}
 use Rattle.std.proofs.lemmas.List.{append-nil}
-use Rattle.std.specs.Prelude.{if◌then◌else◌}
+use Rattle.std.proofs.lemmas.List.Elements.{filter-append}
+use Rattle.std.proofs.lemmas.List.Folds.{list_all-append}
+use Rattle.std.proofs.lemmas.Option.{same_Some}
+use Rattle.std.specs.Prelude.{◌||◌}
+use Rattle.std.specs.List.{list_all, list_any}
 use Rattle.net_conf.specs.declared.list.NetList.{NetList}
 use Rattle.pod_file.specs.declared.command.Command.{Command}
+use Rattle.pod_file.specs.declared.command.Verb.{Verb}
 use Rattle.pod_file.specs.declared.command.Verb.TheVariants as verbs
 use Rattle.kernel_types.specs.Apply.{apply}
 use Rattle.kernel_types.specs.Equal.{att_eq}
 use Rattle.kernel_types.specs.Sound.{IsSound}
+use Rattle.kernel_types.proofs.Cases.{att_eq-refl}
 use Rattle.kernel_types.proofs.Isolation.{att_eq-same}
 use Rattle.kernel_types.specs.declared.object.Att.{Att}
 use Rattle.kernel_types.specs.declared.object.Host.{Host}
 use Rattle.kernel_types.specs.declared.call.Call.{Call}
-use Rattle.kernel_types.specs.declared.call.Call.TheVariants.{CacheGet}
+use Rattle.kernel_types.specs.declared.call.Call.TheVariants.{Begin, LeaseNext, LinkDel, RuleDel, SettingDel, LeaseDel, CacheDel, HasObj, CacheGet, OwnersOf, PoolFree, NsChange, Outside}
+use Rattle.kernel_types.specs.declared.call.Kind.TheVariants as kinds
+use Rattle.plan_words.specs.PlanCalls.{is_call_of}
 use Rattle.plan_words.specs.Share.{Share, share_of, no_objects}
+use Rattle.plan_words.proofs.Refusals.{refused-same, refused-lease}
 use Rattle.cni_verbs.specs.CommandWords.{att_of}
 use Rattle.cni_verbs.specs.Script.{State, AtBegin, BeforeLeases, Leasing, AfterLeases, ReadingCache, Deleting, FindingEntry, Asking, Changing, Collecting, Over, Calls, turn}
 use Rattle.cni_verbs.specs.Wanted.{deletion}
 use Rattle.cni_verbs.specs.declared.answer.Answer.TheVariants as answers
 use Rattle.pod_workers.specs.Legal.{Legal}
-use Rattle.pod_workers.specs.Plans.{Placed}
+use Rattle.pod_workers.specs.Plans.{Placed, commands_of}
 use Rattle.pod_workers.specs.World.{World, entry_of, host_of, host_on}
 use Rattle.pod_workers.specs.declared.plan.Entry.{Entry}
 use Rattle.pod_workers.specs.declared.plan.Plan.{Plan}
 use Rattle.pod_workers.proofs.Sound.{sound_host}
+use Rattle.pod_workers.proofs.Splits.{cons_parts}
+use Rattle.pod_laws.specs.AskedFor.{begins, is_begin_of, is_done}
 use Rattle.pod_laws.specs.Moments.{is_of, own_entries, until_last}
 use Rattle.pod_laws.specs.Single.{EachEntry}
-use Rattle.pod_laws.specs.Repeated.{GoneStaysGone, IsGone, IsWithoutAdd, RepeatedDeletionsLeave}
+use Rattle.pod_laws.specs.Refused.{is_granted, lets_go_on}
+use Rattle.pod_laws.specs.Repeated.{GoneStaysGone, IsGone, IsWithoutMaking, RepeatedDeletionsLeave, makes_nothing}
 use Rattle.pod_laws.proofs.DeletedEntries.{each_deletion_is_own}
 use Rattle.pod_laws.proofs.EachEntry.{DoesNow, DoesOutside, each-entry}
 use Rattle.pod_laws.proofs.Entries.{is_of-own, own_entries-own}
+use Rattle.pod_laws.proofs.FirstEntries.{BeginsFirst, begins_first}
+use Rattle.pod_laws.proofs.InTurn.{in_turn}
 use Rattle.pod_laws.proofs.OfAnswers.{was_deleted}
 use Rattle.pod_laws.proofs.OfKinds.{share-removes_none}
 use Rattle.pod_laws.proofs.Removes.{OnlyRemoves, removes-deletion, removes-nothing}
 use Rattle.pod_laws.proofs.Runs.{every-run-now, own-state}
-use Rattle.pod_laws.proofs.States.{LeftFit, is_question, question-leaves, asked-is_question}
+use Rattle.pod_laws.proofs.States.{LeftFit, is_question, not-both, question-leaves, asked-is_question}
 use Rattle.pod_laws.proofs.Steps.{GoesOn, on-entry}
-use Rattle.pod_laws.proofs.Turns.{AsksOrCollects, other-entered, removes-changed, work-turn}
+use Rattle.pod_laws.proofs.Tests.{any-filtered}
+use Rattle.pod_laws.proofs.Turns.{AsksOrCollects, IsTurnOf, other-entered, removes-changed, turn-of, work-turn}
 use Rattle.pod_laws.proofs.Undoing.{Undoing, undone-start, undone-step}
 
 -- ---- an entry of another verb than ADD only removes
@@ -73,27 +89,76 @@ removes-entered w n c list call faulty on not =
     (λ f. turn-removes list c.command (own_entries n w.history) _ (share_of (att_of c.command) (host_of w)) (host_of w) call not (sound_host w on.legal) own.fits own.turn_is
     (every-run-now Undoing undone-start undone-step w n c list call faulty on))
 
+-- ---- an entry of an ADD that makes nothing only removes
+
+removes-begin : (att : Att) (k : Host) (call : Call) → is_begin_of att call ≡ true → RemovesBy k call
+removes-begin att k (Begin a netns) is = removes-nothing k
+removes-begin att k _ is = cc
+
+removes-refused : (att : Att) (k : Host) (call : Call) → IsSound k → is_call_of att call ≡ true → is_granted (apply k call).1 ≡ false → RemovesBy k call
+removes-refused att k (Begin a netns) sound own not = removes-nothing k
+removes-refused att k (LeaseNext a number set) sound own not =
+    subst (OnlyRemoves k) (sym (refused-lease k a number set (λ addr is. let e : true ≡ false = ap is_granted (sym is) ∙ not in cc))) (removes-nothing k)
+removes-refused att k (LinkDel a) sound own not = removes-deletion a k kinds.Links sound
+removes-refused att k (RuleDel a) sound own not = removes-deletion a k kinds.Rules sound
+removes-refused att k (SettingDel a) sound own not = removes-deletion a k kinds.Settings sound
+removes-refused att k (LeaseDel a) sound own not = removes-deletion a k kinds.Leases sound
+removes-refused att k (CacheDel a) sound own not = removes-deletion a k kinds.Cached sound
+removes-refused att k (CacheGet a) sound own not = removes-nothing k
+removes-refused att k (HasObj probe) sound own not = cc
+removes-refused att k (OwnersOf network kind) sound own not = cc
+removes-refused att k (PoolFree network set) sound own not = cc
+removes-refused att k (NsChange name add) sound own not = cc
+removes-refused att k (Outside change) sound own not = cc
+removes-refused att k call sound own not =
+    subst (OnlyRemoves k) (sym (refused-same att k call own (λ is. let e : true ≡ false = ap is_granted (sym is) ∙ not in cc))) (removes-nothing k)
+
+removes-turn : (c : Command) (k : Host) (call : Call) → IsSound k → IsTurnOf c call → is_granted (apply k call).1 ≡ false → RemovesBy k call
+removes-turn c k call sound (inl own) not = removes-refused (att_of c) k call sound own not
+removes-turn c k call sound (inr aside) not = removes-aside c k call sound aside
+
+quiet-removes : (att : Att) (c : Command) (k : Host) (n : ℕ) (call : Call) → IsSound k → IsTurnOf c call → makes_nothing att (entry_of k n call false) ≡ true → RemovesBy k call
+quiet-removes att c k n call sound turn quiet = elim (cases_Bool (is_begin_of att call)) [
+  | inl begin ↦ removes-begin att k call begin
+  | inr later ↦
+      let g : Bool = is_granted (apply k call).1 in
+      removes-turn c k call sound turn (not-true g (ap (λ b. b || not g) (sym later) ∙ quiet))
+]
+
+quiet-entered : (w : World) (n : ℕ) (c : Placed) (list : NetList) (call : Call) (faulty : Bool) (att : Att) → GoesOn w n c list call faulty → makes_nothing att (entry_of (host_of w) n call faulty) ≡ true
+    → OnlyRemoves (host_of w) (host_on (host_of w) (entry_of (host_of w) n call faulty))
+quiet-entered w n c list call faulty att on quiet =
+    on-entry (OnlyRemoves (host_of w)) (host_of w) n call faulty (removes-nothing (host_of w))
+    (λ f. quiet-removes att c.command (host_of w) n call (sound_host w on.legal) (turn-of w n c list call faulty on) (ap (λ b. makes_nothing att (entry_of (host_of w) n call b)) (sym f) ∙ quiet))
+
 -- ---- one entry
 
-own-there : (n : ℕ) (e : Entry) → e.command ≡ n + 1 → own_entries n (e ∷ []) ≡ [] → ⊥
-own-there n e is none = let there : e ∷ [] ≡ [] = sym (own_entries-own n [] e (is_of-own n e is)) ∙ none in cc
+own-passes : (p : Entry → Bool) (n : ℕ) (e : Entry) → e.command ≡ n + 1 → list_all p (own_entries n (e ∷ [])) ≡ true → p e ≡ true
+own-passes p n e is all = (and_parts (p e) true (ap (list_all p) (sym (own_entries-own n [] e (is_of-own n e is))) ∙ all)).0
+
+add-or-not : (v : Verb) → (v ≡ verbs.Add) ⊎ (v ≢ verbs.Add)
+add-or-not verbs.Add = inl refl
+add-or-not _ = inr (λ e. cc)
 
 not-adding : (c : Command) → c.verb ≡ verbs.Gc → c.verb ≢ verbs.Add
 not-adding c gc = λ add. let e : verbs.Add ≡ verbs.Gc = sym add ∙ gc in cc
 
--- an attachment that has nothing has nothing after the entry, unless it is of an ADD of it
+-- an attachment that has nothing has nothing after the entry, unless an ADD of it may make something by it
 abbrev StaysGone : Plan → Entry → Host → Host → Type 0
-StaysGone p e old new = (att : Att) → IsWithoutAdd p att (e ∷ []) → share_of att old ≡ no_objects → share_of att new ≡ no_objects
+StaysGone p e old new = (att : Att) → IsWithoutMaking p att (e ∷ []) → share_of att old ≡ no_objects → share_of att new ≡ no_objects
 
 gone-now : DoesNow StaysGone
 gone-now w n c list call faulty on = λ att without gone.
     let k = host_of w in
     let x = entry_of k n call faulty in
-    let removed : c.command.verb ≢ verbs.Add → share_of att (host_on k x) ≡ no_objects = λ not. share-removes_none att k (host_on k x) (removes-entered w n c list call faulty on not) gone in
+    let stays : OnlyRemoves k (host_on k x) → share_of att (host_on k x) ≡ no_objects = λ removes. share-removes_none att k (host_on k x) removes gone in
     elim (cases_Bool (att_eq (att_of c.command) att)) [
-      | inl same ↦ removed (λ add. own-there n x refl (without n c on.ready.there add (att_eq-same (att_of c.command) att same)))
+      | inl same ↦ elim (add-or-not c.command.verb) [
+        | inl add ↦ stays (quiet-entered w n c list call faulty att on (own-passes (makes_nothing att) n x refl (without n c on.ready.there add (att_eq-same (att_of c.command) att same))))
+        | inr not ↦ stays (removes-entered w n c list call faulty on not)
+      ]
       | inr differ ↦ elim (other-entered w n c list call faulty att on differ) [
-        | inl gc ↦ removed (not-adding c.command gc)
+        | inl gc ↦ stays (removes-entered w n c list call faulty on (not-adding c.command gc))
         | inr kept ↦ kept ∙ gone
       ]
     ]
@@ -106,29 +171,66 @@ each-stays = each-entry StaysGone gone-now gone-outside
 
 -- ---- entry by entry
 
-parts-by : (b : Bool) (e : Entry) (xs : List Entry) → (if b then e ∷ xs else xs) ≡ [] → ((if b then e ∷ [] else []) ≡ []) × (xs ≡ [])
-parts-by true e xs h = cc
-parts-by false e xs h = (refl, h)
+all-parts : (p : Entry → Bool) (n : ℕ) (e : Entry) (es : List Entry) → list_all p (own_entries n (e ∷ es)) ≡ true → (list_all p (own_entries n (e ∷ [])) ≡ true) × (list_all p (own_entries n es) ≡ true)
+all-parts p n e es all =
+    and_parts (list_all p (own_entries n (e ∷ []))) (list_all p (own_entries n es))
+    (sym (list_all-append p (own_entries n (e ∷ [])) (own_entries n es)) ∙ ap (list_all p) (sym (filter-append (is_of n) (e ∷ []) es)) ∙ all)
 
-none-parts : (n : ℕ) (e : Entry) (es : List Entry) → own_entries n (e ∷ es) ≡ [] → (own_entries n (e ∷ []) ≡ []) × (own_entries n es ≡ [])
-none-parts n e es h = parts-by (is_of n e) e (own_entries n es) h
-
-stays-through : (w : World) → Legal w → (att : Att) (before between later : List Entry) → w.history ≡ before ++ between ++ later → IsWithoutAdd w.plan att between → IsGone w.plan att before → IsGone w.plan att (before ++ between)
+stays-through : (w : World) → Legal w → (att : Att) (before between later : List Entry) → w.history ≡ before ++ between ++ later → IsWithoutMaking w.plan att between → IsGone w.plan att before → IsGone w.plan att (before ++ between)
 stays-through w legal att before [] later is without gone = subst (IsGone w.plan att) (sym (append-nil before)) gone
 stays-through w legal att before (e ∷ es) later is without gone =
     let more = append_assoc before (e ∷ []) es in
-    let one = each-stays w legal before (es ++ later) e (is ∙ append_assoc before (e ∷ es) later) att (λ n c at add same. (none-parts n e es (without n c at add same)).0) gone in
-    subst (IsGone w.plan att) more (stays-through w legal att (before ++ e ∷ []) es later (is ∙ ap (λ h. h ++ later) (sym more)) (λ n c at add same. (none-parts n e es (without n c at add same)).1) one)
+    let one = each-stays w legal before (es ++ later) e (is ∙ append_assoc before (e ∷ es) later) att (λ n c at add same. (all-parts (makes_nothing att) n e es (without n c at add same)).0) gone in
+    subst (IsGone w.plan att) more (stays-through w legal att (before ++ e ∷ []) es later (is ∙ ap (λ h. h ++ later) (sym more)) (λ n c at add same. (all-parts (makes_nothing att) n e es (without n c at add same)).1) one)
 
 pub gone_stays_gone : GoneStaysGone
 gone_stays_gone w legal att before between later is without gone = stays-through w legal att before between later is without gone
 
+-- ---- after a DEL no ADD makes anything until one has begun
+
+tail-none : (xs ys : List Entry) → xs ++ ys ≡ xs → ys ≡ []
+tail-none [] ys e = e
+tail-none (x ∷ xs) ys e = tail-none xs ys (cons_parts x x (xs ++ ys) xs e).1
+
+front-none : (xs ys : List Entry) → xs ++ ys ≡ [] → xs ≡ []
+front-none [] ys e = refl
+front-none (x ∷ xs) ys e = cc
+
+unbegun-quiet : (c : Command) (att : Att) (es rest : List Entry) → att_of c ≡ att → BeginsFirst c (es ++ rest) → list_any (begins att) es ≡ false → list_all (makes_nothing att) es ≡ true
+unbegun-quiet c att [] rest same first none = refl
+unbegun-quiet c att (e ∷ es) rest same first none =
+    let begin : is_begin_of att e.call ≡ true = ap (is_begin_of att) first.0 ∙ ap (λ a. att_eq a att) same ∙ att_eq-refl att in
+    elim first.2 [
+      | inl done ↦ absurd (let e : true ≡ false = sym (and_from (is_begin_of att e.call) (is_done e.reply) begin done) ∙ (or_parts (begins att e) (list_any (begins att) es) none).0 in cc)
+      | inr alone ↦ and_from (makes_nothing att e) (list_all (makes_nothing att) es) (ap (λ b. b || not (lets_go_on e)) begin) (ap (list_all (makes_nothing att)) (front-none es rest alone))
+    ]
+
+unbegun : (w : World) → Legal w → (n : ℕ) (c : Placed) (between later : List Entry) → slice_get (commands_of w.plan) n ≡ Some c → c.command.verb ≡ verbs.Del → w.history ≡ until_last n w.history ++ between ++ later
+    → list_any (begins (att_of c.command)) between ≡ false → IsWithoutMaking w.plan (att_of c.command) between
+unbegun w legal n c between later at del is none = λ m d there add same.
+    let att = att_of c.command in
+    let past = until_last n w.history in
+    let far : n ≢ m = λ place.
+    let one : d ≡ c = same_Some d c (sym there ∙ ap (slice_get (commands_of w.plan)) (sym place) ∙ at) in
+    not-both c.command (ap (λ (x : Placed). x.command.verb) (sym one) ∙ add) del in
+    let split : own_entries m w.history ≡ own_entries m past ++ own_entries m between ++ own_entries m later =
+    ap (own_entries m) is ∙ filter-append (is_of m) (past ++ between) later ∙ ap (λ l. l ++ own_entries m later) (filter-append (is_of m) past between) in
+    elim (in_turn w legal n m c d at there far (ap (λ (a : Att). a.container) same)) [
+      | inl before ↦
+          let first : BeginsFirst d.command (own_entries m between ++ own_entries m later) = subst (BeginsFirst d.command) (split ∙ ap (λ l. l ++ own_entries m between ++ own_entries m later) before) (begins_first w legal m d there add) in
+          unbegun-quiet d.command att (own_entries m between) (own_entries m later) same first (false_from_ne_true (list_any (begins att) (own_entries m between)) (λ some. both_ways _ none (any-filtered (begins att) (is_of m) between some)))
+      | inr all ↦
+          let after : own_entries m between ++ own_entries m later ≡ [] =
+          tail-none (own_entries m past) (own_entries m between ++ own_entries m later) (sym (append_assoc (own_entries m past) (own_entries m between) (own_entries m later)) ∙ sym split ∙ all) in
+          ap (list_all (makes_nothing att)) (front-none (own_entries m between) (own_entries m later) after)
+    ]
+
 -- ---- a DEL that is repeated
 
 pub repeated_deletions_leave : RepeatedDeletionsLeave
-repeated_deletions_leave w legal n m c d between later e at verb answer there again same number is without =
+repeated_deletions_leave w legal n m c d between later e at verb answer there again same number is none =
     let past = until_last n w.history in
     let gone : IsGone w.plan (att_of c.command) past = (was_deleted w legal n c answers.Yes at verb answer refl).gone in
-    let still : IsGone w.plan (att_of c.command) (past ++ between) = gone_stays_gone w legal (att_of c.command) past between (e ∷ later) is without gone in
+    let still : IsGone w.plan (att_of c.command) (past ++ between) = gone_stays_gone w legal (att_of c.command) past between (e ∷ later) is (unbegun w legal n c between (e ∷ later) at verb is none) gone in
     let own = each_deletion_is_own w legal (past ++ between) later e is m d there number again in
     own.repeated (subst (λ a. IsGone w.plan a (past ++ between)) (sym same) still)

@@ -75,7 +75,7 @@ pub fn a_deletion_removes_own_objects()
 {}
 
 /// After a DEL that was answered without an error, each entry of a later DEL of its attachment leaves the host as it
-/// is, until an ADD of that attachment makes a call.
+/// is, until an ADD of that attachment has begun.
 pub fn a_repeated_deletion_leaves_the_host()
     ensures { RepeatedDeletionsLeave }
 {}
@@ -121,8 +121,8 @@ pub fn nothing_is_unasked()
     ensures { NothingIsUnasked }
 {}
 
-/// An attachment that has nothing at some moment has nothing until an ADD of that attachment makes a call, whatever
-/// other commands and the world outside do.
+/// An attachment that has nothing at some moment has nothing until a call of an ADD of that attachment is granted after
+/// its Begin, whatever other commands and the world outside do.
 pub fn a_gone_attachment_stays_gone()
     ensures { GoneStaysGone }
 {}
