@@ -42,18 +42,11 @@ grows-more xs ys = (ys, refl)
 grows-on : {X : Type 0} (xs ys zs : List X) → GrowsAtEnd xs ys → GrowsAtEnd ys zs → GrowsAtEnd xs zs
 grows-on xs ys zs h g = (h.0 ++ g.0, g.1 ∙ ap (λ l. l ++ g.0) h.1 ∙ append_assoc xs h.0 g.0)
 
-among-left : {X : Type 0} (x : X) (xs ys : List X) → IsAmong x xs → IsAmong x (xs ++ ys)
-among-left x [] ys h = absurd h
-among-left x (z ∷ zs) ys h = elim h [ inl e ↦ inl e | inr more ↦ inr (among-left x zs ys more) ]
-
 among-right : {X : Type 0} (x : X) (xs ys : List X) → IsAmong x ys → IsAmong x (xs ++ ys)
 among-right x [] ys h = h
 among-right x (z ∷ zs) ys h = inr (among-right x zs ys h)
 
-pub are-left : {X : Type 0} (all xs ys : List X) → AreAmong all xs → AreAmong all (xs ++ ys)
-are-left all xs ys h = everywhere (λ x. IsAmong x xs) (λ x. IsAmong x (xs ++ ys)) all (λ x. among-left x xs ys) h
-
-pub are-right : {X : Type 0} (all xs ys : List X) → AreAmong all ys → AreAmong all (xs ++ ys)
+are-right : {X : Type 0} (all xs ys : List X) → AreAmong all ys → AreAmong all (xs ++ ys)
 are-right all xs ys h = everywhere (λ x. IsAmong x ys) (λ x. IsAmong x (xs ++ ys)) all (λ x. among-right x xs ys) h
 
 among-append : {X : Type 0} (xs rest : List X) → AreAmong xs (xs ++ rest)

@@ -1,8 +1,11 @@
--- Where `tuning` comes at most once, each link of an attachment is a wanted one, or one as it was before `tuning`.
-use Rattle.std.proofs.Common.{◌≡◌, ℕ, Bool, true, false, not, List, [], ◌∷◌, ◌++◌, map, refl, sym, ◌∙◌, ap, subst, inl, inr, ◌⊎◌, arith}
+-- Where `tuning` comes at most once, as in each list of a plan, the links of an attachment are all as they were made, or
+-- all as they are wanted.
+use Rattle.std.proofs.Common.{◌≡◌, ℕ, Bool, true, false, not, List, [], ◌∷◌, ◌++◌, map, Some, refl, sym, ◌∙◌, ap, subst, inl, inr, ◌⊎◌, arith}
 use Rattle.std.specs.Prelude.{◌||◌, if◌then◌else◌}
-use Rattle.std.specs.List.{list_any, list_all}
-use Rattle.std.proofs.lemmas.Bool.{not-true}
+use Rattle.std.specs.List.{All, AllByRecursion, IsDistinct, list_any, list_all}
+use Rattle.std.specs.Str.{bytes_eq}
+use Rattle.std.proofs.lemmas.Bool.{and_from, not-true}
+use Rattle.std.proofs.lemmas.List.Elements.{All-head, All-tail}
 use Rattle.cni_addr.specs.declared.address.Addr.{Addr}
 use Rattle.cni_result.specs.declared.cached.PortMapping.{PortMapping}
 use Rattle.cni_result.specs.declared.result.AddResult.{AddResult}
@@ -11,7 +14,12 @@ use Rattle.net_conf.specs.declared.first.First.{First}
 use Rattle.net_conf.specs.declared.chained.Chained.{Chained}
 use Rattle.net_conf.specs.declared.chained.Chained.TheVariants.{Portmap, Firewall, Tuning}
 use Rattle.net_conf.specs.declared.list.NetList.{NetList}
-use Rattle.kernel_types.proofs.ListLemmas.{list_any-append_none}
+use Rattle.net_conf.specs.declared.plugin_type.PluginType.TheVariants as plugin
+use Rattle.net_conf.specs.PluginTypes.{type_eq, type_of_chained}
+use Rattle.net_conf.specs.WellFormed.{IsWellFormedList}
+use Rattle.pod_file.specs.Commands.{is_of_network}
+use Rattle.pod_file.specs.declared.command.Command.{Command}
+use Rattle.kernel_types.proofs.ListLemmas.{list_any-append_none, passes-list_all}
 use Rattle.kernel_types.specs.declared.object.Att.{Att}
 use Rattle.kernel_types.specs.declared.call.Call.{Call}
 use Rattle.kernel_types.specs.declared.call.Call.TheVariants.{VethAdd, MacvlanAdd, LinkSet, RuleAppend, SettingSet, CachePut}
@@ -23,11 +31,14 @@ use Rattle.firewall_tuning.specs.Firewall.{firewall_rules}
 use Rattle.firewall_tuning.specs.Tuning.{tuning_settings, sets_any, link_set_calls}
 use Rattle.cni_verbs.specs.CommandWords.{att_of, mappings_of}
 use Rattle.cni_verbs.specs.Wanted.{calls_after, chained_calls, all_chained_calls, chained_result, back_calls, given_by_list, first_plugin_result, cached_of, untuned, wanted}
+use Rattle.pod_workers.specs.Plans.{IsWellFormed, list_for, list_named}
+use Rattle.pod_workers.specs.declared.plan.Plan.{Plan}
 use Rattle.pod_workers.proofs.BackCalls.{PassesFirst, passes-after}
-use Rattle.pod_laws.specs.AskedFor.{AreAmong, links_after_part, is_tuning, at_most_one, EachLinkIsWanted}
+use Rattle.pod_workers.proofs.Sound.{fine, if-listed, list_for-found}
+use Rattle.pod_laws.specs.AskedFor.{AreAmong, links_after_part, is_tuning, at_most_one, EachLinkIsWanted, LinksAreMadeOrWanted}
 use Rattle.pod_laws.proofs.Achieved.{with_leases}
 use Rattle.pod_laws.proofs.Tests.{none-by}
-use Rattle.pod_laws.proofs.Fronts.{are-left, are-right, links-calls, untuned-links}
+use Rattle.pod_laws.proofs.Fronts.{links-calls, untuned-links}
 use Rattle.cni_verbs.proofs.WantedShare.{makes-wanted}
 
 -- ---- calls that change links
@@ -172,9 +183,39 @@ each_link_is_wanted list c given links once a =
     links-calls start (with_leases list c given) (back_calls list att c.netns mappings given) (sym (untuned-links list c given)) ∙ ap (λ (s : Share). s.links) (makes-wanted list att c.netns mappings given) in
     let parts : change_once (a.made ++ a.left) ≡ true = ap change_once (sym a.part) ∙ once-back list att c.netns mappings given once in
     elim (one-side a.made a.left parts) [
-      | inl none ↦ are-right links (wanted list att c.netns mappings given).links (untuned list att c.netns) (subst (AreAmong links) (links-none start a.made none) a.among)
+      | inl none ↦ inl (subst (AreAmong links) (links-none start a.made none) a.among)
       | inr none ↦
           let whole : links_after_part list c a.made ≡ (wanted list att c.netns mappings given).links =
           sym (links-none (share_after_calls start a.made) a.left none) ∙ ap (λ (s : Share). s.links) (sym (share_after_calls-append start a.made a.left)) ∙ ap (λ l. (share_after_calls start l).links) (sym a.part) ∙ all in
-          are-left links (wanted list att c.netns mappings given).links (untuned list att c.netns) (subst (AreAmong links) whole a.among)
+          inr (subst (AreAmong links) whole a.among)
     ]
+
+-- ---- a well formed list has `tuning` at most once
+
+none-tunes : (cs : List Chained) → AllByRecursion (λ type. type_eq plugin.Tuning type ≡ false) (map type_of_chained cs) → list_any is_tuning cs ≡ false
+none-tunes [] h = refl
+none-tunes (Portmap conf ∷ cs) h = none-tunes cs h.1
+none-tunes (Firewall conf ∷ cs) h = none-tunes cs h.1
+none-tunes (Tuning conf ∷ cs) h = absurd (let e : true ≡ false = h.0 in cc)
+
+types-tune_once : (cs : List Chained) → IsDistinct type_eq (map type_of_chained cs) → at_most_one is_tuning cs ≡ true
+unfolding IsDistinct
+types-tune_once [] h = refl
+types-tune_once (Portmap conf ∷ cs) h = types-tune_once cs h.1
+types-tune_once (Firewall conf ∷ cs) h = types-tune_once cs h.1
+types-tune_once (Tuning conf ∷ cs) h = ap not (none-tunes cs h.0)
+
+-- ---- so has each list of a plan
+
+lists-tune_once : (lists : List NetList) → All IsWellFormedList lists → list_all (λ l. at_most_one is_tuning l.chained) lists ≡ true
+lists-tune_once [] all = refl
+lists-tune_once (l ∷ ls) all =
+    and_from (at_most_one is_tuning l.chained) (list_all (λ x. at_most_one is_tuning x.chained) ls) (types-tune_once l.chained (All-head IsWellFormedList l ls all).types_once) (lists-tune_once ls (All-tail IsWellFormedList l ls all))
+
+listed-tunes_once : (p : Plan) (c : Command) (list : NetList) → IsWellFormed p → list_for p c ≡ Some list → at_most_one is_tuning list.chained ≡ true
+listed-tunes_once p c list well listed =
+    passes-list_all (λ l. at_most_one is_tuning l.chained) (λ l. bytes_eq l.name c.network) p.lists list (lists-tune_once p.lists well.lists)
+    (if-listed (is_of_network c.verb) (list_named p.lists c.network) list (list_for-found p c ∙ listed))
+
+pub links_are_made_or_wanted : LinksAreMadeOrWanted
+links_are_made_or_wanted w legal att a = each_link_is_wanted a.list a.by.command _ _ (listed-tunes_once w.plan a.by.command a.list (fine w legal).plan a.listed) a.objects.links

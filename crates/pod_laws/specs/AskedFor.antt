@@ -94,7 +94,7 @@ HasNothingUnasked p h att = (share_of att (after p.pods.opening h) ≡ no_object
 abbrev pub NothingIsUnasked : Type 0
 NothingIsUnasked = (w : World) → Legal w → (att : Att) → HasNothingUnasked w.plan w.history att
 
--- ---- links, where `tuning` comes at most once in the list: `types_once` of a well formed list says so of each type
+-- ---- links
 
 abbrev pub is_tuning : Chained → Bool
 is_tuning (Portmap conf) = false
@@ -105,7 +105,15 @@ abbrev pub at_most_one : {X : Type 0} → (X → Bool) → List X → Bool
 at_most_one test [] = true
 at_most_one test (x ∷ xs) = if test x then not (list_any test xs) else at_most_one test xs
 
--- each link is a wanted one, or one as it was before `tuning` set its values
+-- all are as they were made, or all are as they are wanted: with the values of `tuning`
+abbrev pub AreMadeOrWanted : NetList → Command → List Addr → List Link → Type 0
+AreMadeOrWanted list c given links = AreAmong links (untuned list (att_of c) c.netns) ⊎ AreAmong links (wanted list (att_of c) c.netns (mappings_of list c) given).links
+
+-- so it is with the links of an ADD where `tuning` comes at most once in its list
 abbrev pub EachLinkIsWanted : Type 0
-EachLinkIsWanted = (list : NetList) (c : Command) (given : List Addr) (links : List Link) → at_most_one is_tuning list.chained ≡ true → AreLinksOf list c given links
-    → AreAmong links ((wanted list (att_of c) c.netns (mappings_of list c) given).links ++ untuned list (att_of c) c.netns)
+EachLinkIsWanted = (list : NetList) (c : Command) (given : List Addr) (links : List Link) → at_most_one is_tuning list.chained ≡ true → AreLinksOf list c given links → AreMadeOrWanted list c given links
+
+-- and with those of every attachment at every moment, since in each list of a plan it comes at most once
+abbrev pub LinksAreMadeOrWanted : Type 0
+LinksAreMadeOrWanted = (w : World) → Legal w → (att : Att) (a : IsAskedFor w.plan w.history att)
+    → AreMadeOrWanted a.list a.by.command (leases_in (replies_of a.place w.history)) (share_of att (after w.plan.pods.opening w.history)).links

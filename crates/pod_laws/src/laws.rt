@@ -4,7 +4,7 @@
 
 ghost use Rattle.pod_laws.specs.Added.{WasAdded};
 ghost use Rattle.pod_laws.specs.Apart.{EachCollectionTakesTheStaleAlone, EachEntryKeepsTheRest, EachEntryLeavesOthers};
-ghost use Rattle.pod_laws.specs.AskedFor.{EachLinkIsWanted, NothingIsUnasked};
+ghost use Rattle.pod_laws.specs.AskedFor.{EachLinkIsWanted, LinksAreMadeOrWanted, NothingIsUnasked};
 ghost use Rattle.pod_laws.specs.Available.{WasAvailable};
 ghost use Rattle.pod_laws.specs.Bounded.{EachAddHasMost, EachChangeIsOneCall, EachRunIsBounded};
 ghost use Rattle.pod_laws.specs.Changed.{ChangesAreAnswered, VersionsAreTheLists};
@@ -127,10 +127,15 @@ pub fn a_gone_attachment_stays_gone()
     ensures { GoneStaysGone }
 {}
 
-/// Where a list has `tuning` at most once, as every list that is read, each link that an ADD asks for is a wanted one,
-/// or the container's end as it was before `tuning`.
+/// Where a list has `tuning` at most once, the links that an ADD asks for at a moment are all as they were made, or all
+/// as they are wanted, with the values of `tuning`.
 pub fn each_link_is_wanted()
     ensures { EachLinkIsWanted }
+{}
+
+/// So are the links of every attachment at every moment: each list of a plan has `tuning` at most once.
+pub fn links_are_as_made_or_as_wanted()
+    ensures { LinksAreMadeOrWanted }
 {}
 
 /// Each entry of an ADD, a DEL, a CHECK, a STATUS or a VERSION leaves the objects of every other attachment as they are,

@@ -31,5 +31,6 @@ pub use laws::{
     each_entry_keeps_the_rest, each_entry_leaves_others, each_last_is_a_candidate,
     each_link_is_wanted, each_question_leaves_the_host, each_run_is_bounded,
     each_version_is_the_lists, every_add_is_answered, every_collection_is_answered,
-    every_collection_is_bounded, every_del_is_answered, nothing_is_unasked,
+    every_collection_is_bounded, every_del_is_answered, links_are_as_made_or_as_wanted,
+    nothing_is_unasked,
 };
