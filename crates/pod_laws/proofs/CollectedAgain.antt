@@ -14,11 +14,11 @@ use Rattle.gc_sweep.specs.Sweep.{Bounds}
 use Rattle.gc_sweep.proofs.Kept.{host_of_parts}
 use Rattle.pod_file.specs.Commands.{is_of_network}
 use Rattle.pod_workers.specs.declared.plan.Entry.{Entry}
-use Rattle.pod_laws.specs.Collected.{CollectionsInARowKeep, CollectionsStartTheirRounds, IsClean, IsCollectionAnswer}
+use Rattle.pod_laws.specs.Collected.{CollectionsInARowKeep, CollectionsFillTheirRounds, IsClean, IsCollectionAnswer}
 use Rattle.pod_laws.specs.Moments.{host_at_end, host_at_round, host_at_start, own_entries}
 use Rattle.pod_laws.proofs.Collected.{collections_are_answered, collections_are_bounded}
 use Rattle.pod_laws.proofs.Entries.{none-or-some}
-use Rattle.pod_laws.proofs.NextRounds.{AreNext, next-host, start-after, start-round}
+use Rattle.pod_laws.proofs.AloneRounds.{end-round, start-after, start-round}
 use Rattle.pod_laws.proofs.Runs.{listed-network}
 
 -- ---- lists that lost elements
@@ -87,21 +87,21 @@ clean-of list c es old new (inr (inr (inl clean))) = clean
 clean-of list c es old new (inr (inr (inr (inl faulty)))) = absurd (let e = faulty.answer in cc)
 clean-of list c es old new (inr (inr (inr (inr cut)))) = absurd (let e : false ≡ true = cut in cc)
 
-pub collections_start_their_rounds : CollectionsStartTheirRounds
-collections_start_their_rounds w legal n c at gc some = start-round w legal n c at (ap is_exclusive_verb gc) some
+pub collections_fill_their_rounds : CollectionsFillTheirRounds
+collections_fill_their_rounds w legal n c at gc some = (start-round w legal n c at (ap is_exclusive_verb gc) some, end-round w legal n c at (ap is_exclusive_verb gc) some)
 
 pub collections_in_a_row_keep : CollectionsInARowKeep
 collections_in_a_row_keep w legal m n d c at_m at_n row answered =
     let found = listed-network w legal n c at_n (ap is_of_network row.second) in
     let clean = clean-of found.0 c.command (own_entries n w.history) (host_at_start w n) (host_at_end w n) (collections_are_answered w legal n c answers.Yes at_n row.second answered found.0 found.1) in
-    let next : AreNext d c = record { first = ap is_exclusive_verb row.first; second = ap is_exclusive_verb row.second; round = row.round } in
     let P : List ℕ → List ValidAtt → Type 0 = λ network valid. host_at_end w n ≡ keep network valid (host_at_start w n) in
     let ended : P d.command.network d.command.valid = subst (λ x. P x d.command.valid) (sym row.network) (subst (P c.command.network) (sym row.valid) clean.leaves) in
     let kept : Host → Host = keep d.command.network d.command.valid in
     let same : kept (host_at_start w n) ≡ kept (host_at_round w d.round) = elim (none-or-some (own_entries m w.history)) [
-      | inl none ↦ ap kept (start-after w legal m n d c at_m at_n next none clean.called)
+      | inl none ↦ ap kept (start-after w legal m n d c at_m at_n (ap is_exclusive_verb row.first) (ap is_exclusive_verb row.second) row.round none clean.called)
       | inr some ↦
-          ap kept (next-host w legal m n d c at_m at_n next some clean.called) ∙ kept-same d.command (host_at_start w m) (host_at_end w m) (collections_are_bounded w legal m d at_m row.first some)
-          ∙ ap kept (collections_start_their_rounds w legal m d at_m row.first some)
+          let first = collections_fill_their_rounds w legal m d at_m row.first some in
+          let second = collections_fill_their_rounds w legal n c at_n row.second clean.called in
+          ap kept (second.0 ∙ ap (host_at_round w) row.round ∙ sym first.1) ∙ kept-same d.command (host_at_start w m) (host_at_end w m) (collections_are_bounded w legal m d at_m row.first some) ∙ ap kept first.0
     ] in
     ended ∙ same

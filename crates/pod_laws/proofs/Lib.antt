@@ -1,4 +1,5 @@
 pub mod Achieved
+pub mod AloneRounds
 pub mod AloneRuns
 pub mod Asked
 pub mod Asking
@@ -24,7 +25,6 @@ pub mod Footing
 pub mod Fronts
 pub mod InTurn
 pub mod LastAddresses
-pub mod NextRounds
 pub mod OfAnswers
 pub mod OfKinds
 pub mod OtherEntries

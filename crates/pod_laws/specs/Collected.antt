@@ -73,10 +73,12 @@ CollectionsAreShort = (w : World) → Legal w → (n : ℕ) (c : Placed) (list :
     → slice_get (commands_of w.plan) n ≡ Some c → list_for w.plan c.command ≡ Some list → c.command.verb ≡ verbs.Gc → own_entries n w.history ≢ []
     → length (own_entries n w.history) ≤ most_of_collection list c.command (host_at_start w n)
 
--- each collection that made a call made the first one in the host at the start of its round
-abbrev pub CollectionsStartTheirRounds : Type 0
-CollectionsStartTheirRounds = (w : World) → Legal w → (n : ℕ) (c : Placed)
-    → slice_get (commands_of w.plan) n ≡ Some c → c.command.verb ≡ verbs.Gc → own_entries n w.history ≢ [] → host_at_start w n ≡ host_at_round w c.round
+-- each collection that made a call starts from the host at the start of its round, and ends in the one at the start of
+-- the next round
+abbrev pub CollectionsFillTheirRounds : Type 0
+CollectionsFillTheirRounds = (w : World) → Legal w → (n : ℕ) (c : Placed)
+    → slice_get (commands_of w.plan) n ≡ Some c → c.command.verb ≡ verbs.Gc → own_entries n w.history ≢ []
+    → (host_at_start w n ≡ host_at_round w c.round) × (host_at_end w n ≡ host_at_round w (c.round + 1))
 
 -- ---- one after another
 

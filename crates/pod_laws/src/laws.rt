@@ -9,7 +9,7 @@ ghost use Rattle.pod_laws.specs.Available.{WasAvailable};
 ghost use Rattle.pod_laws.specs.Bounded.{EachAddHasMost, EachChangeIsOneCall, EachRunIsBounded};
 ghost use Rattle.pod_laws.specs.Changed.{ChangesAreAnswered, VersionsAreTheLists};
 ghost use Rattle.pod_laws.specs.Checked.{WasChecked};
-ghost use Rattle.pod_laws.specs.Collected.{CollectionsAreAnswered, CollectionsAreBounded, CollectionsAreShort, CollectionsInARowKeep, CollectionsStartTheirRounds};
+ghost use Rattle.pod_laws.specs.Collected.{CollectionsAreAnswered, CollectionsAreBounded, CollectionsAreShort, CollectionsFillTheirRounds, CollectionsInARowKeep};
 ghost use Rattle.pod_laws.specs.Deleted.{AnswersOfDel, CalmIsDeleted, EachDeletionIsOwn, WasDeleted, WasNotDeleted};
 ghost use Rattle.pod_laws.specs.Granted.{EachQuestionLeavesTheHost};
 ghost use Rattle.pod_laws.specs.Lasts.{EachLastIsCandidate};
@@ -102,9 +102,10 @@ pub fn a_collection_makes_few_calls()
     ensures { CollectionsAreShort }
 {}
 
-/// The host right before the first entry of a GC is the one at the start of its round.
-pub fn each_collection_starts_its_round()
-    ensures { CollectionsStartTheirRounds }
+/// The host right before the first entry of a GC is the one at the start of its round, and the host right after its
+/// last entry is the one at the start of the next round.
+pub fn each_collection_fills_its_round()
+    ensures { CollectionsFillTheirRounds }
 {}
 
 /// A GC that is answered without an error leaves what a GC of the round before it, with the same network and valid
