@@ -25,7 +25,7 @@ use Rattle.pod_workers.proofs.Sound.{sound_host}
 use Rattle.pod_laws.specs.Moments.{host_at_end, host_at_start, is_of, own_entries, until_first, until_last}
 use Rattle.pod_laws.proofs.Entries.{is_of-own, is_of-other, no-entries, other-number, own_entries-own, own_entries-other, replies_in, until_last-own, until_last-other}
 use Rattle.pod_laws.proofs.Runs.{own-state}
-use Rattle.pod_laws.proofs.Steps.{AllOpen, Goes, IsKept, IsKeptOutside, IsOpenKept, OpenFact, by-entries, by-open}
+use Rattle.pod_laws.proofs.Steps.{AllOpen, ChangesKeep, EntriesKeep, Goes, IsOpenKept, OpenFact, by-entries, by-open}
 
 abbrev IsExclusive : Placed → Type 0
 IsExclusive c = is_exclusive_verb c.command.verb ≡ true
@@ -156,10 +156,10 @@ together-next w n c call faulty goes was = λ m d at exclusive.
       | inr f ↦ together-other w.plan w.history m d e (is_of-other m e (other-number m n f.1)) (was m d at exclusive)
     ]
 
-together-kept : IsKept AllTogether
+together-kept : EntriesKeep AllTogether
 together-kept w n c list call faulty on was = together-next w n c call faulty (inl (list, on)) was
 
-together-changed : IsKeptOutside AllTogether
+together-changed : ChangesKeep AllTogether
 together-changed w n c call faulty on was = together-next w n c call faulty (inr on) was
 
 -- in every history the entries of an exclusive command stand together

@@ -28,7 +28,7 @@ use Rattle.pod_laws.specs.Moments.{own_entries}
 use Rattle.pod_laws.specs.Answers.{is_cut_off}
 use Rattle.pod_laws.proofs.Due.{over-calls}
 use Rattle.pod_laws.proofs.Entries.{is_of-other, is_of-own, own_entries-other, own_entries-own, replies_in}
-use Rattle.pod_laws.proofs.Steps.{IsKept, IsKeptOutside, by-entries}
+use Rattle.pod_laws.proofs.Steps.{ChangesKeep, EntriesKeep, by-entries}
 
 -- ---- its entries
 
@@ -60,7 +60,7 @@ one-more c (x ∷ y ∷ es) e was is = absurd was
 one-other : (m n : ℕ) (d : Command) (h : List Entry) (e : Entry) → e.command ≡ n + 1 → m ≢ n → MakesOne d (own_entries m h) → MakesOne d (own_entries m (h ++ e ∷ []))
 one-other m n d h e number differs was = subst (MakesOne d) (sym (own_entries-other m h e (is_of-other m e (λ same. differs (let a = number in let b = same in omega (arith, a, b)))))) was
 
-one-kept : IsKept AllMakeOne
+one-kept : EntriesKeep AllMakeOne
 one-kept w n c list call faulty on was = λ m d at none.
     let e = entry_of (host_of w) n call faulty in
     elim (eqb_tells m n) [
@@ -68,7 +68,7 @@ one-kept w n c list call faulty on was = λ m d at none.
       | inr f ↦ one-other m n d.command w.history e refl f.1 (was m d at none)
     ]
 
-one-changed : IsKeptOutside AllMakeOne
+one-changed : ChangesKeep AllMakeOne
 one-changed w n c call faulty on was = λ m d at none.
     let h = w.history in
     let e = entry_of (host_of w) n call faulty in

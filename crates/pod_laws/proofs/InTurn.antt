@@ -11,7 +11,7 @@ use Rattle.pod_workers.proofs.Order.{apart, ready_is}
 use Rattle.pod_laws.specs.Moments.{is_of, own_entries, until_last}
 use Rattle.pod_laws.proofs.AloneRuns.{legal-of, ready-of}
 use Rattle.pod_laws.proofs.Entries.{is_of-own, is_of-other, no-entries, other-number, own_entries-other, until_last-own, until_last-other}
-use Rattle.pod_laws.proofs.Steps.{AllOpen, Goes, IsKept, IsKeptOutside, IsOpenKept, OpenFact, by-entries, by-open}
+use Rattle.pod_laws.proofs.Steps.{AllOpen, ChangesKeep, EntriesKeep, Goes, IsOpenKept, OpenFact, by-entries, by-open}
 
 -- the command at place n is another one of the same container
 abbrev IsBeside : Plan → ℕ → ℕ → Placed → Type 0
@@ -72,10 +72,10 @@ turn-kept w k x call faulty goes was = λ n m d at beside.
           ]
     ]
 
-turn-listed : IsKept AllInTurn
+turn-listed : EntriesKeep AllInTurn
 turn-listed w n c list call faulty on was = turn-kept w n c call faulty (inl (list, on)) was
 
-turn-changed : IsKeptOutside AllInTurn
+turn-changed : ChangesKeep AllInTurn
 turn-changed w n c call faulty on was = turn-kept w n c call faulty (inr on) was
 
 pub in_turn : (w : World) → Legal w → (n m : ℕ) (c d : Placed) → slice_get (commands_of w.plan) n ≡ Some c → slice_get (commands_of w.plan) m ≡ Some d → n ≢ m → d.command.container ≡ c.command.container

@@ -39,7 +39,7 @@ use Rattle.pod_laws.specs.Added.{WasAdded, HasMade}
 use Rattle.pod_laws.specs.Deleted.{WasDeleted, HasDeleted, IsUndeletedFor, IsYes, NothingFails, WasNotDeleted, AnswersOfDel, CalmIsDeleted}
 use Rattle.pod_laws.specs.Moments.{has_fault, host_at_end, own_entries}
 use Rattle.pod_laws.specs.Refused.{is_granted, lets_go_on, IsCause, no_namespace, name_taken, pool_empty, no_master, fault, IsResult, NothingRefuses, UnrefusedIsAdded, WasRefused, IsRefusedFor, AnswersOfAdd, BeginLeavesTheHost}
-use Rattle.pod_laws.specs.Answers.{EachIsOrRefused, EachIsWhere, EachRefusal, IsRefusal, is_cut_off}
+use Rattle.pod_laws.specs.Answers.{EachIsOrRefused, EachIsWhere, EachRefusal, IsRefusedAnswer, is_cut_off}
 use Rattle.pod_laws.proofs.Achieved.{Achieved, IsAddedWith, achieved-end, achieved-start, achieved-step}
 use Rattle.pod_laws.proofs.Asking.{fault-last}
 use Rattle.pod_laws.proofs.CutOff.{over-by}
@@ -106,7 +106,7 @@ ended w legal n c list a at listed is whole =
 
 -- an answer is so, or a refusal, where each ending of such a run says so
 each-answered : (verb : Verb) (Is : Answer → Type 0) → is_of_network verb ≡ true
-    → ((c : Command) (list : NetList) (es : List Entry) (s : Share) (a : Answer) (ending : Ending) (given : List Addr) → c.verb ≡ verb → Says list c given ending a → Ends c es ending s → Is a ⊎ IsRefusal a) → EachIsOrRefused verb Is
+    → ((c : Command) (list : NetList) (es : List Entry) (s : Share) (a : Answer) (ending : Ending) (given : List Addr) → c.verb ≡ verb → Says list c given ending a → Ends c es ending s → Is a ⊎ IsRefusedAnswer a) → EachIsOrRefused verb Is
 each-answered verb Is network by w legal n c a at is_verb is = elim (cases_Bool (is_cut_off a)) [
   | inl cut ↦ inl (inr cut)
   | inr whole ↦
@@ -172,7 +172,7 @@ was_added w legal n c list r at listed is =
     let e = ended w legal n c list (answers.Added r) at listed is refl in
     added-by w n c.command list r e.ending e.given e.says e.achieved (sound-at_end w legal n) e.ends
 
-answer-add : (c : Command) (list : NetList) (es : List Entry) (s : Share) (a : Answer) (ending : Ending) (given : List Addr) → c.verb ≡ verbs.Add → Says list c given ending a → Ends c es ending s → IsResult a ⊎ IsRefusal a
+answer-add : (c : Command) (list : NetList) (es : List Entry) (s : Share) (a : Answer) (ending : Ending) (given : List Addr) → c.verb ≡ verbs.Add → Says list c given ending a → Ends c es ending s → IsResult a ⊎ IsRefusedAnswer a
 answer-add c list es s a Added given verb says ends = inl (_, says)
 answer-add c list es s a Yes given verb says ends = elim ends [ inl del ↦ absurd (not-both c verb del.verb) | inr other ↦ absurd (subst IsOtherVerb verb other) ]
 answer-add c list es s a (Skipped skip) given verb says ends = absurd (subst IsOtherVerb verb ends)
@@ -210,7 +210,7 @@ was_deleted w legal n c a at verb is = λ yes.
     let e = ended w legal n c found.0 a at found.1 is (ap is_cut_off yes) in
     deleted-by c.command found.0 (own_entries n w.history) (share_of (att_of c.command) (host_at_end w n)) e.ending e.given verb (subst (Says found.0 c.command e.given e.ending) yes e.says) e.ends
 
-answer-del : (c : Command) (list : NetList) (es : List Entry) (s : Share) (a : Answer) (ending : Ending) (given : List Addr) → c.verb ≡ verbs.Del → Says list c given ending a → Ends c es ending s → IsYes a ⊎ IsRefusal a
+answer-del : (c : Command) (list : NetList) (es : List Entry) (s : Share) (a : Answer) (ending : Ending) (given : List Addr) → c.verb ≡ verbs.Del → Says list c given ending a → Ends c es ending s → IsYes a ⊎ IsRefusedAnswer a
 answer-del c list es s a Added given verb says ends = absurd (not-both c ends.verb verb)
 answer-del c list es s a Yes given verb says ends = inl says
 answer-del c list es s a (Skipped skip) given verb says ends = absurd (subst IsOtherVerb verb ends)

@@ -60,15 +60,15 @@ cached-among list = has-right kinds.Cached (chained_kinds_reversed list.chained)
 -- ---- a share within kinds
 
 -- nothing is there of the kinds that are not listed. (Addresses and routes lie on links.)
-pub record IsWithin (ks : List Kind) (s : Share) : Type 0 where
+pub record HasKindsAlone (ks : List Kind) (s : Share) : Type 0 where
   pub links : has kinds.Links ks ≡ false → s.links ≡ []
   pub rules : has kinds.Rules ks ≡ false → s.rules ≡ []
   pub settings : has kinds.Settings ks ≡ false → s.settings ≡ []
   pub leases : has kinds.Leases ks ≡ false → s.leases ≡ []
   pub cached : has kinds.Cached ks ≡ false → s.cached ≡ []
 
-pub IsWithin-nothing : (ks : List Kind) → IsWithin ks no_objects
-IsWithin-nothing ks = record { links = λ _. refl; rules = λ _. refl; settings = λ _. refl; leases = λ _. refl; cached = λ _. refl }
+pub HasKindsAlone-nothing : (ks : List Kind) → HasKindsAlone ks no_objects
+HasKindsAlone-nothing ks = record { links = λ _. refl; rules = λ _. refl; settings = λ _. refl; leases = λ _. refl; cached = λ _. refl }
 
 -- ---- the kind of what a call makes
 
@@ -83,16 +83,16 @@ call_fits ks _ = true
 pub there-or-not : {A : Type 0} (b : Bool) → b ≡ true → b ≡ false → A
 there-or-not b h g = absurd (let e : true ≡ false = sym h ∙ g in cc)
 
-pub IsWithin-call : (ks : List Kind) (s : Share) (call : Call) → call_fits ks call ≡ true → IsWithin ks s → IsWithin ks (share_after_call s call)
-IsWithin-call ks s (VethAdd h i) fits w = record { links = λ g. there-or-not (has kinds.Links ks) fits g; rules = w.rules; settings = w.settings; leases = w.leases; cached = w.cached }
-IsWithin-call ks s (MacvlanAdd l) fits w = record { links = λ g. there-or-not (has kinds.Links ks) fits g; rules = w.rules; settings = w.settings; leases = w.leases; cached = w.cached }
-IsWithin-call ks s (LinkSet a b d e f g i) fits w = record { links = λ h. ap (map _) (w.links h); rules = w.rules; settings = w.settings; leases = w.leases; cached = w.cached }
-IsWithin-call ks s (RuleAppend r) fits w = record { links = w.links; rules = λ g. there-or-not (has kinds.Rules ks) fits g; settings = w.settings; leases = w.leases; cached = w.cached }
-IsWithin-call ks s (SettingSet r) fits w = record { links = w.links; rules = w.rules; settings = λ g. there-or-not (has kinds.Settings ks) fits g; leases = w.leases; cached = w.cached }
-IsWithin-call ks s (CachePut a r) fits w = record { links = w.links; rules = w.rules; settings = w.settings; leases = w.leases; cached = λ g. there-or-not (has kinds.Cached ks) fits g }
-IsWithin-call ks s (AddrAdd o) fits w = record { links = w.links; rules = w.rules; settings = w.settings; leases = w.leases; cached = w.cached }
-IsWithin-call ks s (RouteAdd o) fits w = record { links = w.links; rules = w.rules; settings = w.settings; leases = w.leases; cached = w.cached }
-IsWithin-call ks s _ fits w = w
+pub HasKindsAlone-call : (ks : List Kind) (s : Share) (call : Call) → call_fits ks call ≡ true → HasKindsAlone ks s → HasKindsAlone ks (share_after_call s call)
+HasKindsAlone-call ks s (VethAdd h i) fits w = record { links = λ g. there-or-not (has kinds.Links ks) fits g; rules = w.rules; settings = w.settings; leases = w.leases; cached = w.cached }
+HasKindsAlone-call ks s (MacvlanAdd l) fits w = record { links = λ g. there-or-not (has kinds.Links ks) fits g; rules = w.rules; settings = w.settings; leases = w.leases; cached = w.cached }
+HasKindsAlone-call ks s (LinkSet a b d e f g i) fits w = record { links = λ h. ap (map _) (w.links h); rules = w.rules; settings = w.settings; leases = w.leases; cached = w.cached }
+HasKindsAlone-call ks s (RuleAppend r) fits w = record { links = w.links; rules = λ g. there-or-not (has kinds.Rules ks) fits g; settings = w.settings; leases = w.leases; cached = w.cached }
+HasKindsAlone-call ks s (SettingSet r) fits w = record { links = w.links; rules = w.rules; settings = λ g. there-or-not (has kinds.Settings ks) fits g; leases = w.leases; cached = w.cached }
+HasKindsAlone-call ks s (CachePut a r) fits w = record { links = w.links; rules = w.rules; settings = w.settings; leases = w.leases; cached = λ g. there-or-not (has kinds.Cached ks) fits g }
+HasKindsAlone-call ks s (AddrAdd o) fits w = record { links = w.links; rules = w.rules; settings = w.settings; leases = w.leases; cached = w.cached }
+HasKindsAlone-call ks s (RouteAdd o) fits w = record { links = w.links; rules = w.rules; settings = w.settings; leases = w.leases; cached = w.cached }
+HasKindsAlone-call ks s _ fits w = w
 
 -- ---- the calls of an ADD are of its list's kinds
 
@@ -156,8 +156,8 @@ pub still_none : {X : Type 0} (p gone : X → Bool) (old new : List X) → Drops
 still_none p gone old new d h =
     filter_never p (λ x. not (p x)) (λ x fails. not-true (p x) fails) new (list_all-drops (λ x. not (p x)) gone old new d (list_all-none p old (empty_none p old h)))
 
-pub IsWithin-removes : (att : Att) (ks : List Kind) (old new : Host) → OnlyRemoves old new → IsWithin ks (share_of att old) → IsWithin ks (share_of att new)
-IsWithin-removes att ks old new d w = record {
+pub HasKindsAlone-removes : (att : Att) (ks : List Kind) (old new : Host) → OnlyRemoves old new → HasKindsAlone ks (share_of att old) → HasKindsAlone ks (share_of att new)
+HasKindsAlone-removes att ks old new d w = record {
   links = λ h. still_none (λ l. is_own att l.tag) (λ l. true) old.links new.links d.links (w.links h);
   rules = λ h. still_none (λ r. is_own att r.tag) (λ r. true) old.rules new.rules d.rules (w.rules h);
   settings = λ h. still_none (λ s. is_own att s.tag) (λ s. true) old.settings new.settings d.settings (w.settings h);

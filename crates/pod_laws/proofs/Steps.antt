@@ -85,19 +85,19 @@ goes-on w n c call faulty legal ready is =
 -- ---- what each entry keeps
 
 -- an entry of a command with a list keeps what holds of histories
-abbrev pub IsKept : (Plan → List Entry → Type 0) → Type 0
-IsKept P = (w : World) (n : ℕ) (c : Placed) (list : NetList) (call : Call) (faulty : Bool) → GoesOn w n c list call faulty → P w.plan w.history → P w.plan (w.history ++ entry_of (host_of w) n call faulty ∷ [])
+abbrev pub EntriesKeep : (Plan → List Entry → Type 0) → Type 0
+EntriesKeep P = (w : World) (n : ℕ) (c : Placed) (list : NetList) (call : Call) (faulty : Bool) → GoesOn w n c list call faulty → P w.plan w.history → P w.plan (w.history ++ entry_of (host_of w) n call faulty ∷ [])
 
 -- so does a change of the world outside
-abbrev pub IsKeptOutside : (Plan → List Entry → Type 0) → Type 0
-IsKeptOutside P = (w : World) (n : ℕ) (c : Placed) (call : Call) (faulty : Bool) → Changes w n c call faulty → P w.plan w.history → P w.plan (w.history ++ entry_of (host_of w) n call faulty ∷ [])
+abbrev pub ChangesKeep : (Plan → List Entry → Type 0) → Type 0
+ChangesKeep P = (w : World) (n : ℕ) (c : Placed) (call : Call) (faulty : Bool) → Changes w n c call faulty → P w.plan w.history → P w.plan (w.history ++ entry_of (host_of w) n call faulty ∷ [])
 
-kept-done : (P : Plan → List Entry → Type 0) → IsKept P → IsKeptOutside P → (w : World) (n : ℕ) (c : Placed) (x : Next) → Legal w → IsReady w n c → next_of w c.command (own_replies w n) ≡ x → P w.plan w.history → P (done w n x).plan (done w n x).history
+kept-done : (P : Plan → List Entry → Type 0) → EntriesKeep P → ChangesKeep P → (w : World) (n : ℕ) (c : Placed) (x : Next) → Legal w → IsReady w n c → next_of w c.command (own_replies w n) ≡ x → P w.plan w.history → P (done w n x).plan (done w n x).history
 kept-done P keep change w n c (next.Answer a) legal ready is was = was
 kept-done P keep change w n c (next.Call call faulty) legal ready is was =
     elim (goes-on w n c call faulty legal ready is) [ inl on ↦ keep w n c on.0 call faulty on.1 was | inr on ↦ change w n c call faulty on was ]
 
-pub by-entries : (P : Plan → List Entry → Type 0) → ((p : Plan) → IsWellFormed p → P p []) → IsKept P → IsKeptOutside P → (w : World) → Legal w → P w.plan w.history
+pub by-entries : (P : Plan → List Entry → Type 0) → ((p : Plan) → IsWellFormed p → P p []) → EntriesKeep P → ChangesKeep P → (w : World) → Legal w → P w.plan w.history
 by-entries P start keep change _ (begins w begun) = subst (P w.plan) (sym begun.empty) (start w.plan begun.plan)
 by-entries P start keep change _ (steps v w n c legal ready is) =
     subst (λ (u : World). P u.plan u.history) (sym is) (kept-done P keep change v n c (next_of v c.command (own_replies v n)) legal ready refl (by-entries P start keep change v legal))
@@ -118,7 +118,7 @@ IsOwnKept R = (w : World) (n : ℕ) (c : Placed) (list : NetList) (call : Call) 
 abbrev pub IsOtherKept : ListFact → Type 0
 IsOtherKept R = (p : Plan) (h : List Entry) (m : ℕ) (d : Placed) (list : NetList) (e : Entry) → is_of m e ≡ false → R p h m d list → R p (h ++ e ∷ []) m d list
 
-listed-kept : (R : ListFact) → IsOwnKept R → IsOtherKept R → IsKept (AllListed R)
+listed-kept : (R : ListFact) → IsOwnKept R → IsOtherKept R → EntriesKeep (AllListed R)
 listed-kept R own other w n c list call faulty on was = λ m d other_list at listed.
     let e = entry_of (host_of w) n call faulty in
     elim (eqb_tells m n) [
@@ -126,7 +126,7 @@ listed-kept R own other w n c list call faulty on was = λ m d other_list at lis
       | inr f ↦ other w.plan w.history m d other_list e (is_of-other m e (other-number m n f.1)) (was m d other_list at listed)
     ]
 
-listed-changed : (R : ListFact) → IsOtherKept R → IsKeptOutside (AllListed R)
+listed-changed : (R : ListFact) → IsOtherKept R → ChangesKeep (AllListed R)
 listed-changed R other w n c call faulty on was = λ m d list at listed.
     let e = entry_of (host_of w) n call faulty in
     elim (eqb_tells m n) [

@@ -43,7 +43,7 @@ use Rattle.pod_laws.specs.Refused.{is_granted, lets_go_on, FirstRefusal, IsRefus
 use Rattle.pod_laws.proofs.Causes.{Refuses, begin-refused, plan-refused, lease-refused}
 use Rattle.pod_laws.proofs.Entries.{pushed}
 use Rattle.pod_laws.proofs.Footing.{IsMacvlan}
-use Rattle.pod_laws.proofs.OfKinds.{IsWithin, IsWithin-removes}
+use Rattle.pod_laws.proofs.OfKinds.{HasKindsAlone, HasKindsAlone-removes}
 use Rattle.pod_laws.proofs.Removes.{removes-deletion}
 use Rattle.pod_laws.proofs.Stands.{no_link-now}
 use Rattle.pod_laws.proofs.States.{IsAside, IsNoResult, IsOtherVerb, aside-advance, aside-start, by-aside}
@@ -117,7 +117,7 @@ Undoing list c es (BeforeLeases next left) s = IsUnrefused c es
 Undoing list c es (Leasing next left given) s = IsUnrefused c es
 Undoing list c es (AfterLeases next left given) s = IsUnrefused c es
 Undoing list c es (ReadingCache ending) s = Leads c es ending
-Undoing list c es (Deleting next left ending) s = Leads c es ending × IsWithin (next ∷ left) s
+Undoing list c es (Deleting next left ending) s = Leads c es ending × HasKindsAlone (next ∷ left) s
 Undoing list c es FindingEntry s = IsOther c
 Undoing list c es (Asking next left) s = IsOther c
 Undoing list c es (Changing change) s = IsOther c
@@ -196,7 +196,7 @@ ends-gone c es Versions s h none = absurd h
 ends-gone c es Yes s h none = inl (record { verb = h.verb; gone = record { calm = (h.words, h.calm); gone = none } })
 ends-gone c es (Refused cause) s h none = inl (record { verb = h.verb; why = inr (inr (record { words = h.words; first = h.first; begun = h.begun; undone = inl none })) })
 
-to-deleting : (list : NetList) (c : Command) (es : List Entry) (ks : List Kind) (ending : Ending) (s : Share) → Leads c es ending → IsWithin ks s → (IsWithin [] s → s ≡ no_objects) → Undoing list c es (deleting ks ending) s
+to-deleting : (list : NetList) (c : Command) (es : List Entry) (ks : List Kind) (ending : Ending) (s : Share) → Leads c es ending → HasKindsAlone ks s → (HasKindsAlone [] s → s ≡ no_objects) → Undoing list c es (deleting ks ending) s
 to-deleting list c es [] ending s h w none = ends-gone c es ending s h (none w)
 to-deleting list c es (k ∷ ks) ending s h w none = (h, w)
 
@@ -225,48 +225,48 @@ undo-after : (list : NetList) (c : Command) (es : List Entry) (e : Entry) (xs : 
 undo-after list c es e xs given Done t is h why = to-after_leases list c (es ++ e ∷ []) xs given t (unrefused-more c es e h (ap is_granted is))
 undo-after list c es e xs given _ t is h why = refusing-now c es e _ h (why (λ q. cc))
 
-undo-cache : (list : NetList) (c : Command) (es : List Entry) (e : Entry) (ending : Ending) (r : Reply) (t : Share) → e.reply ≡ r → Leads c es ending → IsWithin (kinds_of list) t → (IsWithin [] t → t ≡ no_objects)
+undo-cache : (list : NetList) (c : Command) (es : List Entry) (e : Entry) (ending : Ending) (r : Reply) (t : Share) → e.reply ≡ r → Leads c es ending → HasKindsAlone (kinds_of list) t → (HasKindsAlone [] t → t ≡ no_objects)
     → Undoing list c (es ++ e ∷ []) (at_cache list (length es + 1) ending r) t
 undo-cache list c es e ending Fault t is h w none = ends-faulted c es e ending t h is
 undo-cache list c es e ending _ t is h w none = to-deleting list c (es ++ e ∷ []) (kinds_of list) ending t (leads-more c es e ending h (ap is_fault is)) w none
 
-undo-gone : (list : NetList) (c : Command) (es : List Entry) (e : Entry) (k : Kind) (ks : List Kind) (ending : Ending) (b : Bool) (t : Share) → e.reply ≡ Gone b → Leads c es ending → IsWithin (k ∷ ks) t → (b ≡ false → IsWithin ks t)
-    → (IsWithin [] t → t ≡ no_objects) → Undoing list c (es ++ e ∷ []) (at_deletion (length es + 1) k ks ending (Gone b)) t
+undo-gone : (list : NetList) (c : Command) (es : List Entry) (e : Entry) (k : Kind) (ks : List Kind) (ending : Ending) (b : Bool) (t : Share) → e.reply ≡ Gone b → Leads c es ending → HasKindsAlone (k ∷ ks) t → (b ≡ false → HasKindsAlone ks t)
+    → (HasKindsAlone [] t → t ≡ no_objects) → Undoing list c (es ++ e ∷ []) (at_deletion (length es + 1) k ks ending (Gone b)) t
 undo-gone list c es e k ks ending true t is h w less none = (leads-more c es e ending h (ap is_fault is), w)
 undo-gone list c es e k ks ending false t is h w less none = to-deleting list c (es ++ e ∷ []) ks ending t (leads-more c es e ending h (ap is_fault is)) (less refl) none
 
-undo-deletion : (list : NetList) (c : Command) (es : List Entry) (e : Entry) (k : Kind) (ks : List Kind) (ending : Ending) (r : Reply) (t : Share) → e.reply ≡ r → Leads c es ending → IsWithin (k ∷ ks) t → (r ≡ Gone false → IsWithin ks t)
-    → (IsWithin [] t → t ≡ no_objects) → Undoing list c (es ++ e ∷ []) (at_deletion (length es + 1) k ks ending r) t
+undo-deletion : (list : NetList) (c : Command) (es : List Entry) (e : Entry) (k : Kind) (ks : List Kind) (ending : Ending) (r : Reply) (t : Share) → e.reply ≡ r → Leads c es ending → HasKindsAlone (k ∷ ks) t → (r ≡ Gone false → HasKindsAlone ks t)
+    → (HasKindsAlone [] t → t ≡ no_objects) → Undoing list c (es ++ e ∷ []) (at_deletion (length es + 1) k ks ending r) t
 undo-deletion list c es e k ks ending (Gone b) t is h w less none = undo-gone list c es e k ks ending b t is h w (λ f. less (ap (λ q. Gone q) f)) none
 undo-deletion list c es e k ks ending Fault t is h w less none = ends-faulted c es e ending t h is
 undo-deletion list c es e k ks ending _ t is h w less none = (leads-more c es e ending h (ap is_fault is), w)
 
 -- ---- what a deletion leaves of the share
 
-within-deleted : (att : Att) (k : Host) (n : ℕ) (faulty : Bool) (ks : List Kind) (kind : Kind) → IsSound k → IsWithin ks (share_of att k) → IsWithin ks (share_of att (host_on k (entry_of k n (deletion att kind) faulty)))
+within-deleted : (att : Att) (k : Host) (n : ℕ) (faulty : Bool) (ks : List Kind) (kind : Kind) → IsSound k → HasKindsAlone ks (share_of att k) → HasKindsAlone ks (share_of att (host_on k (entry_of k n (deletion att kind) faulty)))
 within-deleted att k n faulty ks kind sound w =
-    on-entry (λ h. IsWithin ks (share_of att h)) k n (deletion att kind) faulty w
-    (λ f. IsWithin-removes att ks k (apply k (deletion att kind)).0 (removes-deletion att k kind sound) w)
+    on-entry (λ h. HasKindsAlone ks (share_of att h)) k n (deletion att kind) faulty w
+    (λ f. HasKindsAlone-removes att ks k (apply k (deletion att kind)).0 (removes-deletion att k kind sound) w)
 
-gone-link : (att : Att) (k : Host) (o : Option Link) (ks : List Kind) → find (λ l. is_own att l.tag) k.links ≡ o → (without_link k o).1 ≡ Gone false → IsWithin (kinds.Links ∷ ks) (share_of att k) → IsWithin ks (share_of att (without_link k o).0)
+gone-link : (att : Att) (k : Host) (o : Option Link) (ks : List Kind) → find (λ l. is_own att l.tag) k.links ≡ o → (without_link k o).1 ≡ Gone false → HasKindsAlone (kinds.Links ∷ ks) (share_of att k) → HasKindsAlone ks (share_of att (without_link k o).0)
 gone-link att k o ks is h w =
     let g = gone-links att k o is h in
-    subst (λ j. IsWithin ks (share_of att j)) (sym g.0) (record { links = λ _. g.1; rules = w.rules; settings = w.settings; leases = w.leases; cached = w.cached })
+    subst (λ j. HasKindsAlone ks (share_of att j)) (sym g.0) (record { links = λ _. g.1; rules = w.rules; settings = w.settings; leases = w.leases; cached = w.cached })
 
 -- a deletion that found nothing: nothing of its kind is there
-gone-kind : (att : Att) (k : Host) (kind : Kind) (ks : List Kind) → (apply k (deletion att kind)).1 ≡ Gone false → IsWithin (kind ∷ ks) (share_of att k) → IsWithin ks (share_of att (apply k (deletion att kind)).0)
+gone-kind : (att : Att) (k : Host) (kind : Kind) (ks : List Kind) → (apply k (deletion att kind)).1 ≡ Gone false → HasKindsAlone (kind ∷ ks) (share_of att k) → HasKindsAlone ks (share_of att (apply k (deletion att kind)).0)
 gone-kind att k kinds.Links ks h w = gone-link att k (find (λ l. is_own att l.tag) k.links) ks refl h w
 gone-kind att k kinds.Rules ks h w = let g = gone-none (λ r. is_own att r.tag) k.rules h in rw g.0 (record { links = w.links; rules = λ _. g.1; settings = w.settings; leases = w.leases; cached = w.cached })
 gone-kind att k kinds.Settings ks h w = let g = gone-none (λ r. is_own att r.tag) k.settings h in rw g.0 (record { links = w.links; rules = w.rules; settings = λ _. g.1; leases = w.leases; cached = w.cached })
 gone-kind att k kinds.Leases ks h w = let g = gone-none (λ r. is_own att r.tag) k.leases h in rw g.0 (record { links = w.links; rules = w.rules; settings = w.settings; leases = λ _. g.1; cached = w.cached })
 gone-kind att k kinds.Cached ks h w = let g = gone-none (λ r. is_own att r.tag) k.cached h in rw g.0 (record { links = w.links; rules = w.rules; settings = w.settings; leases = w.leases; cached = λ _. g.1 })
 
-gone-deleted : (att : Att) (k : Host) (n : ℕ) (faulty : Bool) (kind : Kind) (ks : List Kind) → reply_to k (deletion att kind) faulty ≡ Gone false → IsWithin (kind ∷ ks) (share_of att k)
-    → IsWithin ks (share_of att (host_on k (entry_of k n (deletion att kind) faulty)))
+gone-deleted : (att : Att) (k : Host) (n : ℕ) (faulty : Bool) (kind : Kind) (ks : List Kind) → reply_to k (deletion att kind) faulty ≡ Gone false → HasKindsAlone (kind ∷ ks) (share_of att k)
+    → HasKindsAlone ks (share_of att (host_on k (entry_of k n (deletion att kind) faulty)))
 gone-deleted att k n true kind ks h w = cc
-gone-deleted att k n false kind ks h w = subst (λ j. IsWithin ks (share_of att j)) (sym (host-made k n (deletion att kind))) (gone-kind att k kind ks h w)
+gone-deleted att k n false kind ks h w = subst (λ j. HasKindsAlone ks (share_of att j)) (sym (host-made k n (deletion att kind))) (gone-kind att k kind ks h w)
 
-none-left : (att : Att) (k : Host) → IsSound k → IsWithin [] (share_of att k) → share_of att k ≡ no_objects
+none-left : (att : Att) (k : Host) → IsSound k → HasKindsAlone [] (share_of att k) → share_of att k ≡ no_objects
 none-left att k sound w =
     let lies = no-links att k sound (w.links refl) in
     rw (w.links refl, lies.0, lies.1, w.rules refl, w.settings refl, w.leases refl, w.cached refl) refl
@@ -290,7 +290,7 @@ undone-next list c es number st r s other h = undone-aside list c es (advance li
 
 -- what is known of the host after an entry
 pub record IsEntered (list : NetList) (c : Command) (k : Host) (n : ℕ) (faulty : Bool) (call : Call) : Type 0 where
-  pub within : IsWithin (kinds_of list) (share_of (att_of c) (host_on k (entry_of k n call faulty)))
+  pub within : HasKindsAlone (kinds_of list) (share_of (att_of c) (host_on k (entry_of k n call faulty)))
   pub sound : IsSound (host_on k (entry_of k n call faulty))
   pub over : is_plan_call_of (att_of c) call ≡ true → (apply k call).1 ≡ NoLink → IsMacvlan call
 

@@ -40,7 +40,7 @@ use Rattle.pod_workers.proofs.Histories.{after-append}
 use Rattle.pod_workers.proofs.Planned.{LeftArePlanned, left-are-planned}
 use Rattle.pod_workers.proofs.Sound.{sound_host, if-listed}
 use Rattle.pod_workers.proofs.Deletable.{done_or_not, leased_or_not}
-use Rattle.pod_laws.proofs.OfKinds.{has, call_fits, IsWithin, IsWithin-nothing, IsWithin-call, IsWithin-removes, leases-kinds_of, there-or-not}
+use Rattle.pod_laws.proofs.OfKinds.{has, call_fits, HasKindsAlone, HasKindsAlone-nothing, HasKindsAlone-call, HasKindsAlone-removes, leases-kinds_of, there-or-not}
 use Rattle.pod_laws.proofs.Removes.{removes-deletion}
 use Rattle.pod_laws.proofs.States.{LeftFit, is_question, left-fit, question-leaves, asked-is_question}
 use Rattle.pod_laws.proofs.Steps.{Changes, GoesOn, by-entries, on-entry}
@@ -49,31 +49,31 @@ use Rattle.pod_laws.proofs.Turns.{AsksOrCollects, removes-changed, turn-of, work
 -- ---- what a run's own call makes stays within its list's kinds
 
 abbrev AfterCall : Att → Host → List Kind → Call → Type 0
-AfterCall att k ks call = IsWithin ks (share_of att (apply k call).0)
+AfterCall att k ks call = HasKindsAlone ks (share_of att (apply k call).0)
 
-within-plan : (att : Att) (k : Host) (ks : List Kind) (call : Call) → is_plan_call_of att call ≡ true → call_fits ks call ≡ true → IsWithin ks (share_of att k) → AfterCall att k ks call
+within-plan : (att : Att) (k : Host) (ks : List Kind) (call : Call) → is_plan_call_of att call ≡ true → call_fits ks call ≡ true → HasKindsAlone ks (share_of att k) → AfterCall att k ks call
 within-plan att k ks call own fits w =
     elim (done_or_not (apply k call).1) [
-      | inl done ↦ subst (IsWithin ks) (sym (share-own att k call own done)) (IsWithin-call ks (share_of att k) call fits w)
-      | inr not ↦ subst (λ h. IsWithin ks (share_of att h)) (sym (refused-same att k call own not)) w
+      | inl done ↦ subst (HasKindsAlone ks) (sym (share-own att k call own done)) (HasKindsAlone-call ks (share_of att k) call fits w)
+      | inr not ↦ subst (λ h. HasKindsAlone ks (share_of att h)) (sym (refused-same att k call own not)) w
     ]
 
-within-lease : (att : Att) (k : Host) (ks : List Kind) (number : ℕ) (set : RangeSet) → has kinds.Leases ks ≡ true → IsWithin ks (share_of att k) → AfterCall att k ks (LeaseNext att number set)
+within-lease : (att : Att) (k : Host) (ks : List Kind) (number : ℕ) (set : RangeSet) → has kinds.Leases ks ≡ true → HasKindsAlone ks (share_of att k) → AfterCall att k ks (LeaseNext att number set)
 within-lease att k ks number set there w =
     elim (leased_or_not (apply k (LeaseNext att number set)).1) [
       | inl leased ↦
-          subst (IsWithin ks) (sym (share-lease att k number set leased.0 leased.1))
+          subst (HasKindsAlone ks) (sym (share-lease att k number set leased.0 leased.1))
           (record { links = w.links; rules = w.rules; settings = w.settings; leases = λ g. there-or-not (has kinds.Leases ks) there g; cached = w.cached })
-      | inr not ↦ subst (λ h. IsWithin ks (share_of att h)) (sym (refused-lease k att number set not)) w
+      | inr not ↦ subst (λ h. HasKindsAlone ks (share_of att h)) (sym (refused-lease k att number set not)) w
     ]
 
 -- what only asks, or deletes for a collection
-within-aside : (att : Att) (c : Command) (k : Host) (ks : List Kind) (call : Call) → IsSound k → AsksOrCollects c call → IsWithin ks (share_of att k) → AfterCall att k ks call
-within-aside att c k ks call sound (inl asked) w = subst (λ h. IsWithin ks (share_of att h)) (sym (question-leaves k call asked)) w
+within-aside : (att : Att) (c : Command) (k : Host) (ks : List Kind) (call : Call) → IsSound k → AsksOrCollects c call → HasKindsAlone ks (share_of att k) → AfterCall att k ks call
+within-aside att c k ks call sound (inl asked) w = subst (λ h. HasKindsAlone ks (share_of att h)) (sym (question-leaves k call asked)) w
 within-aside att c k ks call sound (inr collected) w =
-    subst (AfterCall att k ks) collected.deletes (IsWithin-removes att ks k (apply k (deletion collected.att collected.kind)).0 (removes-deletion collected.att k collected.kind sound) w)
+    subst (AfterCall att k ks) collected.deletes (HasKindsAlone-removes att ks k (apply k (deletion collected.att collected.kind)).0 (removes-deletion collected.att k collected.kind sound) w)
 
-within-turn : (list : NetList) (c : Command) (st : State) (k : Host) (call : Call) → LeftArePlanned list c st → LeftFit list c st → IsSound k → turn c st ≡ Calls call → IsWithin (kinds_of list) (share_of (att_of c) k)
+within-turn : (list : NetList) (c : Command) (st : State) (k : Host) (call : Call) → LeftArePlanned list c st → LeftFit list c st → IsSound k → turn c st ≡ Calls call → HasKindsAlone (kinds_of list) (share_of (att_of c) k)
     → AfterCall (att_of c) k (kinds_of list) call
 unfolding turn
 within-turn list c AtBegin k call left fit sound is w = subst (AfterCall (att_of c) k (kinds_of list)) (let e : Begin (att_of c) c.netns ≡ call = cc in e) w
@@ -89,7 +89,7 @@ within-turn list c (AfterLeases x xs given) k call left fit sound is w =
 within-turn list c (ReadingCache ending) k call left fit sound is w = subst (AfterCall (att_of c) k (kinds_of list)) (let e : CacheGet (att_of c) ≡ call = cc in e) w
 within-turn list c (Deleting kind ks ending) k call left fit sound is w =
     subst (AfterCall (att_of c) k (kinds_of list)) (let e : deletion (att_of c) kind ≡ call = cc in e)
-    (IsWithin-removes (att_of c) (kinds_of list) k (apply k (deletion (att_of c) kind)).0 (removes-deletion (att_of c) k kind sound) w)
+    (HasKindsAlone-removes (att_of c) (kinds_of list) k (apply k (deletion (att_of c) kind)).0 (removes-deletion (att_of c) k kind sound) w)
 within-turn list c FindingEntry k call left fit sound is w = subst (AfterCall (att_of c) k (kinds_of list)) (let e : CacheGet (att_of c) ≡ call = cc in e) w
 within-turn list c (Asking q qs) k call left fit sound is w =
     within-aside (att_of c) c k (kinds_of list) call sound (inl (subst (λ j. is_question j ≡ true) (let e : q.call ≡ call = cc in e) (asked-is_question list q.call fit.0))) w
@@ -101,7 +101,7 @@ within-turn list c (Over ending given) k call left fit sound is w = cc
 
 -- each attachment of a list's network has objects of the list's kinds alone
 abbrev AllWithin : Plan → List Entry → Type 0
-AllWithin p h = (att : Att) (list : NetList) → list_named p.lists att.network ≡ Some list → IsWithin (kinds_of list) (share_of att (after p.pods.opening h))
+AllWithin p h = (att : Att) (list : NetList) → list_named p.lists att.network ≡ Some list → HasKindsAlone (kinds_of list) (share_of att (after p.pods.opening h))
 
 list_named-listed : (p : Plan) (c : Command) (list : NetList) → list_for p c ≡ Some list → list_named p.lists c.network ≡ Some list
 unfolding list_for
@@ -124,23 +124,23 @@ opening-share att host opening =
     rw (links, addresses, routes, rules, settings, leases, cached) refl
 
 within-start : (p : Plan) → IsWellFormed p → AllWithin p []
-within-start p well = λ att list listed. subst (IsWithin (kinds_of list)) (sym (opening-share att p.pods.opening well.pods.opening)) (IsWithin-nothing (kinds_of list))
+within-start p well = λ att list listed. subst (HasKindsAlone (kinds_of list)) (sym (opening-share att p.pods.opening well.pods.opening)) (HasKindsAlone-nothing (kinds_of list))
 
-within-mine : (w : World) (n : ℕ) (c : Placed) (list : NetList) (call : Call) (faulty : Bool) → GoesOn w n c list call faulty → IsWithin (kinds_of list) (share_of (att_of c.command) (host_of w))
-    → IsWithin (kinds_of list) (share_of (att_of c.command) (host_on (host_of w) (entry_of (host_of w) n call faulty)))
+within-mine : (w : World) (n : ℕ) (c : Placed) (list : NetList) (call : Call) (faulty : Bool) → GoesOn w n c list call faulty → HasKindsAlone (kinds_of list) (share_of (att_of c.command) (host_of w))
+    → HasKindsAlone (kinds_of list) (share_of (att_of c.command) (host_on (host_of w) (entry_of (host_of w) n call faulty)))
 within-mine w n c list call faulty on was =
     let rs = own_replies w n in
-    on-entry (λ k. IsWithin (kinds_of list) (share_of (att_of c.command) k)) (host_of w) n call faulty was
+    on-entry (λ k. HasKindsAlone (kinds_of list) (share_of (att_of c.command) k)) (host_of w) n call faulty was
     (λ f. within-turn list c.command (state_after list c.command rs) (host_of w) call (left-are-planned list c.command rs) (left-fit list c.command rs) (sound_host w on.legal) on.turn_is was)
 
 -- another attachment's share is the same, or a collection takes from it
-within-other : (w : World) (n : ℕ) (c : Placed) (list : NetList) (call : Call) (faulty : Bool) (att : Att) (ks : List Kind) → GoesOn w n c list call faulty → att_eq (att_of c.command) att ≡ false → IsWithin ks (share_of att (host_of w))
-    → IsWithin ks (share_of att (host_on (host_of w) (entry_of (host_of w) n call faulty)))
+within-other : (w : World) (n : ℕ) (c : Placed) (list : NetList) (call : Call) (faulty : Bool) (att : Att) (ks : List Kind) → GoesOn w n c list call faulty → att_eq (att_of c.command) att ≡ false → HasKindsAlone ks (share_of att (host_of w))
+    → HasKindsAlone ks (share_of att (host_on (host_of w) (entry_of (host_of w) n call faulty)))
 within-other w n c list call faulty att ks on apart was =
     let sound = sound_host w on.legal in
-    on-entry (λ k. IsWithin ks (share_of att k)) (host_of w) n call faulty was
+    on-entry (λ k. HasKindsAlone ks (share_of att k)) (host_of w) n call faulty was
     (λ f. elim (turn-of w n c list call faulty on) [
-      | inl own ↦ subst (IsWithin ks) (sym (share-other (att_of c.command) att (host_of w) call apart sound (on.allowed f) own)) was
+      | inl own ↦ subst (HasKindsAlone ks) (sym (share-other (att_of c.command) att (host_of w) call apart sound (on.allowed f) own)) was
       | inr aside ↦ within-aside att c.command (host_of w) ks call sound aside was
     ])
 
@@ -148,26 +148,26 @@ within-kept : (w : World) (n : ℕ) (c : Placed) (list : NetList) (call : Call) 
 within-kept w n c list call faulty on was = λ att other listed.
     let e = entry_of (host_of w) n call faulty in
     let found : list_named w.plan.lists (att_of c.command).network ≡ Some list = list_named-listed w.plan c.command list on.listed in
-    subst (λ k. IsWithin (kinds_of other) (share_of att k)) (sym (after-append w.plan.pods.opening w.history e))
+    subst (λ k. HasKindsAlone (kinds_of other) (share_of att k)) (sym (after-append w.plan.pods.opening w.history e))
     (elim (cases_Bool (att_eq (att_of c.command) att)) [
       | inl same ↦
           let atts : att_of c.command ≡ att = att_eq-same (att_of c.command) att same in
           let lists : list ≡ other = same_Some list other (sym found ∙ ap (λ (a : Att). list_named w.plan.lists a.network) atts ∙ listed) in
           let mine = within-mine w n c list call faulty on (was (att_of c.command) list found) in
-          subst (λ a. IsWithin (kinds_of other) (share_of a (host_on (host_of w) e))) atts (subst (λ l. IsWithin (kinds_of l) (share_of (att_of c.command) (host_on (host_of w) e))) lists mine)
+          subst (λ a. HasKindsAlone (kinds_of other) (share_of a (host_on (host_of w) e))) atts (subst (λ l. HasKindsAlone (kinds_of l) (share_of (att_of c.command) (host_on (host_of w) e))) lists mine)
       | inr apart ↦ within-other w n c list call faulty att (kinds_of other) on apart (was att other listed)
     ])
 
 within-changed : (w : World) (n : ℕ) (c : Placed) (call : Call) (faulty : Bool) → Changes w n c call faulty → AllWithin w.plan w.history → AllWithin w.plan (w.history ++ entry_of (host_of w) n call faulty ∷ [])
 within-changed w n c call faulty on was = λ att other listed.
     let e = entry_of (host_of w) n call faulty in
-    subst (λ k. IsWithin (kinds_of other) (share_of att k)) (sym (after-append w.plan.pods.opening w.history e))
-    (IsWithin-removes att (kinds_of other) (host_of w) (host_on (host_of w) e) (removes-changed w n c call faulty on) (was att other listed))
+    subst (λ k. HasKindsAlone (kinds_of other) (share_of att k)) (sym (after-append w.plan.pods.opening w.history e))
+    (HasKindsAlone-removes att (kinds_of other) (host_of w) (host_on (host_of w) e) (removes-changed w n c call faulty on) (was att other listed))
 
 pub all-within : (w : World) → Legal w → AllWithin w.plan w.history
 all-within w legal = by-entries AllWithin within-start within-kept within-changed w legal
 
 -- so it is after one entry more
 pub within-entered : (w : World) (n : ℕ) (c : Placed) (list : NetList) (call : Call) (faulty : Bool) → GoesOn w n c list call faulty
-    → IsWithin (kinds_of list) (share_of (att_of c.command) (host_on (host_of w) (entry_of (host_of w) n call faulty)))
+    → HasKindsAlone (kinds_of list) (share_of (att_of c.command) (host_on (host_of w) (entry_of (host_of w) n call faulty)))
 within-entered w n c list call faulty on = within-mine w n c list call faulty on (all-within w on.legal (att_of c.command) list (list_named-listed w.plan c.command list on.listed))

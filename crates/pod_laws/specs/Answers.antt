@@ -26,8 +26,8 @@ is_cut_off answers.OutOfMemory = true
 is_cut_off (answers.Stopped calls) = true
 is_cut_off answer = false
 
-abbrev pub IsRefusal : Answer → Type 0
-IsRefusal a = (error : CniError) × (a ≡ answers.Refused error)
+abbrev pub IsRefusedAnswer : Answer → Type 0
+IsRefusedAnswer a = (error : CniError) × (a ≡ answers.Refused error)
 
 -- by its words, before any call
 pub record IsRefusedByWords (refusal : Option Cause) (entries : List Entry) (cause : Cause) : Type 0 where
@@ -51,7 +51,7 @@ EachListAnswer verb Holds = EachAnswer verb (λ w n c a. (list : NetList) → li
 
 -- it is so or a refusal, unless it was cut off
 abbrev pub EachIsOrRefused : Verb → (Answer → Type 0) → Type 0
-EachIsOrRefused verb Is = EachAnswer verb (λ w n c a. OrCutOff Is a ⊎ IsRefusal a)
+EachIsOrRefused verb Is = EachAnswer verb (λ w n c a. OrCutOff Is a ⊎ IsRefusedAnswer a)
 
 -- it is so, unless it was cut off, where its command and the entries are good
 abbrev pub EachIsWhere : Verb → (Command → List Entry → Type 0) → (Answer → Type 0) → Type 0
