@@ -21,7 +21,7 @@ use Rattle.pod_workers.proofs.Splits.{cons_parts}
 use Rattle.pod_workers.proofs.WellFormedPlans.{stand_alone}
 use Rattle.pod_laws.specs.Moments.{host_at_end, host_at_round, host_at_start, is_before, is_of, own_entries, until_first, until_last, until_round}
 use Rattle.pod_laws.proofs.AloneRuns.{none-if, until_first-own}
-use Rattle.pod_laws.proofs.Entries.{is_of-own, no-entries}
+use Rattle.pod_laws.proofs.Entries.{is_of-own, no-entries, same-place}
 
 -- ---- commands of a round
 
@@ -112,8 +112,7 @@ first-or-later x y xs (z ∷ zs) rest is = inr (zs, (cons_parts x z xs (zs ++ y 
 none-later : (w : World) → Legal w → (m k : ℕ) (d x : Placed) (before rest others later : List Entry) (e f : Entry) → w.history ≡ before ++ e ∷ rest → e ∷ rest ≡ others ++ f ∷ later → IsEntryOf w.plan e k x → IsEntryOf w.plan f m d → x.round < d.round + 1
 none-later w legal m k d x before rest others later e f whole split of_e of_f = elim (first-or-later e f rest others later split) [
   | inl same ↦
-      let one : e.command ≡ f.command = ap (λ (y : Entry). y.command) same in
-      let place : k ≡ m = let a = of_e.number in let b = of_f.number in omega arith in
+      let place : k ≡ m = same-place m k e f of_e.number (sym same) of_f.number in
       let by : x ≡ d = same_Some x d (sym of_e.there ∙ ap (slice_get (commands_of w.plan)) place ∙ of_f.there) in
       let r : x.round ≡ d.round = ap (λ (y : Placed). y.round) by in
       omega arith
