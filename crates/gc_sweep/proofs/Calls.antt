@@ -50,7 +50,7 @@ use Rattle.gc_sweep.proofs.Lists.{count_append, length-without_first, list_all-d
 use Rattle.gc_sweep.proofs.Machine.{Point, start_point, point_after, IsTrail}
 use Rattle.gc_sweep.proofs.Owners.{is_stale, goes_own, own_goes, owners_cover, owners_stale, has_att}
 use Rattle.gc_sweep.proofs.Runs.{trail, early_or, early_makes_none}
-use Rattle.gc_sweep.specs.Weights.{jobs_weight, total, weight}
+use Rattle.gc_sweep.proofs.Weights.{jobs_weight, total, weight}
 
 -- ---- no more distinct owners than there are
 

@@ -25,7 +25,7 @@ use Rattle.cni_verbs.specs.Wanted.{deletion}
 use Rattle.gc_sweep.specs.Keep.{IsWithin}
 use Rattle.gc_sweep.proofs.Lists.{any-found, count_found, count_without_first}
 use Rattle.gc_sweep.proofs.Removes.{within_own}
-use Rattle.gc_sweep.specs.Weights.{total}
+use Rattle.gc_sweep.proofs.Weights.{total}
 
 -- all that the layer above uses of a deletion, as a host and a reply
 pub record Deletes (a : Att) (kind : Kind) (h : Host) (step : Host × Reply) : Type 0 where

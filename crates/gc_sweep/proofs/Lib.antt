@@ -10,3 +10,4 @@ pub mod Phases
 pub mod Places
 pub mod Removes
 pub mod Runs
+pub mod Weights

@@ -3,4 +3,3 @@ pub mod Keep
 pub mod Sweep
 pub mod Trace
 pub mod View
-pub mod Weights

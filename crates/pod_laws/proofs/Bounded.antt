@@ -7,7 +7,8 @@ use Rattle.pod_file.specs.declared.command.Command.{Command}
 use Rattle.plan_words.specs.Share.{Share, share_of}
 use Rattle.cni_verbs.specs.CommandWords.{att_of}
 use Rattle.cni_verbs.specs.Script.{advance, start_state}
-use Rattle.pod_workers.specs.CallsLeft.{AddsInAtMost, calls_left}
+use Rattle.pod_workers.specs.CallCounts.{AddsInAtMost}
+use Rattle.pod_workers.proofs.CallsLeft.{calls_left}
 use Rattle.pod_workers.specs.Legal.{Legal}
 use Rattle.pod_workers.specs.Plans.{Placed, commands_of, list_for}
 use Rattle.pod_workers.specs.World.{World, after, host_of, own_replies, entry_of}

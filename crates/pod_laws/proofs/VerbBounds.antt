@@ -26,7 +26,8 @@ use Rattle.cni_verbs.specs.declared.answer.Ending.{Ending}
 use Rattle.cni_verbs.specs.declared.answer.Ending.TheVariants.{Yes, Skipped, Refused}
 use Rattle.cni_verbs.specs.declared.answer.Question.{Question}
 use Rattle.cni_verbs.specs.declared.answer.Skip.TheVariants as skips
-use Rattle.pod_workers.specs.CallsLeft.{calls_left, deletions_of, most_calls}
+use Rattle.pod_workers.specs.CallCounts.{deletions_of, most_calls}
+use Rattle.pod_workers.proofs.CallsLeft.{calls_left}
 use Rattle.pod_workers.specs.Legal.{Legal}
 use Rattle.pod_workers.specs.Plans.{Placed, commands_of, list_for}
 use Rattle.pod_workers.specs.World.{World, after, own_replies}

@@ -15,7 +15,7 @@ use Rattle.pod_file.specs.declared.command.Command.{Command}
 use Rattle.pod_workers.specs.Facts.{EachFollows, EntryIsInRound, IsScripts, IsStopped, AnswerIsDue, IsDue}
 use Rattle.pod_workers.specs.Legal.{Legal, begins, steps, refused_memory, turns}
 use Rattle.pod_workers.specs.Plans.{Placed, commands_of, list_for}
-use Rattle.pod_workers.specs.World.{World, IsReady, IsWithin, own_replies, host_of, is_faulty, is_stop, is_cut, is_cut_at, is_in_round, last_entry, done, answered, with_entry, entry_of, next_of, next_by, at_number}
+use Rattle.pod_workers.specs.World.{World, IsReady, IsUpToStop, own_replies, host_of, is_faulty, is_stop, is_cut, is_cut_at, is_in_round, last_entry, done, answered, with_entry, entry_of, next_of, next_by, at_number}
 use Rattle.pod_workers.specs.declared.plan.Plan.{Plan}
 use Rattle.pod_workers.specs.declared.plan.Entry.{Entry}
 use Rattle.pod_workers.specs.declared.plan.Next.{Next}
@@ -68,7 +68,7 @@ answers_by : (list : Option NetList) (c : Command) (made : ℕ) (cut : Bool) (t 
 answers_by list c made cut (Finishes finish) a is = inl (finish, refl, cc)
 answers_by list c made cut (Calls k) a is = let s = stopping_by c made k a (is_faulty c made) (is_stop c.stop made || cut) is in inr (k, refl, s.0, s.1)
 
-at_stop : (o : Option ℕ) (made : ℕ) → is_stop o made ≡ true → IsWithin o made → o ≡ Some made
+at_stop : (o : Option ℕ) (made : ℕ) → is_stop o made ≡ true → IsUpToStop o made → o ≡ Some made
 at_stop None made is within = absurd (let t : false ≡ true = is in cc)
 at_stop (Some most) made is within =
     let up : most ≤ made = grind (arith, nat_tests) in

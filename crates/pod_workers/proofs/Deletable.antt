@@ -40,7 +40,7 @@ use Rattle.plan_words.proofs.OwnCalls.{share-own, share-lease, share-begin}
 use Rattle.plan_words.proofs.Refusals.{refused-same, refused-lease}
 use Rattle.cni_verbs.specs.Wanted.{deletion}
 use Rattle.gc_sweep.proofs.Lists.{any-found, count_append, count_without_first, fewer_filter}
-use Rattle.pod_workers.specs.CallsLeft.{deletions_of}
+use Rattle.pod_workers.specs.CallCounts.{deletions_of}
 
 -- ---- counts
 

@@ -9,7 +9,7 @@ use Rattle.kernel_types.specs.declared.call.Call.{Call}
 use Rattle.pod_workers.specs.Facts.{Follows, EachFollows, IsEntryOf, EachTwo, EntryIsInRound, AreOfOneContainer, GoesByRounds, Stops}
 use Rattle.pod_workers.specs.Legal.{Legal, begins, steps, refused_memory, turns}
 use Rattle.pod_workers.specs.Plans.{Placed, commands_of}
-use Rattle.pod_workers.specs.World.{World, IsReady, IsWithin, replies_of, own_replies, reply_to, host_of, is_stop, is_cut, is_cut_at, is_in_round, last_entry, done, entry_of, next_of, at_number}
+use Rattle.pod_workers.specs.World.{World, IsReady, IsUpToStop, replies_of, own_replies, reply_to, host_of, is_stop, is_cut, is_cut_at, is_in_round, last_entry, done, entry_of, next_of, at_number}
 use Rattle.pod_workers.specs.declared.plan.Plan.{Plan}
 use Rattle.pod_workers.specs.declared.plan.Entry.{Entry}
 use Rattle.pod_workers.specs.declared.plan.Next.{Next}
@@ -176,14 +176,14 @@ uncut_at p h before rest e n c (Some number) cut at of_e named is =
 -- ---- the stop of a command
 
 abbrev KeepsStop : World → Type 0
-KeepsStop w = (n : ℕ) (c : Placed) → slice_get (commands_of w.plan) n ≡ Some c → IsWithin c.command.stop (length (own_replies w n))
+KeepsStop w = (n : ℕ) (c : Placed) → slice_get (commands_of w.plan) n ≡ Some c → IsUpToStop c.command.stop (length (own_replies w n))
 
-pub none-made : (stop : Option ℕ) → IsWithin stop 0
+pub none-made : (stop : Option ℕ) → IsUpToStop stop 0
 none-made None = tt
 none-made (Some most) = omega arith
 
 -- a call is made below the stop
-pub within-more : (stop : Option ℕ) (made : ℕ) → is_stop stop made ≡ false → IsWithin stop (made + 1)
+pub within-more : (stop : Option ℕ) (made : ℕ) → is_stop stop made ≡ false → IsUpToStop stop (made + 1)
 within-more None made below = tt
 within-more (Some most) made below = let less : made < most = grind (arith, nat_tests) in omega arith
 
@@ -197,7 +197,7 @@ stop_done v n c (next.Call call faulty) keeps ready is = λ m d at.
           let more = within-more c.command.stop (length (own_replies v n)) (goes_in v n c.command call faulty is).no_stop in
           let grown : length (replies_of m (v.history ++ e ∷ [])) ≡ length (own_replies v n) + 1 =
           ap (λ j. length (replies_of j (v.history ++ e ∷ []))) t.1 ∙ ap length (replies_of-own n v.history e refl) ∙ length_push (own_replies v n) e.reply in
-          subst (IsWithin d.command.stop) (sym grown) (subst (λ (q : Placed). IsWithin q.command.stop (length (own_replies v n) + 1)) same more)
+          subst (IsUpToStop d.command.stop) (sym grown) (subst (λ (q : Placed). IsUpToStop q.command.stop (length (own_replies v n) + 1)) same more)
       | inr f ↦ rw (replies_of-other m v.history e (other_number e n m refl f.1)) (keeps m d at)
     ]
 

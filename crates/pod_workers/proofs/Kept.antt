@@ -18,7 +18,7 @@ use Rattle.pod_workers.specs.Index.{command_in, is_cut_by}
 use Rattle.pod_workers.specs.Legal.{Legal, steps, refused_memory}
 use Rattle.pod_workers.specs.Plans.{Placed, commands_of, list_for}
 use Rattle.pod_workers.specs.Slots.{Fits, CarriesOn, IsKept, MayBeMade, MayCarryOn, next_in, opened, opened_by, slot_after}
-use Rattle.pod_workers.specs.World.{World, IsReady, IsReadyNumber, IsWithin, answered, done, end_of, entry_by, entry_of, host_of, host_on, is_cut, next_by, next_of, own_replies, stepped, with_entry}
+use Rattle.pod_workers.specs.World.{World, IsReady, IsReadyNumber, IsUpToStop, answered, done, end_of, entry_by, entry_of, host_of, host_on, is_cut, next_by, next_of, own_replies, stepped, with_entry}
 use Rattle.pod_workers.specs.declared.index.Place.{Place}
 use Rattle.pod_workers.specs.declared.plan.Entry.{Entry}
 use Rattle.pod_workers.specs.declared.plan.Next.{Next}
@@ -68,9 +68,9 @@ pub opened-is : (list : Option NetList) (c : Command) (rs : List Reply) (s : Opt
 opened-is list c rs None fits = ap (slot_at list c) (sym fits)
 opened-is list c rs (Some s) fits = ap (λ m. record { run = s.run; made = m }) fits.0 ∙ ap (λ r. record { run = r; made = length rs }) fits.1
 
-pub within-fits : (list : Option NetList) (c : Command) (rs : List Reply) (s : Option Slot) → Fits list c rs s → IsWithin c.stop (length rs)
-within-fits list c rs None fits = subst (λ (q : List Reply). IsWithin c.stop (length q)) (sym fits) (none-made c.stop)
-within-fits list c rs (Some s) fits = subst (IsWithin c.stop) fits.0 fits.2
+pub within-fits : (list : Option NetList) (c : Command) (rs : List Reply) (s : Option Slot) → Fits list c rs s → IsUpToStop c.stop (length rs)
+within-fits list c rs None fits = subst (λ (q : List Reply). IsUpToStop c.stop (length q)) (sym fits) (none-made c.stop)
+within-fits list c rs (Some s) fits = subst (IsUpToStop c.stop) fits.0 fits.2
 
 -- ---- one step
 
@@ -79,7 +79,7 @@ pub record IsHere (host : Host) (slots : List (Option Slot)) (places : List Plac
   pub kept : IsKept host slots places before w
   pub ready : IsReady w n c
   pub run : opened_by w.plan.lists c.command s ≡ slot_at (list_for w.plan c.command) c.command (own_replies w n)
-  pub within : IsWithin c.command.stop (length (own_replies w n))
+  pub within : IsUpToStop c.command.stop (length (own_replies w n))
   pub number : c.command.number ≡ n + 1
 
 pub here : (host : Host) (slots : List (Option Slot)) (places : List Place) (before : ℕ) (w : World) (n : ℕ) (c : Placed) (s : Option Slot) → IsKept host slots places before w → IsReady w n c

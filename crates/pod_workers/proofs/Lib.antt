@@ -3,6 +3,7 @@ pub mod AnswersDue
 pub mod Appended
 pub mod Asked
 pub mod BackCalls
+pub mod CallsLeft
 pub mod Clauses
 pub mod Collected
 pub mod Deletable

@@ -46,7 +46,8 @@ use Rattle.cni_verbs.proofs.BackCounts.{chained-ips}
 use Rattle.cni_verbs.specs.CommandWords.{att_of, mappings_of}
 use Rattle.cni_verbs.specs.Script.{back_of, before_of}
 use Rattle.cni_verbs.specs.Wanted.{add_calls, all_chained_calls, back_calls, cached_of, calls_after, chained_calls, chained_result, first_plugin_result, first_result, given_by_list, sets_of}
-use Rattle.pod_workers.specs.CallsLeft.{AddsInAtMost, most_after, most_calls, most_of_chained, most_of_first}
+use Rattle.pod_workers.specs.CallCounts.{AddsInAtMost, most_calls, most_of_chained, most_of_first}
+use Rattle.pod_workers.proofs.CallsLeft.{most_after}
 
 -- ---- lists
 

@@ -25,7 +25,8 @@ use Rattle.kernel_types.specs.declared.call.Reply.TheVariants.{Fault}
 use Rattle.net_conf.specs.declared.list.NetList.{NetList}
 use Rattle.pod_file.specs.declared.command.Command.{Command}
 use Rattle.plan_words.specs.Share.{share_of}
-use Rattle.pod_workers.specs.CallsLeft.{AddsInAtMost, calls_left, collection_left, most_calls}
+use Rattle.pod_workers.specs.CallCounts.{AddsInAtMost, most_calls}
+use Rattle.pod_workers.proofs.CallsLeft.{calls_left, collection_left}
 use Rattle.pod_workers.specs.Legal.{Legal}
 use Rattle.pod_workers.specs.Plans.{Placed, commands_of, list_for}
 use Rattle.pod_workers.specs.World.{World, IsReady, IsReadyNumber, answered, done, entry_of, host_of, host_on, next_of, own_replies, reply_to, with_entry}

@@ -10,7 +10,7 @@ use Rattle.cni_verbs.specs.declared.answer.Answer.TheVariants.{Stopped}
 use Rattle.pod_workers.specs.Facts.{Follows, IsEntryOf, EachTwo, EntryIsInRound, IsUntouched, AreOfOneContainer, IsScripts, IsStopOf, IsDone, IsLegalByClauses, IsDue}
 use Rattle.pod_workers.specs.Legal.{Legal, steps, refused_memory, turns}
 use Rattle.pod_workers.specs.Plans.{Placed, commands_of, list_for}
-use Rattle.pod_workers.specs.World.{World, IsReady, IsAnswered, IsWithin, own_replies, host_of, is_faulty, is_stop, is_cut, is_cut_at, is_in_round, last_entry, answered, with_entry, entry_of, next_of, next_by, next_round, done, at_number}
+use Rattle.pod_workers.specs.World.{World, IsReady, IsAnswered, IsUpToStop, own_replies, host_of, is_faulty, is_stop, is_cut, is_cut_at, is_in_round, last_entry, answered, with_entry, entry_of, next_of, next_by, next_round, done, at_number}
 use Rattle.pod_workers.specs.declared.plan.Plan.{Plan}
 use Rattle.pod_workers.specs.declared.plan.Entry.{Entry}
 use Rattle.pod_workers.specs.declared.plan.Next.TheVariants as next
@@ -200,7 +200,7 @@ done-back v e n m d own other is =
     let same = replies-back v e n m own other in
     (is.0, is.1, elim is.2 [ inl scripts ↦ inl (rw (← same) scripts) | inr (inl most) ↦ inr (inl (rw (← same) most)) | inr (inr lacking) ↦ inr (inr lacking) ])
 
-stop-back : (v : World) (e : Entry) (m : ℕ) (stop : Option ℕ) → IsWithin stop (length (own_replies (with_entry v e) m)) → IsWithin stop (length (own_replies v m))
+stop-back : (v : World) (e : Entry) (m : ℕ) (stop : Option ℕ) → IsUpToStop stop (length (own_replies (with_entry v e) m)) → IsUpToStop stop (length (own_replies v m))
 stop-back v e m None within = tt
 stop-back v e m (Some most) within = let less : length (own_replies (with_entry v e) m) ≤ most = within in elim (eqb_tells e.command (m + 1)) [
   | inl t ↦ let longer = ap length (replies_of-own m v.history e t.1) ∙ length_push (own_replies v m) e.reply in omega arith

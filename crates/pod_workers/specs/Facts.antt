@@ -9,7 +9,7 @@ use Rattle.pod_workers.specs.Extends.{KeepsAnswers}
 use Rattle.pod_workers.specs.Legal.{Legal}
 use Rattle.pod_workers.specs.Plans.{Placed, IsWellFormed, commands_of, list_for, IsOf}
 use Rattle.cni_verbs.specs.Progress.{turn_by, answer_by}
-use Rattle.pod_workers.specs.World.{World, after, replies_of, own_replies, reply_to, is_faulty, is_stop, next_of, stepped, with_entry, IsAnswered, IsReady, IsWithin}
+use Rattle.pod_workers.specs.World.{World, after, replies_of, own_replies, reply_to, is_faulty, is_stop, next_of, stepped, with_entry, IsAnswered, IsReady, IsUpToStop}
 use Rattle.pod_workers.specs.declared.plan.Plan.{Plan}
 use Rattle.pod_workers.specs.declared.plan.Entry.{Entry}
 use Rattle.pod_workers.specs.declared.plan.Next.TheVariants as next
@@ -127,7 +127,7 @@ pub record GoesOneByOne (w : World) : Type 0 where
 
 -- no command makes more calls than its `stop`, and after the entry that `stop_at` names its round makes none
 pub record Stops (w : World) : Type 0 where
-  pub own : (n : ℕ) (c : Placed) → slice_get (commands_of w.plan) n ≡ Some c → IsWithin c.command.stop (length (own_replies w n))
+  pub own : (n : ℕ) (c : Placed) → slice_get (commands_of w.plan) n ≡ Some c → IsUpToStop c.command.stop (length (own_replies w n))
   pub round : EachTwo w.plan w.history (λ number m d n c. w.plan.stop_at ≡ Some number → d.round < c.round)
 
 -- ---- answers

@@ -1,4 +1,4 @@
-pub mod CallsLeft
+pub mod CallCounts
 pub mod Extends
 pub mod Facts
 pub mod Index

@@ -10,7 +10,7 @@ use Rattle.pod_file.specs.declared.command.Command.{Command}
 use Rattle.pod_workers.specs.Index.{IsIndex}
 use Rattle.pod_workers.specs.Legal.{Legal}
 use Rattle.pod_workers.specs.Plans.{Placed, commands_of, list_for, list_in, placed_from}
-use Rattle.pod_workers.specs.World.{World, IsWithin, entry_by, host_of, host_on, next_by, own_replies, reply_to}
+use Rattle.pod_workers.specs.World.{World, IsUpToStop, entry_by, host_of, host_on, next_by, own_replies, reply_to}
 use Rattle.pod_workers.specs.declared.index.Place.{Place}
 use Rattle.pod_workers.specs.declared.plan.Entry.{Entry}
 use Rattle.pod_workers.specs.declared.plan.Next.{Next}
@@ -38,12 +38,12 @@ slot_after s r = record { run = advanced s.run r; made = s.made + 1 }
 
 -- where the command is stopped, its number of calls fits the answer
 abbrev pub IsCountable : Command → Bool → ℕ → Type 0
-IsCountable c cut made = IsWithin c.stop made × (cut ≡ true → made < 2 ^ 32)
+IsCountable c cut made = IsUpToStop c.stop made × (cut ≡ true → made < 2 ^ 32)
 
 -- a run that has not begun has no replies
 abbrev pub Fits : Option NetList → Command → List Reply → Option Slot → Type 0
 Fits list c rs None = rs ≡ []
-Fits list c rs (Some s) = (s.made ≡ length rs) × (s.run ≡ progress list c rs) × IsWithin c.stop s.made
+Fits list c rs (Some s) = (s.made ≡ length rs) × (s.run ≡ progress list c rs) × IsUpToStop c.stop s.made
 
 -- ---- one step
 

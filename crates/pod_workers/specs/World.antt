@@ -78,9 +78,9 @@ is_stop None made = false
 is_stop (Some most) made = nat_le most made
 
 -- no more calls than the command is to make
-abbrev pub IsWithin : Option ℕ → ℕ → Type 0
-IsWithin None made = Unit {0}
-IsWithin (Some most) made = made ≤ most
+abbrev pub IsUpToStop : Option ℕ → ℕ → Type 0
+IsUpToStop None made = Unit {0}
+IsUpToStop (Some most) made = made ≤ most
 
 abbrev pub last_entry : List Entry → Option Entry
 last_entry h = slice_get h (length h - 1)

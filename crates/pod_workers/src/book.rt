@@ -193,8 +193,8 @@ impl<K: Kernel + Drop> Book<K> {
     }
 
     /// Steps each command of the current round to its answer, in file order, and makes the next round current. It ends,
-    /// since a step gives an answer or enters a call, and each run has a bounded number of calls
-    /// (`pod_workers/specs/CallsLeft.antt`; in numbers, `each_run_is_bounded` and the laws beside it in `pod_laws`).
+    /// since a step gives an answer or enters a call, and each run has a bounded number of calls (`each_run_is_bounded`
+    /// of `pod_laws`, and the laws beside it).
     pub fn round_alone(&mut self)
         requires { self.old.round < length self.old.plan.pods.rounds }
         ensures rounds { Rounds self.old self.new }

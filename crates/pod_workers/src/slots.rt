@@ -8,7 +8,7 @@ ghost use Rattle.kernel_types.specs.Allowed.{IsAllowed};
 ghost use Rattle.kernel_types.specs.Replies.{holds_text_or_list, is_fault};
 ghost use Rattle.pod_workers.specs.Slots.{IsCountable, CarriesOn, MayCarryOn, next_in, opened_by, slot_after};
 ghost use Rattle.pod_workers.specs.Tasks.{IsListed};
-ghost use Rattle.pod_workers.specs.World.{IsWithin, entry_by, host_on, is_stop};
+ghost use Rattle.pod_workers.specs.World.{IsUpToStop, entry_by, host_on, is_stop};
 
 use crate::join::list_of;
 use crate::plan::{Entry, Next};
@@ -158,7 +158,7 @@ fn look(slot: &mut Slot, command: &Command, cut: bool) -> Result<Next, NoMemory>
 }
 
 fn is_stopped(stop: Option<u32>, cut: bool, made: u64) -> bool
-    requires within { IsWithin stop made }
+    requires within { IsUpToStop stop made }
     requires cut { cut ≡ true → made < 2 ^ 32 }
     ensures stop { result ≡ (is_stop stop made || cut) }
     ensures small { IsTrue result → made < 2 ^ 32 }

@@ -1,0 +1,53 @@
+-- The most calls that a run still makes, by what is left to do and by what its attachment has.
+use Rattle.std.specs.Prelude.{ℕ, ◌+◌, ◌-◌, ◌*◌, List, [], ◌∷◌, length}
+use Rattle.kernel_types.specs.declared.object.CachedObj.{CachedObj}
+use Rattle.kernel_types.specs.declared.object.Host.{Host}
+use Rattle.net_conf.specs.declared.list.NetList.{NetList}
+use Rattle.pod_file.specs.declared.command.Command.{Command}
+use Rattle.plan_words.specs.Share.{Share}
+use Rattle.cni_verbs.specs.Questions.{check_questions}
+use Rattle.cni_verbs.specs.Script.{State, AtBegin, BeforeLeases, Leasing, AfterLeases, ReadingCache, Deleting, FindingEntry, Asking, Changing, Collecting, Over, before_of}
+use Rattle.cni_verbs.specs.Sweep.{Work}
+use Rattle.gc_sweep.proofs.Weights.{jobs_weight, sweeps_weight}
+use Rattle.cni_verbs.specs.Wanted.{kinds_of, sets_of}
+use Rattle.pod_workers.specs.CallCounts.{deletions_of}
+
+-- ---- the calls that are left
+
+-- of so many calls of an ADD, those after its last lease
+abbrev pub most_after : ℕ → NetList → Command → ℕ
+most_after most list c = most - (1 + length (before_of list c) + length (sets_of list))
+
+-- so many calls that make objects, each of which may have to be taken back, and then the deletions of what is there
+abbrev pub making : ℕ → NetList → Share → ℕ
+making calls list s = 2 * calls + deletions_of s + length (kinds_of list) + 1
+
+-- the questions of a check, by the attachment's cached entry
+abbrev pub questions_by : NetList → Command → List CachedObj → ℕ
+questions_by list c [] = 0
+questions_by list c (x ∷ xs) = length (check_questions list c x.cached)
+
+-- The most calls of a run in this state, whose attachment has this share. An ADD has at most so many, where none is
+-- refused. A collection is counted by `collection_left` alone.
+abbrev pub calls_left : ℕ → NetList → Command → State → Share → ℕ
+calls_left most list c AtBegin s = 2 * most + length (kinds_of list) + 1
+calls_left most list c (BeforeLeases next left) s = making (1 + length left + length (sets_of list) + most_after most list c) list s
+calls_left most list c (Leasing next left given) s = making (1 + length left + most_after most list c) list s
+calls_left most list c (AfterLeases next left given) s = making (1 + length left) list s
+calls_left most list c (ReadingCache ending) s = 1 + length (kinds_of list) + deletions_of s
+calls_left most list c (Deleting next left ending) s = 1 + length left + deletions_of s
+calls_left most list c FindingEntry s = 1 + questions_by list c s.cached
+calls_left most list c (Asking next left) s = 1 + length left
+calls_left most list c (Changing change) s = 1
+calls_left most list c (Collecting work faults) s = 0
+calls_left most list c (Over ending given) s = 0
+
+-- ---- a collection
+
+-- the objects of a host that are deleted one by one
+abbrev pub objects_in : Host → ℕ
+objects_in host = length host.links + length host.rules + length host.settings + length host.leases + length host.cached
+
+-- a sweep names no more owners than there are objects, and each object is deleted once
+abbrev pub collection_left : Work → Host → ℕ
+collection_left work host = sweeps_weight (objects_in host) work.sweeps + jobs_weight work.jobs + objects_in host
