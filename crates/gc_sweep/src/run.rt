@@ -1,10 +1,9 @@
 //! The run of a garbage collection, a call at a time.
 
-ghost use Rattle.std.specs.Prelude.{◌≡◌, ◌+◌, ◌<◌, ◌^◌, ℕ, List, IfOk, OnOk, OnErr, IsOk, MatchBool, Some, None, [], false, true, option_map};
+ghost use Rattle.std.specs.Prelude.{◌≡◌, ◌+◌, ◌<◌, ◌^◌, IfOk, OnOk, OnErr, IsOk, MatchBool, Some, None, [], false, true, option_map};
 ghost use Rattle.kernel_types.specs.Replies.{is_fault};
 ghost use Rattle.cni_verbs.specs.Progress.{is_gc, progress, advanced, answer_by};
-ghost use Rattle.cni_verbs.specs.Script.{IsOpen, next_call, finish_of, collecting, finish_of_work, faults_after};
-ghost use Rattle.cni_verbs.specs.Sweep.{Work};
+ghost use Rattle.cni_verbs.specs.Script.{IsOpen, next_call, finish_of, finish_of_work, faults_after};
 ghost use Rattle.gc_sweep.specs.View.{is_early, jobs_left, sweeps_after, IsPlace};
 
 use crate::place::{Place, next_call, take};
@@ -107,17 +106,21 @@ impl GcRun {
         ensures { IfOk result (λ answer. answer ≡ option_map (answer_by self.now.list self.now.command) (finish_of self.now.state)) }
     {
         let alloc = *self.place.owners.allocator();
-        if is_early(&self.list) {
-            Ok(Some(early_answer(alloc, &self.list, &self.command)?))
-        } else {
-            work_answer(
+        match early_ending(&self.list) {
+            Some(ending) => Ok(Some(plain_answer(
+                alloc,
+                self.list.version,
+                &self.command,
+                &ending,
+            )?)),
+            None => work_answer(
                 alloc,
                 &self.list,
                 &self.command,
                 self.kinds.as_slice(),
                 &self.place,
                 &self.faults,
-            )
+            ),
         }
     }
 }
@@ -127,17 +130,6 @@ fn is_early(list: &NetList) -> bool
     ensures { result ≡ is_early list.now.version list.now.disable_gc }
 {
     early_ending(list).is_some()
-}
-
-/// The answer that a list gives before any call.
-fn early_answer(alloc: Global, list: &NetList, command: &Command) -> Result<Answer, NoMemory>
-    requires { is_early list.now.version list.now.disable_gc ≡ true }
-    ensures { IfOk result (λ answer. (work : Work) (faults : List ℕ) → Some answer ≡ option_map (answer_by (Some list.now) command.now) (finish_of (collecting list.now.version list.now.disable_gc work faults))) }
-{
-    match early_ending(list) {
-        Some(ending) => plain_answer(alloc, list.version, command, &ending),
-        None => unreachable!(),
-    }
 }
 
 /// The answer where no work is left.
