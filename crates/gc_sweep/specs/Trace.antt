@@ -1,6 +1,6 @@
 -- What a collection that is alone with a host has done.
 use Rattle.std.specs.Prelude.{◌≡◌, ℕ, ◌+◌, Bool, false, ◌&&◌, List, [], ◌∷◌, map, Some}
-use Rattle.std.specs.List.{list_any}
+use Rattle.std.specs.List.{fold, list_any}
 use Rattle.kernel_types.specs.Codes.{kind_eq}
 use Rattle.kernel_types.specs.Replies.{is_fault}
 use Rattle.kernel_types.specs.Words.{is_own}
@@ -27,8 +27,7 @@ abbrev pub host_on : Host → Made → Host
 host_on host e = host_after host e.call e.reply
 
 abbrev pub host_from : Host → List Made → Host
-host_from host [] = host
-host_from host (e ∷ es) = host_from (host_on host e) es
+host_from host es = fold host_on host es
 
 -- each entry is the script's next call, with the host's reply or a fault
 abbrev pub IsRunFrom : NetList → Command → ℕ → State → Host → List Made → Type 0
