@@ -22,6 +22,7 @@ use Rattle.kernel_types.specs.declared.object.Link.{Link}
 use Rattle.kernel_types.specs.declared.object.Rule.{Rule}
 use Rattle.kernel_types.specs.declared.call.Call.TheVariants.{AddrAdd, RouteAdd, RuleAppend}
 use Rattle.kernel_types.specs.declared.call.Given.{Given}
+use Rattle.pod_file.proofs.CommandFacts.{length-scan}
 use Rattle.plan_words.specs.Share.{Share}
 use Rattle.kernel_types.specs.Words.{lease_of}
 use Rattle.plan_words.specs.Rows.{present}
@@ -31,7 +32,7 @@ use Rattle.portmap.specs.Portmap.{portmap_rules, portmap_calls_of}
 use Rattle.firewall_tuning.specs.Firewall.{firewall_rules, firewall_calls_of}
 use Rattle.firewall_tuning.specs.Tuning.{sets_any, tuned, tuning_settings}
 use Rattle.cni_verbs.specs.CommandWords.{att_of}
-use Rattle.cni_verbs.specs.Questions.{link_question, address_question, route_question, rule_questions, setting_question, lease_question, share_questions, bridge_questions, addresses_of_result, cached_share, check_questions, pool_questions, master_questions, status_questions}
+use Rattle.cni_verbs.specs.Questions.{link_question, address_question, route_question, rule_question, rule_questions, setting_question, lease_question, share_questions, bridge_questions, addresses_of_result, cached_share, check_questions, pool_question, pool_questions, master_questions, status_questions}
 use Rattle.cni_verbs.specs.Wanted.{sets_of, share_before, share_after, rules_of, settings_of, all_links_after, untuned, given_by_list, first_plugin_result}
 
 -- ---- the plugins
@@ -104,8 +105,7 @@ length-links (Tuning conf ∷ cs) att netns links =
 -- ---- CHECK
 
 length-rules : (number : ℕ) (rules : List Rule) → length (rule_questions number rules) ≡ length rules
-length-rules number [] = refl
-length-rules number (rule ∷ rules) = omega (arith, length-rules (number + 1) rules)
+length-rules number rules = length-scan (λ (n : ℕ) (rule : Rule). n + 1) rule_question number rules
 
 pub length-share : (s : Share)
     → length (share_questions s) ≡ length s.links + (length s.addresses + (length s.routes + (length s.rules + (length s.settings + length s.leases))))
@@ -168,8 +168,7 @@ check-counted list c cached objects made bridges links of_objects of_made of_bri
 -- ---- STATUS
 
 pub length-pools : (network : List ℕ) (number : ℕ) (sets : List RangeSet) → length (pool_questions network number sets) ≡ length sets
-length-pools network number [] = refl
-length-pools network number (set ∷ sets) = omega (arith, length-pools network (number + 1) sets)
+length-pools network number sets = length-scan (λ (n : ℕ) (set : RangeSet). n + 1) (pool_question network) number sets
 
 pub status-counted : (list : NetList) (c : Command) (sets masters : ℕ) → sets ≡ length (sets_of list) → masters ≡ length (master_questions list.first) → sets + masters ≡ length (status_questions list c)
 unfolding status_questions

@@ -1,6 +1,6 @@
 -- What CHECK and STATUS ask of the kernel, and what a denial means (CNI specification, section 3, "Checking attachment"
 -- and "Status").
-use Rattle.std.specs.Prelude.{ℕ, ◌+◌, List, [], ◌∷◌, ◌++◌, map, Option, Some, None}
+use Rattle.std.specs.Prelude.{ℕ, ◌+◌, List, [], ◌∷◌, ◌++◌, map, scan, Option, Some, None}
 use Rattle.cni_addr.specs.declared.address.Addr.{Addr}
 use Rattle.cni_addr.specs.declared.mac.Mac.{Mac}
 use Rattle.cni_addr.specs.declared.range.RangeSet.{RangeSet}
@@ -44,9 +44,11 @@ abbrev pub route_question : RouteObj → Question
 route_question r = asks_for (objects.Route r) (missed.Route r.ns r.link r.dst)
 
 -- rules have no names: they are told by their place, from 1
+abbrev pub rule_question : ℕ → Rule → Question
+rule_question number r = asks_for (objects.Rule r) (missed.Rule r.table r.chain number)
+
 abbrev pub rule_questions : ℕ → List Rule → List Question
-rule_questions number [] = []
-rule_questions number (r ∷ rs) = asks_for (objects.Rule r) (missed.Rule r.table r.chain number) ∷ rule_questions (number + 1) rs
+rule_questions number rules = scan (λ n rule. n + 1) rule_question number rules
 
 abbrev pub setting_question : Setting → Question
 setting_question s = asks_for (objects.Setting s) (missed.Setting s.ns s.key)
@@ -86,9 +88,11 @@ check_questions list c cached = bridge_questions list.first cached.result.interf
 
 -- ---- STATUS: a free address in each range set, and the master
 
+abbrev pub pool_question : List ℕ → ℕ → RangeSet → Question
+pool_question network number set = record { call = PoolFree network set; lack = NoFreeAddress number }
+
 abbrev pub pool_questions : List ℕ → ℕ → List RangeSet → List Question
-pool_questions network number [] = []
-pool_questions network number (set ∷ sets) = record { call = PoolFree network set; lack = NoFreeAddress number } ∷ pool_questions network (number + 1) sets
+pool_questions network number sets = scan (λ n set. n + 1) (pool_question network) number sets
 
 abbrev pub master_questions : First → List Question
 master_questions (firsts.Bridge conf) = []

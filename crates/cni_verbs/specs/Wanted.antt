@@ -1,6 +1,7 @@
 -- The calls of an ADD, the objects that it wants, and its result (CNI specification, section 3, "Adding an
 -- attachment").
 use Rattle.std.specs.Prelude.{ℕ, List, [], ◌∷◌, ◌++◌, map, flat_map}
+use Rattle.std.specs.List.{fold}
 use Rattle.cni_addr.specs.declared.address.Addr.{Addr}
 use Rattle.cni_addr.specs.declared.range.RangeSet.{RangeSet}
 use Rattle.cni_result.specs.declared.cached.PortMapping.{PortMapping}
@@ -101,8 +102,7 @@ chained_kinds (Tuning conf) = tuning_kinds
 
 -- each is handed the result of the one before
 abbrev pub all_chained_results : List Chained → AddResult → AddResult
-all_chained_results [] prev = prev
-all_chained_results (c ∷ cs) prev = all_chained_results cs (chained_result c prev)
+all_chained_results cs prev = fold (λ r c. chained_result c r) prev cs
 
 abbrev pub all_chained_calls : List Chained → Att → List ℕ → List PortMapping → AddResult → List Call
 all_chained_calls [] att netns mappings prev = []
@@ -110,8 +110,7 @@ all_chained_calls (c ∷ cs) att netns mappings prev =
     chained_calls c att netns mappings prev.ips ++ all_chained_calls cs att netns mappings (chained_result c prev)
 
 abbrev pub all_links_after : List Chained → Att → List ℕ → List Link → List Link
-all_links_after [] att netns links = links
-all_links_after (c ∷ cs) att netns links = all_links_after cs att netns (links_after c att netns links)
+all_links_after cs att netns links = fold (λ ls c. links_after c att netns ls) links cs
 
 -- ---- the result
 

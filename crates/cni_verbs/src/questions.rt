@@ -120,7 +120,7 @@ fn ask_each<T: Checked>(questions: &mut Vec<Question>, objects: &[T]) -> Result<
 }
 
 fn rule_question(rule: &Rule, number: u64) -> Result<Question, NoMemory>
-    ensures { IfOk result (λ q. q ≡ asked.asks_for (Object.Rule rule.now) (Missed.Rule rule.now.table rule.now.chain number)) }
+    ensures { IfOk result (λ q. q ≡ asked.rule_question number rule.now) }
 {
     let missed = Missed::Rule {
         table: rule.table,
@@ -268,7 +268,7 @@ pub(crate) fn check_questions(
 // ---- STATUS
 
 fn pool_question(network: &Text, place: usize, set: &RangeSet) -> Result<Question, NoMemory>
-    ensures { IfOk result (λ q. q ≡ record { call = calls.PoolFree network.now set.now; lack = Cause.NoFreeAddress place }) }
+    ensures { IfOk result (λ q. q ≡ asked.pool_question network.now place set.now) }
 {
     // The list of a run has no more than `MOST_SETS`, so the number fits.
     let Ok(number) = u32::try_from(place) else {

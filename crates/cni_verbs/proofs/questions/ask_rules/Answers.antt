@@ -1,7 +1,10 @@
-use Rattle.cni_verbs.proofs.Asked.{rules_more}
+use Rattle.std.proofs.Common.{◌+◌}
+use Rattle.cni_verbs.specs.Questions.{rule_question}
+use Rattle.cni_verbs.proofs.Asked.{numbered_more}
 use Rattle.cni_verbs.proofs.questions.ask_rules.Goals as goal
 
 pub loop-place-preserved : goal.loop-place-preserved
 loop-place-preserved c =
-    rules_more _ _ _ c.args.rules.now c.loop-place.place c.index-rules-place.result _ c.loop-place-test.true c.index-rules-place.is
+    let place = c.loop-place.place in
+    numbered_more rule_question _ _ _ (place + 1) c.args.rules.now place c.index-rules-place.result _ c.loop-place-test.true c.index-rules-place.is
     c.in_ok-question.ensures c.loop-place.invariant c.in_ok-push.ensures.items
