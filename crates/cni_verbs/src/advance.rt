@@ -255,6 +255,7 @@ pub(crate) fn after(
         Phase::FindingEntry => after_entry(number, reply),
         Phase::Asking(inquiry) => after_question(inquiry.hand_on(), number, reply),
         Phase::Changing(_) => Phase::Over(changed(number, reply)),
+        // To a run that is over, no reply comes.
         Phase::Denied(_) | Phase::Over(_) => Phase::Over(changed(number, reply)),
     }
 }
