@@ -33,24 +33,16 @@ GivesOrNoMemory (Err NoMemory) answer = IsOk answer
 
 -- A read that did not fail has the answer that the file has.
 abbrev pub ReadsTold : Result (Vec ℕ Global) FileFault → Result (List ℕ) FileFault → Type 0
-ReadsTold (Ok bytes) file = GivesOrNoMemory (Ok bytes) file
-ReadsTold (Err Missing) file = GivesOrNoMemory (Err Missing) file
-ReadsTold (Err (TooLarge limit)) file = GivesOrNoMemory (Err (TooLarge limit)) file
 ReadsTold (Err Failed) file = ⊤
-ReadsTold (Err NoMemory) file = GivesOrNoMemory (Err NoMemory) file
+ReadsTold read file = GivesOrNoMemory read file
 
 -- the read failed
 abbrev pub IsFailed : Result (Vec ℕ Global) FileFault → Type 0
-IsFailed (Ok bytes) = ⊥
-IsFailed (Err Missing) = ⊥
-IsFailed (Err (TooLarge limit)) = ⊥
 IsFailed (Err Failed) = ⊤
-IsFailed (Err NoMemory) = ⊥
+IsFailed read = ⊥
 
 -- at most `limit` bytes are given, and a file that has more is refused with this limit
 abbrev pub KeepsToLimit : ℕ → Result (Vec ℕ Global) FileFault → Type 0
 KeepsToLimit limit (Ok bytes) = vec_len bytes ≤ limit
-KeepsToLimit limit (Err Missing) = ⊤
 KeepsToLimit limit (Err (TooLarge named)) = named ≡ limit
-KeepsToLimit limit (Err Failed) = ⊤
-KeepsToLimit limit (Err NoMemory) = ⊤
+KeepsToLimit limit read = ⊤
