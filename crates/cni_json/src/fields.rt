@@ -114,9 +114,5 @@ pub fn need_object<E: Refusal, W: FnOnce() -> E>(value: &Value, refusal: W) -> R
     ensures { (wanted : E) → IsRefusal E.is_want_of_memory W.FnOnce refusal wanted
         → GivesAs E.is_want_of_memory (λ t. t) result (object_or (Err wanted) (view value.now)) }
 {
-    if value.is_object() {
-        Ok(())
-    } else {
-        Err(refusal())
-    }
+    value.is_object().then_some(()).ok_or_else(refusal)
 }

@@ -76,11 +76,9 @@ fn version(alloc: Global, top: &Value) -> Result<Version, ResultError>
 fn indexes(alloc: Global, count: usize, ips: &[IpEntry]) -> Result<(), ResultError>
     ensures { GivesAs is_want_of_memory (λ unit. unit) result (indexes_at count ips.now) }
 {
-    if are_on(count, ips) {
-        Ok(())
-    } else {
-        Err(invalid(alloc, "interface"))
-    }
+    are_on(count, ips)
+        .then_some(())
+        .ok_or_else(|| invalid(alloc, "interface"))
 }
 
 fn are_on(count: usize, ips: &[IpEntry]) -> bool

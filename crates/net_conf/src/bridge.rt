@@ -130,9 +130,7 @@ fn promisc(alloc: Global, object: &Value) -> Result<bool, ConfError>
 fn not_both(alloc: Global, modes: BridgeModes) -> Result<(), ConfError>
     ensures { GivesAs is_want_of_memory (λ t. t) result (wanted.not_both modes) }
 {
-    if modes.hairpin && modes.promisc {
-        Err(invalid(alloc, "hairpinMode"))
-    } else {
-        Ok(())
-    }
+    (!(modes.hairpin && modes.promisc))
+        .then_some(())
+        .ok_or_else(|| invalid(alloc, "hairpinMode"))
 }

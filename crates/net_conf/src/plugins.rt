@@ -106,11 +106,9 @@ fn later(alloc: Global, before: &[Chained], plugin: &Value) -> Result<Chained, C
 fn not_repeated(alloc: Global, before: &[Chained], plugin_type: PluginType) -> Result<(), ConfError>
     ensures { GivesAs is_want_of_memory (λ t. t) result (wanted.not_repeated before.now plugin_type) }
 {
-    if has_type(before, plugin_type) {
-        Err(invalid(alloc, "plugins"))
-    } else {
-        Ok(())
-    }
+    (!has_type(before, plugin_type))
+        .then_some(())
+        .ok_or_else(|| invalid(alloc, "plugins"))
 }
 
 fn has_type(plugins: &[Chained], plugin_type: PluginType) -> bool

@@ -120,11 +120,9 @@ fn addr_or<P: Fn(&Addr) -> bool>(
 fn in_order(alloc: Global, start: &Addr, end: &Addr) -> Result<(), ConfError>
     ensures { GivesAs is_want_of_memory (λ t. t) result (ranges.in_order start.now end.now) }
 {
-    if start.bits <= end.bits {
-        Ok(())
-    } else {
-        Err(invalid(alloc, "rangeStart"))
-    }
+    (start.bits <= end.bits)
+        .then_some(())
+        .ok_or_else(|| invalid(alloc, "rangeStart"))
 }
 
 fn shares_family(addr: &Addr, subnet: &Cidr) -> bool

@@ -54,11 +54,9 @@ fn has_subnet(object: &Value) -> bool
 fn well_formed(alloc: Global, has_own: bool, listed: &[Value]) -> Result<(), ConfError>
     ensures { GivesAs is_want_of_memory (λ t. t) result (wanted.well_formed has_own (items_view listed.now)) }
 {
-    if is_set_count(has_own, listed) && all_set_forms(listed) {
-        Ok(())
-    } else {
-        Err(invalid(alloc, "ranges"))
-    }
+    (is_set_count(has_own, listed) && all_set_forms(listed))
+        .then_some(())
+        .ok_or_else(|| invalid(alloc, "ranges"))
 }
 
 #[tactic(auto, using(crate::proofs::ValueLemmas::counts))]
@@ -135,11 +133,9 @@ fn separate(alloc: Global, sets: &[RangeSet]) -> Result<(), ConfError>
     ensures { GivesAs is_want_of_memory (λ t. t) result (wanted.separate sets.now) }
 {
     let mut ranges = ranges_of(alloc, sets)?;
-    if share_no_address(&mut ranges) && all_of_one_family(sets) {
-        Ok(())
-    } else {
-        Err(invalid(alloc, "ranges"))
-    }
+    (share_no_address(&mut ranges) && all_of_one_family(sets))
+        .then_some(())
+        .ok_or_else(|| invalid(alloc, "ranges"))
 }
 
 /// All ranges, set by set.

@@ -171,11 +171,9 @@ fn not_taken(
 ) -> Result<(), PodError>
     ensures { GivesAs is_want_of_memory (λ t. t) result (wanted.not_taken before.now index ns.now name.now) }
 {
-    if is_taken(before, ns, name) {
-        Err(wrong_link(alloc, index))
-    } else {
-        Ok(())
-    }
+    (!is_taken(before, ns, name))
+        .then_some(())
+        .ok_or_else(|| wrong_link(alloc, index))
 }
 
 fn is_taken(links: &[Link], ns: &str, name: &str) -> bool

@@ -50,9 +50,7 @@ fn few(alloc: Global, rounds: &[Items<Command>]) -> Result<(), PodError>
     ensures given { GivesAs is_want_of_memory (λ t. t) result (limits.few rounds.now) }
     ensures within { IfOk result (λ _. limits.are_few rounds.now ≡ true) }
 {
-    if are_few(rounds) {
-        Ok(())
-    } else {
-        Err(wrong(alloc, "rounds"))
-    }
+    are_few(rounds)
+        .then_some(())
+        .ok_or_else(|| wrong(alloc, "rounds"))
 }
