@@ -21,7 +21,7 @@ use Rattle.net_conf.specs.Bridge.{bridge_rows, bridge_name_of, bridge_name_at, g
 use Rattle.net_conf.specs.Firewall.{firewall_at}
 use Rattle.net_conf.specs.Ipam.{manager_at, host_local_at, is_empty, ipam_of, ipam_at, addressing_at}
 use Rattle.net_conf.specs.Macvlan.{macvlan_rows, master_at, mode_at, macvlan_at}
-use Rattle.net_conf.specs.Members.{flag_at, default_mtu, given_mtu_at, mtu_at, of_kind}
+use Rattle.net_conf.specs.Members.{flag_at, default_mtu, given_mtu_at, mtu_at, ok_map}
 use Rattle.net_conf.specs.Names.{is_interface_name}
 use Rattle.net_conf.specs.Outside.{supported, all_supported}
 use Rattle.net_conf.specs.PluginTypes.{type_eq, type_of_chained}
@@ -72,7 +72,7 @@ host_local_at-ok d conf is =
       routes = routes_at-ok d routes.value routes.first;
     })
 
-host_local_or_none-ok : (d : Data) (found : Option HostLocalConf) → (if is_empty d then Ok None else of_kind Some (host_local_at d)) ≡ Ok found → IsWellFormedIpam found
+host_local_or_none-ok : (d : Data) (found : Option HostLocalConf) → (if is_empty d then Ok None else ok_map Some (host_local_at d)) ≡ Ok found → IsWellFormedIpam found
 host_local_or_none-ok d found is =
     by_test (is_empty d) _ _ _ is
     (λ empty same. subst IsWellFormedIpam (ok_same same) tt)

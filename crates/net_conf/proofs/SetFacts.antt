@@ -1,6 +1,6 @@
 -- What sets of ranges and routes keep that are read.
 use Rattle.std.proofs.Common.{◌≡◌, ℕ, suc, ◌+◌, ◌<◌, Bool, true, false, List, [], ◌∷◌, ◌++◌, length, Option, Some, None, Ok, refl, sym, ap, ◌∙◌, subst, arith, length-append}
-use Rattle.std.specs.Prelude.{All}
+use Rattle.std.specs.Prelude.{All, ok_or, option_map}
 use Rattle.std.specs.List.{list_all}
 use Rattle.std.proofs.lemmas.Bool.{and_parts}
 use Rattle.std.proofs.lemmas.List.Elements.{All-nil, All-cons, All-append}
@@ -22,9 +22,10 @@ use Rattle.cni_json.proofs.EachLemmas.{each_after-front}
 use Rattle.net_conf.proofs.RangeFacts.{addr_if_at-ok, range_at-ok, read_is_cidr}
 use Rattle.cni_json.specs.Each.{each, each_after, with_front}
 use Rattle.net_conf.specs.Ranges.{is_address_of, range_at}
-use Rattle.net_conf.specs.Routes.{destination_or_refused, destination_of, destination_at, route_at, routes_of, routes_at}
+use Rattle.net_conf.specs.Routes.{destination_of, destination_at, route_at, routes_of, routes_at}
 use Rattle.net_conf.specs.Sets.{set_of, is_set, all_items, is_of_one_family, ranges_of, has_subnet, listed_at, is_set_count, one_if, well_formed, own_sets_of, separate, sets_at}
 use Rattle.net_conf.specs.WellFormed.{IsWellFormedRange, IsWellFormedSet, IsWellFormedRoute}
+use Rattle.net_conf.specs.declared.error.ConfError.{ConfError}
 
 -- ---- a set
 
@@ -108,15 +109,15 @@ sets_at-ok d sets is =
 
 -- ---- routes
 
-destination_or_refused-ok : (o : Option CidrValue) (c : CidrValue) → ((v : CidrValue) → o ≡ Some v → IsCidr v) → destination_or_refused o ≡ Ok c → IsCidr c × (network_of c ≡ c)
-destination_or_refused-ok None c kept is = cc
-destination_or_refused-ok (Some v) c kept is =
+network_or-ok : (o : Option CidrValue) (e : ConfError) (c : CidrValue) → ((v : CidrValue) → o ≡ Some v → IsCidr v) → ok_or (option_map network_of o) e ≡ Ok c → IsCidr c × (network_of c ≡ c)
+network_or-ok None e c kept is = cc
+network_or-ok (Some v) e c kept is =
     subst (λ n. IsCidr n × (network_of n ≡ n)) (ok_same is) (IsCidr-network_of v (kept v refl), network_of_network v)
 
 destination_of-ok : (f : Field (List ℕ)) (c : CidrValue) → destination_of f ≡ Ok c → IsCidr c × (network_of c ≡ c)
 destination_of-ok Absent c is = cc
 destination_of-ok WrongKind c is = cc
-destination_of-ok (Here text) c is = destination_or_refused-ok (cidr_of_text text) c (read_is_cidr text) is
+destination_of-ok (Here text) c is = network_or-ok (cidr_of_text text) _ c (read_is_cidr text) is
 
 destination_at-ok : (d : Data) (c : CidrValue) → destination_at d ≡ Ok c → IsCidr c × (network_of c ≡ c)
 unfolding destination_at

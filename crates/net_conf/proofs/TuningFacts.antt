@@ -1,6 +1,6 @@
 -- What the configuration of `tuning` keeps that is read.
 use Rattle.std.proofs.Common.{◌≡◌, ℕ, Bool, true, false, List, [], codes, Option, Some, None, Result, Ok, Less, nat_cmp, nat_eq, refl, sym, ap, ◌∙◌, subst}
-use Rattle.std.specs.Prelude.{All, not, map, if◌then◌else◌}
+use Rattle.std.specs.Prelude.{All, not, map, if◌then◌else◌, ok_or, option_map}
 use Rattle.std.specs.Cmp.Lexicographic.{slice_cmp}
 use Rattle.std.specs.List.Sorted.{IsStrictlySortedBy}
 use Rattle.std.specs.List.{AllByRecursion, IsDistinct}
@@ -23,7 +23,7 @@ use Rattle.cni_json.proofs.WholeNumbers.{member_at-found, u32_of-fits}
 use Rattle.cni_json.specs.WellFormed.{keys, AreAscending, HasAscendingKeys, KeysAscend}
 use Rattle.net_conf.proofs.Endings.{IfGiven, none_given, some_given}
 use Rattle.net_conf.specs.Members.{is_null, flag_at, is_mtu, given_mtu_of, given_mtu_at}
-use Rattle.net_conf.specs.Tuning.{has_part, is_network_setting, setting_or_refused, setting_of, settings_of, sysctl_of, sysctl_at, mac_or_refused, new_mac_of, new_mac_at, queue_length_of, queue_length_at, tuning_at}
+use Rattle.net_conf.specs.Tuning.{has_part, is_network_setting, setting_or_refused, setting_of, settings_of, sysctl_of, sysctl_at, new_mac_of, new_mac_at, queue_length_of, queue_length_at, tuning_at}
 use Rattle.net_conf.specs.WellFormed.{IsMtu, IsNetworkSetting, IsWellFormedTuning}
 use Rattle.net_conf.specs.declared.chained.Sysctl.{Sysctl}
 use Rattle.net_conf.specs.declared.chained.TuningConf.{TuningConf}
@@ -110,9 +110,9 @@ sysctl_at-ok d settings order is = sysctl_of-ok (member_at (codes "sysctl") d) s
 
 -- ---- numbers
 
-mac_or_refused-ok : (o found : Option Mac) → IfGiven IsMac o → mac_or_refused o ≡ Ok found → IfGiven IsMac found
-mac_or_refused-ok None found kept is = cc
-mac_or_refused-ok (Some v) found kept is = subst (IfGiven IsMac) (ok_same is) kept
+mac_or-ok : (o : Option Mac) (e : ConfError) (found : Option Mac) → IfGiven IsMac o → ok_or (option_map Some o) e ≡ Ok found → IfGiven IsMac found
+mac_or-ok None e found kept is = cc
+mac_or-ok (Some v) e found kept is = subst (IfGiven IsMac) (ok_same is) kept
 
 new_mac_of-ok : (f : Field (List ℕ)) (found : Option Mac) → new_mac_of f ≡ Ok found → IfGiven IsMac found
 new_mac_of-ok Absent found is = subst (IfGiven IsMac) (ok_same is) (none_given IsMac)
@@ -120,7 +120,7 @@ new_mac_of-ok WrongKind found is = cc
 new_mac_of-ok (Here text) found is =
     by_test (bytes_eq text []) _ _ _ is
     (λ empty same. subst (IfGiven IsMac) (ok_same same) (none_given IsMac))
-    (λ some same. mac_or_refused-ok (mac_of_text text) found (λ mac read. (mac_read_is_spelled text mac read).fits) same)
+    (λ some same. mac_or-ok (mac_of_text text) _ found (λ mac read. (mac_read_is_spelled text mac read).fits) same)
 
 new_mac_at-ok : (d : Data) (found : Option Mac) → new_mac_at d ≡ Ok found → IfGiven IsMac found
 unfolding new_mac_at

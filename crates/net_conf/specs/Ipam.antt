@@ -7,7 +7,7 @@ use Rattle.serde_json.specs.Written.{compact_text}
 use Rattle.cni_json.specs.Fields.{member_at, object_or}
 use Rattle.cni_json.specs.Outcome.{◌>>=◌}
 use Rattle.cni_result.specs.Dns.{dns_of_object}
-use Rattle.net_conf.specs.Members.{is_null, of_kind}
+use Rattle.net_conf.specs.Members.{is_null, ok_map}
 use Rattle.net_conf.specs.Outside.{supported}
 use Rattle.net_conf.specs.Refusals.{invalid}
 use Rattle.net_conf.specs.Routes.{routes_at}
@@ -51,7 +51,7 @@ is_empty d = false
 -- an absent object, and one in which nothing but null stands, ask for no address
 abbrev pub ipam_of : Option Data → Result (Option HostLocalConf) ConfError
 ipam_of None = Ok None
-ipam_of (Some d) = if is_empty d then Ok None else of_kind Some (host_local_at d)
+ipam_of (Some d) = if is_empty d then Ok None else ok_map Some (host_local_at d)
 
 -- the `ipam` of a plugin's object
 unfoldable pub ipam_at : Data → Result (Option HostLocalConf) ConfError

@@ -32,11 +32,9 @@ passing blamed test (Some x) = tested blamed test x
 abbrev pub needed_text : List ℕ → (List ℕ → Bool) → Field (List ℕ) → Result (List ℕ) ConfError
 needed_text key test f = needed (invalid key) (tested key test) f
 
--- the configuration, as one of a kind
-abbrev pub of_kind : {A B : Type 0} → (A → B) → Result A ConfError → Result B ConfError
-of_kind kind r = do
-  conf ← r
-  Ok (kind conf)
+-- what was read, its value under f
+abbrev pub ok_map : {A B : Type 0} → (A → B) → Result A ConfError → Result B ConfError
+ok_map f r = r >>= λ x. Ok (f x)
 
 -- the truth value under the key, or the default where there is none; else `outer` is to blame
 abbrev pub flag_within : List ℕ → List ℕ → Bool → Data → Result Bool ConfError
@@ -47,7 +45,7 @@ unfoldable pub flag_at : List ℕ → Bool → Data → Result Bool ConfError
 flag_at key default d = flag_within key key default d
 
 abbrev pub addr_if_of : List ℕ → (Addr → Bool) → Field (List ℕ) → Result (Option Addr) ConfError
-addr_if_of blamed test f = optional blamed None (λ text. of_kind Some (passing blamed test (addr_of_text text))) f
+addr_if_of blamed test f = optional blamed None (λ text. ok_map Some (passing blamed test (addr_of_text text))) f
 
 -- the address under the key, which must pass the test, if one is given; else `blamed` is to blame
 unfoldable pub addr_if_at : List ℕ → List ℕ → (Addr → Bool) → Data → Result (Option Addr) ConfError

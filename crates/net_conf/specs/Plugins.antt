@@ -10,7 +10,7 @@ use Rattle.cni_json.specs.declared.fields.Field.{Field}
 use Rattle.net_conf.specs.Bridge.{bridge_at}
 use Rattle.net_conf.specs.Firewall.{firewall_at}
 use Rattle.net_conf.specs.Macvlan.{macvlan_at}
-use Rattle.net_conf.specs.Members.{of_kind}
+use Rattle.net_conf.specs.Members.{ok_map}
 use Rattle.net_conf.specs.PluginTypes.{type_eq, type_of_chained}
 use Rattle.net_conf.specs.Portmap.{portmap_at}
 use Rattle.net_conf.specs.Ptp.{ptp_at}
@@ -48,9 +48,9 @@ type_at d = type_of (text_field (codes "type") d)
 -- ---- the first plugin makes the interface
 
 abbrev pub first_of : PluginType → Data → Result First ConfError
-first_of plugin.Bridge d = of_kind first.Bridge (bridge_at d)
-first_of plugin.Ptp d = of_kind first.Ptp (ptp_at d)
-first_of plugin.Macvlan d = of_kind first.Macvlan (macvlan_at d)
+first_of plugin.Bridge d = ok_map first.Bridge (bridge_at d)
+first_of plugin.Ptp d = ok_map first.Ptp (ptp_at d)
+first_of plugin.Macvlan d = ok_map first.Macvlan (macvlan_at d)
 first_of plugin.Portmap d = wrong_plugins
 first_of plugin.Firewall d = wrong_plugins
 first_of plugin.Tuning d = wrong_plugins
@@ -73,9 +73,9 @@ abbrev pub later_of : PluginType → Data → Result Chained ConfError
 later_of plugin.Bridge d = wrong_plugins
 later_of plugin.Ptp d = wrong_plugins
 later_of plugin.Macvlan d = wrong_plugins
-later_of plugin.Portmap d = of_kind later.Portmap (portmap_at d)
-later_of plugin.Firewall d = of_kind later.Firewall (firewall_at d)
-later_of plugin.Tuning d = of_kind later.Tuning (tuning_at d)
+later_of plugin.Portmap d = ok_map later.Portmap (portmap_at d)
+later_of plugin.Firewall d = ok_map later.Firewall (firewall_at d)
+later_of plugin.Tuning d = ok_map later.Tuning (tuning_at d)
 
 -- the plugin is of the type
 abbrev pub is_of_type : PluginType → Chained → Bool

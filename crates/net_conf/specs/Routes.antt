@@ -1,5 +1,5 @@
 -- Configured routes (the `host-local` plugin, `routes`).
-use Rattle.std.specs.Prelude.{ℕ, List, codes, Result, Ok, Option, Some, None}
+use Rattle.std.specs.Prelude.{ℕ, List, codes, Result, Ok, Option, ok_or, option_map}
 use Rattle.serde_json.specs.Data.{Data, Items}
 use Rattle.cni_json.specs.Fields.{text_field, list_field, needed}
 use Rattle.cni_json.specs.Outcome.{◌>>=◌}
@@ -15,16 +15,14 @@ use Rattle.net_conf.specs.Members.{addr_if_at}
 use Rattle.net_conf.specs.Ranges.{is_address_of}
 use Rattle.net_conf.specs.Refusals.{invalid}
 use Rattle.net_conf.specs.declared.error.ConfError.{ConfError}
+use Rattle.net_conf.specs.declared.error.ConfError.TheVariants as refusal
 
 abbrev pub wrong_routes : {A : Type 0} → Result A ConfError
 wrong_routes = invalid (codes "routes")
 
-abbrev pub destination_or_refused : Option Cidr → Result Cidr ConfError
-destination_or_refused None = wrong_routes
-destination_or_refused (Some cidr) = Ok (network_of cidr)
-
 abbrev pub destination_of : Field (List ℕ) → Result Cidr ConfError
-destination_of f = needed wrong_routes (λ text. destination_or_refused (cidr_of_text text)) f
+destination_of f =
+    needed wrong_routes (λ text. ok_or (option_map network_of (cidr_of_text text)) (refusal.Invalid (codes "routes"))) f
 
 -- the destination, its host bits cleared
 unfoldable pub destination_at : Data → Result Cidr ConfError

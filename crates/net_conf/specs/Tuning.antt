@@ -1,5 +1,5 @@
 -- The configuration of the `tuning` plugin, key by key in the order of its refusals.
-use Rattle.std.specs.Prelude.{◌||◌, ℕ, List, [], ◌∷◌, codes, Bool, false, nat_eq, not, if◌then◌else◌, Result, Ok, Err, Option, Some, None}
+use Rattle.std.specs.Prelude.{◌||◌, ℕ, List, [], ◌∷◌, codes, Bool, false, nat_eq, not, if◌then◌else◌, Result, Ok, Err, Option, Some, None, ok_or, option_map}
 use Rattle.std.specs.List.{starts_with}
 use Rattle.std.specs.Str.{bytes_eq}
 use Rattle.serde_json.specs.Data.{Data, string, object, Members, no_members, member}
@@ -53,12 +53,9 @@ sysctl_of (Some d) = invalid (codes "sysctl")
 unfoldable pub sysctl_at : Data → Result (List Sysctl) ConfError
 sysctl_at d = sysctl_of (member_at (codes "sysctl") d)
 
-abbrev pub mac_or_refused : Option Mac → Result (Option Mac) ConfError
-mac_or_refused None = invalid (codes "mac")
-mac_or_refused (Some mac) = Ok (Some mac)
-
 abbrev pub new_mac_value : List ℕ → Result (Option Mac) ConfError
-new_mac_value text = if bytes_eq text [] then Ok None else mac_or_refused (mac_of_text text)
+new_mac_value text =
+    if bytes_eq text [] then Ok None else ok_or (option_map Some (mac_of_text text)) (refusal.Invalid (codes "mac"))
 
 abbrev pub new_mac_of : Field (List ℕ) → Result (Option Mac) ConfError
 new_mac_of f = optional (codes "mac") None new_mac_value f

@@ -44,10 +44,9 @@ fn destination(alloc: Global, member: &Value) -> Result<Cidr, ConfError>
     let Field::Here(text) = field_str(member, "dst") else {
         return Err(wrong(alloc));
     };
-    match read_cidr(text.as_bytes()) {
-        Some(cidr) => Ok(network_of(&cidr)),
-        None => Err(wrong(alloc)),
-    }
+    read_cidr(text.as_bytes())
+        .map(|cidr| network_of(&cidr))
+        .ok_or_else(|| wrong(alloc))
 }
 
 fn hop(alloc: Global, member: &Value, family: Family) -> Result<Option<Addr>, ConfError>

@@ -111,10 +111,9 @@ fn new_mac(alloc: Global, object: &Value) -> Result<Option<Mac>, ConfError>
 {
     match field_str(object, "mac") {
         Field::Absent | Field::Here("") => Ok(None),
-        Field::Here(text) => match read_mac(text.as_bytes()) {
-            Some(mac) => Ok(Some(mac)),
-            None => Err(invalid(alloc, "mac")),
-        },
+        Field::Here(text) => read_mac(text.as_bytes())
+            .map(Some)
+            .ok_or_else(|| invalid(alloc, "mac")),
         Field::WrongKind => Err(invalid(alloc, "mac")),
     }
 }

@@ -1,6 +1,6 @@
 -- What the rounds of a pod file keep that are read.
 use Rattle.std.proofs.Common.{◌≡◌, ℕ, zero, suc, ◌+◌, ◌≤◌, Bool, true, false, not, List, [], ◌∷◌, ◌++◌, length, codes, Option, Some, None, Ok, Err, refl, sym, ap, ap₂, ◌∙◌, subst, arith}
-use Rattle.std.specs.Prelude.{◌||◌, if◌then◌else◌, nat_le, is_some, All, scan, slice_get}
+use Rattle.std.specs.Prelude.{◌||◌, if◌then◌else◌, nat_le, is_some, All, scan, slice_get, ok_or, option_map}
 use Rattle.std.specs.List.{list_any}
 use Rattle.std.proofs.lemmas.Bool.Decides.{nat_tests}
 use Rattle.std.proofs.lemmas.List.{length-append}
@@ -15,7 +15,7 @@ use Rattle.kernel_types.specs.Texts.{table_named}
 use Rattle.kernel_types.specs.declared.object.Table.{Table}
 use Rattle.cni_json.proofs.Endings.{goes, ok_same, passed, went_on, each_all, each_from_all}
 use Rattle.cni_json.proofs.WholeNumbers.{u32_of-fits}
-use Rattle.pod_file.specs.Commands.{verb_at, needs_table, texts_at, table_or_wrong, table_of, table_at, stop_of, stop_at, is_call_number, fault_of, fault_at, faults_at, command_at}
+use Rattle.pod_file.specs.Commands.{verb_at, needs_table, texts_at, table_of, table_at, stop_of, stop_at, is_call_number, fault_of, fault_at, faults_at, command_at}
 use Rattle.pod_file.specs.Members.{list_at, mappings_at, valid_at}
 use Rattle.pod_file.specs.Refusals.{wrong, wrong_key, command_path}
 use Rattle.pod_file.specs.Rounds.{command_in, round_at, rounds_of, rounds_at, in_file_order, is_exclusive, is_alone, each_alone, numbered, round_numbered, all_numbered}
@@ -31,9 +31,9 @@ use Rattle.pod_file.specs.declared.place.CommandPlace.{CommandPlace}
 abbrev HasTable : Verb → Option Table → Type 0
 HasTable verb table = needs_table verb ≡ true → is_some table ≡ true
 
-table_or_wrong-ok : (place : CommandPlace) (named : Option Table) (verb : Verb) (table : Option Table) → table_or_wrong place named ≡ Ok table → HasTable verb table
-table_or_wrong-ok place None verb table is = cc
-table_or_wrong-ok place (Some named) verb table is = subst (HasTable verb) (ok_same is) (λ flush. refl)
+table_or-ok : (named : Option Table) (e : PodError) (verb : Verb) (table : Option Table) → ok_or (option_map Some named) e ≡ Ok table → HasTable verb table
+table_or-ok None e verb table is = cc
+table_or-ok (Some named) e verb table is = subst (HasTable verb) (ok_same is) (λ flush. refl)
 
 no_table-ok : (needed : Bool) (e : PodError) (table : Option Table) → (if needed then Err e else Ok None) ≡ Ok table → needed ≡ true → is_some table ≡ true
 no_table-ok true e table is holds = cc
@@ -42,7 +42,7 @@ no_table-ok false e table is holds = cc
 table_of-ok : (place : CommandPlace) (verb : Verb) (f : Field (List ℕ)) (table : Option Table) → table_of place verb f ≡ Ok table → HasTable verb table
 table_of-ok place verb Absent table is = no_table-ok (needs_table verb) _ table is
 table_of-ok place verb WrongKind table is = cc
-table_of-ok place verb (Here text) table is = table_or_wrong-ok place (table_named text) verb table is
+table_of-ok place verb (Here text) table is = table_or-ok (table_named text) _ verb table is
 
 table_at-ok : (place : CommandPlace) (verb : Verb) (d : Data) (table : Option Table) → table_at place verb d ≡ Ok table → HasTable verb table
 unfolding table_at

@@ -1,5 +1,5 @@
 -- A command of a pod file, key by key in the order of its refusals. Each key is tested at every verb.
-use Rattle.std.specs.Prelude.{ℕ, ◌&&◌, List, [], codes, Bool, true, false, nat_le, if◌then◌else◌, Result, Ok, ok_or, Option, Some, None, find}
+use Rattle.std.specs.Prelude.{ℕ, ◌&&◌, List, [], codes, Bool, true, false, nat_le, if◌then◌else◌, Result, Ok, ok_or, option_map, Option, Some, None, find}
 use Rattle.std.specs.Str.{bytes_eq}
 use Rattle.serde_json.specs.Data.{Data}
 use Rattle.cni_json.specs.Outcome.{◌>>=◌}
@@ -79,16 +79,13 @@ texts_at place verb d = do
 
 -- ---- the table, and when to stop or to fail
 
-abbrev pub table_or_wrong : CommandPlace → Option Table → Result (Option Table) PodError
-table_or_wrong place None = wrong_key place (codes "table")
-table_or_wrong place (Some table) = Ok (Some table)
-
 abbrev pub no_table : CommandPlace → Verb → Result (Option Table) PodError
 no_table place verb = if needs_table verb then wrong_key place (codes "table") else Ok None
 
 abbrev pub table_of : CommandPlace → Verb → Field (List ℕ) → Result (Option Table) PodError
 table_of place verb f =
-    member_or (no_table place verb) (wrong_key place (codes "table")) (λ text. table_or_wrong place (table_named text)) f
+    member_or (no_table place verb) (wrong_key place (codes "table"))
+    (λ text. ok_or (option_map Some (table_named text)) (refusal.Shape (key_path place (codes "table")))) f
 
 -- the table that a flush empties
 unfoldable pub table_at : CommandPlace → Verb → Data → Result (Option Table) PodError

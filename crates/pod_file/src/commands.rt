@@ -116,10 +116,9 @@ fn table(
         Field::Absent if needs_table(verb) => Err(wrong_key(alloc, place, "table")),
         Field::Absent => Ok(None),
         Field::WrongKind => Err(wrong_key(alloc, place, "table")),
-        Field::Here(found) => match table_named(found) {
-            Some(table) => Ok(Some(table)),
-            None => Err(wrong_key(alloc, place, "table")),
-        },
+        Field::Here(found) => table_named(found)
+            .map(Some)
+            .ok_or_else(|| wrong_key(alloc, place, "table")),
     }
 }
 
