@@ -1,16 +1,16 @@
 -- What is read of lists whose items pass a test first, how many are read, what passes a test itself, and what holds of
 -- a value that may be given.
-use Rattle.std.proofs.Common.{◌≡◌, ℕ, suc, List, [], ◌∷◌, length, Bool, true, Option, Some, None, Result, Ok, refl, sym, ap, ◌∙◌, subst}
+use Rattle.std.proofs.Common.{◌≡◌, ℕ, suc, List, [], ◌∷◌, length, Bool, true, Option, Some, None, Result, Ok, Err, refl, sym, ap, ◌∙◌, subst}
 use Rattle.std.specs.Prelude.{All, unwrap_or}
 use Rattle.std.proofs.lemmas.Bool.{and_parts}
 use Rattle.std.proofs.lemmas.List.Elements.{All-nil, All-cons}
 use Rattle.serde_json.specs.Data.{Data, Items, no_items, item}
 use Rattle.serde_json.specs.Events.{items_len}
-use Rattle.cni_json.proofs.Endings.{goes, ok_same, passed}
+use Rattle.cni_json.proofs.Endings.{Goes, goes, ok_same, passed}
 use Rattle.cni_json.specs.Each.{each}
 use Rattle.cni_json.specs.declared.fields.Field.{Field}
 use Rattle.cni_json.specs.declared.fields.Field.TheVariants.{Absent, WrongKind, Here}
-use Rattle.net_conf.specs.Members.{passing, needed_text}
+use Rattle.net_conf.specs.Members.{passing, needed_text, ok_map}
 use Rattle.net_conf.specs.Sets.{all_items}
 use Rattle.net_conf.specs.declared.error.ConfError.{ConfError}
 
@@ -59,3 +59,8 @@ some_given P x holds y same = let this : x ≡ y = cc in subst P this holds
 pub or_default : {A : Type 0} (P : A → Type 0) (given : Option A) (default : A) → IfGiven P given → P default → P (unwrap_or given default)
 or_default P None default kept holds = holds
 or_default P (Some x) default kept holds = kept x refl
+
+-- what was read under f is f of what was read
+pub mapped : {A B : Type 0} (f : A → B) (r : Result A ConfError) (b : B) → ok_map f r ≡ Ok b → Goes r (λ x. Ok (f x)) b
+mapped f (Ok x) b is = record { value = x; first = refl; rest = is }
+mapped f (Err e) b is = cc

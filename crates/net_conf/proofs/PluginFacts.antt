@@ -13,7 +13,7 @@ use Rattle.cni_json.specs.declared.fields.Field.TheVariants.{Absent, WrongKind, 
 use Rattle.cni_json.proofs.Ascending.{get-everywhere}
 use Rattle.cni_json.specs.WellFormed.{EverywhereInItems, HasAscendingKeys, KeysAscend}
 use Rattle.cni_json.proofs.Endings.{goes, ok_same, passed, not_refused, each_after_keeps}
-use Rattle.net_conf.proofs.Endings.{needed_text-ok, or_default, passing-ok}
+use Rattle.net_conf.proofs.Endings.{mapped, needed_text-ok, or_default, passing-ok}
 use Rattle.net_conf.proofs.SetFacts.{sets_at-ok, routes_at-ok}
 use Rattle.net_conf.proofs.TuningFacts.{by_test, given_mtu_at-ok, tuning_at-ok}
 use Rattle.cni_result.specs.Dns.{dns_of_object}
@@ -77,7 +77,7 @@ host_local_or_none-ok d found is =
     by_test (is_empty d) _ _ _ is
     (λ empty same. subst IsWellFormedIpam (ok_same same) tt)
     (λ some same.
-    let conf = goes (host_local_at d) _ found same in
+    let conf = mapped _ (host_local_at d) found same in
     subst IsWellFormedIpam (ok_same conf.rest) (host_local_at-ok d conf.value conf.first))
 
 ipam_of-ok : (o : Option Data) (found : Option HostLocalConf) → ipam_of o ≡ Ok found → IsWellFormedIpam found
@@ -182,9 +182,9 @@ macvlan_at-ok d conf is =
     })
 
 first_of-ok : (type : PluginType) (d : Data) (found : First) → first_of type d ≡ Ok found → IsWellFormedFirst found
-first_of-ok plugin.Bridge d found is = let conf = goes (bridge_at d) _ found is in subst IsWellFormedFirst (ok_same conf.rest) (bridge_at-ok d conf.value conf.first)
-first_of-ok plugin.Ptp d found is = let conf = goes (ptp_at d) _ found is in subst IsWellFormedFirst (ok_same conf.rest) (ptp_at-ok d conf.value conf.first)
-first_of-ok plugin.Macvlan d found is = let conf = goes (macvlan_at d) _ found is in subst IsWellFormedFirst (ok_same conf.rest) (macvlan_at-ok d conf.value conf.first)
+first_of-ok plugin.Bridge d found is = let conf = mapped _ (bridge_at d) found is in subst IsWellFormedFirst (ok_same conf.rest) (bridge_at-ok d conf.value conf.first)
+first_of-ok plugin.Ptp d found is = let conf = mapped _ (ptp_at d) found is in subst IsWellFormedFirst (ok_same conf.rest) (ptp_at-ok d conf.value conf.first)
+first_of-ok plugin.Macvlan d found is = let conf = mapped _ (macvlan_at d) found is in subst IsWellFormedFirst (ok_same conf.rest) (macvlan_at-ok d conf.value conf.first)
 first_of-ok plugin.Portmap d found is = cc
 first_of-ok plugin.Firewall d found is = cc
 first_of-ok plugin.Tuning d found is = cc
@@ -210,10 +210,10 @@ later_of-ok : (type : PluginType) (d : Data) (found : Chained) → KeysAscend d 
 later_of-ok plugin.Bridge d found order is = cc
 later_of-ok plugin.Ptp d found order is = cc
 later_of-ok plugin.Macvlan d found order is = cc
-later_of-ok plugin.Portmap d found order is = let conf = goes (portmap_at d) _ found is in subst (IsLater plugin.Portmap) (ok_same conf.rest) (refl, tt)
-later_of-ok plugin.Firewall d found order is = let conf = goes (firewall_at d) _ found is in subst (IsLater plugin.Firewall) (ok_same conf.rest) (refl, tt)
+later_of-ok plugin.Portmap d found order is = let conf = mapped _ (portmap_at d) found is in subst (IsLater plugin.Portmap) (ok_same conf.rest) (refl, tt)
+later_of-ok plugin.Firewall d found order is = let conf = mapped _ (firewall_at d) found is in subst (IsLater plugin.Firewall) (ok_same conf.rest) (refl, tt)
 later_of-ok plugin.Tuning d found order is =
-    let conf = goes (tuning_at d) _ found is in
+    let conf = mapped _ (tuning_at d) found is in
     subst (IsLater plugin.Tuning) (ok_same conf.rest) (refl, tuning_at-ok d conf.value order conf.first)
 
 -- what later plugins keep together

@@ -13,7 +13,7 @@ use Rattle.cni_addr.specs.CidrText.{cidr_of_text}
 use Rattle.cni_addr.specs.Network.{IsCidr, network_of, last_of, contains}
 use Rattle.cni_addr.specs.Value.{AddrValue, CidrValue, IsAddr, bits_below}
 use Rattle.cni_json.proofs.Endings.{goes, ok_same, passed}
-use Rattle.net_conf.proofs.Endings.{passing-ok, IfGiven, none_given, some_given, or_default}
+use Rattle.net_conf.proofs.Endings.{mapped, passing-ok, IfGiven, none_given, some_given, or_default}
 use Rattle.net_conf.proofs.RangeLemmas.{subnet_room}
 use Rattle.net_conf.specs.Members.{passing, addr_if_of, addr_if_at}
 use Rattle.net_conf.specs.Ranges.{is_subnet, subnet_of, subnet_at, addr_or_at, first_host, last_host, is_in_order, in_order, is_address_of, range_at}
@@ -85,7 +85,7 @@ addr_if_of-ok : (blamed : List ℕ) (test : AddrValue → Bool) (f : Field (List
 addr_if_of-ok blamed test Absent found is = subst (IfGiven (IsRead test)) (ok_same is) (none_given (IsRead test))
 addr_if_of-ok blamed test WrongKind found is = cc
 addr_if_of-ok blamed test (Here text) found is =
-    let read = goes (passing blamed test (addr_of_text text)) _ found is in
+    let read = mapped _ (passing blamed test (addr_of_text text)) found is in
     let kept = passing-ok blamed test (addr_of_text text) read.value read.first in
     subst (IfGiven (IsRead test)) (ok_same read.rest) (some_given (IsRead test) read.value (read_is_addr text read.value kept.1, kept.0))
 

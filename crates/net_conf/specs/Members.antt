@@ -1,5 +1,6 @@
 -- Members of a plugin's object, each with its refusal.
 use Rattle.std.specs.Prelude.{◌≡◌, ◌==◌, ◌&&◌, ℕ, List, codes, Bool, nat_le, if◌then◌else◌, Result, Ok, Option, Some, None, unwrap_or, is_some}
+use Rattle.std.specs.Result.{result_map_both}
 use Rattle.serde_json.specs.Data.{Data}
 use Rattle.serde_json.specs.Find.{as_null}
 use Rattle.cni_addr.specs.AddrText.{addr_of_text}
@@ -34,7 +35,7 @@ needed_text key test f = needed (invalid key) (tested key test) f
 
 -- what was read, its value under f
 abbrev pub ok_map : {A B : Type 0} → (A → B) → Result A ConfError → Result B ConfError
-ok_map f r = r >>= λ x. Ok (f x)
+ok_map f r = result_map_both f (λ e. e) r
 
 -- the truth value under the key, or the default where there is none; else `outer` is to blame
 abbrev pub flag_within : List ℕ → List ℕ → Bool → Data → Result Bool ConfError
