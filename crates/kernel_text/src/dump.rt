@@ -30,9 +30,7 @@ pub fn push_line(alloc: Global, value: &Value, lines: &mut Vec<u8>) -> Result<()
     ensures ok { OnOk result (lines.new.items ≡ lines.old.items ++ line_of (view value.now)) }
     ensures err { OnErr result (lines.new.items ≡ lines.old.items) }
 {
-    let Ok(text) = line(alloc, value) else {
-        return Err(NoMemory);
-    };
+    let text = line(alloc, value)?;
     lines.extend_from_slice(text.as_slice())?;
     Ok(())
 }
