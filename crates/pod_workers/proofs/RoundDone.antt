@@ -237,8 +237,8 @@ turned-keeps host slots places before w cs kept is over =
 
 -- ---- where the code reads a round
 
-pub round-there : (round : ℕ) {rounds seen : List (List Command)} {cs : List Command} → seen ≡ rounds → slice_get seen round ≡ Some cs → slice_get rounds round ≡ Some cs
-round-there round {rounds} {seen} {cs} same is = ap (λ rs. slice_get rs round) (sym same) ∙ is
+pub round-there : {w v : World} {cs : List Command} → w ≡ v → slice_get v.plan.pods.rounds v.round ≡ Some cs → slice_get w.plan.pods.rounds w.round ≡ Some cs
+round-there {w} {v} {cs} same is = subst (λ u. slice_get u.plan.pods.rounds u.round ≡ Some cs) (sym same) is
 
 pub round-fits : (host : Host) (slots : List (Option Slot)) (places : List Place) (before : ℕ) (w : World) (cs : List Command) → IsKept host slots places before w → slice_get w.plan.pods.rounds w.round ≡ Some cs
     → (before + length cs ≤ file_limit) × (w.round < file_limit)

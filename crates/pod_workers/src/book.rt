@@ -228,7 +228,7 @@ impl<K: Kernel + Drop> Book<K> {
         requires { self.now.round < length self.now.plan.pods.rounds }
         ensures { AreNumbersOf self.now result.0 result.1 }
     {
-        let commands = round_at(self.plan.pods.rounds.as_slice(), self.round);
+        let commands = self.current_round();
         let first = self.before as u32 + 1;
         (first, first + commands.len() as u32)
     }
@@ -239,8 +239,7 @@ impl<K: Kernel + Drop> Book<K> {
         requires over { IsRoundOver self.old }
         ensures { self.new ≡ next_round self.old }
     {
-        let commands = round_at(self.plan.pods.rounds.as_slice(), self.round);
-        self.before += commands.len();
+        self.before += self.current_round().len();
         self.round += 1;
     }
 
