@@ -15,6 +15,7 @@ use Rattle.net_conf.specs.declared.chained.Chained.{Chained}
 use Rattle.net_conf.specs.declared.chained.Chained.TheVariants.{Portmap, Firewall, Tuning}
 use Rattle.net_conf.specs.declared.list.NetList.{NetList}
 use Rattle.net_conf.specs.declared.plugin_type.PluginType.TheVariants as plugin
+use Rattle.net_conf.specs.Plugins.{is_of_type}
 use Rattle.net_conf.specs.PluginTypes.{type_eq, type_of_chained}
 use Rattle.net_conf.specs.WellFormed.{IsWellFormedList}
 use Rattle.pod_file.specs.Commands.{is_of_network}
@@ -35,7 +36,7 @@ use Rattle.pod_workers.specs.Plans.{IsWellFormed, list_for, list_named}
 use Rattle.pod_workers.specs.declared.plan.Plan.{Plan}
 use Rattle.pod_workers.proofs.BackCalls.{PassesFirst, passes-after}
 use Rattle.pod_workers.proofs.Sound.{fine, if-listed, list_for-found}
-use Rattle.pod_laws.specs.AskedFor.{AreAmong, links_after_part, is_tuning, at_most_one, EachLinkIsWanted, LinksAreMadeOrWanted}
+use Rattle.pod_laws.specs.AskedFor.{AreAmong, links_after_part, at_most_one, EachLinkIsWanted, LinksAreMadeOrWanted}
 use Rattle.pod_laws.proofs.Achieved.{with_leases}
 use Rattle.pod_laws.proofs.Tests.{none-by}
 use Rattle.pod_laws.proofs.Fronts.{links-calls, untuned-links}
@@ -142,30 +143,30 @@ once-chained (Tuning conf) att netns mappings ips =
     once-after_none (map SettingSet (tuning_settings conf att netns)) (link_set_calls conf att netns) (none-every SettingSet (λ s. refl) (tuning_settings conf att netns))
     (once-if (sets_any conf) (LinkSet att (record { ns = netns; name = att.ifname }) conf.mac conf.mtu conf.tx_qlen conf.promisc conf.allmulti))
 
-none-chained : (c : Chained) (att : Att) (netns : List ℕ) (mappings : List PortMapping) (ips : List IpEntry) → is_tuning c ≡ false → NoneChange (chained_calls c att netns mappings ips)
+none-chained : (c : Chained) (att : Att) (netns : List ℕ) (mappings : List PortMapping) (ips : List IpEntry) → is_of_type plugin.Tuning c ≡ false → NoneChange (chained_calls c att netns mappings ips)
 none-chained (Portmap conf) att netns mappings ips h = none-every RuleAppend (λ r. refl) (portmap_rules conf att mappings ips)
 none-chained (Firewall conf) att netns mappings ips h = none-every RuleAppend (λ r. refl) (firewall_rules att ips)
 none-chained (Tuning conf) att netns mappings ips h = cc
 
-none-all_chained : (cs : List Chained) (att : Att) (netns : List ℕ) (mappings : List PortMapping) (prev : AddResult) → list_any is_tuning cs ≡ false → NoneChange (all_chained_calls cs att netns mappings prev)
+none-all_chained : (cs : List Chained) (att : Att) (netns : List ℕ) (mappings : List PortMapping) (prev : AddResult) → list_any (is_of_type plugin.Tuning) cs ≡ false → NoneChange (all_chained_calls cs att netns mappings prev)
 none-all_chained [] att netns mappings prev h = refl
 none-all_chained (c ∷ cs) att netns mappings prev h =
     none-append (chained_calls c att netns mappings prev.ips) (all_chained_calls cs att netns mappings (chained_result c prev)) (none-chained c att netns mappings prev.ips (grind (arith, h)))
     (none-all_chained cs att netns mappings (chained_result c prev) (grind (arith, h)))
 
-once-all_step : (b : Bool) (c : Chained) (cs : List Chained) (att : Att) (netns : List ℕ) (mappings : List PortMapping) (prev : AddResult) → is_tuning c ≡ b → (if b then not (list_any is_tuning cs) else at_most_one is_tuning cs) ≡ true
-    → (at_most_one is_tuning cs ≡ true → change_once (all_chained_calls cs att netns mappings (chained_result c prev)) ≡ true) → change_once (all_chained_calls (c ∷ cs) att netns mappings prev) ≡ true
+once-all_step : (b : Bool) (c : Chained) (cs : List Chained) (att : Att) (netns : List ℕ) (mappings : List PortMapping) (prev : AddResult) → is_of_type plugin.Tuning c ≡ b → (if b then not (list_any (is_of_type plugin.Tuning) cs) else at_most_one (is_of_type plugin.Tuning) cs) ≡ true
+    → (at_most_one (is_of_type plugin.Tuning) cs ≡ true → change_once (all_chained_calls cs att netns mappings (chained_result c prev)) ≡ true) → change_once (all_chained_calls (c ∷ cs) att netns mappings prev) ≡ true
 once-all_step true c cs att netns mappings prev is h rest =
     once-then_none (chained_calls c att netns mappings prev.ips) (all_chained_calls cs att netns mappings (chained_result c prev)) (once-chained c att netns mappings prev.ips)
-    (none-all_chained cs att netns mappings (chained_result c prev) (not-true (list_any is_tuning cs) h))
+    (none-all_chained cs att netns mappings (chained_result c prev) (not-true (list_any (is_of_type plugin.Tuning) cs) h))
 once-all_step false c cs att netns mappings prev is h rest =
     once-after_none (chained_calls c att netns mappings prev.ips) (all_chained_calls cs att netns mappings (chained_result c prev)) (none-chained c att netns mappings prev.ips is) (rest h)
 
-once-all_chained : (cs : List Chained) (att : Att) (netns : List ℕ) (mappings : List PortMapping) (prev : AddResult) → at_most_one is_tuning cs ≡ true → change_once (all_chained_calls cs att netns mappings prev) ≡ true
+once-all_chained : (cs : List Chained) (att : Att) (netns : List ℕ) (mappings : List PortMapping) (prev : AddResult) → at_most_one (is_of_type plugin.Tuning) cs ≡ true → change_once (all_chained_calls cs att netns mappings prev) ≡ true
 once-all_chained [] att netns mappings prev h = refl
-once-all_chained (c ∷ cs) att netns mappings prev h = once-all_step (is_tuning c) c cs att netns mappings prev refl h (λ g. once-all_chained cs att netns mappings (chained_result c prev) g)
+once-all_chained (c ∷ cs) att netns mappings prev h = once-all_step (is_of_type plugin.Tuning c) c cs att netns mappings prev refl h (λ g. once-all_chained cs att netns mappings (chained_result c prev) g)
 
-once-back : (list : NetList) (att : Att) (netns : List ℕ) (mappings : List PortMapping) (addrs : List Addr) → at_most_one is_tuning list.chained ≡ true → change_once (back_calls list att netns mappings addrs) ≡ true
+once-back : (list : NetList) (att : Att) (netns : List ℕ) (mappings : List PortMapping) (addrs : List Addr) → at_most_one (is_of_type plugin.Tuning) list.chained ≡ true → change_once (back_calls list att netns mappings addrs) ≡ true
 once-back list att netns mappings addrs h =
     let chain = all_chained_calls list.chained att netns mappings (first_plugin_result list att netns addrs) in
     let put = CachePut att (cached_of list att netns mappings addrs) ∷ [] in
@@ -192,13 +193,13 @@ each_link_is_wanted list c given links once a =
 
 -- ---- a well formed list has `tuning` at most once
 
-none-tunes : (cs : List Chained) → AllByRecursion (λ type. type_eq plugin.Tuning type ≡ false) (map type_of_chained cs) → list_any is_tuning cs ≡ false
+none-tunes : (cs : List Chained) → AllByRecursion (λ type. type_eq plugin.Tuning type ≡ false) (map type_of_chained cs) → list_any (is_of_type plugin.Tuning) cs ≡ false
 none-tunes [] h = refl
 none-tunes (Portmap conf ∷ cs) h = none-tunes cs h.1
 none-tunes (Firewall conf ∷ cs) h = none-tunes cs h.1
 none-tunes (Tuning conf ∷ cs) h = absurd (let e : true ≡ false = h.0 in cc)
 
-types-tune_once : (cs : List Chained) → IsDistinct type_eq (map type_of_chained cs) → at_most_one is_tuning cs ≡ true
+types-tune_once : (cs : List Chained) → IsDistinct type_eq (map type_of_chained cs) → at_most_one (is_of_type plugin.Tuning) cs ≡ true
 unfolding IsDistinct
 types-tune_once [] h = refl
 types-tune_once (Portmap conf ∷ cs) h = types-tune_once cs h.1
@@ -207,14 +208,14 @@ types-tune_once (Tuning conf ∷ cs) h = ap not (none-tunes cs h.0)
 
 -- ---- so has each list of a plan
 
-lists-tune_once : (lists : List NetList) → All IsWellFormedList lists → list_all (λ l. at_most_one is_tuning l.chained) lists ≡ true
+lists-tune_once : (lists : List NetList) → All IsWellFormedList lists → list_all (λ l. at_most_one (is_of_type plugin.Tuning) l.chained) lists ≡ true
 lists-tune_once [] all = refl
 lists-tune_once (l ∷ ls) all =
-    and_from (at_most_one is_tuning l.chained) (list_all (λ x. at_most_one is_tuning x.chained) ls) (types-tune_once l.chained (All-head IsWellFormedList l ls all).types_once) (lists-tune_once ls (All-tail IsWellFormedList l ls all))
+    and_from (at_most_one (is_of_type plugin.Tuning) l.chained) (list_all (λ x. at_most_one (is_of_type plugin.Tuning) x.chained) ls) (types-tune_once l.chained (All-head IsWellFormedList l ls all).types_once) (lists-tune_once ls (All-tail IsWellFormedList l ls all))
 
-listed-tunes_once : (p : Plan) (c : Command) (list : NetList) → IsWellFormed p → list_for p c ≡ Some list → at_most_one is_tuning list.chained ≡ true
+listed-tunes_once : (p : Plan) (c : Command) (list : NetList) → IsWellFormed p → list_for p c ≡ Some list → at_most_one (is_of_type plugin.Tuning) list.chained ≡ true
 listed-tunes_once p c list well listed =
-    passes-list_all (λ l. at_most_one is_tuning l.chained) (λ l. bytes_eq l.name c.network) p.lists list (lists-tune_once p.lists well.lists)
+    passes-list_all (λ l. at_most_one (is_of_type plugin.Tuning) l.chained) (λ l. bytes_eq l.name c.network) p.lists list (lists-tune_once p.lists well.lists)
     (if-listed (is_of_network c.verb) (list_named p.lists c.network) list (list_for-found p c ∙ listed))
 
 pub links_are_made_or_wanted : LinksAreMadeOrWanted

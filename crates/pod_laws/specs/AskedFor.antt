@@ -14,9 +14,9 @@ use Rattle.kernel_types.specs.declared.call.Call.{Call}
 use Rattle.kernel_types.specs.declared.call.Call.TheVariants.{Begin}
 use Rattle.kernel_types.specs.declared.call.Reply.{Reply}
 use Rattle.kernel_types.specs.declared.call.Reply.TheVariants.{Done}
-use Rattle.net_conf.specs.declared.chained.Chained.{Chained}
-use Rattle.net_conf.specs.declared.chained.Chained.TheVariants.{Portmap, Firewall, Tuning}
+use Rattle.net_conf.specs.Plugins.{is_of_type}
 use Rattle.net_conf.specs.declared.list.NetList.{NetList}
+use Rattle.net_conf.specs.declared.plugin_type.PluginType.TheVariants.{Tuning}
 use Rattle.plan_words.specs.Share.{Share, share_of, no_objects, share_after_calls}
 use Rattle.pod_file.specs.declared.command.Command.{Command}
 use Rattle.pod_file.specs.declared.command.Verb.TheVariants as verbs
@@ -96,11 +96,6 @@ NothingIsUnasked = (w : World) → Legal w → (att : Att) → HasNothingUnasked
 
 -- ---- links
 
-abbrev pub is_tuning : Chained → Bool
-is_tuning (Portmap conf) = false
-is_tuning (Firewall conf) = false
-is_tuning (Tuning conf) = true
-
 abbrev pub at_most_one : {X : Type 0} → (X → Bool) → List X → Bool
 at_most_one test [] = true
 at_most_one test (x ∷ xs) = if test x then not (list_any test xs) else at_most_one test xs
@@ -111,7 +106,7 @@ AreMadeOrWanted list c given links = AreAmong links (untuned list (att_of c) c.n
 
 -- so it is with the links of an ADD where `tuning` comes at most once in its list
 abbrev pub EachLinkIsWanted : Type 0
-EachLinkIsWanted = (list : NetList) (c : Command) (given : List Addr) (links : List Link) → at_most_one is_tuning list.chained ≡ true → AreLinksOf list c given links → AreMadeOrWanted list c given links
+EachLinkIsWanted = (list : NetList) (c : Command) (given : List Addr) (links : List Link) → at_most_one (is_of_type Tuning) list.chained ≡ true → AreLinksOf list c given links → AreMadeOrWanted list c given links
 
 -- and with those of every attachment at every moment, since in each list of a plan it comes at most once
 abbrev pub LinksAreMadeOrWanted : Type 0
