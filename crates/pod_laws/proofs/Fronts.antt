@@ -34,13 +34,13 @@ use Rattle.cni_verbs.proofs.WantedShare.{made-before, makes-wanted}
 -- ---- lists
 
 grows-same : {X : Type 0} (xs : List X) → GrowsAtEnd xs xs
-grows-same xs = ([], sym (append-nil xs))
+grows-same xs = ([], sym (append-nil xs), tt)
 
 grows-more : {X : Type 0} (xs ys : List X) → GrowsAtEnd xs (xs ++ ys)
-grows-more xs ys = (ys, refl)
+grows-more xs ys = (ys, refl, tt)
 
 grows-on : {X : Type 0} (xs ys zs : List X) → GrowsAtEnd xs ys → GrowsAtEnd ys zs → GrowsAtEnd xs zs
-grows-on xs ys zs h g = (h.0 ++ g.0, g.1 ∙ ap (λ l. l ++ g.0) h.1 ∙ append_assoc xs h.0 g.0)
+grows-on xs ys zs h g = (h.0 ++ g.0, g.1 ∙ ap (λ l. l ++ g.0) h.1 ∙ append_assoc xs h.0 g.0, tt)
 
 among-right : {X : Type 0} (x : X) (xs ys : List X) → IsAmong x ys → IsAmong x (xs ++ ys)
 among-right x [] ys h = h
@@ -163,7 +163,7 @@ asked-after_leases list c given made left part =
     let s = share_after_calls (with_leases list c given) made in
     let links : s.links ≡ links_after_part list c made = links-calls (with_leases list c given) (record no_objects { links = untuned list (att_of c) c.netns }) made (untuned-links list c given) in
     asked-front list c given s
-    (record { made = made; left = left; part = part; among = among-front (links_after_part list c made) s.links ([], sym links ∙ sym (append-nil s.links)) })
+    (record { made = made; left = left; part = part; among = among-front (links_after_part list c made) s.links ([], sym links ∙ sym (append-nil s.links), tt) })
     (front-part (with_leases list c given) (wanted_by list c given) (back_of list c given) made left part (makes-wanted list (att_of c) c.netns (mappings_of list c) given))
 
 -- while they are leased

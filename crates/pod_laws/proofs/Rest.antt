@@ -47,7 +47,7 @@ keeps-within test old new w k = record {
 }
 
 same-list : {X : Type 0} (old new : List X) → new ≡ old → GrowsAtEnd old new
-same-list old new e = ([], e ∙ sym (append-nil old))
+same-list old new e = ([], e ∙ sym (append-nil old), tt)
 
 shared-same : (old new : Host) → KeepsWhere is_base old new → KeepsShared old new
 shared-same old new k = record {
@@ -95,19 +95,19 @@ shared-bridge : (old new : Host) → AddsBridge old new → KeepsShared old new
 shared-bridge old new adds =
     let s = shared-nothing old in
     shared-adds (λ (x : Link). x.tag) tags.Base (λ (x : Link). record old { links = old.links ++ x ∷ [] }) old new adds
-    (λ x is. record { namespaces = s.namespaces; links = (x ∷ [], filter-push_kept (λ y. is_base y.tag) old.links x (ap is_base is)); addresses = s.addresses; routes = s.routes; rules = s.rules; settings = s.settings; leases = s.leases; cached = s.cached })
+    (λ x is. record { namespaces = s.namespaces; links = (x ∷ [], filter-push_kept (λ y. is_base y.tag) old.links x (ap is_base is), tt); addresses = s.addresses; routes = s.routes; rules = s.rules; settings = s.settings; leases = s.leases; cached = s.cached })
 
 shared-address : (old new : Host) → AddsAddress old new → KeepsShared old new
 shared-address old new adds =
     let s = shared-nothing old in
     shared-adds (λ (x : AddrObj). x.tag) tags.Base (λ (x : AddrObj). record old { addresses = old.addresses ++ x ∷ [] }) old new adds
-    (λ x is. record { namespaces = s.namespaces; links = s.links; addresses = (x ∷ [], filter-push_kept (λ y. is_base y.tag) old.addresses x (ap is_base is)); routes = s.routes; rules = s.rules; settings = s.settings; leases = s.leases; cached = s.cached })
+    (λ x is. record { namespaces = s.namespaces; links = s.links; addresses = (x ∷ [], filter-push_kept (λ y. is_base y.tag) old.addresses x (ap is_base is), tt); routes = s.routes; rules = s.rules; settings = s.settings; leases = s.leases; cached = s.cached })
 
 shared-setting : (old new : Host) → AddsSetting old new → KeepsShared old new
 shared-setting old new adds =
     let s = shared-nothing old in
     shared-adds (λ (x : Setting). x.tag) tags.Base (λ (x : Setting). record old { settings = old.settings ++ x ∷ [] }) old new adds
-    (λ x is. record { namespaces = s.namespaces; links = s.links; addresses = s.addresses; routes = s.routes; rules = s.rules; settings = (x ∷ [], filter-push_kept (λ y. is_base y.tag) old.settings x (ap is_base is)); leases = s.leases; cached = s.cached })
+    (λ x is. record { namespaces = s.namespaces; links = s.links; addresses = s.addresses; routes = s.routes; rules = s.rules; settings = (x ∷ [], filter-push_kept (λ y. is_base y.tag) old.settings x (ap is_base is), tt); leases = s.leases; cached = s.cached })
 
 -- ---- each call
 

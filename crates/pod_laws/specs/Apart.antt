@@ -1,20 +1,21 @@
 -- An entry of one attachment leaves all others alone, and what none owns.
-use Rattle.std.specs.Prelude.{◌≡◌, Bool, true, false, ◌&&◌, not, List, ◌++◌, filter}
+use Rattle.std.specs.Prelude.{◌≡◌, Bool, true, false, ◌&&◌, not, List, filter, ⊤}
 use Rattle.cni_verbs.specs.CommandWords.{att_of}
 use Rattle.cni_verbs.specs.Progress.{is_gc}
-use Rattle.kernel_types.specs.Equal.{att_eq}
+use Rattle.kernel_types.specs.Equal.{att_eq, tag_eq}
 use Rattle.kernel_types.specs.Isolation.{KeepsWhere}
 use Rattle.kernel_types.specs.Touch.{is_base}
 use Rattle.kernel_types.specs.declared.object.Att.{Att}
 use Rattle.kernel_types.specs.declared.object.Host.{Host}
 use Rattle.kernel_types.specs.declared.object.Tag.{Tag}
-use Rattle.kernel_types.specs.declared.object.Tag.TheVariants.{Outside, Base, Own}
+use Rattle.kernel_types.specs.declared.object.Tag.TheVariants.{Outside}
 use Rattle.plan_words.specs.Share.{share_of}
 use Rattle.pod_file.specs.declared.command.Command.{Command}
 use Rattle.pod_file.specs.declared.command.Verb.{Verb}
 use Rattle.pod_file.specs.declared.command.Verb.TheVariants as verbs
 use Rattle.gc_sweep.specs.Keep.{stays}
 use Rattle.pod_file.specs.Commands.{is_of_network}
+use Rattle.pod_workers.specs.Extends.{Appends}
 use Rattle.pod_workers.specs.declared.plan.Entry.{Entry}
 use Rattle.pod_workers.specs.declared.plan.Plan.{Plan}
 use Rattle.pod_laws.specs.Single.{EachEntry, ByVerb}
@@ -39,13 +40,11 @@ EachCollectionTakesTheStaleAlone = EachEntry (ByVerb (λ v. v ≡ verbs.Gc) (λ 
 -- ---- what no attachment owns
 
 abbrev pub is_outside : Tag → Bool
-is_outside Outside = true
-is_outside Base = false
-is_outside (Own att) = false
+is_outside tag = tag_eq tag Outside
 
 -- the second list begins with the first
 abbrev pub GrowsAtEnd : {X : Type 0} → List X → List X → Type 0
-GrowsAtEnd {X} old new = (more : List X) × (new ≡ old ++ more)
+GrowsAtEnd old new = Appends old new (λ more. ⊤)
 
 -- each shared object stays, and more may stand behind them
 pub record KeepsShared (old new : Host) : Type 0 where

@@ -16,8 +16,8 @@ abbrev pub IsOfRound : Plan → ℕ → Entry → Type 0
 IsOfRound p round e = is_of_round p round e ≡ true
 
 -- what is new, behind what was there, fits
-abbrev pub Appends : List Entry → List Entry → (List Entry → Type 0) → Type 0
-Appends old new Fit = (rest : List Entry) × (new ≡ old ++ rest) × Fit rest
+abbrev pub Appends : {X : Type 0} → List X → List X → (List X → Type 0) → Type 0
+Appends {X} old new Fit = (rest : List X) × (new ≡ old ++ rest) × Fit rest
 
 -- it is of this round
 abbrev pub GrowsInRound : Plan → ℕ → List Entry → List Entry → Type 0
