@@ -7,8 +7,8 @@ ghost use Rattle.tool_run.specs.Lines.{error_line, file_data, word_line};
 ghost use Rattle.cni_json.specs.Json.{line_of};
 
 use cni_addr::NoMemory;
+use cni_json::line;
 use cni_result::{CniError, JsonObject, error_value};
-use kernel_text::push_line;
 use serde_json::Value;
 use std::alloc::Global;
 
@@ -34,9 +34,7 @@ fn file_line(alloc: Global, error: Value, file: &str) -> Result<Vec<u8>, NoMemor
     ensures { IfOk result (λ line. line.items ≡ line_of (file_data (view error) file.now)) }
 {
     let value = file_value(alloc, error, file)?;
-    let mut line = Vec::new(alloc);
-    push_line(alloc, &value, &mut line)?;
-    Ok(line)
+    line(alloc, &value)
 }
 
 #[tactic(auto, using(crate::proofs::Whole::file_is_whole), unfolding(crate::specs::Lines::file_data))]
