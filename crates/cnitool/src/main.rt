@@ -15,7 +15,7 @@ use pod_threads::OpenGate;
 use std::env;
 use std::io::ErrorKind;
 use std::process::ExitCode;
-use tool_run::{MEMORY_STATUS, run};
+use tool_run::{MEMORY_STATUS, NO_WORDS_STATUS, run};
 
 /// Why there are no words.
 #[derive(Clone, Copy)]
@@ -28,7 +28,7 @@ impl NoWords {
     fn status(self) -> u8 {
         match self {
             NoWords::Memory => MEMORY_STATUS,
-            NoWords::Unreadable => 7,
+            NoWords::Unreadable => NO_WORDS_STATUS,
         }
     }
 }

@@ -18,4 +18,7 @@ pub mod statuses;
 
 pub use answers::{answer_value, skip_text};
 pub use parts::text;
-pub use statuses::{answers_status, status};
+pub use statuses::{
+    COMMAND_MEMORY_STATUS, FAILURE_STATUS, MEMORY_STATUS, NO_WORDS_STATUS, READ_STATUS,
+    REFUSED_STATUS, SUCCESS_STATUS, USAGE_STATUS, WRITE_STATUS, answers_status, status,
+};

@@ -1,4 +1,4 @@
-//! The status that a program ends with.
+//! The statuses that a program ends with, and the one that its answers come to.
 
 ghost use Rattle.std.specs.Prelude.{◌≡◌};
 ghost use Rattle.std.specs.List.{list_any};
@@ -7,6 +7,33 @@ ghost use Rattle.pod_text.specs.Statuses.{is_memory, is_failure, status_of};
 use cni_verbs::Answer;
 use kernel_model::Kernel;
 use pod_workers::Book;
+
+/// No command was refused, was stopped or ran out of memory.
+pub const SUCCESS_STATUS: u8 = 0;
+
+/// Some command was refused or stopped, and none ran out of memory.
+pub const FAILURE_STATUS: u8 = 1;
+
+/// The words aren't taken.
+pub const USAGE_STATUS: u8 = 2;
+
+/// A file is missing, too long or refused, or the files make no plan.
+pub const REFUSED_STATUS: u8 = 3;
+
+/// A read failed.
+pub const READ_STATUS: u8 = 4;
+
+/// A write failed.
+pub const WRITE_STATUS: u8 = 5;
+
+/// Memory ran out outside a command.
+pub const MEMORY_STATUS: u8 = 6;
+
+/// The system doesn't give the words, and memory isn't why.
+pub const NO_WORDS_STATUS: u8 = 7;
+
+/// Some command ran out of memory.
+pub const COMMAND_MEMORY_STATUS: u8 = 8;
 
 fn is_memory(answer: &Option<Answer>) -> bool
     ensures { result ≡ is_memory answer.now }
@@ -32,17 +59,16 @@ fn any_failure(answers: &[Option<Answer>]) -> bool
     answers.iter().any(|answer| is_failure(answer))
 }
 
-/// The status by the answers: 8 where some command was refused memory, else 1 where one was refused or stopped, else 0.
-/// A command without an answer counts as done. Takes no memory.
+/// The status by the answers. A command without an answer counts as done. Takes no memory.
 pub fn answers_status(answers: &[Option<Answer>]) -> u8
     ensures { result ≡ status_of answers.now }
 {
     if any_memory(answers) {
-        8
+        COMMAND_MEMORY_STATUS
     } else if any_failure(answers) {
-        1
+        FAILURE_STATUS
     } else {
-        0
+        SUCCESS_STATUS
     }
 }
 

@@ -32,4 +32,5 @@ mod tests;
 mod thread_tests;
 pub mod top;
 
-pub use top::{MEMORY_STATUS, Outcome, run, run_alone};
+pub use pod_text::{MEMORY_STATUS, NO_WORDS_STATUS};
+pub use top::{Outcome, run, run_alone};

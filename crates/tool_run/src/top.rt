@@ -17,22 +17,17 @@ use crate::settle::{Carried, settle};
 use cni_addr::Text;
 use cni_io::{Files, Sink, write_whole};
 use kernel_model::ListKernel;
-use pod_text::status;
+use pod_text::{MEMORY_STATUS, READ_STATUS, REFUSED_STATUS, USAGE_STATUS, WRITE_STATUS, status};
 use pod_threads::Gate;
 use pod_workers::Book;
 use std::alloc::Global;
 use std::sync::Wait;
 use std::thread::Threads;
 
-/// The exit status where memory runs out outside a command.
-pub const MEMORY_STATUS: u8 = 6;
-
 /// How a run ended.
 #[derive(Drop)]
 pub struct Outcome {
-    /// The exit status: 0 where every command is answered with success, 1 where one was refused or stopped, 8 where
-    /// one ran out of memory; 2 for words that aren't taken, 3 for a file or plan that is refused, 4 for a read that
-    /// failed, 5 for a write that failed, 6 where memory ran out outside a command.
+    /// The exit status, one of those that [`pod_text::statuses`] names.
     pub status: u8,
     /// The plan that was carried out, with what it came to.
     pub book: Option<Book<ListKernel>>,
@@ -134,19 +129,19 @@ fn report_stop<S: Sink>(sink: &mut S, stop: Stop) -> u8
     ensures { ReportsStop (S.written sink.old) (S.written sink.new) (S.faults sink.old) (S.faults sink.new) stop result }
 {
     match stop {
-        Stop::Usage => write(sink, USAGE, 2),
-        Stop::Line(line) => write(sink, line.as_slice(), 3),
-        Stop::Unread(line) => write(sink, line.as_slice(), 4),
+        Stop::Usage => write(sink, USAGE, USAGE_STATUS),
+        Stop::Line(line) => write(sink, line.as_slice(), REFUSED_STATUS),
+        Stop::Unread(line) => write(sink, line.as_slice(), READ_STATUS),
         Stop::NoMemory => MEMORY_STATUS,
     }
 }
 
-/// Writes the bytes, and answers the status, or 5 where the sink gave up.
+/// Writes the bytes, and answers the status, or [`WRITE_STATUS`] where the sink gave up.
 fn write<S: Sink>(sink: &mut S, bytes: &[u8], status: u8) -> u8
     ensures { Reports (S.written sink.old) (S.written sink.new) (S.faults sink.old) (S.faults sink.new) bytes.now status result }
 {
     match write_whole(sink, bytes) {
         Ok(()) => status,
-        Err(_) => 5,
+        Err(_) => WRITE_STATUS,
     }
 }
