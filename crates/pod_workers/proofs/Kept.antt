@@ -9,7 +9,6 @@ use Rattle.cni_verbs.specs.Script.{State, turn, state_from, start_state, advance
 use Rattle.cni_verbs.proofs.AfterReplies.{after_replies-append}
 use Rattle.cni_verbs.specs.declared.answer.Answer.{Answer}
 use Rattle.cni_verbs.specs.declared.answer.Answer.TheVariants.{OutOfMemory}
-use Rattle.kernel_types.specs.declared.call.Call.{Call}
 use Rattle.kernel_types.specs.declared.call.Reply.{Reply}
 use Rattle.kernel_types.specs.declared.object.Host.{Host}
 use Rattle.net_conf.specs.declared.list.NetList.{NetList}
