@@ -5,7 +5,7 @@ use cni_addr::{Addr, Cidr, Family, Items, Mac, RangeSet, Text};
 use cni_result::Cached;
 use std::marker::Model;
 
-/// A kind of objects that a plugin makes.
+/// A kind of objects that an attachment may have.
 #[derive(Clone, Copy)]
 pub enum Kind {
     /// Links, with the addresses and routes on them.
