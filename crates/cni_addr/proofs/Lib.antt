@@ -1,4 +1,5 @@
 pub mod AddrTexts
+pub mod Cases
 pub mod CidrTexts
 pub mod HexDigits
 pub mod Lists

@@ -12,7 +12,8 @@ use Rattle.kernel_types.specs.Words.{is_own, is_owned, is_link_of, has_named_ns,
 use Rattle.kernel_types.specs.Apply.Calls.{cache_put_of, addr_add_of, route_add_of, rule_append_of, setting_set_of, gateway_ensure_of, forward_ensure_of, is_same_addr, is_same_route, is_same_setting, has_link_of, new_gateway, new_forward}
 use Rattle.kernel_types.specs.Sound.{IsSound, address_fits_tag, setting_fits_tag}
 use Rattle.kernel_types.specs.Touch.{AddsAddress, AddsSetting, TouchesOwnAlone, TouchesTag}
-use Rattle.kernel_types.proofs.Cases.{by_absence, by_addition, by_test, none-option_map, tag_eq-own, own-own, TouchesTag-owned}
+use Rattle.cni_addr.proofs.Cases.{by_test}
+use Rattle.kernel_types.proofs.Cases.{by_absence, by_addition, none-option_map, tag_eq-own, own-own, TouchesTag-owned}
 use Rattle.kernel_types.proofs.ChangeLemmas.{ChangesOnly-append}
 use Rattle.kernel_types.proofs.ListLemmas.{list_any-none, list_any-find_none, list_all-push, distinct-push}
 use Rattle.kernel_types.proofs.OneList.{IsSound-with_cached, IsSound-with_addresses, IsSound-with_routes, IsSound-with_rules, IsSound-with_settings, TouchesOwnAlone-nothing, TouchesOwnAlone-with_cached, TouchesOwnAlone-with_addresses, TouchesOwnAlone-with_routes, TouchesOwnAlone-with_rules, TouchesOwnAlone-with_settings}

@@ -12,7 +12,8 @@ use Rattle.kernel_types.specs.Apply.Calls.{bridge_ensure_of, bridge_or_new, new_
 use Rattle.kernel_types.specs.Sound.{IsSound, peer_fits, peers_back, address_fits_tag, link_fits_tag, is_owned_kind}
 use Rattle.kernel_types.specs.Allowed.{IsVethPair, IsMacvlanLink, is_macvlan}
 use Rattle.kernel_types.specs.Touch.{AddsBridge, TouchesOwnAlone, TouchesTag}
-use Rattle.kernel_types.proofs.Cases.{by_test, by_addition, none-option_map, none-option_or, tag_eq-refl, own-own, TouchesTag-owned, is_at-itself, host_ns-eq, other_host}
+use Rattle.cni_addr.proofs.Cases.{by_test}
+use Rattle.kernel_types.proofs.Cases.{by_addition, none-option_map, none-option_or, tag_eq-refl, own-own, TouchesTag-owned, is_at-itself, host_ns-eq, other_host}
 use Rattle.kernel_types.proofs.ChangeLemmas.{ChangesOnly-append}
 use Rattle.kernel_types.proofs.ListLemmas.{list_all-weaker, list_any-none, list_any-find_none, list_any-append_left, list_any-append_right, list_all-append, are_new, distinct-append}
 use Rattle.kernel_types.proofs.OneList.{TouchesOwnAlone-nothing, TouchesOwnAlone-with_links}

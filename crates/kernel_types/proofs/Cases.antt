@@ -5,6 +5,7 @@ use Rattle.std.specs.Option.{option_map, option_or}
 use Rattle.std.specs.Str.{bytes_eq}
 use Rattle.std.specs.Cmp.Lexicographic.{nat_list_eq_equiv}
 use Rattle.std.proofs.lemmas.Bool.Decides.{nat_tests}
+use Rattle.cni_addr.proofs.Cases.{by_test}
 use Rattle.kernel_types.specs.Equal.{att_eq, tag_eq}
 use Rattle.kernel_types.specs.Words.{is_host_ns, is_host_bridge, is_own, is_owned, is_at, is_veth}
 use Rattle.kernel_types.specs.Apply.Calls.{append_unless_taken, unless_there}
@@ -21,10 +22,6 @@ use Rattle.kernel_types.specs.declared.call.Reply.{Reply}
 use Rattle.kernel_types.specs.declared.call.Reply.TheVariants.{Done}
 
 -- ---- cases
-
-pub by_test : {A : Type 0} (P : A → Type 0) (b : Bool) (x y : A) → (b ≡ true → P x) → (b ≡ false → P y) → P (if b then x else y)
-by_test P true x y h g = h refl
-by_test P false x y h g = g refl
 
 pub by_way : (P : Host × Reply → Type 0) (o : Option Tag) (host next : Host) → ((t : Tag) → P (append_unless_taken (Some t) host next)) → (o ≡ None → P (append_unless_taken None host next)) → P (append_unless_taken o host next)
 by_way P None host next h g = g refl

@@ -10,7 +10,7 @@ use Rattle.ip_pool.specs.Pool.{pick_of}
 use Rattle.ip_pool.proofs.Choice.{none-exhausted, picked-candidate, picked-free, pick-is_pick}
 use Rattle.kernel_types.specs.Allowed.{IsAllowed}
 use Rattle.kernel_types.specs.Apply.Calls.{lease_next_of, lease_taken, leased_addresses, last_leased, is_of_pool, moved_last, with_last}
-use Rattle.kernel_types.proofs.Cases.{by_test}
+use Rattle.cni_addr.proofs.Cases.{by_test}
 use Rattle.kernel_types.proofs.Leases.{is_of_pool-moved, pool_itself}
 use Rattle.kernel_types.specs.declared.object.Att.{Att}
 use Rattle.kernel_types.specs.declared.object.Last.{Last}

@@ -13,7 +13,8 @@ use Rattle.kernel_types.specs.Words.{is_own}
 use Rattle.kernel_types.specs.Apply.Calls.{lease_next_of, lease_taken, leased_addresses, last_leased, is_of_pool, moved_last, owner_in, with_last}
 use Rattle.kernel_types.specs.Sound.{IsSound}
 use Rattle.kernel_types.specs.Touch.{ChangesOnly, TouchesOwn, TouchesOwnAndLast}
-use Rattle.kernel_types.proofs.Cases.{by_test, att_eq-refl}
+use Rattle.cni_addr.proofs.Cases.{by_test}
+use Rattle.kernel_types.proofs.Cases.{att_eq-refl}
 use Rattle.kernel_types.proofs.ChangeLemmas.{ChangesOnly-nothing, ChangesOnly-append, ChangesOnly-map}
 use Rattle.kernel_types.proofs.ListLemmas.{passes-find, list_all-push, list_any-map_filter, distinct-push, distinct-map}
 use Rattle.kernel_types.proofs.OneList.{IsSound-with_leases, IsSound-with_lasts, TouchesOwn-nothing, TouchesOwn-with_lasts, TouchesOwn-with_leases}

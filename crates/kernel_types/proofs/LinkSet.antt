@@ -7,7 +7,7 @@ use Rattle.kernel_types.specs.Words.{is_host_ns, is_host_or_ns, is_own, is_at, i
 use Rattle.kernel_types.specs.Apply.Calls.{link_set_of, set_link, is_own_at}
 use Rattle.kernel_types.specs.Sound.{IsSound, peer_fits, peers_back, address_fits_tag, link_fits_tag}
 use Rattle.kernel_types.specs.Touch.{TouchesOwnAlone}
-use Rattle.kernel_types.proofs.Cases.{by_test}
+use Rattle.cni_addr.proofs.Cases.{by_test}
 use Rattle.kernel_types.proofs.ChangeLemmas.{ChangesOnly-map}
 use Rattle.kernel_types.proofs.ListLemmas.{list_all-map, list_all-weaker, list_any-map, list_any-same_test, distinct-map}
 use Rattle.kernel_types.proofs.OneList.{TouchesOwnAlone-nothing, TouchesOwnAlone-with_links}

@@ -9,7 +9,8 @@ use Rattle.kernel_types.specs.Words.{is_host_ns, is_host_or_ns, has_named_ns}
 use Rattle.kernel_types.specs.Apply.Calls.{ns_add_of, ns_del_of, goes_with_ns, has_peer_in, without_links, without_ns, is_same_setting}
 use Rattle.kernel_types.specs.Sound.{IsSound, setting_fits_tag}
 use Rattle.kernel_types.specs.Touch.{AddsNamespace, RemovesUnshared, is_base}
-use Rattle.kernel_types.proofs.Cases.{by_absence, by_test}
+use Rattle.cni_addr.proofs.Cases.{by_test}
+use Rattle.kernel_types.proofs.Cases.{by_absence}
 use Rattle.kernel_types.proofs.ChangeLemmas.{DropsOnly-filter}
 use Rattle.kernel_types.proofs.ListLemmas.{list_all-filter, list_all-kept, list_all-push, list_all-weaker, list_any-kept, list_any-push, distinct-filter, distinct-push}
 use Rattle.kernel_types.proofs.Removal.{IsSound-without_links, none_by}

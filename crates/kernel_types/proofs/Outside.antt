@@ -8,7 +8,8 @@ use Rattle.kernel_types.specs.Words.{is_host_ns, is_at, is_peer_at, is_bridge, i
 use Rattle.kernel_types.specs.Apply.Calls.{drop_link_of, flush_of, goes_with, without_link, without_links}
 use Rattle.kernel_types.specs.Sound.{IsSound, link_fits_tag, peer_fits}
 use Rattle.kernel_types.specs.Touch.{RemovesUnshared, is_base}
-use Rattle.kernel_types.proofs.Cases.{by_test, shared-no_veth}
+use Rattle.cni_addr.proofs.Cases.{by_test}
+use Rattle.kernel_types.proofs.Cases.{shared-no_veth}
 use Rattle.kernel_types.proofs.ChangeLemmas.{DropsOnly-nothing, DropsOnly-filter}
 use Rattle.kernel_types.proofs.ListLemmas.{list_all-filter, list_all-weaker, distinct-filter, passes-find}
 use Rattle.kernel_types.proofs.OneList.{IsSound-with_rules}

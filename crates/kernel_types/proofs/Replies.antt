@@ -10,7 +10,7 @@ use Rattle.kernel_types.specs.Apply as apply
 use Rattle.kernel_types.specs.Apply.Calls.{append_unless_taken, bridge_or_new, has_bridge_as_master, has_master, has_link_of, is_own_at, is_same_addr, is_same_route, is_same_setting, lease_taken, leased_addresses, last_leased, new_bridge, without_link}
 use Rattle.ip_pool.specs.Pool.{pick_of}
 use Rattle.kernel_types.specs.Replies.{is_fault, holds_text_or_list}
-use Rattle.kernel_types.proofs.Cases.{by_test}
+use Rattle.cni_addr.proofs.Cases.{by_test}
 use Rattle.kernel_types.specs.declared.object.Tag.{Tag}
 use Rattle.kernel_types.specs.declared.object.Tag.TheVariants as tags
 use Rattle.kernel_types.specs.declared.object.Att.{Att}

@@ -15,7 +15,7 @@ use Rattle.cni_json.specs.WellFormed.{EverywhereInItems, HasAscendingKeys, KeysA
 use Rattle.cni_json.proofs.Endings.{goes, ok_same, passed, not_refused, each_after_keeps}
 use Rattle.net_conf.proofs.Endings.{mapped, needed_text-ok, or_default, passing-ok}
 use Rattle.net_conf.proofs.SetFacts.{sets_at-ok, routes_at-ok}
-use Rattle.net_conf.proofs.TuningFacts.{by_test, given_mtu_at-ok, tuning_at-ok}
+use Rattle.net_conf.proofs.TuningFacts.{by_outcome, given_mtu_at-ok, tuning_at-ok}
 use Rattle.cni_result.specs.Dns.{dns_of_object}
 use Rattle.net_conf.specs.Bridge.{bridge_rows, bridge_name_of, bridge_name_at, gateway_role_at, mode_flags_at, is_one_mode, not_both, modes_at, bridge_at}
 use Rattle.net_conf.specs.Firewall.{firewall_at}
@@ -74,7 +74,7 @@ host_local_at-ok d conf is =
 
 host_local_or_none-ok : (d : Data) (found : Option HostLocalConf) → (if is_empty d then Ok None else ok_map Some (host_local_at d)) ≡ Ok found → IsWellFormedIpam found
 host_local_or_none-ok d found is =
-    by_test (is_empty d) _ _ _ is
+    by_outcome (is_empty d) _ _ _ is
     (λ empty same. subst IsWellFormedIpam (ok_same same) tt)
     (λ some same.
     let conf = mapped _ (host_local_at d) found same in

@@ -14,6 +14,7 @@ use Rattle.serde_json.specs.Find.{get}
 use Rattle.cni_json.specs.Fields.{member_at, u64_field, u32_field, has_32_bits}
 use Rattle.cni_json.specs.declared.fields.Field.{Field}
 use Rattle.cni_json.specs.declared.fields.Field.TheVariants.{Absent, WrongKind, Here}
+use Rattle.cni_addr.proofs.Cases.{by_test}
 use Rattle.cni_addr.proofs.MacTexts.{mac_read_is_spelled}
 use Rattle.cni_addr.specs.declared.mac.Mac.{Mac}
 use Rattle.cni_addr.specs.MacText.{IsMac, mac_of_text}
@@ -35,15 +36,14 @@ use Rattle.net_conf.specs.declared.error.ConfError.{ConfError}
 abbrev IsSettingOf : List ℕ → Sysctl → Type 0
 IsSettingOf key setting = (setting.key ≡ key) × IsNetworkSetting setting
 
--- one of two outcomes
-pub by_test : {A P : Type 0} (b : Bool) (x y : Result A ConfError) (z : Result A ConfError) → (if b then x else y) ≡ z → (b ≡ true → x ≡ z → P) → (b ≡ false → y ≡ z → P) → P
-by_test true x y z is first second = first refl is
-by_test false x y z is first second = second refl is
+-- a test's outcome is one of two
+pub by_outcome : {A P : Type 0} (b : Bool) (x y : Result A ConfError) (z : Result A ConfError) → (if b then x else y) ≡ z → (b ≡ true → x ≡ z → P) → (b ≡ false → y ≡ z → P) → P
+by_outcome {A = A} {P = P} b x y z is first second = by_test (λ (r : Result A ConfError). r ≡ z → P) b x y first second is
 
 setting_or_refused-ok : (key value : List ℕ) (setting : Sysctl) → setting_or_refused key value ≡ Ok setting → IsSettingOf key setting
 setting_or_refused-ok key value setting is =
-    by_test (not (is_network_setting key)) _ _ _ is (λ other same. cc)
-    (λ net same. by_test (has_part (codes "IFNAME") key) _ _ _ same (λ name refused. cc)
+    by_outcome (not (is_network_setting key)) _ _ _ is (λ other same. cc)
+    (λ net same. by_outcome (has_part (codes "IFNAME") key) _ _ _ same (λ name refused. cc)
     (λ plain read. subst (IsSettingOf key) (ok_same read) (refl, not-false (is_network_setting key) net)))
 
 setting_of-ok : (key : List ℕ) (d : Data) (setting : Sysctl) → setting_of key d ≡ Ok setting → IsSettingOf key setting
@@ -72,7 +72,7 @@ below_differs k l below = sym (is_eq-slice_cmp k l) ∙ ap is_eq below
 below_settings : (k : List ℕ) (ms : Members) (settings : List Sysctl) → IsBelow k (keys ms) → settings_of ms ≡ Ok settings → AllByRecursion (Differs k) (setting_keys settings)
 below_settings k no_members settings below is = subst (λ found. AllByRecursion (Differs k) (setting_keys found)) (ok_same is) tt
 below_settings k (member l d ms) settings below is =
-    by_test (is_null d) _ _ _ is (λ null same. below_settings k ms settings below.1 same) (λ there same.
+    by_outcome (is_null d) _ _ _ is (λ null same. below_settings k ms settings below.1 same) (λ there same.
     let one = goes (setting_of l d) _ settings same in
     let more = goes (settings_of ms) _ settings one.rest in
     let key = (setting_of-ok l d one.value one.first).0 in
@@ -83,7 +83,7 @@ settings_of-ok : (ms : Members) (settings : List Sysctl) → AreAscending ms →
 unfolding IsDistinct IsStrictlySortedBy
 settings_of-ok no_members settings order is = subst AreSettings (ok_same is) (record { network = All-nil IsNetworkSetting; once = tt })
 settings_of-ok (member k d ms) settings order is =
-    by_test (is_null d) _ _ _ is (λ null same. settings_of-ok ms settings order.1 same) (λ there same.
+    by_outcome (is_null d) _ _ _ is (λ null same. settings_of-ok ms settings order.1 same) (λ there same.
     let one = goes (setting_of k d) _ settings same in
     let more = goes (settings_of ms) _ settings one.rest in
     let setting = setting_of-ok k d one.value one.first in
@@ -118,7 +118,7 @@ new_mac_of-ok : (f : Field (List ℕ)) (found : Option Mac) → new_mac_of f ≡
 new_mac_of-ok Absent found is = subst (IfGiven IsMac) (ok_same is) (none_given IsMac)
 new_mac_of-ok WrongKind found is = cc
 new_mac_of-ok (Here text) found is =
-    by_test (bytes_eq text []) _ _ _ is
+    by_outcome (bytes_eq text []) _ _ _ is
     (λ empty same. subst (IfGiven IsMac) (ok_same same) (none_given IsMac))
     (λ some same. mac_or-ok (mac_of_text text) _ found (λ mac read. (mac_read_is_spelled text mac read).fits) same)
 
@@ -130,7 +130,7 @@ given_mtu_of-ok : (f : Field ℕ) (found : Option ℕ) → given_mtu_of f ≡ Ok
 given_mtu_of-ok Absent found is = subst (IfGiven IsMtu) (ok_same is) (none_given IsMtu)
 given_mtu_of-ok WrongKind found is = cc
 given_mtu_of-ok (Here n) found is =
-    by_test (nat_eq n 0) _ _ _ is
+    by_outcome (nat_eq n 0) _ _ _ is
     (λ zero same. subst (IfGiven IsMtu) (ok_same same) (none_given IsMtu))
     (λ some same. let test = passed (is_mtu n) (Some n) found _ same in subst (IfGiven IsMtu) test.1 (some_given IsMtu n test.0))
 

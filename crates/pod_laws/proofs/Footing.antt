@@ -20,7 +20,8 @@ use Rattle.kernel_types.specs.Apply.Calls.{append_unless_taken, bridge_or_new, n
 use Rattle.kernel_types.specs.Equal.{rule_eq}
 use Rattle.kernel_types.specs.Names.{host_name_of}
 use Rattle.kernel_types.specs.Words.{is_own, is_host_link, is_bridge, is_link_of, has_named_ns, has_host_bridge, link_at}
-use Rattle.kernel_types.proofs.Cases.{by_test, tag_eq-refl, tag_eq-own}
+use Rattle.cni_addr.proofs.Cases.{by_test}
+use Rattle.kernel_types.proofs.Cases.{tag_eq-refl, tag_eq-own}
 use Rattle.kernel_types.proofs.ListLemmas.{list_any-append_left, list_any-map, list_any-same_test, list_any-weaker}
 use Rattle.kernel_types.specs.declared.object.Att.{Att}
 use Rattle.kernel_types.specs.declared.object.Host.{Host}

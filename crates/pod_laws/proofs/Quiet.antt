@@ -6,7 +6,7 @@ use Rattle.kernel_types.specs.Apply.{apply}
 use Rattle.kernel_types.specs.Apply.Calls.{without_link}
 use Rattle.kernel_types.specs.Isolation.{is_from_outside}
 use Rattle.kernel_types.specs.Words.{is_own, has_named_ns, link_at}
-use Rattle.kernel_types.proofs.Cases.{by_test}
+use Rattle.cni_addr.proofs.Cases.{by_test}
 use Rattle.kernel_types.specs.declared.object.Att.{Att}
 use Rattle.kernel_types.specs.declared.object.Host.{Host}
 use Rattle.kernel_types.specs.declared.object.Link.{Link}
