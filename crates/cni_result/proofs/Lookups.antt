@@ -7,13 +7,10 @@ use Rattle.serde_json.specs.Data.{Data, string, object, Members, no_members, mem
 use Rattle.serde_json.specs.Find.{get_member}
 use Rattle.cni_result.specs.Members.{list_data, put_if, put_text_unless_empty, put_list_unless_empty, put_object_unless_empty}
 
-apart : (q k : List ℕ) → bytes_eq q k ≡ false → q ≡ k → ⊥
-apart q k differ same = true≢false (sym ((bytes_eq-Decides q k).1 same) ∙ differ)
-
 -- ---- at another key
 
 pub at_other : (q k : List ℕ) (d : Data) (ms : Members) → bytes_eq q k ≡ false → get_member q (put k d ms) ≡ get_member q ms
-at_other q k d ms differ = get_member-put_other q k d ms (apart q k differ)
+at_other q k d ms differ = get_member-put_other q k d ms (λ same. true≢false (sym ((bytes_eq-Decides q k).1 same) ∙ differ))
 
 pub at_other_if : {A : Type 0} (f : A → Data) (q k : List ℕ) (o : Option A) (ms : Members) → bytes_eq q k ≡ false → get_member q (put_if f k o ms) ≡ get_member q ms
 at_other_if f q k None ms differ = refl
