@@ -10,7 +10,7 @@ use Rattle.cni_json.proofs.Endings.{goes, ok_same}
 use Rattle.cni_json.specs.WellFormed.{KeysAscend}
 use Rattle.net_conf.proofs.Endings.{needed_text-ok}
 use Rattle.net_conf.proofs.PluginFacts.{chain_at-ok}
-use Rattle.net_conf.specs.List.{read_or_refused, version_at, name_at, switch_at, disable_check_key, disable_gc_key, list_at, list_of}
+use Rattle.net_conf.specs.List.{read_or_refused, version_at, name_at, switch_at, disable_check_key, disable_gc_key, network_list_at, list_of}
 use Rattle.net_conf.specs.Names.{is_network_name}
 use Rattle.net_conf.specs.Outside.{supported}
 use Rattle.net_conf.specs.Plugins.{chain_at}
@@ -23,9 +23,9 @@ name_at-ok : (d : Data) (name : List ℕ) → name_at d ≡ Ok name → is_netwo
 unfolding name_at
 name_at-ok d name is = needed_text-ok (codes "name") is_network_name (text_field (codes "name") d) name is
 
-list_at-ok : (d : Data) (list : NetList) → KeysAscend d → list_at d ≡ Ok list → IsWellFormedList list
-unfolding list_at
-list_at-ok d list order is =
+network_list_at-ok : (d : Data) (list : NetList) → KeysAscend d → network_list_at d ≡ Ok list → IsWellFormedList list
+unfolding network_list_at
+network_list_at-ok d list order is =
     let form = goes (object_or (invalid (codes "list")) d) _ list is in
     let version = goes (version_at d) _ list form.rest in
     let versions = goes (supported Nothing (codes "cniVersions") d) _ list version.rest in
@@ -52,4 +52,4 @@ pub list_of-ok : (bytes : List ℕ) (list : NetList) → list_of bytes ≡ Ok li
 unfolding list_of
 list_of-ok bytes list is =
     let json = goes (read_or_refused (json_of bytes)) _ list is in
-    list_at-ok json.value list (KeysAscend-json_of bytes json.value (read-ok (json_of bytes) json.value json.first)) json.rest
+    network_list_at-ok json.value list (KeysAscend-json_of bytes json.value (read-ok (json_of bytes) json.value json.first)) json.rest

@@ -64,8 +64,8 @@ abbrev pub disable_gc_key : List ℕ
 disable_gc_key = codes "disableGC"
 
 -- a network list
-unfoldable pub list_at : Data → Result NetList ConfError
-list_at d = do
+unfoldable pub network_list_at : Data → Result NetList ConfError
+network_list_at d = do
   _ ← object_or (invalid (codes "list")) d
   version ← version_at d
   _ ← supported Nothing (codes "cniVersions") d
@@ -77,4 +77,4 @@ list_at d = do
 
 -- the network list that the bytes spell, or the first refusal
 unfoldable pub list_of : List ℕ → Result NetList ConfError
-list_of bytes = read_or_refused (json_of bytes) >>= list_at
+list_of bytes = read_or_refused (json_of bytes) >>= network_list_at

@@ -8,7 +8,7 @@ use Rattle.cni_addr.specs.declared.macvlan.MacvlanMode.{MacvlanMode}
 use Rattle.cni_addr.specs.Modes.{mode_named}
 use Rattle.cni_addr.specs.declared.macvlan.MacvlanMode.TheVariants.{Bridge}
 use Rattle.net_conf.specs.Ipam.{addressing_at}
-use Rattle.net_conf.specs.Members.{optional, needed_text, mtu_at}
+use Rattle.net_conf.specs.Members.{with_default, needed_text, mtu_at}
 use Rattle.net_conf.specs.Names.{is_interface_name}
 use Rattle.net_conf.specs.Outside.{Row, all_supported}
 use Rattle.net_conf.specs.declared.error.ConfError.{ConfError}
@@ -25,7 +25,7 @@ unfoldable pub master_at : Data → Result (List ℕ) ConfError
 master_at d = needed_text (codes "master") is_interface_name (text_field (codes "master") d)
 
 abbrev pub mode_of : Field (List ℕ) → Result MacvlanMode ConfError
-mode_of f = optional (codes "mode") Bridge (λ text. ok_or (mode_named text) (refusal.Invalid (codes "mode"))) f
+mode_of f = with_default (codes "mode") Bridge (λ text. ok_or (mode_named text) (refusal.Invalid (codes "mode"))) f
 
 -- the mode of the link
 unfoldable pub mode_at : Data → Result MacvlanMode ConfError

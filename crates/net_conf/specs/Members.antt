@@ -17,8 +17,8 @@ abbrev pub is_null : Data → Bool
 is_null d = is_some (as_null d)
 
 -- what is read of a member that may be absent, and is the default then
-abbrev pub optional : {A B : Type 0} → List ℕ → B → (A → Result B ConfError) → Field A → Result B ConfError
-optional blamed default read f = member_or (Ok default) (invalid blamed) read f
+abbrev pub with_default : {A B : Type 0} → List ℕ → B → (A → Result B ConfError) → Field A → Result B ConfError
+with_default blamed default read f = member_or (Ok default) (invalid blamed) read f
 
 -- a value that passes the test; else this key or part is to blame
 abbrev pub tested : {A : Type 0} → List ℕ → (A → Bool) → A → Result A ConfError
@@ -39,14 +39,14 @@ ok_map f r = result_map_both f (λ e. e) r
 
 -- the truth value under the key, or the default where there is none; else `outer` is to blame
 abbrev pub flag_within : List ℕ → List ℕ → Bool → Data → Result Bool ConfError
-flag_within outer key default d = optional outer default Ok (bool_field key d)
+flag_within outer key default d = with_default outer default Ok (bool_field key d)
 
 -- the truth value under the key
 unfoldable pub flag_at : List ℕ → Bool → Data → Result Bool ConfError
 flag_at key default d = flag_within key key default d
 
 abbrev pub addr_if_of : List ℕ → (Addr → Bool) → Field (List ℕ) → Result (Option Addr) ConfError
-addr_if_of blamed test f = optional blamed None (λ text. ok_map Some (passing blamed test (addr_of_text text))) f
+addr_if_of blamed test f = with_default blamed None (λ text. ok_map Some (passing blamed test (addr_of_text text))) f
 
 -- the address under the key, which must pass the test, if one is given; else `blamed` is to blame
 unfoldable pub addr_if_at : List ℕ → List ℕ → (Addr → Bool) → Data → Result (Option Addr) ConfError
@@ -69,7 +69,7 @@ abbrev pub mtu_value : ℕ → Result (Option ℕ) ConfError
 mtu_value n = if n == 0 then Ok None else if is_mtu n then Ok (Some n) else invalid (codes "mtu")
 
 abbrev pub given_mtu_of : Field ℕ → Result (Option ℕ) ConfError
-given_mtu_of f = optional (codes "mtu") None mtu_value f
+given_mtu_of f = with_default (codes "mtu") None mtu_value f
 
 -- the MTU that the object gives, if it gives one
 unfoldable pub given_mtu_at : Data → Result (Option ℕ) ConfError

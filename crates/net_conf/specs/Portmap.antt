@@ -4,7 +4,7 @@ use Rattle.serde_json.specs.Data.{Data}
 use Rattle.cni_json.specs.Fields.{object_field}
 use Rattle.cni_json.specs.Outcome.{◌>>=◌}
 use Rattle.cni_json.specs.declared.fields.Field.{Field}
-use Rattle.net_conf.specs.Members.{optional, flag_at, flag_within}
+use Rattle.net_conf.specs.Members.{with_default, flag_at, flag_within}
 use Rattle.net_conf.specs.Outside.{Row, all_supported}
 use Rattle.net_conf.specs.declared.chained.PortmapConf.{PortmapConf}
 use Rattle.net_conf.specs.declared.error.ConfError.{ConfError}
@@ -17,16 +17,16 @@ portmap_rows =
     ∷ (codes "externalSetMarkChain", EmptyText) ∷ (codes "backend", Backend) ∷ []
 
 abbrev pub mappings_flag : Field Data → Result Bool ConfError
-mappings_flag f = optional (codes "capabilities") false (flag_within (codes "capabilities") (codes "portMappings") false) f
+mappings_flag f = with_default (codes "capabilities") false (flag_within (codes "capabilities") (codes "portMappings") false) f
 
 -- whether the plugin is to get the port mappings
-unfoldable pub mappings_at : Data → Result Bool ConfError
-mappings_at d = mappings_flag (object_field (codes "capabilities") d)
+unfoldable pub takes_mappings_at : Data → Result Bool ConfError
+takes_mappings_at d = mappings_flag (object_field (codes "capabilities") d)
 
 -- the configuration that a `portmap` plugin's object gives
 unfoldable pub portmap_at : Data → Result PortmapConf ConfError
 portmap_at d = do
   _ ← all_supported portmap_rows d
-  mappings ← mappings_at d
+  mappings ← takes_mappings_at d
   snat ← flag_at (codes "snat") true d
   Ok (record { mappings = mappings; snat = snat })

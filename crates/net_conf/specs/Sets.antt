@@ -13,7 +13,7 @@ use Rattle.cni_addr.specs.declared.range.RangeSet.{RangeSet}
 use Rattle.cni_addr.specs.Codes.{family_eq}
 use Rattle.ip_pool.specs.Pool.{are_apart}
 use Rattle.cni_json.specs.Each.{each, each_after}
-use Rattle.net_conf.specs.Members.{optional}
+use Rattle.net_conf.specs.Members.{with_default}
 use Rattle.net_conf.specs.Ranges.{range_at}
 use Rattle.net_conf.specs.Refusals.{invalid}
 use Rattle.net_conf.specs.declared.error.ConfError.{ConfError}
@@ -65,7 +65,7 @@ abbrev pub has_subnet : Data → Bool
 has_subnet d = is_some (member_at (codes "subnet") d)
 
 abbrev pub sets_listed : Field Items → Result Items ConfError
-sets_listed f = optional (codes "ranges") no_items Ok f
+sets_listed f = with_default (codes "ranges") no_items Ok f
 
 -- the listed sets, not yet read
 unfoldable pub listed_at : Data → Result Items ConfError

@@ -9,7 +9,7 @@ use Rattle.cni_json.specs.Outcome.{◌>>=◌}
 use Rattle.cni_json.specs.declared.fields.Field.{Field}
 use Rattle.cni_addr.specs.declared.mac.Mac.{Mac}
 use Rattle.cni_addr.specs.MacText.{mac_of_text}
-use Rattle.net_conf.specs.Members.{is_null, optional, flag_at, given_mtu_at}
+use Rattle.net_conf.specs.Members.{is_null, with_default, flag_at, given_mtu_at}
 use Rattle.net_conf.specs.Refusals.{invalid}
 use Rattle.net_conf.specs.declared.chained.Sysctl.{Sysctl}
 use Rattle.net_conf.specs.declared.chained.TuningConf.{TuningConf}
@@ -58,14 +58,14 @@ new_mac_value text =
     if bytes_eq text [] then Ok None else ok_or (option_map Some (mac_of_text text)) (refusal.Invalid (codes "mac"))
 
 abbrev pub new_mac_of : Field (List ℕ) → Result (Option Mac) ConfError
-new_mac_of f = optional (codes "mac") None new_mac_value f
+new_mac_of f = with_default (codes "mac") None new_mac_value f
 
 -- the new hardware address; the empty text is none
 unfoldable pub new_mac_at : Data → Result (Option Mac) ConfError
 new_mac_at d = new_mac_of (text_field (codes "mac") d)
 
 abbrev pub queue_length_of : Field ℕ → Result (Option ℕ) ConfError
-queue_length_of f = optional (codes "txQLen") None (λ n. Ok (Some n)) f
+queue_length_of f = with_default (codes "txQLen") None (λ n. Ok (Some n)) f
 
 -- the new length of the transmit queue, a number of 32 bits
 unfoldable pub queue_length_at : Data → Result (Option ℕ) ConfError

@@ -44,9 +44,9 @@ fn portmap_supported(alloc: Global, object: &Value) -> Result<(), ConfError>
     )
 }
 
-#[tactic(auto, using(cni_json::proofs::Steps::steps), unfolding(crate::specs::Portmap::mappings_at))]
+#[tactic(auto, using(cni_json::proofs::Steps::steps), unfolding(crate::specs::Portmap::takes_mappings_at))]
 fn mappings(alloc: Global, object: &Value) -> Result<bool, ConfError>
-    ensures { GivesAs is_want_of_memory (λ b. b) result (wanted.mappings_at (view object.now)) }
+    ensures { GivesAs is_want_of_memory (λ b. b) result (wanted.takes_mappings_at (view object.now)) }
 {
     match field_object(object, "capabilities") {
         Field::Absent => Ok(false),

@@ -31,10 +31,10 @@ pub fn read_list(alloc: Global, bytes: &[u8]) -> Result<NetList, ConfError>
     }
 }
 
-#[tactic(auto, using(cni_json::proofs::Steps::steps), unfolding(crate::specs::List::list_at))]
+#[tactic(auto, using(cni_json::proofs::Steps::steps), unfolding(crate::specs::List::network_list_at))]
 fn list(alloc: Global, top: &Value) -> Result<NetList, ConfError>
     requires { has_float (view top.now) ≡ false }
-    ensures { GivesAs is_want_of_memory (λ list. list) result (wanted.list_at (view top.now)) }
+    ensures { GivesAs is_want_of_memory (λ list. list) result (wanted.network_list_at (view top.now)) }
 {
     need_object(top, || invalid(alloc, "list"))?;
     let version = version(alloc, top)?;
