@@ -4,12 +4,12 @@ use Rattle.std.specs.List.{join_with_byte}
 use Rattle.cni_addr.specs.AddrText.{addr_text}
 use Rattle.cni_addr.specs.MacText.{colon}
 use Rattle.cni_addr.specs.declared.macvlan.MacvlanMode.{MacvlanMode}
-use Rattle.kernel_types.specs.declared.object.Chain.{Chain}
-use Rattle.kernel_types.specs.declared.object.Chain.TheVariants as chains
+use Rattle.kernel_types.specs.declared.rule.Chain.{Chain}
+use Rattle.kernel_types.specs.declared.rule.Chain.TheVariants as chains
 use Rattle.kernel_types.specs.declared.object.LinkKind.{LinkKind}
 use Rattle.kernel_types.specs.declared.object.LinkKind.TheVariants as kinds
-use Rattle.kernel_types.specs.declared.object.Target.{Target}
-use Rattle.kernel_types.specs.declared.object.Target.TheVariants as targets
+use Rattle.kernel_types.specs.declared.rule.Target.{Target}
+use Rattle.kernel_types.specs.declared.rule.Target.TheVariants as targets
 
 -- the mode of a macvlan link; no other link has one
 abbrev pub link_mode : LinkKind → Option MacvlanMode

@@ -13,7 +13,7 @@ use Rattle.kernel_types.proofs.ChangeLemmas.{ChangesOnly-DropsOnly, DropsOnly-no
 use Rattle.kernel_types.proofs.TouchRemoval.{addresses_gone, routes_gone, gone_owned, gone_may_go}
 use Rattle.kernel_types.specs.declared.object.Att.{Att}
 use Rattle.kernel_types.specs.declared.object.Link.{Link}
-use Rattle.kernel_types.specs.declared.object.Rule.{Rule}
+use Rattle.kernel_types.specs.declared.rule.Rule.{Rule}
 use Rattle.kernel_types.specs.declared.object.Setting.{Setting}
 use Rattle.kernel_types.specs.declared.object.Lease.{Lease}
 use Rattle.kernel_types.specs.declared.object.CachedObj.{CachedObj}

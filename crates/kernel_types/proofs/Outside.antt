@@ -21,7 +21,7 @@ use Rattle.kernel_types.specs.declared.object.LinkKind.TheVariants.{Device, Brid
 use Rattle.kernel_types.specs.declared.object.Tag.{Tag}
 use Rattle.kernel_types.specs.declared.object.Tag.TheVariants.{Outside, Base, Own}
 use Rattle.kernel_types.specs.declared.object.Link.{Link}
-use Rattle.kernel_types.specs.declared.object.Table.{Table}
+use Rattle.kernel_types.specs.declared.rule.Table.{Table}
 use Rattle.kernel_types.specs.declared.object.Host.{Host}
 use Rattle.kernel_types.specs.declared.call.Reply.{Reply}
 

@@ -2,10 +2,10 @@
 use Rattle.std.specs.Prelude.{ℕ, Bool, ◌==◌}
 use Rattle.kernel_types.specs.declared.call.Kind.{Kind}
 use Rattle.kernel_types.specs.declared.call.Kind.TheVariants as kinds
-use Rattle.kernel_types.specs.declared.object.Table.{Table}
-use Rattle.kernel_types.specs.declared.object.Table.TheVariants as tables
-use Rattle.kernel_types.specs.declared.object.Chain.{Chain}
-use Rattle.kernel_types.specs.declared.object.Chain.TheVariants as chains
+use Rattle.kernel_types.specs.declared.rule.Table.{Table}
+use Rattle.kernel_types.specs.declared.rule.Table.TheVariants as tables
+use Rattle.kernel_types.specs.declared.rule.Chain.{Chain}
+use Rattle.kernel_types.specs.declared.rule.Chain.TheVariants as chains
 
 abbrev pub table_code : Table → ℕ
 table_code tables.Nat = 0

@@ -9,12 +9,12 @@ use Rattle.kernel_types.specs.declared.object.LinkKind.TheVariants.{Device, Brid
 pub use Rattle.cni_addr.specs.Codes.{family_eq, mode_eq}
 pub use Rattle.kernel_types.specs.Codes.{table_eq, chain_eq, kind_eq}
 pub use Rattle.cni_result.specs.Codes.{proto_eq}
-use Rattle.kernel_types.specs.declared.object.Target.{Target}
-use Rattle.kernel_types.specs.declared.object.Target.TheVariants as targets
+use Rattle.kernel_types.specs.declared.rule.Target.{Target}
+use Rattle.kernel_types.specs.declared.rule.Target.TheVariants as targets
 use Rattle.kernel_types.specs.declared.object.Link.{Link}
 use Rattle.kernel_types.specs.declared.object.AddrObj.{AddrObj}
 use Rattle.kernel_types.specs.declared.object.RouteObj.{RouteObj}
-use Rattle.kernel_types.specs.declared.object.Rule.{Rule}
+use Rattle.kernel_types.specs.declared.rule.Rule.{Rule}
 use Rattle.kernel_types.specs.declared.object.Setting.{Setting}
 use Rattle.kernel_types.specs.declared.object.Lease.{Lease}
 use Rattle.kernel_types.specs.declared.object.Att.{Att}

@@ -4,11 +4,11 @@ use Rattle.std.specs.Str.{bytes_eq}
 use Rattle.kernel_types.specs.declared.object.Att.{Att}
 use Rattle.kernel_types.specs.declared.object.LinkKind.{LinkKind}
 use Rattle.kernel_types.specs.declared.object.LinkKind.TheVariants as kinds
-use Rattle.kernel_types.specs.declared.object.Table.{Table}
-use Rattle.kernel_types.specs.declared.object.Table.TheVariants as tables
+use Rattle.kernel_types.specs.declared.rule.Table.{Table}
+use Rattle.kernel_types.specs.declared.rule.Table.TheVariants as tables
 use Rattle.kernel_types.specs.declared.object.Tag.{Tag}
 use Rattle.kernel_types.specs.declared.object.Tag.TheVariants.{Outside, Base, Own}
-use Rattle.kernel_types.specs.declared.object.TheConstants.Table.{ALL}
+use Rattle.kernel_types.specs.declared.rule.TheConstants.Table.{ALL}
 
 -- `NETWORK/CONTAINER/IFNAME`
 abbrev pub attachment_text : Att → List ℕ

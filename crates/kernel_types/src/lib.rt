@@ -15,6 +15,7 @@ pub mod laws;
 pub mod link_values;
 pub mod names;
 pub mod object;
+pub mod rule;
 pub mod texts;
 pub mod words;
 
@@ -23,7 +24,8 @@ pub use found_host::opening_with;
 pub use link_values::{LinkValues, set_links};
 pub use names::{host_name_bytes, link_mac};
 pub use object::{
-    AddrObj, Att, CachedObj, Chain, Host, Last, Lease, Link, LinkKey, LinkKind, NsObj, RouteObj,
-    Rule, Setting, Table, Tag, Target,
+    AddrObj, Att, CachedObj, Host, Last, Lease, Link, LinkKey, LinkKind, NsObj, RouteObj, Setting,
+    Tag,
 };
+pub use rule::{Chain, Rule, Table, Target};
 pub use texts::{link_kind_text, table_named, table_text};

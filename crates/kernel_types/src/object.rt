@@ -3,8 +3,9 @@
 ghost use Rattle.std.specs.Prelude.{◌≡◌, IfOk};
 ghost use Rattle.kernel_types.specs.Words.{is_own, lease_of, outside_namespace};
 
+use crate::rule::Rule;
 use cni_addr::{Addr, Cidr, Duplicate, Items, Mac, MacvlanMode, NoMemory, Text};
-use cni_result::{Cached, Proto};
+use cni_result::Cached;
 
 /// Whose an object is.
 #[derive(PartialEq, Eq, Drop)]
@@ -52,84 +53,13 @@ pub enum LinkKind {
     Macvlan(MacvlanMode),
 }
 
-/// A table of packet rules.
-#[derive(Clone, Copy)]
-pub enum Table {
-    /// Address translation.
-    Nat,
-    /// Filtering.
-    Filter,
-}
-
-impl PartialEq for Table {
-    ghost use Rattle.std.specs.Cmp.{partial_equiv_from_equiv, on_equiv, nat_eq_equiv};
-    ghost use Rattle.kernel_types.specs.Codes.{table_eq, table_code};
-
-    ghost eq = { table_eq };
-
-    ghost laws = { partial_equiv_from_equiv (on_equiv table_code nat_eq_equiv) };
-
-    fn eq(&self, other: &Table) -> bool {
-        *self as u8 == *other as u8
-    }
-}
-
-impl Eq for Table {
-    ghost use Rattle.std.specs.Cmp.{on_equiv, nat_eq_equiv};
-    ghost use Rattle.kernel_types.specs.Codes.{table_code};
-
-    ghost laws = { on_equiv table_code nat_eq_equiv };
-}
-
-/// A chain of packet rules. The plugins' chains of one purpose are one here.
-#[derive(Clone, Copy)]
-pub enum Chain {
-    /// Where a packet for a mapped port of the host gets the container's address.
-    Dnat,
-    /// Where a packet of the host or a container to a mapped port gets the host's address.
-    HostMasq,
-    /// Where a packet that leaves a container's network gets the host's address.
-    Masq,
-    /// Where a packet that is forwarded is accepted.
-    Forward,
-}
-
-impl PartialEq for Chain {
-    ghost use Rattle.std.specs.Cmp.{partial_equiv_from_equiv, on_equiv, nat_eq_equiv};
-    ghost use Rattle.kernel_types.specs.Codes.{chain_eq, chain_code};
-
-    ghost eq = { chain_eq };
-
-    ghost laws = { partial_equiv_from_equiv (on_equiv chain_code nat_eq_equiv) };
-
-    fn eq(&self, other: &Chain) -> bool {
-        *self as u8 == *other as u8
-    }
-}
-
-impl Eq for Chain {
-    ghost use Rattle.std.specs.Cmp.{on_equiv, nat_eq_equiv};
-    ghost use Rattle.kernel_types.specs.Codes.{chain_code};
-
-    ghost laws = { on_equiv chain_code nat_eq_equiv };
-}
-
-/// What becomes of a packet that a rule fits.
-#[derive(Clone, Copy, PartialEq, Eq)]
-pub enum Target {
-    /// It passes.
-    Accept,
-    /// Its source becomes the address of the link that it leaves by.
-    Masquerade,
-    /// Its destination becomes this address and port.
-    Dnat { addr: Addr, port: u16 },
-}
-
-/// An attachment of a container to a network.
+/// An attachment of a container to a network (CNI specification, section 2: what the runtime names by `CNI_CONTAINERID`
+/// and `CNI_IFNAME`, with the name of the network).
 #[derive(PartialEq, Eq, Drop)]
 pub struct Att {
     pub network: Text,
     pub container: Text,
+    /// The name of the container's interface, as `eth0`.
     pub ifname: Text,
 }
 
@@ -193,13 +123,20 @@ pub struct Link {
     pub ns: Text,
     pub name: Text,
     pub kind: LinkKind,
+    /// The host's bridge that it is a port of, or the host's link that a macvlan link is on.
     pub master: Option<Text>,
+    /// The other end of a veth pair.
     pub peer: Option<LinkKey>,
     pub mac: Mac,
+    /// In bytes.
     pub mtu: u32,
+    /// Whether its bridge may send a frame out again by the port that it came in by.
     pub hairpin: bool,
+    /// Whether it takes in frames for every address.
     pub promisc: bool,
+    /// Whether it takes in frames for every multicast address.
     pub allmulti: bool,
+    /// The length of its transmission queue, in packets.
     pub tx_qlen: u32,
     pub tag: Tag,
 }
@@ -227,7 +164,9 @@ impl Duplicate for Link {
 #[derive(PartialEq, Eq, Drop)]
 pub struct AddrObj {
     pub ns: Text,
+    /// The name of the link, which stands in the same namespace.
     pub link: Text,
+    /// The address with the prefix of its network.
     pub cidr: Cidr,
     pub tag: Tag,
 }
@@ -247,8 +186,11 @@ impl Duplicate for AddrObj {
 #[derive(PartialEq, Eq, Drop)]
 pub struct RouteObj {
     pub ns: Text,
+    /// The network that it leads to; that of all addresses makes it a default route.
     pub dst: Cidr,
+    /// The name of the link that it leads out by.
     pub link: Text,
+    /// The next hop; where there is none, the network is on the link.
     pub gw: Option<Addr>,
     pub tag: Tag,
 }
@@ -265,42 +207,11 @@ impl Duplicate for RouteObj {
     }
 }
 
-/// A rule of a chain.
-#[derive(PartialEq, Eq, Drop)]
-pub struct Rule {
-    pub table: Table,
-    pub chain: Chain,
-    pub src: Option<Cidr>,
-    pub dst: Option<Cidr>,
-    pub not_dst: bool,
-    pub protocol: Option<Proto>,
-    pub dport: Option<u16>,
-    pub established: bool,
-    pub target: Target,
-    pub tag: Tag,
-}
-
-impl Duplicate for Rule {
-    fn copy(&self) -> Result<Rule, NoMemory> {
-        Ok(Rule {
-            table: self.table,
-            chain: self.chain,
-            src: self.src,
-            dst: self.dst,
-            not_dst: self.not_dst,
-            protocol: self.protocol,
-            dport: self.dport,
-            established: self.established,
-            target: self.target,
-            tag: self.tag.copy()?,
-        })
-    }
-}
-
-/// A value of a namespace.
+/// A value of a namespace, as `sysctl` sets it.
 #[derive(PartialEq, Eq, Drop)]
 pub struct Setting {
     pub ns: Text,
+    /// The name with points, as `net.core.somaxconn`.
     pub key: Text,
     pub value: Text,
     pub tag: Tag,
@@ -317,7 +228,7 @@ impl Duplicate for Setting {
     }
 }
 
-/// An address that is leased.
+/// An address that is leased. No network has one twice in a sound host.
 #[derive(PartialEq, Eq, Drop)]
 pub struct Lease {
     pub network: Text,
@@ -348,7 +259,7 @@ impl Duplicate for Lease {
     }
 }
 
-/// A kept result.
+/// What a runtime keeps of an attachment's ADD: its result, and what its later verbs need.
 #[derive(PartialEq, Eq, Drop)]
 pub struct CachedObj {
     pub cached: Cached,
@@ -364,10 +275,11 @@ impl Duplicate for CachedObj {
     }
 }
 
-/// The address that was leased last of a range set.
+/// The address that was leased last of a range set. It stays when the lease goes, and belongs to nobody.
 #[derive(PartialEq, Eq, Drop)]
 pub struct Last {
     pub network: Text,
+    /// The number of the range set in its network's list, from 0.
     pub set: u32,
     pub addr: Addr,
 }
@@ -382,7 +294,7 @@ impl Duplicate for Last {
     }
 }
 
-/// All objects of the modelled kernel.
+/// All objects of the modelled kernel, each kind in the order in which its objects came.
 #[derive(PartialEq, Eq, Drop)]
 pub struct Host {
     pub namespaces: Items<NsObj>,

@@ -3,7 +3,8 @@
 ghost use Rattle.std.specs.Prelude.{◌≡◌, Some};
 ghost use Rattle.kernel_types.specs.Texts.{link_kind_text, table_text, table_named};
 
-use crate::object::{LinkKind, Table};
+use crate::object::LinkKind;
+use crate::rule::Table;
 
 impl Table {
     /// Every table once.

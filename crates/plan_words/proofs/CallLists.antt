@@ -7,7 +7,7 @@ use Rattle.cni_addr.specs.declared.address.Family.TheVariants.{V4, V6}
 use Rattle.kernel_types.specs.declared.object.Link.{Link}
 use Rattle.kernel_types.specs.declared.object.AddrObj.{AddrObj}
 use Rattle.kernel_types.specs.declared.object.RouteObj.{RouteObj}
-use Rattle.kernel_types.specs.declared.object.Rule.{Rule}
+use Rattle.kernel_types.specs.declared.rule.Rule.{Rule}
 use Rattle.kernel_types.specs.declared.object.Setting.{Setting}
 use Rattle.kernel_types.specs.declared.call.Call.{Call}
 use Rattle.kernel_types.specs.declared.call.Call.TheVariants.{ForwardEnsure, AddrAdd, RouteAdd, RuleAppend, SettingSet}

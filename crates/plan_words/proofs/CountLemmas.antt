@@ -19,7 +19,7 @@ use Rattle.kernel_types.specs.Apply.Calls.{is_same_addr, is_same_route}
 use Rattle.kernel_types.specs.Equal.{addr_eq, cidr_eq, rule_eq}
 use Rattle.kernel_types.proofs.Cases.{att_eq-refl}
 use Rattle.kernel_types.specs.declared.object.Att.{Att}
-use Rattle.kernel_types.specs.declared.object.Rule.{Rule}
+use Rattle.kernel_types.specs.declared.rule.Rule.{Rule}
 use Rattle.kernel_types.specs.declared.call.Given.{Given}
 use Rattle.plan_words.specs.Rows.{present, spread}
 use Rattle.plan_words.specs.RuleKeys.{masquerade_keys}

@@ -16,13 +16,13 @@ use Rattle.kernel_types.specs.declared.object.LinkKind.TheVariants.{Veth, Macvla
 use Rattle.kernel_types.specs.declared.object.Link.{Link}
 use Rattle.kernel_types.specs.declared.object.AddrObj.{AddrObj}
 use Rattle.kernel_types.specs.declared.object.RouteObj.{RouteObj}
-use Rattle.kernel_types.specs.declared.object.Rule.{Rule}
-use Rattle.kernel_types.specs.declared.object.Table.{Table}
-use Rattle.kernel_types.specs.declared.object.Table.TheVariants.{Nat}
-use Rattle.kernel_types.specs.declared.object.Chain.{Chain}
-use Rattle.kernel_types.specs.declared.object.Chain.TheVariants.{Masq}
-use Rattle.kernel_types.specs.declared.object.Target.{Target}
-use Rattle.kernel_types.specs.declared.object.Target.TheVariants.{Accept, Masquerade}
+use Rattle.kernel_types.specs.declared.rule.Rule.{Rule}
+use Rattle.kernel_types.specs.declared.rule.Table.{Table}
+use Rattle.kernel_types.specs.declared.rule.Table.TheVariants.{Nat}
+use Rattle.kernel_types.specs.declared.rule.Chain.{Chain}
+use Rattle.kernel_types.specs.declared.rule.Chain.TheVariants.{Masq}
+use Rattle.kernel_types.specs.declared.rule.Target.{Target}
+use Rattle.kernel_types.specs.declared.rule.Target.TheVariants.{Accept, Masquerade}
 use Rattle.kernel_types.specs.Apply.Calls.{is_same_addr, is_same_route}
 use Rattle.kernel_types.specs.Equal.{rule_eq}
 use Rattle.kernel_types.specs.Words.{new_link}

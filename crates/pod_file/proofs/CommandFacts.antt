@@ -12,7 +12,7 @@ use Rattle.cni_json.specs.Fields.{text_field, list_field, u32_field, u64_of, has
 use Rattle.cni_json.specs.declared.fields.Field.{Field}
 use Rattle.cni_json.specs.declared.fields.Field.TheVariants.{Absent, WrongKind, Here}
 use Rattle.kernel_types.specs.Texts.{table_named}
-use Rattle.kernel_types.specs.declared.object.Table.{Table}
+use Rattle.kernel_types.specs.declared.rule.Table.{Table}
 use Rattle.cni_json.proofs.Endings.{goes, ok_same, passed, went_on, each_all, each_from_all}
 use Rattle.cni_json.proofs.WholeNumbers.{u32_of-fits}
 use Rattle.pod_file.specs.Commands.{verb_at, needs_table, texts_at, table_of, table_at, stop_of, stop_at, is_call_number, fault_of, fault_at, faults_at, command_at}

@@ -6,7 +6,7 @@ use Rattle.cni_json.specs.Outcome.{◌>>=◌}
 use Rattle.cni_json.specs.Fields.{text_field, u32_field, u64_of, has_32_bits, member_or, object_or, needed}
 use Rattle.cni_json.specs.declared.fields.Field.{Field}
 use Rattle.kernel_types.specs.Texts.{table_named}
-use Rattle.kernel_types.specs.declared.object.Table.{Table}
+use Rattle.kernel_types.specs.declared.rule.Table.{Table}
 use Rattle.pod_file.specs.Members.{text_at, needed_text_at, list_at, mappings_at, valid_at}
 use Rattle.pod_file.specs.Refusals.{wrong, wrong_key, command_path, key_path}
 use Rattle.pod_file.specs.declared.command.Command.{Command}

@@ -5,7 +5,7 @@ use Rattle.cni_addr.specs.declared.mac.Mac.{Mac}
 use Rattle.cni_addr.specs.declared.range.RangeSet.{RangeSet}
 use Rattle.cni_result.specs.declared.cached.Cached.{Cached}
 use Rattle.cni_result.specs.declared.result.Interface.{Interface}
-use Rattle.kernel_types.specs.declared.object.Rule.{Rule}
+use Rattle.kernel_types.specs.declared.rule.Rule.{Rule}
 use Rattle.kernel_types.specs.declared.call.Call.{Call}
 use Rattle.kernel_types.specs.declared.call.Call.TheVariants.{HasObj, PoolFree}
 use Rattle.net_conf.specs.declared.first.First.{First}

@@ -17,7 +17,7 @@ use Rattle.kernel_types.specs.Words.{is_host_ns}
 use Rattle.kernel_types.specs.declared.call.Call.{Call}
 use Rattle.kernel_types.specs.declared.call.Call.TheVariants.{NsChange, Outside}
 use Rattle.kernel_types.specs.declared.call.Change.TheVariants.{DropLink}
-use Rattle.kernel_types.specs.declared.object.Table.{Table}
+use Rattle.kernel_types.specs.declared.rule.Table.{Table}
 use Rattle.kernel_types.specs.declared.call.Reply.{Reply}
 use Rattle.kernel_types.proofs.Cases.{none-option_or}
 use Rattle.cni_verbs.specs.CommandWords.{att_of, add_refusal, any_fault, add_faults, drop_refusal, netns_refusal, no_faults, refusal_by}

@@ -12,7 +12,7 @@ use Rattle.kernel_types.specs.Equal.{rule_eq}
 use Rattle.kernel_types.specs.Words.{is_own}
 use Rattle.kernel_types.proofs.Cases.{att_eq-refl}
 use Rattle.kernel_types.specs.declared.object.Att.{Att}
-use Rattle.kernel_types.specs.declared.object.Rule.{Rule}
+use Rattle.kernel_types.specs.declared.rule.Rule.{Rule}
 use Rattle.plan_words.specs.Families.{first_of_family}
 use Rattle.plan_words.specs.PlanCalls.{AppendsShare}
 use Rattle.plan_words.proofs.Appends.{AreOwnCalls, own-rule_calls, appends-rules}

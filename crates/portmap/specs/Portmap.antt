@@ -12,10 +12,10 @@ use Rattle.cni_result.specs.declared.result.IpEntry.{IpEntry}
 use Rattle.net_conf.specs.declared.chained.PortmapConf.{PortmapConf}
 use Rattle.kernel_types.specs.Equal.{rule_eq}
 use Rattle.kernel_types.specs.declared.object.Att.{Att}
-use Rattle.kernel_types.specs.declared.object.Rule.{Rule}
-use Rattle.kernel_types.specs.declared.object.Table.TheVariants.{Nat}
-use Rattle.kernel_types.specs.declared.object.Chain.TheVariants as chains
-use Rattle.kernel_types.specs.declared.object.Target.TheVariants as targets
+use Rattle.kernel_types.specs.declared.rule.Rule.{Rule}
+use Rattle.kernel_types.specs.declared.rule.Table.TheVariants.{Nat}
+use Rattle.kernel_types.specs.declared.rule.Chain.TheVariants as chains
+use Rattle.kernel_types.specs.declared.rule.Target.TheVariants as targets
 use Rattle.kernel_types.specs.declared.call.Call.{Call}
 use Rattle.kernel_types.specs.declared.call.Call.TheVariants.{RuleAppend}
 use Rattle.kernel_types.specs.declared.call.Kind.{Kind}
