@@ -20,7 +20,7 @@ use Rattle.kernel_text.specs.Words.{chain_text}
 use Rattle.kernel_types.specs.Texts.{attachment_text, tag_text, table_text}
 use Rattle.kernel_types.specs.Words.{is_host_ns}
 use Rattle.cni_verbs.specs.CommandWords.{att_of}
-use Rattle.cni_verbs.specs.ErrorKinds.{kind_code, kind_title, message_about, message_of_field}
+use Rattle.cni_verbs.specs.ErrorKinds.{error_kind_code, error_kind_title, message_about, message_of_field}
 use Rattle.cni_verbs.specs.Script.{Finish}
 use Rattle.cni_verbs.specs.Wanted.{result_of_add}
 use Rattle.cni_verbs.specs.declared.answer.Answer.{Answer}
@@ -53,7 +53,7 @@ kind_of NothingThere = kinds.NothingThere
 kind_of (Missing what) = kinds.CheckFailed
 
 abbrev pub code_of : Cause → ℕ
-code_of cause = kind_code (kind_of cause)
+code_of cause = error_kind_code (kind_of cause)
 
 -- ---- messages
 
@@ -77,7 +77,7 @@ message_of (IpArgument value) = message_of_field (codes "IP") (compact_text (str
 message_of BadMapping = message_about kinds.InvalidList (codes "portMappings")
 message_of NoMaster = message_about kinds.InvalidList (codes "master")
 message_of (TooOld version) = message_about kinds.IncompatibleVersion (version_text version)
-message_of cause = kind_title (kind_of cause)
+message_of cause = error_kind_title (kind_of cause)
 
 -- ---- details
 

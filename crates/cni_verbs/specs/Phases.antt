@@ -75,8 +75,12 @@ abbrev pub HasQuestionsOf : NetList → Command → Inquiry → Type 0
 HasQuestionsOf list c inquiry = MatchOption inquiry.questions ⊤ (λ questions. questions ≡ questions_about list c inquiry.about)
 
 -- where the calls after the leases are prepared, they are those of these addresses
+abbrev pub HasCallsOf : NetList → Command → List Addr → Option (List Call) → Type 0
+HasCallsOf list c given prepared = MatchOption prepared ⊤ (λ calls. calls ≡ back_of list c given)
+
+-- what the phase has prepared is its own
 abbrev pub IsPrepared : NetList → Command → List Addr → Phase → Type 0
-IsPrepared list c given (phases.AfterLeases passed prepared) = MatchOption prepared ⊤ (λ calls. calls ≡ back_of list c given)
+IsPrepared list c given (phases.AfterLeases passed prepared) = HasCallsOf list c given prepared
 IsPrepared list c given (phases.Asking inquiry) = HasQuestionsOf list c inquiry
 IsPrepared list c given (phases.Denied inquiry) = HasQuestionsOf list c inquiry
 IsPrepared list c given phase = ⊤

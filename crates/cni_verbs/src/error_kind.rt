@@ -47,7 +47,7 @@ pub enum ErrorKind {
 impl ErrorKind {
     /// The code. Takes no memory.
     pub fn code(self) -> u32
-        ensures { result ≡ kinds.kind_code self }
+        ensures { result ≡ kinds.error_kind_code self }
     {
         match self {
             ErrorKind::IncompatibleVersion => 1,
@@ -69,7 +69,7 @@ impl ErrorKind {
 
     /// What each message of the kind begins with. Takes no memory.
     pub fn title(self) -> &'static str
-        ensures { result.now ≡ kinds.kind_title self }
+        ensures { result.now ≡ kinds.error_kind_title self }
     {
         match self {
             ErrorKind::IncompatibleVersion => "incompatible CNI version",
@@ -92,7 +92,7 @@ impl ErrorKind {
 
     /// The message that says no more than the title.
     pub fn message(self, alloc: Global) -> Result<Text, NoMemory>
-        ensures { IfOk result (λ msg. msg ≡ kinds.kind_title self) }
+        ensures { IfOk result (λ msg. msg ≡ kinds.error_kind_title self) }
     {
         Text::of(alloc, self.title())
     }

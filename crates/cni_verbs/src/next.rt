@@ -1,11 +1,11 @@
 //! The call that a run makes next.
 
-ghost use Rattle.std.specs.Prelude.{◌≡◌, ℕ, ◌<◌, ◌^◌, Some, ⊤, slice_get, option_map, IfOk, MatchOption};
+ghost use Rattle.std.specs.Prelude.{◌≡◌, ℕ, ◌<◌, ◌^◌, Some, slice_get, option_map, IfOk};
 ghost use Rattle.kernel_types.specs.declared.call.Call.TheVariants as call;
 ghost use Rattle.cni_verbs.specs.CommandWords.{att_of};
 ghost use Rattle.cni_verbs.specs.Wanted.{deletion, sets_of};
 ghost use Rattle.cni_verbs.specs.Script.{before_of, back_of, next_call};
-ghost use Rattle.cni_verbs.specs.Phases.{KeepsPlan, state_in, state_outside};
+ghost use Rattle.cni_verbs.specs.Phases.{HasCallsOf, KeepsPlan, state_in, state_outside};
 
 use crate::inquiry::call_asked;
 use crate::phase::Phase;
@@ -82,7 +82,7 @@ fn call_after(
     calls: &Option<Items<Call>>,
     place: usize,
 ) -> Result<Option<Call>, NoMemory>
-    requires { MatchOption calls.now ⊤ (λ all. all ≡ back_of list.now command.now given.now) }
+    requires { HasCallsOf list.now command.now given.now calls.now }
     ensures { IfOk result (λ next. next ≡ slice_get (back_of list.now command.now given.now) place) }
 {
     let calls = prepared_or_made(calls, || back_of(alloc, list, command, given))?;

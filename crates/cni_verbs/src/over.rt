@@ -1,10 +1,10 @@
 //! Whether a run is over. Nothing here takes memory.
 
-ghost use Rattle.std.specs.Prelude.{◌≡◌, ◌≤◌, ◌<◌, ℕ, List, ⊤, length, MatchBool, MatchOption};
+ghost use Rattle.std.specs.Prelude.{◌≡◌, ◌≤◌, ◌<◌, ℕ, List, length, MatchBool};
 ghost use Rattle.kernel_types.specs.declared.call.Call.{Call};
 ghost use Rattle.kernel_types.specs.declared.call.Reply.{Reply};
 ghost use Rattle.cni_verbs.specs.Script.{IsOpen, back_of, outside_advance};
-ghost use Rattle.cni_verbs.specs.Phases.{KeepsPlan, HasQuestionsOf, questions_about, state_in, state_outside};
+ghost use Rattle.cni_verbs.specs.Phases.{KeepsPlan, HasCallsOf, HasQuestionsOf, questions_about, state_in, state_outside};
 
 use crate::check_counts::count_questions;
 use crate::counts::back_count;
@@ -22,7 +22,7 @@ fn passed_all_calls(
     calls: &Option<Items<Call>>,
     passed: usize,
 ) -> bool
-    requires { MatchOption calls.now ⊤ (λ all. all ≡ back_of list.now command.now given.now) }
+    requires { HasCallsOf list.now command.now given.now calls.now }
     ensures { MatchBool result (length (back_of list.now command.now given.now) ≤ passed) (passed < length (back_of list.now command.now given.now)) }
 {
     match calls {
