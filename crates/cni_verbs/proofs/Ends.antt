@@ -1,6 +1,7 @@
 -- Which phases are over, and how they end.
 use Rattle.std.proofs.Common.{◌≡◌, ℕ, ◌<◌, ◌≤◌, List, [], ◌∷◌, length, drop, refl, sym, ap, subst, arith, not, Option, Some, None, inl, inr}
 use Rattle.std.specs.Prelude.{◌⊎◌, Bool, true, false, option_map, MatchBool}
+use Rattle.std.specs.Bool.{FalseIff}
 use Rattle.cni_addr.specs.declared.address.Addr.{Addr}
 use Rattle.net_conf.specs.declared.list.NetList.{NetList}
 use Rattle.pod_file.specs.declared.command.Command.{Command}
@@ -21,7 +22,7 @@ use Rattle.cni_verbs.proofs.PhaseSteps.{left_of, opens, denied_is_over}
 
 -- what a phase's state is, where it is open or over
 abbrev pub IsOverIf : Bool → State → Type 0
-IsOverIf over s = MatchBool over (IsOpen s → ⊥) (IsOpen s)
+IsOverIf over s = FalseIff over (IsOpen s)
 
 pub early-open : (list : NetList) (c : Command) (before : List Call) (kinds : List Kind) (room made : ℕ) (addrs : List Addr) (phase : Phase)
     → KeepsPlan list c before kinds room made addrs phase

@@ -1,6 +1,7 @@
 //! Whether a run is over. Nothing here takes memory.
 
 ghost use Rattle.std.specs.Prelude.{◌≡◌, ◌≤◌, ◌<◌, ℕ, List, length, MatchBool};
+ghost use Rattle.std.specs.Bool.{FalseIff};
 ghost use Rattle.kernel_types.specs.declared.call.Call.{Call};
 ghost use Rattle.kernel_types.specs.declared.call.Reply.{Reply};
 ghost use Rattle.cni_verbs.specs.Script.{IsOpen, back_of, outside_advance};
@@ -58,9 +59,7 @@ pub(crate) fn is_over(
     phase: &Phase,
 ) -> bool
     requires { (before : List Call) × (room : ℕ) × (made : ℕ) × KeepsPlan list.now command.now before kinds.now room made given.now phase.now }
-    ensures { MatchBool result
-        (IsOpen (state_in list.now command.now given.now phase.now) → ⊥)
-        (IsOpen (state_in list.now command.now given.now phase.now)) }
+    ensures { FalseIff result (IsOpen (state_in list.now command.now given.now phase.now)) }
 {
     match phase {
         Phase::AtBegin
@@ -93,7 +92,7 @@ pub(crate) fn is_changing(phase: &Phase) -> bool
 
 /// Whether the run of no network is over.
 pub(crate) fn is_over_outside(phase: &Phase) -> bool
-    ensures { MatchBool result (IsOpen (state_outside phase.now) → ⊥) (IsOpen (state_outside phase.now)) }
+    ensures { FalseIff result (IsOpen (state_outside phase.now)) }
 {
     !is_changing(phase)
 }

@@ -1,6 +1,7 @@
 //! One command's run, a call at a time.
 
-ghost use Rattle.std.specs.Prelude.{◌≡◌, ◌+◌, ◌<◌, ◌≤◌, ◌^◌, is_some, false, true, [], None, Some, IfOk, length, option_map, vec_capacity, MatchBool};
+ghost use Rattle.std.specs.Prelude.{◌≡◌, ◌+◌, ◌<◌, ◌≤◌, ◌^◌, is_some, false, true, [], None, Some, IfOk, length, option_map, vec_capacity};
+ghost use Rattle.std.specs.Bool.{FalseIff};
 ghost use Rattle.std.specs.Option.{option_copied};
 ghost use Rattle.cni_verbs.specs.Progress.{is_gc, progress, advanced, answer_by};
 ghost use Rattle.cni_verbs.specs.Phases.{IsPhaseOf, state_outside};
@@ -218,7 +219,7 @@ impl Run {
     /// Whether the run has no call left to make. Takes no memory; quadratic in the addresses, the routes, the mappings
     /// and the settings where [`Run::prepare`] didn't run or wanted memory, else at once.
     pub fn over(&self) -> bool
-        ensures { MatchBool result (IsOpen self.now.state → ⊥) (IsOpen self.now.state) }
+        ensures { FalseIff result (IsOpen self.now.state) }
     {
         match &self.list {
             Some(list) => is_over(

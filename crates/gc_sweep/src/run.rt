@@ -1,6 +1,7 @@
 //! The run of a garbage collection, a call at a time.
 
-ghost use Rattle.std.specs.Prelude.{◌≡◌, ◌+◌, ◌<◌, ◌^◌, IfOk, OnOk, OnErr, IsOk, MatchBool, Some, None, [], false, true, option_map};
+ghost use Rattle.std.specs.Prelude.{◌≡◌, ◌+◌, ◌<◌, ◌^◌, IfOk, OnOk, OnErr, IsOk, Some, None, [], false, true, option_map};
+ghost use Rattle.std.specs.Bool.{FalseIff};
 ghost use Rattle.kernel_types.specs.Replies.{is_fault};
 ghost use Rattle.cni_verbs.specs.Progress.{is_gc, progress, advanced, answer_by};
 ghost use Rattle.cni_verbs.specs.Script.{IsOpen, next_call, finish_of, finish_of_work, faults_after};
@@ -95,7 +96,7 @@ impl GcRun {
 
     /// Whether no call is left to make.
     pub fn over(&self) -> bool
-        ensures { MatchBool result (IsOpen self.now.state → ⊥) (IsOpen self.now.state) }
+        ensures { FalseIff result (IsOpen self.now.state) }
     {
         is_early(&self.list) || self.place.is_done()
     }

@@ -1,6 +1,7 @@
 //! What carries a command on: the run of a verb, or of a garbage collection.
 
-ghost use Rattle.std.specs.Prelude.{◌≡◌, ◌+◌, ◌<◌, ◌^◌, [], false, true, IfOk, IsOk, MatchBool, OnErr, OnOk, is_some, option_map};
+ghost use Rattle.std.specs.Prelude.{◌≡◌, ◌+◌, ◌<◌, ◌^◌, [], false, true, IfOk, IsOk, OnErr, OnOk, is_some, option_map};
+ghost use Rattle.std.specs.Bool.{FalseIff};
 ghost use Rattle.std.specs.Option.{option_copied};
 ghost use Rattle.cni_verbs.specs.Progress.{advanced, answer_by, is_gc, progress};
 ghost use Rattle.cni_verbs.specs.Script.{IsOpen, finish_of, next_call};
@@ -76,7 +77,7 @@ impl Task {
 
     /// Whether no call is left to make. Takes no memory.
     pub fn over(&self) -> bool
-        ensures { MatchBool result (IsOpen self.now.state → ⊥) (IsOpen self.now.state) }
+        ensures { FalseIff result (IsOpen self.now.state) }
     {
         match &self.run {
             Carried::Verb(run) => run.over(),
