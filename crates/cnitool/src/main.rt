@@ -40,7 +40,7 @@ impl From<NoMemory> for NoWords {
 }
 
 fn main(rt: HostRuntime) -> ExitCode {
-    let words = match read_words(&rt) {
+    let words = match given_words(&rt) {
         Ok(words) => words,
         Err(end) => return ExitCode::from(end.status()),
     };
@@ -58,7 +58,7 @@ fn main(rt: HostRuntime) -> ExitCode {
 }
 
 /// The words of the program, without its name.
-fn read_words(rt: &HostRuntime) -> Result<Items<Text>, NoWords> {
+fn given_words(rt: &HostRuntime) -> Result<Items<Text>, NoWords> {
     let given = match env::args(rt) {
         Ok(given) => given,
         Err(error) if error.kind() == ErrorKind::OutOfMemory => return Err(NoWords::Memory),

@@ -25,7 +25,7 @@ use Rattle.cni_verbs.specs.declared.answer.Ending.TheVariants as endings
 use Rattle.cni_verbs.specs.declared.answer.Skip.TheVariants as skips
 use Rattle.pod_file.specs.declared.command.ValidAtt.{ValidAtt}
 use Rattle.gc_sweep.specs.View.{HasTaken, is_early, progress_of, work_of, has_no_work, jobs_left, sweeps_after}
-use Rattle.gc_sweep.specs.declared.place.Place.{Place}
+use Rattle.gc_sweep.specs.declared.place.SweepPlace.{SweepPlace}
 
 -- ---- the start
 
@@ -64,7 +64,7 @@ next_working : (c : Command) (w : Work) (faults : List ℕ) → next_call c (Col
 unfolding next_call
 next_working c w faults = refl
 
-pub next_late : (list : NetList) (c : Command) (p : Place) (faults : List ℕ) (ks : List Kind) → ks ≡ kinds_of list → is_early list.version list.disable_gc ≡ false
+pub next_late : (list : NetList) (c : Command) (p : SweepPlace) (faults : List ℕ) (ks : List Kind) → ks ≡ kinds_of list → is_early list.version list.disable_gc ≡ false
     → call_of_work c.network (jobs_left ks p) (sweeps_after ks p.stage) ≡ next_call c (collecting list.version list.disable_gc (work_of (kinds_of list) p) faults)
 next_late list c p faults ks same h =
     let w = work_of (kinds_of list) p in
@@ -100,7 +100,7 @@ advances list c made w v faults more r opened work note =
     ap s now
 
 -- the progress after a reply, by what its steps ensure
-pub taken : (list : NetList) (c : Command) (made : ℕ) (ks ls : List Kind) (valid : List ValidAtt) (p q : Place) (faults more : List ℕ) (r : Reply)
+pub taken : (list : NetList) (c : Command) (made : ℕ) (ks ls : List Kind) (valid : List ValidAtt) (p q : SweepPlace) (faults more : List ℕ) (r : Reply)
     → IsOpen (collecting list.version list.disable_gc (work_of (kinds_of list) p) faults) → ks ≡ kinds_of list → ls ≡ ks → valid ≡ c.valid → HasTaken ls valid r p q → more ≡ faults_after (made + 1) faults (is_fault r)
     → progress_of list c (made + 1) q more ≡ advanced (progress_of list c made p faults) r
 taken list c made ks ls valid p q faults more r opened ks_is ls_is valid_is work note =
@@ -123,7 +123,7 @@ pub finish_working : (w : Work) (faults : List ℕ) → finish_of (Collecting w 
 unfolding finish_of
 finish_working w faults = refl
 
-pub answers_late : (list : NetList) (c : Command) (p : Place) (faults : List ℕ) (ks : List Kind) → ks ≡ kinds_of list → is_early list.version list.disable_gc ≡ false
+pub answers_late : (list : NetList) (c : Command) (p : SweepPlace) (faults : List ℕ) (ks : List Kind) → ks ≡ kinds_of list → is_early list.version list.disable_gc ≡ false
     → option_map (answer_by (Some list) c) (finish_of_work (jobs_left ks p) (sweeps_after ks p.stage) faults) ≡ answer_in list c (collecting list.version list.disable_gc (work_of (kinds_of list) p) faults)
 answers_late list c p faults ks same h =
     let w = work_of (kinds_of list) p in

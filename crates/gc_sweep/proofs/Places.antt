@@ -13,7 +13,7 @@ use Rattle.kernel_types.specs.declared.call.Reply.TheVariants.{Gone, Owners, Ent
 use Rattle.cni_verbs.specs.Script.{call_of_work}
 use Rattle.cni_verbs.specs.Sweep.{Gc, Step, Delete, Sweep, Job, Work, step_call, job_of, after_step, first_sweep, work_after}
 use Rattle.gc_sweep.specs.View.{steps_of, jobs_at, jobs_left, sweeps_after, sweep_of, IsPlace, has_no_work}
-use Rattle.gc_sweep.specs.declared.place.Place.{Place}
+use Rattle.gc_sweep.specs.declared.place.SweepPlace.{SweepPlace}
 
 -- ---- the steps of the first sweep
 
@@ -111,7 +111,7 @@ no_work-job [] sweeps h = cc
 no_work-job (j ∷ jobs) sweeps h = refl
 
 -- with an owner at hand work is left
-pub not_done : (ks : List Kind) (p : Place) (b : Bool) → IsPlace ks p → b ≡ nat_lt p.at (length p.owners.items) → b ≡ true → not b ≡ has_no_work (jobs_left ks p) (sweeps_after ks p.stage)
+pub not_done : (ks : List Kind) (p : SweepPlace) (b : Bool) → IsPlace ks p → b ≡ nat_lt p.at (length p.owners.items) → b ≡ true → not b ≡ has_no_work (jobs_left ks p) (sweeps_after ks p.stage)
 not_done ks p b within has here =
     let some = sym (has ∙ sym (has_job_left (sweep_of ks p.stage) p.step p.at p.owners.items within)) ∙ here in
     ap not here ∙ sym (no_work-job (jobs_left ks p) (sweeps_after ks p.stage) some)

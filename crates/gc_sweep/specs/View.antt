@@ -15,9 +15,9 @@ use Rattle.cni_verbs.specs.Sweep.{Step, AskCached, Delete, Sweep, Job, Work, fir
 use Rattle.cni_verbs.specs.Wanted.{kinds_of}
 use Rattle.gc_sweep.specs.declared.place.Stage.{Stage}
 use Rattle.gc_sweep.specs.declared.place.Stage.TheVariants.{Start, First, Of}
-use Rattle.gc_sweep.specs.declared.place.Task.{Task}
-use Rattle.gc_sweep.specs.declared.place.Task.TheVariants as tasks
-use Rattle.gc_sweep.specs.declared.place.Place.{Place}
+use Rattle.gc_sweep.specs.declared.place.OwnerStep.{OwnerStep}
+use Rattle.gc_sweep.specs.declared.place.OwnerStep.TheVariants as owner_steps
+use Rattle.gc_sweep.specs.declared.place.SweepPlace.{SweepPlace}
 
 -- ---- the work
 
@@ -38,9 +38,9 @@ abbrev pub sweeps_from : List Kind → Option Stage → List Sweep
 sweeps_from ks None = []
 sweeps_from ks (Some stage) = sweep_of ks stage ∷ sweeps_after ks stage
 
-abbrev pub step_of : Task → Step
-step_of tasks.AskCached = AskCached
-step_of (tasks.Delete kind) = Delete kind
+abbrev pub step_of : OwnerStep → Step
+step_of owner_steps.AskCached = AskCached
+step_of (owner_steps.Delete kind) = Delete kind
 
 abbrev pub steps_of : Sweep → List Step
 steps_of s = s.step ∷ s.more
@@ -50,13 +50,13 @@ abbrev pub jobs_at : Sweep → ℕ → List Att → List Job
 jobs_at s step [] = []
 jobs_at s step (a ∷ more) = after_step a (drop step (steps_of s)) (map (job_of s) more)
 
-abbrev pub jobs_left : List Kind → Place → List Job
+abbrev pub jobs_left : List Kind → SweepPlace → List Job
 jobs_left ks p = jobs_at (sweep_of ks p.stage) p.step (drop p.at p.owners.items)
 
-abbrev pub IsPlace : List Kind → Place → Type 0
+abbrev pub IsPlace : List Kind → SweepPlace → Type 0
 IsPlace ks p = p.step < length (steps_of (sweep_of ks p.stage))
 
-abbrev pub work_of : List Kind → Place → Work
+abbrev pub work_of : List Kind → SweepPlace → Work
 work_of ks p = record { jobs = jobs_left ks p; sweeps = sweeps_after ks p.stage }
 
 -- the collection has no call to make
@@ -69,16 +69,16 @@ has_no_work jobs sweeps = is_none (collected_by jobs sweeps)
 abbrev pub is_early : Version → Bool → Bool
 is_early version disabled = is_some (early_ending version disabled)
 
-abbrev pub progress_of : NetList → Command → ℕ → Place → List ℕ → Progress
+abbrev pub progress_of : NetList → Command → ℕ → SweepPlace → List ℕ → Progress
 progress_of list c made place faults =
     record { list = Some list; command = c; made = made; state = collecting list.version list.disable_gc (work_of (kinds_of list) place) faults }
 
-abbrev pub IsInRange : NetList → List Kind → Place → Type 0
+abbrev pub IsInRange : NetList → List Kind → SweepPlace → Type 0
 IsInRange list ks place = (ks ≡ kinds_of list) × IsPlace ks place
 
 -- ---- one reply
 
 -- the second place has the work of the first after this reply
-abbrev pub HasTaken : List Kind → List ValidAtt → Reply → Place → Place → Type 0
+abbrev pub HasTaken : List Kind → List ValidAtt → Reply → SweepPlace → SweepPlace → Type 0
 HasTaken ks valid r old new =
     (network : List ℕ) → work_of ks new ≡ work_after (record { network = network; valid = valid; kinds = ks }) (jobs_left ks old) (sweeps_after ks old.stage) r

@@ -23,26 +23,26 @@ pub(crate) enum Stage {
 
 /// What is done about one owner: its cached entry is read, or a kind is deleted until nothing of it is left.
 #[derive(Clone, Copy, Drop)]
-pub(crate) enum Task {
+pub(crate) enum OwnerStep {
     AskCached,
     Delete(Kind),
 }
 
 /// The sweep at hand, its owners, the number of the one at hand, and the number of that one's step.
 #[derive(Drop)]
-pub(crate) struct Place {
+pub(crate) struct SweepPlace {
     pub stage: Stage,
     pub owners: Vec<Att>,
     pub at: usize,
     pub step: usize,
 }
 
-impl Place {
-    pub fn start(alloc: Global) -> Place
+impl SweepPlace {
+    pub fn start(alloc: Global) -> SweepPlace
         ensures work { (kinds : List Kind) → work_of kinds result ≡ record { jobs = []; sweeps = all_sweeps kinds } }
         ensures range { (kinds : List Kind) → IsPlace kinds result }
     {
-        Place {
+        SweepPlace {
             stage: Stage::Start,
             owners: Vec::new(alloc),
             at: 0,
@@ -89,25 +89,25 @@ fn kind_at(kinds: &[Kind], i: usize) -> Kind
     kinds[i]
 }
 
-fn first_task(kinds: &[Kind], step: usize) -> Task
+fn first_owner_step(kinds: &[Kind], step: usize) -> OwnerStep
     requires { step < length (steps_of (first_sweep kinds.now)) }
     ensures { slice_get (steps_of (first_sweep kinds.now)) step ≡ Some (step_of result) }
 {
     if step == 0 {
-        Task::AskCached
+        OwnerStep::AskCached
     } else {
-        Task::Delete(kind_at(kinds, step - 1))
+        OwnerStep::Delete(kind_at(kinds, step - 1))
     }
 }
 
 /// The step with this number of an owner of this sweep.
-fn task_at(kinds: &[Kind], stage: Stage, step: usize) -> Task
+fn owner_step_at(kinds: &[Kind], stage: Stage, step: usize) -> OwnerStep
     requires { step < length (steps_of (sweep_of kinds.now stage)) }
     ensures { slice_get (steps_of (sweep_of kinds.now stage)) step ≡ Some (step_of result) }
 {
     match stage {
-        Stage::Start | Stage::First => first_task(kinds, step),
-        Stage::Of(kind) => Task::Delete(kind),
+        Stage::Start | Stage::First => first_owner_step(kinds, step),
+        Stage::Of(kind) => OwnerStep::Delete(kind),
     }
 }
 
@@ -121,13 +121,13 @@ fn kind_of(stage: Stage) -> Kind
     }
 }
 
-fn call_of(att: &Att, task: Task) -> Result<Call, NoMemory>
-    ensures { IfOk result (λ call. call ≡ step_call att.now (step_of task)) }
+fn call_of(att: &Att, step: OwnerStep) -> Result<Call, NoMemory>
+    ensures { IfOk result (λ call. call ≡ step_call att.now (step_of step)) }
 {
     let att = att.copy()?;
-    Ok(match task {
-        Task::AskCached => Call::CacheGet { att },
-        Task::Delete(kind) => deletion(att, kind),
+    Ok(match step {
+        OwnerStep::AskCached => Call::CacheGet { att },
+        OwnerStep::Delete(kind) => deletion(att, kind),
     })
 }
 
@@ -135,14 +135,14 @@ fn call_of(att: &Att, task: Task) -> Result<Call, NoMemory>
 pub(crate) fn next_call(
     network: &Text,
     kinds: &[Kind],
-    place: &Place,
+    place: &SweepPlace,
 ) -> Result<Option<Call>, NoMemory>
     requires { IsPlace kinds.now place.now }
     ensures { IfOk result (λ call. call ≡ call_of_work network.now (jobs_left kinds.now place.now) (sweeps_after kinds.now place.now.stage)) }
 {
     if place.has_owner() {
-        let task = task_at(kinds, place.stage, place.step);
-        Ok(Some(call_of(&place.owners[place.at], task)?))
+        let step = owner_step_at(kinds, place.stage, place.step);
+        Ok(Some(call_of(&place.owners[place.at], step)?))
     } else {
         match next_stage(place.stage) {
             Some(stage) => Ok(Some(Call::OwnersOf {
@@ -181,7 +181,7 @@ fn is_last(kinds: &[Kind], stage: Stage, step: usize) -> bool
 }
 
 /// Goes on to the owner's next step, or to the next owner.
-fn step_done(kinds: &[Kind], place: &mut Place)
+fn step_done(kinds: &[Kind], place: &mut SweepPlace)
     requires range { IsPlace kinds.now place.old }
     requires here { place.old.at < length place.old.owners.items }
     ensures work { (valid : List ValidAtt) → HasTaken kinds.now valid (Reply.Gone false) place.old place.new }
@@ -195,7 +195,7 @@ fn step_done(kinds: &[Kind], place: &mut Place)
 }
 
 /// Goes on to the next owner.
-fn owner_done(kinds: &[Kind], place: &mut Place)
+fn owner_done(kinds: &[Kind], place: &mut SweepPlace)
     requires range { IsPlace kinds.now place.old }
     requires here { place.old.at < length place.old.owners.items }
     ensures work { (valid : List ValidAtt) → HasTaken kinds.now valid Reply.Fault place.old place.new }
@@ -206,7 +206,7 @@ fn owner_done(kinds: &[Kind], place: &mut Place)
 }
 
 /// Goes on to the next sweep, with these owners.
-fn next_sweep(kinds: &[Kind], valid: &[ValidAtt], place: &mut Place, owners: Items<Att>)
+fn next_sweep(kinds: &[Kind], valid: &[ValidAtt], place: &mut SweepPlace, owners: Items<Att>)
     requires past { length place.old.owners.items ≤ place.old.at }
     ensures work { HasTaken kinds.now valid.now (Reply.Owners owners) place.old place.new }
     ensures range { IsPlace kinds.now place.new }
@@ -225,7 +225,7 @@ fn next_sweep(kinds: &[Kind], valid: &[ValidAtt], place: &mut Place, owners: Ite
 }
 
 /// Goes on as a reply to the next call says.
-pub(crate) fn take(kinds: &[Kind], valid: &[ValidAtt], place: &mut Place, reply: Reply)
+pub(crate) fn take(kinds: &[Kind], valid: &[ValidAtt], place: &mut SweepPlace, reply: Reply)
     requires { IsPlace kinds.now place.old }
     ensures work { HasTaken kinds.now valid.now reply place.old place.new }
     ensures range { IsPlace kinds.now place.new }

@@ -7,7 +7,7 @@ ghost use Rattle.cni_verbs.specs.Progress.{is_gc, progress, advanced, answer_by}
 ghost use Rattle.cni_verbs.specs.Script.{IsOpen, next_call, finish_of, finish_of_work, faults_after};
 ghost use Rattle.gc_sweep.specs.View.{is_early, jobs_left, sweeps_after, IsPlace};
 
-use crate::place::{Place, next_call, take};
+use crate::place::{SweepPlace, next_call, take};
 use cni_addr::{Duplicate, Items, NoMemory};
 use cni_verbs::errors::refused;
 use cni_verbs::wanted::kinds_of;
@@ -25,7 +25,7 @@ pub struct GcRun {
     command: Command,
     made: u64,
     kinds: Items<Kind>,
-    place: Place,
+    place: SweepPlace,
     faults: Items<u64>,
 }
 
@@ -58,7 +58,7 @@ impl GcRun {
             command: command_copy,
             made: 0,
             kinds,
-            place: Place::start(alloc),
+            place: SweepPlace::start(alloc),
             faults: Items::new(alloc),
         })
     }
@@ -139,7 +139,7 @@ fn work_answer(
     list: &NetList,
     command: &Command,
     kinds: &[Kind],
-    place: &Place,
+    place: &SweepPlace,
     faults: &Items<u64>,
 ) -> Result<Option<Answer>, NoMemory>
     requires { IsPlace kinds.now place.now }

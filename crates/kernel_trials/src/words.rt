@@ -29,18 +29,18 @@ pub(crate) fn cut(words: &str) -> (&str, &str) {
 
 /// A container, the place of a link, and the words after these.
 #[derive(Clone, Copy)]
-pub(crate) struct Place<'a> {
+pub(crate) struct LinkWords<'a> {
     pub(crate) container: &'a str,
     pub(crate) ns: &'a str,
     pub(crate) link: &'a str,
     pub(crate) rest: &'a str,
 }
 
-pub(crate) fn placed(words: &str) -> Place<'_> {
+pub(crate) fn placed(words: &str) -> LinkWords<'_> {
     let (container, words) = cut(words);
     let (ns, words) = cut(words);
     let (link, rest) = cut(words);
-    Place {
+    LinkWords {
         container,
         ns,
         link,

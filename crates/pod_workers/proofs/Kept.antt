@@ -25,8 +25,8 @@ use Rattle.pod_workers.specs.declared.plan.Next.TheVariants as next
 use Rattle.pod_workers.specs.declared.plan.StepEnd.{StepEnd}
 use Rattle.pod_workers.specs.declared.plan.StepEnd.TheVariants as ends
 use Rattle.pod_workers.specs.declared.slots.Slot.{Slot}
-use Rattle.pod_workers.specs.declared.slots.Outcome.{Outcome}
-use Rattle.pod_workers.specs.declared.slots.Outcome.TheVariants as outcome
+use Rattle.pod_workers.specs.declared.slots.Advance.{Advance}
+use Rattle.pod_workers.specs.declared.slots.Advance.TheVariants as advance
 use Rattle.pod_workers.proofs.Facts.{none-made, within-more}
 use Rattle.pod_workers.proofs.Histories.{slice_get-set_same, slice_get-set_other, replies_of-own, replies_of-other, after-append, length-replies_of}
 use Rattle.pod_workers.proofs.ReadyByIndex.{cut-is}
@@ -183,7 +183,7 @@ world_with w h answers = record { plan = w.plan; history = h; answers = answers;
 
 went-by : (host host' : Host) (slots : List (Option Slot)) (places : List Place) (before : ℕ) (w : World) (n : ℕ) (c : Placed) (h' : List Entry) (t : Slot) (x : Next)
     → IsKept host slots places before w → IsReady w n c → c.command.number ≡ n + 1 → next_of w c.command (own_replies w n) ≡ x
-    → CarriesOn host host' w.history h' c.command (slot_at (list_for w.plan c.command) c.command (own_replies w n)) x (outcome.Went t)
+    → CarriesOn host host' w.history h' c.command (slot_at (list_for w.plan c.command) c.command (own_replies w n)) x (advance.Went t)
     → IsLeft host' (slice_set slots n (Some t)) places before w (world_with w h' w.answers) n c.command ends.Went
 unfolding CarriesOn
 went-by host host' slots places before w n c h' t (next.Answer a) kept ready number is d = absurd d
@@ -207,7 +207,7 @@ went-by host host' slots places before w n c h' t (next.Call call faulty) kept r
 
 over-by : (host host' : Host) (slots : List (Option Slot)) (places : List Place) (before : ℕ) (w : World) (n : ℕ) (c : Placed) (h' : List Entry) (b : Answer) (x : Next)
     → IsKept host slots places before w → IsReady w n c → next_of w c.command (own_replies w n) ≡ x
-    → CarriesOn host host' w.history h' c.command (slot_at (list_for w.plan c.command) c.command (own_replies w n)) x (outcome.Over b)
+    → CarriesOn host host' w.history h' c.command (slot_at (list_for w.plan c.command) c.command (own_replies w n)) x (advance.Over b)
     → IsLeft host' (slice_set slots n None) places before w (world_with w h' (slice_set w.answers n (Some b))) n c.command ends.Over
 unfolding CarriesOn
 over-by host host' slots places before w n c h' b (next.Call call faulty) kept ready is d = absurd d
@@ -220,7 +220,7 @@ over-by host host' slots places before w n c h' b (next.Answer a) kept ready is 
       end_is = sym (ap end_of is);
     }
 
-done-at : (host host' : Host) (w : World) (n : ℕ) (c : Command) (s : Slot) (cut : Bool) (h' : List Entry) (o : Outcome) → s ≡ slot_at (list_for w.plan c) c (own_replies w n) → cut ≡ is_cut w
+done-at : (host host' : Host) (w : World) (n : ℕ) (c : Command) (s : Slot) (cut : Bool) (h' : List Entry) (o : Advance) → s ≡ slot_at (list_for w.plan c) c (own_replies w n) → cut ≡ is_cut w
     → CarriesOn host host' w.history h' c s (next_in c cut s) o → CarriesOn host host' w.history h' c (slot_at (list_for w.plan c) c (own_replies w n)) (next_of w c (own_replies w n)) o
 done-at host host' w n c s cut h' o run cut_is d =
     subst (λ x. CarriesOn host host' w.history h' c (slot_at (list_for w.plan c) c (own_replies w n)) x o) (next-here w n c s cut run cut_is)
@@ -228,17 +228,17 @@ done-at host host' w n c s cut h' o run cut_is d =
 
 pub went-here : (host host' : Host) (slots : List (Option Slot)) (places : List Place) (before : ℕ) (w : World) (n : ℕ) (c : Placed) (s : Option Slot) (cut : Bool) (h' : List Entry) (t : Slot)
     → IsHere host slots places before w n c s → cut ≡ is_cut w
-    → CarriesOn host host' w.history h' c.command (opened_by w.plan.lists c.command s) (next_in c.command cut (opened_by w.plan.lists c.command s)) (outcome.Went t)
+    → CarriesOn host host' w.history h' c.command (opened_by w.plan.lists c.command s) (next_in c.command cut (opened_by w.plan.lists c.command s)) (advance.Went t)
     → IsLeft host' (slice_set slots n (Some t)) places before w (world_with w h' w.answers) n c.command ends.Went
 went-here host host' slots places before w n c s cut h' t h cut_is d =
-    went-by host host' slots places before w n c h' t _ h.kept h.ready h.number refl (done-at host host' w n c.command (opened_by w.plan.lists c.command s) cut h' (outcome.Went t) h.run cut_is d)
+    went-by host host' slots places before w n c h' t _ h.kept h.ready h.number refl (done-at host host' w n c.command (opened_by w.plan.lists c.command s) cut h' (advance.Went t) h.run cut_is d)
 
 pub over-here : (host host' : Host) (slots : List (Option Slot)) (places : List Place) (before : ℕ) (w : World) (n : ℕ) (c : Placed) (s : Option Slot) (cut : Bool) (h' : List Entry) (b : Answer)
     → IsHere host slots places before w n c s → cut ≡ is_cut w
-    → CarriesOn host host' w.history h' c.command (opened_by w.plan.lists c.command s) (next_in c.command cut (opened_by w.plan.lists c.command s)) (outcome.Over b)
+    → CarriesOn host host' w.history h' c.command (opened_by w.plan.lists c.command s) (next_in c.command cut (opened_by w.plan.lists c.command s)) (advance.Over b)
     → IsLeft host' (slice_set slots n None) places before w (world_with w h' (slice_set w.answers n (Some b))) n c.command ends.Over
 over-here host host' slots places before w n c s cut h' b h cut_is d =
-    over-by host host' slots places before w n c h' b _ h.kept h.ready refl (done-at host host' w n c.command (opened_by w.plan.lists c.command s) cut h' (outcome.Over b) h.run cut_is d)
+    over-by host host' slots places before w n c h' b _ h.kept h.ready refl (done-at host host' w n c.command (opened_by w.plan.lists c.command s) cut h' (advance.Over b) h.run cut_is d)
 
 -- want of memory answers, and leaves the host
 pub refused-here : (host host' : Host) (slots : List (Option Slot)) (places : List Place) (before : ℕ) (w : World) (n : ℕ) (c : Placed) (s : Option Slot) (h' : List Entry) → IsHere host slots places before w n c s
@@ -284,18 +284,18 @@ found-may host slots places before w number n s of cut f cut_is small =
     subst (λ k. MayCarryOn host w.history k cut (opened_by w.plan.lists k s)) (sym f.of_is)
     (may-carry-on host slots places before w n f.command s cut f.here (cut-is w places cut f.here.kept.index cut_is) small)
 
-pub found-went : (host host' : Host) (slots : List (Option Slot)) (places : List Place) (before : ℕ) (w : World) (number n : ℕ) (s : Option Slot) (of : Command) (cut : Bool) (h' : List Entry) (o : Outcome) (t : Slot)
+pub found-went : (host host' : Host) (slots : List (Option Slot)) (places : List Place) (before : ℕ) (w : World) (number n : ℕ) (s : Option Slot) (of : Command) (cut : Bool) (h' : List Entry) (o : Advance) (t : Slot)
     → IsFound host slots places before w number n s of → cut ≡ is_cut_by w.plan.stop_at w.history places w.round
-    → CarriesOn host host' w.history h' of (opened_by w.plan.lists of s) (next_in of cut (opened_by w.plan.lists of s)) o → o ≡ outcome.Went t
+    → CarriesOn host host' w.history h' of (opened_by w.plan.lists of s) (next_in of cut (opened_by w.plan.lists of s)) o → o ≡ advance.Went t
     → (c : Placed) × (slice_get (commands_of w.plan) n ≡ Some c) × IsLeft host' (slice_set slots n (Some t)) places before w (world_with w h' w.answers) n c.command ends.Went
 found-went host host' slots places before w number n s of cut h' o t f cut_is d o_is =
     let e = subst (λ k. CarriesOn host host' w.history h' k (opened_by w.plan.lists k s) (next_in k cut (opened_by w.plan.lists k s)) o) f.of_is d in
     let g = subst (CarriesOn host host' w.history h' f.command.command (opened_by w.plan.lists f.command.command s) (next_in f.command.command cut (opened_by w.plan.lists f.command.command s))) o_is e in
     (f.command, f.here.ready.there, went-here host host' slots places before w n f.command s cut h' t f.here (cut-is w places cut f.here.kept.index cut_is) g)
 
-pub found-over : (host host' : Host) (slots : List (Option Slot)) (places : List Place) (before : ℕ) (w : World) (number n : ℕ) (s : Option Slot) (of : Command) (cut : Bool) (h' : List Entry) (o : Outcome) (b : Answer)
+pub found-over : (host host' : Host) (slots : List (Option Slot)) (places : List Place) (before : ℕ) (w : World) (number n : ℕ) (s : Option Slot) (of : Command) (cut : Bool) (h' : List Entry) (o : Advance) (b : Answer)
     → IsFound host slots places before w number n s of → cut ≡ is_cut_by w.plan.stop_at w.history places w.round
-    → CarriesOn host host' w.history h' of (opened_by w.plan.lists of s) (next_in of cut (opened_by w.plan.lists of s)) o → o ≡ outcome.Over b
+    → CarriesOn host host' w.history h' of (opened_by w.plan.lists of s) (next_in of cut (opened_by w.plan.lists of s)) o → o ≡ advance.Over b
     → (c : Placed) × (slice_get (commands_of w.plan) n ≡ Some c) × IsLeft host' (slice_set slots n None) places before w (world_with w h' (slice_set w.answers n (Some b))) n c.command ends.Over
 found-over host host' slots places before w number n s of cut h' o b f cut_is d o_is =
     let e = subst (λ k. CarriesOn host host' w.history h' k (opened_by w.plan.lists k s) (next_in k cut (opened_by w.plan.lists k s)) o) f.of_is d in

@@ -25,7 +25,7 @@ use Rattle.pod_workers.specs.declared.plan.Next.{Next}
 use Rattle.pod_workers.specs.declared.plan.Next.TheVariants as next
 use Rattle.pod_workers.specs.declared.plan.Entry.{Entry}
 use Rattle.pod_workers.specs.declared.slots.Slot.{Slot}
-use Rattle.pod_workers.specs.declared.slots.Outcome.TheVariants as outcome
+use Rattle.pod_workers.specs.declared.slots.Advance.TheVariants as advance
 
 -- ---- by the state
 
@@ -108,15 +108,15 @@ open-has-next s is_open none = let u = open-calls s.run.command s.run.state is_o
 
 -- ---- what was done
 
-pub done-over : (host host' : Host) (h h' : List Entry) (c : Command) (s : Slot) (x : Next) (a : Answer) → x ≡ next.Answer a → host' ≡ host → h' ≡ h → CarriesOn host host' h h' c s x (outcome.Over a)
+pub done-over : (host host' : Host) (h h' : List Entry) (c : Command) (s : Slot) (x : Next) (a : Answer) → x ≡ next.Answer a → host' ≡ host → h' ≡ h → CarriesOn host host' h h' c s x (advance.Over a)
 unfolding CarriesOn
-done-over host host' h h' c s x a is same_host same_history = subst (λ y. CarriesOn host host' h h' c s y (outcome.Over a)) (sym is) (refl, same_host, same_history)
+done-over host host' h h' c s x a is same_host same_history = subst (λ y. CarriesOn host host' h h' c s y (advance.Over a)) (sym is) (refl, same_host, same_history)
 
 pub done-went : (host host' : Host) (h h' : List Entry) (c : Command) (s t : Slot) (x : Next) (call : Call) (faulty : Bool) (reply : Reply) → x ≡ next.Call call faulty → reply ≡ reply_to host call faulty
-    → host' ≡ host_on host (entry_by host c.number call faulty) → h' ≡ h ++ entry_by host c.number call faulty ∷ [] → t ≡ slot_after s reply → CarriesOn host host' h h' c s x (outcome.Went t)
+    → host' ≡ host_on host (entry_by host c.number call faulty) → h' ≡ h ++ entry_by host c.number call faulty ∷ [] → t ≡ slot_after s reply → CarriesOn host host' h h' c s x (advance.Went t)
 unfolding CarriesOn
 done-went host host' h h' c s t x call faulty reply is replied host_is history_is after =
-    subst (λ y. CarriesOn host host' h h' c s y (outcome.Went t)) (sym is) (after ∙ ap (slot_after s) replied, host_is, history_is)
+    subst (λ y. CarriesOn host host' h h' c s y (advance.Went t)) (sym is) (after ∙ ap (slot_after s) replied, host_is, history_is)
 
 pub may-call : (host : Host) (x : Next) (call : Call) (faulty : Bool) → MayBeMade host x → x ≡ next.Call call faulty → faulty ≡ false → IsAllowed host call
 may-call host x call faulty may is = let P : Next → Type 0 = MayBeMade host in subst P is may

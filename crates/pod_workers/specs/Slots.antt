@@ -16,8 +16,8 @@ use Rattle.pod_workers.specs.declared.plan.Entry.{Entry}
 use Rattle.pod_workers.specs.declared.plan.Next.{Next}
 use Rattle.pod_workers.specs.declared.plan.Next.TheVariants as next
 use Rattle.pod_workers.specs.declared.slots.Slot.{Slot}
-use Rattle.pod_workers.specs.declared.slots.Outcome.{Outcome}
-use Rattle.pod_workers.specs.declared.slots.Outcome.TheVariants as outcome
+use Rattle.pod_workers.specs.declared.slots.Advance.{Advance}
+use Rattle.pod_workers.specs.declared.slots.Advance.TheVariants as advance
 
 -- ---- one run
 
@@ -61,11 +61,11 @@ pub record MayCarryOn (host : Host) (h : List Entry) (c : Command) (cut : Bool) 
   pub allowed : MayBeMade host (next_in c cut s)
 
 -- from the first host and history to the second this was done, for this run
-unfoldable pub CarriesOn : Host → Host → List Entry → List Entry → Command → Slot → Next → Outcome → Type 0
-CarriesOn host host' h h' c s (next.Answer a) (outcome.Over b) = (b ≡ a) × (host' ≡ host) × (h' ≡ h)
-CarriesOn host host' h h' c s (next.Answer a) (outcome.Went t) = ⊥
-CarriesOn host host' h h' c s (next.Call call faulty) (outcome.Over b) = ⊥
-CarriesOn host host' h h' c s (next.Call call faulty) (outcome.Went t) =
+unfoldable pub CarriesOn : Host → Host → List Entry → List Entry → Command → Slot → Next → Advance → Type 0
+CarriesOn host host' h h' c s (next.Answer a) (advance.Over b) = (b ≡ a) × (host' ≡ host) × (h' ≡ h)
+CarriesOn host host' h h' c s (next.Answer a) (advance.Went t) = ⊥
+CarriesOn host host' h h' c s (next.Call call faulty) (advance.Over b) = ⊥
+CarriesOn host host' h h' c s (next.Call call faulty) (advance.Went t) =
     (t ≡ slot_after s (reply_to host call faulty)) × (host' ≡ host_on host (entry_by host c.number call faulty)) × (h' ≡ h ++ entry_by host c.number call faulty ∷ [])
 
 -- ---- a book

@@ -14,7 +14,7 @@ ghost use Rattle.pod_workers.specs.declared.index.Place.{Place};
 
 use crate::index::{Place, command_at, index_of, may_step, place_at, round_at};
 use crate::plan::{Entry, Plan, StepEnd};
-use crate::slots::{Outcome, Slot, blanks, carry_on, put_at, take_at};
+use crate::slots::{Advance, Slot, blanks, carry_on, put_at, take_at};
 use cni_addr::NoMemory;
 use cni_verbs::Answer;
 use kernel_model::Kernel;
@@ -179,12 +179,12 @@ impl<K: Kernel + Drop> Book<K> {
                 put_at(&mut self.answers, n, Answer::OutOfMemory);
                 Err(NoMemory)
             }
-            Ok(outcome) => match outcome {
-                Outcome::Went(slot) => {
+            Ok(advance) => match advance {
+                Advance::Went(slot) => {
                     put_at(&mut self.slots, n, slot);
                     Ok(StepEnd::Went)
                 }
-                Outcome::Over(answer) => {
+                Advance::Over(answer) => {
                     put_at(&mut self.answers, n, answer);
                     Ok(StepEnd::Over)
                 }

@@ -30,7 +30,7 @@ pub struct Slot {
 
 /// What a step came to: the run goes on, or the command is answered.
 #[derive(Drop)]
-pub enum Outcome {
+pub enum Advance {
     Went(Slot),
     Over(Answer),
 }
@@ -70,10 +70,10 @@ pub fn carry_on<K: Kernel>(
     command: &Command,
     cut: bool,
     slot: Option<Slot>,
-) -> Result<Outcome, NoMemory>
+) -> Result<Advance, NoMemory>
     requires may { MayCarryOn (K.host kernel.old) history.old.items command.now cut (opened_by lists.now command.now slot) }
     requires listed { IsListed lists.now command.now }
-    ensures ok { IfOk result (λ outcome. CarriesOn (K.host kernel.old) (K.host kernel.new) history.old.items history.new.items command.now (opened_by lists.now command.now slot) (next_in command.now cut (opened_by lists.now command.now slot)) outcome) }
+    ensures ok { IfOk result (λ advance. CarriesOn (K.host kernel.old) (K.host kernel.new) history.old.items history.new.items command.now (opened_by lists.now command.now slot) (next_in command.now cut (opened_by lists.now command.now slot)) advance) }
     ensures err { OnErr result ((K.host kernel.new ≡ K.host kernel.old) × (history.new.items ≡ history.old.items)) }
 {
     let slot = open(*history.allocator(), lists, command, slot)?;
@@ -107,9 +107,9 @@ fn act<K: Kernel>(
     command: &Command,
     cut: bool,
     mut slot: Slot,
-) -> Result<Outcome, NoMemory>
+) -> Result<Advance, NoMemory>
     requires { MayCarryOn (K.host kernel.old) history.old.items command.now cut slot }
-    ensures ok { IfOk result (λ outcome. CarriesOn (K.host kernel.old) (K.host kernel.new) history.old.items history.new.items command.now slot (next_in command.now cut slot) outcome) }
+    ensures ok { IfOk result (λ advance. CarriesOn (K.host kernel.old) (K.host kernel.new) history.old.items history.new.items command.now slot (next_in command.now cut slot) advance) }
     ensures err { OnErr result ((K.host kernel.new ≡ K.host kernel.old) × (history.new.items ≡ history.old.items)) }
 {
     match look(&mut slot, command, cut) {
@@ -119,7 +119,7 @@ fn act<K: Kernel>(
         }
         Ok(Next::Answer(answer)) => {
             drop(slot);
-            Ok(Outcome::Over(answer))
+            Ok(Advance::Over(answer))
         }
         Ok(Next::Call(call, faulty)) => {
             match make(kernel, history, &mut slot, command.number, call, faulty) {
@@ -127,7 +127,7 @@ fn act<K: Kernel>(
                     drop(slot);
                     Err(NoMemory)
                 }
-                Ok(()) => Ok(Outcome::Went(slot)),
+                Ok(()) => Ok(Advance::Went(slot)),
             }
         }
     }

@@ -15,7 +15,7 @@ use Rattle.tool_run.specs.Statuses.{Wrote, WroteFront, WroteNothing}
 use Rattle.tool_run.specs.Verdict.{plan_of}
 use Rattle.tool_run.specs.declared.plan.Stop.{Stop}
 use Rattle.tool_run.specs.declared.plan.Stop.TheVariants.{Usage, Line, Unread, NoMemory}
-use Rattle.tool_run.specs.declared.settle.Carried.{Carried}
+use Rattle.tool_run.specs.declared.settle.CarriedOut.{CarriedOut}
 use Rattle.tool_run.specs.declared.top.Outcome.{Outcome}
 
 -- The bytes were written and this is the status; or it is 5, the sink's count rose, and a front of them was written.
@@ -25,7 +25,7 @@ Reports old new before now bytes status result =
 
 -- what is due: the text of a book, or what stands in place of one
 abbrev pub Due : Type 0
-Due = Result Carried Stop
+Due = Result CarriedOut Stop
 
 -- why there is nothing to carry out was written with this status; want of memory writes nothing
 abbrev pub ReportsStop : Option (List ℕ) → Option (List ℕ) → ℕ → ℕ → Stop → ℕ → Type 0

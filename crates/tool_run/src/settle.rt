@@ -17,7 +17,7 @@ use tool_words::{Words, WordsEnd, read_words};
 
 /// A plan that was carried out: its book, and the whole text of it.
 #[derive(Drop)]
-pub(crate) struct Carried {
+pub(crate) struct CarriedOut {
     pub(crate) book: Book<ListKernel>,
     pub(crate) text: Vec<u8>,
 }
@@ -28,7 +28,7 @@ pub(crate) fn settle<M: Fn(Book<ListKernel>, u8) -> Book<ListKernel>, F: Files>(
     alloc: Global,
     words: &[Text],
     files: &mut F,
-) -> Result<Carried, Stop>
+) -> Result<CarriedOut, Stop>
     requires { MakesRounds M.Fn make.now }
     ensures settles { Settles (KeepsFileOrder M.Fn make.now) words.now
         (F.files files.old) (F.faults files.old) (F.faults files.new) result }
@@ -46,7 +46,7 @@ fn settle_words<M: Fn(Book<ListKernel>, u8) -> Book<ListKernel>, F: Files>(
     alloc: Global,
     words: &Words,
     files: &mut F,
-) -> Result<Carried, Stop>
+) -> Result<CarriedOut, Stop>
     requires makes { MakesRounds M.Fn make.now }
     requires limits { IsWithinLimits words.now }
     ensures settles { SettlesFor (KeepsFileOrder M.Fn make.now) words.now
@@ -56,5 +56,5 @@ fn settle_words<M: Fn(Book<ListKernel>, u8) -> Book<ListKernel>, F: Files>(
     let plan = read_plan(alloc, files, words)?;
     let book = carry_out(make, alloc, plan, words.threads)?;
     let text = text(alloc, &book, words.trace, words.dump)?;
-    Ok(Carried { book, text })
+    Ok(CarriedOut { book, text })
 }

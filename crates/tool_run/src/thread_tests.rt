@@ -129,7 +129,7 @@ fn given(alloc: Global, answers: &[Option<Answer>]) -> Result<Vec<u128>, Fail> {
 
 /// A command's number, and how many steps were made for it.
 #[derive(Clone, Copy, PartialEq, Eq)]
-struct Place {
+struct Point {
     command: u32,
     calls: u32,
 }
@@ -137,14 +137,14 @@ struct Place {
 /// Holds each of two commands at its place until the other has come to its own.
 #[derive(Drop)]
 struct Meeting {
-    first: Place,
-    second: Place,
+    first: Point,
+    second: Point,
     first_came: AtomicBool,
     second_came: AtomicBool,
     gave_up: AtomicBool,
 }
 
-fn meeting_of(first: Place, second: Place) -> Meeting {
+fn meeting_of(first: Point, second: Point) -> Meeting {
     Meeting {
         first,
         second,
@@ -156,7 +156,7 @@ fn meeting_of(first: Place, second: Place) -> Meeting {
 
 impl Gate for Meeting {
     fn pass(&self, command: u32, calls: u32) {
-        let place = Place { command, calls };
+        let place = Point { command, calls };
         if place == self.first {
             self.come(&self.first_came, &self.second_came);
         }
@@ -207,8 +207,8 @@ impl Gate for Meetings {
     }
 }
 
-fn before_first(command: u32) -> Place {
-    Place { command, calls: 0 }
+fn before_first(command: u32) -> Point {
+    Point { command, calls: 0 }
 }
 
 /// Whether these are the eight addresses from 10.88.0.2 on.
@@ -228,7 +228,7 @@ fn are_first_eight(given: &[u128]) -> bool {
 fn two_threads_step_in_turn(rt: HostRuntime) -> Result<(), Fail> {
     let alloc = rt.alloc();
     let pods = eight_added(alloc)?;
-    let second_step = Place {
+    let second_step = Point {
         command: 2,
         calls: 1,
     };

@@ -13,7 +13,7 @@ ghost use Rattle.tool_run.specs.Statuses.{AskForOneThread, HasCauses, sides};
 use crate::lines::USAGE;
 use crate::plan::Stop;
 use crate::rounds::{make_round, make_round_alone};
-use crate::settle::{Carried, settle};
+use crate::settle::{CarriedOut, settle};
 use cni_addr::Text;
 use cni_io::{Files, Sink, write_whole};
 use kernel_model::ListKernel;
@@ -109,11 +109,11 @@ fn run_by<M: Fn(Book<ListKernel>, u8) -> Book<ListKernel>, F: Files, S: Sink>(
 }
 
 /// Writes what is due.
-fn report<S: Sink>(sink: &mut S, due: Result<Carried, Stop>) -> Outcome
+fn report<S: Sink>(sink: &mut S, due: Result<CarriedOut, Stop>) -> Outcome
     ensures { Reported (S.written sink.old) (S.written sink.new) (S.faults sink.old) (S.faults sink.new) due result }
 {
     match due {
-        Ok(Carried { book, text }) => Outcome {
+        Ok(CarriedOut { book, text }) => Outcome {
             status: write(sink, text.as_slice(), status(&book)),
             book: Some(book),
         },
