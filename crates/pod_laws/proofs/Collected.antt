@@ -31,6 +31,7 @@ use Rattle.pod_workers.specs.Plans.{Placed, list_for}
 use Rattle.pod_workers.specs.World.{World, after, made_in, made_of}
 use Rattle.pod_workers.specs.declared.plan.Entry.{Entry}
 use Rattle.pod_file.specs.Rounds.{is_exclusive_verb}
+use Rattle.pod_workers.proofs.Listed.{listed-network}
 use Rattle.pod_laws.specs.Collected.{CollectionsAreAnswered, CollectionsAreBounded, CollectionsAreShort, IsClean, IsCollectionAnswer, IsFaulty}
 use Rattle.pod_laws.specs.Moments.{has_fault, host_at_end, host_at_start, own_entries}
 use Rattle.pod_laws.proofs.AloneRuns.{StandsTogether, alone-end, alone-start, stands_together}
@@ -39,7 +40,6 @@ use Rattle.pod_laws.proofs.Due.{IsOver, IsSwept, answer-due}
 use Rattle.pod_laws.proofs.Entries.{replies_in}
 use Rattle.pod_laws.proofs.OfAnswers.{Says, says}
 use Rattle.pod_laws.proofs.RunFacts.{state_by}
-use Rattle.pod_laws.proofs.Runs.{listed-network}
 
 -- ---- how a collection starts
 

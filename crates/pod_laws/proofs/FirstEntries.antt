@@ -17,13 +17,14 @@ use Rattle.pod_file.specs.Commands.{is_of_network}
 use Rattle.pod_workers.specs.Plans.{Placed, commands_of}
 use Rattle.pod_workers.specs.World.{World, entry_of, host_of, reply_to}
 use Rattle.pod_workers.specs.declared.plan.Entry.{Entry}
+use Rattle.pod_workers.proofs.Listed.{listed-network}
 use Rattle.pod_workers.proofs.Splits.{cons_parts}
 use Rattle.pod_laws.specs.AskedFor.{is_done}
 use Rattle.pod_laws.specs.Moments.{own_entries}
 use Rattle.pod_laws.specs.Refused.{lets_go_on}
 use Rattle.pod_laws.proofs.Begins.{first-call, granted-done}
 use Rattle.pod_laws.proofs.Causes.{IsPlanReply, begin-may}
-use Rattle.pod_laws.proofs.Runs.{IsRunFact, StartsWith, every-run, every-run-now, listed-network, own-state}
+use Rattle.pod_laws.proofs.Runs.{IsRunFact, StartsWith, every-run, every-run-now, own-state}
 use Rattle.pod_laws.proofs.States.{IsOtherVerb, not-both}
 use Rattle.pod_laws.proofs.Undoing.{Leads, Undoing, undone-start, undone-step}
 

@@ -35,6 +35,7 @@ use Rattle.pod_workers.specs.Plans.{Placed, commands_of, list_for}
 use Rattle.pod_workers.specs.World.{World, own_replies}
 use Rattle.pod_workers.specs.declared.plan.Entry.{Entry}
 use Rattle.host_local.specs.Laws.{AreCandidates}
+use Rattle.pod_workers.proofs.Listed.{listed-network}
 use Rattle.pod_laws.specs.Added.{WasAdded, HasMade}
 use Rattle.pod_laws.specs.Deleted.{WasDeleted, HasDeleted, IsUndeletedFor, IsYes, NothingFails, WasNotDeleted, AnswersOfDel, CalmIsDeleted}
 use Rattle.pod_laws.specs.Moments.{has_fault, host_at_end, own_entries}
@@ -46,7 +47,7 @@ use Rattle.pod_laws.proofs.CutOff.{over-by}
 use Rattle.pod_laws.proofs.DistinctLeases.{leases-distinct, sound-at_end}
 use Rattle.pod_laws.proofs.Due.{IsSwept}
 use Rattle.pod_laws.proofs.States.{IsNoResult, IsOtherVerb, swept-no_result, not-both}
-use Rattle.pod_laws.proofs.Runs.{RunFact, every-run, listed-network}
+use Rattle.pod_laws.proofs.Runs.{RunFact, every-run}
 use Rattle.pod_laws.proofs.Undoing.{Undoing, Ends, undone-end, undone-start, undone-step}
 use Rattle.pod_laws.proofs.Tests.{middle-passes}
 

@@ -1,6 +1,5 @@
 -- What holds of every run because its own entries keep it.
 use Rattle.std.proofs.Common.{◌≡◌, ◌≢◌, ℕ, ◌+◌, Bool, true, false, List, [], ◌∷◌, ◌++◌, length, Option, Some, None, slice_get, refl, sym, ◌∙◌, ap, subst, inl, inr, ◌⊎◌, arith}
-use Rattle.std.specs.Prelude.{◌||◌, is_some, not}
 use Rattle.std.proofs.lemmas.Bool.Decides.{eqb_tells}
 use Rattle.std.proofs.lemmas.Bool.{cases_Bool}
 use Rattle.net_conf.specs.declared.list.NetList.{NetList}
@@ -11,7 +10,6 @@ use Rattle.plan_words.specs.Share.{Share, share_of}
 use Rattle.cni_verbs.specs.CommandWords.{att_of}
 use Rattle.cni_verbs.specs.Script.{State, Calls, turn, advance, start_state}
 use Rattle.pod_workers.specs.Legal.{Legal}
-use Rattle.pod_file.specs.Commands.{is_of_network}
 use Rattle.pod_file.specs.Rounds.{is_exclusive_verb}
 use Rattle.pod_workers.specs.Plans.{Placed, commands_of, list_for}
 use Rattle.pod_workers.specs.World.{World, after, host_on, host_of, replies_of, entry_of}
@@ -19,7 +17,6 @@ use Rattle.pod_workers.specs.declared.plan.Entry.{Entry}
 use Rattle.pod_workers.proofs.Histories.{replies_of-other, after-append}
 use Rattle.pod_workers.proofs.Order.{apart, alone_apart}
 use Rattle.pod_workers.proofs.Planned.{LeftArePlanned, left-are-planned}
-use Rattle.pod_workers.proofs.Sound.{fine, list_all-at}
 use Rattle.pod_laws.specs.Moments.{own_entries, until_last, host_at_end}
 use Rattle.pod_laws.proofs.Entries.{is_of-own, is_of-other, other-number, replies_in, until_last-own, until_last-other}
 use Rattle.pod_laws.proofs.RunFacts.{HostFact, IsHostFact, IsKeptBetween, Keeping, each-run, each-run-now, state_by}
@@ -144,15 +141,3 @@ pub every-run-now : (F : RunFact) → StartsWith F → IsRunFact F → (w : Worl
 every-run-now F start step w n c list call faulty on =
     let now = each-run-now SameShare (of_share F) share-kept (λ list c host. start list c (share_of (att_of c) host)) (share-step F step) w n c list call faulty on in
     subst (F list c.command (own_entries n w.history) (state_by list c.command (own_entries n w.history))) (sym now.keeps) now.holds
-
--- ---- the list of a command
-
-listed-some : (b : Bool) (o : Option NetList) → b ≡ true → (not b || is_some o) ≡ true → (list : NetList) × (o ≡ Some list)
-listed-some b (Some list) h g = (list, refl)
-listed-some b None h g = absurd (let e : (not b || false) ≡ false = grind (arith, h) in let f : true ≡ false = sym g ∙ e in cc)
-
--- the network of each command that speaks of one has a list
-pub listed-network : (w : World) → Legal w → (n : ℕ) (c : Placed) → slice_get (commands_of w.plan) n ≡ Some c → is_of_network c.command.verb ≡ true → (list : NetList) × (list_for w.plan c.command ≡ Some list)
-listed-network w legal n c at network =
-    listed-some (is_of_network c.command.verb) (list_for w.plan c.command) network
-    (list_all-at (λ (d : Placed). not (is_of_network d.command.verb) || is_some (list_for w.plan d.command)) (commands_of w.plan) n c (fine w legal).plan.networks at)

@@ -1,6 +1,6 @@
 -- A plan that was joined is well formed.
 use Rattle.std.proofs.Common.{◌≡◌, ℕ, ◌+◌, ◌<◌, Bool, true, false, not, cond, List, [], ◌∷◌, ◌++◌, length, take, drop, get_or, Option, Some, None, Ok, refl, sym, ◌∙◌, ap, subst, arith}
-use Rattle.std.specs.Prelude.{if◌then◌else◌, ◌&&◌, ◌||◌, is_some, option_map, position}
+use Rattle.std.specs.Prelude.{if◌then◌else◌, ◌&&◌, is_some, option_map, position}
 use Rattle.std.specs.List.{list_any, list_all, position_from}
 use Rattle.std.specs.Option.{option_or}
 use Rattle.std.specs.Str.{bytes_eq}
@@ -12,8 +12,7 @@ use Rattle.net_conf.specs.declared.list.NetList.{NetList}
 use Rattle.plan_words.proofs.CountLemmas.{list_any-find}
 use Rattle.pod_workers.specs.Join.{joined, plan_unless, first_repeat_after, first_without_list}
 use Rattle.pod_workers.specs.Laws.{JoinedPlansAreWellFormed}
-use Rattle.pod_file.specs.Commands.{is_of_network}
-use Rattle.pod_workers.specs.Plans.{Placed, placed_from, IsWellFormed, commands_of, lacks_list, list_for, list_in, list_named}
+use Rattle.pod_workers.specs.Plans.{Placed, placed_from, IsWellFormed, commands_of, lacks_list, list_named}
 use Rattle.pod_workers.specs.declared.plan.Plan.{Plan}
 use Rattle.pod_workers.specs.declared.plan.PlanError.TheVariants.{SameName, NoNetwork}
 
@@ -79,16 +78,11 @@ by_refusal p q None None h = (cc, refl, refl)
 by_refusal p q None (Some place) h = absurd cc
 by_refusal p q (Some place) networks h = absurd cc
 
-has-list : (a b : Bool) → (a && not b) ≡ false → (not a || b) ≡ true
-has-list true true h = refl
-has-list true false h = cc
-has-list false b h = refl
-
-each-listed : (p : Plan) → first_without_list p.lists p.pods.rounds ≡ None → list_all (λ c. not (is_of_network c.command.verb) || is_some (list_for p c.command)) (commands_of p) ≡ true
-unfolding commands_of list_for
+each-listed : (p : Plan) → first_without_list p.lists p.pods.rounds ≡ None → list_all (λ c. not (lacks_list p.lists c.command)) (commands_of p) ≡ true
+unfolding commands_of
 each-listed p none =
-    all-where_none (λ (c : Placed). lacks_list p.lists c.command) (λ (c : Placed). not (is_of_network c.command.verb) || is_some (list_in p.lists c.command))
-    (λ c passed. has-list (is_of_network c.command.verb) (is_some (list_in p.lists c.command)) passed) (placed_from 0 p.pods.rounds) none
+    all-where_none (λ (c : Placed). lacks_list p.lists c.command) (λ (c : Placed). not (lacks_list p.lists c.command))
+    (λ c passed. ap not passed) (placed_from 0 p.pods.rounds) none
 
 pub joined_is_well_formed : JoinedPlansAreWellFormed
 unfolding joined

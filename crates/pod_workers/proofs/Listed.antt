@@ -1,14 +1,16 @@
--- A command of a book that collects has the list of its network.
-use Rattle.std.proofs.Common.{◌≡◌, ℕ, Bool, true, not, List, Option, Some, slice_get, sym, subst}
-use Rattle.std.specs.Prelude.{◌||◌, is_some}
+-- The list of a command's network.
+use Rattle.std.proofs.Common.{◌≡◌, ℕ, Bool, true, false, not, List, Option, Some, None, slice_get, refl, sym, ◌∙◌, ap, subst}
+use Rattle.std.specs.Prelude.{◌&&◌, is_some}
+use Rattle.std.proofs.lemmas.Bool.{true≢false}
 use Rattle.cni_verbs.specs.Progress.{is_gc}
 use Rattle.kernel_types.specs.declared.object.Host.{Host}
+use Rattle.net_conf.specs.declared.list.NetList.{NetList}
 use Rattle.pod_file.specs.declared.command.Command.{Command}
 use Rattle.pod_file.specs.declared.command.Verb.{Verb}
 use Rattle.pod_file.specs.declared.command.Verb.TheVariants as verbs
 use Rattle.pod_workers.specs.Legal.{Legal}
 use Rattle.pod_file.specs.Commands.{is_of_network}
-use Rattle.pod_workers.specs.Plans.{Placed, commands_of, list_for}
+use Rattle.pod_workers.specs.Plans.{Placed, commands_of, list_for, list_in, lacks_list}
 use Rattle.pod_workers.specs.Tasks.{IsListed}
 use Rattle.pod_workers.specs.World.{World}
 use Rattle.pod_workers.specs.declared.index.Place.{Place}
@@ -16,15 +18,24 @@ use Rattle.pod_workers.specs.declared.slots.Slot.{Slot}
 use Rattle.pod_workers.proofs.Kept.{IsFound}
 use Rattle.pod_workers.proofs.Sound.{fine, list_all-at}
 
-of-network : (v : Verb) (b : Bool) → (not (is_of_network v) || b) ≡ true → is_gc v ≡ true → b ≡ true
-of-network verbs.Gc b listed gc = listed
-of-network _ b listed gc = absurd cc
+has-list : (b : Bool) (o : Option NetList) → b ≡ true → not (b && not (is_some o)) ≡ true → (list : NetList) × (o ≡ Some list)
+has-list b (Some list) network there = (list, refl)
+has-list b None network there = absurd (true≢false (sym there ∙ ap (λ t. not (t && true)) network))
+
+-- the network of each command that speaks of one has a list
+pub listed-network : (w : World) → Legal w → (n : ℕ) (c : Placed) → slice_get (commands_of w.plan) n ≡ Some c → is_of_network c.command.verb ≡ true → (list : NetList) × (list_for w.plan c.command ≡ Some list)
+unfolding list_for
+listed-network w legal n c at network =
+    has-list (is_of_network c.command.verb) (list_in w.plan.lists c.command) network
+    (list_all-at (λ (d : Placed). not (lacks_list w.plan.lists d.command)) (commands_of w.plan) n c (fine w legal).plan.networks at)
+
+gc-of_network : (v : Verb) → is_gc v ≡ true → is_of_network v ≡ true
+gc-of_network verbs.Gc gc = refl
+gc-of_network _ gc = cc
 
 command-listed : (w : World) → Legal w → (n : ℕ) (c : Placed) → slice_get (commands_of w.plan) n ≡ Some c → IsListed w.plan.lists c.command
 unfolding list_for
-command-listed w legal n c at gc =
-    of-network c.command.verb (is_some (list_for w.plan c.command))
-    (list_all-at (λ (d : Placed). not (is_of_network d.command.verb) || is_some (list_for w.plan d.command)) (commands_of w.plan) n c (fine w legal).plan.networks at) gc
+command-listed w legal n c at gc = ap is_some (listed-network w legal n c at (gc-of_network c.command.verb gc)).1
 
 pub found-listed : (host : Host) (slots : List (Option Slot)) (places : List Place) (before : ℕ) (w : World) (number n : ℕ) (s : Option Slot) (of : Command) → IsFound host slots places before w number n s of → IsListed w.plan.lists of
 found-listed host slots places before w number n s of f =

@@ -1,5 +1,5 @@
 -- What a plan says: its commands with their rounds, their lists, and when it is well formed.
-use Rattle.std.specs.Prelude.{◌≡◌, ℕ, ◌+◌, Bool, true, not, ◌&&◌, ◌||◌, List, [], ◌∷◌, ◌++◌, map, find, is_some, Option, None, if◌then◌else◌}
+use Rattle.std.specs.Prelude.{◌≡◌, ℕ, ◌+◌, Bool, true, not, ◌&&◌, List, [], ◌∷◌, ◌++◌, map, find, is_some, Option, None, if◌then◌else◌}
 use Rattle.std.specs.List.{All, list_all}
 use Rattle.std.specs.Str.{bytes_eq}
 use Rattle.cni_addr.specs.Lists.{distinct}
@@ -55,4 +55,4 @@ pub record IsWellFormed (p : Plan) : Type 0 where
   pub lists : All IsWellFormedList p.lists
   pub pods : IsWellFormedPods p.pods
   pub names : distinct (λ a b. bytes_eq a.name b.name) p.lists ≡ true
-  pub networks : list_all (λ c. not (is_of_network c.command.verb) || is_some (list_for p c.command)) (commands_of p) ≡ true
+  pub networks : list_all (λ c. not (lacks_list p.lists c.command)) (commands_of p) ≡ true
