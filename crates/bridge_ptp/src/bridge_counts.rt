@@ -98,10 +98,7 @@ impl<G: GivenRow> Row<Addr> for GatewayKeys<G> {
 
     #[tactic(auto, using(crate::proofs::CountLemmas::row_steps))]
     fn at(&self, place: usize) -> Option<Addr> {
-        match self.0.given_at(place) {
-            Some(g) => Some(g.gateway),
-            None => None,
-        }
+        self.0.given_at(place).map(|g| g.gateway)
     }
 }
 

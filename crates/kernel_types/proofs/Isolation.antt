@@ -8,7 +8,7 @@ use Rattle.kernel_types.specs.Allowed.{IsAllowed}
 use Rattle.kernel_types.specs.Equal.{att_eq, tag_eq}
 use Rattle.kernel_types.specs.Isolation.{KeepsWhere, KeepsPart, KeepsUnowned, names_att, is_from_outside, ensures_shared}
 use Rattle.kernel_types.specs.Words.{is_own, is_owned}
-use Rattle.kernel_types.specs.Touch.{Touches, TouchesOwn, TouchesTag, AddsOne, AddsBridge, AddsAddress, AddsSetting, RemovesUnshared, is_base}
+use Rattle.kernel_types.specs.Touch.{Touches, TouchesOwn, TouchesTag, AddsOne, AddsBridge, AddsAddress, AddsSetting, RemovesUnshared, is_unshared}
 use Rattle.kernel_types.proofs.Cases.{tag_eq-own}
 use Rattle.kernel_types.proofs.ChangeLemmas.{filter-ChangesOnly, filter-DropsOnly}
 use Rattle.kernel_types.proofs.ListLemmas.{filter-push_dropped}
@@ -183,14 +183,14 @@ KeepsUnowned-Touches (Outside change) old new inside own touches = cc
 -- ---- what the world outside leaves
 
 -- what is shared, as by a test that no other tag passes
-pub KeepsWhere-RemovesUnshared : (test : Tag → Bool) (old new : Host) → ((t : Tag) → not (is_base t) ≡ true → test t ≡ false) → RemovesUnshared old new → KeepsWhere test old new
+pub KeepsWhere-RemovesUnshared : (test : Tag → Bool) (old new : Host) → ((t : Tag) → is_unshared t ≡ true → test t ≡ false) → RemovesUnshared old new → KeepsWhere test old new
 KeepsWhere-RemovesUnshared test old new apart removes = record {
-  namespaces = filter-DropsOnly (λ x. not (is_base x.tag)) (λ x. test x.tag) (λ x. apart x.tag) old.namespaces new.namespaces removes.namespaces;
-  links = filter-DropsOnly (λ x. not (is_base x.tag)) (λ x. test x.tag) (λ x. apart x.tag) old.links new.links removes.links;
-  addresses = filter-DropsOnly (λ x. not (is_base x.tag)) (λ x. test x.tag) (λ x. apart x.tag) old.addresses new.addresses removes.addresses;
-  routes = filter-DropsOnly (λ x. not (is_base x.tag)) (λ x. test x.tag) (λ x. apart x.tag) old.routes new.routes removes.routes;
-  rules = filter-DropsOnly (λ x. not (is_base x.tag)) (λ x. test x.tag) (λ x. apart x.tag) old.rules new.rules removes.rules;
-  settings = filter-DropsOnly (λ x. not (is_base x.tag)) (λ x. test x.tag) (λ x. apart x.tag) old.settings new.settings removes.settings;
+  namespaces = filter-DropsOnly (λ x. is_unshared x.tag) (λ x. test x.tag) (λ x. apart x.tag) old.namespaces new.namespaces removes.namespaces;
+  links = filter-DropsOnly (λ x. is_unshared x.tag) (λ x. test x.tag) (λ x. apart x.tag) old.links new.links removes.links;
+  addresses = filter-DropsOnly (λ x. is_unshared x.tag) (λ x. test x.tag) (λ x. apart x.tag) old.addresses new.addresses removes.addresses;
+  routes = filter-DropsOnly (λ x. is_unshared x.tag) (λ x. test x.tag) (λ x. apart x.tag) old.routes new.routes removes.routes;
+  rules = filter-DropsOnly (λ x. is_unshared x.tag) (λ x. test x.tag) (λ x. apart x.tag) old.rules new.rules removes.rules;
+  settings = filter-DropsOnly (λ x. is_unshared x.tag) (λ x. test x.tag) (λ x. apart x.tag) old.settings new.settings removes.settings;
   leases = ap (filter (λ l. test l.tag)) removes.leases;
   cached = ap (filter (λ c. test c.tag)) removes.cached;
 }

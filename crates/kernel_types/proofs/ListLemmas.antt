@@ -109,9 +109,6 @@ passes-list_all p q (x ∷ xs) y h g = grind (arith, passes-list_all p q xs y)
 
 -- ---- some element passes
 
-pub list_any-push : {X : Type 0} (p : X → Bool) (xs : List X) (y : X) → list_any p xs ≡ true → list_any p (xs ++ y ∷ []) ≡ true
-list_any-push p xs y h = list_any-append_left p xs (y ∷ []) h
-
 pub list_any-kept : {X : Type 0} (p keep : X → Bool) → (xs : List X) → list_any p xs ≡ true → list_any (λ x. p x && not (keep x)) xs ≡ false → list_any p (filter keep xs) ≡ true
 list_any-kept p keep [] h g = grind arith
 list_any-kept p keep (x ∷ xs) h g = grind (arith, list_any-kept p keep xs)

@@ -8,11 +8,11 @@ use Rattle.kernel_types.specs.Equal.{tag_eq}
 use Rattle.kernel_types.specs.Words.{is_host_ns, is_host_or_ns, has_named_ns}
 use Rattle.kernel_types.specs.Apply.Calls.{ns_add_of, ns_del_of, goes_with_ns, has_peer_in, without_links, without_ns, is_same_setting}
 use Rattle.kernel_types.specs.Sound.{IsSound, setting_fits_tag}
-use Rattle.kernel_types.specs.Touch.{AddsNamespace, RemovesUnshared, is_base}
+use Rattle.kernel_types.specs.Touch.{AddsNamespace, RemovesUnshared, is_unshared}
 use Rattle.cni_addr.proofs.Cases.{by_test}
 use Rattle.kernel_types.proofs.Cases.{by_absence}
 use Rattle.kernel_types.proofs.ChangeLemmas.{DropsOnly-filter}
-use Rattle.kernel_types.proofs.ListLemmas.{list_all-filter, list_all-kept, list_all-push, list_all-weaker, list_any-kept, list_any-push, distinct-filter, distinct-push}
+use Rattle.kernel_types.proofs.ListLemmas.{list_all-filter, list_all-kept, list_all-push, list_all-weaker, list_any-append_left, list_any-kept, distinct-filter, distinct-push}
 use Rattle.kernel_types.proofs.Removal.{IsSound-without_links, none_by}
 use Rattle.kernel_types.proofs.Outside.{RemovesUnshared-without_links, RemovesUnshared-nothing, is_loose, outside-unshared}
 use Rattle.kernel_types.specs.declared.object.LinkKey.{LinkKey}
@@ -27,7 +27,7 @@ use Rattle.kernel_types.specs.declared.call.Reply.{Reply}
 -- ---- a namespace that comes
 
 is_host_or_ns-more : (namespaces : List NsObj) (more : NsObj) (ns : List ℕ) → is_host_or_ns namespaces ns ≡ true → is_host_or_ns (namespaces ++ more ∷ []) ns ≡ true
-is_host_or_ns-more namespaces more ns h = grind (arith, h, list_any-push (λ n. bytes_eq n.name ns) namespaces more)
+is_host_or_ns-more namespaces more ns h = grind (arith, h, list_any-append_left (λ n. bytes_eq n.name ns) namespaces (more ∷ []))
 
 setting_fits_tag-more : (namespaces : List NsObj) (more : NsObj) (s : Setting) (t : Tag) → setting_fits_tag namespaces s t ≡ true → setting_fits_tag (namespaces ++ more ∷ []) s t ≡ true
 setting_fits_tag-more namespaces more s Outside h = h
@@ -135,7 +135,7 @@ in-inner ns name inner h = let e : ns ≡ name = (bytes_eq-Decides ns name).0 h 
 goes_with_ns-loose : (name : List ℕ) → is_host_ns name ≡ false → (l : Link) → goes_with_ns name l ≡ true → is_loose l ≡ true
 goes_with_ns-loose name inner l h = grind (arith, h, in-inner l.ns name inner, peer_in-some name l.peer)
 
-setting-unshared : (namespaces : List NsObj) (name : List ℕ) → is_host_ns name ≡ false → (s : Setting) (t : Tag) → setting_fits_tag namespaces s t ≡ true → (not (bytes_eq s.ns name) || not (is_base t)) ≡ true
+setting-unshared : (namespaces : List NsObj) (name : List ℕ) → is_host_ns name ≡ false → (s : Setting) (t : Tag) → setting_fits_tag namespaces s t ≡ true → (not (bytes_eq s.ns name) || is_unshared t) ≡ true
 setting-unshared namespaces name inner s Outside h = grind arith
 setting-unshared namespaces name inner s Base h = grind (arith, h, in-inner s.ns name inner)
 setting-unshared namespaces name inner s (Own att) h = grind arith
@@ -144,14 +144,14 @@ removes-ns_del : (host : Host) (name : List ℕ) → is_host_ns name ≡ false �
 removes-ns_del host name inner sound =
     let rest : RemovesUnshared host (without_links (goes_with_ns name) host) = RemovesUnshared-without_links (goes_with_ns name) host sound (goes_with_ns-loose name inner) in
     record {
-      namespaces = DropsOnly-filter (λ n. not (is_base n.tag)) (λ n. not (bytes_eq n.name name)) host.namespaces
-          (list_all-weaker (λ n. tag_eq n.tag Outside) (λ n. not (bytes_eq n.name name) || not (is_base n.tag)) (λ n h. grind (arith, outside-unshared n.tag h)) host.namespaces sound.namespaces.tags);
+      namespaces = DropsOnly-filter (λ n. is_unshared n.tag) (λ n. not (bytes_eq n.name name)) host.namespaces
+          (list_all-weaker (λ n. tag_eq n.tag Outside) (λ n. not (bytes_eq n.name name) || is_unshared n.tag) (λ n h. grind (arith, outside-unshared n.tag h)) host.namespaces sound.namespaces.tags);
       links = rest.links;
       addresses = rest.addresses;
       routes = rest.routes;
       rules = rest.rules;
-      settings = DropsOnly-filter (λ s. not (is_base s.tag)) (λ s. not (bytes_eq s.ns name)) host.settings
-          (list_all-weaker (λ s. setting_fits_tag host.namespaces s s.tag) (λ s. not (bytes_eq s.ns name) || not (is_base s.tag)) (λ s h. setting-unshared host.namespaces name inner s s.tag h) host.settings sound.settings.tags);
+      settings = DropsOnly-filter (λ s. is_unshared s.tag) (λ s. not (bytes_eq s.ns name)) host.settings
+          (list_all-weaker (λ s. setting_fits_tag host.namespaces s s.tag) (λ s. not (bytes_eq s.ns name) || is_unshared s.tag) (λ s h. setting-unshared host.namespaces name inner s s.tag h) host.settings sound.settings.tags);
       leases = refl;
       cached = refl;
       lasts = refl;

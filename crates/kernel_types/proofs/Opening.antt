@@ -7,7 +7,7 @@ use Rattle.cni_addr.specs.Lists.{distinct}
 use Rattle.kernel_types.specs.Equal.{tag_eq}
 use Rattle.kernel_types.specs.Words.{is_host_ns, outside_namespace}
 use Rattle.kernel_types.specs.Sound.{IsSound, link_fits_tag, peer_fits, is_shared_kind}
-use Rattle.kernel_types.specs.Opening.{opening_of, opening_with, AreNamespaceNames, AreOutsideLinks, is_outside_link}
+use Rattle.kernel_types.specs.Opening.{opening_with, AreNamespaceNames, AreOutsideLinks, is_outside_link}
 use Rattle.kernel_types.proofs.Cases.{shared-no_veth}
 use Rattle.kernel_types.proofs.ListLemmas.{list_any-map, list_all-map, list_all-weaker}
 use Rattle.kernel_types.specs.declared.object.LinkKey.{LinkKey}
@@ -55,6 +55,3 @@ IsSound-opening_with names links good outside = record {
   cached = record { keys = refl; tags = refl };
   lasts = record { keys = refl };
 }
-
-pub IsSound-opening_of : (names : List (List ℕ)) → AreNamespaceNames names → IsSound (opening_of names)
-IsSound-opening_of names good = IsSound-opening_with names [] good (record { outside = refl; places = refl; keys = refl })

@@ -7,7 +7,7 @@ use Rattle.kernel_types.specs.Equal.{rule_eq, table_eq, tag_eq}
 use Rattle.kernel_types.specs.Words.{is_host_ns, is_at, is_peer_at, is_bridge, is_owned, is_veth, has_named_ns, link_at}
 use Rattle.kernel_types.specs.Apply.Calls.{drop_link_of, flush_of, goes_with, without_link, without_links}
 use Rattle.kernel_types.specs.Sound.{IsSound, link_fits_tag, peer_fits}
-use Rattle.kernel_types.specs.Touch.{RemovesUnshared, is_base}
+use Rattle.kernel_types.specs.Touch.{RemovesUnshared, is_unshared}
 use Rattle.cni_addr.proofs.Cases.{by_test}
 use Rattle.kernel_types.proofs.Cases.{shared-no_veth}
 use Rattle.kernel_types.proofs.ChangeLemmas.{DropsOnly-nothing, DropsOnly-filter}
@@ -27,9 +27,6 @@ use Rattle.kernel_types.specs.declared.call.Reply.{Reply}
 
 -- ---- tags that are not shared
 
-abbrev pub is_unshared : Tag → Bool
-is_unshared t = not (is_base t)
-
 owned-unshared : (t : Tag) → is_owned t ≡ true → is_unshared t ≡ true
 owned-unshared Outside h = refl
 owned-unshared Base h = cc
@@ -42,12 +39,12 @@ outside-unshared (Own att) h = refl
 
 pub RemovesUnshared-nothing : (host : Host) → RemovesUnshared host host
 RemovesUnshared-nothing host = record {
-  namespaces = DropsOnly-nothing (λ n. not (is_base n.tag)) host.namespaces;
-  links = DropsOnly-nothing (λ l. not (is_base l.tag)) host.links;
-  addresses = DropsOnly-nothing (λ a. not (is_base a.tag)) host.addresses;
-  routes = DropsOnly-nothing (λ r. not (is_base r.tag)) host.routes;
-  rules = DropsOnly-nothing (λ r. not (is_base r.tag)) host.rules;
-  settings = DropsOnly-nothing (λ s. not (is_base s.tag)) host.settings;
+  namespaces = DropsOnly-nothing (λ n. is_unshared n.tag) host.namespaces;
+  links = DropsOnly-nothing (λ l. is_unshared l.tag) host.links;
+  addresses = DropsOnly-nothing (λ a. is_unshared a.tag) host.addresses;
+  routes = DropsOnly-nothing (λ r. is_unshared r.tag) host.routes;
+  rules = DropsOnly-nothing (λ r. is_unshared r.tag) host.rules;
+  settings = DropsOnly-nothing (λ s. is_unshared s.tag) host.settings;
   leases = refl;
   cached = refl;
   lasts = refl;
@@ -96,15 +93,15 @@ pub RemovesUnshared-without_links : (gone : Link → Bool) (host : Host) → IsS
 RemovesUnshared-without_links gone host sound loose =
     let may : list_all (λ l. not (gone l) || may_go is_unshared l) host.links ≡ true = loose-may_go gone host sound loose in
     record {
-      namespaces = DropsOnly-nothing (λ n. not (is_base n.tag)) host.namespaces;
-      links = DropsOnly-filter (λ l. not (is_base l.tag)) (λ l. not (gone l)) host.links
-          (list_all-weaker (λ l. not (gone l) || may_go is_unshared l) (λ l. not (gone l) || not (is_base l.tag)) (λ l h. grind (arith, h)) host.links may);
-      addresses = DropsOnly-filter (λ a. not (is_base a.tag)) (λ a. not (list_any (λ l. gone l && is_at a.ns a.link l) host.links)) host.addresses
+      namespaces = DropsOnly-nothing (λ n. is_unshared n.tag) host.namespaces;
+      links = DropsOnly-filter (λ l. is_unshared l.tag) (λ l. not (gone l)) host.links
+          (list_all-weaker (λ l. not (gone l) || may_go is_unshared l) (λ l. not (gone l) || is_unshared l.tag) (λ l h. grind (arith, h)) host.links may);
+      addresses = DropsOnly-filter (λ a. is_unshared a.tag) (λ a. not (list_any (λ l. gone l && is_at a.ns a.link l) host.links)) host.addresses
           (addresses_gone is_unshared gone host.links host.addresses sound.links.keys may sound.addresses);
-      routes = DropsOnly-filter (λ r. not (is_base r.tag)) (λ r. not (list_any (λ l. gone l && is_at r.ns r.link l) host.links)) host.routes
+      routes = DropsOnly-filter (λ r. is_unshared r.tag) (λ r. not (list_any (λ l. gone l && is_at r.ns r.link l) host.links)) host.routes
           (routes_gone is_unshared gone host.links host.routes sound.links.keys may sound.routes);
-      rules = DropsOnly-nothing (λ r. not (is_base r.tag)) host.rules;
-      settings = DropsOnly-nothing (λ s. not (is_base s.tag)) host.settings;
+      rules = DropsOnly-nothing (λ r. is_unshared r.tag) host.rules;
+      settings = DropsOnly-nothing (λ s. is_unshared s.tag) host.settings;
       leases = refl;
       cached = refl;
       lasts = refl;
@@ -146,13 +143,13 @@ IsSound-flush host table sound = IsSound-with_rules host _ sound (record {
 
 pub RemovesUnshared-flush : (host : Host) (table : Table) → IsSound host → RemovesUnshared host (flush_of host table).0
 RemovesUnshared-flush host table sound = record {
-  namespaces = DropsOnly-nothing (λ n. not (is_base n.tag)) host.namespaces;
-  links = DropsOnly-nothing (λ l. not (is_base l.tag)) host.links;
-  addresses = DropsOnly-nothing (λ a. not (is_base a.tag)) host.addresses;
-  routes = DropsOnly-nothing (λ r. not (is_base r.tag)) host.routes;
-  rules = DropsOnly-filter (λ r. not (is_base r.tag)) (λ r. not (table_eq r.table table)) host.rules
-      (list_all-weaker (λ r. is_owned r.tag) (λ r. not (table_eq r.table table) || not (is_base r.tag)) (λ r h. grind (arith, owned-unshared r.tag h)) host.rules sound.rules.tags);
-  settings = DropsOnly-nothing (λ s. not (is_base s.tag)) host.settings;
+  namespaces = DropsOnly-nothing (λ n. is_unshared n.tag) host.namespaces;
+  links = DropsOnly-nothing (λ l. is_unshared l.tag) host.links;
+  addresses = DropsOnly-nothing (λ a. is_unshared a.tag) host.addresses;
+  routes = DropsOnly-nothing (λ r. is_unshared r.tag) host.routes;
+  rules = DropsOnly-filter (λ r. is_unshared r.tag) (λ r. not (table_eq r.table table)) host.rules
+      (list_all-weaker (λ r. is_owned r.tag) (λ r. not (table_eq r.table table) || is_unshared r.tag) (λ r h. grind (arith, owned-unshared r.tag h)) host.rules sound.rules.tags);
+  settings = DropsOnly-nothing (λ s. is_unshared s.tag) host.settings;
   leases = refl;
   cached = refl;
   lasts = refl;

@@ -22,10 +22,6 @@ opening_with names links = record {
   lasts = [];
 }
 
--- namespaces of these names, and nothing else
-abbrev pub opening_of : List (List ℕ) → Host
-opening_of names = opening_with names []
-
 -- the names are not empty, and no two are the same
 pub record AreNamespaceNames (names : List (List ℕ)) : Type 0 where
   pub named : AllPassTest (λ name. not (is_host_ns name)) names

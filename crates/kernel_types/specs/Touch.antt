@@ -82,14 +82,17 @@ is_base tags.Outside = false
 is_base tags.Base = true
 is_base (tags.Own att) = false
 
+abbrev pub is_unshared : Tag → Bool
+is_unshared t = not (is_base t)
+
 -- objects are removed, none of them shared, and nothing else changes
 pub record RemovesUnshared (old new : Host) : Type 0 where
-  pub namespaces : DropsOnly (λ n. not (is_base n.tag)) old.namespaces new.namespaces
-  pub links : DropsOnly (λ l. not (is_base l.tag)) old.links new.links
-  pub addresses : DropsOnly (λ a. not (is_base a.tag)) old.addresses new.addresses
-  pub routes : DropsOnly (λ r. not (is_base r.tag)) old.routes new.routes
-  pub rules : DropsOnly (λ r. not (is_base r.tag)) old.rules new.rules
-  pub settings : DropsOnly (λ s. not (is_base s.tag)) old.settings new.settings
+  pub namespaces : DropsOnly (λ n. is_unshared n.tag) old.namespaces new.namespaces
+  pub links : DropsOnly (λ l. is_unshared l.tag) old.links new.links
+  pub addresses : DropsOnly (λ a. is_unshared a.tag) old.addresses new.addresses
+  pub routes : DropsOnly (λ r. is_unshared r.tag) old.routes new.routes
+  pub rules : DropsOnly (λ r. is_unshared r.tag) old.rules new.rules
+  pub settings : DropsOnly (λ s. is_unshared s.tag) old.settings new.settings
   pub leases : new.leases ≡ old.leases
   pub cached : new.cached ≡ old.cached
   pub lasts : new.lasts ≡ old.lasts

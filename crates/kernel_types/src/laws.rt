@@ -10,7 +10,7 @@ ghost use Rattle.kernel_types.specs.Allowed.{IsAllowed};
 ghost use Rattle.kernel_types.specs.Apply.{apply};
 ghost use Rattle.kernel_types.specs.Apply.Calls.{goes_with, last_leased, lease_next_of, leased_addresses};
 ghost use Rattle.kernel_types.specs.Isolation.{deletes_for, ensures_shared, is_from_outside, KeepsPart, KeepsUnowned, names_att, RemovesOwn};
-ghost use Rattle.kernel_types.specs.Opening.{opening_of, opening_with, AreNamespaceNames, AreOutsideLinks};
+ghost use Rattle.kernel_types.specs.Opening.{opening_with, AreNamespaceNames, AreOutsideLinks};
 ghost use Rattle.kernel_types.specs.Replies.{is_fault, holds_text_or_list};
 ghost use Rattle.kernel_types.specs.Sound.{AreInPlaces, IsSound, is_link_or_peer, NoAddressTwice, NoNamespaceOwned};
 ghost use Rattle.kernel_types.specs.Touch.{Touches};
@@ -19,15 +19,9 @@ use crate::call::{Call, Reply};
 use crate::object::{Att, Host, Link};
 use cni_addr::{Addr, Items, RangeSet, Text};
 
-/// A host that has namespaces alone, each made outside, with a name that isn't empty and that no other has, is sound.
-pub fn an_opening_is_sound(names: &Items<Text>)
-    requires { AreNamespaceNames names.now }
-    ensures { IsSound (opening_of names.now) }
-{}
-
-/// So is one that has, besides, devices and bridges made outside, in the host or in these namespaces, each at a place
-/// of its own.
-pub fn an_opening_with_links_is_sound(names: &Items<Text>, links: &Items<Link>)
+/// A host is sound that has nothing but what was made outside: namespaces, with names that aren't empty and that no two
+/// share, and devices and bridges, in the host or in these namespaces, each at a place of its own.
+pub fn an_opening_is_sound(names: &Items<Text>, links: &Items<Link>)
     requires names { AreNamespaceNames names.now }
     requires links { AreOutsideLinks names.now links.now }
     ensures { IsSound (opening_with names.now links.now) }

@@ -82,7 +82,7 @@ impl Last {
     }
 }
 
-fn last_of<'a>(lasts: &'a [Last], network: &Text, number: u32) -> Option<&'a Last>
+fn last_lease_of<'a>(lasts: &'a [Last], network: &Text, number: u32) -> Option<&'a Last>
     ensures { option_copied result ≡ find (is_of_pool network.now number) lasts.now }
 {
     lasts.iter().find(|l| l.is_of_pool(network, number))
@@ -92,10 +92,7 @@ fn last_of<'a>(lasts: &'a [Last], network: &Text, number: u32) -> Option<&'a Las
 pub fn last_leased(lasts: &[Last], network: &Text, number: u32) -> Option<Addr>
     ensures { result ≡ last_in lasts.now network.now number }
 {
-    match last_of(lasts, network, number) {
-        Some(last) => Some(last.addr),
-        None => None,
-    }
+    last_lease_of(lasts, network, number).map(|last| last.addr)
 }
 
 // ---- the keys of objects that a call adds unless their key is taken

@@ -25,7 +25,7 @@ use Rattle.plan_words.specs.PlanCalls.{is_plan_call_of, AllDone, applied, Append
 use Rattle.plan_words.specs.Shapes.{address_on, route_on, masquerade_of, addresses_on, routes_on, masquerade_rules, forward_calls}
 use Rattle.plan_words.specs.Share.{Share, share_of, no_objects, share_plus, share_after_calls}
 use Rattle.plan_words.proofs.CallLists.{share_after_calls-then, share_after_calls-addresses, share_after_calls-routes, share_after_calls-rules, share_after_calls-shared_rules, share_plus-laid_on, share_plus-links, share_plus-rules}
-use Rattle.plan_words.proofs.KeyLists.{list_all-append, list_all-map, list_all-every, list_all-flat, list_all-if, list_all-each_key_once}
+use Rattle.plan_words.proofs.KeyLists.{list_all-append, list_all-mapped, list_all-every, list_all-flat, list_all-if, list_all-each_key_once}
 use Rattle.plan_words.proofs.OwnCalls.{share-own}
 
 -- ---- from the calls to the host
@@ -52,7 +52,7 @@ own-calls h = record { all = h }
 
 -- of objects that are the attachment's own
 pub own-made : {X : Type 0} (att : Att) (call_for : X → Call) (is_owned : X → Bool) → ((x : X) → is_owned x ≡ true → is_plan_call_of att (call_for x) ≡ true) → (xs : List X) → list_all is_owned xs ≡ true → AreOwnCalls att (map call_for xs)
-own-made att call_for is_owned w xs h = own-calls (list_all-map (is_plan_call_of att) call_for is_owned w xs h)
+own-made att call_for is_owned w xs h = own-calls (list_all-mapped (is_plan_call_of att) call_for is_owned w xs h)
 
 pub own-append : {att : Att} {xs ys : List Call} → AreOwnCalls att xs → AreOwnCalls att ys → AreOwnCalls att (xs ++ ys)
 own-append {att} {xs} {ys} h g = record { all = list_all-append (is_plan_call_of att) xs ys h.all g.all }

@@ -30,9 +30,9 @@ filter-within p q w (x ∷ xs) = grind (arith, w x, filter-within p q w xs)
 
 -- ---- each element passes
 
-pub list_all-map : {X Y : Type 0} (p : Y → Bool) (f : X → Y) (q : X → Bool) → ((x : X) → q x ≡ true → p (f x) ≡ true) → (xs : List X) → list_all q xs ≡ true → list_all p (map f xs) ≡ true
-list_all-map p f q w [] h = refl
-list_all-map p f q w (x ∷ xs) h = grind (arith, w x, list_all-map p f q w xs)
+pub list_all-mapped : {X Y : Type 0} (p : Y → Bool) (f : X → Y) (q : X → Bool) → ((x : X) → q x ≡ true → p (f x) ≡ true) → (xs : List X) → list_all q xs ≡ true → list_all p (map f xs) ≡ true
+list_all-mapped p f q w [] h = refl
+list_all-mapped p f q w (x ∷ xs) h = grind (arith, w x, list_all-mapped p f q w xs)
 
 pub list_all-every : {X Y : Type 0} (p : Y → Bool) (f : X → Y) → ((x : X) → p (f x) ≡ true) → (xs : List X) → list_all p (map f xs) ≡ true
 list_all-every p f w [] = refl

@@ -183,10 +183,9 @@ fn family_gateway(given: &[Given], family: Family) -> Option<Addr>
 fn gateway_for(given: &[Given], route: &RouteEntry) -> Option<Addr>
     ensures { result ≡ shapes.gateway_for given.now route.now }
 {
-    match route.gw {
-        Some(gw) => Some(gw),
-        None => family_gateway(given, route.dst.addr.family),
-    }
+    route
+        .gw
+        .or_else(|| family_gateway(given, route.dst.addr.family))
 }
 
 /// The route from the container's end to this destination, by this gateway or directly.

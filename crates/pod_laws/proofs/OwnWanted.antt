@@ -18,7 +18,7 @@ use Rattle.kernel_types.specs.declared.object.Link.{Link}
 use Rattle.kernel_types.specs.declared.call.Given.{Given}
 use Rattle.plan_words.specs.Share.{Share}
 use Rattle.plan_words.proofs.Appends.{own-addresses, own-routes, own-masquerades}
-use Rattle.plan_words.proofs.KeyLists.{list_all-append, list_all-every, list_all-flat, list_all-map}
+use Rattle.plan_words.proofs.KeyLists.{list_all-append, list_all-every, list_all-flat, list_all-mapped}
 use Rattle.plan_words.proofs.OwnCalls.{set_link-tag}
 use Rattle.bridge_ptp.specs.declared.ptp.AddressOrRoute.{AddressOrRoute}
 use Rattle.bridge_ptp.specs.declared.ptp.AddressOrRoute.TheVariants.{Address, Route}
@@ -86,7 +86,7 @@ own-settings_of (Firewall conf) att netns = refl
 own-settings_of (Tuning conf) att netns = own-settings conf att netns
 
 own-tuned : (b : Bool) (f : Link → Link) (att : Att) (links : List Link) → ((l : Link) → is_own att (f l).tag ≡ is_own att l.tag) → list_all (λ x. is_own att x.tag) links ≡ true → list_all (λ x. is_own att x.tag) (if b then map f links else links) ≡ true
-own-tuned true f att links keeps h = list_all-map (λ x. is_own att x.tag) f (λ x. is_own att x.tag) (λ l own. keeps l ∙ own) links h
+own-tuned true f att links keeps h = list_all-mapped (λ x. is_own att x.tag) f (λ x. is_own att x.tag) (λ l own. keeps l ∙ own) links h
 own-tuned false f att links keeps h = h
 
 own-links_after : (c : Chained) (att : Att) (netns : List ℕ) (links : List Link) → list_all (λ x. is_own att x.tag) links ≡ true → list_all (λ x. is_own att x.tag) (links_after c att netns links) ≡ true

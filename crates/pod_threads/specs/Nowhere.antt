@@ -1,7 +1,7 @@
 -- A world that no round begins in.
 use Rattle.std.specs.Prelude.{[], None}
-use Rattle.kernel_types.specs.Opening.{opening_of}
+use Rattle.kernel_types.specs.Opening.{opening_with}
 use Rattle.pod_workers.specs.World.{World, begun}
 
 abbrev pub nowhere : World
-nowhere = begun (record { lists = []; pods = record { opening = opening_of []; rounds = [] }; stop_at = None })
+nowhere = begun (record { lists = []; pods = record { opening = opening_with [] []; rounds = [] }; stop_at = None })

@@ -32,7 +32,7 @@ use Rattle.kernel_types.specs.declared.call.Call.{Call}
 use Rattle.kernel_types.specs.declared.call.Call.TheVariants.{GatewayEnsure, ForwardEnsure, LinkSet, AddrAdd, RouteAdd, RuleAppend, SettingSet, CachePut}
 use Rattle.plan_words.specs.Families.{has_family}
 use Rattle.plan_words.specs.Shapes.{address_on, addresses_on, forward_calls, forward_for, gateway_for, inner_key, masquerade_rules, route_by, route_on, routes_on}
-use Rattle.plan_words.proofs.KeyLists.{list_all-append, list_all-each_key_once, list_all-every, list_all-flat, list_all-if, list_all-map}
+use Rattle.plan_words.proofs.KeyLists.{list_all-append, list_all-each_key_once, list_all-every, list_all-flat, list_all-if, list_all-mapped}
 use Rattle.host_local.specs.Conf.{routes_of}
 use Rattle.host_local.specs.Results.{ip_of}
 use Rattle.bridge_ptp.specs.Bridge.{gateway_calls, lease_kinds, rule_kinds}
@@ -70,7 +70,7 @@ PassesChained p att netns (Tuning conf) =
 -- one call for each key
 passes-once : {X Y : Type 0} (p : Call → Bool) (call : Y → Call) (same : Y → Y → Bool) (f : X → Y) → ((x : X) → p (call (f x)) ≡ true) → (xs : List X) → list_all p (map call (each_key_once same (map f xs))) ≡ true
 passes-once p call same f w xs =
-    list_all-map p call (λ y. p (call y)) (λ y h. h) (each_key_once same (map f xs)) (list_all-each_key_once (λ y. p (call y)) same (map f xs) (list_all-every (λ y. p (call y)) f w xs))
+    list_all-mapped p call (λ y. p (call y)) (λ y h. h) (each_key_once same (map f xs)) (list_all-each_key_once (λ y. p (call y)) same (map f xs) (list_all-every (λ y. p (call y)) f w xs))
 
 passes-forward : (p : Call → Bool) → ((family : Family) → p (ForwardEnsure family) ≡ true) → (given : List Given) → list_all p (forward_calls given) ≡ true
 passes-forward p w given =
@@ -103,7 +103,7 @@ passes-objects p conf att netns given w =
     let q : AddressOrRoute → Bool = λ x. p (call_for x) in
     let pairs = flat_map (ptp_objects_for att netns) given in
     let routes = map (λ r. Route (route_on att netns given r)) conf.ipam.routes in
-    list_all-map p call_for q (λ x h. h) (ptp_objects conf att netns given)
+    list_all-mapped p call_for q (λ x h. h) (ptp_objects conf att netns given)
     (list_all-each_key_once q same_key (pairs ++ routes)
     (list_all-append q pairs routes (list_all-flat q (ptp_objects_for att netns) (λ g. passes-pair p conf att netns g w) given)
     (list_all-every q (λ r. Route (route_on att netns given r)) (λ r. w.route r.dst (gateway_for given r)) conf.ipam.routes)))
