@@ -115,10 +115,10 @@ and-with a b c = grind arith
 and-true : (a b : Bool) → (a && b) ≡ (a && (b && true))
 and-true a b = grind arith
 
-abbrev pub key_eq : PtpKey → PtpKey → Bool
-key_eq k l = beq k.on_host l.on_host && (option_eq addr_eq k.address l.address && option_eq cidr_eq k.destination l.destination)
+abbrev pub ptp_key_eq : PtpKey → PtpKey → Bool
+ptp_key_eq k l = beq k.on_host l.on_host && (option_eq addr_eq k.address l.address && option_eq cidr_eq k.destination l.destination)
 
-pub same-lying : (att : Att) (netns : List ℕ) (b : Bool) → has_two_ends att netns ≡ b → (x y : Lying) → same_key (object_at att netns x) (object_at att netns y) ≡ key_eq (key_of b x) (key_of b y)
+pub same-lying : (att : Att) (netns : List ℕ) (b : Bool) → has_two_ends att netns ≡ b → (x y : Lying) → same_key (object_at att netns x) (object_at att netns y) ≡ ptp_key_eq (key_of b x) (key_of b y)
 same-lying att netns b e (AddressAt h c) (AddressAt k d) =
     ap (λ t. t && addr_eq d.addr c.addr) (ends-by netns att.ifname (host_name_of att) b h k e) ∙ ap (λ t. beq (h && b) (k && b) && t) (addr_eq-symm d.addr c.addr) ∙ and-true (beq (h && b) (k && b)) (addr_eq c.addr d.addr)
 same-lying att netns b e (AddressAt h c) (RouteAt k dst gw) = sym (and-false (beq (h && b) (k && b)))

@@ -1,13 +1,11 @@
 -- The plan of the `bridge` plugin: the container's end of a veth pair, whose other end has a bridge of the host as
 -- master.
-use Rattle.std.specs.Prelude.{ℕ, Bool, List, [], ◌∷◌, ◌++◌, map, Option, Some, None, if◌then◌else◌}
+use Rattle.std.specs.Prelude.{ℕ, List, [], ◌∷◌, ◌++◌, map, Some, if◌then◌else◌}
 use Rattle.cni_result.specs.declared.result.RouteEntry.{RouteEntry}
 use Rattle.net_conf.specs.declared.first.BridgeConf.{BridgeConf}
-use Rattle.net_conf.specs.declared.first.HostLocalConf.{HostLocalConf}
 use Rattle.kernel_types.specs.declared.object.Att.{Att}
 use Rattle.kernel_types.specs.declared.call.Given.{Given}
 use Rattle.kernel_types.specs.declared.call.Kind.{Kind}
-use Rattle.kernel_types.specs.declared.call.Kind.TheVariants.{Links, Rules, Leases}
 use Rattle.kernel_types.specs.declared.call.Call.{Call}
 use Rattle.kernel_types.specs.declared.call.Call.TheVariants.{BridgeEnsure, AddrAdd, RouteAdd, RuleAppend}
 use Rattle.plan_words.specs.Shapes.{addresses_on, routes_on, masquerade_rules, forward_calls}
@@ -15,6 +13,7 @@ use Rattle.plan_words.specs.Share.{Share, no_objects}
 use Rattle.host_local.specs.Conf.{routes_of}
 use Rattle.host_local.specs.Results.{ip_of}
 use Rattle.bridge_ptp.specs.Gateways.{gateway_call, gateways_on}
+use Rattle.bridge_ptp.specs.Kinds.{interface_kinds}
 use Rattle.bridge_ptp.specs.Results.{bridge_routes}
 use Rattle.bridge_ptp.specs.Veth.{veth_share, veth_pair}
 
@@ -51,17 +50,6 @@ bridge_calls_after conf att netns given =
     ++ (map RouteAdd (routes_on att netns given (bridge_entries conf given)) ++ (gateway_calls conf given ++ map RuleAppend (masquerade_rules conf.ip_masq att given)))
 
 -- ---- the kinds of objects that DEL takes back
-
-abbrev pub rule_kinds : Bool → List Kind
-rule_kinds ip_masq = if ip_masq then Rules ∷ [] else []
-
-abbrev pub lease_kinds : Option HostLocalConf → List Kind
-lease_kinds None = []
-lease_kinds (Some ipam) = Leases ∷ []
-
--- of a plugin that makes links: with `ipMasq` the rules, and with addresses the leases
-abbrev pub interface_kinds : Bool → Option HostLocalConf → List Kind
-interface_kinds ip_masq ipam = Links ∷ (rule_kinds ip_masq ++ lease_kinds ipam)
 
 abbrev pub bridge_kinds_of : BridgeConf → List Kind
 bridge_kinds_of conf = interface_kinds conf.ip_masq conf.ipam

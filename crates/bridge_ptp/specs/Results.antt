@@ -1,4 +1,4 @@
--- What `bridge` and `ptp` answer (CNI specification, section 5, ADD Success).
+-- What a plugin that makes interfaces answers (CNI specification, section 5, ADD Success).
 use Rattle.std.specs.Prelude.{ℕ, Bool, not, ◌&&◌, List, [], ◌∷◌, ◌++◌, map, Option, Some, None, if◌then◌else◌}
 use Rattle.std.specs.List.{list_any}
 use Rattle.cni_addr.specs.Equal.{cidr_eq}

@@ -1,4 +1,4 @@
-//! The interfaces and addresses of a result, and how a plugin that makes interfaces completes the one of the addresses.
+//! The interfaces and addresses of a result, and how a plugin that makes interfaces completes the address plugin's.
 
 ghost use Rattle.std.specs.Prelude.{◌≡◌, ◌++◌, map, IfOk, OnOk};
 ghost use Rattle.bridge_ptp.specs.Results as results;

@@ -2,7 +2,7 @@
 
 ghost use Rattle.std.specs.Prelude.{◌≡◌, IfOk};
 ghost use Rattle.std.specs.Option.{option_copied};
-ghost use Rattle.bridge_ptp.specs.Bridge as plan;
+ghost use Rattle.bridge_ptp.specs.Kinds as plan;
 
 use cni_addr::{Items, NoMemory};
 use host_local::release_kinds;

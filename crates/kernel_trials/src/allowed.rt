@@ -3,8 +3,8 @@
 ghost use Rattle.std.specs.Prelude.{◌≡◌, true, false};
 ghost use Rattle.ip_pool.specs.NextAddress.{is_candidate_or_none};
 ghost use Rattle.kernel_types.specs.Apply.Calls.{last_leased};
-ghost use Rattle.kernel_types.specs.Allowed.{IsAllowed, IsAllowedChange, IsPool, IsVethPair, IsMacvlanLink, is_macvlan};
-ghost use Rattle.kernel_types.specs.Words.{is_host_ns, is_owned, is_peer_at, is_veth};
+ghost use Rattle.kernel_types.specs.Allowed.{IsAllowed, IsAllowedChange, IsPool, IsVethPair, IsMacvlanLink};
+ghost use Rattle.kernel_types.specs.Words.{is_host_ns, is_macvlan, is_owned, is_peer_at, is_veth};
 
 use cni_addr::{Addr, RangeSet, Text};
 use ip_pool::{are_apart, contains_candidate};

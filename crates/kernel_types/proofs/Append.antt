@@ -7,10 +7,10 @@ use Rattle.std.specs.Str.{bytes_eq}
 use Rattle.std.proofs.lemmas.Slice.Eq.{bytes_eq-Decides}
 use Rattle.cni_addr.specs.Lists.{distinct}
 use Rattle.kernel_types.specs.Equal.{tag_eq}
-use Rattle.kernel_types.specs.Words.{is_host_ns, is_host_or_ns, is_host_link, is_own, is_at, is_peer_at, is_owned, is_link_of, is_veth, has_named_ns, link_at, is_host_bridge}
+use Rattle.kernel_types.specs.Words.{is_host_ns, is_host_or_ns, is_host_link, is_own, is_at, is_peer_at, is_owned, is_link_of, is_veth, has_named_ns, link_at, is_host_bridge, is_macvlan}
 use Rattle.kernel_types.specs.Apply.Calls.{bridge_ensure_of, bridge_or_new, new_bridge, veth_add_of, macvlan_add_of, has_bridge_as_master, has_master}
 use Rattle.kernel_types.specs.Sound.{IsSound, peer_fits, peers_back, address_fits_tag, link_fits_tag, is_owned_kind}
-use Rattle.kernel_types.specs.Allowed.{IsVethPair, IsMacvlanLink, is_macvlan}
+use Rattle.kernel_types.specs.Allowed.{IsVethPair, IsMacvlanLink}
 use Rattle.kernel_types.specs.Touch.{AddsBridge, TouchesOwnAlone, TouchesTag}
 use Rattle.cni_addr.proofs.Cases.{by_test}
 use Rattle.kernel_types.proofs.Cases.{by_addition, none-option_map, none-option_or, tag_eq-refl, own-own, TouchesTag-owned, is_at-itself, host_ns-eq, other_host}

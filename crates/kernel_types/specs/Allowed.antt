@@ -1,12 +1,10 @@
 -- When a call may be made: the shape of its fields, and what it asks of the host.
-use Rattle.std.specs.Prelude.{◌≡◌, Bool, true, false, None, is_some}
+use Rattle.std.specs.Prelude.{◌≡◌, true, false, None, is_some}
 use Rattle.cni_addr.specs.declared.range.RangeSet.{RangeSet}
 use Rattle.ip_pool.specs.Pool.{are_apart}
 use Rattle.ip_pool.specs.NextAddress.{is_candidate_or_none}
 use Rattle.kernel_types.specs.Apply.Calls.{last_leased}
-use Rattle.kernel_types.specs.Words.{is_host_ns, is_owned, is_peer_at, is_veth}
-use Rattle.kernel_types.specs.declared.object.LinkKind.{LinkKind}
-use Rattle.kernel_types.specs.declared.object.LinkKind.TheVariants.{Macvlan}
+use Rattle.kernel_types.specs.Words.{is_host_ns, is_macvlan, is_owned, is_peer_at, is_veth}
 use Rattle.kernel_types.specs.declared.object.Link.{Link}
 use Rattle.kernel_types.specs.declared.object.Host.{Host}
 use Rattle.kernel_types.specs.declared.call.Call.{Call}
@@ -24,10 +22,6 @@ pub record IsVethPair (host_end inner_end : Link) : Type 0 where
   pub to_host : is_peer_at host_end.ns host_end.name inner_end.peer ≡ true
   pub outer : is_host_ns host_end.ns ≡ true
   pub inner : is_host_ns inner_end.ns ≡ false
-
-abbrev pub is_macvlan : LinkKind → Bool
-is_macvlan (Macvlan mode) = true
-is_macvlan kind = false
 
 -- an attachment's link over a master, outside the host
 pub record IsMacvlanLink (link : Link) : Type 0 where

@@ -11,7 +11,7 @@ use Rattle.kernel_types.specs.declared.object.LinkKey.{LinkKey}
 use Rattle.kernel_types.specs.declared.object.Tag.{Tag}
 use Rattle.kernel_types.specs.declared.object.Tag.TheVariants.{Outside, Own}
 use Rattle.kernel_types.specs.declared.object.LinkKind.{LinkKind}
-use Rattle.kernel_types.specs.declared.object.LinkKind.TheVariants.{Bridge, Veth}
+use Rattle.kernel_types.specs.declared.object.LinkKind.TheVariants.{Bridge, Veth, Macvlan}
 use Rattle.kernel_types.specs.declared.object.Link.{Link}
 use Rattle.kernel_types.specs.declared.object.Lease.{Lease}
 use Rattle.kernel_types.specs.declared.object.NsObj.{NsObj}
@@ -32,6 +32,10 @@ is_bridge kind = false
 abbrev pub is_veth : LinkKind → Bool
 is_veth Veth = true
 is_veth kind = false
+
+abbrev pub is_macvlan : LinkKind → Bool
+is_macvlan (Macvlan mode) = true
+is_macvlan kind = false
 
 -- a link as Linux makes a new one: under no master, without a peer, in no mode, with a queue of 1000 packets
 abbrev pub new_link : LinkKey → LinkKind → Mac → ℕ → Tag → Link

@@ -3,9 +3,8 @@
 
 ghost use Rattle.std.specs.Prelude.{◌≡◌, find};
 ghost use Rattle.std.specs.Option.{option_copied};
-ghost use Rattle.kernel_types.specs.Allowed.{is_macvlan};
 ghost use Rattle.kernel_types.specs.Apply.Calls.{is_of_pool, last_in, is_same_addr, is_same_route, is_same_setting};
-ghost use Rattle.kernel_types.specs.Words.{is_at, is_bridge, is_host_ns, is_owned, is_peer_at, is_veth};
+ghost use Rattle.kernel_types.specs.Words.{is_at, is_bridge, is_host_ns, is_macvlan, is_owned, is_peer_at, is_veth};
 
 use crate::object::{AddrObj, Last, Link, LinkKey, LinkKind, RouteObj, Setting, Tag};
 use cni_addr::{Addr, Text};

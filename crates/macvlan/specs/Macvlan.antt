@@ -10,7 +10,7 @@ use Rattle.kernel_types.specs.declared.call.Call.TheVariants.{MacvlanAdd, AddrAd
 use Rattle.plan_words.specs.Shapes.{macvlan_link, addresses_on, routes_on}
 use Rattle.plan_words.specs.Share.{Share, no_objects}
 use Rattle.host_local.specs.Conf.{routes_of}
-use Rattle.bridge_ptp.specs.Bridge.{interface_kinds}
+use Rattle.bridge_ptp.specs.Kinds.{interface_kinds}
 use Rattle.bridge_ptp.specs.Results.{inner_interface, completed}
 
 abbrev pub macvlan_share_before : MacvlanConf → Att → List ℕ → Share

@@ -28,7 +28,7 @@ use Rattle.plan_words.specs.Share.{Share, share_of, no_objects, share_after_call
 use Rattle.plan_words.proofs.Deletions.{empty_none}
 use Rattle.gc_sweep.proofs.Lists.{list_all-drops}
 use Rattle.host_local.specs.Conf.{ipam_of, range_sets_of}
-use Rattle.bridge_ptp.specs.Bridge.{rule_kinds, lease_kinds}
+use Rattle.bridge_ptp.specs.Kinds.{rule_kinds, lease_kinds}
 use Rattle.cni_verbs.specs.Wanted.{sets_of, calls_before, first_kinds, chained_kinds, chained_kinds_reversed, kinds_of, back_calls}
 use Rattle.pod_workers.proofs.BackCalls.{PassesChained, PassesFirst, passes-back}
 use Rattle.pod_laws.proofs.Removes.{OnlyRemoves}

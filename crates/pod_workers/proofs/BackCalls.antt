@@ -35,7 +35,8 @@ use Rattle.plan_words.specs.Shapes.{address_on, addresses_on, forward_calls, for
 use Rattle.plan_words.proofs.KeyLists.{list_all-append, list_all-each_key_once, list_all-every, list_all-flat, list_all-if, list_all-mapped}
 use Rattle.host_local.specs.Conf.{routes_of}
 use Rattle.host_local.specs.Results.{ip_of}
-use Rattle.bridge_ptp.specs.Bridge.{gateway_calls, lease_kinds, rule_kinds}
+use Rattle.bridge_ptp.specs.Bridge.{gateway_calls}
+use Rattle.bridge_ptp.specs.Kinds.{lease_kinds, rule_kinds}
 use Rattle.bridge_ptp.specs.Gateways.{gateway_call, gateway_of, gateways_on, is_same_gateway}
 use Rattle.bridge_ptp.specs.declared.ptp.AddressOrRoute.{AddressOrRoute}
 use Rattle.bridge_ptp.specs.declared.ptp.AddressOrRoute.TheVariants.{Route}

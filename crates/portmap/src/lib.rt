@@ -4,7 +4,7 @@
 //! `specs/Portmap.antt`; its result is the one before.
 //!
 //! ```text
-//! portmap::calls(alloc, &conf, &att, &mappings, &prev)? // three RuleAppend a mapping
+//! portmap::calls(alloc, &conf, &att, &mappings, &prev)? // for each mapping up to three RuleAppend an address
 //! portmap::count(&conf, mappings.as_slice(), given.as_slice()) // how many they are, without memory
 //! ```
 #![tactic(auto)]
