@@ -4,8 +4,6 @@ use Rattle.std.specs.Str.{is_utf8}
 use Rattle.serde_json.specs.Data.{Data}
 use Rattle.serde_json.specs.Read.{read}
 use Rattle.serde_json.specs.Written.{has_float, compact_text}
-use Rattle.cni_json.specs.Outcome.{GivesAs}
-use Rattle.cni_json.specs.ReadEnds.{is_memory}
 use Rattle.cni_json.specs.declared.reading.ReadEnd.{ReadEnd}
 use Rattle.cni_json.specs.declared.reading.ReadEnd.TheVariants.{Decode, Number}
 
@@ -21,10 +19,6 @@ whole_numbers (Some d) = if has_float d then Err Number else Ok d
 -- the value that the bytes are, or why they are none
 abbrev pub json_of : List ℕ → Result Data ReadEnd
 json_of bytes = whole_numbers (reading bytes)
-
--- the wanted reading is this outcome, with its value seen by `view`, or memory ran out
-abbrev pub ReadsAs : {X Y : Type 0} → (X → Y) → Result X ReadEnd → Result Y ReadEnd → Type 0
-ReadsAs view result wanted = GivesAs is_memory view result wanted
 
 -- the value's compact text and a line feed
 abbrev pub line_of : Data → List ℕ

@@ -1,19 +1,19 @@
--- What a call answers that may run out of memory, beside what is wanted of it. `is_memory` says which errors are want
+-- What a call answers that may run out of memory, beside what is wanted of it. `is_want_of_memory` says which errors are want
 -- of memory.
 use Rattle.std.specs.Prelude.{◌≡◌, Bool, MatchBool, Result, Ok, Err, ⊤}
 
 -- the wanted outcome is the error e, or e is want of memory
 abbrev pub RefusesAs : {Y E : Type 0} → (E → Bool) → E → Result Y E → Type 0
-RefusesAs is_memory e wanted = MatchBool (is_memory e) ⊤ (wanted ≡ Err e)
+RefusesAs is_want_of_memory e wanted = MatchBool (is_want_of_memory e) ⊤ (wanted ≡ Err e)
 
 -- the wanted outcome is this one, with its value seen by `view`, or this one is want of memory
 abbrev pub GivesAs : {X Y E : Type 0} → (E → Bool) → (X → Y) → Result X E → Result Y E → Type 0
-GivesAs is_memory view (Ok x) wanted = wanted ≡ Ok (view x)
-GivesAs is_memory view (Err e) wanted = RefusesAs is_memory e wanted
+GivesAs is_want_of_memory view (Ok x) wanted = wanted ≡ Ok (view x)
+GivesAs is_want_of_memory view (Err e) wanted = RefusesAs is_want_of_memory e wanted
 
 -- the wanted error is e, or e is want of memory: for a call that makes an error
 abbrev pub TellsAs : {E : Type 0} → (E → Bool) → E → E → Type 0
-TellsAs is_memory e wanted = MatchBool (is_memory e) ⊤ (wanted ≡ e)
+TellsAs is_want_of_memory e wanted = MatchBool (is_want_of_memory e) ⊤ (wanted ≡ e)
 
 -- a step and those after it, up to the first error
 infixl 10 ◌>>=◌

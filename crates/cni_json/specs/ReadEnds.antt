@@ -14,7 +14,7 @@ abbrev pub read_end_eq : ReadEnd → ReadEnd → Bool
 read_end_eq a b = read_end_code a == read_end_code b
 
 -- the refusal says that memory ran out
-abbrev pub is_memory : ReadEnd → Bool
-is_memory Decode = false
-is_memory Number = false
-is_memory NoMemory = true
+abbrev pub is_want_of_memory : ReadEnd → Bool
+is_want_of_memory Decode = false
+is_want_of_memory Number = false
+is_want_of_memory NoMemory = true
