@@ -88,6 +88,10 @@ member_or absent wrong read (Here x) = read x
 abbrev pub needed : {A B E : Type 0} → Result B E → (A → Result B E) → Field A → Result B E
 needed wrong read f = member_or wrong wrong read f
 
+-- a value that passes the test; else this
+abbrev pub tested : {A E : Type 0} → Result A E → (A → Bool) → A → Result A E
+tested wrong test x = if test x then Ok x else wrong
+
 -- the value is an object, or is refused
 abbrev pub object_or : {E : Type 0} → Result ⊤ E → Data → Result ⊤ E
 object_or wrong (object ms) = Ok tt
