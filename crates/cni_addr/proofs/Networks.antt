@@ -165,7 +165,7 @@ network_family : (c : CidrValue) → c.addr.family ≡ (network_of c).addr.famil
 unfolding network_of
 network_family c = refl
 
-last_family : (c : CidrValue) → c.addr.family ≡ (last_of c).family
+pub last_family : (c : CidrValue) → c.addr.family ≡ (last_of c).family
 unfolding last_of
 last_family c = refl
 

@@ -64,7 +64,7 @@ pub fn last_of(cidr: &Cidr) -> Addr
     }
 }
 
-// How many addresses share the prefix.
+/// How many addresses share the prefix.
 fn network_size(cidr: &Cidr) -> u128
     ensures { result ≡ network.network_size cidr.now }
 {

@@ -55,7 +55,7 @@ pub fn read_mac(text: &[u8]) -> Option<Mac>
     }
 }
 
-// Whether the text has the length of six pairs with a colon between each two, and has the colons.
+/// Whether the text has the length of six pairs with a colon between each two, and has the colons.
 fn has_colons(text: &[u8]) -> bool
     ensures { result ≡ has_colons text.now }
 {
@@ -67,7 +67,7 @@ fn has_colons(text: &[u8]) -> bool
         && text[14] == b':'
 }
 
-// What stands around the colons.
+/// What stands around the colons.
 fn digits_in(text: &[u8]) -> [u8; 12]
     requires { length text.now ≡ 17 }
     ensures { result ≡ digits_in text.now }
@@ -78,14 +78,14 @@ fn digits_in(text: &[u8]) -> [u8; 12]
     ]
 }
 
-// The place of the first slash.
+/// The place of the first slash.
 fn first_slash(text: &[u8]) -> Option<usize>
     ensures { result ≡ position is_slash text.now }
 {
     text.iter().position(|byte| *byte == b'/')
 }
 
-// The number below 256 that the text writes in decimal.
+/// The number below 256 that the text writes in decimal.
 fn read_prefix(text: &[u8]) -> Option<u8>
     ensures { result ≡ prefix_of_text text.now }
 {
@@ -98,7 +98,7 @@ fn read_prefix(text: &[u8]) -> Option<u8>
     }
 }
 
-// Whether the text begins as a plain number does. `parse` takes a sign and leading zeros too.
+/// Whether the text begins as a plain number does. `parse` takes a sign and leading zeros too.
 fn begins_plainly(text: &[u8]) -> bool
     ensures { result ≡ begins_plainly text.now }
 {

@@ -38,7 +38,7 @@ pub fn write_mac(alloc: Global, mac: &Mac) -> Result<Text, NoMemory>
     Text::of(alloc, join_pairs(alloc, &mac.bytes)?.as_str())
 }
 
-// Each byte as two hex digits, with colons between them.
+/// Each byte as two hex digits, with colons between them.
 fn join_pairs(alloc: Global, bytes: &[u8]) -> Result<String, AllocError>
     ensures { IfOk result (λ t. string_bytes t ≡ join_with_byte colon (map byte_text bytes.now)) }
 {
