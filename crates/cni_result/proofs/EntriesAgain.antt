@@ -16,7 +16,7 @@ use Rattle.cni_addr.specs.declared.mac.Mac.{Mac}
 use Rattle.cni_json.specs.Fields.{field_of, u32_of, needed}
 use Rattle.cni_result.proofs.Lookups.{at_other, at_other_if, at_key_if}
 use Rattle.cni_result.proofs.ReadAgain.{cidr_again, optional_again, number_again}
-use Rattle.cni_result.specs.Fields.{optional, as_it_is}
+use Rattle.cni_result.specs.Fields.{optional}
 use Rattle.cni_result.specs.Laws.{IsInterfaceOf, IsIpEntry, IsRouteEntry}
 use Rattle.cni_result.specs.Members.{text_data, number_data, ◌▷◌, put_if}
 use Rattle.cni_result.specs.Reading.{text_at, text_if_at, cidr_of, cidr_at, addr_if_at, mac_if_at, number_if_at, mtu_if_at, interface_at, ip_at, route_at}
@@ -42,7 +42,7 @@ mac_if_read : (o : Option Mac) → IfSome o IsMac → IfSome o (λ m. mac_of_tex
 mac_if_read None kept = tt
 mac_if_read (Some m) kept = mac_spelled_is_read (mac_text m) m (mac_written_is_spelled m kept)
 
-text_if_read : (o : Option (List ℕ)) → IfSome o (λ t. as_it_is t ≡ Some t)
+text_if_read : (o : Option (List ℕ)) → IfSome o (λ t. Some t ≡ Some t)
 text_if_read None = tt
 text_if_read (Some t) = refl
 
@@ -77,18 +77,18 @@ mac_again version i kept =
 sandbox_again : (version : Version) (i : Interface) → text_if_at (codes "interfaces") (codes "sandbox") (interface_data version i) ≡ Ok i.sandbox
 unfolding text_if_at interface_data
 sandbox_again version i =
-    ap (λ g. optional (codes "interfaces") as_it_is (field_of as_str g))
+    ap (λ g. optional (codes "interfaces") Some (field_of as_str g))
     (at_key_if text_data (codes "sandbox") i.sandbox (up_to_name version i)
     (at_other (codes "sandbox") (codes "name") (text_data i.name) (up_to_mtu version i) refl
     ∙ at_other_if number_data (codes "sandbox") (codes "mtu") (mtu_since_1_1 version i.mtu) (up_to_mac i) refl
     ∙ at_other_if mac_data (codes "sandbox") (codes "mac") i.mac no_members refl))
-    ∙ optional_again (codes "interfaces") as_it_is (λ t. t) i.sandbox (text_if_read i.sandbox)
+    ∙ optional_again (codes "interfaces") Some (λ t. t) i.sandbox (text_if_read i.sandbox)
 
 mtu_again : (version : Version) (i : Interface) → IfSome i.mtu (λ n. n < 2 ^ 32) → mtu_since_1_1 version i.mtu ≡ i.mtu → mtu_if_at version (interface_data version i) ≡ Ok i.mtu
 unfolding number_if_at interface_data
 mtu_again V1_0 i fits told = ap Ok told
 mtu_again V1_1 i fits told =
-    ap (λ g. optional (codes "interfaces") as_it_is (field_of u32_of g))
+    ap (λ g. optional (codes "interfaces") Some (field_of u32_of g))
     (at_other_if text_data (codes "mtu") (codes "sandbox") i.sandbox (up_to_name V1_1 i) refl
     ∙ at_other (codes "mtu") (codes "name") (text_data i.name) (up_to_mtu V1_1 i) refl
     ∙ at_key_if number_data (codes "mtu") i.mtu (up_to_mac i) (at_other_if mac_data (codes "mtu") (codes "mac") i.mac no_members refl))
@@ -127,7 +127,7 @@ gateway_again ip kept =
 index_again : (ip : IpEntry) → IsIpEntry ip → number_if_at (codes "ips") (codes "interface") (ip_data ip) ≡ Ok ip.interface
 unfolding number_if_at ip_data
 index_again ip kept =
-    ap (λ g. optional (codes "ips") as_it_is (field_of u32_of g))
+    ap (λ g. optional (codes "ips") Some (field_of u32_of g))
     (at_key_if number_data (codes "interface") ip.interface (up_to_gateway ip)
     (at_other_if addr_data (codes "interface") (codes "gateway") ip.gateway (up_to_address ip) refl
     ∙ at_other (codes "interface") (codes "address") (cidr_data ip.address) no_members refl))

@@ -9,7 +9,7 @@ use Rattle.serde_json.specs.View.{items_of}
 use Rattle.std.specs.Prelude.{map, Result}
 use Rattle.cni_json.specs.Fields.{field_of, u32_of, object_of}
 use Rattle.cni_result.proofs.Lookups.{text_member, list_member, object_member}
-use Rattle.cni_result.specs.Fields.{optional, list_of, as_it_is}
+use Rattle.cni_result.specs.Fields.{optional, list_of}
 use Rattle.cni_json.specs.Each.{each}
 use Rattle.cni_addr.specs.CidrText.{cidr_of_text}
 use Rattle.cni_addr.specs.Value.{CidrValue}
@@ -29,7 +29,7 @@ optional_again blamed read write None is = refl
 optional_again blamed read write (Some x) is = rw is refl
 
 -- a number that may be absent
-pub number_again : (blamed : List ℕ) (o : Option ℕ) → IfSome o (λ n. n < 2 ^ 32) → optional blamed as_it_is (field_of u32_of (option_map number_data o)) ≡ Ok o
+pub number_again : (blamed : List ℕ) (o : Option ℕ) → IfSome o (λ n. n < 2 ^ 32) → optional blamed Some (field_of u32_of (option_map number_data o)) ≡ Ok o
 number_again blamed None fits = refl
 number_again blamed (Some n) fits = search rules
 

@@ -26,7 +26,3 @@ list_of blamed read f = list_or (invalid blamed) read f
 -- the list under this key, which is to blame
 unfoldable pub list_at : {A : Type 0} → List ℕ → (Data → Result A ResultError) → Data → Result (List A) ResultError
 list_at key read d = list_of key read (list_field key d)
-
--- whatever was found
-abbrev pub as_it_is : {A : Type 0} → A → Option A
-as_it_is x = Some x

@@ -15,7 +15,7 @@ use Rattle.cni_json.specs.declared.fields.Field.{Field}
 use Rattle.cni_json.specs.declared.reading.ReadEnd.{ReadEnd}
 use Rattle.cni_json.specs.declared.reading.ReadEnd.TheVariants as reading
 use Rattle.cni_result.specs.Dns.{dns_of_object}
-use Rattle.cni_result.specs.Fields.{optional, list_at, as_it_is}
+use Rattle.cni_result.specs.Fields.{optional, list_at}
 use Rattle.cni_result.specs.Refusals.{invalid}
 use Rattle.cni_result.specs.Versions.{version_named, tells_mtu}
 use Rattle.cni_result.specs.declared.refusal.ResultError.{ResultError}
@@ -46,7 +46,7 @@ text_at blamed key d = needed (invalid blamed) Ok (text_field key d)
 
 -- a text that may be absent
 unfoldable pub text_if_at : List ℕ → List ℕ → Data → Result (Option (List ℕ)) ResultError
-text_if_at blamed key d = optional blamed as_it_is (text_field key d)
+text_if_at blamed key d = optional blamed Some (text_field key d)
 
 abbrev pub cidr_of : List ℕ → Field (List ℕ) → Result CidrValue ResultError
 cidr_of blamed f = needed (invalid blamed) (λ text. ok_or (cidr_of_text text) (refusal.Invalid blamed)) f
@@ -65,7 +65,7 @@ mac_if_at blamed key d = optional blamed mac_of_text (text_field key d)
 
 -- a number of 32 bits that may be absent
 unfoldable pub number_if_at : List ℕ → List ℕ → Data → Result (Option ℕ) ResultError
-number_if_at blamed key d = optional blamed as_it_is (u32_field key d)
+number_if_at blamed key d = optional blamed Some (u32_field key d)
 
 -- `mtu` is passed over where the version doesn't tell it
 abbrev pub mtu_if_at : Version → Data → Result (Option ℕ) ResultError
@@ -130,14 +130,14 @@ result_at d = do
   Ok (record { version = version; interfaces = interfaces; ips = ips; routes = routes; dns = dns })
 
 -- the value that was read
-abbrev pub decoded : Result Data ReadEnd → Result Data ResultError
-decoded (Ok d) = Ok d
-decoded (Err reading.Decode) = Err refusal.Decode
-decoded (Err reading.Number) = invalid (codes "number")
-decoded (Err reading.NoMemory) = Err refusal.NoMemory
+abbrev pub read_or_refused : Result Data ReadEnd → Result Data ResultError
+read_or_refused (Ok d) = Ok d
+read_or_refused (Err reading.Decode) = Err refusal.Decode
+read_or_refused (Err reading.Number) = invalid (codes "number")
+read_or_refused (Err reading.NoMemory) = Err refusal.NoMemory
 
 -- the result that the bytes are
 unfoldable pub result_of_bytes : List ℕ → Result AddResult ResultError
 result_of_bytes bytes = do
-  d ← decoded (json_of bytes)
+  d ← read_or_refused (json_of bytes)
   result_at d

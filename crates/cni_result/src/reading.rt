@@ -4,7 +4,7 @@ ghost use Rattle.std.specs.Prelude.{◌≡◌};
 ghost use Rattle.serde_json.specs.View.{view};
 ghost use Rattle.cni_json.specs.Json.{json_of};
 ghost use Rattle.cni_json.specs.Outcome.{GivesAs};
-ghost use Rattle.cni_result.specs.Reading.{version_at, is_on_one_of, are_on, indexes_at, result_at, decoded, result_of_bytes};
+ghost use Rattle.cni_result.specs.Reading.{version_at, is_on_one_of, are_on, indexes_at, result_at, read_or_refused, result_of_bytes};
 ghost use Rattle.cni_result.specs.Refusals.{is_want_of_memory};
 
 use crate::dns::read_dns;
@@ -31,7 +31,7 @@ pub fn read_result(alloc: Global, bytes: &[u8]) -> Result<AddResult, ResultError
 }
 
 fn decode(alloc: Global, bytes: &[u8]) -> Result<Value, ResultError>
-    ensures { GivesAs is_want_of_memory view result (decoded (json_of bytes.now)) }
+    ensures { GivesAs is_want_of_memory view result (read_or_refused (json_of bytes.now)) }
 {
     match read(alloc, bytes) {
         Ok(value) => Ok(value),
@@ -71,7 +71,7 @@ fn version(alloc: Global, top: &Value) -> Result<Version, ResultError>
     }
 }
 
-// Each address is on an interface of the list, or on none.
+/// Each address is on an interface of the list, or on none.
 #[tactic(auto, using(cni_json::proofs::Steps::steps), unfolding(crate::specs::Reading::indexes_at))]
 fn indexes(alloc: Global, count: usize, ips: &[IpEntry]) -> Result<(), ResultError>
     ensures { GivesAs is_want_of_memory (λ unit. unit) result (indexes_at count ips.now) }
