@@ -2,7 +2,6 @@
 -- begins with. The titles are this project's own, and so are the codes from 100 on.
 use Rattle.std.specs.Prelude.{ℕ, List, [], ◌++◌, codes}
 use Rattle.cni_result.specs.declared.error.CniError.{CniError}
-use Rattle.cni_result.specs.declared.version.Version.{Version}
 use Rattle.cni_result.specs.declared.version.Version.TheVariants.{V1_1}
 use Rattle.cni_verbs.specs.declared.error_kind.ErrorKind.{ErrorKind}
 use Rattle.cni_verbs.specs.declared.error_kind.ErrorKind.TheVariants.{IncompatibleVersion, UnsupportedField, ContainerUnknown, InvalidVariables, DecodingFailed, InvalidList, InvalidPodFile, NotAvailable, NamespaceMissing, NameTaken, PoolEmpty, KernelFault, OutOfMemory, NothingThere, CheckFailed}
@@ -53,12 +52,13 @@ message_of_field key value = error_kind_title UnsupportedField ++ (codes " " ++ 
 
 -- ---- errors without details
 
-abbrev pub plain_error : Version → ErrorKind → List ℕ → CniError
-plain_error version kind msg = record { version = version; code = error_kind_code kind; msg = msg; details = [] }
+-- one that belongs to no list, in the newest version
+abbrev pub plain_error : ErrorKind → List ℕ → CniError
+plain_error kind msg = record { version = V1_1; code = error_kind_code kind; msg = msg; details = [] }
 
--- one in the newest version that says no more than its title
+-- one that says no more than its title
 abbrev pub titled_error : ErrorKind → CniError
-titled_error kind = plain_error V1_1 kind (error_kind_title kind)
+titled_error kind = plain_error kind (error_kind_title kind)
 
 -- the error of what was refused memory
 abbrev pub memory_error : CniError

@@ -114,32 +114,27 @@ pub fn message_of_field(alloc: Global, key: &str, value: &str) -> Result<Text, N
     Text::of(alloc, format!(in alloc; "{title} {key}: {value}")?.as_str())
 }
 
-/// An error without details.
-pub fn plain_error(
-    alloc: Global,
-    version: Version,
-    kind: ErrorKind,
-    msg: Text,
-) -> Result<CniError, NoMemory>
-    ensures { IfOk result (λ error. error ≡ kinds.plain_error version kind msg) }
+/// An error without details that belongs to no list, in the newest version.
+pub fn plain_error(alloc: Global, kind: ErrorKind, msg: Text) -> Result<CniError, NoMemory>
+    ensures { IfOk result (λ error. error ≡ kinds.plain_error kind msg) }
 {
     Ok(CniError {
-        version,
+        version: Version::V1_1,
         code: kind.code(),
         msg,
         details: Text::of(alloc, "")?,
     })
 }
 
-/// An error in the newest version that says no more than its title.
+/// One that says no more than its title.
 pub fn titled_error(alloc: Global, kind: ErrorKind) -> Result<CniError, NoMemory>
     ensures { IfOk result (λ error. error ≡ kinds.titled_error kind) }
 {
     let msg = kind.message(alloc)?;
-    plain_error(alloc, Version::V1_1, kind, msg)
+    plain_error(alloc, kind, msg)
 }
 
-/// The error of what was refused memory, in the newest version.
+/// The error of what was refused memory.
 pub fn memory_error(alloc: Global) -> Result<CniError, NoMemory>
     ensures { IfOk result (λ error. error ≡ kinds.memory_error) }
 {

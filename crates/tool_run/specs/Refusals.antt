@@ -2,7 +2,6 @@
 -- own.
 use Rattle.std.specs.Prelude.{ℕ, List, [], ◌++◌, codes, decimal, slice_index_or}
 use Rattle.cni_result.specs.declared.error.CniError.{CniError}
-use Rattle.cni_result.specs.declared.version.Version.TheVariants.{V1_1}
 use Rattle.cni_verbs.specs.ErrorKinds.{message_about, message_of_field, plain_error, titled_error, memory_error}
 use Rattle.cni_verbs.specs.declared.error_kind.ErrorKind.{ErrorKind}
 use Rattle.cni_verbs.specs.declared.error_kind.ErrorKind.TheVariants as kinds
@@ -16,7 +15,7 @@ use Rattle.tool_words.specs.declared.words.Words.{Words}
 
 -- an error of this kind about this
 abbrev pub error_about : ErrorKind → List ℕ → CniError
-error_about kind what = plain_error V1_1 kind (message_about kind what)
+error_about kind what = plain_error kind (message_about kind what)
 
 abbrev pub invalid_list : List ℕ → CniError
 invalid_list why = error_about kinds.InvalidList why
@@ -26,7 +25,7 @@ invalid_pods why = error_about kinds.InvalidPodFile why
 
 abbrev pub list_error : ConfError → CniError
 list_error (conf.Version found) = error_about kinds.IncompatibleVersion found
-list_error (conf.Unsupported key value) = plain_error V1_1 kinds.UnsupportedField (message_of_field key value)
+list_error (conf.Unsupported key value) = plain_error kinds.UnsupportedField (message_of_field key value)
 list_error conf.Decode = titled_error kinds.DecodingFailed
 list_error (conf.Invalid why) = invalid_list why
 list_error conf.NoMemory = memory_error

@@ -5,7 +5,7 @@ ghost use Rattle.tool_run.specs.Refusals as refusals;
 ghost use Rattle.tool_run.specs.Refusals.{error_about, file_at_fault, list_error, plan_error, pods_error};
 
 use cni_addr::NoMemory;
-use cni_result::{CniError, Version};
+use cni_result::CniError;
 use cni_verbs::{ErrorKind, memory_error, message_of_field, plain_error, titled_error};
 use net_conf::ConfError;
 use pod_file::PodError;
@@ -75,14 +75,14 @@ fn error_about(alloc: Global, kind: ErrorKind, what: &str) -> Result<CniError, N
     ensures { IfOk result (λ e. e ≡ error_about kind what.now) }
 {
     let msg = kind.message_about(alloc, what)?;
-    plain_error(alloc, Version::V1_1, kind, msg)
+    plain_error(alloc, kind, msg)
 }
 
 fn unsupported(alloc: Global, key: &str, value: &str) -> Result<CniError, NoMemory>
     ensures { IfOk result (λ e. e ≡ list_error (ConfError.Unsupported key.now value.now)) }
 {
     let msg = message_of_field(alloc, key, value)?;
-    plain_error(alloc, Version::V1_1, ErrorKind::UnsupportedField, msg)
+    plain_error(alloc, ErrorKind::UnsupportedField, msg)
 }
 
 fn invalid_list(alloc: Global, why: &str) -> Result<CniError, NoMemory>
