@@ -1,5 +1,5 @@
 -- What a run keeps in place of its script's state: how many of each list of the plan are behind it.
-use Rattle.std.specs.Prelude.{◌≡◌, ℕ, ◌<◌, ◌≤◌, ◌^◌, List, [], ◌∷◌, length, drop, Option, Some, None, MatchOption, ⊤}
+use Rattle.std.specs.Prelude.{◌≡◌, ℕ, ◌<◌, ◌≤◌, ◌^◌, List, [], ◌∷◌, length, drop, Option, Some, None, IfSome, ⊤}
 use Rattle.cni_addr.specs.declared.address.Addr.{Addr}
 use Rattle.cni_result.specs.declared.cached.Cached.{Cached}
 use Rattle.net_conf.specs.declared.list.NetList.{NetList}
@@ -72,11 +72,11 @@ Stands calls sets made given phase = ⊤
 
 -- where the questions are prepared, they are those of what is asked about
 abbrev pub HasQuestionsOf : NetList → Command → Inquiry → Type 0
-HasQuestionsOf list c inquiry = MatchOption inquiry.questions ⊤ (λ questions. questions ≡ questions_about list c inquiry.about)
+HasQuestionsOf list c inquiry = IfSome inquiry.questions (λ questions. questions ≡ questions_about list c inquiry.about)
 
 -- where the calls after the leases are prepared, they are those of these addresses
 abbrev pub HasCallsOf : NetList → Command → List Addr → Option (List Call) → Type 0
-HasCallsOf list c given prepared = MatchOption prepared ⊤ (λ calls. calls ≡ back_of list c given)
+HasCallsOf list c given prepared = IfSome prepared (λ calls. calls ≡ back_of list c given)
 
 -- what the phase has prepared is its own
 abbrev pub IsPrepared : NetList → Command → List Addr → Phase → Type 0

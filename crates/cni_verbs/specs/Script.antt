@@ -1,7 +1,7 @@
 -- What a verb calls and what it answers, as a function of the list, the command and all replies so far.
-use Rattle.std.specs.Prelude.{ℕ, ◌+◌, Bool, true, false, List, [], ◌∷◌, ◌++◌, length, filter_map, Option, Some, None, option_map, unwrap_or, is_some, MatchOption, ⊤, if◌then◌else◌}
+use Rattle.std.specs.Prelude.{ℕ, ◌+◌, Bool, true, false, List, [], ◌∷◌, ◌++◌, length, filter_map, Option, Some, None, option_map, is_some, MatchOption, ⊤, if◌then◌else◌}
 use Rattle.std.specs.Bool.{then_some}
-use Rattle.std.specs.Option.{option_or}
+use Rattle.std.specs.Option.{option_map_or, option_or}
 use Rattle.cni_addr.specs.declared.address.Addr.{Addr}
 use Rattle.cni_addr.specs.declared.range.RangeSet.{RangeSet}
 use Rattle.cni_result.specs.declared.cached.Cached.{Cached}
@@ -313,7 +313,7 @@ pub data Turn : Type 0 where
   Finishes : (finish : Finish) → Turn
 
 abbrev pub turn_of_work : List ℕ → List Job → List Sweep → List ℕ → Turn
-turn_of_work network jobs sweeps faults = unwrap_or (option_map Calls (call_of_work network jobs sweeps)) (Finishes (swept_finish faults))
+turn_of_work network jobs sweeps faults = option_map_or Calls (call_of_work network jobs sweeps) (Finishes (swept_finish faults))
 
 abbrev pub turn_by_act : Command → Act → Turn
 turn_by_act c (Makes call_of) = Calls (call_of c)
