@@ -167,11 +167,7 @@ fn after_entry(number: u64, reply: Reply) -> Phase
     ensures { (list : NetList) (c : Command) (addrs : List Addr) → IsPhaseOf list c number addrs result (script.at_entry list c number reply) }
 {
     match reply {
-        Reply::Entry(Some(cached)) => Phase::Asking(Inquiry {
-            about: Some(cached),
-            passed: 0,
-            questions: None,
-        }),
+        Reply::Entry(Some(cached)) => Phase::asking(Some(cached)),
         Reply::Entry(None) => Phase::refused(Cause::Unknown),
         _ => Phase::refused(Cause::Fault(number)),
     }

@@ -1,10 +1,11 @@
 //! How far a run has come.
 
-ghost use Rattle.std.specs.Prelude.{◌≡◌};
+ghost use Rattle.std.specs.Prelude.{◌≡◌, None};
 
 use crate::answer::{Cause, Ending};
 use crate::inquiry::Inquiry;
 use cni_addr::Items;
+use cni_result::Cached;
 use kernel_types::Call;
 
 /// What a run does next. The numbers say how much of a list of its plan is behind it.
@@ -42,5 +43,16 @@ impl Phase {
         ensures { result ≡ Phase.Over (Ending.Refused cause) }
     {
         Phase::Over(Ending::Refused(cause))
+    }
+
+    /// The first question is next, of what a CHECK asks about this cached entry, or a STATUS about none.
+    pub(crate) fn asking(about: Option<Cached>) -> Phase
+        ensures { result ≡ Phase.Asking (record { about = about; passed = 0; questions = None }) }
+    {
+        Phase::Asking(Inquiry {
+            about,
+            passed: 0,
+            questions: None,
+        })
     }
 }

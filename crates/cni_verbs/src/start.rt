@@ -13,7 +13,6 @@ ghost use Rattle.cni_verbs.specs.declared.answer.Ending.TheVariants as ending;
 ghost use Rattle.cni_verbs.specs.Phases.{IsPhaseOf, state_outside};
 
 use crate::answer::{Cause, Ending, Skip};
-use crate::inquiry::Inquiry;
 use crate::phase::Phase;
 use crate::words::{add_refusal, del_refusal, drop_refusal, netns_refusal};
 use cni_addr::{Duplicate, NoMemory};
@@ -81,11 +80,7 @@ fn first_of_status(list: &NetList) -> Phase
 {
     match old_ending(list.version) {
         Some(ending) => Phase::Over(ending),
-        None => Phase::Asking(Inquiry {
-            about: None,
-            passed: 0,
-            questions: None,
-        }),
+        None => Phase::asking(None),
     }
 }
 
