@@ -98,16 +98,12 @@ any_fault faults = faults.container || (faults.netns || (faults.ifname || faults
 abbrev pub no_faults : WordFaults
 no_faults = record { container = false; netns = false; ifname = false; args = false }
 
-abbrev pub add_faults : Command → WordFaults
-add_faults c = record {
-  container = not (is_container_id c.container);
-  netns = is_host_ns c.netns;
-  ifname = not (is_interface_name c.ifname);
-  args = not (are_arguments c.args);
-}
-
 abbrev pub del_faults : Command → WordFaults
 del_faults c = record no_faults { container = not (is_container_id c.container); ifname = not (is_interface_name c.ifname) }
+
+-- an ADD needs a namespace and arguments besides
+abbrev pub add_faults : Command → WordFaults
+add_faults c = record (del_faults c) { netns = is_host_ns c.netns; args = not (are_arguments c.args) }
 
 abbrev pub refusal_by : WordFaults → Option Cause
 refusal_by faults = if any_fault faults then Some (BadWords faults) else None

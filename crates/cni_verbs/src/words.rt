@@ -244,17 +244,6 @@ fn no_faults() -> WordFaults
     }
 }
 
-fn add_faults(command: &Command) -> WordFaults
-    ensures { result ≡ words.add_faults command.now }
-{
-    WordFaults {
-        container: !is_container_id(command.container.as_str()),
-        netns: is_host_ns(&command.netns),
-        ifname: !is_interface_name(command.ifname.as_str()),
-        args: !are_arguments(command.args.as_str()),
-    }
-}
-
 fn del_faults(command: &Command) -> WordFaults
     ensures { result ≡ words.del_faults command.now }
 {
@@ -262,6 +251,16 @@ fn del_faults(command: &Command) -> WordFaults
         container: !is_container_id(command.container.as_str()),
         ifname: !is_interface_name(command.ifname.as_str()),
         ..no_faults()
+    }
+}
+
+fn add_faults(command: &Command) -> WordFaults
+    ensures { result ≡ words.add_faults command.now }
+{
+    WordFaults {
+        netns: is_host_ns(&command.netns),
+        args: !are_arguments(command.args.as_str()),
+        ..del_faults(command)
     }
 }
 
