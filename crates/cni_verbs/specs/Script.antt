@@ -171,13 +171,12 @@ advance list c number (Over ending given) r = Over ending given
 
 -- ---- the start
 
-abbrev pub unless_refused : Option Cause → State → State
-unless_refused None state = state
-unless_refused (Some cause) state = refused cause
-
 abbrev pub unless_ended : Option Ending → State → State
 unless_ended None state = state
 unless_ended (Some ending) state = Over ending []
+
+abbrev pub unless_refused : Option Cause → State → State
+unless_refused cause state = unless_ended (option_map Refused cause) state
 
 -- how a list ends a verb that came with version 1.1.0, where it is older
 abbrev pub old_ending : Version → Option Ending
