@@ -12,7 +12,7 @@ use Rattle.cni_verbs.specs.Wanted.{sets_of, kinds_of, deletion}
 use Rattle.cni_verbs.specs.Script as script
 use Rattle.cni_verbs.specs.Script.{State, Finish, before_of, back_of, next_call, finish_of}
 use Rattle.cni_verbs.specs.Phases.{Stands, IsPrepared, KeepsPlan, KeepsPlanBy, IsPhaseOf, IsSameButPrepared, denied, questions_about, questions_left, state_in, state_outside, state_by_phase}
-use Rattle.cni_verbs.specs.Progress.{answer_by}
+use Rattle.cni_verbs.specs.Progress.{answer_in}
 use Rattle.cni_verbs.specs.declared.answer.Ending.{Ending}
 use Rattle.cni_verbs.specs.declared.answer.Ending.TheVariants.{Yes, Refused}
 use Rattle.cni_verbs.specs.declared.answer.Question.{Question}
@@ -200,5 +200,5 @@ pub outside_next : (list : Option NetList) (c : Command) (addrs : List Addr) (ph
 outside_next list c addrs phase none = sym (ap (λ l. next_call c (state_by_phase l c addrs phase)) none)
 
 pub outside_finish : (list : Option NetList) (c : Command) (addrs : List Addr) (phase : Phase) → list ≡ None
-    → option_map (answer_by None c) (finish_of (state_outside phase)) ≡ option_map (answer_by list c) (finish_of (state_by_phase list c addrs phase))
-outside_finish list c addrs phase none = sym (ap (λ l. option_map (answer_by l c) (finish_of (state_by_phase l c addrs phase))) none)
+    → answer_in None c (state_outside phase) ≡ answer_in list c (state_by_phase list c addrs phase)
+outside_finish list c addrs phase none = sym (ap (λ l. answer_in l c (state_by_phase l c addrs phase)) none)

@@ -1,12 +1,12 @@
 -- How far the run of a command has come.
-use Rattle.std.specs.Prelude.{ℕ, ◌+◌, Bool, true, false, List, length, Option, Some, None}
+use Rattle.std.specs.Prelude.{ℕ, ◌+◌, Bool, true, false, List, length, Option, Some, None, option_map}
 use Rattle.net_conf.specs.declared.list.NetList.{NetList}
 use Rattle.pod_file.specs.declared.command.Command.{Command}
 use Rattle.pod_file.specs.declared.command.Verb.{Verb}
 use Rattle.pod_file.specs.declared.command.Verb.TheVariants as verbs
 use Rattle.kernel_types.specs.declared.call.Reply.{Reply}
 use Rattle.cni_verbs.specs.Answers.{answer_of, answer_outside}
-use Rattle.cni_verbs.specs.Script.{State, Turn, Finish, turn, state_after, advance, outside_after, outside_advance}
+use Rattle.cni_verbs.specs.Script.{State, Turn, Finish, turn, finish_of, state_after, advance, outside_after, outside_advance}
 use Rattle.cni_verbs.specs.declared.answer.Answer.{Answer}
 
 -- a garbage collection, which keeps more than a run does
@@ -51,3 +51,10 @@ turn_by list c rs = turn c (state_by list c rs)
 abbrev pub answer_by : Option NetList → Command → Finish → Answer
 answer_by None c finish = answer_outside c finish
 answer_by (Some list) c finish = answer_of list c finish
+
+-- what a run in this state is answered, where it is over
+abbrev pub answer_in : Option NetList → Command → State → Option Answer
+answer_in list c s = option_map (answer_by list c) (finish_of s)
+
+abbrev pub answer_at : Progress → Option Answer
+answer_at p = answer_in p.list p.command p.state

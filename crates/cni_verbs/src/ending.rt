@@ -1,12 +1,12 @@
 //! What a run answers at its end.
 
-ghost use Rattle.std.specs.Prelude.{◌≡◌, ℕ, List, Some, None, drop, slice_get, option_map, IfOk};
+ghost use Rattle.std.specs.Prelude.{◌≡◌, ℕ, List, Some, None, drop, slice_get, IfOk};
 ghost use Rattle.std.specs.Option.{option_copied};
 ghost use Rattle.kernel_types.specs.declared.call.Call.{Call};
 ghost use Rattle.kernel_types.specs.declared.call.Kind.{Kind};
-ghost use Rattle.cni_verbs.specs.Script.{IsOpen, finish_of};
+ghost use Rattle.cni_verbs.specs.Script.{IsOpen};
 ghost use Rattle.cni_verbs.specs.Answers.{answer_of_ending, plain_answer};
-ghost use Rattle.cni_verbs.specs.Progress as progress;
+ghost use Rattle.cni_verbs.specs.Progress.{answer_in};
 ghost use Rattle.cni_verbs.specs.Phases.{KeepsPlan, HasQuestionsOf, denied, questions_left, state_in, state_outside};
 
 use crate::answer::{Answer, Ending, Question};
@@ -85,7 +85,7 @@ fn denied_at(
     questions: &[Question],
     place: usize,
 ) -> Result<Answer, NoMemory>
-    ensures { IfOk result (λ answer. Some answer ≡ option_map (progress.answer_by (Some list.now) command.now) (finish_of (denied (drop place questions.now)))) }
+    ensures { IfOk result (λ answer. Some answer ≡ answer_in (Some list.now) command.now (denied (drop place questions.now))) }
 {
     match question_at(questions, place) {
         Some(question) => refused(alloc, list.version, command, &question.lack),
@@ -100,7 +100,7 @@ fn denied(
     inquiry: &Inquiry,
 ) -> Result<Answer, NoMemory>
     requires { HasQuestionsOf list.now command.now inquiry.now }
-    ensures { IfOk result (λ answer. Some answer ≡ option_map (progress.answer_by (Some list.now) command.now) (finish_of (denied (questions_left list.now command.now inquiry.now)))) }
+    ensures { IfOk result (λ answer. Some answer ≡ answer_in (Some list.now) command.now (denied (questions_left list.now command.now inquiry.now))) }
 {
     let questions = questions_of(alloc, list, command, inquiry)?;
     denied_at(alloc, list, command, questions.as_slice(), inquiry.passed)
@@ -115,7 +115,7 @@ fn answer_at_end(
 ) -> Result<Answer, NoMemory>
     requires kept { (before : List Call) × (kinds : List Kind) × (room : ℕ) × (made : ℕ) × KeepsPlan list.now command.now before kinds room made given.now phase.now }
     requires over { IsOpen (state_in list.now command.now given.now phase.now) → ⊥ }
-    ensures { IfOk result (λ answer. Some answer ≡ option_map (progress.answer_by (Some list.now) command.now) (finish_of (state_in list.now command.now given.now phase.now))) }
+    ensures { IfOk result (λ answer. Some answer ≡ answer_in (Some list.now) command.now (state_in list.now command.now given.now phase.now)) }
 {
     match phase {
         Phase::AfterLeases { .. } => ended(alloc, list, command, &Ending::Added, given),
@@ -142,7 +142,7 @@ pub(crate) fn answer_of(
     phase: &Phase,
 ) -> Result<Option<Answer>, NoMemory>
     requires { (before : List Call) × (room : ℕ) × (made : ℕ) × KeepsPlan list.now command.now before kinds.now room made given.now phase.now }
-    ensures { IfOk result (λ answer. answer ≡ option_map (progress.answer_by (Some list.now) command.now) (finish_of (state_in list.now command.now given.now phase.now))) }
+    ensures { IfOk result (λ answer. answer ≡ answer_in (Some list.now) command.now (state_in list.now command.now given.now phase.now)) }
 {
     if is_over(list, command, kinds, given, phase) {
         Ok(Some(answer_at_end(alloc, list, command, given, phase)?))
@@ -160,7 +160,7 @@ pub(crate) fn answer_outside(
     command: &Command,
     phase: &Phase,
 ) -> Result<Option<Answer>, NoMemory>
-    ensures { IfOk result (λ answer. answer ≡ option_map (progress.answer_by None command.now) (finish_of (state_outside phase.now))) }
+    ensures { IfOk result (λ answer. answer ≡ answer_in None command.now (state_outside phase.now)) }
 {
     if !is_over_outside(phase) {
         return Ok(None);

@@ -1,11 +1,11 @@
 //! One command's run, a call at a time.
 
-ghost use Rattle.std.specs.Prelude.{◌≡◌, ◌+◌, ◌<◌, ◌≤◌, ◌^◌, is_some, false, true, [], None, Some, IfOk, length, option_map, vec_capacity};
+ghost use Rattle.std.specs.Prelude.{◌≡◌, ◌+◌, ◌<◌, ◌≤◌, ◌^◌, is_some, false, true, [], None, Some, IfOk, length, vec_capacity};
 ghost use Rattle.std.specs.Bool.{FalseIff};
 ghost use Rattle.std.specs.Option.{option_copied};
-ghost use Rattle.cni_verbs.specs.Progress.{is_gc, progress, advanced, answer_by};
+ghost use Rattle.cni_verbs.specs.Progress.{is_gc, progress, advanced, answer_at};
 ghost use Rattle.cni_verbs.specs.Phases.{IsPhaseOf, state_outside};
-ghost use Rattle.cni_verbs.specs.Script.{IsOpen, before_of, start_state, outside_start, next_call, finish_of};
+ghost use Rattle.cni_verbs.specs.Script.{IsOpen, before_of, start_state, outside_start, next_call};
 ghost use Rattle.cni_verbs.specs.Wanted.{sets_of, kinds_of};
 
 use crate::advance::{after, after_outside};
@@ -235,7 +235,7 @@ impl Run {
 
     /// What the command is answered, where the run is over.
     pub fn answer(&self) -> Result<Option<Answer>, NoMemory>
-        ensures { IfOk result (λ answer. answer ≡ option_map (answer_by self.now.list self.now.command) (finish_of self.now.state)) }
+        ensures { IfOk result (λ answer. answer ≡ answer_at self.now) }
     {
         let alloc = *self.given.allocator();
         match &self.list {

@@ -13,7 +13,7 @@ use Rattle.kernel_types.specs.declared.call.Kind.{Kind}
 use Rattle.kernel_types.specs.declared.call.Reply.{Reply}
 use Rattle.kernel_types.specs.Replies.{is_fault}
 use Rattle.cni_verbs.specs.Answers.{answer_of, error_of, plain_answer}
-use Rattle.cni_verbs.specs.Progress.{Progress, is_gc, advanced, answer_by}
+use Rattle.cni_verbs.specs.Progress.{Progress, is_gc, advanced, answer_by, answer_in}
 use Rattle.cni_verbs.specs.Script.{State, Collecting, IsOpen, collecting, early_ending, start_state, start_of, advance, next_call, call_of_work, finish_of, finish_of_work, gc_of, faults_after}
 use Rattle.cni_verbs.specs.Sweep.{Job, Sweep, Work, start_work, work_after}
 use Rattle.cni_verbs.specs.Wanted.{kinds_of}
@@ -109,11 +109,8 @@ taken list c made ks ls valid p q faults more r opened ks_is ls_is valid_is work
 
 -- ---- the answer
 
-abbrev answer_in : NetList → Command → State → Option Answer
-answer_in list c s = option_map (answer_by (Some list) c) (finish_of s)
-
 pub answers_early : (list : NetList) (c : Command) (w : Work) (faults : List ℕ) (version : Version) (disabled : Bool) (ending : Ending) → early_ending version disabled ≡ Some ending
-    → Some (plain_answer list.version c ending) ≡ answer_in list c (collecting version disabled w faults)
+    → Some (plain_answer list.version c ending) ≡ answer_in (Some list) c (collecting version disabled w faults)
 unfolding finish_of answer_of
 answers_early list c w faults V1_0 disabled ending is = ap (λ e. Some (plain_answer list.version c e)) (same_Some ending (endings.Refused (causes.TooOld V1_0)) (sym is))
 answers_early list c w faults V1_1 true ending is = ap (λ e. Some (plain_answer list.version c e)) (same_Some ending (endings.Skipped skips.Gc) (sym is))
@@ -124,7 +121,7 @@ unfolding finish_of
 finish_working w faults = refl
 
 pub answers_late : (list : NetList) (c : Command) (p : SweepPlace) (faults : List ℕ) (ks : List Kind) → ks ≡ kinds_of list → is_early list.version list.disable_gc ≡ false
-    → option_map (answer_by (Some list) c) (finish_of_work (jobs_left ks p) (sweeps_after ks p.stage) faults) ≡ answer_in list c (collecting list.version list.disable_gc (work_of (kinds_of list) p) faults)
+    → option_map (answer_by (Some list) c) (finish_of_work (jobs_left ks p) (sweeps_after ks p.stage) faults) ≡ answer_in (Some list) c (collecting list.version list.disable_gc (work_of (kinds_of list) p) faults)
 answers_late list c p faults ks same h =
     let w = work_of (kinds_of list) p in
     ap (λ k. option_map (answer_by (Some list) c) (finish_of_work (jobs_left k p) (sweeps_after k p.stage) faults)) same

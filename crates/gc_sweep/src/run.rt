@@ -3,8 +3,8 @@
 ghost use Rattle.std.specs.Prelude.{◌≡◌, ◌+◌, ◌<◌, ◌^◌, IfOk, OnOk, OnErr, IsOk, Some, None, [], false, true, option_map};
 ghost use Rattle.std.specs.Bool.{FalseIff};
 ghost use Rattle.kernel_types.specs.Replies.{is_fault};
-ghost use Rattle.cni_verbs.specs.Progress.{is_gc, progress, advanced, answer_by};
-ghost use Rattle.cni_verbs.specs.Script.{IsOpen, next_call, finish_of, finish_of_work, faults_after};
+ghost use Rattle.cni_verbs.specs.Progress.{is_gc, progress, advanced, answer_at, answer_by};
+ghost use Rattle.cni_verbs.specs.Script.{IsOpen, next_call, finish_of_work, faults_after};
 ghost use Rattle.gc_sweep.specs.View.{is_early, jobs_left, sweeps_after, IsPlace};
 
 use crate::place::{SweepPlace, next_call, take};
@@ -104,7 +104,7 @@ impl GcRun {
     /// What the command is answered, where the run is over. A fault doesn't end a collection: the error names each call
     /// that was one.
     pub fn answer(&self) -> Result<Option<Answer>, NoMemory>
-        ensures { IfOk result (λ answer. answer ≡ option_map (answer_by self.now.list self.now.command) (finish_of self.now.state)) }
+        ensures { IfOk result (λ answer. answer ≡ answer_at self.now) }
     {
         let alloc = *self.place.owners.allocator();
         match early_ending(&self.list) {

@@ -1,10 +1,10 @@
 //! What carries a command on: the run of a verb, or of a garbage collection.
 
-ghost use Rattle.std.specs.Prelude.{◌≡◌, ◌+◌, ◌<◌, ◌^◌, [], false, true, IfOk, IsOk, OnErr, OnOk, is_some, option_map};
+ghost use Rattle.std.specs.Prelude.{◌≡◌, ◌+◌, ◌<◌, ◌^◌, [], false, true, IfOk, IsOk, OnErr, OnOk, is_some};
 ghost use Rattle.std.specs.Bool.{FalseIff};
 ghost use Rattle.std.specs.Option.{option_copied};
-ghost use Rattle.cni_verbs.specs.Progress.{advanced, answer_by, is_gc, progress};
-ghost use Rattle.cni_verbs.specs.Script.{IsOpen, finish_of, next_call};
+ghost use Rattle.cni_verbs.specs.Progress.{advanced, answer_at, is_gc, progress};
+ghost use Rattle.cni_verbs.specs.Script.{IsOpen, next_call};
 ghost use Rattle.kernel_types.specs.Replies.{is_fault};
 
 use cni_addr::NoMemory;
@@ -115,7 +115,7 @@ impl Task {
 
     /// What the command is answered, where the run is over.
     pub fn answer(&self) -> Result<Option<Answer>, NoMemory>
-        ensures { IfOk result (λ answer. answer ≡ option_map (answer_by self.now.list self.now.command) (finish_of self.now.state)) }
+        ensures { IfOk result (λ answer. answer ≡ answer_at self.now) }
     {
         match &self.run {
             Carried::Verb(run) => run.answer(),

@@ -1,7 +1,5 @@
 use Rattle.std.proofs.Common.{◌∙◌, ap}
-use Rattle.std.specs.Prelude.{option_map}
-use Rattle.cni_verbs.specs.Progress.{answer_by}
-use Rattle.cni_verbs.specs.Script.{finish_of}
+use Rattle.cni_verbs.specs.Progress.{answer_at}
 use Rattle.cni_verbs.proofs.NextCalls.{ok_by, outside_finish}
 use Rattle.cni_verbs.proofs.run.Run.answer.Goals as goal
 
@@ -9,5 +7,5 @@ pub returns-in-None : goal.returns-in-None
 returns-in-None c =
     ok_by c.answer_outside.result
     (outside_finish c.self.inside.list c.self.inside.command c.self.inside.given.items c.self.inside.phase c.in-None.is
-    ∙ ap (λ p. option_map (answer_by p.list p.command) (finish_of p.state)) c.self.view_is)
+    ∙ ap answer_at c.self.view_is)
     c.answer_outside.ensures
