@@ -24,7 +24,8 @@ use Rattle.cni_verbs.specs.declared.answer.Ending.{Ending}
 use Rattle.cni_verbs.specs.declared.answer.Ending.TheVariants as endings
 use Rattle.cni_verbs.specs.declared.answer.Skip.TheVariants as skips
 use Rattle.pod_file.specs.declared.command.ValidAtt.{ValidAtt}
-use Rattle.gc_sweep.specs.View.{HasTaken, is_early, progress_of, work_of, has_no_work, jobs_left, sweeps_after}
+use Rattle.gc_sweep.specs.Sweep.{is_early}
+use Rattle.gc_sweep.specs.View.{HasTaken, progress_of, work_of, has_no_work, jobs_left, sweeps_after}
 use Rattle.gc_sweep.specs.declared.place.SweepPlace.{SweepPlace}
 
 -- ---- the start

@@ -8,15 +8,15 @@ use Rattle.kernel_types.specs.declared.call.Call.{Call}
 use Rattle.net_conf.specs.declared.list.NetList.{NetList}
 use Rattle.pod_file.specs.declared.command.Command.{Command}
 use Rattle.cni_verbs.specs.Replies.{reply_to}
-use Rattle.cni_verbs.specs.Script.{State, Collecting, Over, Finish, collecting, early_ending, unless_ended, start_state, state_from, state_after, advance, next_call, finish_of, finish_of_work, gc_of, swept}
+use Rattle.cni_verbs.specs.Script.{State, Collecting, Over, Finish, collecting, start_state, state_from, state_after, advance, next_call, finish_of, finish_of_work, gc_of, swept}
 use Rattle.cni_verbs.specs.Sweep.{Gc, Job, Sweep, start_work}
 use Rattle.cni_verbs.specs.declared.answer.Ending.{Ending}
 use Rattle.cni_verbs.specs.declared.answer.Ending.TheVariants.{Yes}
-use Rattle.gc_sweep.specs.Sweep.{IsCollected}
+use Rattle.gc_sweep.specs.Sweep.{IsCollected, is_early}
 use Rattle.gc_sweep.specs.Trace.{Made, host_on, host_from, IsRunFrom, IsRun, Ends, replies}
 use Rattle.cni_verbs.specs.Progress.{is_gc}
 use Rattle.gc_sweep.proofs.Machine.{Point, start_point, point_after, point_from, IsTrail}
-use Rattle.gc_sweep.proofs.Phases.{finish_working, starts}
+use Rattle.gc_sweep.proofs.Phases.{finish_working, late, starts}
 
 -- ---- the work of a run
 
@@ -33,7 +33,7 @@ state_is list c p (e ∷ es) = state_is list c (point_after (gc_of list c) p e.r
 -- ---- the start
 
 pub begins : (list : NetList) (c : Command) → is_gc c.verb ≡ true → IsCollected list → start_state list c ≡ Collecting (start_work (gc_of list c)) []
-begins list c gc collected = sym (starts list c gc) ∙ ap (λ o. unless_ended o (Collecting (start_work (gc_of list c)) [])) collected
+begins list c gc collected = sym (starts list c gc) ∙ late list.version list.disable_gc (start_work (gc_of list c)) [] collected
 
 pub trail : (list : NetList) (c : Command) (host : Host) (es : List Made) → is_gc c.verb ≡ true → IsCollected list → IsRun list c host es → IsTrail (gc_of list c) (start_point (gc_of list c)) host es
 trail list c host es gc collected run =
@@ -74,7 +74,7 @@ early_by list c V1_0 disabled gc v d = inr (record { ending = _; state = sym (st
 early_by list c V1_1 true gc v d =
     let P : Version → Bool → State = λ x y. collecting x y (start_work (gc_of list c)) [] in
     inr (record { ending = _; state = sym (starts list c gc) ∙ ap (λ x. P x list.disable_gc) (sym v) ∙ ap (P V1_1) (sym d); refuses = λ e. cc })
-early_by list c V1_1 false gc v d = inl (ap (λ x. early_ending x list.disable_gc) (sym v) ∙ ap (early_ending V1_1) (sym d))
+early_by list c V1_1 false gc v d = inl (ap (λ x. is_early x list.disable_gc) (sym v) ∙ ap (is_early V1_1) (sym d))
 
 pub early_or : (list : NetList) (c : Command) → is_gc c.verb ≡ true → IsCollected list ⊎ IsEarly list c
 early_or list c gc = early_by list c list.version list.disable_gc gc refl refl

@@ -1,6 +1,7 @@
 -- What a garbage collection leaves, and what it answers.
-use Rattle.std.specs.Prelude.{◌≡◌, ℕ, ◌+◌, Bool, true, ◌||◌, List, [], ◌∷◌, None, if◌then◌else◌}
+use Rattle.std.specs.Prelude.{◌≡◌, ℕ, ◌+◌, Bool, true, false, ◌||◌, List, [], ◌∷◌, is_some, if◌then◌else◌}
 use Rattle.std.specs.List.{list_all}
+use Rattle.cni_result.specs.declared.version.Version.{Version}
 use Rattle.kernel_types.specs.Apply.Calls.{tags_of}
 use Rattle.kernel_types.specs.Replies.{is_fault}
 use Rattle.kernel_types.specs.Sound.{IsSound}
@@ -18,9 +19,13 @@ use Rattle.gc_sweep.specs.Keep.{stays, keep, IsWithin}
 use Rattle.gc_sweep.specs.Trace.{Made, IsRun, Ends, host_from, is_blamed}
 use Rattle.cni_verbs.specs.Progress.{is_gc}
 
--- the list is of the verb's version and doesn't disable it, so it doesn't end a collection before its first call
+-- the list ends a collection before its first call: it is older than the verb, or disables it
+abbrev pub is_early : Version → Bool → Bool
+is_early version disabled = is_some (early_ending version disabled)
+
+-- the list doesn't end a collection before its first call
 abbrev pub IsCollected : NetList → Type 0
-IsCollected list = early_ending list.version list.disable_gc ≡ None
+IsCollected list = is_early list.version list.disable_gc ≡ false
 
 -- a collection that is answered without an error leaves what is kept
 abbrev pub YesKeeps : Type 0

@@ -1,16 +1,15 @@
 -- What the fields of a run stand for.
-use Rattle.std.specs.Prelude.{◌≡◌, ℕ, ◌<◌, Bool, List, [], ◌∷◌, map, drop, length, Option, Some, None, is_none, is_some}
+use Rattle.std.specs.Prelude.{◌≡◌, ℕ, ◌<◌, Bool, List, [], ◌∷◌, map, drop, length, Option, Some, None, is_none}
 use Rattle.std.specs.List.{after_first}
 use Rattle.kernel_types.specs.Codes.{kind_eq}
 use Rattle.kernel_types.specs.declared.object.Att.{Att}
 use Rattle.kernel_types.specs.declared.call.Kind.{Kind}
 use Rattle.kernel_types.specs.declared.call.Reply.{Reply}
-use Rattle.cni_result.specs.declared.version.Version.{Version}
 use Rattle.net_conf.specs.declared.list.NetList.{NetList}
 use Rattle.pod_file.specs.declared.command.Command.{Command}
 use Rattle.pod_file.specs.declared.command.ValidAtt.{ValidAtt}
 use Rattle.cni_verbs.specs.Progress.{Progress}
-use Rattle.cni_verbs.specs.Script.{collected_by, collecting, early_ending}
+use Rattle.cni_verbs.specs.Script.{collected_by, collecting}
 use Rattle.cni_verbs.specs.Sweep.{Step, AskCached, Delete, Sweep, Job, Work, first_sweep, kind_sweep, all_sweeps, job_of, after_step, work_after}
 use Rattle.cni_verbs.specs.Wanted.{kinds_of}
 use Rattle.gc_sweep.specs.declared.place.Stage.{Stage}
@@ -64,10 +63,6 @@ abbrev pub has_no_work : List Job → List Sweep → Bool
 has_no_work jobs sweeps = is_none (collected_by jobs sweeps)
 
 -- ---- the run
-
--- the list ends a collection before its first call
-abbrev pub is_early : Version → Bool → Bool
-is_early version disabled = is_some (early_ending version disabled)
 
 abbrev pub progress_of : NetList → Command → ℕ → SweepPlace → List ℕ → Progress
 progress_of list c made place faults =

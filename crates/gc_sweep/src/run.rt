@@ -5,7 +5,8 @@ ghost use Rattle.std.specs.Bool.{FalseIff};
 ghost use Rattle.kernel_types.specs.Replies.{is_fault};
 ghost use Rattle.cni_verbs.specs.Progress.{is_gc, progress, advanced, answer_at, answer_by};
 ghost use Rattle.cni_verbs.specs.Script.{IsOpen, next_call, finish_of_work, faults_after};
-ghost use Rattle.gc_sweep.specs.View.{is_early, jobs_left, sweeps_after, IsPlace};
+ghost use Rattle.gc_sweep.specs.Sweep.{is_early};
+ghost use Rattle.gc_sweep.specs.View.{jobs_left, sweeps_after, IsPlace};
 
 use crate::place::{SweepPlace, next_call, take};
 use cni_addr::{Duplicate, Items, NoMemory};

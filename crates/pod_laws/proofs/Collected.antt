@@ -21,7 +21,7 @@ use Rattle.cni_verbs.specs.declared.answer.Ending.TheVariants.{Yes, Skipped, Ref
 use Rattle.cni_verbs.specs.declared.answer.Skip.TheVariants as skips
 use Rattle.gc_sweep.specs.Bound.{most_of_collection}
 use Rattle.gc_sweep.specs.Keep.{keep}
-use Rattle.gc_sweep.specs.Sweep.{AreExcused, Bounds, IsCollected, fault_numbers}
+use Rattle.gc_sweep.specs.Sweep.{AreExcused, Bounds, IsCollected, fault_numbers, is_early}
 use Rattle.gc_sweep.specs.Trace as trace
 use Rattle.cni_verbs.specs.Progress.{is_gc}
 use Rattle.gc_sweep.proofs.Calls.{gc_bound}
@@ -167,7 +167,7 @@ answered-by w n c list a listed gc t over V1_1 false version disabled =
     let start = starts list c.command gc V1_1 false version disabled in
     let s = swept-of (state_by list c.command es) over.ending over.given (collects-after list c.command (replies_in es) start) over.state_is in
     let some = made-calls list c.command es over.ending start s in
-    let at = at-end w n c list over.ending listed gc (ap (λ x. early_ending x list.disable_gc) version ∙ ap (early_ending V1_1) disabled) t s in
+    let at = at-end w n c list over.ending listed gc (ap (λ x. is_early x list.disable_gc) version ∙ ap (is_early V1_1) disabled) t s in
     elim (ended-answer list c.command (after w.plan.pods.opening t.before) es over.ending over.given a (host_at_start w n) (host_at_end w n) at (says list c.command over.given over.ending a over.answer_is) some (alone-start w n c t some) (alone-end w n c t)) [
       | inl clean ↦ inr (inr (inl clean))
       | inr faulty ↦ inr (inr (inr (inl faulty)))
