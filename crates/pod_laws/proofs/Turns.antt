@@ -43,7 +43,7 @@ own-deletion att kinds.Leases = att_eq-refl att
 own-deletion att kinds.Cached = att_eq-refl att
 
 -- a garbage collection deletes of any attachment
-pub record IsCollected (c : Command) (call : Call) : Type 0 where
+pub record IsDeletionOfCollection (c : Command) (call : Call) : Type 0 where
   pub verb : c.verb ≡ verbs.Gc
   pub att : Att
   pub kind : Kind
@@ -51,7 +51,7 @@ pub record IsCollected (c : Command) (call : Call) : Type 0 where
 
 -- a question, or a deletion of a collection
 abbrev pub AsksOrCollects : Command → Call → Type 0
-AsksOrCollects c call = (is_question call ≡ true) ⊎ IsCollected c call
+AsksOrCollects c call = (is_question call ≡ true) ⊎ IsDeletionOfCollection c call
 
 -- or a call of the attachment
 abbrev pub IsTurnOf : Command → Call → Type 0
