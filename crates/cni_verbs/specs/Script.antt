@@ -1,5 +1,5 @@
 -- What a verb calls and what it answers, as a function of the list, the command and all replies so far.
-use Rattle.std.specs.Prelude.{ℕ, ◌+◌, Bool, true, false, List, [], ◌∷◌, ◌++◌, length, filter_map, Option, Some, None, option_map, is_some, MatchOption, ⊤, if◌then◌else◌}
+use Rattle.std.specs.Prelude.{ℕ, ◌+◌, Bool, true, false, List, [], ◌∷◌, ◌++◌, length, filter_map, Option, Some, None, option_map, is_none, MatchBool, ⊤, if◌then◌else◌}
 use Rattle.std.specs.Bool.{then_some}
 use Rattle.std.specs.Option.{option_map_or, option_or}
 use Rattle.cni_addr.specs.declared.address.Addr.{Addr}
@@ -295,8 +295,12 @@ call_by c (Ends finish) = None
 unfoldable pub next_call : Command → State → Option Call
 next_call c s = call_by c (act_of s)
 
+-- a collection has no call to make
+abbrev pub has_no_work : List Job → List Sweep → Bool
+has_no_work jobs sweeps = is_none (collected_by jobs sweeps)
+
 abbrev pub finish_of_work : List Job → List Sweep → List ℕ → Option Finish
-finish_of_work jobs sweeps faults = if is_some (collected_by jobs sweeps) then None else Some (swept_finish faults)
+finish_of_work jobs sweeps faults = then_some (has_no_work jobs sweeps) (swept_finish faults)
 
 abbrev pub finish_by : Act → Option Finish
 finish_by (Makes call_of) = None
@@ -323,7 +327,7 @@ unfoldable pub turn : Command → State → Turn
 turn c s = turn_by_act c (act_of s)
 
 abbrev pub IsWork : List Job → List Sweep → Type 0
-IsWork jobs sweeps = MatchOption (collected_by jobs sweeps) ⊥ (λ call_of. ⊤)
+IsWork jobs sweeps = MatchBool (has_no_work jobs sweeps) ⊥ ⊤
 
 abbrev pub IsUnended : Act → Type 0
 IsUnended (Makes call_of) = ⊤

@@ -14,7 +14,7 @@ use Rattle.kernel_types.specs.declared.call.Reply.{Reply}
 use Rattle.kernel_types.specs.Replies.{is_fault}
 use Rattle.cni_verbs.specs.Answers.{answer_of, error_of, plain_answer}
 use Rattle.cni_verbs.specs.Progress.{Progress, is_gc, advanced, answer_by, answer_in}
-use Rattle.cni_verbs.specs.Script.{State, Collecting, IsOpen, collecting, early_ending, start_state, start_of, advance, next_call, call_of_work, finish_of, finish_of_work, gc_of, faults_after}
+use Rattle.cni_verbs.specs.Script.{State, Collecting, IsOpen, collecting, early_ending, start_state, start_of, advance, next_call, call_of_work, finish_of, finish_of_work, gc_of, faults_after, has_no_work}
 use Rattle.cni_verbs.specs.Sweep.{Job, Sweep, Work, start_work, work_after}
 use Rattle.cni_verbs.specs.Wanted.{kinds_of}
 use Rattle.cni_verbs.specs.declared.answer.Answer.{Answer}
@@ -25,7 +25,7 @@ use Rattle.cni_verbs.specs.declared.answer.Ending.TheVariants as endings
 use Rattle.cni_verbs.specs.declared.answer.Skip.TheVariants as skips
 use Rattle.pod_file.specs.declared.command.ValidAtt.{ValidAtt}
 use Rattle.gc_sweep.specs.Sweep.{is_early}
-use Rattle.gc_sweep.specs.View.{HasTaken, progress_of, work_of, has_no_work, jobs_left, sweeps_after}
+use Rattle.gc_sweep.specs.View.{HasTaken, progress_of, work_of, jobs_left, sweeps_after}
 use Rattle.gc_sweep.specs.declared.place.SweepPlace.{SweepPlace}
 
 -- ---- the start

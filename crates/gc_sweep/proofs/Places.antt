@@ -10,9 +10,9 @@ use Rattle.kernel_types.specs.declared.object.Att.{Att}
 use Rattle.kernel_types.specs.declared.call.Kind.{Kind}
 use Rattle.kernel_types.specs.declared.call.Reply.{Reply}
 use Rattle.kernel_types.specs.declared.call.Reply.TheVariants.{Gone, Owners, Entry, Fault}
-use Rattle.cni_verbs.specs.Script.{call_of_work}
+use Rattle.cni_verbs.specs.Script.{call_of_work, has_no_work}
 use Rattle.cni_verbs.specs.Sweep.{Gc, Step, Delete, Sweep, Job, Work, step_call, job_of, after_step, first_sweep, work_after}
-use Rattle.gc_sweep.specs.View.{steps_of, jobs_at, jobs_left, sweeps_after, sweep_of, IsPlace, has_no_work}
+use Rattle.gc_sweep.specs.View.{steps_of, jobs_at, jobs_left, sweeps_after, sweep_of, IsPlace}
 use Rattle.gc_sweep.specs.declared.place.SweepPlace.{SweepPlace}
 
 -- ---- the steps of the first sweep

@@ -1,5 +1,5 @@
 -- What the fields of a run stand for.
-use Rattle.std.specs.Prelude.{◌≡◌, ℕ, ◌<◌, Bool, List, [], ◌∷◌, map, drop, length, Option, Some, None, is_none}
+use Rattle.std.specs.Prelude.{◌≡◌, ℕ, ◌<◌, List, [], ◌∷◌, map, drop, length, Option, Some, None}
 use Rattle.std.specs.List.{after_first}
 use Rattle.kernel_types.specs.Codes.{kind_eq}
 use Rattle.kernel_types.specs.declared.object.Att.{Att}
@@ -9,7 +9,7 @@ use Rattle.net_conf.specs.declared.list.NetList.{NetList}
 use Rattle.pod_file.specs.declared.command.Command.{Command}
 use Rattle.pod_file.specs.declared.command.ValidAtt.{ValidAtt}
 use Rattle.cni_verbs.specs.Progress.{Progress}
-use Rattle.cni_verbs.specs.Script.{collected_by, collecting}
+use Rattle.cni_verbs.specs.Script.{collecting}
 use Rattle.cni_verbs.specs.Sweep.{Step, AskCached, Delete, Sweep, Job, Work, first_sweep, kind_sweep, all_sweeps, job_of, after_step, work_after}
 use Rattle.cni_verbs.specs.Wanted.{kinds_of}
 use Rattle.gc_sweep.specs.declared.place.Stage.{Stage}
@@ -57,10 +57,6 @@ IsPlace ks p = p.step < length (steps_of (sweep_of ks p.stage))
 
 abbrev pub work_of : List Kind → SweepPlace → Work
 work_of ks p = record { jobs = jobs_left ks p; sweeps = sweeps_after ks p.stage }
-
--- the collection has no call to make
-abbrev pub has_no_work : List Job → List Sweep → Bool
-has_no_work jobs sweeps = is_none (collected_by jobs sweeps)
 
 -- ---- the run
 

@@ -3,9 +3,9 @@
 ghost use Rattle.std.specs.Prelude.{◌≡◌, ◌<◌, ◌≤◌, ◌+◌, not, false, List, filter, length, slice_get, Some, nat_le, nat_lt, [], IfOk};
 ghost use Rattle.kernel_types.specs.declared.call.Kind.{Kind};
 ghost use Rattle.pod_file.specs.declared.command.ValidAtt.{ValidAtt};
-ghost use Rattle.cni_verbs.specs.Script.{call_of_work};
+ghost use Rattle.cni_verbs.specs.Script.{call_of_work, has_no_work};
 ghost use Rattle.cni_verbs.specs.Sweep.{first_sweep, all_sweeps, is_valid, step_call};
-ghost use Rattle.gc_sweep.specs.View.{HasTaken, IsPlace, has_no_work, jobs_left, step_of, steps_of, sweep_of, sweeps_after, sweeps_from, work_of};
+ghost use Rattle.gc_sweep.specs.View.{HasTaken, IsPlace, jobs_left, step_of, steps_of, sweep_of, sweeps_after, sweeps_from, work_of};
 
 use cni_addr::{Duplicate, Items, NoMemory, Text};
 use cni_verbs::wanted::deletion;
