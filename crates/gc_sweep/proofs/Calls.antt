@@ -1,5 +1,5 @@
 -- Each call of a collection lowers a weight, so there are few.
-use Rattle.std.proofs.Common.{◌≡◌, ℕ, ◌+◌, ◌*◌, ◌<◌, ◌≤◌, Bool, true, false, not, cond, ap, List, [], ◌∷◌, ◌++◌, length, Some, None, refl, sym, ◌∙◌, subst, inl, inr, arith, suc-mul, mul-add, mul-le-mul_right, le_refl, length-append}
+use Rattle.std.proofs.Common.{◌≡◌, ℕ, ◌+◌, ◌*◌, ◌<◌, ◌≤◌, Bool, true, false, not, cond, ap, List, [], ◌∷◌, ◌++◌, length, Some, None, refl, sym, ◌∙◌, subst, inl, inr, arith, suc-mul, mul-add, mul-le-mul_right, le_refl}
 use Rattle.std.proofs.lemmas.List.{length-map}
 use Rattle.std.specs.Prelude.{filter, map, ◌||◌}
 use Rattle.std.specs.List.{list_any, list_all, filter_map, cons_option}
@@ -38,8 +38,8 @@ use Rattle.pod_file.specs.declared.command.ValidAtt.{ValidAtt}
 use Rattle.cni_verbs.specs.Replies.{host_after, reply_to}
 use Rattle.cni_verbs.specs.Script.{call_of_work, gc_of}
 use Rattle.cni_verbs.specs.Sweep.{Gc, Step, AskCached, Delete, Sweep, Job, is_valid, step_call, job_of, after_step, work_after}
-use Rattle.cni_verbs.specs.Wanted.{deletion, kinds_of, first_kinds, chained_kinds_reversed}
-use Rattle.gc_sweep.specs.Bound.{stale_owners, all_tags, objects_by, kinds_over_plugins, GcBound}
+use Rattle.cni_verbs.specs.Wanted.{deletion, kinds_of}
+use Rattle.gc_sweep.specs.Bound.{stale_owners, all_tags, objects_by, GcBound}
 use Rattle.gc_sweep.specs.Keep.{goes, IsWithin}
 use Rattle.gc_sweep.specs.Trace.{Made, host_on}
 use Rattle.gc_sweep.proofs.Covered.{WorkKept, Next, work_step, work_start}
@@ -211,13 +211,6 @@ total_most test h =
     (some_of_all test (map (λ (l : Link). l.tag) h.links) (map (λ (a : AddrObj). a.tag) h.addresses) (map (λ (r : RouteObj). r.tag) h.routes) (map (λ (r : Rule). r.tag) h.rules)
     (map (λ (s : Setting). s.tag) h.settings) (map (λ (l : Lease). l.tag) h.leases) (map (λ (c : CachedObj). c.tag) h.cached))
 
--- the cached entry is the one more
-pub kinds_number : (list : NetList) → length (kinds_of list) ≡ kinds_over_plugins list + 1
-kinds_number list =
-    let a = length-append (chained_kinds_reversed list.chained) (first_kinds list.first ++ Cached ∷ []) in
-    let b = length-append (first_kinds list.first) (Cached ∷ []) in
-    omega arith
-
 bound_collected : (gc : Gc) (h : Host) (es : List Made) → IsSound h → IsTrail gc (start_point gc) h es
     → length es ≤ 6 + length (stale_owners gc.network gc.valid (all_tags h)) * (length gc.kinds + 6) + objects_by (goes gc.network gc.valid) h
 bound_collected gc h es sound run =
@@ -236,12 +229,6 @@ none_made m k n es none = rw none (omega arith)
 
 pub gc_bound : GcBound
 gc_bound list c host es gc sound run = elim (early_or list c gc) [
-  | inl collected ↦
-      let b = bound_collected (gc_of list c) host es sound (trail list c host es gc collected run) in
-      let m = length (stale_owners c.network c.valid (all_tags host)) in
-      let k = kinds_number list in
-      let sum : length (kinds_of list) + 6 ≡ kinds_over_plugins list + 7 = omega arith in
-      let same : m * (length (kinds_of list) + 6) ≡ m * (kinds_over_plugins list + 7) = ap (λ n. m * n) sum in
-      omega arith
-  | inr early ↦ none_made (length (stale_owners c.network c.valid (all_tags host))) (kinds_over_plugins list + 7) (objects_by (goes c.network c.valid) host) es (early_makes_none list c host es early run)
+  | inl collected ↦ bound_collected (gc_of list c) host es sound (trail list c host es gc collected run)
+  | inr early ↦ none_made (length (stale_owners c.network c.valid (all_tags host))) (length (kinds_of list) + 6) (objects_by (goes c.network c.valid) host) es (early_makes_none list c host es early run)
 ]

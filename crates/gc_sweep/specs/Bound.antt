@@ -11,7 +11,7 @@ use Rattle.net_conf.specs.declared.list.NetList.{NetList}
 use Rattle.pod_file.specs.declared.command.Command.{Command}
 use Rattle.pod_file.specs.declared.command.ValidAtt.{ValidAtt}
 use Rattle.cni_verbs.specs.Sweep.{is_valid}
-use Rattle.cni_verbs.specs.Wanted.{first_kinds, chained_kinds_reversed}
+use Rattle.cni_verbs.specs.Wanted.{kinds_of}
 use Rattle.gc_sweep.specs.Keep.{goes}
 use Rattle.gc_sweep.specs.Trace.{Made, IsRun}
 use Rattle.cni_verbs.specs.Progress.{is_gc}
@@ -34,13 +34,9 @@ all_tags host =
 abbrev pub objects_by : (Tag → Bool) → Host → ℕ
 objects_by test host = length (filter test (all_tags host))
 
--- the kinds over all plugins, as often as they come
-abbrev pub kinds_over_plugins : NetList → ℕ
-kinds_over_plugins list = length (first_kinds list.first) + length (chained_kinds_reversed list.chained)
-
--- six; for each stale attachment seven more than the kinds; and one for each object that is not kept
+-- six; for each stale attachment six more than the kinds of a DEL; and one for each object that is not kept
 abbrev pub most_of_collection : NetList → Command → Host → ℕ
-most_of_collection list c host = 6 + length (stale_owners c.network c.valid (all_tags host)) * (kinds_over_plugins list + 7) + objects_by (goes c.network c.valid) host
+most_of_collection list c host = 6 + length (stale_owners c.network c.valid (all_tags host)) * (length (kinds_of list) + 6) + objects_by (goes c.network c.valid) host
 
 abbrev pub GcBound : Type 0
 GcBound = (list : NetList) (c : Command) (host : Host) (es : List Made) → is_gc c.verb ≡ true → IsSound host → IsRun list c host es → length es ≤ most_of_collection list c host

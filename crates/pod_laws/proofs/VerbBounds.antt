@@ -13,7 +13,6 @@ use Rattle.pod_file.specs.Commands.{is_of_network}
 use Rattle.pod_file.specs.declared.command.Command.{Command}
 use Rattle.pod_file.specs.declared.command.Verb.{Verb}
 use Rattle.pod_file.specs.declared.command.Verb.TheVariants as verbs
-use Rattle.gc_sweep.proofs.Calls.{kinds_number}
 use Rattle.cni_verbs.proofs.CheckCounts.{length-pools, length-share}
 use Rattle.kernel_types.specs.declared.call.Reply.{Reply}
 use Rattle.kernel_types.specs.declared.call.Reply.TheVariants.{Entry as Found}
@@ -183,12 +182,10 @@ run_is_bounded w legal n c list at listed =
       add = λ verb most in_most.
           let starts = starts-by most list c.command verbs.Add (λ had. 2 * most + length (kinds_of list) + 1) verb (start-add most list c.command) in
           let made = made-below w legal n c list most (2 * most + length (kinds_of list) + 1) at listed in_most starts.none starts.few in
-          let k = kinds_number list in
           omega arith;
       del = λ verb before first is.
           let made = by-start w legal n c list (λ s. length (kinds_of list) + 1 + deletions_of s) before first at listed
           (starts-by most0 list c.command verbs.Del (λ s. length (kinds_of list) + 1 + deletions_of s) verb (start-del most0 list c.command)) is in
-          let k = kinds_number list in
           omega arith;
       check = λ verb before first cached is found.
           let asks = subst (λ r. AsksIn list c.command FindingEntry r (length (check_questions list c.command cached))) (sym found) (found-asks list c.command cached) in

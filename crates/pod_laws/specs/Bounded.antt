@@ -3,8 +3,7 @@ use Rattle.std.specs.Prelude.{◌≡◌, ◌≢◌, ℕ, ◌+◌, ◌*◌, ◌�
 use Rattle.cni_result.specs.declared.cached.Cached.{Cached}
 use Rattle.cni_verbs.specs.CommandWords.{att_of}
 use Rattle.cni_verbs.specs.Questions.{cached_share}
-use Rattle.cni_verbs.specs.Wanted.{sets_of}
-use Rattle.gc_sweep.specs.Bound.{kinds_over_plugins}
+use Rattle.cni_verbs.specs.Wanted.{kinds_of, sets_of}
 use Rattle.kernel_types.specs.declared.call.Reply.TheVariants.{Entry as Found}
 use Rattle.net_conf.specs.declared.list.NetList.{NetList}
 use Rattle.plan_words.specs.Share.{Share, share_of}
@@ -35,9 +34,9 @@ asked_of s = length s.links + length s.addresses + length s.routes + length s.ru
 
 -- the calls that a command has made, by its verb
 pub record IsBounded (w : World) (n : ℕ) (c : Placed) (list : NetList) : Type 0 where
-  pub add : c.command.verb ≡ verbs.Add → (most : ℕ) → AddsInAtMost list c.command most → length (own_replies w n) ≤ 2 * most + kinds_over_plugins list + 2
+  pub add : c.command.verb ≡ verbs.Add → (most : ℕ) → AddsInAtMost list c.command most → length (own_replies w n) ≤ 2 * most + length (kinds_of list) + 1
   pub del : c.command.verb ≡ verbs.Del → (before : List Entry) (first : Entry) → IsFirst w n before first
-      → length (own_replies w n) ≤ kinds_over_plugins list + 2 + deletions_of (had_after w c.command before)
+      → length (own_replies w n) ≤ length (kinds_of list) + 1 + deletions_of (had_after w c.command before)
   pub check : c.command.verb ≡ verbs.Check → (before : List Entry) (first : Entry) (cached : Cached) → IsFirst w n before first → first.reply ≡ Found (Some cached)
       → length (own_replies w n) ≤ 2 + asked_of (cached_share list c.command cached)
   pub unknown : c.command.verb ≡ verbs.Check → (before : List Entry) (first : Entry) → IsFirst w n before first → ((cached : Cached) → first.reply ≢ Found (Some cached)) → length (own_replies w n) ≤ 1

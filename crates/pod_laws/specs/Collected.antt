@@ -66,8 +66,8 @@ abbrev pub CollectionsAreBounded : Type 0
 CollectionsAreBounded = (w : World) → Legal w → (n : ℕ) (c : Placed)
     → slice_get (commands_of w.plan) n ≡ Some c → c.command.verb ≡ verbs.Gc → own_entries n w.history ≢ [] → Bounds c.command (host_at_start w n) (host_at_end w n)
 
--- and it made at most six calls; for each stale attachment that owned an object at its start seven more than its list
--- has kinds; and one for each object that is not kept
+-- and it made at most six calls; for each stale attachment that owned an object at its start six more than the kinds of
+-- a DEL; and one for each object that is not kept
 abbrev pub CollectionsAreShort : Type 0
 CollectionsAreShort = (w : World) → Legal w → (n : ℕ) (c : Placed) (list : NetList)
     → slice_get (commands_of w.plan) n ≡ Some c → list_for w.plan c.command ≡ Some list → c.command.verb ≡ verbs.Gc → own_entries n w.history ≢ []

@@ -96,8 +96,8 @@ pub fn every_collection_is_bounded()
     ensures { CollectionsAreBounded }
 {}
 
-/// A GC makes at most six calls; for each stale attachment that owned an object at its start seven more than its list
-/// has kinds, counted plugin by plugin; and one for each object that is not kept.
+/// A GC makes at most six calls; for each stale attachment that owned an object at its start six more than the kinds of
+/// a DEL, counted plugin by plugin and the cached entry last; and one for each object that is not kept.
 pub fn a_collection_makes_few_calls()
     ensures { CollectionsAreShort }
 {}
@@ -166,8 +166,8 @@ pub fn each_last_is_a_candidate()
 // ---- how many calls
 
 /// A run makes a bounded number of calls, whatever others do meanwhile. With p a bound on the calls of an ADD that
-/// isn't refused, whatever addresses it is leased, and c the kinds of its list's plugins, an ADD makes at most
-/// 2p + c + 2; a DEL c + 2 and one an object of its attachment at its first call, a pair of links as one, with what
+/// isn't refused, whatever addresses it is leased, and c the kinds of a DEL of its list, an ADD makes at most
+/// 2p + c + 1; a DEL c + 1 and one an object of its attachment at its first call, a pair of links as one, with what
 /// lies on them; a CHECK 2 and one an object of its cached share; a STATUS 1 and one a range set; a VERSION none.
 #[tactic(auto, using(crate::proofs::VerbBounds::run_is_bounded))]
 pub fn each_run_is_bounded()
