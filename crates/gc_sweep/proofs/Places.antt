@@ -12,6 +12,7 @@ use Rattle.kernel_types.specs.declared.call.Reply.{Reply}
 use Rattle.kernel_types.specs.declared.call.Reply.TheVariants.{Gone, Owners, Entry, Fault}
 use Rattle.cni_verbs.specs.Script.{call_of_work, has_no_work}
 use Rattle.cni_verbs.specs.Sweep.{Gc, Step, Delete, Sweep, Job, Work, step_call, job_of, after_step, first_sweep, work_after}
+use Rattle.cni_verbs.proofs.PhaseSteps.{left_of}
 use Rattle.gc_sweep.specs.View.{steps_of, jobs_at, jobs_left, sweeps_after, sweep_of, IsPlace}
 use Rattle.gc_sweep.specs.declared.place.SweepPlace.{SweepPlace}
 
@@ -34,14 +35,6 @@ first_kind ks step k lt h = later_step ks step (Delete k) lt (kind_step ks (step
 abbrev pub work : List Job → List Sweep → Work
 work jobs sweeps = record { jobs = jobs; sweeps = sweeps }
 
-drop_here : {X : Type 0} (xs : List X) (i : ℕ) → i < length xs → (x : X) × (drop i xs ≡ x ∷ drop (i + 1) xs) × (slice_get xs i ≡ Some x)
-drop_here [] i h = absurd (omega arith)
-drop_here (y ∷ ys) zero h = (y, refl, refl)
-drop_here (y ∷ ys) (suc i) h =
-    let r = drop_here ys i (omega arith) in
-    let e : suc i + 1 ≡ suc (i + 1) = omega arith in
-    (r.0, rw e r.1, r.2)
-
 fresh : (s : Sweep) (owners : List Att) → jobs_at s 0 owners ≡ map (job_of s) owners
 fresh s [] = refl
 fresh s (a ∷ more) = refl
@@ -55,37 +48,37 @@ jobs_here s step a more x h = ap (λ l. after_step a l (map (job_of s) more)) h
 pub done_next : (gc : Gc) (s : Sweep) (step at : ℕ) (owners : List Att) (sweeps : List Sweep) → at < length owners → step < length (steps_of s)
     → work (jobs_at s (step + 1) (drop at owners)) sweeps ≡ work_after gc (jobs_at s step (drop at owners)) sweeps (Gone false)
 done_next gc s step at owners sweeps here within =
-    let o = drop_here owners at here in
-    let x = drop_here (steps_of s) step within in
-    rw o.1 (sym (ap (λ jobs. work_after gc jobs sweeps (Gone false)) (jobs_here s step o.0 (drop (at + 1) owners) x.0 x.1)))
+    let o = left_of owners at here in
+    let x = left_of (steps_of s) step within in
+    rw o.1.1 (sym (ap (λ jobs. work_after gc jobs sweeps (Gone false)) (jobs_here s step o.0 (drop (at + 1) owners) x.0 x.1.1)))
 
 pub done_last : (gc : Gc) (s : Sweep) (step at : ℕ) (owners : List Att) (sweeps : List Sweep) → at < length owners → step < length (steps_of s) → length (steps_of s) ≤ step + 1
     → work_after gc (jobs_at s step (drop at owners)) sweeps Fault ≡ work_after gc (jobs_at s step (drop at owners)) sweeps (Gone false)
 done_last gc s step at owners sweeps here within last =
-    let o = drop_here owners at here in
-    let x = drop_here (steps_of s) step within in
+    let o = left_of owners at here in
+    let x = left_of (steps_of s) step within in
     let none : drop (step + 1) (steps_of s) ≡ [] = drop_of_length-le (steps_of s) last in
     let more = drop (at + 1) owners in
     let jobs : jobs_at s step (o.0 ∷ more) ≡ record { att = o.0; step = x.0; more = [] } ∷ map (job_of s) more =
-    jobs_here s step o.0 more x.0 x.1 ∙ ap (λ l. record { att = o.0; step = x.0; more = l } ∷ map (job_of s) more) none in
-    rw o.1 (ap (λ l. work_after gc l sweeps Fault) jobs ∙ sym (ap (λ l. work_after gc l sweeps (Gone false)) jobs))
+    jobs_here s step o.0 more x.0 x.1.1 ∙ ap (λ l. record { att = o.0; step = x.0; more = l } ∷ map (job_of s) more) none in
+    rw o.1.1 (ap (λ l. work_after gc l sweeps Fault) jobs ∙ sym (ap (λ l. work_after gc l sweeps (Gone false)) jobs))
 
 pub done_owner : (gc : Gc) (s : Sweep) (step at : ℕ) (owners : List Att) (sweeps : List Sweep) → at < length owners → step < length (steps_of s)
     → work (jobs_at s 0 (drop (at + 1) owners)) sweeps ≡ work_after gc (jobs_at s step (drop at owners)) sweeps Fault
 done_owner gc s step at owners sweeps here within =
-    let o = drop_here owners at here in
-    let x = drop_here (steps_of s) step within in
-    rw o.1 (ap (λ jobs. work jobs sweeps) (fresh s (drop (at + 1) owners)) ∙ sym (ap (λ jobs. work_after gc jobs sweeps Fault) (jobs_here s step o.0 (drop (at + 1) owners) x.0 x.1)))
+    let o = left_of owners at here in
+    let x = left_of (steps_of s) step within in
+    rw o.1.1 (ap (λ jobs. work jobs sweeps) (fresh s (drop (at + 1) owners)) ∙ sym (ap (λ jobs. work_after gc jobs sweeps Fault) (jobs_here s step o.0 (drop (at + 1) owners) x.0 x.1.1)))
 
 -- the call of the owner and step at hand
 pub next_here : (network : List ℕ) (s : Sweep) (step at : ℕ) (owners : List Att) (sweeps : List Sweep) (a : Att) (x : Step) → slice_get owners at ≡ Some a → slice_get (steps_of s) step ≡ Some x → at < length owners → step < length (steps_of s)
     → call_of_work network (jobs_at s step (drop at owners)) sweeps ≡ Some (step_call a x)
 next_here network s step at owners sweeps a x is_a is_x here within =
-    let o = drop_here owners at here in
-    let y = drop_here (steps_of s) step within in
-    let same_a : o.0 ≡ a = same_Some o.0 a (sym o.2 ∙ is_a) in
-    let same_x : y.0 ≡ x = same_Some y.0 x (sym y.2 ∙ is_x) in
-    rw o.1 (ap (λ l. call_of_work network l sweeps) (jobs_here s step o.0 (drop (at + 1) owners) y.0 y.1) ∙ ap Some (ap (λ z. step_call z y.0) same_a ∙ ap (step_call a) same_x))
+    let o = left_of owners at here in
+    let y = left_of (steps_of s) step within in
+    let same_a : o.0 ≡ a = same_Some o.0 a (sym o.1.0 ∙ is_a) in
+    let same_x : y.0 ≡ x = same_Some y.0 x (sym y.1.0 ∙ is_x) in
+    rw o.1.1 (ap (λ l. call_of_work network l sweeps) (jobs_here s step o.0 (drop (at + 1) owners) y.0 y.1.1) ∙ ap Some (ap (λ z. step_call z y.0) same_a ∙ ap (step_call a) same_x))
 
 -- ---- whether an owner is at hand
 
@@ -96,10 +89,10 @@ has_job (j ∷ jobs) = true
 pub has_job_left : (s : Sweep) (step at : ℕ) (owners : List Att) → step < length (steps_of s) → has_job (jobs_at s step (drop at owners)) ≡ nat_lt at (length owners)
 has_job_left s step at owners within = elim (cases_lt at (length owners)) [
   | inl here ↦
-      let o = drop_here owners at here in
-      let x = drop_here (steps_of s) step within in
+      let o = left_of owners at here in
+      let x = left_of (steps_of s) step within in
       let yes : nat_lt at (length owners) ≡ true = grind (arith, nat_tests, here) in
-      rw (o.1, yes) (ap has_job (jobs_here s step o.0 (drop (at + 1) owners) x.0 x.1))
+      rw (o.1.1, yes) (ap has_job (jobs_here s step o.0 (drop (at + 1) owners) x.0 x.1.1))
   | inr past ↦
       let none : drop at owners ≡ [] = drop_of_length-le owners past in
       let off : nat_lt at (length owners) ≡ false = grind (arith, nat_tests, past) in
