@@ -1,19 +1,17 @@
 -- The runs of a list and a command, as runs of their work.
-use Rattle.std.proofs.Common.{◌≡◌, ℕ, ◌+◌, List, [], ◌∷◌, ◌++◌, Option, Some, inl, inr, ◌⊎◌, refl, sym, ◌∙◌, ap, subst, Bool, true, false}
+use Rattle.std.proofs.Common.{◌≡◌, ℕ, ◌+◌, List, [], ◌∷◌, Option, Some, inl, inr, ◌⊎◌, refl, sym, ◌∙◌, ap, subst, Bool, true, false}
 use Rattle.std.proofs.lemmas.Option.{same_Some, none-some}
 use Rattle.cni_result.specs.declared.version.Version.{Version}
 use Rattle.cni_result.specs.declared.version.Version.TheVariants.{V1_0, V1_1}
 use Rattle.kernel_types.specs.declared.object.Host.{Host}
-use Rattle.kernel_types.specs.declared.call.Call.{Call}
 use Rattle.net_conf.specs.declared.list.NetList.{NetList}
 use Rattle.pod_file.specs.declared.command.Command.{Command}
-use Rattle.cni_verbs.specs.Replies.{reply_to}
-use Rattle.cni_verbs.specs.Script.{State, Collecting, Over, Finish, collecting, start_state, state_from, state_after, advance, next_call, finish_of, finish_of_work, gc_of, swept}
+use Rattle.cni_verbs.specs.Script.{State, Collecting, Over, Finish, collecting, start_state, state_from, advance, next_call, finish_of, finish_of_work, gc_of, swept}
 use Rattle.cni_verbs.specs.Sweep.{Gc, Job, Sweep, start_work}
 use Rattle.cni_verbs.specs.declared.answer.Ending.{Ending}
 use Rattle.cni_verbs.specs.declared.answer.Ending.TheVariants.{Yes}
 use Rattle.gc_sweep.specs.Sweep.{IsCollected, is_early}
-use Rattle.gc_sweep.specs.Trace.{Made, host_on, host_from, IsRunFrom, IsRun, Ends, replies}
+use Rattle.gc_sweep.specs.Trace.{Made, host_on, IsRunFrom, IsRun, Ends, replies}
 use Rattle.cni_verbs.specs.Progress.{is_gc}
 use Rattle.gc_sweep.proofs.Machine.{Point, start_point, point_after, point_from, IsTrail}
 use Rattle.gc_sweep.proofs.Phases.{finish_working, late, starts}
@@ -104,15 +102,3 @@ early_not_yes list c es early ends =
     let over = ap (λ s. state_from list c 0 s (replies es)) early.state ∙ over_stays list c 0 early.ending es in
     let same = sym (ap finish_of over ∙ finish_over early.ending) ∙ ends in
     early.refuses (ap (λ (f : Finish). f.ending) (same_Some (record { ending = early.ending; given = [] }) (record { ending = Yes; given = [] }) same))
-
--- ---- one more entry
-
-run_from-push : (list : NetList) (c : Command) (made : ℕ) (s : State) (host : Host) (es : List Made) (call : Call) (faulty : Bool) → IsRunFrom list c made s host es → next_call c (state_from list c made s (replies es)) ≡ Some call
-    → IsRunFrom list c made s host (es ++ record { call = call; reply = reply_to (host_from host es) call faulty } ∷ [])
-run_from-push list c made s host [] call faulty run next = (next, (faulty, refl), tt)
-run_from-push list c made s host (e ∷ es) call faulty run next = (run.0, run.1, run_from-push list c (made + 1) (advance list c (made + 1) s e.reply) (host_on host e) es call faulty run.2 next)
-
--- the next call, carried out or a fault, prolongs a run
-pub run-push : (list : NetList) (c : Command) (host : Host) (es : List Made) (call : Call) (faulty : Bool) → IsRun list c host es → next_call c (state_after list c (replies es)) ≡ Some call
-    → IsRun list c host (es ++ record { call = call; reply = reply_to (host_from host es) call faulty } ∷ [])
-run-push list c host es call faulty run next = run_from-push list c 0 (start_state list c) host es call faulty run next
