@@ -3,6 +3,7 @@ use Rattle.std.proofs.Common.{◌≡◌, ℕ, Bool, true, false, not, cond, List
 use Rattle.std.specs.Prelude.{filter, ◌&&◌, ◌||◌, is_some}
 use Rattle.std.specs.List.{list_any, list_all, filter_map, cons_option}
 use Rattle.std.specs.Str.{bytes_eq}
+use Rattle.std.proofs.lemmas.Bool.{and_from}
 use Rattle.std.proofs.lemmas.Map.Views.{any-filter_same}
 use Rattle.kernel_types.specs.Equal.{att_eq}
 use Rattle.cni_addr.specs.Lists.{each_key_once}
@@ -17,7 +18,7 @@ use Rattle.pod_file.specs.declared.command.ValidAtt.{ValidAtt}
 use Rattle.cni_verbs.specs.Sweep.{is_valid}
 use Rattle.gc_sweep.specs.Keep.{goes}
 use Rattle.gc_sweep.specs.Bound.{stale_owners}
-use Rattle.kernel_types.proofs.ListLemmas.{list_all-weaker}
+use Rattle.kernel_types.proofs.ListLemmas.{list_all-kept, list_all-weaker}
 use Rattle.kernel_types.proofs.TouchRemoval.{by_bool}
 use Rattle.plan_words.proofs.KeyLists.{list_all-each_key_once}
 use Rattle.plan_words.proofs.RowLemmas.{list_any-each_key_once}
@@ -86,10 +87,6 @@ owners_cover network valid ts =
 
 -- ---- each of them is stale
 
-list_all-filter_both : (p q : Att → Bool) (xs : List Att) → list_all p xs ≡ true → list_all (λ a. p a && q a) (filter q xs) ≡ true
-list_all-filter_both p q [] h = refl
-list_all-filter_both p q (x ∷ xs) h = grind (arith, h, list_all-filter_both p q xs)
-
 named_case : (b : Bool) (a : Att) (network : List ℕ) (xs : List Att) → bytes_eq a.network network ≡ b → list_all (λ x. bytes_eq x.network network) xs ≡ true → list_all (λ x. bytes_eq x.network network) (cons_option (cond b (Some a) None) xs) ≡ true
 named_case true a network xs e h = grind (arith, e, h)
 named_case false a network xs e h = h
@@ -102,5 +99,6 @@ owners_named network (Own a ∷ ts) = named_case (bytes_eq a.network network) a 
 
 pub owners_stale : (network : List ℕ) (valid : List ValidAtt) (ts : List Tag) → list_all (is_stale network valid) (stale_owners network valid ts) ≡ true
 owners_stale network valid ts =
-    list_all-filter_both (λ x. bytes_eq x.network network) (λ a. not (is_valid valid a)) (each_key_once att_eq (filter_map (owner_in network) ts))
+    list_all-kept (λ (a : Att). bytes_eq a.network network) (is_stale network valid) (λ a. not (is_valid valid a))
+    (λ a here stale. and_from (bytes_eq a.network network) (not (is_valid valid a)) here stale) (each_key_once att_eq (filter_map (owner_in network) ts))
     (list_all-each_key_once (λ x. bytes_eq x.network network) att_eq (filter_map (owner_in network) ts) (owners_named network ts))
