@@ -4,6 +4,7 @@ use Rattle.std.specs.Prelude.{filter, find, map, ◌||◌}
 use Rattle.std.specs.List.{list_any, list_all}
 use Rattle.std.proofs.lemmas.List.{length-append}
 use Rattle.std.proofs.lemmas.List.Elements.{filter-append}
+use Rattle.std.proofs.lemmas.List.Folds.{list_any-append}
 use Rattle.std.proofs.lemmas.List.Sums.{count_by-le-length, length-filter}
 use Rattle.cni_addr.specs.Lists.{without_first}
 use Rattle.net_conf.specs.Sets.{one_if}
@@ -78,7 +79,7 @@ pub filter_all : {X : Type 0} (p : X → Bool) (xs : List X) → list_all p xs �
 filter_all p [] h = refl
 filter_all p (x ∷ xs) h = grind (arith, h, filter_all p xs)
 
-filter_every : {X : Type 0} (xs : List X) → filter (λ x. true) xs ≡ xs
+pub filter_every : {X : Type 0} (xs : List X) → filter (λ x. true) xs ≡ xs
 filter_every xs = filter_all (λ x. true) xs (all_true (λ x. true) (λ x. refl) xs)
 
 pub count_append : {X : Type 0} (p : X → Bool) (xs ys : List X) → length (filter p (xs ++ ys)) ≡ length (filter p xs) + length (filter p ys)
@@ -110,8 +111,7 @@ length-found own gone xs y f g = rw (filter_every (filter (λ x. not (gone x)) x
 -- ---- some
 
 pub list_any-snoc : {X : Type 0} (p : X → Bool) (xs : List X) (y : X) → list_any p (xs ++ y ∷ []) ≡ (list_any p xs || p y)
-list_any-snoc p [] y = grind arith
-list_any-snoc p (x ∷ xs) y = grind (arith, list_any-snoc p xs y)
+list_any-snoc p xs y = let e = list_any-append p xs (y ∷ []) in grind (arith, e)
 
 pub any-found : {X : Type 0} (p q : X → Bool) (xs : List X) (y : X) → find p xs ≡ Some y → q y ≡ true → list_any q xs ≡ true
 any-found p q [] y is h = cc
