@@ -112,7 +112,7 @@ fn owner_step_at(kinds: &[Kind], stage: Stage, step: usize) -> OwnerStep
 }
 
 /// The kind whose owners a sweep asks for.
-fn kind_of(stage: Stage) -> Kind
+fn kind_of_stage(stage: Stage) -> Kind
     ensures { (kinds : List Kind) → result ≡ (sweep_of kinds stage).kind }
 {
     match stage {
@@ -147,7 +147,7 @@ pub(crate) fn next_call(
         match next_stage(place.stage) {
             Some(stage) => Ok(Some(Call::OwnersOf {
                 network: network.copy()?,
-                kind: kind_of(stage),
+                kind: kind_of_stage(stage),
             })),
             None => Ok(None),
         }
