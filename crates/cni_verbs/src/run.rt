@@ -52,7 +52,8 @@ impl Model for Run {
 
 impl Run {
     /// The run of a command of this list, or of a command of no network, before its first call. A list with more than
-    /// [`MOST_SETS`] sets is refused as for want of memory. A garbage collection isn't a run: it keeps owners and sweeps.
+    /// [`MOST_SETS`] sets is refused as for want of memory. A garbage collection isn't a run: it keeps owners and
+    /// sweeps.
     ///
     /// It copies the list and the command, and keeps the copies until it is dropped. Texts are shared, so that takes
     /// time and memory in proportion to the ranges, routes and settings of the list, and to the mappings and valid
