@@ -6,7 +6,7 @@ use Rattle.std.proofs.lemmas.Option.{same_Some}
 use Rattle.std.proofs.lemmas.Bool.{cases_lt}
 use Rattle.std.proofs.lemmas.Bool.Decides.{eqb_tells, nat_tests}
 use Rattle.kernel_types.specs.declared.call.Call.{Call}
-use Rattle.pod_workers.specs.Facts.{Follows, EachFollows, IsEntryOf, EachTwo, EntryIsInRound, AreOfOneContainer, GoesByRounds, Stops}
+use Rattle.pod_workers.specs.Facts.{Follows, EachFollows, IsEntryOf, EachTwo, EntryIsInRound, AreInRoundOrder, AreOfOneContainer, AreInContainerOrder, GoesByRounds, KeepsStop, IsAfterStop, Stops}
 use Rattle.pod_workers.specs.Legal.{Legal, begins, steps, refused_memory, turns}
 use Rattle.pod_workers.specs.Plans.{Placed, commands_of}
 use Rattle.pod_workers.specs.World.{World, IsReady, IsUpToStop, replies_of, own_replies, reply_to, host_of, is_stop, is_cut, is_cut_at, is_in_round, last_entry, done, entry_of, next_of, at_number}
@@ -88,9 +88,9 @@ is_reached w before rest e m d order at of_e =
 -- ---- the facts on two entries, all at once
 
 pub record TwoEntries (w : World) : Type 0 where
-  pub rounds : EachTwo w.plan w.history (λ number m d n c. d.round ≤ c.round)
-  pub containers : EachTwo w.plan w.history (λ number m d n c. AreOfOneContainer d c → m ≤ n)
-  pub cut : EachTwo w.plan w.history (λ number m d n c. w.plan.stop_at ≡ Some number → d.round < c.round)
+  pub rounds : EachTwo w.plan w.history AreInRoundOrder
+  pub containers : EachTwo w.plan w.history AreInContainerOrder
+  pub cut : EachTwo w.plan w.history (IsAfterStop w.plan)
 
 -- beside an entry no earlier command of its container is ready
 one_by_one : (w : World) (before rest : List Entry) (e : Entry) (m n : ℕ) (d c : Placed) → IsInOrder w → IsReady w n c → w.history ≡ before ++ e ∷ rest → IsEntryOf w.plan e m d
@@ -141,11 +141,11 @@ two_done v n c (next.Call call faulty) order each two ready is =
     let new : IsEntryOf v.plan e n c = record { number = refl; there = ready.there } in
     let goes = goes_in v n c.command call faulty is in
     record {
-      rounds = each_two-grows v.plan v.history e n c (λ number m d j b. d.round ≤ b.round) new two.rounds
+      rounds = each_two-grows v.plan v.history e n c AreInRoundOrder new two.rounds
           (λ before between f m d at of_f. let reached = is_reached v before between f m d order at of_f in let here = ready.current in omega arith);
-      containers = each_two-grows v.plan v.history e n c (λ number m d j b. AreOfOneContainer d b → m ≤ j) new two.containers
+      containers = each_two-grows v.plan v.history e n c AreInContainerOrder new two.containers
           (λ before between f m d at of_f besides. one_by_one v before between f m n d c order ready at of_f besides);
-      cut = each_two-grows v.plan v.history e n c (λ number m d j b. v.plan.stop_at ≡ Some number → d.round < b.round) new two.cut
+      cut = each_two-grows v.plan v.history e n c (IsAfterStop v.plan) new two.cut
           (λ before between f m d at of_f stop. let less = cut_before v before between f m d order two each goes.no_cut at of_f stop in let here = ready.current in omega arith);
     }
 
@@ -154,9 +154,9 @@ none_two w Fit none = λ before between rest e f m n d c at of_e of_f. absurd (s
 
 pub two_entries : (w : World) → Legal w → TwoEntries w
 two_entries _ (begins w begun) = record {
-  rounds = none_two w (λ number m d n c. d.round ≤ c.round) begun.empty;
-  containers = none_two w (λ number m d n c. AreOfOneContainer d c → m ≤ n) begun.empty;
-  cut = none_two w (λ number m d n c. w.plan.stop_at ≡ Some number → d.round < c.round) begun.empty;
+  rounds = none_two w AreInRoundOrder begun.empty;
+  containers = none_two w AreInContainerOrder begun.empty;
+  cut = none_two w (IsAfterStop w.plan) begun.empty;
 }
 two_entries _ (steps v w n c legal ready is) =
     subst TwoEntries (sym is) (two_done v n c (next_of v c.command (own_replies v n)) (in_order v legal) (each_follows v legal) (two_entries v legal) ready refl)
@@ -164,7 +164,7 @@ two_entries _ (refused_memory v w n c legal ready is) = subst TwoEntries (sym is
 two_entries _ (turns v w legal less over is) = subst TwoEntries (sym is) (let t = two_entries v legal in record { rounds = t.rounds; containers = t.containers; cut = t.cut })
 
 -- no entry of its round stands after the one that `stop_at` names
-pub uncut_at : (p : Plan) (h before rest : List Entry) (e : Entry) (n : ℕ) (c : Placed) (stop : Option ℕ) → EachTwo p h (λ number m d j b. p.stop_at ≡ Some number → d.round < b.round)
+pub uncut_at : (p : Plan) (h before rest : List Entry) (e : Entry) (n : ℕ) (c : Placed) (stop : Option ℕ) → EachTwo p h (IsAfterStop p)
     → h ≡ before ++ e ∷ rest → IsEntryOf p e n c → p.stop_at ≡ stop → EntryIsInRound p before stop c.round → ⊥
 uncut_at p h before rest e n c None cut at of_e named is = is
 uncut_at p h before rest e n c (Some number) cut at of_e named is =
@@ -174,9 +174,6 @@ uncut_at p h before rest e n c (Some number) cut at of_e named is =
     omega arith
 
 -- ---- the stop of a command
-
-abbrev KeepsStop : World → Type 0
-KeepsStop w = (n : ℕ) (c : Placed) → slice_get (commands_of w.plan) n ≡ Some c → IsUpToStop c.command.stop (length (own_replies w n))
 
 pub none-made : (stop : Option ℕ) → IsUpToStop stop 0
 none-made None = tt

@@ -7,7 +7,7 @@ use Rattle.std.proofs.lemmas.Bool.{cases_Bool, or_right}
 use Rattle.std.proofs.lemmas.Bool.Decides.{eqb_tells, nat_tests}
 use Rattle.cni_verbs.specs.declared.answer.Answer.{Answer}
 use Rattle.cni_verbs.specs.declared.answer.Answer.TheVariants.{Stopped}
-use Rattle.pod_workers.specs.Facts.{Follows, IsEntryOf, EachTwo, EntryIsInRound, IsUntouched, AreOfOneContainer, IsScripts, IsStopOf, IsDone, IsLegalByClauses, IsDue}
+use Rattle.pod_workers.specs.Facts.{Follows, IsEntryOf, EachTwo, EntryIsInRound, IsUntouched, AreInRoundOrder, AreOfOneContainer, AreInContainerOrder, IsAfterStop, IsScripts, IsStopOf, IsDone, IsLegalByClauses, IsDue}
 use Rattle.pod_workers.specs.Legal.{Legal, steps, refused_memory, turns}
 use Rattle.pod_workers.specs.Plans.{Placed, commands_of, list_for}
 use Rattle.pod_workers.specs.World.{World, IsReady, IsAnswered, IsUpToStop, own_replies, host_of, is_faulty, is_stop, is_cut, is_cut_at, is_in_round, last_entry, answered, with_entry, entry_of, next_of, next_by, next_round, done, at_number}
@@ -216,7 +216,7 @@ clauses_before_entry v e n c k may = record {
   rounds = record {
     past = k.rounds.past;
     later = λ m d at more. untouched_before v e n m may.of_entry.number (k.rounds.later m d at more);
-    entries = each_two-shrinks v.plan v.history e (λ number m d j b. d.round ≤ b.round) k.rounds.entries;
+    entries = each_two-shrinks v.plan v.history e AreInRoundOrder k.rounds.entries;
   };
   containers = record {
     first = λ l m d x less at_l at_m besides. elim (k.containers.first l m d x less at_l at_m besides) [ inl u ↦ inl (untouched_before v e n m may.of_entry.number u) | inr is ↦ inr is ];
@@ -224,11 +224,11 @@ clauses_before_entry v e n c k may = record {
       | inl none ↦ inl (sym (replies-back v e n m may.of_entry.number (no_reply-other v e n m may.of_entry.number none)) ∙ none)
       | inr is ↦ inr (done-back v e n l d may.of_entry.number (λ same. not_both v n (is.0, ap (slice_get v.answers) (sym same) ∙ is.1) may.is_open) is)
     ];
-    entries = each_two-shrinks v.plan v.history e (λ number m d j b. AreOfOneContainer d b → m ≤ j) k.containers.entries;
+    entries = each_two-shrinks v.plan v.history e AreInContainerOrder k.containers.entries;
   };
   stops = record {
     own = λ m d at. stop-back v e m d.command.stop (k.stops.own m d at);
-    round = each_two-shrinks v.plan v.history e (λ number m d j b. v.plan.stop_at ≡ Some number → d.round < b.round) k.stops.round;
+    round = each_two-shrinks v.plan v.history e (IsAfterStop v.plan) k.stops.round;
   };
   answers = λ m a d at there.
       let other : m ≢ n = λ same. not_both v n (a, ap (slice_get v.answers) (sym same) ∙ at) may.is_open in

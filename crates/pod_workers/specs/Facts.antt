@@ -100,11 +100,15 @@ PastAreAnswered w = (n : ℕ) (c : Placed) → slice_get (commands_of w.plan) n 
 abbrev pub LaterAreUntouched : World → Type 0
 LaterAreUntouched w = (n : ℕ) (c : Placed) → slice_get (commands_of w.plan) n ≡ Some c → w.round < c.round → IsUntouched w n
 
+-- an earlier entry is of no later round
+abbrev pub AreInRoundOrder : (number m : ℕ) → Placed → ℕ → Placed → Type 0
+AreInRoundOrder number m d n c = d.round ≤ c.round
+
 -- rounds go one after another: so it is with past and later ones, and entries stand in the order of their rounds
 pub record GoesByRounds (w : World) : Type 0 where
   pub past : PastAreAnswered w
   pub later : LaterAreUntouched w
-  pub entries : EachTwo w.plan w.history (λ number m d n c. d.round ≤ c.round)
+  pub entries : EachTwo w.plan w.history AreInRoundOrder
 
 -- in one round
 abbrev pub AreOfOneContainer : Placed → Placed → Type 0
@@ -116,19 +120,31 @@ EachWaits w =
     (m n : ℕ) (d c : Placed) → m < n → slice_get (commands_of w.plan) m ≡ Some d → slice_get (commands_of w.plan) n ≡ Some c → AreOfOneContainer d c
     → IsUntouched w n ⊎ IsAnswered w m
 
+-- of one container in a round, an earlier entry is of no later command
+abbrev pub AreInContainerOrder : (number m : ℕ) → Placed → ℕ → Placed → Type 0
+AreInContainerOrder number m d n c = AreOfOneContainer d c → m ≤ n
+
 -- In each container of a round one command goes after another (CNI specification, section 3, "Lifecycle & Ordering"):
 -- each waits for the earlier ones, one that has a call finds each of them done, and entries stand in file order.
 pub record GoesOneByOne (w : World) : Type 0 where
   pub first : EachWaits w
   pub whole : EachIsDoneBefore w AreOfOneContainer
-  pub entries : EachTwo w.plan w.history (λ number m d n c. AreOfOneContainer d c → m ≤ n)
+  pub entries : EachTwo w.plan w.history AreInContainerOrder
 
 -- ---- stops
 
+-- no command makes more calls than its `stop`
+abbrev pub KeepsStop : World → Type 0
+KeepsStop w = (n : ℕ) (c : Placed) → slice_get (commands_of w.plan) n ≡ Some c → IsUpToStop c.command.stop (length (own_replies w n))
+
+-- an entry after the one that `stop_at` names is of a later round
+abbrev pub IsAfterStop : Plan → (number m : ℕ) → Placed → ℕ → Placed → Type 0
+IsAfterStop p number m d n c = p.stop_at ≡ Some number → d.round < c.round
+
 -- no command makes more calls than its `stop`, and after the entry that `stop_at` names its round makes none
 pub record Stops (w : World) : Type 0 where
-  pub own : (n : ℕ) (c : Placed) → slice_get (commands_of w.plan) n ≡ Some c → IsUpToStop c.command.stop (length (own_replies w n))
-  pub round : EachTwo w.plan w.history (λ number m d n c. w.plan.stop_at ≡ Some number → d.round < c.round)
+  pub own : KeepsStop w
+  pub round : EachTwo w.plan w.history (IsAfterStop w.plan)
 
 -- ---- answers
 
