@@ -60,7 +60,7 @@ earlier-rounds w legal n c round before rest e exclusive since split of_e none =
     let follows = each_follows w legal first (later ++ e ∷ rest) y whole in
     let k = follows.place in
     let x = follows.by in
-    let of_y : IsEntryOf w.plan y k x = record { number = follows.number; there = follows.there } in
+    let of_y : IsEntryOf w.plan y k x = follows.of in
     let ascend : x.round ≤ c.round = (goes_by_rounds w legal).entries first later rest y e k n x c whole of_y of_e in
     elim (cases_lt x.round round) [
       | inl less ↦ before-is w.plan round y k x of_y less
@@ -145,7 +145,7 @@ entry-within w legal m d before rest e at exclusive some whole =
     let follows = each_follows w legal before rest e whole in
     let k = follows.place in
     let x = follows.by in
-    let of_e : IsEntryOf w.plan e k x = record { number = follows.number; there = follows.there } in
+    let of_e : IsEntryOf w.plan e k x = follows.of in
     elim (entry_or_none m (e ∷ rest)) [
       | inl none ↦ any-none (is_of m) (e ∷ rest) (no-own m (e ∷ rest) none) ∙ sym (not-before w.plan (d.round + 1) e k x of_e (all-later w legal m k d x before rest e at exclusive some whole of_e none))
       | inr is ↦

@@ -36,7 +36,7 @@ cut_stands w (Some number) (Some e) each is cut =
     let split = last_entry-splits w.history e is in
     let follows = each split.0 [] e split.1 in
     let here : is_in_round w.round (Some follows.by) ≡ true =
-    ap (is_in_round w.round) (sym (at_number-is (commands_of w.plan) e.command follows.place follows.number ∙ follows.there)) ∙ both.1 in (
+    ap (is_in_round w.round) (sym (at_number-is (commands_of w.plan) e.command follows.place follows.of.number ∙ follows.of.there)) ∙ both.1 in (
       split.0,
       [],
       e,
@@ -44,7 +44,7 @@ cut_stands w (Some number) (Some e) each is cut =
       follows.by,
       split.1,
       sym (ap length split.1 ∙ length_push split.0 e) ∙ eqb-true (length w.history) number both.0,
-      record { number = follows.number; there = follows.there },
+      follows.of,
       eqb-true follows.by.round w.round here,
     )
 

@@ -29,8 +29,7 @@ follows_ready v n c call faulty legal ready is =
     record {
       place = n;
       by = c;
-      number = refl;
-      there = ready.there;
+      of = record { number = refl; there = ready.there };
       call = goes.call_is;
       reply = ap (reply_to (host_of v) call) (sym goes.fault_is);
       allowed = λ no_fault. allowed_next v n c call legal ready (is ∙ ap (next.Call call) (sym goes.fault_is ∙ no_fault));
@@ -129,9 +128,8 @@ cut_before w before [] e m d order two each no_cut at of_e stop =
 cut_before w before (f ∷ between) e m d order two each no_cut at of_e stop =
     let split = at ∙ sym (append_assoc before (e ∷ []) (f ∷ between)) in
     let follows = each (before ++ e ∷ []) between f split in
-    let of_f : IsEntryOf w.plan f follows.place follows.by = record { number = follows.number; there = follows.there } in
-    let less = two.cut before [] between e f m follows.place d follows.by at of_e of_f stop in
-    let reached = is_reached w (before ++ e ∷ []) between f follows.place follows.by order split of_f in
+    let less = two.cut before [] between e f m follows.place d follows.by at of_e follows.of stop in
+    let reached = is_reached w (before ++ e ∷ []) between f follows.place follows.by order split follows.of in
     omega arith
 
 two_done : (v : World) (n : ℕ) (c : Placed) (x : Next) → IsInOrder v → EachFollows v.plan v.history → TwoEntries v → IsReady v n c → next_of v c.command (own_replies v n) ≡ x → TwoEntries (done v n x)

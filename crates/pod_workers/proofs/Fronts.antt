@@ -122,8 +122,7 @@ each_open_after w legal before rest e at =
       };
       place = m.place;
       by = m.by;
-      number = m.number;
-      there = ap (λ p. slice_get (commands_of p) m.place) (sym m.at.plan_is) ∙ m.ready.there;
+      of = record { number = m.number; there = ap (λ p. slice_get (commands_of p) m.place) (sym m.at.plan_is) ∙ m.ready.there };
       unanswered = m.ready.unanswered;
     }
 

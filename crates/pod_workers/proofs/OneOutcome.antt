@@ -51,7 +51,7 @@ same_call x y t one two = cc
 -- two entries that follow, of one command
 one_call : (p : Plan) (h : List Entry) (e g : Entry) (f : Follows p h e) (o : Follows p h g) → f.place ≡ o.place → e ≡ g
 one_call p h e g f o place =
-    let by : f.by ≡ o.by = same_Some f.by o.by (sym f.there ∙ ap (slice_get (commands_of p)) place ∙ o.there) in
+    let by : f.by ≡ o.by = same_Some f.by o.by (sym f.of.there ∙ ap (slice_get (commands_of p)) place ∙ o.of.there) in
     let turn : turn_at p h f.place f.by ≡ turn_at p h o.place o.by = ap (λ (n : ℕ). turn_at p h n f.by) place ∙ ap (λ (c : Placed). turn_at p h o.place c) by in
     let call : e.call ≡ g.call = same_call e.call g.call (turn_at p h f.place f.by) f.call (turn ∙ o.call) in
     let faulty : is_faulty f.by.command (length (replies_of f.place h)) ≡ is_faulty o.by.command (length (replies_of o.place h)) =
@@ -59,13 +59,13 @@ one_call p h e g f o place =
     let reply : e.reply ≡ g.reply =
     f.reply ∙ ap (λ (k : Call). reply_to (after p.pods.opening h) k (is_faulty f.by.command (length (replies_of f.place h)))) call
     ∙ ap (reply_to (after p.pods.opening h) g.call) faulty ∙ sym o.reply in
-    same_entry e g (f.number ∙ ap (λ (n : ℕ). n + 1) place ∙ sym o.number) call reply
+    same_entry e g (f.of.number ∙ ap (λ (n : ℕ). n + 1) place ∙ sym o.of.number) call reply
 
 one_next : (p : Plan) (h : List Entry) (e g : Entry) → IsNext p h e → IsNext p h g → e ≡ g
 one_next p h e g x y = elim (cases_order x.follows.place y.follows.place) [
   | inl same ↦ one_call p h e g x.follows y.follows same
-  | inr (inl less) ↦ absurd (goes_on p h e x.follows x.uncut (y.before x.follows.place x.follows.by less x.follows.there))
-  | inr (inr more) ↦ absurd (goes_on p h g y.follows y.uncut (x.before y.follows.place y.follows.by more y.follows.there))
+  | inr (inl less) ↦ absurd (goes_on p h e x.follows x.uncut (y.before x.follows.place x.follows.by less x.follows.of.there))
+  | inr (inr more) ↦ absurd (goes_on p h g y.follows y.uncut (x.before y.follows.place y.follows.by more y.follows.of.there))
 ]
 
 -- ---- one trace
@@ -77,8 +77,8 @@ IsTrace p before (e ∷ es) = IsNext p before e × IsTrace p (before ++ e ∷ []
 
 one_trace : (p : Plan) (before xs ys : List Entry) → IsTrace p before xs → IsTrace p before ys → xs ≡ ys
 one_trace p before [] [] over also = refl
-one_trace p before [] (y ∷ ys) over also = absurd (goes_on p before y also.0.follows also.0.uncut (over also.0.follows.place also.0.follows.by also.0.follows.there))
-one_trace p before (x ∷ xs) [] also over = absurd (goes_on p before x also.0.follows also.0.uncut (over also.0.follows.place also.0.follows.by also.0.follows.there))
+one_trace p before [] (y ∷ ys) over also = absurd (goes_on p before y also.0.follows also.0.uncut (over also.0.follows.place also.0.follows.by also.0.follows.of.there))
+one_trace p before (x ∷ xs) [] also over = absurd (goes_on p before x also.0.follows also.0.uncut (over also.0.follows.place also.0.follows.by also.0.follows.of.there))
 one_trace p before (x ∷ xs) (y ∷ ys) one two =
     let same : x ≡ y = one_next p before x y one.0 two.0 in
     let rest : IsTrace p (before ++ y ∷ []) xs = subst (λ (z : Entry). IsTrace p (before ++ z ∷ []) xs) same one.1 in
@@ -107,8 +107,8 @@ no_reply_after w legal order before between [] e n m c of_e less at = refl
 no_reply_after w legal order before between (f ∷ rest) e n m c of_e less at =
     let split : w.history ≡ (before ++ e ∷ between) ++ f ∷ rest = at ∙ sym (append_assoc before (e ∷ between) (f ∷ rest)) in
     let follows = each_follows w legal (before ++ e ∷ between) rest f split in
-    let up : n ≤ follows.place = order.entries before between rest e f n follows.place c follows.by at of_e (record { number = follows.number; there = follows.there }) in
-    let number = follows.number in
+    let up : n ≤ follows.place = order.entries before between rest e f n follows.place c follows.by at of_e follows.of in
+    let number = follows.of.number in
     let later = no_reply_after w legal order before (between ++ f ∷ []) rest e n m c of_e less (at ∙ ap (λ l. before ++ e ∷ l) (sym (append_assoc between (f ∷ []) rest))) in
     elim (eqb_tells f.command (m + 1)) [ inl t ↦ absurd (let same = t.1 in omega arith) | inr other ↦ rw other.0 later ]
 
@@ -168,7 +168,7 @@ traces : (w : World) → IsDoneInFileOrder w → (before rest : List Entry) → 
 traces w is before [] at = λ n c there. subst (λ (h : List Entry). IsFinished w.plan h n c) (at ∙ append-nil before) (finished_at_end w is n c there)
 traces w is before (e ∷ rest) at =
     let follows = each_follows w is.legal before rest e at in
-    let of_e : IsEntryOf w.plan e follows.place follows.by = record { number = follows.number; there = follows.there } in (
+    let of_e = follows.of in (
       record {
         follows = follows;
         uncut = uncut_at w.plan w.history before rest e follows.place follows.by w.plan.stop_at (two_entries w is.legal).cut at of_e refl;

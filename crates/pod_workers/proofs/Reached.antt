@@ -192,7 +192,7 @@ by_round w zero is k fresh = inl (record {
     | inl none ↦ none
     | inr last ↦ absurd (
         let follows = k.entries last.0 [] last.1 last.2 in
-        has_reply follows.place w.history last.0 [] last.1 last.2 follows.number (untouched_at_first w k fresh is follows.place follows.by follows.there).no_reply)
+        has_reply follows.place w.history last.0 [] last.1 last.2 follows.of.number (untouched_at_first w k fresh is follows.place follows.by follows.of.there).no_reply)
   ];
   long = k.long;
   unanswered = λ n o at.
@@ -253,7 +253,7 @@ back_entry w before e n c k none split of_e current =
     let is : with_entry v e ≡ w = ap (λ (h : List Entry). let u : World = record { plan = w.plan; history = h; answers = w.answers; round = w.round } in u) (sym split) in
     let k' : IsLegalByClauses (with_entry v e) = subst IsLegalByClauses (sym is) k in
     let may : MayEnter v e n c = record {
-      of_entry = record { number = of_e.number; there = of_e.there };
+      of_entry = of_e;
       current = current;
       is_open = open_at_last w before e n c k none split of_e current;
       others = λ m d at round a.
@@ -279,10 +279,9 @@ last_event w k = elim (find_last w k (length (commands_of w.plan)) 0 (omega arit
     | inl empty ↦ by_round w w.round refl k (fresh_where w k none (λ n c at current. ap (replies_of n) empty))
     | inr last ↦
         let follows = k.entries last.0 [] last.1 last.2 in
-        let of_e : IsEntryOf w.plan last.1 follows.place follows.by = record { number = follows.number; there = follows.there } in
         elim (eqb_tells follows.by.round w.round) [
-          | inl t ↦ inr (back_entry w last.0 last.1 follows.place follows.by k none last.2 of_e t.1)
-          | inr f ↦ by_round w w.round refl k (fresh_where w k none (silent_after w last.0 last.1 follows.place follows.by k last.2 of_e f.1))
+          | inl t ↦ inr (back_entry w last.0 last.1 follows.place follows.by k none last.2 follows.of t.1)
+          | inr f ↦ by_round w w.round refl k (fresh_where w k none (silent_after w last.0 last.1 follows.place follows.by k last.2 follows.of f.1))
         ]
   ]
 ]

@@ -111,8 +111,8 @@ is_cut_now w (Some number) k named (before, [], e, n, c, split, long, of_e, roun
 is_cut_now w (Some number) k named (before, f ∷ rest, e, n, c, split, long, of_e, round) =
     let at : w.history ≡ (before ++ e ∷ []) ++ f ∷ rest = split ∙ sym (append_assoc before (e ∷ []) (f ∷ rest)) in
     let follows = k.entries (before ++ e ∷ []) rest f at in
-    let less = k.stops.round before [] rest e f n follows.place c follows.by split of_e (record { number = follows.number; there = follows.there }) (named ∙ ap Some (sym long)) in
-    absurd (has_reply follows.place w.history (before ++ e ∷ []) rest f at follows.number (k.rounds.later follows.place follows.by follows.there (let later : w.round < follows.by.round = omega arith in later)).no_reply)
+    let less = k.stops.round before [] rest e f n follows.place c follows.by split of_e follows.of (named ∙ ap Some (sym long)) in
+    absurd (has_reply follows.place w.history (before ++ e ∷ []) rest f at follows.of.number (k.rounds.later follows.place follows.by follows.of.there (let later : w.round < follows.by.round = omega arith in later)).no_reply)
 
 stops_now : (v : World) (n : ℕ) (c : Placed) (a : Answer) → IsStopOf v n c a → (is_stop c.command.stop (length (own_replies v n)) || is_cut v) ≡ true → next_of v c.command (own_replies v n) ≡ next.Answer a
 stops_now v n c a is stops =
@@ -238,16 +238,16 @@ clauses_before_entry v e n c k may = record {
 pub legal_entered : (v : World) (e : Entry) (n : ℕ) (c : Placed) → IsLegalByClauses (with_entry v e) → MayEnter v e n c → Legal v → Legal (with_entry v e)
 legal_entered v e n c k may legal =
     let follows : Follows v.plan v.history e = k.entries v.history [] e refl in
-    let of_e : IsEntryOf v.plan e follows.place follows.by = record { number = follows.number; there = follows.there } in
+    let of_e = follows.of in
     let same = one_command v.plan e e n follows.place c follows.by refl may.of_entry of_e in
     let round : follows.by.round ≡ v.round = ap (λ (q : Placed). q.round) (sym same.1) ∙ may.current in
     let made = length (own_replies v follows.place) in
     let ready : IsReady v follows.place follows.by = record {
-      there = follows.there;
+      there = of_e.there;
       current = round;
       unanswered = ap (slice_get v.answers) (sym same.0) ∙ may.is_open;
-      first = λ m d o less at is blocks. elim (k.containers.first m follows.place d follows.by less at follows.there (blocks.0.0 ∙ sym round, blocks.0.1)) [
-        | inl u ↦ entered_has_reply v e follows.place follows.number u.no_reply
+      first = λ m d o less at is blocks. elim (k.containers.first m follows.place d follows.by less at of_e.there (blocks.0.0 ∙ sym round, blocks.0.1)) [
+        | inl u ↦ entered_has_reply v e follows.place of_e.number u.no_reply
         | inr given ↦ not_both v m given (is ∙ ap Some blocks.1)
       ];
     } in
@@ -261,7 +261,7 @@ legal_entered v e n c k may legal =
     ap (next_by (list_for v.plan follows.by.command) follows.by.command made (is_cut v)) follows.call
     ∙ ap (λ (b : Bool). if b then next.Answer (Stopped made) else next.Call e.call (is_faulty follows.by.command made)) goes in
     steps v (with_entry v e) follows.place follows.by legal ready
-    (ap (with_entry v) (same_entry e (entry_of (host_of v) follows.place e.call (is_faulty follows.by.command made)) follows.number refl follows.reply)
+    (ap (with_entry v) (same_entry e (entry_of (host_of v) follows.place e.call (is_faulty follows.by.command made)) of_e.number refl follows.reply)
     ∙ ap (done v follows.place) (sym next_is))
 
 -- ---- a round

@@ -16,13 +16,17 @@ use Rattle.pod_workers.specs.declared.plan.Next.TheVariants as next
 
 -- ---- entries
 
+-- this is an entry of the command c, which stands at place n
+pub record IsEntryOf (p : Plan) (e : Entry) (n : ℕ) (c : Placed) : Type 0 where
+  pub number : e.command ≡ n + 1
+  pub there : slice_get (commands_of p) n ≡ Some c
+
 -- This entry may come after these: its call is the next of its command's script, it is the kernel's call in the host
 -- there, or the fault that the command lists, and the command was not to stop before it.
 pub record Follows (p : Plan) (before : List Entry) (e : Entry) : Type 0 where
   pub place : ℕ
   pub by : Placed
-  pub number : e.command ≡ place + 1
-  pub there : slice_get (commands_of p) place ≡ Some by
+  pub of : IsEntryOf p e place by
   pub call : turn_by (list_for p by.command) by.command (replies_of place before) ≡ Calls e.call
   pub reply : e.reply ≡ reply_to (after p.pods.opening before) e.call (is_faulty by.command (length (replies_of place before)))
   pub allowed : is_faulty by.command (length (replies_of place before)) ≡ false → IsAllowed (after p.pods.opening before) e.call
@@ -30,11 +34,6 @@ pub record Follows (p : Plan) (before : List Entry) (e : Entry) : Type 0 where
 
 abbrev pub EachFollows : Plan → List Entry → Type 0
 EachFollows p h = (before rest : List Entry) (e : Entry) → h ≡ before ++ e ∷ rest → Follows p before e
-
--- this is an entry of the command c, which stands at place n
-pub record IsEntryOf (p : Plan) (e : Entry) (n : ℕ) (c : Placed) : Type 0 where
-  pub number : e.command ≡ n + 1
-  pub there : slice_get (commands_of p) n ≡ Some c
 
 -- what an entry with this number, from 1, of the command d at place m is to each later one, of c at n
 abbrev pub EachTwo : Plan → List Entry → ((number m : ℕ) → Placed → ℕ → Placed → Type 0) → Type 0
@@ -200,8 +199,7 @@ pub record IsOpenAfter (w : World) (before : List Entry) (e : Entry) : Type 0 wh
   pub at : HasFront w (before ++ e ∷ [])
   pub place : ℕ
   pub by : Placed
-  pub number : e.command ≡ place + 1
-  pub there : slice_get (commands_of w.plan) place ≡ Some by
+  pub of : IsEntryOf w.plan e place by
   pub unanswered : slice_get at.front.answers place ≡ Some None
 
 abbrev pub EachCommandIsOpenAfterItsEntry : Type 0
