@@ -7,7 +7,7 @@ use Rattle.std.proofs.lemmas.List.Elements.{filter-append}
 use Rattle.std.proofs.lemmas.Option.{same_Some}
 use Rattle.pod_file.specs.Rounds.{is_exclusive_verb}
 use Rattle.kernel_types.proofs.ListLemmas.{list_any-append_right}
-use Rattle.pod_workers.specs.Facts.{IsEntryOf}
+use Rattle.pod_workers.specs.Facts.{EachOne, IsEntryOf}
 use Rattle.pod_workers.specs.Legal.{Legal}
 use Rattle.pod_workers.specs.Plans.{Placed, commands_of}
 use Rattle.pod_workers.specs.World.{World, after, at_number, replies_of, replies_in}
@@ -41,7 +41,7 @@ not-before p round e n c of_e within = ap (is_before round) (at_number-is (comma
 
 -- each of these is of an earlier round
 abbrev AreBefore : Plan → ℕ → List Entry → Type 0
-AreBefore p round h = (before rest : List Entry) (e : Entry) → h ≡ before ++ e ∷ rest → is_before round (at_number (commands_of p) e.command) ≡ true
+AreBefore p round h = EachOne h (λ before e. is_before round (at_number (commands_of p) e.command) ≡ true)
 
 until_round-split : (p : Plan) (round : ℕ) (before rest : List Entry) (e : Entry) → AreBefore p round before → is_before round (at_number (commands_of p) e.command) ≡ false → until_round p round (before ++ e ∷ rest) ≡ before
 until_round-split p round [] rest e are not = ap (λ b. if b then e ∷ until_round p round rest else []) not

@@ -3,6 +3,7 @@ use Rattle.std.specs.Prelude.{◌≡◌, ℕ, ◌+◌, List, [], ◌∷◌, ◌+
 use Rattle.kernel_types.specs.declared.object.Host.{Host}
 use Rattle.pod_file.specs.declared.command.Command.{Command}
 use Rattle.pod_file.specs.declared.command.Verb.{Verb}
+use Rattle.pod_workers.specs.Facts.{EachOne}
 use Rattle.pod_workers.specs.Legal.{Legal}
 use Rattle.pod_workers.specs.Plans.{Placed, commands_of}
 use Rattle.pod_workers.specs.World.{World, after}
@@ -11,7 +12,7 @@ use Rattle.pod_workers.specs.declared.plan.Plan.{Plan}
 
 -- each of these entries does so, from the host before it to the one after it
 abbrev pub AllDo : (Plan → Entry → Host → Host → Type 0) → Plan → List Entry → Type 0
-AllDo Does p h = (before later : List Entry) (e : Entry) → h ≡ before ++ e ∷ later → Does p e (after p.pods.opening before) (after p.pods.opening (before ++ e ∷ []))
+AllDo Does p h = EachOne h (λ before e. Does p e (after p.pods.opening before) (after p.pods.opening (before ++ e ∷ [])))
 
 abbrev pub EachEntry : (Plan → Entry → Host → Host → Type 0) → Type 0
 EachEntry Does = (w : World) → Legal w → AllDo Does w.plan w.history

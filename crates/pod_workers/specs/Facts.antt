@@ -32,8 +32,12 @@ pub record Follows (p : Plan) (before : List Entry) (e : Entry) : Type 0 where
   pub allowed : is_faulty by.command (length (replies_of place before)) ≡ false → IsAllowed (after p.pods.opening before) e.call
   pub no_stop : is_stop by.command.stop (length (replies_of place before)) ≡ false
 
+-- what each entry is to those before it
+abbrev pub EachOne : List Entry → (List Entry → Entry → Type 0) → Type 0
+EachOne h Fit = (before rest : List Entry) (e : Entry) → h ≡ before ++ e ∷ rest → Fit before e
+
 abbrev pub EachFollows : Plan → List Entry → Type 0
-EachFollows p h = (before rest : List Entry) (e : Entry) → h ≡ before ++ e ∷ rest → Follows p before e
+EachFollows p h = EachOne h (Follows p)
 
 -- what an entry with this number, from 1, of the command d at place m is to each later one, of c at n
 abbrev pub EachTwo : Plan → List Entry → ((number m : ℕ) → Placed → ℕ → Placed → Type 0) → Type 0
@@ -192,7 +196,7 @@ pub record IsMadeAt (w : World) (before : List Entry) (e : Entry) : Type 0 where
   pub goes : next_of at.front by.command (own_replies at.front place) ≡ next.Call e.call (is_faulty by.command (length (own_replies at.front place)))
 
 abbrev pub EachEntryIsMade : Type 0
-EachEntryIsMade = (w : World) → Legal w → (before rest : List Entry) (e : Entry) → w.history ≡ before ++ e ∷ rest → IsMadeAt w before e
+EachEntryIsMade = (w : World) → Legal w → EachOne w.history (IsMadeAt w)
 
 -- the front right after this entry, in which its command has no answer yet
 pub record IsOpenAfter (w : World) (before : List Entry) (e : Entry) : Type 0 where
@@ -203,7 +207,7 @@ pub record IsOpenAfter (w : World) (before : List Entry) (e : Entry) : Type 0 wh
   pub unanswered : slice_get at.front.answers place ≡ Some None
 
 abbrev pub EachCommandIsOpenAfterItsEntry : Type 0
-EachCommandIsOpenAfterItsEntry = (w : World) → Legal w → (before rest : List Entry) (e : Entry) → w.history ≡ before ++ e ∷ rest → IsOpenAfter w before e
+EachCommandIsOpenAfterItsEntry = (w : World) → Legal w → EachOne w.history (IsOpenAfter w)
 
 -- the front in which this answer was given, with all calls that the command ever made
 pub record IsAnsweredAt (w : World) (n : ℕ) (a : Answer) : Type 0 where
