@@ -1,6 +1,7 @@
 -- The moments of the first and the last entry of one command, and of the start of a round.
-use Rattle.std.specs.Prelude.{ℕ, Bool, false, List, [], ◌∷◌, nat_lt, Option, Some, None, if◌then◌else◌}
+use Rattle.std.specs.Prelude.{ℕ, Bool, false, List, [], ◌∷◌, nat_lt, Option, if◌then◌else◌}
 use Rattle.std.specs.List.{list_any}
+use Rattle.std.specs.Option.{option_map_or}
 use Rattle.kernel_types.specs.Replies.{is_fault}
 use Rattle.kernel_types.specs.declared.object.Host.{Host}
 use Rattle.pod_workers.specs.Plans.{Placed, commands_of}
@@ -33,8 +34,7 @@ host_at_start w n = after w.plan.pods.opening (until_first n w.history)
 
 -- the command is of an earlier round
 abbrev pub is_before : ℕ → Option Placed → Bool
-is_before round None = false
-is_before round (Some c) = nat_lt c.round round
+is_before round c = option_map_or (λ (c : Placed). nat_lt c.round round) c false
 
 -- the history before the first entry of this round or of a later one
 abbrev pub until_round : Plan → ℕ → List Entry → List Entry

@@ -1,6 +1,6 @@
 -- Where each command stands, and the command before it of its container in its round.
 use Rattle.std.specs.Prelude.{◌≡◌, ℕ, ◌+◌, ◌<◌, ◌≤◌, ◌==◌, ◌&&◌, Bool, true, false, List, Option, Some, None, is_some, length, option_and_then, slice_get}
-use Rattle.std.specs.Option.{option_flatten}
+use Rattle.std.specs.Option.{option_flatten, option_map_or}
 use Rattle.cni_verbs.specs.declared.answer.Answer.{Answer}
 use Rattle.pod_file.specs.declared.command.Command.{Command}
 use Rattle.pod_workers.specs.Plans.{Placed, IsOf}
@@ -45,8 +45,7 @@ is_open (Some None) = true
 is_open (Some (Some a)) = false
 
 abbrev pub lets_through : List (Option Answer) → Option ℕ → Bool
-lets_through answers None = true
-lets_through answers (Some m) = is_some (option_flatten (slice_get answers m))
+lets_through answers previous = option_map_or (λ m. is_some (option_flatten (slice_get answers m))) previous true
 
 -- of this round, not answered, and the command before it of its container is
 abbrev pub may_step_by : Place → List (Option Answer) → ℕ → ℕ → Bool

@@ -1,7 +1,7 @@
 -- A plan, its history and answers, and what one step makes of them.
-use Rattle.std.specs.Prelude.{◌≡◌, ℕ, ◌+◌, ◌-◌, ◌<◌, ◌≤◌, ◌==◌, Bool, false, ◌||◌, ◌&&◌, List, [], ◌∷◌, ◌++◌, length, map, filter, Option, Some, None, slice_get, slice_set, nat_le, if◌then◌else◌}
+use Rattle.std.specs.Prelude.{◌≡◌, ℕ, ◌+◌, ◌-◌, ◌<◌, ◌≤◌, ◌==◌, Bool, false, ◌||◌, ◌&&◌, List, [], ◌∷◌, ◌++◌, length, map, filter, Option, Some, None, IfSome, slice_get, slice_set, nat_le, if◌then◌else◌}
 use Rattle.std.specs.List.{list_any}
-use Rattle.std.specs.Option.{option_flatten}
+use Rattle.std.specs.Option.{option_flatten, option_map_or}
 use Rattle.cni_verbs.specs.Progress.{turn_by, answer_by}
 pub use Rattle.cni_verbs.specs.Replies.{reply_to}
 use Rattle.cni_verbs.specs.Script.{Turn, Calls, Finishes}
@@ -74,13 +74,11 @@ is_faulty c made = list_any (λ k. k == made + 1) c.faults
 
 -- the command was to make no more than so many calls
 abbrev pub is_stop : Option ℕ → ℕ → Bool
-is_stop None made = false
-is_stop (Some most) made = nat_le most made
+is_stop stop made = option_map_or (λ most. nat_le most made) stop false
 
 -- no more calls than the command is to make
 abbrev pub IsUpToStop : Option ℕ → ℕ → Type 0
-IsUpToStop None made = Unit {0}
-IsUpToStop (Some most) made = made ≤ most
+IsUpToStop stop made = IfSome stop (λ most. made ≤ most)
 
 abbrev pub last_entry : List Entry → Option Entry
 last_entry h = slice_get h (length h - 1)
@@ -91,8 +89,7 @@ at_number xs number = if number == 0 then None else slice_get xs (number - 1)
 
 -- something is there, and it is of this round
 abbrev pub is_there_in : {X : Type 0} → (X → ℕ) → ℕ → Option X → Bool
-is_there_in round_of round None = false
-is_there_in round_of round (Some x) = round_of x == round
+is_there_in round_of round o = option_map_or (λ x. round_of x == round) o false
 
 abbrev pub is_in_round : ℕ → Option Placed → Bool
 is_in_round round c = is_there_in (λ (c : Placed). c.round) round c
