@@ -1,14 +1,13 @@
 //! The runs of a book's commands, and one step of one run.
 
 ghost use Rattle.std.specs.Prelude.{◌≡◌, ◌+◌, ◌<◌, ◌≤◌, ◌==◌, ◌^◌, ◌⊎◌, [], ◌∷◌, ◌++◌, ◌||◌, None, Some, IfOk, IsTrue, OnErr, OnOk, length, replicate, true, false, slice_get, slice_set};
-ghost use Rattle.std.specs.List.{list_any};
 ghost use Rattle.cni_verbs.specs.Replies.{host_after, reply_to};
 ghost use Rattle.cni_verbs.specs.Script.{IsOpen};
 ghost use Rattle.kernel_types.specs.Allowed.{IsAllowed};
 ghost use Rattle.kernel_types.specs.Replies.{holds_text_or_list, is_fault};
 ghost use Rattle.pod_workers.specs.Slots.{IsCountable, CarriesOn, MayCarryOn, next_in, opened_by, slot_after};
 ghost use Rattle.pod_workers.specs.Tasks.{IsListed};
-ghost use Rattle.pod_workers.specs.World.{IsUpToStop, entry_by, host_on, is_stop};
+ghost use Rattle.pod_workers.specs.World.{IsUpToStop, entry_by, host_on, is_faulty, is_stop};
 
 use crate::join::list_of;
 use crate::plan::{Entry, Next};
@@ -151,7 +150,7 @@ fn look(slot: &mut Slot, command: &Command, cut: bool) -> Result<Next, NoMemory>
         Ok(Next::Answer(Answer::Stopped { calls: made as u32 }))
     } else {
         match slot.run.next()? {
-            Some(call) => Ok(Next::Call(call, is_faulty(command.faults.as_slice(), made))),
+            Some(call) => Ok(Next::Call(call, is_faulty(command, made))),
             None => unreachable!(),
         }
     }
@@ -169,10 +168,14 @@ fn is_stopped(stop: Option<u32>, cut: bool, made: u64) -> bool
     }
 }
 
-fn is_faulty(faults: &[u32], made: u64) -> bool
-    ensures { result ≡ list_any (λ k. k == made + 1) faults.now }
+fn is_faulty(command: &Command, made: u64) -> bool
+    ensures { result ≡ is_faulty command.now made }
 {
-    faults.iter().any(|fault| is_after(*fault, made))
+    command
+        .faults
+        .as_slice()
+        .iter()
+        .any(|fault| is_after(*fault, made))
 }
 
 fn is_after(number: u32, made: u64) -> bool

@@ -1,6 +1,5 @@
-use Rattle.std.proofs.Common.{◌+◌, ◌==◌, sym, ◌∙◌, ap, subst}
+use Rattle.std.proofs.Common.{sym, ◌∙◌, ap, subst}
 use Rattle.std.specs.Prelude.{option_map}
-use Rattle.std.specs.List.{list_any}
 use Rattle.cni_verbs.specs.Progress.{Progress, answer_by}
 use Rattle.cni_verbs.specs.Script.{IsOpen, next_call, finish_of}
 use Rattle.pod_workers.specs.declared.plan.Next.TheVariants as next
@@ -24,7 +23,7 @@ returns-then-is_stopped-clause-next c =
 
 pub returns-in-Some-2-clause-next : goal.returns-in-Some-2-clause-next
 returns-in-Some-2-clause-next c =
-    ap (next.Call c.in-Some-2.call) (c.is_faulty.ensures ∙ ap (list_any (λ k. k == c.args.slot.now.made + 1)) c.as_slice.ensures)
+    ap (next.Call c.in-Some-2.call) c.is_faulty.ensures
     ∙ look-call c.args.slot.now c.args.command.now c.args.cut c.is_stopped.result c.in-Some-2.call c.requires.of_command c.is_stopped.ensures.stop c.if-is_stopped.false
     (ap (λ (r : Progress). next_call r.command r.state) (sym c.prepare.ensures) ∙ sym c.in_ok-call.ensures ∙ c.in-Some-2.is)
 
