@@ -55,7 +55,7 @@ left-deleting : (most : ℕ) (list : NetList) (c : Command) (kinds : List Kind) 
 left-deleting most list c [] ending s = omega arith
 left-deleting most list c (k ∷ ks) ending s = omega arith
 
-left-asking : (most : ℕ) (list : NetList) (c : Command) (questions : List Question) (s : Share) → calls_left most list c (asking questions) s ≤ length questions
+pub left-asking : (most : ℕ) (list : NetList) (c : Command) (questions : List Question) (s : Share) → calls_left most list c (asking questions) s ≤ length questions
 left-asking most list c [] s = omega arith
 left-asking most list c (q ∷ qs) s = omega arith
 

@@ -66,7 +66,7 @@ none-before_leases : (list : NetList) (c : Command) (left : List Call) → IsNoC
 none-before_leases list c [] = none-leasing list c (sets_of list) []
 none-before_leases list c (x ∷ xs) = tt
 
-none-asking : (questions : List Question) → IsNoCollection (asking questions)
+pub none-asking : (questions : List Question) → IsNoCollection (asking questions)
 none-asking [] = tt
 none-asking (x ∷ xs) = tt
 
