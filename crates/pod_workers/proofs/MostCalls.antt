@@ -1,5 +1,5 @@
 -- An ADD makes no more calls than its list has room for, whatever addresses it is leased.
-use Rattle.std.proofs.Common.{◌≡◌, ℕ, ◌+◌, ◌*◌, ◌≤◌, Bool, true, false, List, [], ◌∷◌, ◌++◌, map, length, Option, Some, None, ◌∙◌, ap, arith, mul-suc}
+use Rattle.std.proofs.Common.{◌≡◌, ℕ, ◌+◌, ◌*◌, ◌≤◌, Bool, true, false, List, [], ◌∷◌, ◌++◌, map, length, Option, Some, None, sym, ◌∙◌, ap, arith, mul-suc}
 use Rattle.std.specs.Prelude.{find, flat_map, sum_by, option_to_list, if◌then◌else◌}
 use Rattle.std.specs.Option.{option_map}
 use Rattle.std.proofs.lemmas.List.{length-append, length-map}
@@ -18,13 +18,13 @@ use Rattle.bridge_ptp.specs.Bridge.{gateway_calls}
 use Rattle.bridge_ptp.specs.Gateways.{gateway_call, gateway_of, gateways_on, is_same_gateway}
 use Rattle.bridge_ptp.specs.Ptp as ptp
 use Rattle.bridge_ptp.specs.declared.ptp.AddressOrRoute.TheVariants.{Route}
-use Rattle.bridge_ptp.specs.Results.{added_default, at_interface, bridge_routes}
+use Rattle.bridge_ptp.specs.Results.{added_default, bridge_routes}
 use Rattle.firewall_tuning.specs.Firewall.{forward_of}
 use Rattle.firewall_tuning.specs.Tuning.{link_set_calls, setting_of, sets_any, tuning_settings}
 use Rattle.host_local.specs.Conf.{ipam_of, routes_of}
 use Rattle.host_local.specs.Leases.{given_by, given_in, given_of, lease_calls_from, lease_calls_of}
 use Rattle.host_local.proofs.RowLemmas.{given_of-cons}
-use Rattle.host_local.specs.Results.{ip_of, ipam_result_of}
+use Rattle.host_local.specs.Results.{ip_of}
 use Rattle.ip_pool.specs.NextAddress.{is_between}
 use Rattle.kernel_types.specs.Apply.Calls.{is_same_addr, is_same_route, is_same_setting}
 use Rattle.kernel_types.specs.Equal.{rule_eq}
@@ -42,10 +42,10 @@ use Rattle.plan_words.specs.Families.{has_family, first_of_family}
 use Rattle.plan_words.specs.Shapes.{address_on, addresses_on, forward_calls, forward_for, masquerade_of, masquerade_rules, route_on, routes_on}
 use Rattle.plan_words.proofs.KeyLists.{length-each_key_once}
 use Rattle.portmap.specs.Portmap.{dnat_of, from_host, host_ip_allows, mapping_rules, masquerades_of, portmap_rules, rules_for}
-use Rattle.cni_verbs.proofs.BackCounts.{chained-ips}
+use Rattle.cni_verbs.proofs.BackCounts.{chained-ips, first-addresses}
 use Rattle.cni_verbs.specs.CommandWords.{att_of, mappings_of}
 use Rattle.cni_verbs.specs.Script.{back_of, before_of}
-use Rattle.cni_verbs.specs.Wanted.{add_calls, all_chained_calls, back_calls, cached_of, calls_after, chained_calls, chained_result, first_plugin_result, first_result, given_by_list, sets_of}
+use Rattle.cni_verbs.specs.Wanted.{add_calls, all_chained_calls, back_calls, cached_of, calls_after, chained_calls, chained_result, first_plugin_result, given_by_list, sets_of}
 use Rattle.pod_workers.specs.CallCounts.{AddsInAtMost, most_calls, most_of_chained, most_of_first}
 use Rattle.pod_workers.proofs.CallsLeft.{most_after}
 
@@ -246,14 +246,11 @@ more-of_first (Bridge conf) few most h = omega arith
 more-of_first (Ptp conf) few most h = omega arith
 more-of_first (Macvlan conf) few most h = omega arith
 
-same-first_ips : (first : First) (att : Att) (netns : List ℕ) (ipam : AddResult) → length (first_result first att netns ipam).ips ≡ length ipam.ips
-same-first_ips (Bridge conf) att netns ipam = length-map ipam.ips (at_interface 2)
-same-first_ips (Ptp conf) att netns ipam = length-map ipam.ips (at_interface 1)
-same-first_ips (Macvlan conf) att netns ipam = length-map ipam.ips (at_interface 0)
-
 length-first_ips : (list : NetList) (att : Att) (netns : List ℕ) (addrs : List Addr) → length (first_plugin_result list att netns addrs).ips ≡ length (given_by_list list addrs)
 length-first_ips list att netns addrs =
-    same-first_ips list.first att netns (ipam_result_of (ipam_of list.first) (given_by_list list addrs) list.version) ∙ length-map (given_by_list list addrs) ip_of
+    let given = given_by_list list addrs in
+    sym (length-map (first_plugin_result list att netns addrs).ips (λ (ip : IpEntry). ip.address))
+    ∙ ap length (first-addresses list.first att netns (ipam_of list.first) given list.version) ∙ length-map given (λ (g : Given). g.address)
 
 length-back : (list : NetList) (att : Att) (netns : List ℕ) (mappings : List PortMapping) (addrs : List Addr) → length (back_calls list att netns mappings addrs)
     ≤ most_of_first list.first (length (sets_of list)) + sum_by (most_of_chained mappings (length (sets_of list))) list.chained + 1
