@@ -61,6 +61,10 @@ untouched_entered w m e other u = record { no_reply = replies_of-other m w.histo
 pub ready_is : (w : World) (n m : ℕ) (c d : Placed) → IsReady w n c → m ≡ n → slice_get (commands_of w.plan) m ≡ Some d → d ≡ c
 ready_is w n m c d ready same at = same_Some d c (sym at ∙ ap (slice_get (commands_of w.plan)) same ∙ ready.there)
 
+-- a command of another round stands at another place
+pub other_round : (w : World) (n m : ℕ) (c d : Placed) → slice_get (commands_of w.plan) n ≡ Some c → slice_get (commands_of w.plan) m ≡ Some d → d.round ≢ c.round → m ≢ n
+other_round w n m c d there at other = λ same. other (ap (λ (q : Placed). q.round) (same_Some d c (sym at ∙ ap (slice_get (commands_of w.plan)) same ∙ there)))
+
 -- where a command is ready, each earlier one of its container is answered
 pub before_ready : (w : World) (m n : ℕ) (d c : Placed) → IsInOrder w → IsReady w n c → m < n → slice_get (commands_of w.plan) m ≡ Some d
     → d.round ≡ c.round → d.command.container ≡ c.command.container → IsAnswered w m

@@ -1,5 +1,5 @@
 -- A round's commands are stepped to their answers one after another, and the next round is current.
-use Rattle.std.proofs.Common.{◌≡◌, ◌≢◌, ℕ, zero, suc, ◌+◌, ◌-◌, ◌<◌, ◌≤◌, true, List, [], ◌∷◌, ◌++◌, length, map, take, Option, Some, None, Result, Ok, Err, OnOk, OnErr, slice_get, refl, sym, ◌∙◌, ap, subst, arith, inl, inr}
+use Rattle.std.proofs.Common.{◌≡◌, ℕ, zero, suc, ◌+◌, ◌-◌, ◌<◌, ◌≤◌, true, List, [], ◌∷◌, ◌++◌, length, map, take, Option, Some, None, Result, Ok, Err, OnOk, OnErr, slice_get, refl, sym, ◌∙◌, ap, subst, arith, inl, inr}
 use Rattle.std.specs.List.{All}
 use Rattle.std.proofs.lemmas.List.{append-nil, append_assoc, length-append, length-map}
 use Rattle.std.proofs.lemmas.List.Elements.{All-append, All-cons, All-nil}
@@ -27,7 +27,7 @@ use Rattle.pod_workers.specs.declared.plan.StepEnd.{StepEnd}
 use Rattle.pod_workers.specs.declared.slots.Slot.{Slot}
 use Rattle.pod_workers.proofs.FileOrder.{file_order_answered, file_order_next_round, file_order_stepped}
 use Rattle.pod_workers.proofs.Histories.{slice_get-set_other}
-use Rattle.pod_workers.proofs.Order.{in_order, not_both, open_or_answered}
+use Rattle.pod_workers.proofs.Order.{in_order, not_both, open_or_answered, other_round}
 use Rattle.pod_workers.proofs.Rounds.{placed-fits, placed_from-more, placed_from-front, round-of, rounds-before}
 use Rattle.pod_workers.proofs.Elements.{at_number-is, slice_get-right, slice_get-before}
 use Rattle.pod_workers.proofs.Sound.{fine}
@@ -65,11 +65,6 @@ extends_trans u v w e f = record {
   others = λ n c at far. f.others n c (ap (λ p. slice_get (commands_of p) n) e.plan_is ∙ at) (λ same. far (same ∙ e.round_is)) ∙ e.others n c at far;
 }
 
--- a command of another round stands at another place
-elsewhere : (w : World) (n m : ℕ) (c d : Placed) → IsReady w n c → slice_get (commands_of w.plan) m ≡ Some d → (d.round ≡ w.round → ⊥) → m ≢ n
-elsewhere w n m c d ready at_m far = λ same.
-    far (ap (λ (x : Placed). x.round) (same_Some d c (sym at_m ∙ ap (slice_get (commands_of w.plan)) same ∙ ready.there)) ∙ ready.current)
-
 answered_extends : (w : World) (n : ℕ) (c : Placed) (a : Answer) → IsReady w n c → Extends w (answered w n a)
 answered_extends w n c a ready = record {
   plan_is = refl;
@@ -79,7 +74,7 @@ answered_extends w n c a ready = record {
     | inl t ↦ absurd (none-some b (same_Some None (Some b) (sym ready.unanswered ∙ ap (slice_get w.answers) (sym t.1) ∙ is)))
     | inr f ↦ slice_get-set_other w.answers n m (Some a) f.1 ∙ is
   ];
-  others = λ m d at_m far. slice_get-set_other w.answers n m (Some a) (elsewhere w n m c d ready at_m far);
+  others = λ m d at_m far. slice_get-set_other w.answers n m (Some a) (other_round w n m c d ready.there at_m (λ e. far (e ∙ ready.current)));
 }
 
 same-is-in : (round : ℕ) (c : Placed) → c.round ≡ round → is_in_round round (Some c) ≡ true

@@ -18,7 +18,7 @@ use Rattle.pod_workers.proofs.AnswersDue.{cut_stands, at_own_stop}
 use Rattle.pod_workers.proofs.Elements.{at_number-is}
 use Rattle.pod_workers.proofs.Facts.{one_command, uncut_at}
 use Rattle.pod_workers.proofs.Histories.{slice_get-set_same, slice_get-set_other, replies_of-own, replies_of-other, has_reply, last_entry-append, same_entry}
-use Rattle.pod_workers.proofs.Order.{not_both, other_number}
+use Rattle.pod_workers.proofs.Order.{not_both, other_number, other_round}
 use Rattle.pod_workers.proofs.Splits.{split_snoc}
 
 -- ---- an answer
@@ -41,10 +41,6 @@ untouched-other v n m a is u = λ same. none-some a (same_Some None (Some a) (sy
 
 untouched-back : (v : World) (n m : ℕ) (a : Answer) → m ≢ n → IsUntouched (answered v n a) m → IsUntouched v m
 untouched-back v n m a other u = record { no_reply = u.no_reply; no_answer = sym (slice_get-set_other v.answers n m (Some a) other) ∙ u.no_answer }
-
--- a command of another round stands at another place
-other_round : (v : World) (n m : ℕ) (c d : Placed) → slice_get (commands_of v.plan) n ≡ Some c → slice_get (commands_of v.plan) m ≡ Some d → d.round ≢ c.round → m ≢ n
-other_round v n m c d there at other = λ same. other (ap (λ (q : Placed). q.round) (same_Some d c (sym at ∙ ap (slice_get (commands_of v.plan)) same ∙ there)))
 
 last_besides : (v : World) (n l m : ℕ) (c d x : Placed) → MayAnswer v n c → l ≡ n → l < m → slice_get (commands_of v.plan) l ≡ Some d → slice_get (commands_of v.plan) m ≡ Some x → AreOfOneContainer d x → IsUntouched v m
 last_besides v n l m c d x may same less at_l at_m besides =
