@@ -23,6 +23,7 @@ use Rattle.kernel_types.specs.Sound.{IsSound, NoAddressTwice}
 use Rattle.kernel_types.specs.Touch.{Touches, TouchesTag}
 use Rattle.kernel_types.specs.Words.{is_own, is_owned}
 use Rattle.kernel_types.proofs.EveryCall.{IsSound-apply, Touches-apply}
+use Rattle.kernel_types.proofs.Isolation.{is_own-one}
 use Rattle.kernel_types.proofs.SoundHosts.{NoAddressTwice-sound}
 use Rattle.kernel_types.proofs.LeasedAddress.{leased-candidate}
 use Rattle.kernel_types.proofs.ListLemmas.{passes-find, passes-list_all}
@@ -154,9 +155,7 @@ lasts-touches (Outside a) old new n h = h.lasts
 -- ---- planned calls may be made
 
 owned : (att : Att) (t : Tag) → is_own att t ≡ true → is_owned t ≡ true
-owned att tags.Outside h = cc
-owned att tags.Base h = cc
-owned att (tags.Own own) h = refl
+owned att t h = ap is_owned (is_own-one att t h)
 
 -- the call may be made in this host, and after it each last is a candidate still
 abbrev pub GoesWell : Plan → Host → Call → Type 0
