@@ -13,7 +13,7 @@ use Rattle.pod_workers.proofs.Facts.{one_command}
 use Rattle.pod_workers.proofs.Histories.{slice_get-set_same, slice_get-set_other, has_reply, set-back, entry_or_none, empty_or_last}
 use Rattle.pod_workers.proofs.Order.{not_both, answered_or_open, same_or_other}
 use Rattle.pod_workers.proofs.RoundsAscend.{command_at}
-use Rattle.pod_workers.proofs.Splits.{split_snoc}
+use Rattle.pod_workers.proofs.Splits.{none-or-some, split_snoc}
 use Rattle.pod_workers.proofs.TakenBack.{MayAnswer, MayEnter, clauses_before_answer, clauses_before_entry, clauses_before_round, legal_answered, legal_entered, legal_turned}
 
 -- ---- how much was done
@@ -88,9 +88,6 @@ besides_or_not c d = elim (eqb_tells c.round d.round) [
   | inl t ↦ elim (same_or_other c.command.container d.command.container) [ inl same ↦ inl (t.1, same) | inr other ↦ inr (λ b. other b.1) ]
 ]
 
-none_or_some : (w : World) (n : ℕ) → (own_replies w n ≡ []) ⊎ (own_replies w n ≢ [])
-none_or_some w n = elim (entry_or_none n w.history) [ inl none ↦ inl none | inr is ↦ inr (λ none. has_reply n w.history is.0 is.1 is.2 is.3 is.4 none) ]
-
 find_later : (w : World) (c : Placed) (left n : ℕ) → n + left ≡ length (commands_of w.plan)
     → ((m : ℕ) × (d : Placed) × (n ≤ m) × (slice_get (commands_of w.plan) m ≡ Some d) × AreOfOneContainer c d × (own_replies w m ≢ [])) ⊎ NoneFrom w n c
 find_later w c zero n ends = inr (λ m d most at besides. absurd (let within = slice_get_within (commands_of w.plan) m d at in omega arith))
@@ -107,7 +104,7 @@ find_later w c (suc left) n ends = elim (find_later w c left (n + 1) (omega arit
       ] in
       elim (besides_or_not c x.0) [
         | inr apart ↦ inr (rest (inl apart))
-        | inl besides ↦ elim (none_or_some w n) [ inl no_reply ↦ inr (rest (inr no_reply)) | inr some ↦ inl (n, x.0, omega arith, x.1, besides, some) ]
+        | inl besides ↦ elim (none-or-some (own_replies w n)) [ inl no_reply ↦ inr (rest (inr no_reply)) | inr some ↦ inl (n, x.0, omega arith, x.1, besides, some) ]
       ]
 ]
 

@@ -1,5 +1,5 @@
 -- Lists that are split at an element.
-use Rattle.std.proofs.Common.{◌≡◌, List, [], ◌∷◌, ◌++◌, refl, sym, ◌∙◌, ap, inl, inr, ◌⊎◌}
+use Rattle.std.proofs.Common.{◌≡◌, ◌≢◌, List, [], ◌∷◌, ◌++◌, refl, sym, ◌∙◌, ap, inl, inr, ◌⊎◌}
 use Rattle.std.proofs.lemmas.List.{append_assoc}
 
 pub cons_parts : {X : Type 0} (x y : X) (xs ys : List X) → x ∷ xs ≡ y ∷ ys → (x ≡ y) × (xs ≡ ys)
@@ -8,6 +8,10 @@ cons_parts x y xs ys e = (cc, cc)
 pub split_nil : {X : Type 0} (before rest : List X) (e : X) → [] ≡ before ++ e ∷ rest → ⊥
 split_nil [] rest e is = cc
 split_nil (b ∷ bs) rest e is = cc
+
+pub none-or-some : {X : Type 0} (xs : List X) → (xs ≡ []) ⊎ (xs ≢ [])
+none-or-some [] = inl refl
+none-or-some (x ∷ xs) = inr (λ e. cc)
 
 -- a split of a list that is one longer is at the new element, or it is one of the list
 pub split_snoc : {X : Type 0} (h before rest : List X) (x e : X) → h ++ x ∷ [] ≡ before ++ e ∷ rest
