@@ -2,7 +2,7 @@
 use Rattle.std.proofs.Common.{◌≡◌, ℕ, ◌+◌, ◌≤◌, Bool, true, false, List, [], ◌∷◌, ◌++◌, map, length, Option, Some, None, refl, sym, ◌∙◌, ap, subst, inl, inr, ◌⊎◌, arith}
 use Rattle.std.specs.Prelude.{filter, find, not, ◌&&◌}
 use Rattle.std.specs.List.{list_any}
-use Rattle.std.proofs.lemmas.Bool.{cases_Bool, not_from_true}
+use Rattle.std.proofs.lemmas.Bool.{both_ways, cases_Bool, not_from_true, not-true}
 use Rattle.std.proofs.lemmas.List.{length-append, length-map}
 use Rattle.std.proofs.lemmas.Slice.Eq.{bytes_eq-Decides}
 use Rattle.net_conf.specs.Sets.{one_if}
@@ -132,10 +132,6 @@ pub record Falls (att : Att) (old : Host) (step : Host × Reply) : Type 0 where
   pub reply : step.1 ≡ Gone gone
   pub fewer : deletions_of (share_of att step.0) + one_if gone ≤ deletions_of (share_of att old)
 
-clash : (b : Bool) → b ≡ true → not b ≡ true → ⊥
-clash true h g = cc
-clash false h g = cc
-
 -- the first own link goes, and with it an own link outside the host: itself, or the other end
 abbrev takes_inner : Att → Link → Link → Bool
 takes_inner att found l = is_own att l.tag && (not (is_host_ns l.ns) && goes_with found.ns found.name l)
@@ -144,7 +140,7 @@ veth-of : (ns : List ℕ) (kind : LinkKind) → is_owned_kind ns kind ≡ true �
 veth-of ns link_kinds.Device fits outer = cc
 veth-of ns link_kinds.Bridge fits outer = cc
 veth-of ns link_kinds.Veth fits outer = refl
-veth-of ns (link_kinds.Macvlan mode) fits outer = absurd (clash (is_host_ns ns) outer fits)
+veth-of ns (link_kinds.Macvlan mode) fits outer = absurd (both_ways (is_host_ns ns) (not-true (is_host_ns ns) fits) outer)
 
 inner-peer : (att : Att) (l m : Link) (key : LinkKey) → is_own att l.tag ≡ true → is_host_ns key.ns ≡ false → peers_back l key m ≡ true → takes_inner att l m ≡ true
 inner-peer att l m key own far back =
@@ -155,7 +151,7 @@ inner-peer att l m key own far back =
     grind (arith, outside, tagged, goes)
 
 other-end : (att : Att) (links : List Link) (l : Link) (o : Option LinkKey) → is_own att l.tag ≡ true → is_veth l.kind ≡ true → is_host_ns l.ns ≡ true → peer_fits links l o ≡ true → list_any (takes_inner att l) links ≡ true
-other-end att links l None own veth outer fits = absurd (clash (is_veth l.kind) veth fits)
+other-end att links l None own veth outer fits = absurd (both_ways (is_veth l.kind) (not-true (is_veth l.kind) fits) veth)
 other-end att links l (Some key) own veth outer fits =
     let there : list_any (peers_back l key) links ≡ true = grind (arith, fits) in
     let far : is_host_ns key.ns ≡ false = grind (arith, fits, outer) in
