@@ -1,5 +1,6 @@
--- Lists: an element by its place and by its number, in two lists joined and after a map.
-use Rattle.std.proofs.Common.{◌≡◌, ℕ, zero, suc, ◌+◌, ◌-◌, ◌<◌, ◌⊎◌, Bool, List, [], ◌∷◌, ◌++◌, length, map, Some, None, slice_get, if◌then◌else◌, refl, sym, ap, ◌∙◌, arith, inl, inr}
+-- Lists: an element by its place and by its number, in two lists joined and after a map, and the first that passes.
+use Rattle.std.proofs.Common.{◌≡◌, ℕ, zero, suc, ◌+◌, ◌-◌, ◌<◌, ◌⊎◌, Bool, true, false, List, [], ◌∷◌, ◌++◌, length, map, Option, Some, None, slice_get, if◌then◌else◌, refl, sym, ap, ◌∙◌, arith, inl, inr}
+use Rattle.std.specs.Prelude.{find, filter}
 use Rattle.std.proofs.lemmas.Bool.Decides.{eqb_tells}
 use Rattle.std.proofs.lemmas.Option.{same_Some, none-some}
 use Rattle.plan_words.proofs.RowLemmas.{slice_get-behind}
@@ -30,3 +31,16 @@ pub slice_get-map_some : {X Y : Type 0} (f : X → Y) (xs : List X) (i : ℕ) (y
 slice_get-map_some f [] i y is = absurd (none-some y is)
 slice_get-map_some f (x ∷ xs) zero y is = (x, refl, same_Some (f x) y is)
 slice_get-map_some f (x ∷ xs) (suc i) y is = slice_get-map_some f xs i y is
+
+abbrev pub first_of : {X : Type 0} → List X → Option X
+first_of [] = None
+first_of (x ∷ xs) = Some x
+
+find-step : {X : Type 0} (b : Bool) (x : X) (o : Option X) (xs : List X) → o ≡ first_of xs → (if b then Some x else o) ≡ first_of (if b then x ∷ xs else xs)
+find-step true x o xs h = refl
+find-step false x o xs h = h
+
+-- what is found is the first that passes
+pub find-first : {X : Type 0} (p : X → Bool) (xs : List X) → find p xs ≡ first_of (filter p xs)
+find-first p [] = refl
+find-first p (x ∷ xs) = find-step (p x) x (find p xs) (filter p xs) (find-first p xs)

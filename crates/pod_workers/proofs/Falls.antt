@@ -1,5 +1,5 @@
 -- Each reply lowers the calls that are left to a run.
-use Rattle.std.proofs.Common.{◌≡◌, ℕ, ◌+◌, ◌<◌, ◌≤◌, Bool, true, false, cond, List, [], ◌∷◌, ◌++◌, length, Option, Some, None, refl, sym, ap, subst, inl, inr, ◌⊎◌, arith}
+use Rattle.std.proofs.Common.{◌≡◌, ℕ, ◌+◌, ◌<◌, ◌≤◌, Bool, true, false, List, [], ◌∷◌, ◌++◌, length, Option, Some, None, refl, sym, ◌∙◌, ap, subst, inl, inr, ◌⊎◌, arith}
 use Rattle.std.specs.Prelude.{find, filter}
 use Rattle.std.specs.Option.{option_map}
 use Rattle.std.proofs.lemmas.Option.{same_Some}
@@ -31,6 +31,7 @@ use Rattle.cni_verbs.specs.declared.answer.Question.{Question}
 use Rattle.pod_workers.specs.CallCounts.{AddsInAtMost, deletions_of}
 use Rattle.pod_workers.proofs.CallsLeft.{calls_left, making, most_after, questions_by}
 use Rattle.pod_workers.proofs.Deletable.{begin-none, call-more, deletion-falls, lease-more}
+use Rattle.pod_workers.proofs.Elements.{find-first, first_of}
 use Rattle.pod_workers.proofs.MostCalls.{back-within, most-splits}
 
 -- ---- where work is left
@@ -187,16 +188,13 @@ Replies list c st host call = IsReplyIn list c st (apply host call).1 (share_of 
 reply-begin : (list : NetList) (c : Command) (host : Host) → Replies list c AtBegin host (Begin (att_of c) c.netns)
 reply-begin list c host = λ done. begin-none (att_of c) host c.netns done
 
-found-by : (b : Bool) (x : CachedObj) (xs : List CachedObj) (o : Option CachedObj) (list : NetList) (c : Command) (cached : Cached)
-    → (option_map (λ (y : CachedObj). y.cached) o ≡ Some cached → length (check_questions list c cached) ≤ questions_by list c xs)
-    → option_map (λ (y : CachedObj). y.cached) (cond b (Some x) o) ≡ Some cached → length (check_questions list c cached) ≤ questions_by list c (cond b (x ∷ xs) xs)
-found-by true x xs o list c cached rest is = let e = ap (λ k. length (check_questions list c k)) (same_Some x.cached cached is) in omega arith
-found-by false x xs o list c cached rest is = rest is
+first-asks : (xs : List CachedObj) (list : NetList) (c : Command) (cached : Cached) → option_map (λ (x : CachedObj). x.cached) (first_of xs) ≡ Some cached → length (check_questions list c cached) ≤ questions_by list c xs
+first-asks [] list c cached is = cc
+first-asks (x ∷ xs) list c cached is = let e = ap (λ k. length (check_questions list c k)) (same_Some x.cached cached is) in omega arith
 
 found-filter : (own : CachedObj → Bool) (xs : List CachedObj) (list : NetList) (c : Command) (cached : Cached) → option_map (λ (x : CachedObj). x.cached) (find own xs) ≡ Some cached
     → length (check_questions list c cached) ≤ questions_by list c (filter own xs)
-found-filter own [] list c cached is = cc
-found-filter own (x ∷ xs) list c cached is = found-by (own x) x (filter own xs) (find own xs) list c cached (found-filter own xs list c cached) is
+found-filter own xs list c cached is = first-asks (filter own xs) list c cached (ap (option_map (λ (x : CachedObj). x.cached)) (sym (find-first own xs)) ∙ is)
 
 pub replies-as : (list : NetList) (c : Command) (st : State) (host : Host) (call : Call) → IsSound host → IsAllowed host call → IsOwnNext c st → turn c st ≡ Calls call → Replies list c st host call
 unfolding turn
