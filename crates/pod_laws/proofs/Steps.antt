@@ -15,7 +15,7 @@ use Rattle.cni_verbs.specs.Progress.{turn_by}
 use Rattle.cni_verbs.specs.Script.{Calls, turn, state_after, outside_after}
 use Rattle.cni_verbs.specs.declared.answer.Answer.{Answer}
 use Rattle.cni_verbs.specs.declared.answer.Answer.TheVariants.{OutOfMemory}
-use Rattle.pod_workers.specs.Legal.{Legal, begins, steps, refused_memory, turns}
+use Rattle.pod_workers.specs.Legal.{Legal, starts, steps, refused_memory, turns}
 use Rattle.pod_workers.specs.Plans.{Placed, IsWellFormed, commands_of, list_for}
 use Rattle.pod_workers.specs.World.{World, IsReady, host_on, host_of, own_replies, entry_of, with_entry, answered, done, next_of}
 use Rattle.pod_workers.specs.declared.plan.Entry.{Entry}
@@ -98,7 +98,7 @@ kept-done P keep change w n c (next.Call call faulty) legal ready is was =
     elim (goes-on w n c call faulty legal ready is) [ inl on ↦ keep w n c on.0 call faulty on.1 was | inr on ↦ change w n c call faulty on was ]
 
 pub by-entries : (P : Plan → List Entry → Type 0) → ((p : Plan) → IsWellFormed p → P p []) → EntriesKeep P → ChangesKeep P → (w : World) → Legal w → P w.plan w.history
-by-entries P start keep change _ (begins w begun) = subst (P w.plan) (sym begun.empty) (start w.plan begun.plan)
+by-entries P start keep change _ (starts w begun) = subst (P w.plan) (sym begun.empty) (start w.plan begun.plan)
 by-entries P start keep change _ (steps v w n c legal ready is) =
     subst (λ (u : World). P u.plan u.history) (sym is) (kept-done P keep change v n c (next_of v c.command (own_replies v n)) legal ready refl (by-entries P start keep change v legal))
 by-entries P start keep change _ (refused_memory v w n c legal ready is) = subst (λ (u : World). P u.plan u.history) (sym is) (by-entries P start keep change v legal)
@@ -161,7 +161,7 @@ open-done Q keep w n c (next.Answer a) legal ready is was = open-answered Q w n 
 open-done Q keep w n c (next.Call call faulty) legal ready is was = keep w n c call faulty (goes-on w n c call faulty legal ready is) was
 
 pub by-open : (Q : OpenFact) → ((p : Plan) (m : ℕ) (d : Placed) → Q p [] m d) → IsOpenKept Q → (w : World) → Legal w → AllOpen Q w
-by-open Q start keep _ (begins w begun) = λ m d at is_open. subst (λ h. Q w.plan h m d) (sym begun.empty) (start w.plan m d)
+by-open Q start keep _ (starts w begun) = λ m d at is_open. subst (λ h. Q w.plan h m d) (sym begun.empty) (start w.plan m d)
 by-open Q start keep _ (steps v w n c legal ready is) = subst (AllOpen Q) (sym is) (open-done Q keep v n c (next_of v c.command (own_replies v n)) legal ready refl (by-open Q start keep v legal))
 by-open Q start keep _ (refused_memory v w n c legal ready is) = subst (AllOpen Q) (sym is) (open-answered Q v n c OutOfMemory ready (by-open Q start keep v legal))
 by-open Q start keep _ (turns v w legal less over is) = subst (AllOpen Q) (sym is) (by-open Q start keep v legal)

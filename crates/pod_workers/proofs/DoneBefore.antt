@@ -4,7 +4,7 @@ use Rattle.std.proofs.lemmas.Bool.Decides.{eqb_tells}
 use Rattle.cni_verbs.specs.declared.answer.Answer.{Answer}
 use Rattle.cni_verbs.specs.declared.answer.Answer.TheVariants.{OutOfMemory}
 use Rattle.pod_workers.specs.Facts.{EntryIsInRound, IsDone, EachIsDoneBefore, AreOfOneContainer, GoesOneByOne}
-use Rattle.pod_workers.specs.Legal.{Legal, begins, steps, refused_memory, turns}
+use Rattle.pod_workers.specs.Legal.{Legal, starts, steps, refused_memory, turns}
 use Rattle.pod_workers.specs.Plans.{Placed, commands_of}
 use Rattle.pod_workers.specs.World.{World, IsReady, IsAnswered, own_replies, replies_of, host_of, is_cut, done, answered, with_entry, entry_of, next_of}
 use Rattle.pod_workers.specs.declared.plan.Entry.{Entry}
@@ -93,7 +93,7 @@ whole_done w n c (next.Call call faulty) legal each ready is =
     (λ m d less at besides. (besides.0 ∙ ready.current, before_ready w m n d c (in_order w legal) ready less at besides.0 besides.1)) (goes_in w n c.command call faulty is).no_cut refl
 
 pub whole : (w : World) → Legal w → EachIsDoneBefore w AreOfOneContainer
-whole _ (begins w begun) = λ m n d c less at_m at_n besides. inl (ap (replies_of n) begun.empty)
+whole _ (starts w begun) = λ m n d c less at_m at_n besides. inl (ap (replies_of n) begun.empty)
 whole _ (steps v w n c legal ready is) =
     subst (λ u. EachIsDoneBefore u AreOfOneContainer) (sym is) (whole_done v n c (next_of v c.command (own_replies v n)) legal (whole v legal) ready refl)
 whole _ (refused_memory v w n c legal ready is) = subst (λ u. EachIsDoneBefore u AreOfOneContainer) (sym is) (done_before_answered v n c OutOfMemory AreOfOneContainer (whole v legal) ready)

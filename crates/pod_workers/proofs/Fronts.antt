@@ -8,7 +8,7 @@ use Rattle.cni_verbs.specs.declared.answer.Answer.TheVariants.{OutOfMemory}
 use Rattle.kernel_types.specs.declared.call.Call.{Call}
 use Rattle.pod_workers.specs.Extends.{KeepsAnswers}
 use Rattle.pod_workers.specs.Facts.{HasFront, IsMadeAt, IsOpenAfter, IsAnsweredAt}
-use Rattle.pod_workers.specs.Legal.{Legal, begins, steps, refused_memory, turns}
+use Rattle.pod_workers.specs.Legal.{Legal, starts, steps, refused_memory, turns}
 use Rattle.pod_workers.specs.Plans.{Placed, commands_of}
 use Rattle.pod_workers.specs.World.{World, IsReady, own_replies, host_of, done, answered, with_entry, entry_of, next_of, next_round}
 use Rattle.pod_workers.specs.declared.plan.Entry.{Entry}
@@ -91,7 +91,7 @@ made_done v n c (next.Call call faulty) before rest e legal ready is earlier at 
     ]
 
 pub each_made : (w : World) → Legal w → (before rest : List Entry) (e : Entry) → w.history ≡ before ++ e ∷ rest → IsMadeAt w before e
-each_made _ (begins w begun) before rest e at = absurd (split_nil before rest e (sym begun.empty ∙ at))
+each_made _ (starts w begun) before rest e at = absurd (split_nil before rest e (sym begun.empty ∙ at))
 each_made _ (steps v w n c legal ready is) before rest e at =
     subst (λ u. IsMadeAt u before e) (sym is)
     (made_done v n c (next_of v c.command (own_replies v n)) before rest e legal ready refl (λ more at_v. each_made v legal before more e at_v) (ap (λ (u : World). u.history) (sym is) ∙ at))
@@ -172,7 +172,7 @@ answered_done v n c (next.Call call faulty) m a legal ready is earlier at =
     later_answered v (with_entry v e) m a (e ∷ []) (on_done v n (next.Call call faulty) ready.unanswered) refl (replies_of-other m v.history e other) (earlier at)
 
 pub each_answered : (w : World) → Legal w → (n : ℕ) (a : Answer) → slice_get w.answers n ≡ Some (Some a) → IsAnsweredAt w n a
-each_answered _ (begins w begun) n a at = absurd (none-some a (sym (begun.unanswered n (Some a) at)))
+each_answered _ (starts w begun) n a at = absurd (none-some a (sym (begun.unanswered n (Some a) at)))
 each_answered _ (steps v w k c legal ready is) n a at =
     subst (λ u. IsAnsweredAt u n a) (sym is)
     (answered_done v k c (next_of v c.command (own_replies v k)) n a legal ready refl (each_answered v legal n a) (ap (λ (u : World). slice_get u.answers n) (sym is) ∙ at))

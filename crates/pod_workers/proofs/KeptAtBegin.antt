@@ -8,7 +8,7 @@ use Rattle.kernel_types.specs.declared.object.Host.{Host}
 use Rattle.net_conf.specs.declared.list.NetList.{NetList}
 use Rattle.pod_file.specs.declared.command.Command.{Command}
 use Rattle.pod_workers.specs.Index.{IsIndex}
-use Rattle.pod_workers.specs.Legal.{IsBegun, begins}
+use Rattle.pod_workers.specs.Legal.{IsBegun, starts}
 use Rattle.pod_workers.specs.Plans.{IsWellFormed, Placed, commands_of, placed_from}
 use Rattle.pod_workers.specs.Slots.{Fits, IsKept}
 use Rattle.pod_workers.specs.World.{AllNone, begun}
@@ -41,7 +41,7 @@ fits-blank list c s is = rw is refl
 begun-kept : (p : Plan) (host : Host) (places : List Place) (count : ℕ) → IsWellFormed p → host ≡ p.pods.opening → IsIndex p.pods.rounds (commands_of p) places → count ≡ length places
     → IsKept host (replicate count None) places 0 (begun p)
 begun-kept p host places count well host_is index count_is = record {
-  legal = begins (begun p) (is-begun p well);
+  legal = starts (begun p) (is-begun p well);
   host_is = host_is;
   slots_long = length-replicate count None ∙ count_is ∙ index.long;
   answers_long = length-map (commands_of p) _;

@@ -10,7 +10,7 @@ use Rattle.cni_verbs.specs.declared.answer.Answer.{Answer}
 use Rattle.cni_verbs.specs.declared.answer.Answer.TheVariants.{OutOfMemory}
 use Rattle.pod_file.specs.Rounds.{is_exclusive}
 use Rattle.pod_workers.specs.Facts.{EachWaits, IsUntouched, LaterAreUntouched, PastAreAnswered}
-use Rattle.pod_workers.specs.Legal.{Legal, IsBegun, begins, steps, refused_memory, turns}
+use Rattle.pod_workers.specs.Legal.{Legal, IsBegun, starts, steps, refused_memory, turns}
 use Rattle.pod_workers.specs.Plans.{Placed, commands_of}
 use Rattle.pod_workers.specs.World.{World, IsAnswered, IsReady, IsRoundOver, replies_of, own_replies, answered, with_entry, entry_of, host_of, done, next_of, next_round}
 use Rattle.pod_workers.specs.declared.plan.Entry.{Entry}
@@ -141,7 +141,7 @@ order_begun w begun = record {
 }
 
 pub in_order : (w : World) → Legal w → IsInOrder w
-in_order _ (begins w begun) = order_begun w begun
+in_order _ (starts w begun) = order_begun w begun
 in_order _ (steps v w n c legal ready is) = subst IsInOrder (sym is) (order_done v n c (next_of v c.command (own_replies v n)) (in_order v legal) ready)
 in_order _ (refused_memory v w n c legal ready is) = subst IsInOrder (sym is) (order_answered v n c OutOfMemory (in_order v legal) ready)
 in_order _ (turns v w legal less over is) = subst IsInOrder (sym is) (order_next_round v (in_order v legal) over)

@@ -5,7 +5,7 @@ use Rattle.std.proofs.lemmas.Bool.Decides.{eqb_tells}
 use Rattle.std.proofs.lemmas.List.{length_push}
 use Rattle.cni_verbs.specs.declared.answer.Answer.{Answer}
 use Rattle.pod_workers.specs.Facts.{IsEntryOf, IsUntouched, AreOfOneContainer, IsLegalByClauses}
-use Rattle.pod_workers.specs.Legal.{Legal, IsBegun, begins}
+use Rattle.pod_workers.specs.Legal.{Legal, IsBegun, starts}
 use Rattle.pod_workers.specs.Plans.{Placed, commands_of}
 use Rattle.pod_workers.specs.World.{World, IsAnswered, own_replies, replies_of, answered, with_entry, next_round}
 use Rattle.pod_workers.specs.declared.plan.Entry.{Entry}
@@ -284,9 +284,9 @@ last_event w k = elim (find_last w k (length (commands_of w.plan)) 0 (omega arit
 ]
 
 reached_within : (most : ℕ) (w : World) → amount w ≤ most → IsLegalByClauses w → Legal w
-reached_within zero w less k = elim (last_event w k) [ inl begun ↦ begins w begun | inr back ↦ absurd (let fewer = back.less in omega arith) ]
+reached_within zero w less k = elim (last_event w k) [ inl begun ↦ starts w begun | inr back ↦ absurd (let fewer = back.less in omega arith) ]
 reached_within (suc most) w less k = elim (last_event w k) [
-  | inl begun ↦ begins w begun
+  | inl begun ↦ starts w begun
   | inr back ↦ back.forth (reached_within most back.before (let fewer = back.less in omega arith) back.clauses)
 ]
 

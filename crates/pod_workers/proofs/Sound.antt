@@ -46,7 +46,7 @@ use Rattle.cni_verbs.specs.Sweep.{Job, Step, Sweep, AskCached, Delete, step_call
 use Rattle.cni_verbs.specs.Progress.{turn_by}
 use Rattle.cni_verbs.specs.Wanted.{sets_of, deletion}
 use Rattle.pod_workers.specs.Lasts.{AreLastsOfSets, IsLastOfSet}
-use Rattle.pod_workers.specs.Legal.{Legal, IsBegun, begins, steps, refused_memory, turns}
+use Rattle.pod_workers.specs.Legal.{Legal, IsBegun, starts, steps, refused_memory, turns}
 use Rattle.pod_file.specs.Commands.{is_of_network}
 use Rattle.pod_workers.specs.Plans.{Placed, IsWellFormed, list_for, list_in, list_named}
 use Rattle.pod_workers.specs.World.{World, IsReady, after, host_of, own_replies, next_by, next_of, is_cut, is_faulty, is_stop, entry_of, done}
@@ -359,7 +359,7 @@ fine-begun w begun =
     }
 
 pub fine : (w : World) → Legal w → IsFine w
-fine _ (begins w begun) = fine-begun w begun
+fine _ (starts w begun) = fine-begun w begun
 fine _ (steps v w n c legal ready is) = subst IsFine (sym is) (fine-done v n c.command (next_of v c.command (own_replies v n)) (fine v legal) refl)
 fine _ (refused_memory v w n c legal ready is) = subst IsFine (sym is) (let f = fine v legal in record { plan = f.plan; sound = f.sound; lasts = f.lasts })
 fine _ (turns v w legal less over is) = subst IsFine (sym is) (let f = fine v legal in record { plan = f.plan; sound = f.sound; lasts = f.lasts })

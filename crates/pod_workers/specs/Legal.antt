@@ -14,7 +14,7 @@ pub record IsBegun (w : World) : Type 0 where
 -- a book is begun; a ready command makes its step, or is refused memory for it; a round that is over gives way to the
 -- next
 pub data Legal : World → Type 0 where
-  begins : (w : World) → IsBegun w → Legal w
+  starts : (w : World) → IsBegun w → Legal w
   steps : (v w : World) (n : ℕ) (c : Placed) → Legal v → IsReady v n c → w ≡ stepped v n c.command → Legal w
   refused_memory : (v w : World) (n : ℕ) (c : Placed) → Legal v → IsReady v n c → w ≡ answered v n OutOfMemory → Legal w
   turns : (v w : World) → Legal v → v.round < length v.plan.pods.rounds → IsRoundOver v → w ≡ next_round v → Legal w
