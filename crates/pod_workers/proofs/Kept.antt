@@ -13,7 +13,7 @@ use Rattle.kernel_types.specs.declared.call.Reply.{Reply}
 use Rattle.kernel_types.specs.declared.object.Host.{Host}
 use Rattle.net_conf.specs.declared.list.NetList.{NetList}
 use Rattle.pod_file.specs.declared.command.Command.{Command}
-use Rattle.pod_workers.specs.Index.{command_in, is_cut_by}
+use Rattle.pod_workers.specs.Index.{command_at_place, is_cut_by}
 use Rattle.pod_workers.specs.Legal.{Legal, steps, refused_memory}
 use Rattle.pod_workers.specs.Plans.{Placed, commands_of, list_for}
 use Rattle.pod_workers.specs.Slots.{Fits, CarriesOn, IsKept, MayBeMade, MayCarryOn, next_in, opened, opened_by, slot_after}
@@ -258,7 +258,7 @@ pub record IsFound (host : Host) (slots : List (Option Slot)) (places : List Pla
 
 -- by what the code reads: places and rounds that are the book's
 pub found : {host : Host} {slots : List (Option Slot)} {places seen : List Place} {before : ℕ} {w v : World} {number : ℕ} {p : Place} {s : Option Slot} {rounds : List (List Command)} {of : Command}
-    → IsKept host slots places before w → w ≡ v → IsReadyNumber v number → seen ≡ places → slice_get seen (number - 1) ≡ Some p → rounds ≡ w.plan.pods.rounds → command_in rounds p ≡ Some of → slice_get slots (number - 1) ≡ Some s
+    → IsKept host slots places before w → w ≡ v → IsReadyNumber v number → seen ≡ places → slice_get seen (number - 1) ≡ Some p → rounds ≡ w.plan.pods.rounds → command_at_place rounds p ≡ Some of → slice_get slots (number - 1) ≡ Some s
     → IsFound host slots places before w number (number - 1) s of
 found {host} {slots} {places} {seen} {before} {w} {v} {number} {p} {s} {rounds} {of} kept same ready seen_is at_n rounds_is command slot =
     let n = number - 1 in
@@ -270,7 +270,7 @@ found {host} {slots} {places} {seen} {before} {w} {v} {number} {p} {s} {rounds} 
     record {
       command = r.1;
       here = here host slots places before w n r.1 s kept now slot;
-      of_is = same_Some of r.1.command (sym command ∙ ap (λ rs. command_in rs p) rounds_is ∙ placed.command);
+      of_is = same_Some of r.1.command (sym command ∙ ap (λ rs. command_at_place rs p) rounds_is ∙ placed.command);
       number_is = omega arith;
     }
 
@@ -343,7 +343,7 @@ number-within host slots places before w v number kept same ready =
     (omega arith, omega arith, omega arith, omega arith)
 
 pub number-command : (host : Host) (slots : List (Option Slot)) (places : List Place) (before : ℕ) (w v : World) (number : ℕ) (p : Place) → IsKept host slots places before w → w ≡ v → IsReadyNumber v number
-    → slice_get places (number - 1) ≡ Some p → IsSome (command_in w.plan.pods.rounds p)
+    → slice_get places (number - 1) ≡ Some p → IsSome (command_at_place w.plan.pods.rounds p)
 number-command host slots places before w v number p kept same ready at_n =
     let r = subst (λ u. IsReadyNumber u number) (sym same) ready in
     let is = r.2 in

@@ -24,12 +24,12 @@ abbrev pub AreBefore : ℕ → List Placed → Type 0
 AreBefore round commands = (k : ℕ) (d : Placed) → slice_get commands k ≡ Some d → d.round < round
 
 -- the command that stands at this place of the rounds
-abbrev pub command_in : List (List Command) → Place → Option Command
-command_in rounds p = option_and_then (λ commands. slice_get commands p.within) (slice_get rounds p.round)
+abbrev pub command_at_place : List (List Command) → Place → Option Command
+command_at_place rounds p = option_and_then (λ commands. slice_get commands p.within) (slice_get rounds p.round)
 
 -- the index is right about the command at place n
 pub record IsPlaced (rounds : List (List Command)) (commands : List Placed) (n : ℕ) (c : Placed) (p : Place) : Type 0 where
-  pub command : command_in rounds p ≡ Some c.command
+  pub command : command_at_place rounds p ≡ Some c.command
   pub round_is : c.round ≡ p.round
   pub previous : IsLatest commands n c.round c.command.container p.previous
 

@@ -3,7 +3,7 @@
 ghost use Rattle.std.specs.Prelude.{◌≡◌, ◌+◌, ◌<◌, ◌≤◌, ◌++◌, List, Some, IfOk, IsSome, OnOk, length, map, slice_get};
 ghost use Rattle.pod_file.specs.Rounds.{file_limit};
 ghost use Rattle.pod_file.specs.declared.command.Command.{Command};
-ghost use Rattle.pod_workers.specs.Index.{AreBefore, IsIndex, command_in, lets_through, may_step_by};
+ghost use Rattle.pod_workers.specs.Index.{AreBefore, IsIndex, command_at_place, lets_through, may_step_by};
 ghost use Rattle.pod_workers.specs.Plans.{Placed, in_round, placed_from};
 
 use cni_addr::{Duplicate, Items, NoMemory, Text};
@@ -74,8 +74,8 @@ pub(crate) fn round_at(rounds: &[Items<Command>], round: u32) -> &[Command]
 
 /// The command of this place.
 pub fn command_at(rounds: &[Items<Command>], place: Place) -> &Command
-    requires { IsSome (command_in rounds.now place) }
-    ensures { command_in rounds.now place ≡ Some result.now }
+    requires { IsSome (command_at_place rounds.now place) }
+    ensures { command_at_place rounds.now place ≡ Some result.now }
 {
     &rounds[place.round as usize].as_slice()[place.within as usize]
 }
