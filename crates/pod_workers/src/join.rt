@@ -45,7 +45,7 @@ fn list_named<'a>(lists: &'a [NetList], network: &Text) -> Option<&'a NetList>
 }
 
 /// The list of a command's network, where its verb speaks of one.
-pub(crate) fn list_of<'a>(lists: &'a [NetList], command: &Command) -> Option<&'a NetList>
+pub(crate) fn list_in<'a>(lists: &'a [NetList], command: &Command) -> Option<&'a NetList>
     ensures { option_copied result ≡ list_in lists.now command.now }
 {
     if command.verb.is_of_network() {
@@ -58,7 +58,7 @@ pub(crate) fn list_of<'a>(lists: &'a [NetList], command: &Command) -> Option<&'a
 fn lacks_list(lists: &[NetList], command: &Command) -> bool
     ensures { result ≡ lacks_list lists.now command.now }
 {
-    command.verb.is_of_network() && list_of(lists, command).is_none()
+    command.verb.is_of_network() && list_in(lists, command).is_none()
 }
 
 /// Why these make no plan, if they don't.

@@ -9,7 +9,7 @@ ghost use Rattle.pod_workers.specs.Slots.{IsCountable, CarriesOn, MayCarryOn, ne
 ghost use Rattle.pod_workers.specs.Tasks.{IsListed};
 ghost use Rattle.pod_workers.specs.World.{IsUpToStop, entry_by, host_on, is_faulty, is_stop};
 
-use crate::join::list_of;
+use crate::join::list_in;
 use crate::plan::{Entry, Next};
 use crate::task::Task;
 use cni_addr::NoMemory;
@@ -93,7 +93,7 @@ fn open(
     match slot {
         Some(slot) => Ok(slot),
         None => Ok(Slot {
-            run: Task::start(alloc, list_of(lists, command), command)?,
+            run: Task::start(alloc, list_in(lists, command), command)?,
             made: 0,
         }),
     }
