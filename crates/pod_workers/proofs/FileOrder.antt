@@ -4,7 +4,7 @@ use Rattle.std.proofs.lemmas.Bool.{cases_lt}
 use Rattle.cni_verbs.specs.declared.answer.Answer.{Answer}
 use Rattle.pod_workers.specs.Facts.{IsEntryOf}
 use Rattle.pod_workers.specs.Legal.{Legal}
-use Rattle.pod_workers.specs.Order.{IsInFileOrder, EarlierAreAnswered}
+use Rattle.pod_workers.specs.Order.{AreInFileOrder, IsInFileOrder, EarlierAreAnswered}
 use Rattle.pod_workers.specs.Plans.{Placed}
 use Rattle.pod_workers.specs.World.{World, IsReady, own_replies, replies_of, host_of, is_cut, done, answered, with_entry, entry_of, next_of, next_round, stepped}
 use Rattle.pod_workers.specs.declared.plan.Entry.{Entry}
@@ -46,7 +46,7 @@ none_later w before between f m n d c legal order ready at of_f = elim (cases_lt
 
 file_order_entered : (w : World) (n : ℕ) (c : Placed) (e : Entry) → Legal w → IsInFileOrder w → IsReady w n c → EarlierAreAnswered w n → is_cut w ≡ false → e.command ≡ n + 1 → IsInFileOrder (with_entry w e)
 file_order_entered w n c e legal order ready earlier no_cut own = record {
-  entries = each_two-grows w.plan w.history e n c (λ number m d j b. m ≤ j) (record { number = own; there = ready.there }) order.entries
+  entries = each_two-grows w.plan w.history e n c AreInFileOrder (record { number = own; there = ready.there }) order.entries
       (λ before between f m d at of_f. none_later w before between f m n d c legal order ready at of_f);
   before = done_before_entered w n c e (λ d x. d.round ≡ x.round) legal order.before ready
       (λ m d less at round. let here : d.round ≡ w.round = round ∙ ready.current in (here, earlier m d less at here)) no_cut own;
@@ -67,6 +67,6 @@ file_order_next_round w order = record { entries = order.entries; before = order
 
 pub file_order_begun : (w : World) → w.history ≡ [] → IsInFileOrder w
 file_order_begun w none = record {
-  entries = none_two w (λ number m d n c. m ≤ n) none;
+  entries = none_two w AreInFileOrder none;
   before = λ m n d c less at_m at_n round. inl (ap (replies_of n) none);
 }

@@ -9,9 +9,13 @@ use Rattle.pod_workers.specs.World.{World, IsAnswered, IsReady, stepped}
 use Rattle.pod_workers.specs.declared.plan.Entry.{Entry}
 use Rattle.pod_workers.specs.declared.plan.Plan.{Plan}
 
+-- an earlier entry is of no later command
+abbrev pub AreInFileOrder : (number m : ℕ) → Placed → ℕ → Placed → Type 0
+AreInFileOrder number m d n c = m ≤ n
+
 -- entries of a command stand before those of each later one
 abbrev pub StandInFileOrder : Plan → List Entry → Type 0
-StandInFileOrder p h = EachTwo p h (λ number m d n c. m ≤ n)
+StandInFileOrder p h = EachTwo p h AreInFileOrder
 
 -- each command's entries stand together, commands stand in file order, and none is left half done for a later one of
 -- its round
