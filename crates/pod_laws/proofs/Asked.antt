@@ -37,7 +37,7 @@ use Rattle.pod_workers.proofs.Planned.{LeftArePlanned}
 use Rattle.pod_workers.proofs.Sound.{sound_host}
 use Rattle.pod_workers.proofs.Deletable.{done_or_not, leased_or_not}
 use Rattle.pod_laws.specs.AskedFor.{begins, is_begin_of, is_done, AreAskedFor, HasNothingUnasked, IsAskedFor, NothingIsUnasked}
-use Rattle.pod_laws.specs.Moments.{own_entries}
+use Rattle.pod_laws.specs.Moments.{objects_after, own_entries}
 use Rattle.pod_laws.proofs.Achieved.{Achieved, achieved-start, achieved-step, begun-none, leased-done, leased-push, leased-same, leased_in, leases-one, leases-push, own-made, with_leases}
 use Rattle.pod_laws.proofs.Begins.{all-last, begin-apart, deletion-no_begin, last_begun-same, not-begins, outside-no_begin, plan-no_begin, question-no_begin}
 use Rattle.pod_laws.proofs.Causes.{begin-may, plan-may}
@@ -63,7 +63,7 @@ leases-quiet m h e none = elim (eqb_tells e.command (m + 1)) [
 
 -- after an entry that doesn't begin the attachment, with objects that are still asked for
 asked-still : (p : Plan) (h : List Entry) (e : Entry) (att : Att) (a : IsAskedFor p h att) → begins att e ≡ false
-    → AreAskedFor a.list a.by.command (leases_in (replies_of a.place (h ++ e ∷ []))) (share_of att (after p.pods.opening (h ++ e ∷ []))) → IsAskedFor p (h ++ e ∷ []) att
+    → AreAskedFor a.list a.by.command (leases_in (replies_of a.place (h ++ e ∷ []))) (objects_after p att (h ++ e ∷ [])) → IsAskedFor p (h ++ e ∷ []) att
 asked-still p h e att a not objects = record {
   place = a.place;
   by = a.by;
@@ -81,7 +81,7 @@ asked-quiet : (p : Plan) (h : List Entry) (e : Entry) (att : Att) → begins att
 asked-quiet p h e att not no_lease d (inl none) = inl (share-removes_none att (after p.pods.opening h) (after p.pods.opening (h ++ e ∷ [])) d none)
 asked-quiet p h e att not no_lease d (inr a) =
     inr (asked-still p h e att a not
-    (subst (λ g. AreAskedFor a.list a.by.command g (share_of att (after p.pods.opening (h ++ e ∷ [])))) (sym (leases-quiet a.place h e no_lease))
+    (subst (λ g. AreAskedFor a.list a.by.command g (objects_after p att (h ++ e ∷ []))) (sym (leases-quiet a.place h e no_lease))
     (asked-removes a.list a.by.command (leases_in (replies_of a.place h)) att (after p.pods.opening h) (after p.pods.opening (h ++ e ∷ [])) d a.objects)))
 
 abbrev NextAsked : World → ℕ → Att → Bool → Call → Type 0
@@ -139,7 +139,6 @@ making-now w n c list call faulty on un not given leased asked =
     let h = w.history in
     let e = entry_of (host_of w) n call faulty in
     let att = att_of c.command in
-    let opening = w.plan.pods.opening in
     let leases : leases_in (replies_of n (h ++ e ∷ [])) ≡ given = ap leased_in (own_entries-own n h e (is_of-own n e refl)) ∙ leased in
     inr (record {
       place = n;
@@ -150,8 +149,8 @@ making-now w n c list call faulty on un not given leased asked =
       verb = un.verb;
       attachment = refl;
       last = last_begun-same att h e (not-begins att e not) ∙ all-last w on.legal n c on.ready.there on.ready.unanswered un.verb un.begun un.go_on;
-      objects = subst (λ g. AreAskedFor list c.command g (share_of att (after opening (h ++ e ∷ [])))) (sym leases)
-          (subst (λ k. AreAskedFor list c.command given (share_of att k)) (sym (after-append opening h e)) asked);
+      objects = subst (λ g. AreAskedFor list c.command g (objects_after w.plan att (h ++ e ∷ []))) (sym leases)
+          (subst (λ k. AreAskedFor list c.command given (share_of att k)) (sym (after-append w.plan.pods.opening h e)) asked);
     })
 
 -- a plan's call that was not done, and a lease that found nothing, leave the share
@@ -245,7 +244,7 @@ other-asked w n c list call faulty att on differ own was =
     let e = entry_of (host_of w) n call faulty in
     let kept : share_of att (host_on (host_of w) e) ≡ share_of att (host_of w) = on-entry (λ k. share_of att k ≡ share_of att (host_of w)) (host_of w) n call faulty refl
     (λ f. share-other (att_of c.command) att (host_of w) call differ (sound_host w on.legal) (on.allowed f) own) in
-    let same_share : share_of att (after w.plan.pods.opening (h ++ e ∷ [])) ≡ share_of att (after w.plan.pods.opening h) = ap (share_of att) (after-append w.plan.pods.opening h e) ∙ kept in
+    let same_share : objects_after w.plan att (h ++ e ∷ []) ≡ objects_after w.plan att h = ap (share_of att) (after-append w.plan.pods.opening h e) ∙ kept in
     elim was [
       | inl none ↦ inl (same_share ∙ none)
       | inr a ↦
@@ -255,7 +254,7 @@ other-asked w n c list call faulty att on differ own was =
           let att_is : att_of c.command ≡ att = ap (λ (x : Placed). att_of x.command) (sym by) ∙ a.attachment in
           both_ways (att_eq (att_of c.command) att) differ (ap (att_eq (att_of c.command)) (sym att_is) ∙ att_eq-refl (att_of c.command)) in
           inr (asked-still w.plan h e att a (not-begins att e (begin-apart (att_of c.command) att call differ own))
-          (subst (λ g. AreAskedFor a.list a.by.command g (share_of att (after w.plan.pods.opening (h ++ e ∷ [])))) (sym (ap leases_in (replies_of-other a.place h e far)))
+          (subst (λ g. AreAskedFor a.list a.by.command g (objects_after w.plan att (h ++ e ∷ []))) (sym (ap leases_in (replies_of-other a.place h e far)))
           (subst (AreAskedFor a.list a.by.command (leases_in (replies_of a.place h))) (sym same_share) a.objects)))
     ]
 

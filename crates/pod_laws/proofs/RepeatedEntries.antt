@@ -37,10 +37,10 @@ use Rattle.pod_workers.specs.declared.plan.Plan.{Plan}
 use Rattle.pod_workers.proofs.Sound.{sound_host}
 use Rattle.pod_workers.proofs.Splits.{cons_parts}
 use Rattle.pod_laws.specs.AskedFor.{begins, is_begin_of, is_done}
-use Rattle.pod_laws.specs.Moments.{is_of, own_entries, until_last}
+use Rattle.pod_laws.specs.Moments.{IsGone, is_of, own_entries, until_last}
 use Rattle.pod_laws.specs.Single.{EachEntry}
 use Rattle.pod_laws.specs.Refused.{is_granted, lets_go_on}
-use Rattle.pod_laws.specs.Repeated.{GoneStaysGone, IsGone, IsWithoutMaking, RepeatedDeletionsLeave, makes_nothing}
+use Rattle.pod_laws.specs.Repeated.{GoneStaysGone, IsWithoutMaking, RepeatedDeletionsLeave, makes_nothing}
 use Rattle.pod_laws.proofs.DeletedEntries.{each_deletion_is_own}
 use Rattle.pod_laws.proofs.EachEntry.{DoesNow, DoesOutside, each-entry}
 use Rattle.pod_laws.proofs.Entries.{is_of-own, own_entries-own}

@@ -16,7 +16,7 @@ use Rattle.pod_file.specs.declared.command.Verb.TheVariants as verbs
 use Rattle.cni_verbs.proofs.CheckCounts.{length-pools, length-share}
 use Rattle.kernel_types.specs.declared.call.Reply.{Reply}
 use Rattle.kernel_types.specs.declared.call.Reply.TheVariants.{Entry as Found}
-use Rattle.plan_words.specs.Share.{Share, share_of}
+use Rattle.plan_words.specs.Share.{Share}
 use Rattle.cni_verbs.specs.CommandWords.{add_refusal, att_of, del_refusal}
 use Rattle.cni_verbs.specs.Questions.{bridge_by_mac, bridge_questions, cached_share, check_questions, first_interface, master_questions, pool_questions, share_questions, status_questions}
 use Rattle.cni_verbs.specs.Script.{State, AtBegin, ReadingCache, FindingEntry, Over, advance, asking, at_entry, checking, start_of, start_state}
@@ -29,12 +29,13 @@ use Rattle.pod_workers.specs.CallCounts.{deletions_of, most_calls}
 use Rattle.pod_workers.proofs.CallsLeft.{calls_left}
 use Rattle.pod_workers.specs.Legal.{Legal}
 use Rattle.pod_workers.specs.Plans.{Placed, commands_of, list_for}
-use Rattle.pod_workers.specs.World.{World, after, own_replies}
+use Rattle.pod_workers.specs.World.{World, own_replies}
 use Rattle.pod_workers.specs.declared.plan.Entry.{Entry}
 use Rattle.pod_workers.proofs.MostCalls.{adds_in_most_calls}
 use Rattle.pod_workers.proofs.StepsLeft.{IsNoCollection}
 use Rattle.pod_workers.proofs.Replies.{by-either, by-unless, by-unless_old}
-use Rattle.pod_laws.specs.Bounded.{EachAddHasMost, EachChangeIsOneCall, EachRunIsBounded, IsFirst, asked_of, had_after}
+use Rattle.pod_laws.specs.Bounded.{EachAddHasMost, EachChangeIsOneCall, EachRunIsBounded, IsFirst, asked_of}
+use Rattle.pod_laws.specs.Moments.{objects_after}
 use Rattle.pod_laws.proofs.Bounded.{made-below, made-within}
 use Rattle.pod_laws.proofs.ChangedRuns.{one-call}
 
@@ -121,10 +122,10 @@ starts-by most list c verb bound is starts = subst (λ v. Starts most list c v b
 
 -- by what the attachment had before the first call
 by-start : (w : World) → Legal w → (n : ℕ) (c : Placed) (list : NetList) (bound : Share → ℕ) (before : List Entry) (first : Entry) → slice_get (commands_of w.plan) n ≡ Some c → list_for w.plan c.command ≡ Some list
-    → StartsIn (most_calls list c.command) list c.command (start_state list c.command) bound → IsFirst w n before first → length (own_replies w n) ≤ bound (had_after w c.command before)
+    → StartsIn (most_calls list c.command) list c.command (start_state list c.command) bound → IsFirst w n before first → length (own_replies w n) ≤ bound (objects_after w.plan (att_of c.command) before)
 by-start w legal n c list bound before first at listed starts is =
     let made = (made-within w legal n c list (most_calls list c.command) before is.rest first at listed (adds_in_most_calls list c.command) starts.none is.split is.own is.none_before).0 in
-    let few = starts.few (had_after w c.command before) in
+    let few = starts.few (objects_after w.plan (att_of c.command) before) in
     omega arith
 
 -- ---- a check
@@ -171,7 +172,7 @@ by-first w legal n c list bound before first at listed verb asks is =
     let start : AsksIn list c.command (start_state list c.command) first.reply bound =
     subst (λ v. AsksIn list c.command (start_of list v c.command) first.reply bound) (sym verb) (check-asks list c.command first.reply bound asks) in
     let made = (made-within w legal n c list (most_calls list c.command) before is.rest first at listed (adds_in_most_calls list c.command) start.none is.split is.own is.none_before).1 in
-    let few = start.few (share_of (att_of c.command) (after w.plan.pods.opening (before ++ first ∷ []))) in
+    let few = start.few (objects_after w.plan (att_of c.command) (before ++ first ∷ [])) in
     omega arith
 
 pub run_is_bounded : EachRunIsBounded

@@ -33,13 +33,14 @@ use Rattle.pod_file.specs.WellFormed.{IsOpening}
 use Rattle.pod_workers.specs.Legal.{Legal}
 use Rattle.pod_file.specs.Commands.{is_of_network}
 use Rattle.pod_workers.specs.Plans.{Placed, IsWellFormed, list_for, list_named}
-use Rattle.pod_workers.specs.World.{World, after, entry_of, host_of, host_on, own_replies}
+use Rattle.pod_workers.specs.World.{World, entry_of, host_of, host_on, own_replies}
 use Rattle.pod_workers.specs.declared.plan.Entry.{Entry}
 use Rattle.pod_workers.specs.declared.plan.Plan.{Plan}
 use Rattle.pod_workers.proofs.Histories.{after-append}
 use Rattle.pod_workers.proofs.Planned.{LeftArePlanned, left-are-planned}
 use Rattle.pod_workers.proofs.Sound.{sound_host, if-listed}
 use Rattle.pod_workers.proofs.Deletable.{done_or_not, leased_or_not}
+use Rattle.pod_laws.specs.Moments.{objects_after}
 use Rattle.pod_laws.proofs.OfKinds.{has, call_fits, HasKindsAlone, HasKindsAlone-nothing, HasKindsAlone-call, HasKindsAlone-removes, leases-kinds_of, there-or-not}
 use Rattle.pod_laws.proofs.Removes.{removes-deletion}
 use Rattle.pod_laws.proofs.States.{LeftFit, is_question, left-fit, question-leaves, asked-is_question}
@@ -101,7 +102,7 @@ within-turn list c (Over ending given) k call left fit sound is w = cc
 
 -- each attachment of a list's network has objects of the list's kinds alone
 abbrev AllWithin : Plan → List Entry → Type 0
-AllWithin p h = (att : Att) (list : NetList) → list_named p.lists att.network ≡ Some list → HasKindsAlone (kinds_of list) (share_of att (after p.pods.opening h))
+AllWithin p h = (att : Att) (list : NetList) → list_named p.lists att.network ≡ Some list → HasKindsAlone (kinds_of list) (objects_after p att h)
 
 list_named-listed : (p : Plan) (c : Command) (list : NetList) → list_for p c ≡ Some list → list_named p.lists c.network ≡ Some list
 unfolding list_for

@@ -17,14 +17,15 @@ use Rattle.kernel_types.specs.declared.call.Reply.TheVariants.{Done}
 use Rattle.net_conf.specs.Plugins.{is_of_type}
 use Rattle.net_conf.specs.declared.list.NetList.{NetList}
 use Rattle.net_conf.specs.declared.plugin_type.PluginType.TheVariants.{Tuning}
-use Rattle.plan_words.specs.Share.{Share, share_of, no_objects, share_after_calls}
+use Rattle.plan_words.specs.Share.{Share, no_objects, share_after_calls}
 use Rattle.pod_file.specs.declared.command.Command.{Command}
 use Rattle.pod_file.specs.declared.command.Verb.TheVariants as verbs
 use Rattle.pod_workers.specs.Legal.{Legal}
 use Rattle.pod_workers.specs.Plans.{Placed, commands_of, list_for}
-use Rattle.pod_workers.specs.World.{World, after, replies_of}
+use Rattle.pod_workers.specs.World.{World, replies_of}
 use Rattle.pod_workers.specs.declared.plan.Entry.{Entry}
 use Rattle.pod_workers.specs.declared.plan.Plan.{Plan}
+use Rattle.pod_laws.specs.Moments.{IsGone, objects_after}
 
 -- ---- lists
 
@@ -85,10 +86,10 @@ pub record IsAskedFor (p : Plan) (h : List Entry) (att : Att) : Type 0 where
   pub verb : by.command.verb ≡ verbs.Add
   pub attachment : att_of by.command ≡ att
   pub last : last_begun att h ≡ Some (place + 1)
-  pub objects : AreAskedFor list by.command (leases_in (replies_of place h)) (share_of att (after p.pods.opening h))
+  pub objects : AreAskedFor list by.command (leases_in (replies_of place h)) (objects_after p att h)
 
 abbrev pub HasNothingUnasked : Plan → List Entry → Att → Type 0
-HasNothingUnasked p h att = (share_of att (after p.pods.opening h) ≡ no_objects) ⊎ IsAskedFor p h att
+HasNothingUnasked p h att = IsGone p att h ⊎ IsAskedFor p h att
 
 -- at every moment each attachment has nothing, or only what its last ADD that began asks for
 abbrev pub NothingIsUnasked : Type 0
@@ -111,4 +112,4 @@ EachLinkIsWanted = (list : NetList) (c : Command) (given : List Addr) (links : L
 -- and with those of every attachment at every moment, since in each list of a plan it comes at most once
 abbrev pub LinksAreMadeOrWanted : Type 0
 LinksAreMadeOrWanted = (w : World) → Legal w → (att : Att) (a : IsAskedFor w.plan w.history att)
-    → AreMadeOrWanted a.list a.by.command (leases_in (replies_of a.place w.history)) (share_of att (after w.plan.pods.opening w.history)).links
+    → AreMadeOrWanted a.list a.by.command (leases_in (replies_of a.place w.history)) (objects_after w.plan att w.history).links

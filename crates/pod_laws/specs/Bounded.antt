@@ -6,16 +6,16 @@ use Rattle.cni_verbs.specs.Questions.{cached_share}
 use Rattle.cni_verbs.specs.Wanted.{kinds_of, sets_of}
 use Rattle.kernel_types.specs.declared.call.Reply.TheVariants.{Entry as Found}
 use Rattle.net_conf.specs.declared.list.NetList.{NetList}
-use Rattle.plan_words.specs.Share.{Share, share_of}
+use Rattle.plan_words.specs.Share.{Share}
 use Rattle.pod_file.specs.Commands.{is_of_network}
 use Rattle.pod_file.specs.declared.command.Command.{Command}
 use Rattle.pod_file.specs.declared.command.Verb.TheVariants as verbs
 use Rattle.pod_workers.specs.CallCounts.{AddsInAtMost, deletions_of, most_calls}
 use Rattle.pod_workers.specs.Legal.{Legal}
 use Rattle.pod_workers.specs.Plans.{Placed, commands_of, list_for}
-use Rattle.pod_workers.specs.World.{World, after, own_replies}
+use Rattle.pod_workers.specs.World.{World, own_replies}
 use Rattle.pod_workers.specs.declared.plan.Entry.{Entry}
-use Rattle.pod_laws.specs.Moments.{own_entries}
+use Rattle.pod_laws.specs.Moments.{objects_after, own_entries}
 
 -- this is the first entry of the command at place n, after these
 pub record IsFirst (w : World) (n : ℕ) (before : List Entry) (first : Entry) : Type 0 where
@@ -23,10 +23,6 @@ pub record IsFirst (w : World) (n : ℕ) (before : List Entry) (first : Entry) :
   pub split : w.history ≡ before ++ first ∷ rest
   pub own : first.command ≡ n + 1
   pub none_before : own_entries n before ≡ []
-
--- what the attachment of the command had after these entries
-abbrev pub had_after : World → Command → List Entry → Share
-had_after w c before = share_of (att_of c) (after w.plan.pods.opening before)
 
 -- what a check asks for of the objects of a share
 abbrev pub asked_of : Share → ℕ
@@ -36,7 +32,7 @@ asked_of s = length s.links + length s.addresses + length s.routes + length s.ru
 pub record IsBounded (w : World) (n : ℕ) (c : Placed) (list : NetList) : Type 0 where
   pub add : c.command.verb ≡ verbs.Add → (most : ℕ) → AddsInAtMost list c.command most → length (own_replies w n) ≤ 2 * most + length (kinds_of list) + 1
   pub del : c.command.verb ≡ verbs.Del → (before : List Entry) (first : Entry) → IsFirst w n before first
-      → length (own_replies w n) ≤ length (kinds_of list) + 1 + deletions_of (had_after w c.command before)
+      → length (own_replies w n) ≤ length (kinds_of list) + 1 + deletions_of (objects_after w.plan (att_of c.command) before)
   pub check : c.command.verb ≡ verbs.Check → (before : List Entry) (first : Entry) (cached : Cached) → IsFirst w n before first → first.reply ≡ Found (Some cached)
       → length (own_replies w n) ≤ 2 + asked_of (cached_share list c.command cached)
   pub unknown : c.command.verb ≡ verbs.Check → (before : List Entry) (first : Entry) → IsFirst w n before first → ((cached : Cached) → first.reply ≢ Found (Some cached)) → length (own_replies w n) ≤ 1

@@ -1,9 +1,12 @@
--- The moments of the first and the last entry of one command, and of the start of a round.
-use Rattle.std.specs.Prelude.{ℕ, Bool, false, List, [], ◌∷◌, nat_lt, Option, if◌then◌else◌}
+-- The moments of the first and the last entry of one command, and of the start of a round, and what an attachment has at
+-- a moment.
+use Rattle.std.specs.Prelude.{◌≡◌, ℕ, Bool, false, List, [], ◌∷◌, nat_lt, Option, if◌then◌else◌}
 use Rattle.std.specs.List.{list_any}
 use Rattle.std.specs.Option.{option_map_or}
 use Rattle.kernel_types.specs.Replies.{is_fault}
+use Rattle.kernel_types.specs.declared.object.Att.{Att}
 use Rattle.kernel_types.specs.declared.object.Host.{Host}
+use Rattle.plan_words.specs.Share.{Share, share_of, no_objects}
 use Rattle.pod_workers.specs.Plans.{Placed, commands_of}
 use Rattle.pod_workers.specs.World.{World, after, at_number}
 pub use Rattle.pod_workers.specs.World.{is_of, own_entries}
@@ -44,3 +47,11 @@ until_round p round (e ∷ es) = if is_before round (at_number (commands_of p) e
 -- the host at the start of this round: right before that entry
 abbrev pub host_at_round : World → ℕ → Host
 host_at_round w round = after w.plan.pods.opening (until_round w.plan round w.history)
+
+-- what the attachment has after these entries
+abbrev pub objects_after : Plan → Att → List Entry → Share
+objects_after p att h = share_of att (after p.pods.opening h)
+
+-- it has nothing
+abbrev pub IsGone : Plan → Att → List Entry → Type 0
+IsGone p att h = objects_after p att h ≡ no_objects

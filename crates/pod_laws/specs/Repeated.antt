@@ -4,7 +4,6 @@ use Rattle.std.specs.List.{list_all, list_any}
 use Rattle.cni_verbs.specs.CommandWords.{att_of}
 use Rattle.cni_verbs.specs.declared.answer.Answer.TheVariants as answers
 use Rattle.kernel_types.specs.declared.object.Att.{Att}
-use Rattle.plan_words.specs.Share.{share_of, no_objects}
 use Rattle.pod_file.specs.declared.command.Verb.TheVariants as verbs
 use Rattle.pod_workers.specs.Legal.{Legal}
 use Rattle.pod_workers.specs.Plans.{Placed, commands_of}
@@ -12,12 +11,8 @@ use Rattle.pod_workers.specs.World.{World, after}
 use Rattle.pod_workers.specs.declared.plan.Entry.{Entry}
 use Rattle.pod_workers.specs.declared.plan.Plan.{Plan}
 use Rattle.pod_laws.specs.AskedFor.{begins, is_begin_of}
-use Rattle.pod_laws.specs.Moments.{own_entries, until_last}
+use Rattle.pod_laws.specs.Moments.{IsGone, own_entries, until_last}
 use Rattle.pod_laws.specs.Refused.{lets_go_on}
-
--- the attachment has nothing in the host after these entries
-abbrev pub IsGone : Plan → Att → List Entry → Type 0
-IsGone p att h = share_of att (after p.pods.opening h) ≡ no_objects
 
 -- an entry of an ADD of the attachment that makes none of its objects: a Begin, or one that is not granted
 abbrev pub makes_nothing : Att → Entry → Bool
