@@ -1,7 +1,7 @@
 -- Questions that are asked one after another, until one is denied.
 use Rattle.std.proofs.Common.{◌≡◌, ℕ, Bool, true, false, List, [], ◌∷◌, ◌++◌, refl, sym, ◌∙◌, ap, subst, append_assoc, arith}
+use Rattle.std.proofs.lemmas.Bool.{false_from_ne_true}
 use Rattle.std.proofs.lemmas.List.{append-nil}
-use Rattle.std.proofs.lemmas.List.Folds.{list_all-append}
 use Rattle.std.specs.List.{list_all}
 use Rattle.kernel_types.specs.Apply.{apply}
 use Rattle.kernel_types.specs.Replies.{is_fault}
@@ -19,6 +19,7 @@ use Rattle.pod_workers.specs.declared.plan.Entry.{Entry}
 use Rattle.pod_laws.specs.Answers.{EndsByTest}
 use Rattle.pod_laws.specs.Granted.{EndsByDenied, IsFirstDenied, grants, is_yes}
 use Rattle.pod_laws.specs.Moments.{has_fault}
+use Rattle.pod_laws.proofs.Tests.{first-fails}
 
 -- ---- the reply to a question
 
@@ -62,7 +63,7 @@ asked-none host all = record { past = []; are = refl; granted = refl }
 
 asked-has : (host : Host) (all : List Question) (number : ℕ) (q : Question) (qs : List Question) (b : Bool) → grants host q ≡ b → HasAsked host all (q ∷ qs) → IsAsking host all (at_question number q qs (Has b))
 asked-has host all number q qs true is a = asked-all host all qs (record { past = a.past ++ q ∷ []; are = a.are ∙ sym (append_assoc a.past (q ∷ []) qs); granted = list_all-push (grants host) a.past q a.granted is })
-asked-has host all number q qs false is a = (refl, (q, record { past = a.past; left = qs; are = a.are; granted = a.granted; denied = is }, refl))
+asked-has host all number q qs false is a = (refl, (q, record { past = a.past; later = qs; are = a.are; pass = a.granted; fails = is }, refl))
 
 pub asked-reply : (host : Host) (all : List Question) (number : ℕ) (q : Question) (qs : List Question) → tells q.call ≡ true → HasAsked host all (q ∷ qs) → IsAsking host all (at_question number q qs (apply host q.call).1)
 asked-reply host all number q qs is a =
@@ -70,11 +71,8 @@ asked-reply host all number q qs is a =
 
 -- ---- all granted, or a first one denied
 
-middle-fails : {X : Type 0} (p : X → Bool) (xs : List X) (y : X) (ys : List X) → p y ≡ false → list_all p (xs ++ y ∷ ys) ≡ false
-middle-fails p xs y ys h = let split = list_all-append p xs (y ∷ ys) in grind (arith, split, h)
-
 denied-some : (host : Host) (all : List Question) (q : Question) → IsFirstDenied host all q → list_all (grants host) all ≡ false
-denied-some host all q d = ap (list_all (grants host)) d.are ∙ middle-fails (grants host) d.past q d.left d.denied
+denied-some host all q d = false_from_ne_true (list_all (grants host) all) (first-fails (grants host) all q d)
 
 -- so it ends by a test that is whether all are granted
 pub by-asked : (host : Host) (questions : List Question) (IsLack : Cause → Type 0) (test : Bool) (ending : Ending) → list_all (grants host) questions ≡ test → ((question : Question) → IsFirstDenied host questions question → IsLack question.lack)

@@ -63,7 +63,7 @@ by-asking : (list : NetList) (c : Command) (cached : Cached) (host : Host) (endi
 by-asking list c cached host ending ends =
     let questions = check_questions list c cached in
     by-asked host questions IsMissing (holds_cached list c cached host) ending (granted-check list c cached host)
-    (λ q d. let steady : IsSteadyQuestion c q = each-at (IsSteadyQuestion c) d.past q d.left (subst (AllByRecursion (IsSteadyQuestion c)) d.are (steady-questions list c cached)) in (steady.what, steady.lack)) ends
+    (λ q d. let steady : IsSteadyQuestion c q = each-at (IsSteadyQuestion c) d.past q d.later (subst (AllByRecursion (IsSteadyQuestion c)) d.are (steady-questions list c cached)) in (steady.what, steady.lack)) ends
 
 -- ---- every run
 

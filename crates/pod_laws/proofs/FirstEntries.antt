@@ -39,7 +39,7 @@ lead-granted c y ys Added verb h = absurd h
 lead-granted c y ys Yes verb h = absurd (not-both c verb h.verb)
 lead-granted c y ys (Skipped skip) verb h = absurd h
 lead-granted c y ys Versions verb h = absurd h
-lead-granted c y ys (Refused cause) verb h = let f = h.first in front-granted f.granted f.later f.by y ys h.begun f.are f.go_on
+lead-granted c y ys (Refused cause) verb h = let f = h.first.refuses in front-granted f.past f.later h.first.by y ys h.begun f.are f.pass
 
 first-granted : (list : NetList) (c : Command) (y : Entry) (ys : List Entry) (st : State) (s : Share) (call : Call) → c.verb ≡ verbs.Add → turn c st ≡ Calls call → Undoing list c (y ∷ ys) st s → lets_go_on y ≡ true
 unfolding turn

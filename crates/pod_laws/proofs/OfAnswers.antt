@@ -49,7 +49,7 @@ use Rattle.pod_laws.proofs.Due.{IsSwept}
 use Rattle.pod_laws.proofs.States.{IsNoResult, IsOtherVerb, swept-no_result, not-both}
 use Rattle.pod_laws.proofs.Runs.{RunFact, every-run}
 use Rattle.pod_laws.proofs.Undoing.{Undoing, Ends, undone-end, undone-start, undone-step}
-use Rattle.pod_laws.proofs.Tests.{middle-passes}
+use Rattle.pod_laws.proofs.Tests.{first-fails, middle-passes}
 
 -- ---- answers by endings
 
@@ -244,9 +244,7 @@ never-refused : (c : Command) (es : List Entry) (s : Share) (cause : Cause) → 
 never-refused c es s cause good (inl r) = none-some cause (sym good.0 ∙ r.words)
 never-refused c es s cause good (inr (inl r)) =
     both_ways (lets_go_on r.by) (cause-refuses 1 r.by.call r.by.reply cause r.decides) (middle-passes lets_go_on [] r.by [] (ap (list_all lets_go_on) (sym r.alone) ∙ good.1))
-never-refused c es s cause good (inr (inr r)) =
-    let f = r.first in
-    both_ways (lets_go_on f.by) f.refuses (middle-passes lets_go_on f.granted f.by f.later (ap (list_all lets_go_on) (sym f.are) ∙ good.1))
+never-refused c es s cause good (inr (inr r)) = first-fails lets_go_on es r.first.by r.first.refuses good.1
 
 pub unrefused_is_added : UnrefusedIsAdded
 unrefused_is_added = each-where verbs.Add NothingRefuses IsResult IsRefusedFor refl answers_of_add was_refused never-refused

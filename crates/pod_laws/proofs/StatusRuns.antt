@@ -95,7 +95,7 @@ status-ends : (list : NetList) (c : Command) (es : List Entry) (host : Host) (en
 status-ends list c es host ending version calm ends =
     let tested : EndsByTest (is_available list c host) ending (LacksService list c host ending) =
     by-asked host (status_questions list c) IsUnavailable (is_available list c host) ending (granted-status list c host)
-    (λ q d. let of_service : IsServiceQuestion q = each-at IsServiceQuestion d.past q d.left (subst (AllByRecursion IsServiceQuestion) d.are (service-questions list c)) in of_service.1) ends in
+    (λ q d. let of_service : IsServiceQuestion q = each-at IsServiceQuestion d.past q d.later (subst (AllByRecursion IsServiceQuestion) d.are (service-questions list c)) in of_service.1) ends in
     subst (λ v. EndsStatus list c es host v ending) (sym version)
     (subst (λ b. EndsByFault es b ending (EndsByTest (is_available list c host) ending (LacksService list c host ending))) (sym calm) tested)
 

@@ -72,7 +72,7 @@ pub record IsRefusing (c : Command) (es : List Entry) (cause : Cause) : Type 0 w
   pub verb : c.verb ≡ verbs.Add
   pub words : add_refusal c ≡ None
   pub first : FirstRefusal es cause
-  pub begun : first.granted ≢ []
+  pub begun : first.refuses.past ≢ []
 
 -- a DEL that no fault has ended
 pub record IsCalm (c : Command) (es : List Entry) : Type 0 where
@@ -147,25 +147,21 @@ refusing-now : (c : Command) (es : List Entry) (e : Entry) (cause : Cause) → I
 refusing-now c es e cause h why = record {
   verb = h.verb;
   words = h.words;
-  first = record { granted = es; by = e; later = []; are = refl; go_on = h.go_on; refuses = why.refuses; decides = why.decides };
+  first = record { by = e; refuses = record { past = es; later = []; are = refl; pass = h.go_on; fails = why.refuses }; decides = why.decides };
   begun = h.begun;
 }
 
 -- one entry more after it
 refusing-more : (c : Command) (es : List Entry) (e : Entry) (cause : Cause) → IsRefusing c es cause → IsRefusing c (es ++ e ∷ []) cause
 refusing-more c es e cause h =
-    let f = h.first in
+    let f = h.first.refuses in
     record {
       verb = h.verb;
       words = h.words;
       first = record {
-        granted = f.granted;
-        by = f.by;
-        later = f.later ++ e ∷ [];
-        are = ap (λ l. l ++ e ∷ []) f.are ∙ append_assoc f.granted (f.by ∷ f.later) (e ∷ []);
-        go_on = f.go_on;
-        refuses = f.refuses;
-        decides = f.decides;
+        by = h.first.by;
+        refuses = record { past = f.past; later = f.later ++ e ∷ []; are = ap (λ l. l ++ e ∷ []) f.are ∙ append_assoc f.past (h.first.by ∷ f.later) (e ∷ []); pass = f.pass; fails = f.fails };
+        decides = h.first.decides;
       };
       begun = h.begun;
     }
@@ -187,7 +183,7 @@ ends-faulted c es e Versions s h is = absurd h
 ends-faulted c es e Yes s h is = inr (inl (record { verb = h.verb; why = inr (record { words = h.words; calm = es; by = e; are = refl; no_fault = h.calm; fault = is; number = refl }) }))
 ends-faulted c es e (Refused cause) s h is =
     let more = refusing-more c es e cause h in
-    inl (record { verb = h.verb; why = inr (inr (record { words = h.words; first = more.first; begun = more.begun; undone = inr (fault-last h.first.later e (ap is_fault is)) })) })
+    inl (record { verb = h.verb; why = inr (inr (record { words = h.words; first = more.first; begun = more.begun; undone = inr (fault-last h.first.refuses.later e (ap is_fault is)) })) })
 
 ends-gone : (c : Command) (es : List Entry) (ending : Ending) (s : Share) → Leads c es ending → s ≡ no_objects → Ends c es ending s
 ends-gone c es Added s h none = absurd h

@@ -1,5 +1,7 @@
--- The kinds of an answer, what is said of each answer of a verb, and how a run that asks ends.
-use Rattle.std.specs.Prelude.{◌≡◌, ℕ, ◌⊎◌, Bool, true, false, List, [], length, Option, Some, slice_get}
+-- The kinds of an answer, what is said of each answer of a verb, the first that fails a test, and how a run that asks
+-- ends.
+use Rattle.std.specs.Prelude.{◌≡◌, ℕ, ◌⊎◌, Bool, true, false, List, [], ◌∷◌, ◌++◌, length, Option, Some, slice_get}
+use Rattle.std.specs.List.{list_all}
 use Rattle.cni_result.specs.declared.error.CniError.{CniError}
 use Rattle.cni_verbs.specs.Answers.{answer_of_ending, error_of}
 use Rattle.cni_verbs.specs.CommandWords.{att_of}
@@ -66,6 +68,16 @@ EachRefusal verb IsFor = EachListAnswer verb (λ w n c list a. (error : CniError
 abbrev pub EachEnding : Verb → (NetList → Command → List Entry → Host → Ending → Type 0) → Type 0
 EachEnding verb EndsSo = EachListAnswer verb (λ w n c list a. is_cut_off a ≡ false
     → (ending : Ending) × (a ≡ answer_of_ending list c ending []) × EndsSo list c (own_entries n w.history) (host_at_end w n) ending)
+
+-- ---- the first that fails
+
+-- all before it pass the test
+pub record IsFirstToFail {X : Type 0} (test : X → Bool) (xs : List X) (x : X) : Type 0 where
+  pub past : List X
+  pub later : List X
+  pub are : xs ≡ past ++ x ∷ later
+  pub pass : list_all test past ≡ true
+  pub fails : test x ≡ false
 
 -- ---- a run that asks
 

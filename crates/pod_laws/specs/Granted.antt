@@ -1,7 +1,6 @@
 -- What a kernel grants of questions, and that asking changes nothing (CNI specification, section 3, "Checking
 -- attachment" and "Status").
-use Rattle.std.specs.Prelude.{◌≡◌, Bool, true, false, List, ◌∷◌, ◌++◌}
-use Rattle.std.specs.List.{list_all}
+use Rattle.std.specs.Prelude.{◌≡◌, Bool, true, false, List}
 use Rattle.cni_verbs.specs.declared.answer.Cause.{Cause}
 use Rattle.cni_verbs.specs.declared.answer.Ending.{Ending}
 use Rattle.cni_verbs.specs.declared.answer.Ending.TheVariants.{Refused}
@@ -12,6 +11,7 @@ use Rattle.kernel_types.specs.declared.call.Reply.{Reply}
 use Rattle.kernel_types.specs.declared.call.Reply.TheVariants.{Has}
 use Rattle.pod_file.specs.declared.command.Verb.{Verb}
 use Rattle.pod_file.specs.declared.command.Verb.TheVariants as verbs
+use Rattle.pod_laws.specs.Answers.{IsFirstToFail}
 use Rattle.pod_laws.specs.Single.{EachEntry, ByVerb}
 
 abbrev pub is_yes : Reply → Bool
@@ -22,13 +22,9 @@ is_yes reply = false
 abbrev pub grants : Host → Question → Bool
 grants host question = is_yes (apply host question.call).1
 
--- all before it are granted
-pub record IsFirstDenied (host : Host) (questions : List Question) (question : Question) : Type 0 where
-  pub past : List Question
-  pub left : List Question
-  pub are : questions ≡ past ++ question ∷ left
-  pub granted : list_all (grants host) past ≡ true
-  pub denied : grants host question ≡ false
+-- the first that it doesn't grant
+abbrev pub IsFirstDenied : Host → List Question → Question → Type 0
+IsFirstDenied host questions question = IsFirstToFail (grants host) questions question
 
 -- it is refused for the first that is denied, which lacks something of this kind
 pub record EndsByDenied (host : Host) (questions : List Question) (IsLack : Cause → Type 0) (ending : Ending) : Type 0 where

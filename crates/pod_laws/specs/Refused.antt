@@ -1,6 +1,6 @@
 -- Why an ADD was refused, and what it left (CNI specification, section 5, "Error"; the codes from 100 on are this
 -- project's own).
-use Rattle.std.specs.Prelude.{◌≡◌, ◌≢◌, ℕ, ◌+◌, ◌⊎◌, Bool, true, false, List, [], ◌∷◌, ◌++◌, length, None}
+use Rattle.std.specs.Prelude.{◌≡◌, ◌≢◌, ℕ, ◌+◌, ◌⊎◌, Bool, true, false, List, [], ◌∷◌, length, None}
 use Rattle.std.specs.List.{list_all}
 use Rattle.cni_addr.specs.declared.range.RangeSet.{RangeSet}
 use Rattle.cni_result.specs.declared.result.AddResult.{AddResult}
@@ -23,7 +23,7 @@ use Rattle.pod_file.specs.declared.command.Verb.TheVariants as verbs
 use Rattle.pod_workers.specs.World.{host_on}
 use Rattle.pod_workers.specs.declared.plan.Entry.{Entry}
 use Rattle.pod_laws.specs.Moments.{has_fault}
-use Rattle.pod_laws.specs.Answers.{EachIsOrRefused, EachIsWhere, EachRefusal, IsRefusedByWords}
+use Rattle.pod_laws.specs.Answers.{EachIsOrRefused, EachIsWhere, EachRefusal, IsFirstToFail, IsRefusedByWords}
 
 -- ---- the first refusal
 
@@ -46,13 +46,9 @@ pub data IsCause : ℕ → Call → Reply → Cause → Type 0 where
 
 -- the first of the entries that refuses: it decides the cause
 pub record FirstRefusal (entries : List Entry) (cause : Cause) : Type 0 where
-  pub granted : List Entry
   pub by : Entry
-  pub later : List Entry
-  pub are : entries ≡ granted ++ by ∷ later
-  pub go_on : list_all lets_go_on granted ≡ true
-  pub refuses : lets_go_on by ≡ false
-  pub decides : IsCause (length granted + 1) by.call by.reply cause
+  pub refuses : IsFirstToFail lets_go_on entries by
+  pub decides : IsCause (length refuses.past + 1) by.call by.reply cause
 
 -- ---- by its words, or in one of two ways by its entries and what its attachment has at the last of them
 
@@ -68,8 +64,8 @@ pub record IsRefusedAtBegin (c : Command) (entries : List Entry) (cause : Cause)
 pub record IsRefusedLater (c : Command) (entries : List Entry) (objects : Share) (cause : Cause) : Type 0 where
   pub words : add_refusal c ≡ None
   pub first : FirstRefusal entries cause
-  pub begun : first.granted ≢ []
-  pub undone : (objects ≡ no_objects) ⊎ (has_fault first.later ≡ true)
+  pub begun : first.refuses.past ≢ []
+  pub undone : (objects ≡ no_objects) ⊎ (has_fault first.refuses.later ≡ true)
 
 abbrev pub IsRefusedFor : Command → List Entry → Share → Cause → Type 0
 IsRefusedFor c entries objects cause = IsRefusedByWords (add_refusal c) entries cause ⊎ (IsRefusedAtBegin c entries cause ⊎ IsRefusedLater c entries objects cause)
