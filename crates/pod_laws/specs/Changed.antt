@@ -3,20 +3,20 @@ use Rattle.std.specs.Prelude.{◌≡◌, false, List, [], ◌∷◌}
 use Rattle.cni_verbs.specs.Answers.{outside_by}
 use Rattle.cni_verbs.specs.Script.{State, Over, Changing, changed, outside_start}
 use Rattle.cni_verbs.specs.declared.answer.Answer.{Answer}
-use Rattle.cni_verbs.specs.declared.answer.Answer.TheVariants as answers
+use Rattle.cni_verbs.specs.declared.answer.Ending.TheVariants.{Versions}
 use Rattle.pod_file.specs.declared.command.Command.{Command}
 use Rattle.pod_file.specs.declared.command.Verb.{Verb}
 use Rattle.pod_file.specs.declared.command.Verb.TheVariants as verbs
 use Rattle.pod_file.specs.Commands.{is_of_network}
 use Rattle.pod_workers.specs.declared.plan.Entry.{Entry}
 use Rattle.pod_laws.specs.Moments.{own_entries}
-use Rattle.pod_laws.specs.Answers.{EachAnswer, EachListAnswer, is_cut_off}
+use Rattle.pod_laws.specs.Answers.{EachAnswer, EachEnding, is_cut_off}
 
 -- ---- VERSION
 
 -- with no call made, it is answered the version of its list
 abbrev pub VersionsAreTheLists : Type 0
-VersionsAreTheLists = EachListAnswer verbs.Version (λ w n c list a. is_cut_off a ≡ false → (own_entries n w.history ≡ []) × (a ≡ answers.Versions list.version))
+VersionsAreTheLists = EachEnding verbs.Version (λ list c entries host ending. (entries ≡ []) × (ending ≡ Versions))
 
 -- ---- the world outside
 
