@@ -168,15 +168,12 @@ answered-by w n c list a listed gc t over V1_1 false version disabled =
     let s = swept-of (state_by list c.command es) over.ending over.given (collects-after list c.command (replies_in es) start) over.state_is in
     let some = made-calls list c.command es over.ending start s in
     let at = at-end w n c list over.ending listed gc (ap (λ x. is_early x list.disable_gc) version ∙ ap (is_early V1_1) disabled) t s in
-    elim (ended-answer list c.command (after w.plan.pods.opening t.before) es over.ending over.given a (host_at_start w n) (host_at_end w n) at (says list c.command over.given over.ending a over.answer_is) some (alone-start w n c t some) (alone-end w n c t)) [
-      | inl clean ↦ inr (inr (inl clean))
-      | inr faulty ↦ inr (inr (inr (inl faulty)))
-    ]
+    inr (inr (ended-answer list c.command (after w.plan.pods.opening t.before) es over.ending over.given a (host_at_start w n) (host_at_end w n) at (says list c.command over.given over.ending a over.answer_is) some (alone-start w n c t some) (alone-end w n c t)))
 
 pub collections_are_answered : CollectionsAreAnswered
 collections_are_answered w legal n c a at gc is = λ list listed. elim (answer-due w legal n c list a at listed is) [
-  | inl over ↦ answered-by w n c list a listed gc (stands_together w legal n c at (ap is_exclusive_verb gc)) over list.version list.disable_gc refl refl
-  | inr cut ↦ inr (inr (inr (inr cut)))
+  | inl over ↦ inl (answered-by w n c list a listed gc (stands_together w legal n c at (ap is_exclusive_verb gc)) over list.version list.disable_gc refl refl)
+  | inr cut ↦ inr cut
 ]
 
 pub collections_are_bounded : CollectionsAreBounded

@@ -15,6 +15,7 @@ use Rattle.gc_sweep.proofs.Kept.{host_of_parts}
 use Rattle.pod_file.specs.Commands.{is_of_network}
 use Rattle.pod_workers.specs.declared.plan.Entry.{Entry}
 use Rattle.pod_workers.proofs.Listed.{listed-network}
+use Rattle.pod_laws.specs.Answers.{OrCutOff}
 use Rattle.pod_laws.specs.Collected.{CollectionsInARowKeep, CollectionsFillTheirRounds, IsClean, IsCollectionAnswer}
 use Rattle.pod_laws.specs.Moments.{host_at_end, host_at_round, host_at_start, own_entries}
 use Rattle.pod_laws.proofs.Collected.{collections_are_answered, collections_are_bounded}
@@ -80,12 +81,12 @@ kept-same c old new b =
     (between (λ x. stays c.network c.valid x.tag) old.cached new.cached b.lower.removes.cached b.upper.removes.cached)
     b.upper.lasts
 
-clean-of : (list : NetList) (c : Command) (es : List Entry) (old new : Host) → IsCollectionAnswer list c es old new answers.Yes → IsClean list c es old new answers.Yes
-clean-of list c es old new (inl old_list) = absurd (let e = old_list.answer in cc)
-clean-of list c es old new (inr (inl disabled)) = absurd (let e = disabled.answer in cc)
-clean-of list c es old new (inr (inr (inl clean))) = clean
-clean-of list c es old new (inr (inr (inr (inl faulty)))) = absurd (let e = faulty.answer in cc)
-clean-of list c es old new (inr (inr (inr (inr cut)))) = absurd (let e : false ≡ true = cut in cc)
+clean-of : (list : NetList) (c : Command) (es : List Entry) (old new : Host) → OrCutOff (IsCollectionAnswer list c es old new) answers.Yes → IsClean list c es old new answers.Yes
+clean-of list c es old new (inl (inl old_list)) = absurd (let e = old_list.answer in cc)
+clean-of list c es old new (inl (inr (inl disabled))) = absurd (let e = disabled.answer in cc)
+clean-of list c es old new (inl (inr (inr (inl clean)))) = clean
+clean-of list c es old new (inl (inr (inr (inr faulty)))) = absurd (let e = faulty.answer in cc)
+clean-of list c es old new (inr cut) = absurd (let e : false ≡ true = cut in cc)
 
 pub collections_fill_their_rounds : CollectionsFillTheirRounds
 collections_fill_their_rounds w legal n c at gc some = (start-round w legal n c at (ap is_exclusive_verb gc) some, end-round w legal n c at (ap is_exclusive_verb gc) some)

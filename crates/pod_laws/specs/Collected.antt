@@ -19,7 +19,7 @@ use Rattle.pod_workers.specs.Plans.{Placed, commands_of, list_for}
 use Rattle.pod_workers.specs.World.{World, made_in}
 use Rattle.pod_workers.specs.declared.plan.Entry.{Entry}
 use Rattle.pod_laws.specs.Moments.{has_fault, host_at_end, host_at_round, host_at_start, own_entries}
-use Rattle.pod_laws.specs.Answers.{EachListAnswer, is_cut_off}
+use Rattle.pod_laws.specs.Answers.{EachListAnswer, OrCutOff}
 
 -- ---- answers
 
@@ -52,12 +52,12 @@ pub record IsFaulty (list : NetList) (c : Command) (entries : List Entry) (new :
   pub answer : a ≡ answers.Refused (error_of list.version c (causes.Faults (fault_numbers 0 (made_in entries))))
 
 abbrev pub IsCollectionAnswer : NetList → Command → List Entry → Host → Host → Answer → Type 0
-IsCollectionAnswer list c entries old new a = IsTooOld list c entries a ⊎ (IsDisabled list entries a ⊎ (IsClean list c entries old new a ⊎ (IsFaulty list c entries new a ⊎ (is_cut_off a ≡ true))))
+IsCollectionAnswer list c entries old new a = IsTooOld list c entries a ⊎ (IsDisabled list entries a ⊎ (IsClean list c entries old new a ⊎ IsFaulty list c entries new a))
 
 -- each answer of a collection is of one of these kinds, from the host right before its first entry to the one right
--- after its last
+-- after its last, unless it was cut off
 abbrev pub CollectionsAreAnswered : Type 0
-CollectionsAreAnswered = EachListAnswer verbs.Gc (λ w n c list. IsCollectionAnswer list c (own_entries n w.history) (host_at_start w n) (host_at_end w n))
+CollectionsAreAnswered = EachListAnswer verbs.Gc (λ w n c list. OrCutOff (IsCollectionAnswer list c (own_entries n w.history) (host_at_start w n) (host_at_end w n)))
 
 -- ---- whatever it is answered
 
