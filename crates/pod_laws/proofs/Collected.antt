@@ -189,7 +189,7 @@ abbrev IsShort : NetList → Command → Host → List Entry → Type 0
 IsShort list c host es = length es ≤ most_of_collection list c host
 
 pub collections_are_short : CollectionsAreShort
-collections_are_short w legal n c list at listed gc some =
+collections_are_short w legal n c at gc some = λ list listed.
     let t = stands_together w legal n c at (ap is_exclusive_verb gc) in
     let es = own_entries n w.history in
     let start = after w.plan.pods.opening t.before in

@@ -61,24 +61,22 @@ CollectionsAreAnswered = EachListAnswer verbs.Gc (λ w n c list. OrCutOff (IsCol
 
 -- ---- whatever it is answered
 
--- each collection that made a call, wherever it was stopped, lost nothing that is to be kept, and added nothing
+-- this holds of each collection that made a call, wherever it was stopped, at place n
+abbrev pub EachCallingCollection : (World → ℕ → Placed → Type 0) → Type 0
+EachCallingCollection Holds = (w : World) → Legal w → (n : ℕ) (c : Placed) → slice_get (commands_of w.plan) n ≡ Some c → c.command.verb ≡ verbs.Gc → own_entries n w.history ≢ [] → Holds w n c
+
+-- it lost nothing that is to be kept, and added nothing
 abbrev pub CollectionsAreBounded : Type 0
-CollectionsAreBounded = (w : World) → Legal w → (n : ℕ) (c : Placed)
-    → slice_get (commands_of w.plan) n ≡ Some c → c.command.verb ≡ verbs.Gc → own_entries n w.history ≢ [] → Bounds c.command (host_at_start w n) (host_at_end w n)
+CollectionsAreBounded = EachCallingCollection (λ w n c. Bounds c.command (host_at_start w n) (host_at_end w n))
 
 -- and it made at most six calls; for each stale attachment that owned an object at its start six more than the kinds of
 -- a DEL; and one for each object that is not kept
 abbrev pub CollectionsAreShort : Type 0
-CollectionsAreShort = (w : World) → Legal w → (n : ℕ) (c : Placed) (list : NetList)
-    → slice_get (commands_of w.plan) n ≡ Some c → list_for w.plan c.command ≡ Some list → c.command.verb ≡ verbs.Gc → own_entries n w.history ≢ []
-    → length (own_entries n w.history) ≤ most_of_collection list c.command (host_at_start w n)
+CollectionsAreShort = EachCallingCollection (λ w n c. (list : NetList) → list_for w.plan c.command ≡ Some list → length (own_entries n w.history) ≤ most_of_collection list c.command (host_at_start w n))
 
--- each collection that made a call starts from the host at the start of its round, and ends in the one at the start of
--- the next round
+-- it starts from the host at the start of its round, and ends in the one at the start of the next round
 abbrev pub CollectionsFillTheirRounds : Type 0
-CollectionsFillTheirRounds = (w : World) → Legal w → (n : ℕ) (c : Placed)
-    → slice_get (commands_of w.plan) n ≡ Some c → c.command.verb ≡ verbs.Gc → own_entries n w.history ≢ []
-    → (host_at_start w n ≡ host_at_round w c.round) × (host_at_end w n ≡ host_at_round w (c.round + 1))
+CollectionsFillTheirRounds = EachCallingCollection (λ w n c. (host_at_start w n ≡ host_at_round w c.round) × (host_at_end w n ≡ host_at_round w (c.round + 1)))
 
 -- ---- one after another
 
