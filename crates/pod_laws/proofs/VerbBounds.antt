@@ -31,8 +31,9 @@ use Rattle.pod_workers.specs.Legal.{Legal}
 use Rattle.pod_workers.specs.Plans.{Placed, commands_of, list_for}
 use Rattle.pod_workers.specs.World.{World, own_replies}
 use Rattle.pod_workers.specs.declared.plan.Entry.{Entry}
+use Rattle.pod_workers.proofs.Falls.{left-asking}
 use Rattle.pod_workers.proofs.MostCalls.{adds_in_most_calls}
-use Rattle.pod_workers.proofs.StepsLeft.{IsNoCollection}
+use Rattle.pod_workers.proofs.StepsLeft.{IsNoCollection, none-asking}
 use Rattle.pod_workers.proofs.Replies.{by-either, by-unless, by-unless_old}
 use Rattle.pod_laws.specs.Bounded.{EachAddHasMost, EachChangeIsOneCall, EachRunIsBounded, IsFirst, asked_of}
 use Rattle.pod_laws.specs.Moments.{objects_after}
@@ -86,8 +87,7 @@ start-over : (most : ℕ) (list : NetList) (c : Command) (bound : Share → ℕ)
 start-over most list c bound ending = record { none = tt; few = λ had. omega arith }
 
 start-asking : (most : ℕ) (list : NetList) (c : Command) (questions : List Question) → StartsIn most list c (asking questions) (λ had. length questions)
-start-asking most list c [] = record { none = tt; few = λ had. omega arith }
-start-asking most list c (q ∷ qs) = record { none = tt; few = λ had. omega arith }
+start-asking most list c questions = record { none = none-asking questions; few = left-asking most list c questions }
 
 -- what is left to a command of this verb before its first call
 abbrev Starts : ℕ → NetList → Command → Verb → (Share → ℕ) → Type 0
@@ -145,13 +145,9 @@ check-asks list c r bound h =
     by-unless (λ s. AsksIn list c s r bound) (del_refusal c) (if list.disable_check then Over (Skipped skips.Check) [] else FindingEntry) (λ cause. over (Refused cause))
     (λ none. by-either (λ s. AsksIn list c s r bound) list.disable_check (Over (Skipped skips.Check) []) FindingEntry (over (Skipped skips.Check)) h)
 
-left-asking : (list : NetList) (c : Command) (questions : List Question) (had : Share) → calls_left (most_calls list c) list c (asking questions) had ≤ length questions
-left-asking list c [] had = omega arith
-left-asking list c (q ∷ qs) had = omega arith
-
 found-asks : (list : NetList) (c : Command) (cached : Cached) → AsksIn list c FindingEntry (Found (Some cached)) (length (check_questions list c cached))
 unfolding advance
-found-asks list c cached = record { none = tt; few = λ had. left-asking list c (check_questions list c cached) had }
+found-asks list c cached = record { none = tt; few = left-asking (most_calls list c) list c (check_questions list c cached) }
 
 no-entry : (list : NetList) (c : Command) (o : Option Cached) (had : Share) → ((cached : Cached) → o ≢ Some cached) → calls_left (most_calls list c) list c (checking list c o) had ≤ 0
 no-entry list c None had not = omega arith
