@@ -1,12 +1,13 @@
 -- An exclusive command that makes a call starts with its round and ends with it.
-use Rattle.std.proofs.Common.{◌≡◌, ◌≢◌, ℕ, ◌+◌, ◌≤◌, Bool, true, false, List, [], ◌∷◌, ◌++◌, Some, slice_get, refl, sym, ◌∙◌, ap, subst, inl, inr, ◌⊎◌, append_assoc, arith}
-use Rattle.std.specs.Prelude.{◌<◌, filter, if◌then◌else◌}
+use Rattle.std.proofs.Common.{◌≡◌, ◌≢◌, ℕ, ◌+◌, ◌≤◌, true, false, List, [], ◌∷◌, ◌++◌, Some, slice_get, refl, sym, ◌∙◌, ap, subst, inl, inr, ◌⊎◌, append_assoc, arith}
+use Rattle.std.specs.Prelude.{◌<◌, if◌then◌else◌}
 use Rattle.std.specs.List.{list_any}
-use Rattle.std.proofs.lemmas.Bool.{cases_lt, cases_order, le-ltb, lt-ltb, or_from, or_left}
+use Rattle.std.proofs.lemmas.Bool.{cases_lt, cases_order, le-ltb, lt-ltb, or_left}
 use Rattle.std.proofs.lemmas.List.Elements.{filter-append}
 use Rattle.std.proofs.lemmas.Option.{same_Some}
 use Rattle.pod_file.specs.Rounds.{is_exclusive_verb}
 use Rattle.kernel_types.proofs.ListLemmas.{list_any-append_right}
+use Rattle.plan_words.proofs.Deletions.{empty_none}
 use Rattle.pod_workers.specs.Facts.{EachOne, IsEntryOf}
 use Rattle.pod_workers.specs.Legal.{Legal}
 use Rattle.pod_workers.specs.Plans.{Placed, commands_of}
@@ -20,7 +21,7 @@ use Rattle.pod_workers.proofs.Sound.{fine}
 use Rattle.pod_workers.proofs.Splits.{cons_parts}
 use Rattle.pod_workers.proofs.WellFormedPlans.{stand_alone}
 use Rattle.pod_laws.specs.Moments.{host_at_end, host_at_round, host_at_start, is_before, is_of, own_entries, until_first, until_last, until_round}
-use Rattle.pod_laws.proofs.AloneRuns.{none-if, until_first-own}
+use Rattle.pod_laws.proofs.AloneRuns.{until_first-own}
 use Rattle.pod_laws.proofs.Entries.{is_of-own, no-entries, same-place}
 
 -- ---- commands of a round
@@ -100,10 +101,6 @@ start-after w legal m n d c at_m at_n first second r none some =
 
 -- ---- its last entry stands where its round ends
 
-any-none : (p : Entry → Bool) (es : List Entry) → filter p es ≡ [] → list_any p es ≡ false
-any-none p [] h = refl
-any-none p (x ∷ xs) h = let parts = none-if (p x) x (filter p xs) h in or_from (p x) (list_any p xs) parts.0 (any-none p xs parts.1)
-
 first-or-later : (x y : Entry) (xs before rest : List Entry) → x ∷ xs ≡ before ++ y ∷ rest → (x ≡ y) ⊎ ((between : List Entry) × (xs ≡ between ++ y ∷ rest))
 first-or-later x y xs [] rest is = inl (cons_parts x y xs rest is).0
 first-or-later x y xs (z ∷ zs) rest is = inr (zs, (cons_parts x z xs (zs ++ y ∷ rest) is).1)
@@ -147,7 +144,7 @@ entry-within w legal m d before rest e at exclusive some whole =
     let x = follows.by in
     let of_e : IsEntryOf w.plan e k x = follows.of in
     elim (entry_or_none m (e ∷ rest)) [
-      | inl none ↦ any-none (is_of m) (e ∷ rest) (no-own m (e ∷ rest) none) ∙ sym (not-before w.plan (d.round + 1) e k x of_e (all-later w legal m k d x before rest e at exclusive some whole of_e none))
+      | inl none ↦ empty_none (is_of m) (e ∷ rest) (no-own m (e ∷ rest) none) ∙ sym (not-before w.plan (d.round + 1) e k x of_e (all-later w legal m k d x before rest e at exclusive some whole of_e none))
       | inr is ↦
           let own : list_any (is_of m) (is.2 ∷ is.1) ≡ true = or_left (is_of m is.2) (list_any (is_of m) is.1) (is_of-own m is.2 is.4) in
           ap (list_any (is_of m)) is.3 ∙ list_any-append_right (is_of m) is.0 (is.2 ∷ is.1) own

@@ -188,7 +188,7 @@ first-own : (n : ℕ) (h : List Entry) (y : Entry) (ys : List Entry) → own_ent
 first-own n [] y ys is = cc
 first-own n (x ∷ xs) y ys is = first-if n (is_of n x) x (own_entries n xs) y ys refl (first-own n xs y ys) is
 
-pub none-if : (b : Bool) (x : Entry) (t : List Entry) → (if b then x ∷ t else t) ≡ [] → (b ≡ false) × (t ≡ [])
+none-if : (b : Bool) (x : Entry) (t : List Entry) → (if b then x ∷ t else t) ≡ [] → (b ≡ false) × (t ≡ [])
 none-if true x t is = cc
 none-if false x t is = (refl, is)
 
