@@ -1,6 +1,7 @@
 -- The bridge of a list is there from the moment when its plugin ensured it.
 use Rattle.std.proofs.Common.{◌≡◌, ◌≢◌, ℕ, ◌+◌, Bool, true, false, not, List, [], ◌∷◌, ◌++◌, length, Option, Some, None, slice_get, refl, sym, ◌∙◌, ap, subst, inl, inr, ◌⊎◌, arith}
-use Rattle.std.proofs.lemmas.Bool.{cases_Bool}
+use Rattle.std.proofs.Math.Bool.{and-false, and-true}
+use Rattle.std.proofs.lemmas.Bool.{and_parts, both_ways, cases_Bool, false_from_ne_true}
 use Rattle.std.proofs.lemmas.Bool.Decides.{eqb_tells}
 use Rattle.std.proofs.lemmas.Slice.Eq.{bytes_eq-Decides}
 use Rattle.std.specs.Prelude.{find, ◌&&◌, if◌then◌else◌}
@@ -61,40 +62,47 @@ use Rattle.pod_laws.proofs.Tests.{any-filtered, none-by}
 
 -- ---- a bridge of the host stays
 
-bridge-unowned : (name : List ℕ) (l : Link) (t : Tag) → link_fits_tag l t ≡ true → (is_host_bridge name l && not (not (is_owned t))) ≡ false
-bridge-unowned name l tags.Outside h = grind arith
-bridge-unowned name l tags.Base h = grind arith
-bridge-unowned name l (tags.Own att) h = let k = owned_no_bridge l.ns l.kind h in grind (arith, k)
+-- bridges alone pass this test
+abbrev pub PassesBridges : (Link → Bool) → Type 0
+PassesBridges p = (l : Link) → p l ≡ true → is_bridge l.kind ≡ true
 
-stays-unshared : (host : Host) (call : Call) (name : List ℕ) → IsSound host → IsAllowed host call → is_from_outside call ≡ false → ensures_shared call ≡ false → has_host_bridge host name ≡ true → has_host_bridge (apply host call).0 name ≡ true
-stays-unshared host call name sound allowed inside own there =
+pub passes-host_bridges : (name : List ℕ) → PassesBridges (is_host_bridge name)
+passes-host_bridges name = λ l is. (and_parts (is_host_link name l) (is_bridge l.kind) is).1
+
+bridge-unowned : (p : Link → Bool) → PassesBridges p → (l : Link) (t : Tag) → link_fits_tag l t ≡ true → (p l && not (not (is_owned t))) ≡ false
+bridge-unowned p bridges l tags.Outside h = and-false (p l)
+bridge-unowned p bridges l tags.Base h = and-false (p l)
+bridge-unowned p bridges l (tags.Own att) h = and-true (p l) ∙ false_from_ne_true (p l) (λ passes. both_ways (is_bridge l.kind) (owned_no_bridge l.ns l.kind h) (bridges l passes))
+
+stays-unshared : (p : Link → Bool) → PassesBridges p → (host : Host) (call : Call) → IsSound host → IsAllowed host call → is_from_outside call ≡ false → ensures_shared call ≡ false → list_any p host.links ≡ true → list_any p (apply host call).0.links ≡ true
+stays-unshared p bridges host call sound allowed inside own there =
     let new = (apply host call).0 in
     let keeps = KeepsUnowned-Touches call host new inside own (Touches-apply host call sound allowed) in
-    let none : list_any (λ l. is_host_bridge name l && not (not (is_owned l.tag))) host.links ≡ false =
-    none-by (λ l. link_fits_tag l l.tag) (λ l. is_host_bridge name l && not (not (is_owned l.tag))) (λ l h. bridge-unowned name l l.tag h) host.links sound.links.tags in
-    let kept = list_any-kept (is_host_bridge name) (λ l. not (is_owned l.tag)) host.links there none in
-    any-filtered (is_host_bridge name) (λ l. not (is_owned l.tag)) new.links (ap (list_any (is_host_bridge name)) keeps.links ∙ kept)
+    let none : list_any (λ l. p l && not (not (is_owned l.tag))) host.links ≡ false =
+    none-by (λ l. link_fits_tag l l.tag) (λ l. p l && not (not (is_owned l.tag))) (λ l h. bridge-unowned p bridges l l.tag h) host.links sound.links.tags in
+    let kept = list_any-kept p (λ l. not (is_owned l.tag)) host.links there none in
+    any-filtered p (λ l. not (is_owned l.tag)) new.links (ap (list_any p) keeps.links ∙ kept)
 
-same-links : (name : List ℕ) (old new : Host) → new.links ≡ old.links → has_host_bridge old name ≡ true → has_host_bridge new name ≡ true
-same-links name old new e there = ap (list_any (is_host_bridge name)) e ∙ there
+same-links : (p : Link → Bool) (old new : Host) → new.links ≡ old.links → list_any p old.links ≡ true → list_any p new.links ≡ true
+same-links p old new e there = ap (list_any p) e ∙ there
 
-bridge-stays : (host : Host) (call : Call) (name : List ℕ) → IsSound host → IsAllowed host call → is_from_outside call ≡ false → has_host_bridge host name ≡ true → has_host_bridge (apply host call).0 name ≡ true
-bridge-stays host (BridgeEnsure bridge mtu promisc) name sound allowed inside there =
+pub bridge-stays : (p : Link → Bool) → PassesBridges p → (host : Host) (call : Call) → IsSound host → IsAllowed host call → is_from_outside call ≡ false → list_any p host.links ≡ true → list_any p (apply host call).0.links ≡ true
+bridge-stays p bridges host (BridgeEnsure bridge mtu promisc) sound allowed inside there =
     elim (Touches-apply host (BridgeEnsure bridge mtu promisc) sound allowed) [
-      | inl e ↦ same-links name host (apply host (BridgeEnsure bridge mtu promisc)).0 (ap (λ (k : Host). k.links) e) there
-      | inr more ↦ ap (λ (k : Host). has_host_bridge k name) more.2 ∙ list_any-append_left (is_host_bridge name) host.links (more.0 ∷ []) there
+      | inl e ↦ same-links p host (apply host (BridgeEnsure bridge mtu promisc)).0 (ap (λ (k : Host). k.links) e) there
+      | inr more ↦ ap (λ (k : Host). list_any p k.links) more.2 ∙ list_any-append_left p host.links (more.0 ∷ []) there
     ]
-bridge-stays host (GatewayEnsure bridge cidr) name sound allowed inside there =
+bridge-stays p bridges host (GatewayEnsure bridge cidr) sound allowed inside there =
     elim (Touches-apply host (GatewayEnsure bridge cidr) sound allowed) [
-      | inl e ↦ same-links name host (apply host (GatewayEnsure bridge cidr)).0 (ap (λ (k : Host). k.links) e) there
-      | inr more ↦ same-links name host (apply host (GatewayEnsure bridge cidr)).0 (ap (λ (k : Host). k.links) more.2) there
+      | inl e ↦ same-links p host (apply host (GatewayEnsure bridge cidr)).0 (ap (λ (k : Host). k.links) e) there
+      | inr more ↦ same-links p host (apply host (GatewayEnsure bridge cidr)).0 (ap (λ (k : Host). k.links) more.2) there
     ]
-bridge-stays host (ForwardEnsure family) name sound allowed inside there =
+bridge-stays p bridges host (ForwardEnsure family) sound allowed inside there =
     elim (Touches-apply host (ForwardEnsure family) sound allowed) [
-      | inl e ↦ same-links name host (apply host (ForwardEnsure family)).0 (ap (λ (k : Host). k.links) e) there
-      | inr more ↦ same-links name host (apply host (ForwardEnsure family)).0 (ap (λ (k : Host). k.links) more.2) there
+      | inl e ↦ same-links p host (apply host (ForwardEnsure family)).0 (ap (λ (k : Host). k.links) e) there
+      | inr more ↦ same-links p host (apply host (ForwardEnsure family)).0 (ap (λ (k : Host). k.links) more.2) there
     ]
-bridge-stays host call name sound allowed inside there = stays-unshared host call name sound allowed inside refl there
+bridge-stays p bridges host call sound allowed inside there = stays-unshared p bridges host call sound allowed inside refl there
 
 -- a call of one attachment isn't the world's outside
 pub call-inside : (att : Att) (call : Call) → is_call_of att call ≡ true → is_from_outside call ≡ false
@@ -115,7 +123,7 @@ BridgeIn first host = has_bridge_as_master host (bridge_of first) ≡ true
 
 bridge-in-stays : (o : Option (List ℕ)) (host : Host) (call : Call) → IsSound host → IsAllowed host call → is_from_outside call ≡ false → has_bridge_as_master host o ≡ true → has_bridge_as_master (apply host call).0 o ≡ true
 bridge-in-stays None host call sound allowed inside there = refl
-bridge-in-stays (Some name) host call sound allowed inside there = bridge-stays host call name sound allowed inside there
+bridge-in-stays (Some name) host call sound allowed inside there = bridge-stays (is_host_bridge name) (passes-host_bridges name) host call sound allowed inside there
 
 -- so is a call that only asks
 question-inside : (call : Call) → is_question call ≡ true → is_from_outside call ≡ false
