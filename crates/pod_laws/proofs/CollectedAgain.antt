@@ -12,6 +12,7 @@ use Rattle.cni_verbs.specs.declared.answer.Answer.TheVariants as answers
 use Rattle.gc_sweep.specs.Keep.{keep, stays}
 use Rattle.gc_sweep.specs.Sweep.{Bounds}
 use Rattle.gc_sweep.proofs.Kept.{host_of_parts}
+use Rattle.gc_sweep.proofs.Lists.{count_drops, filter_every}
 use Rattle.pod_file.specs.Commands.{is_of_network}
 use Rattle.pod_workers.specs.declared.plan.Entry.{Entry}
 use Rattle.pod_workers.proofs.Listed.{listed-network}
@@ -25,12 +26,7 @@ use Rattle.pod_laws.proofs.AloneRounds.{end-round, start-after, start-round}
 -- ---- lists that lost elements
 
 drops-length : {X : Type 0} (old new : List X) → DropsOnly (λ x. true) old new → length new ≤ length old
-drops-length [] new d = rw d (omega arith)
-drops-length (x ∷ old) [] d = omega arith
-drops-length (x ∷ old) (y ∷ new) d = elim d [
-  | inl same ↦ let rest = drops-length old new same.1 in omega arith
-  | inr drop ↦ let rest = drops-length old (y ∷ new) drop.1 in omega arith
-]
+drops-length old new d = rw (filter_every new, filter_every old) at (count_drops (λ x. true) (λ x. true) old new d)
 
 drops-none : {X : Type 0} (old new : List X) → DropsOnly (λ x. true) old new → length old ≤ length new → new ≡ old
 drops-none [] new d long = d
