@@ -35,12 +35,12 @@ use Rattle.pod_workers.specs.World.{World, entry_of, host_of, reply_to}
 use Rattle.pod_workers.specs.declared.plan.Entry.{Entry}
 use Rattle.pod_workers.proofs.Order.{apart, ready_is}
 use Rattle.pod_workers.proofs.Planned.{LeftArePlanned}
-use Rattle.pod_workers.proofs.Splits.{split_nil}
+use Rattle.pod_workers.proofs.Splits.{none-or-some, split_nil}
 use Rattle.pod_laws.specs.AskedFor.{begins, is_begin_of, is_done, last_begun}
 use Rattle.pod_laws.specs.Moments.{own_entries}
 use Rattle.pod_laws.specs.Refused.{is_granted, lets_go_on}
 use Rattle.pod_laws.proofs.Causes.{IsPlanReply, begin-may}
-use Rattle.pod_laws.proofs.Entries.{is_of-own, is_of-other, own_entries-own, own_entries-other, no-entries, none-or-some, other-number}
+use Rattle.pod_laws.proofs.Entries.{is_of-own, is_of-other, own_entries-own, own_entries-other, no-entries, other-number}
 use Rattle.pod_laws.proofs.States.{IsOtherVerb, is_question, not-both}
 use Rattle.pod_laws.proofs.Runs.{every-run-now, own-state}
 use Rattle.pod_laws.proofs.Steps.{AllOpen, Changes, GoesOn, IsOpenKept, OpenFact, by-open}

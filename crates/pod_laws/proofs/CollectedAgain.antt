@@ -16,11 +16,11 @@ use Rattle.gc_sweep.proofs.Lists.{count_drops, filter_every}
 use Rattle.pod_file.specs.Commands.{is_of_network}
 use Rattle.pod_workers.specs.declared.plan.Entry.{Entry}
 use Rattle.pod_workers.proofs.Listed.{listed-network}
+use Rattle.pod_workers.proofs.Splits.{none-or-some}
 use Rattle.pod_laws.specs.Answers.{OrCutOff}
 use Rattle.pod_laws.specs.Collected.{CollectionsInARowKeep, CollectionsFillTheirRounds, IsClean, IsCollectionAnswer}
 use Rattle.pod_laws.specs.Moments.{host_at_end, host_at_round, host_at_start, own_entries}
 use Rattle.pod_laws.proofs.Collected.{collections_are_answered, collections_are_bounded}
-use Rattle.pod_laws.proofs.Entries.{none-or-some}
 use Rattle.pod_laws.proofs.AloneRounds.{end-round, start-after, start-round}
 
 -- ---- lists that lost elements

@@ -16,10 +16,6 @@ pub no-entries : (es : List Entry) → replies_in es ≡ [] → es ≡ []
 no-entries [] h = refl
 no-entries (x ∷ xs) h = cc
 
-pub none-or-some : (es : List Entry) → (es ≡ []) ⊎ (es ≢ [])
-none-or-some [] = inl refl
-none-or-some (x ∷ xs) = inr (λ e. cc)
-
 -- with one more there is some
 pub pushed : (es : List Entry) (e : Entry) → es ++ e ∷ [] ≢ []
 pushed es e = λ none. split_nil es [] e (sym none)
