@@ -20,10 +20,10 @@ use Rattle.pod_workers.specs.World.{World, IsReady, after, entry_of, host_of, ho
 use Rattle.pod_workers.specs.declared.plan.Entry.{Entry}
 use Rattle.pod_workers.specs.declared.plan.Plan.{Plan}
 use Rattle.pod_workers.proofs.Histories.{replies_of-other}
-use Rattle.pod_workers.proofs.Order.{alone_apart, ready_is}
+use Rattle.pod_workers.proofs.Order.{alone_apart, other_number, ready_is}
 use Rattle.pod_workers.proofs.Sound.{sound_host}
 use Rattle.pod_laws.specs.Moments.{host_at_end, host_at_start, is_of, own_entries, until_first, until_last}
-use Rattle.pod_laws.proofs.Entries.{is_of-own, is_of-other, no-entries, other-number, own_entries-own, own_entries-other, replies_in, until_last-own, until_last-other}
+use Rattle.pod_laws.proofs.Entries.{apart-entry, is_of-own, no-entries, own_entries-own, own_entries-other, replies_in, until_last-own, until_last-other}
 use Rattle.pod_laws.proofs.Runs.{own-state}
 use Rattle.pod_laws.proofs.Steps.{AllOpen, ChangesKeep, EntriesKeep, Goes, IsOpenKept, OpenFact, by-entries, by-open}
 
@@ -49,7 +49,7 @@ last-kept w n c call faulty goes was = λ m d at is_open exclusive.
     elim (eqb_tells m n) [
       | inl t ↦ inr (until_last-own m w.history e (is_of-own m e (ap (λ j. j + 1) (sym t.1))))
       | inr f ↦
-          let far : e.command ≢ m + 1 = other-number m n f.1 in
+          let far : e.command ≢ m + 1 = other_number e n m refl f.1 in
           inl (replies_of-other m w.history e far ∙ alone_apart w (legal-of w n c call faulty goes) m n d c (ready-of w n c call faulty goes) f.1 at is_open (inr exclusive))
     ]
 
@@ -153,7 +153,7 @@ together-next w n c call faulty goes was = λ m d at exclusive.
           let last = all-last_to_go w (legal-of w n c call faulty goes) n c ready.there ready.unanswered mine in
           let P : ℕ → Placed → Type 0 = λ j x. StandsTogether w.plan (w.history ++ e ∷ []) j x in
           subst (λ j. P j d) (sym t.1) (subst (P n) (sym same) (together-own w n c call faulty goes last (was n c ready.there mine)))
-      | inr f ↦ together-other w.plan w.history m d e (is_of-other m e (other-number m n f.1)) (was m d at exclusive)
+      | inr f ↦ together-other w.plan w.history m d e (apart-entry w n m call faulty f.1) (was m d at exclusive)
     ]
 
 together-kept : EntriesKeep AllTogether

@@ -32,7 +32,7 @@ use Rattle.pod_workers.specs.World.{World, after, done, entry_of, host_of, host_
 use Rattle.pod_workers.specs.declared.plan.Entry.{Entry}
 use Rattle.pod_workers.specs.declared.plan.Plan.{Plan}
 use Rattle.pod_workers.proofs.Histories.{after-append, replies_of-own, replies_of-other}
-use Rattle.pod_workers.proofs.Order.{ready_is}
+use Rattle.pod_workers.proofs.Order.{other_number, ready_is}
 use Rattle.pod_workers.proofs.Planned.{LeftArePlanned}
 use Rattle.pod_workers.proofs.Sound.{sound_host}
 use Rattle.pod_workers.proofs.Deletable.{done_or_not, leased_or_not}
@@ -248,11 +248,10 @@ other-asked w n c list call faulty att on differ own was =
     elim was [
       | inl none ↦ inl (same_share ∙ none)
       | inr a ↦
-          let far : e.command ≢ a.place + 1 = λ same.
-          let place : a.place ≡ n = let s : n + 1 ≡ a.place + 1 = same in omega (arith, s) in
+          let far : e.command ≢ a.place + 1 = other_number e n a.place refl (λ place.
           let by : a.by ≡ c = ready_is w n a.place c a.by on.ready place a.there in
           let att_is : att_of c.command ≡ att = ap (λ (x : Placed). att_of x.command) (sym by) ∙ a.attachment in
-          both_ways (att_eq (att_of c.command) att) differ (ap (att_eq (att_of c.command)) (sym att_is) ∙ att_eq-refl (att_of c.command)) in
+          both_ways (att_eq (att_of c.command) att) differ (ap (att_eq (att_of c.command)) (sym att_is) ∙ att_eq-refl (att_of c.command))) in
           inr (asked-still w.plan h e att a (not-begins att e (begin-apart (att_of c.command) att call differ own))
           (subst (λ g. AreAskedFor a.list a.by.command g (objects_after w.plan att (h ++ e ∷ []))) (sym (ap leases_in (replies_of-other a.place h e far)))
           (subst (AreAskedFor a.list a.by.command (leases_in (replies_of a.place h))) (sym same_share) a.objects)))

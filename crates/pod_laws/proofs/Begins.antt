@@ -40,7 +40,7 @@ use Rattle.pod_laws.specs.AskedFor.{begins, is_begin_of, is_done, last_begun}
 use Rattle.pod_laws.specs.Moments.{own_entries}
 use Rattle.pod_laws.specs.Refused.{is_granted, lets_go_on}
 use Rattle.pod_laws.proofs.Causes.{IsPlanReply, begin-may}
-use Rattle.pod_laws.proofs.Entries.{is_of-own, is_of-other, own_entries-own, own_entries-other, no-entries, other-number}
+use Rattle.pod_laws.proofs.Entries.{apart-entry, is_of-own, own_entries-own, own_entries-other, no-entries}
 use Rattle.pod_laws.proofs.States.{IsOtherVerb, is_question, not-both}
 use Rattle.pod_laws.proofs.Runs.{every-run-now, own-state}
 use Rattle.pod_laws.proofs.Steps.{AllOpen, Changes, GoesOn, IsOpenKept, OpenFact, by-open}
@@ -175,8 +175,7 @@ last-other : (w : World) (n m : ℕ) (c d : Placed) (list : NetList) (call : Cal
     → IsLast w.plan (w.history ++ entry_of (host_of w) n call faulty ∷ []) m d
 last-other w n m c d list call faulty on differs at is_open last = λ verb some go_on.
     let e = entry_of (host_of w) n call faulty in
-    let far : e.command ≢ m + 1 = other-number m n differs in
-    let mine : own_entries m (w.history ++ e ∷ []) ≡ own_entries m w.history = own_entries-other m w.history e (is_of-other m e far) in
+    let mine : own_entries m (w.history ++ e ∷ []) ≡ own_entries m w.history = own_entries-other m w.history e (apart-entry w n m call faulty differs) in
     let there : own_entries m w.history ≢ [] = λ none. some (mine ∙ none) in
     elim (apart w on.legal m n d c on.ready differs at is_open) [
       | inl none ↦ absurd (there (no-entries (own_entries m w.history) none))
@@ -194,10 +193,8 @@ last-changed : (w : World) (n m : ℕ) (c d : Placed) (call : Call) (faulty : Bo
 last-changed w n m c d call faulty on at last = λ verb some go_on.
     let e = entry_of (host_of w) n call faulty in
     let change = change-of w n c call faulty on in
-    let far : e.command ≢ m + 1 = λ same.
-    let here : m ≡ n = let s : n + 1 ≡ m + 1 = same in omega (arith, s) in
-    not-add c.command.verb (ap (λ (x : Placed). x.command.verb) (sym (ready_is w n m c d on.ready here at)) ∙ verb) change.verb_is in
-    let mine : own_entries m (w.history ++ e ∷ []) ≡ own_entries m w.history = own_entries-other m w.history e (is_of-other m e far) in
+    let differs : m ≢ n = λ here. not-add c.command.verb (ap (λ (x : Placed). x.command.verb) (sym (ready_is w n m c d on.ready here at)) ∙ verb) change.verb_is in
+    let mine : own_entries m (w.history ++ e ∷ []) ≡ own_entries m w.history = own_entries-other m w.history e (apart-entry w n m call faulty differs) in
     last_begun-same (att_of d.command) w.history e (not-begins (att_of d.command) e (outside-no_begin (att_of d.command) call change.call_is))
     ∙ last verb (λ none. some (mine ∙ none)) (ap (list_all lets_go_on) (sym mine) ∙ go_on)
 

@@ -48,11 +48,12 @@ use Rattle.pod_workers.specs.World.{World, after, entry_of, host_of, host_on, re
 use Rattle.pod_workers.specs.declared.plan.Entry.{Entry}
 use Rattle.pod_workers.specs.declared.plan.Plan.{Plan}
 use Rattle.pod_workers.proofs.Histories.{after-append, replies_of-other}
+use Rattle.pod_workers.proofs.Order.{other_number}
 use Rattle.pod_workers.proofs.Replies.{by-begin, by-lease, by-call_after, by-cache, by-deletion}
 use Rattle.pod_workers.proofs.Sound.{sound_host}
 use Rattle.pod_workers.proofs.StepsLeft.{host-made}
 use Rattle.pod_laws.specs.Moments.{is_of, own_entries}
-use Rattle.pod_laws.proofs.Entries.{is_of-own, is_of-other, no-entries, other-number, own_entries-own, own_entries-other}
+use Rattle.pod_laws.proofs.Entries.{apart-entry, is_of-own, no-entries, own_entries-own, own_entries-other}
 use Rattle.pod_laws.proofs.States.{IsAside, aside-advance, by-aside, is_question, by-start}
 use Rattle.pod_laws.proofs.RunFacts.{state_by, state_by-append}
 use Rattle.pod_laws.proofs.Runs.{own-state}
@@ -307,7 +308,7 @@ bridge-other w n m c d list call faulty on differs was = λ other listed.
     let h = w.history in
     let k = host_of w in
     let e = entry_of k n call faulty in
-    let far : is_of m e ≡ false = is_of-other m e (other-number m n differs) in
+    let far : is_of m e ≡ false = apart-entry w n m call faulty differs in
     subst (λ l. HasBridge other (state_by other d.command l) (after w.plan.pods.opening (h ++ e ∷ []))) (sym (own_entries-other m h e far))
     (subst (HasBridge other (state_by other d.command (own_entries m h))) (sym (after-append w.plan.pods.opening h e))
     (bridge-stands other (state_by other d.command (own_entries m h)) k (host_on k e) (bridge-entered other.first w n c list call faulty on) (was other listed)))
@@ -327,7 +328,7 @@ bridge-kept w n c call faulty goes was = λ m d at is_open.
       | inr f ↦ elim goes [
         | inl on ↦ bridge-other w n m c d on.0 call faulty on.1 f.1 (was m d at is_open)
         | inr on ↦
-            let far : e.command ≢ m + 1 = other-number m n f.1 in
+            let far : e.command ≢ m + 1 = other_number e n m refl f.1 in
             bridge-begun w.plan (w.history ++ e ∷ []) m d (replies_of-other m w.history e far ∙ alone-outside w n m c d call faulty on f.1 at is_open)
       ]
     ]

@@ -21,7 +21,7 @@ use Rattle.pod_workers.specs.World.{World, entry_of, host_of, own_replies}
 use Rattle.pod_workers.specs.declared.plan.Entry.{Entry}
 use Rattle.pod_workers.specs.declared.plan.Plan.{Plan}
 use Rattle.pod_workers.proofs.AnswersDue.{answer_is_due}
-use Rattle.pod_workers.proofs.Order.{ready_is}
+use Rattle.pod_workers.proofs.Order.{other_number, ready_is}
 use Rattle.pod_workers.proofs.Planned.{LeftIsOutside, left-is-outside}
 use Rattle.pod_laws.specs.Changed.{ChangesAreAnswered, IsChangedBy}
 use Rattle.pod_laws.specs.Moments.{own_entries}
@@ -58,7 +58,7 @@ one-more c (x ∷ []) e was is = absurd (over-calls c (changed 1 x.reply) [] e.c
 one-more c (x ∷ y ∷ es) e was is = absurd was
 
 one-other : (m n : ℕ) (d : Command) (h : List Entry) (e : Entry) → e.command ≡ n + 1 → m ≢ n → MakesOne d (own_entries m h) → MakesOne d (own_entries m (h ++ e ∷ []))
-one-other m n d h e number differs was = subst (MakesOne d) (sym (own_entries-other m h e (is_of-other m e (λ same. differs (let a = number in let b = same in omega (arith, a, b)))))) was
+one-other m n d h e number differs was = subst (MakesOne d) (sym (own_entries-other m h e (is_of-other m e (other_number e n m number differs)))) was
 
 one-kept : EntriesKeep AllMakeOne
 one-kept w n c list call faulty on was = λ m d at none.

@@ -1,10 +1,13 @@
 -- The entries of one command in a history that is one entry longer.
-use Rattle.std.proofs.Common.{◌≡◌, ◌≢◌, ℕ, ◌+◌, Bool, true, false, List, [], ◌∷◌, ◌++◌, refl, sym, ◌∙◌, ap, inl, inr, ◌⊎◌, arith}
+use Rattle.std.proofs.Common.{◌≡◌, ◌≢◌, ℕ, ◌+◌, Bool, true, false, List, [], ◌∷◌, ◌++◌, refl, sym, ◌∙◌, ap, arith}
 use Rattle.std.specs.Prelude.{if◌then◌else◌}
 use Rattle.std.specs.List.{list_any}
+use Rattle.kernel_types.specs.declared.call.Call.{Call}
 use Rattle.kernel_types.proofs.ListLemmas.{list_any-append_right}
 pub use Rattle.pod_workers.proofs.Histories.{is_of-own, is_of-other, own_entries-own, own_entries-other}
+use Rattle.pod_workers.proofs.Order.{other_number}
 use Rattle.pod_workers.proofs.Splits.{split_nil}
+use Rattle.pod_workers.specs.World.{World, entry_of, host_of}
 pub use Rattle.pod_workers.specs.World.{replies_in}
 use Rattle.pod_workers.specs.declared.plan.Entry.{Entry}
 use Rattle.pod_laws.specs.Moments.{is_of, until_last}
@@ -20,9 +23,9 @@ no-entries (x ∷ xs) h = cc
 pub pushed : (es : List Entry) (e : Entry) → es ++ e ∷ [] ≢ []
 pushed es e = λ none. split_nil es [] e (sym none)
 
--- another command's entries have another number
-pub other-number : (m n : ℕ) → m ≢ n → n + 1 ≢ m + 1
-other-number m n differ = λ same. differ (omega (arith, same))
+-- the entry of another command is not its own
+pub apart-entry : (w : World) (n m : ℕ) (call : Call) (faulty : Bool) → m ≢ n → is_of m (entry_of (host_of w) n call faulty) ≡ false
+apart-entry w n m call faulty differs = let e = entry_of (host_of w) n call faulty in is_of-other m e (other_number e n m refl differs)
 
 -- ---- until the last entry
 

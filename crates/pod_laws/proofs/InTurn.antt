@@ -1,5 +1,5 @@
 -- In one container, one command makes all its entries before another makes its first.
-use Rattle.std.proofs.Common.{◌≡◌, ◌≢◌, ℕ, ◌+◌, Bool, false, List, [], ◌∷◌, ◌++◌, Some, None, slice_get, refl, sym, ◌∙◌, ap, subst, inl, inr, ◌⊎◌}
+use Rattle.std.proofs.Common.{◌≡◌, ◌≢◌, ℕ, ◌+◌, Bool, List, [], ◌∷◌, ◌++◌, Some, None, slice_get, refl, sym, ◌∙◌, ap, subst, inl, inr, ◌⊎◌}
 use Rattle.std.proofs.lemmas.Bool.Decides.{eqb_tells}
 use Rattle.kernel_types.specs.declared.call.Call.{Call}
 use Rattle.pod_workers.specs.Legal.{Legal}
@@ -8,18 +8,14 @@ use Rattle.pod_workers.specs.World.{World, entry_of, host_of}
 use Rattle.pod_workers.specs.declared.plan.Entry.{Entry}
 use Rattle.pod_workers.specs.declared.plan.Plan.{Plan}
 use Rattle.pod_workers.proofs.Order.{apart, ready_is}
-use Rattle.pod_laws.specs.Moments.{is_of, own_entries, until_last}
+use Rattle.pod_laws.specs.Moments.{own_entries, until_last}
 use Rattle.pod_laws.proofs.AloneRuns.{legal-of, ready-of}
-use Rattle.pod_laws.proofs.Entries.{is_of-own, is_of-other, no-entries, other-number, own_entries-other, until_last-own, until_last-other}
+use Rattle.pod_laws.proofs.Entries.{apart-entry, is_of-own, no-entries, own_entries-other, until_last-own, until_last-other}
 use Rattle.pod_laws.proofs.Steps.{AllOpen, ChangesKeep, EntriesKeep, Goes, IsOpenKept, OpenFact, by-entries, by-open}
 
 -- the command at place n is another one of the same container
 abbrev IsBeside : Plan → ℕ → ℕ → Placed → Type 0
 IsBeside p n m d = (c : Placed) × (slice_get (commands_of p) n ≡ Some c) × (n ≢ m) × (d.command.container ≡ c.command.container)
-
--- the entry of another command is not its own
-apart-entry : (w : World) (k m : ℕ) (call : Call) (faulty : Bool) → m ≢ k → is_of m (entry_of (host_of w) k call faulty) ≡ false
-apart-entry w k m call faulty far = is_of-other m (entry_of (host_of w) k call faulty) (other-number m k far)
 
 -- ---- while a command isn't answered, it has made none up to the last one of the other
 

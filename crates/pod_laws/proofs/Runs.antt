@@ -1,5 +1,5 @@
 -- What holds of every run because its own entries keep it.
-use Rattle.std.proofs.Common.{◌≡◌, ◌≢◌, ℕ, ◌+◌, Bool, true, false, List, [], ◌∷◌, ◌++◌, length, Option, Some, None, slice_get, refl, sym, ◌∙◌, ap, subst, inl, inr, ◌⊎◌, arith}
+use Rattle.std.proofs.Common.{◌≡◌, ◌≢◌, ℕ, ◌+◌, Bool, false, List, [], ◌∷◌, ◌++◌, length, Some, None, slice_get, refl, sym, ◌∙◌, ap, subst, inl, inr, ◌⊎◌}
 use Rattle.std.proofs.lemmas.Bool.Decides.{eqb_tells}
 use Rattle.std.proofs.lemmas.Bool.{cases_Bool}
 use Rattle.net_conf.specs.declared.list.NetList.{NetList}
@@ -15,10 +15,10 @@ use Rattle.pod_workers.specs.Plans.{Placed, commands_of, list_for}
 use Rattle.pod_workers.specs.World.{World, after, host_on, host_of, replies_of, entry_of}
 use Rattle.pod_workers.specs.declared.plan.Entry.{Entry}
 use Rattle.pod_workers.proofs.Histories.{replies_of-other, after-append}
-use Rattle.pod_workers.proofs.Order.{apart, alone_apart}
+use Rattle.pod_workers.proofs.Order.{apart, alone_apart, other_number}
 use Rattle.pod_workers.proofs.Planned.{LeftArePlanned, left-are-planned}
 use Rattle.pod_laws.specs.Moments.{own_entries, until_last, host_at_end}
-use Rattle.pod_laws.proofs.Entries.{is_of-own, is_of-other, other-number, replies_in, until_last-own, until_last-other}
+use Rattle.pod_laws.proofs.Entries.{is_of-own, is_of-other, replies_in, until_last-own, until_last-other}
 use Rattle.pod_laws.proofs.RunFacts.{HostFact, IsHostFact, IsKeptBetween, Keeping, each-run, each-run-now, state_by}
 use Rattle.pod_laws.proofs.States.{LeftFit, left-fit}
 use Rattle.pod_laws.proofs.Steps.{GoesOn, IsOpenKept, OpenFact, by-open}
@@ -49,7 +49,7 @@ since-other R kept w n m c d list call faulty on differs at is_open since =
     let e = entry_of (host_of w) n call faulty in
     let opening = w.plan.pods.opening in
     let last = after opening (until_last m w.history) in
-    let far : e.command ≢ m + 1 = other-number m n differs in
+    let far : e.command ≢ m + 1 = other_number e n m refl differs in
     let mine = replies_of-other m w.history e far in
     elim (cases_Bool (is_exclusive_verb d.command.verb)) [
       | inl exclusive ↦ inl (mine ∙ alone_apart w on.legal m n d c on.ready differs at is_open (inr exclusive))
@@ -75,7 +75,7 @@ since-kept R kept w n c call faulty goes since = λ m d at is_open.
       | inl t ↦ since-own R kept w n m d call faulty t.1
       | inr f ↦ elim goes [
         | inl on ↦ since-other R kept w n m c d on.0 call faulty on.1 f.1 at is_open (since m d at is_open)
-        | inr on ↦ inl (replies_of-other m w.history e (other-number m n f.1) ∙ alone-outside w n m c d call faulty on f.1 at is_open)
+        | inr on ↦ inl (replies_of-other m w.history e (other_number e n m refl f.1) ∙ alone-outside w n m c d call faulty on f.1 at is_open)
       ]
     ]
 

@@ -27,7 +27,7 @@ use Rattle.pod_workers.proofs.Sound.{allowed_next, goes_in, sound_host}
 use Rattle.pod_workers.proofs.Order.{ready_is}
 use Rattle.pod_workers.proofs.StepsLeft.{host-made}
 use Rattle.pod_laws.specs.Moments.{is_of}
-use Rattle.pod_laws.proofs.Entries.{is_of-other, other-number}
+use Rattle.pod_laws.proofs.Entries.{apart-entry}
 
 -- ---- a step that makes an entry
 
@@ -123,7 +123,7 @@ listed-kept R own other w n c list call faulty on was = λ m d other_list at lis
     let e = entry_of (host_of w) n call faulty in
     elim (eqb_tells m n) [
       | inl t ↦ at_its_place w n c list call faulty on (R w.plan (w.history ++ e ∷ [])) m d other_list t.1 at listed (own w n c list call faulty on (was n c list on.ready.there on.listed))
-      | inr f ↦ other w.plan w.history m d other_list e (is_of-other m e (other-number m n f.1)) (was m d other_list at listed)
+      | inr f ↦ other w.plan w.history m d other_list e (apart-entry w n m call faulty f.1) (was m d other_list at listed)
     ]
 
 listed-changed : (R : ListFact) → IsOtherKept R → ChangesKeep (AllListed R)
@@ -131,7 +131,7 @@ listed-changed R other w n c call faulty on was = λ m d list at listed.
     let e = entry_of (host_of w) n call faulty in
     elim (eqb_tells m n) [
       | inl t ↦ absurd (no_list_there w n c call faulty on m d list t.1 at listed)
-      | inr f ↦ other w.plan w.history m d list e (is_of-other m e (other-number m n f.1)) (was m d list at listed)
+      | inr f ↦ other w.plan w.history m d list e (apart-entry w n m call faulty f.1) (was m d list at listed)
     ]
 
 pub by-listed : (R : ListFact) → ((p : Plan) (n : ℕ) (c : Placed) (list : NetList) → R p [] n c list) → IsOwnKept R → IsOtherKept R → (w : World) → Legal w → AllListed R w.plan w.history
