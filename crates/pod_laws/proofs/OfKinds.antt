@@ -1,8 +1,8 @@
 -- What an ADD makes is of the kinds that its list's plugins name, so a deletion of these kinds leaves nothing.
-use Rattle.std.proofs.Common.{◌≡◌, ℕ, Bool, true, false, not, List, [], ◌∷◌, ◌++◌, map, Option, Some, None, refl, sym, ◌∙◌, ap, arith}
+use Rattle.std.proofs.Common.{◌≡◌, ℕ, Bool, true, false, not, List, [], ◌∷◌, ◌++◌, map, Option, Some, None, refl, ap, arith}
 use Rattle.std.specs.Prelude.{filter}
 use Rattle.std.specs.List.{AllByRecursion, list_any, list_all}
-use Rattle.std.proofs.lemmas.Bool.{not-true}
+use Rattle.std.proofs.lemmas.Bool.{both_ways, not-true}
 use Rattle.pod_workers.proofs.Splits.{split_nil}
 use Rattle.cni_addr.proofs.Lists.{list_all-none}
 use Rattle.cni_addr.specs.declared.address.Addr.{Addr}
@@ -80,16 +80,13 @@ call_fits ks (SettingSet setting) = has kinds.Settings ks
 call_fits ks (CachePut att cached) = has kinds.Cached ks
 call_fits ks _ = true
 
-pub there-or-not : {A : Type 0} (b : Bool) → b ≡ true → b ≡ false → A
-there-or-not b h g = absurd (let e : true ≡ false = sym h ∙ g in cc)
-
 pub HasKindsAlone-call : (ks : List Kind) (s : Share) (call : Call) → call_fits ks call ≡ true → HasKindsAlone ks s → HasKindsAlone ks (share_after_call s call)
-HasKindsAlone-call ks s (VethAdd h i) fits w = record { links = λ g. there-or-not (has kinds.Links ks) fits g; rules = w.rules; settings = w.settings; leases = w.leases; cached = w.cached }
-HasKindsAlone-call ks s (MacvlanAdd l) fits w = record { links = λ g. there-or-not (has kinds.Links ks) fits g; rules = w.rules; settings = w.settings; leases = w.leases; cached = w.cached }
+HasKindsAlone-call ks s (VethAdd h i) fits w = record { links = λ g. absurd (both_ways (has kinds.Links ks) g fits); rules = w.rules; settings = w.settings; leases = w.leases; cached = w.cached }
+HasKindsAlone-call ks s (MacvlanAdd l) fits w = record { links = λ g. absurd (both_ways (has kinds.Links ks) g fits); rules = w.rules; settings = w.settings; leases = w.leases; cached = w.cached }
 HasKindsAlone-call ks s (LinkSet a b d e f g i) fits w = record { links = λ h. ap (map _) (w.links h); rules = w.rules; settings = w.settings; leases = w.leases; cached = w.cached }
-HasKindsAlone-call ks s (RuleAppend r) fits w = record { links = w.links; rules = λ g. there-or-not (has kinds.Rules ks) fits g; settings = w.settings; leases = w.leases; cached = w.cached }
-HasKindsAlone-call ks s (SettingSet r) fits w = record { links = w.links; rules = w.rules; settings = λ g. there-or-not (has kinds.Settings ks) fits g; leases = w.leases; cached = w.cached }
-HasKindsAlone-call ks s (CachePut a r) fits w = record { links = w.links; rules = w.rules; settings = w.settings; leases = w.leases; cached = λ g. there-or-not (has kinds.Cached ks) fits g }
+HasKindsAlone-call ks s (RuleAppend r) fits w = record { links = w.links; rules = λ g. absurd (both_ways (has kinds.Rules ks) g fits); settings = w.settings; leases = w.leases; cached = w.cached }
+HasKindsAlone-call ks s (SettingSet r) fits w = record { links = w.links; rules = w.rules; settings = λ g. absurd (both_ways (has kinds.Settings ks) g fits); leases = w.leases; cached = w.cached }
+HasKindsAlone-call ks s (CachePut a r) fits w = record { links = w.links; rules = w.rules; settings = w.settings; leases = w.leases; cached = λ g. absurd (both_ways (has kinds.Cached ks) g fits) }
 HasKindsAlone-call ks s (AddrAdd o) fits w = record { links = w.links; rules = w.rules; settings = w.settings; leases = w.leases; cached = w.cached }
 HasKindsAlone-call ks s (RouteAdd o) fits w = record { links = w.links; rules = w.rules; settings = w.settings; leases = w.leases; cached = w.cached }
 HasKindsAlone-call ks s _ fits w = w

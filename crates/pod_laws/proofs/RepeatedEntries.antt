@@ -2,7 +2,7 @@
 -- it, or only removes.
 use Rattle.std.proofs.Common.{◌≡◌, ◌≢◌, ℕ, ◌+◌, Bool, true, false, not, List, [], ◌∷◌, ◌++◌, Some, slice_get, refl, sym, ◌∙◌, ap, subst, inl, inr, ◌⊎◌, append_assoc}
 use Rattle.std.proofs.lemmas.Bool.{and_from, and_parts, both_ways, cases_Bool, false_from_ne_true, not-true, or_parts}
-use Rattle.std.proofs.lemmas.List.{append-nil}
+use Rattle.std.proofs.lemmas.List.{append-nil, append_cancel_left}
 use Rattle.std.proofs.lemmas.List.Elements.{filter-append}
 use Rattle.std.proofs.lemmas.List.Folds.{list_all-append}
 use Rattle.std.proofs.lemmas.Option.{same_Some}
@@ -35,7 +35,6 @@ use Rattle.pod_workers.specs.World.{World, entry_of, host_of, host_on}
 use Rattle.pod_workers.specs.declared.plan.Entry.{Entry}
 use Rattle.pod_workers.specs.declared.plan.Plan.{Plan}
 use Rattle.pod_workers.proofs.Sound.{sound_host}
-use Rattle.pod_workers.proofs.Splits.{cons_parts}
 use Rattle.pod_laws.specs.AskedFor.{begins, is_begin_of, is_done}
 use Rattle.pod_laws.specs.Moments.{IsGone, is_of, own_entries, until_last}
 use Rattle.pod_laws.specs.Single.{EachEntry}
@@ -188,10 +187,6 @@ gone_stays_gone w legal att before between later is without gone = stays-through
 
 -- ---- after a DEL no ADD makes anything until one has begun
 
-tail-none : (xs ys : List Entry) → xs ++ ys ≡ xs → ys ≡ []
-tail-none [] ys e = e
-tail-none (x ∷ xs) ys e = tail-none xs ys (cons_parts x x (xs ++ ys) xs e).1
-
 front-none : (xs ys : List Entry) → xs ++ ys ≡ [] → xs ≡ []
 front-none [] ys e = refl
 front-none (x ∷ xs) ys e = cc
@@ -221,7 +216,8 @@ unbegun w legal n c between later at del is none = λ m d there add same.
           unbegun-quiet d.command att (own_entries m between) (own_entries m later) same first (false_from_ne_true (list_any (begins att) (own_entries m between)) (λ some. both_ways _ none (any-filtered (begins att) (is_of m) between some)))
       | inr all ↦
           let after : own_entries m between ++ own_entries m later ≡ [] =
-          tail-none (own_entries m past) (own_entries m between ++ own_entries m later) (sym (append_assoc (own_entries m past) (own_entries m between) (own_entries m later)) ∙ sym split ∙ all) in
+          append_cancel_left (own_entries m past) (own_entries m between ++ own_entries m later) []
+          (sym (append_assoc (own_entries m past) (own_entries m between) (own_entries m later)) ∙ sym split ∙ all ∙ sym (append-nil (own_entries m past))) in
           ap (list_all (makes_nothing att)) (front-none (own_entries m between) (own_entries m later) after)
     ]
 

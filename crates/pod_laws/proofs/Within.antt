@@ -1,6 +1,6 @@
 -- An attachment never has objects of a kind that its list's plugins don't name.
 use Rattle.std.proofs.Common.{◌≡◌, ℕ, Bool, true, false, List, [], ◌∷◌, ◌++◌, length, Some, refl, sym, ◌∙◌, ap, subst, inl, inr}
-use Rattle.std.proofs.lemmas.Bool.{cases_Bool, and_parts}
+use Rattle.std.proofs.lemmas.Bool.{both_ways, cases_Bool, and_parts}
 use Rattle.std.proofs.lemmas.Option.{same_Some}
 use Rattle.std.specs.Prelude.{filter}
 use Rattle.std.specs.List.{list_all}
@@ -41,7 +41,7 @@ use Rattle.pod_workers.proofs.Planned.{LeftArePlanned, left-are-planned}
 use Rattle.pod_workers.proofs.Sound.{sound_host, if-listed}
 use Rattle.pod_workers.proofs.Deletable.{done_or_not, leased_or_not}
 use Rattle.pod_laws.specs.Moments.{objects_after}
-use Rattle.pod_laws.proofs.OfKinds.{has, call_fits, HasKindsAlone, HasKindsAlone-nothing, HasKindsAlone-call, HasKindsAlone-removes, leases-kinds_of, there-or-not}
+use Rattle.pod_laws.proofs.OfKinds.{has, call_fits, HasKindsAlone, HasKindsAlone-nothing, HasKindsAlone-call, HasKindsAlone-removes, leases-kinds_of}
 use Rattle.pod_laws.proofs.Removes.{removes-deletion}
 use Rattle.pod_laws.proofs.States.{LeftFit, is_question, left-fit, question-leaves, asked-is_question}
 use Rattle.pod_laws.proofs.Steps.{Changes, GoesOn, by-entries, on-entry}
@@ -64,7 +64,7 @@ within-lease att k ks number set there w =
     elim (leased_or_not (apply k (LeaseNext att number set)).1) [
       | inl leased ↦
           subst (HasKindsAlone ks) (sym (share-lease att k number set leased.0 leased.1))
-          (record { links = w.links; rules = w.rules; settings = w.settings; leases = λ g. there-or-not (has kinds.Leases ks) there g; cached = w.cached })
+          (record { links = w.links; rules = w.rules; settings = w.settings; leases = λ g. absurd (both_ways (has kinds.Leases ks) g there); cached = w.cached })
       | inr not ↦ subst (λ h. HasKindsAlone ks (share_of att h)) (sym (refused-lease k att number set not)) w
     ]
 
