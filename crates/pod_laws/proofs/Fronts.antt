@@ -33,7 +33,7 @@ use Rattle.cni_verbs.proofs.WantedShare.{made-before, makes-wanted}
 
 -- ---- lists
 
-grows-same : {X : Type 0} (xs : List X) → GrowsAtEnd xs xs
+pub grows-same : {X : Type 0} (xs : List X) → GrowsAtEnd xs xs
 grows-same xs = ([], sym (append-nil xs), tt)
 
 grows-more : {X : Type 0} (xs ys : List X) → GrowsAtEnd xs (xs ++ ys)

@@ -1,6 +1,5 @@
 -- Each entry leaves what was made outside, and removes nothing that is shared.
 use Rattle.std.proofs.Common.{◌≡◌, Bool, true, false, not, List, [], ◌∷◌, ◌++◌, refl, sym, ◌∙◌, ap, subst, inl, inr, ◌⊎◌}
-use Rattle.std.proofs.lemmas.List.{append-nil}
 use Rattle.std.specs.Prelude.{filter}
 use Rattle.kernel_types.specs.Allowed.{IsAllowed}
 use Rattle.kernel_types.specs.Apply.{apply}
@@ -26,6 +25,7 @@ use Rattle.pod_workers.proofs.Sound.{sound_host}
 use Rattle.pod_laws.specs.Apart.{is_outside, GrowsAtEnd, KeepsShared, KeepsTheRest, EachEntryKeepsTheRest}
 use Rattle.pod_laws.proofs.Bridges.{turn-inside}
 use Rattle.pod_laws.proofs.EachEntry.{DoesNow, DoesOutside, by-outside, each-entry}
+use Rattle.pod_laws.proofs.Fronts.{grows-same}
 use Rattle.pod_laws.proofs.Steps.{on-entry}
 use Rattle.pod_laws.proofs.Turns.{change-of, turn-of}
 
@@ -47,7 +47,7 @@ keeps-within test old new w k = record {
 }
 
 same-list : {X : Type 0} (old new : List X) → new ≡ old → GrowsAtEnd old new
-same-list old new e = ([], e ∙ sym (append-nil old), tt)
+same-list old new e = subst (GrowsAtEnd old) (sym e) (grows-same old)
 
 shared-same : (old new : Host) → KeepsWhere is_base old new → KeepsShared old new
 shared-same old new k = record {
