@@ -1,5 +1,5 @@
--- Where `tuning` comes at most once, as in each list of a plan, the links of an attachment are all as they were made, or
--- all as they are wanted.
+-- Where `tuning` comes at most once, as in each list of a plan, the links of an attachment are all as they were made,
+-- or all as they are wanted.
 use Rattle.std.proofs.Common.{◌≡◌, ℕ, Bool, true, false, not, List, [], ◌∷◌, ◌++◌, map, Some, refl, sym, ◌∙◌, ap, subst, inl, inr, ◌⊎◌, arith}
 use Rattle.std.specs.Prelude.{◌||◌, if◌then◌else◌}
 use Rattle.std.specs.List.{All, AllByRecursion, IsDistinct, list_any, list_all}

@@ -1,5 +1,5 @@
--- The moments of the first and the last entry of one command, and of the start of a round, and what an attachment has at
--- a moment.
+-- The moments of the first and the last entry of one command, and of the start of a round, and what an attachment has
+-- at a moment.
 use Rattle.std.specs.Prelude.{◌≡◌, ℕ, Bool, false, List, [], ◌∷◌, nat_lt, Option, if◌then◌else◌}
 use Rattle.std.specs.List.{list_any}
 use Rattle.std.specs.Option.{option_map_or}

@@ -18,8 +18,8 @@ ghost use Rattle.pod_laws.specs.Repeated.{GoneStaysGone, RepeatedDeletionsLeave}
 
 // ---- ADD
 
-/// An ADD that was answered a result was leased one address a range set. These addresses decide the result, and at the
-/// command's last entry its attachment has exactly the objects that they ask for, list by list, in order.
+/// An ADD that was answered with a result was leased one address a range set. These addresses decide the result, and at
+/// the command's last entry its attachment has exactly the objects that they ask for, list by list, in order.
 pub fn an_added_attachment_is_made()
     ensures { WasAdded }
 {}
@@ -36,12 +36,13 @@ pub fn begin_leaves_the_host()
     ensures { BeginLeavesTheHost }
 {}
 
-/// An ADD is answered a result or a refusal, unless memory was refused or it was stopped.
+/// An ADD is answered with a result or a refusal, unless memory was refused or it was stopped.
 pub fn every_add_is_answered()
     ensures { AnswersOfAdd }
 {}
 
-/// An ADD with good words and no refusing entry is answered a result, unless memory was refused or it was stopped.
+/// An ADD with good words and no refusing entry is answered with a result, unless memory was refused or it was
+/// stopped.
 pub fn an_unrefused_add_is_answered_a_result()
     ensures { UnrefusedIsAdded }
 {}
@@ -139,8 +140,8 @@ pub fn links_are_as_made_or_as_wanted()
     ensures { LinksAreMadeOrWanted }
 {}
 
-/// Each entry of an ADD, a DEL, a CHECK, a STATUS or a VERSION leaves the objects of every other attachment as they are,
-/// list by list.
+/// Each entry of an ADD, a DEL, a CHECK, a STATUS or a VERSION leaves the objects of every other attachment as they
+/// are, list by list.
 pub fn each_entry_leaves_others()
     ensures { EachEntryLeavesOthers }
 {}

@@ -1,8 +1,8 @@
 //! What is true of every answer, over every legal history.
 //!
 //! A history may have been interleaved, stopped, faulted or refused memory in any way that the book allows. To a reader
-//! of answers the crate promises, each at the command's last entry, what an ADD that was answered a result has made
-//! (`specs/Added.antt`), why an ADD is refused and what it leaves (`specs/Refused.antt`), what a DEL leaves
+//! of answers the crate promises, each at the command's last entry, what an ADD that was answered with a result has
+//! made (`specs/Added.antt`), why an ADD is refused and what it leaves (`specs/Refused.antt`), what a DEL leaves
 //! (`specs/Deleted.antt`), what a CHECK found (`specs/Checked.antt`), and what a GC leaves (`specs/Collected.antt`);
 //! what a STATUS found (`specs/Available.antt`), and how a VERSION and a change of the world outside are answered
 //! (`specs/Changed.antt`). Of every moment it promises that an attachment has only what its last ADD that began asks
