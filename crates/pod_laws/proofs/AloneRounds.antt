@@ -41,10 +41,10 @@ not-before : (p : Plan) (round : ℕ) (e : Entry) (n : ℕ) (c : Placed) → IsE
 not-before p round e n c of_e within = ap (is_before round) (at_number-is (commands_of p) e.command n of_e.number ∙ of_e.there) ∙ le-ltb c.round round within
 
 -- each of these is of an earlier round
-abbrev AreBefore : Plan → ℕ → List Entry → Type 0
-AreBefore p round h = EachOne h (λ before e. is_before round (at_number (commands_of p) e.command) ≡ true)
+abbrev AreOfEarlierRounds : Plan → ℕ → List Entry → Type 0
+AreOfEarlierRounds p round h = EachOne h (λ before e. is_before round (at_number (commands_of p) e.command) ≡ true)
 
-until_round-split : (p : Plan) (round : ℕ) (before rest : List Entry) (e : Entry) → AreBefore p round before → is_before round (at_number (commands_of p) e.command) ≡ false → until_round p round (before ++ e ∷ rest) ≡ before
+until_round-split : (p : Plan) (round : ℕ) (before rest : List Entry) (e : Entry) → AreOfEarlierRounds p round before → is_before round (at_number (commands_of p) e.command) ≡ false → until_round p round (before ++ e ∷ rest) ≡ before
 until_round-split p round [] rest e are not = ap (λ b. if b then e ∷ until_round p round rest else []) not
 until_round-split p round (x ∷ xs) rest e are not =
     ap (λ b. if b then x ∷ until_round p round (xs ++ e ∷ rest) else []) (are [] xs x refl)
@@ -55,7 +55,7 @@ abbrev NoneSince : World → ℕ → Placed → Type 0
 NoneSince w round c = (k : ℕ) (x : Placed) → slice_get (commands_of w.plan) k ≡ Some x → round ≤ x.round → x.round < c.round → own_entries k w.history ≡ []
 
 earlier-rounds : (w : World) → Legal w → (n : ℕ) (c : Placed) (round : ℕ) (before rest : List Entry) (e : Entry) → is_exclusive_verb c.command.verb ≡ true → NoneSince w round c → w.history ≡ before ++ e ∷ rest → IsEntryOf w.plan e n c
-    → replies_of n before ≡ [] → AreBefore w.plan round before
+    → replies_of n before ≡ [] → AreOfEarlierRounds w.plan round before
 earlier-rounds w legal n c round before rest e exclusive since split of_e none = λ first later y is.
     let whole : w.history ≡ first ++ y ∷ (later ++ e ∷ rest) = split ∙ ap (λ l. l ++ e ∷ rest) is ∙ append_assoc first (y ∷ later) (e ∷ rest) in
     let follows = each_follows w legal first (later ++ e ∷ rest) y whole in

@@ -32,7 +32,7 @@ use Rattle.pod_workers.specs.World.{World, after, made_in, made_of}
 use Rattle.pod_workers.specs.declared.plan.Entry.{Entry}
 use Rattle.pod_file.specs.Rounds.{is_exclusive_verb}
 use Rattle.pod_workers.proofs.Listed.{listed-network}
-use Rattle.pod_laws.specs.Collected.{CollectionsAreAnswered, CollectionsAreBounded, CollectionsAreShort, IsClean, IsCollectionAnswer, IsFaulty}
+use Rattle.pod_laws.specs.Collected.{CollectionsAreAnswered, CollectionsAreBounded, CollectionsAreShort, IsCleanCollection, IsCollectionAnswer, IsFaultyCollection}
 use Rattle.pod_laws.specs.Moments.{has_fault, host_at_end, host_at_start, own_entries}
 use Rattle.pod_laws.proofs.AloneRuns.{StandsTogether, alone-end, alone-start, stands_together}
 use Rattle.pod_laws.proofs.CollectedRuns.{no-faults, some-faults, to-replies}
@@ -105,7 +105,7 @@ faulty-excused : (list : NetList) (c : Command) (start : Host) (es : List Entry)
 faulty-excused list c start es ending at = over_excused list c start (made_in es) ending at.gc at.collected at.sound at.run at.ends
 
 ended-answer : (list : NetList) (c : Command) (start : Host) (es : List Entry) (ending : Ending) (given : List Addr) (a : Answer) (old new : Host) → IsAtEnd list c start es ending → Says list c given ending a → es ≢ [] → old ≡ start → new ≡ after start es
-    → IsClean list c es old new a ⊎ IsFaulty list c es new a
+    → IsCleanCollection list c es old new a ⊎ IsFaultyCollection list c es new a
 ended-answer list c start es ending given a old new at said some old_is new_is = elim (cases_Bool (has_fault es)) [
   | inr calm ↦
       let good : ending ≡ Yes = ending-named list c start es ending at ∙ ap swept (no-faults 0 es calm) in

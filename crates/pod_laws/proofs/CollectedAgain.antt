@@ -18,7 +18,7 @@ use Rattle.pod_workers.specs.declared.plan.Entry.{Entry}
 use Rattle.pod_workers.proofs.Listed.{listed-network}
 use Rattle.pod_workers.proofs.Splits.{none-or-some}
 use Rattle.pod_laws.specs.Answers.{OrCutOff}
-use Rattle.pod_laws.specs.Collected.{CollectionsInARowKeep, CollectionsFillTheirRounds, IsClean, IsCollectionAnswer}
+use Rattle.pod_laws.specs.Collected.{CollectionsInARowKeep, CollectionsFillTheirRounds, IsCleanCollection, IsCollectionAnswer}
 use Rattle.pod_laws.specs.Moments.{host_at_end, host_at_round, host_at_start, own_entries}
 use Rattle.pod_laws.proofs.Collected.{collections_are_answered, collections_are_bounded}
 use Rattle.pod_laws.proofs.AloneRounds.{end-round, start-after, start-round}
@@ -77,7 +77,7 @@ kept-same c old new b =
     (between (λ x. stays c.network c.valid x.tag) old.cached new.cached b.lower.removes.cached b.upper.removes.cached)
     b.upper.lasts
 
-clean-of : (list : NetList) (c : Command) (es : List Entry) (old new : Host) → OrCutOff (IsCollectionAnswer list c es old new) answers.Yes → IsClean list c es old new answers.Yes
+clean-of : (list : NetList) (c : Command) (es : List Entry) (old new : Host) → OrCutOff (IsCollectionAnswer list c es old new) answers.Yes → IsCleanCollection list c es old new answers.Yes
 clean-of list c es old new (inl (inl old_list)) = absurd (let e = old_list.answer in cc)
 clean-of list c es old new (inl (inr (inl disabled))) = absurd (let e = disabled.answer in cc)
 clean-of list c es old new (inl (inr (inr (inl clean)))) = clean

@@ -37,7 +37,7 @@ pub record IsDisabled (list : NetList) (entries : List Entry) (a : Answer) : Typ
   pub answer : a ≡ answers.Skipped skips.Gc
 
 -- it met no fault, and what it leaves is what is to be kept
-pub record IsClean (list : NetList) (c : Command) (entries : List Entry) (old new : Host) (a : Answer) : Type 0 where
+pub record IsCleanCollection (list : NetList) (c : Command) (entries : List Entry) (old new : Host) (a : Answer) : Type 0 where
   pub collected : IsCollected list
   pub called : entries ≢ []
   pub calm : has_fault entries ≡ false
@@ -45,14 +45,14 @@ pub record IsClean (list : NetList) (c : Command) (entries : List Entry) (old ne
   pub answer : a ≡ answers.Yes
 
 -- it met faults, which its error names, and what it leaves over had a faulty call
-pub record IsFaulty (list : NetList) (c : Command) (entries : List Entry) (new : Host) (a : Answer) : Type 0 where
+pub record IsFaultyCollection (list : NetList) (c : Command) (entries : List Entry) (new : Host) (a : Answer) : Type 0 where
   pub collected : IsCollected list
   pub faulty : has_fault entries ≡ true
   pub excused : AreExcused c.network c.valid (made_in entries) new
   pub answer : a ≡ answers.Refused (error_of list.version c (causes.Faults (fault_numbers 0 (made_in entries))))
 
 abbrev pub IsCollectionAnswer : NetList → Command → List Entry → Host → Host → Answer → Type 0
-IsCollectionAnswer list c entries old new a = IsTooOld list c entries a ⊎ (IsDisabled list entries a ⊎ (IsClean list c entries old new a ⊎ IsFaulty list c entries new a))
+IsCollectionAnswer list c entries old new a = IsTooOld list c entries a ⊎ (IsDisabled list entries a ⊎ (IsCleanCollection list c entries old new a ⊎ IsFaultyCollection list c entries new a))
 
 -- each answer of a collection is of one of these kinds, from the host right before its first entry to the one right
 -- after its last, unless it was cut off
