@@ -1,6 +1,6 @@
 -- What a CHECK asks for, and that the answers stay while other attachments change.
-use Rattle.std.proofs.Common.{◌≡◌, ℕ, ◌+◌, Bool, true, false, List, [], ◌∷◌, ◌++◌, map, Option, Some, None, refl, sym, ◌∙◌, ap, arith}
-use Rattle.std.specs.Prelude.{◌&&◌, ◌==◌, filter, find, option_map, if◌then◌else◌}
+use Rattle.std.proofs.Common.{◌≡◌, ℕ, ◌+◌, Bool, true, List, [], ◌∷◌, ◌++◌, map, Option, Some, None, refl, sym, ◌∙◌, ap, arith}
+use Rattle.std.specs.Prelude.{◌&&◌, ◌==◌, filter, option_map}
 use Rattle.std.specs.List.{AllByRecursion, list_any, list_all}
 use Rattle.cni_addr.specs.declared.mac.Mac.{Mac}
 use Rattle.cni_result.specs.declared.cached.Cached.{Cached}
@@ -39,6 +39,7 @@ use Rattle.pod_laws.specs.Checked.{are_in, has_bridge_by, has_bridge_of, has_fir
 use Rattle.pod_laws.specs.Granted.{grants}
 use Rattle.pod_laws.proofs.Asking.{tells}
 use Rattle.pod_workers.proofs.Each.{each-append, each-map_of}
+use Rattle.pod_workers.proofs.Elements.{find-first, first_of}
 use Rattle.pod_laws.proofs.OwnWanted.{AreOwn, own-wanted}
 use Rattle.pod_laws.proofs.SteadyHosts.{KeepsAsked}
 
@@ -210,18 +211,6 @@ granted-stay c old new (q ∷ qs) keeps each h =
     let now : grants new q ≡ true = each.0.stays old new keeps (grind (arith, h)) in
     let rest : list_all (grants new) qs ≡ true = granted-stay c old new qs keeps each.1 (grind (arith, h)) in
     grind (arith, now, rest)
-
-abbrev first_of : {X : Type 0} → List X → Option X
-first_of [] = None
-first_of (x ∷ xs) = Some x
-
-find-step : {X : Type 0} (b : Bool) (x : X) (o : Option X) (xs : List X) → o ≡ first_of xs → (if b then Some x else o) ≡ first_of (if b then x ∷ xs else xs)
-find-step true x o xs h = refl
-find-step false x o xs h = h
-
-find-first : {X : Type 0} (p : X → Bool) (xs : List X) → find p xs ≡ first_of (filter p xs)
-find-first p [] = refl
-find-first p (x ∷ xs) = find-step (p x) x (find p xs) (filter p xs) (find-first p xs)
 
 -- the cached entry is of the share
 pub cached-stays : (c : Command) (old new : Host) → KeepsAsked c old new → cached_in new (att_of c) ≡ cached_in old (att_of c)
