@@ -24,15 +24,5 @@ pub(crate) fn add_first(counts: &mut Vec<u64>, more: u64)
     ensures sum { sum counts.new.items ≡ sum counts.old.items + more }
     ensures long { length counts.new.items ≡ length counts.old.items }
 {
-    add_to_first(counts.as_mut_slice(), more);
-}
-
-fn add_to_first(counts: &mut [u64], more: u64)
-    requires some { 0 < length counts.old }
-    requires fits { sum counts.old + more < 2 ^ 64 }
-    ensures first { counts.new ≡ slice_set counts.old 0 (slice_index counts.old 0 + more) }
-    ensures sum { sum counts.new ≡ sum counts.old + more }
-    ensures long { length counts.new ≡ length counts.old }
-{
     counts[0] += more;
 }
