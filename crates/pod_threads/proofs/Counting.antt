@@ -39,12 +39,6 @@ rounds-after u v w e r = record { last = r.last; legal = r.legal; extends = exte
 pub rounds-more : (u w : World) → Rounds u w → entries_of_round u.plan u.round w.history + length u.history ≡ entries_of_round u.plan u.round u.history + length w.history
 rounds-more u w r = subst (λ (v : World). entries_of_round u.plan u.round v.history + length u.history ≡ entries_of_round u.plan u.round u.history + length v.history) (sym r.next_is) (entries-more u r.last r.extends)
 
-pub no-shorter : (u w : World) → Rounds u w → length u.history ≤ length w.history
-no-shorter u w r =
-    let long = ap length r.extends.entries.1 ∙ length-append u.history r.extends.entries.0 in
-    let same = ap (λ (v : World). length v.history) r.next_is in
-    omega (arith, long, same)
-
 -- where the first count alone grows, by those that stood before and the rest, it has those that stood before
 pub first-count : (xs ys : List ℕ) (stood before rest : ℕ) → before ≡ stood → sum ys ≡ sum xs + (before + rest) → ys ≡ slice_set xs 0 (slice_index xs 0 + (before + rest)) → stood ≤ slice_index ys 0
 first-count [] ys stood before rest before_is sum_is is = let none : sum ys ≡ 0 = ap sum is in omega arith
