@@ -10,7 +10,7 @@ use Rattle.pod_text.specs.Statuses.{is_failure, is_memory, status_of}
 use Rattle.pod_workers.specs.Order.{IsInFileOrder}
 use Rattle.pod_workers.specs.World.{World}
 use Rattle.pod_workers.specs.declared.plan.Plan.{Plan}
-use Rattle.tool_words.specs.Words.{words_of}
+use Rattle.tool_words.specs.Words.{words_given}
 use Rattle.tool_words.specs.declared.words.Words.{Words}
 use Rattle.tool_run.specs.Causes.{WhereTold}
 use Rattle.tool_run.specs.Ends.{Due, Reported, Reports, Settles}
@@ -24,8 +24,8 @@ abbrev pub Printed : List ℕ
 Printed = 0 ∷ 1 ∷ 8 ∷ []
 
 pub data Ended (r : Sides) (status : ℕ) (book : Option World) : Type 0 where
-  of_usage : status ≡ 2 → book ≡ None → words_of r.words ≡ None → Wrote r.old r.new usage_line → Ended r status book
-  of_line : (bytes : List ℕ) → status ≡ 3 → book ≡ None → (w : Words) → words_of r.words ≡ Some w → ComesTo r.words r.files (line bytes) → Wrote r.old r.new bytes → Ended r status book
+  of_usage : status ≡ 2 → book ≡ None → words_given r.words ≡ None → Wrote r.old r.new usage_line → Ended r status book
+  of_line : (bytes : List ℕ) → status ≡ 3 → book ≡ None → (w : Words) → words_given r.words ≡ Some w → ComesTo r.words r.files (line bytes) → Wrote r.old r.new bytes → Ended r status book
   of_read : (bytes : List ℕ) → status ≡ 4 → book ≡ None → IsUnreadOf r.words r.reads_before r.reads_now bytes → Wrote r.old r.new bytes → Ended r status book
   of_text : (b : World) (bytes : List ℕ) → IsAmong status Printed → status ≡ status_of b.answers → book ≡ Some b → IsCarriedOut r.words r.files b → IsTextOf r.words b bytes
       → Wrote r.old r.new bytes → Ended r status book
@@ -52,11 +52,11 @@ not_printed status n (inr (inr (inr h))) is least most = h
 
 -- ---- from what is due to how it ends
 
-comes_to_line : (words : List (List ℕ)) (files : Option StoredFiles) (w : Words) (bytes : List ℕ) → words_of words ≡ Some w
+comes_to_line : (words : List (List ℕ)) (files : Option StoredFiles) (w : Words) (bytes : List ℕ) → words_given words ≡ Some w
     → WhereTold files (λ stored. plan_of stored w ≡ Err bytes) → ComesTo words files (line bytes)
 comes_to_line words files w bytes is told = λ stored at. ap (λ (o : Option Words). verdict_if o stored) is ∙ ap (verdict_on w) (told stored at)
 
-comes_to_plan : (words : List (List ℕ)) (files : Option StoredFiles) (w : Words) (plan : Plan) → words_of words ≡ Some w
+comes_to_plan : (words : List (List ℕ)) (files : Option StoredFiles) (w : Words) (plan : Plan) → words_given words ≡ Some w
     → WhereTold files (λ stored. plan_of stored w ≡ Ok plan) → ComesTo words files (carry plan w.trace w.dump)
 comes_to_plan words files w plan is told = λ stored at. ap (λ (o : Option Words). verdict_if o stored) is ∙ ap (verdict_on w) (told stored at)
 
@@ -134,7 +134,7 @@ text_clause r status book (of_text b bytes one st some carried text wrote) h = s
 text_clause r status book (of_sink bytes st rose carried is_due front) h = other status 5 h st (omega arith) (omega arith)
 text_clause r status book (of_memory st none nothing) h = other status 6 h st (omega arith) (omega arith)
 
-pub usage_clause : (r : Sides) (status : ℕ) (book : Option World) → Ended r status book → status ≡ 2 → (words_of r.words ≡ None) × Wrote r.old r.new usage_line
+pub usage_clause : (r : Sides) (status : ℕ) (book : Option World) → Ended r status book → status ≡ 2 → (words_given r.words ≡ None) × Wrote r.old r.new usage_line
 usage_clause r status book (of_usage st none words wrote) h = (words, wrote)
 usage_clause r status book (of_line bytes st none w words comes wrote) h = absurd (omega arith)
 usage_clause r status book (of_read bytes st none unread wrote) h = absurd (omega arith)
@@ -143,10 +143,10 @@ usage_clause r status book (of_sink bytes st rose carried is_due front) h = absu
 usage_clause r status book (of_memory st none nothing) h = absurd (omega arith)
 
 -- no words, and words
-two_ways : {X : Type 0} (words : List (List ℕ)) (w : Words) → words_of words ≡ None → words_of words ≡ Some w → X
+two_ways : {X : Type 0} (words : List (List ℕ)) (w : Words) → words_given words ≡ None → words_given words ≡ Some w → X
 two_ways words w none some = let bad : None ≡ Some w = sym none ∙ some in cc
 
-pub usage_only : (r : Sides) (status : ℕ) (book : Option World) → Ended r status book → words_of r.words ≡ None → IsAmong status (2 ∷ 5 ∷ 6 ∷ [])
+pub usage_only : (r : Sides) (status : ℕ) (book : Option World) → Ended r status book → words_given r.words ≡ None → IsAmong status (2 ∷ 5 ∷ 6 ∷ [])
 usage_only r status book (of_usage st none words wrote) h = inl st
 usage_only r status book (of_line bytes st none w words comes wrote) h = two_ways r.words w h words
 usage_only r status book (of_read bytes st none unread wrote) h = two_ways r.words unread.by h unread.words_are
@@ -186,7 +186,7 @@ memory_clause r status book (of_text b bytes one st some carried text wrote) h =
 memory_clause r status book (of_sink bytes st rose carried is_due front) h = absurd (omega arith)
 memory_clause r status book (of_memory st none nothing) h = nothing
 
-usage_verdict : (words : List (List ℕ)) (stored : StoredFiles) → words_of words ≡ None → usage ≡ verdict_of words stored
+usage_verdict : (words : List (List ℕ)) (stored : StoredFiles) → words_given words ≡ None → usage ≡ verdict_of words stored
 usage_verdict words stored none = sym (ap (λ (o : Option Words). verdict_if o stored) none)
 
 printed_completes : (status : ℕ) → IsAmong status Printed → IsAmong status (0 ∷ 1 ∷ 6 ∷ 8 ∷ [])
@@ -255,13 +255,13 @@ without_book : (o : Outcome) → o.book ≡ None → IsOrdered o.book
 without_book o none = subst IsOrdered (sym none) tt
 
 pub ordered : (keeps : ℕ → Type 0) (r : Sides) (d : Due) (o : Outcome) → Settles keeps r.words r.files r.reads_before r.reads_now d → Reported r.old r.new r.writes_before r.writes_now d o
-    → (by : Words) → words_of r.words ≡ Some by → keeps by.threads → IsOrdered o.book
+    → (by : Words) → words_given r.words ≡ Some by → keeps by.threads → IsOrdered o.book
 ordered keeps r (Err why) o settles rep by is kept = without_book o rep.0
 ordered keeps r (Ok made) o settles rep by is kept =
     let same = same_Some by settles.0 (sym is ∙ settles.1) in
     subst IsOrdered (sym rep.0) (settles.2.3 (subst (λ (w : Words). keeps w.threads) same kept))
 
 -- a book has words that are taken
-pub ordered_always : (r : Sides) (status : ℕ) (book : Option World) → HasCauses r status book → ((by : Words) → words_of r.words ≡ Some by → IsOrdered book) → IsOrdered book
+pub ordered_always : (r : Sides) (status : ℕ) (book : Option World) → HasCauses r status book → ((by : Words) → words_given r.words ≡ Some by → IsOrdered book) → IsOrdered book
 ordered_always r status None causes order = tt
 ordered_always r status (Some book) causes order = let carried = causes.carried in order carried.by carried.words_are

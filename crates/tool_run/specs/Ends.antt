@@ -7,7 +7,7 @@ use Rattle.pod_text.specs.Statuses.{status_of}
 use Rattle.pod_workers.specs.Legal.{Legal}
 use Rattle.pod_workers.specs.Order.{IsInFileOrder}
 use Rattle.pod_workers.specs.declared.plan.Plan.{Plan}
-use Rattle.tool_words.specs.Words.{words_of}
+use Rattle.tool_words.specs.Words.{words_given}
 use Rattle.tool_words.specs.declared.words.Words.{Words}
 use Rattle.tool_run.specs.Causes.{Steps, WhereTold}
 use Rattle.tool_run.specs.Lines.{usage_line}
@@ -50,6 +50,6 @@ SettlesFor keeps words files before now (Err stop) =
     Steps {X = Plan} (λ plan. plan) files before now (words.pods ∷ words.lists) (λ stored. plan_of stored words) (Err stop)
 
 abbrev pub Settles : (keeps : ℕ → Type 0) → List (List ℕ) → Option StoredFiles → ℕ → ℕ → Due → Type 0
-Settles keeps words files before now (Err Usage) = words_of words ≡ None
+Settles keeps words files before now (Err Usage) = words_given words ≡ None
 Settles keeps words files before now (Err NoMemory) = ⊤
-Settles keeps words files before now due = (w : Words) × (words_of words ≡ Some w) × SettlesFor keeps w files before now due
+Settles keeps words files before now due = (w : Words) × (words_given words ≡ Some w) × SettlesFor keeps w files before now due

@@ -8,7 +8,7 @@ use Rattle.pod_text.specs.Lines.{text_of}
 use Rattle.pod_text.specs.Statuses.{status_of}
 use Rattle.pod_workers.specs.Legal.{Legal}
 use Rattle.pod_workers.specs.World.{World}
-use Rattle.tool_words.specs.Words.{words_of}
+use Rattle.tool_words.specs.Words.{words_given}
 use Rattle.tool_words.specs.declared.words.Words.{Words}
 use Rattle.tool_run.specs.Causes.{IsUnread, WhereTold}
 use Rattle.tool_run.specs.Lines.{usage_line}
@@ -33,7 +33,7 @@ ComesTo words files verdict = WhereTold files (λ stored. verdict_of words store
 -- a legal book of the plan that the words and the files come to, with every round over
 pub record IsCarriedOut (words : List (List ℕ)) (files : Option StoredFiles) (book : World) : Type 0 where
   pub by : Words
-  pub words_are : words_of words ≡ Some by
+  pub words_are : words_given words ≡ Some by
   pub plan : ComesTo words files (carry book.plan by.trace by.dump)
   pub over : length book.plan.pods.rounds ≤ book.round
   pub legal : Legal book
@@ -41,18 +41,18 @@ pub record IsCarriedOut (words : List (List ℕ)) (files : Option StoredFiles) (
 -- the whole text of the book, with the trace and the dump that the words ask for
 pub record IsTextOf (words : List (List ℕ)) (book : World) (bytes : List ℕ) : Type 0 where
   pub by : Words
-  pub words_are : words_of words ≡ Some by
+  pub words_are : words_given words ≡ Some by
   pub text : bytes ≡ text_of book by.trace by.dump
 
 -- the line says that a read of a file that the words name failed
 pub record IsUnreadOf (words : List (List ℕ)) (before now : ℕ) (bytes : List ℕ) : Type 0 where
   pub by : Words
-  pub words_are : words_of words ≡ Some by
+  pub words_are : words_given words ≡ Some by
   pub unread : IsUnread (by.pods ∷ by.lists) before now bytes
 
 -- the words aren't taken, and this is the line that says so
 abbrev pub IsUsage : List (List ℕ) → List ℕ → Type 0
-IsUsage words bytes = (words_of words ≡ None) × (bytes ≡ usage_line)
+IsUsage words bytes = (words_given words ≡ None) × (bytes ≡ usage_line)
 
 -- what is to be written where there is no book, and where there is one
 abbrev pub IsToWrite : List (List ℕ) → Option StoredFiles → ℕ → ℕ → Option World → List ℕ → Type 0
@@ -93,8 +93,8 @@ sides words files reads_before reads_now old new writes_before writes_now = reco
 pub record HasCauses (r : Sides) (status : ℕ) (book : Option World) : Type 0 where
   pub only : IsAmong status (0 ∷ 1 ∷ 2 ∷ 3 ∷ 4 ∷ 5 ∷ 6 ∷ 8 ∷ [])
   pub text : IsAmong status (0 ∷ 1 ∷ 8 ∷ []) → IsSomeAnd book (λ b. (status ≡ status_of b.answers) × ((bytes : List ℕ) × IsTextOf r.words b bytes × Wrote r.old r.new bytes))
-  pub usage : status ≡ 2 → (words_of r.words ≡ None) × Wrote r.old r.new usage_line
-  pub usage_only : words_of r.words ≡ None → IsAmong status (2 ∷ 5 ∷ 6 ∷ [])
+  pub usage : status ≡ 2 → (words_given r.words ≡ None) × Wrote r.old r.new usage_line
+  pub usage_only : words_given r.words ≡ None → IsAmong status (2 ∷ 5 ∷ 6 ∷ [])
   pub refused : status ≡ 3 → (bytes : List ℕ) × ComesTo r.words r.files (line bytes) × Wrote r.old r.new bytes
   pub read : status ≡ 4 → (bytes : List ℕ) × IsUnreadOf r.words r.reads_before r.reads_now bytes × Wrote r.old r.new bytes
   pub sink : status ≡ 5 → Rose r.writes_before r.writes_now × ((bytes : List ℕ) × IsToWrite r.words r.files r.reads_before r.reads_now book bytes × WroteFront r.old r.new bytes)
@@ -105,4 +105,4 @@ pub record HasCauses (r : Sides) (status : ℕ) (book : Option World) : Type 0 w
 
 -- the words are taken, and ask for one thread
 abbrev pub AskForOneThread : List (List ℕ) → Type 0
-AskForOneThread words = (by : Words) × (words_of words ≡ Some by) × (by.threads ≡ 1)
+AskForOneThread words = (by : Words) × (words_given words ≡ Some by) × (by.threads ≡ 1)

@@ -11,7 +11,7 @@ use Rattle.pod_file.specs.PodFile.{pods_of}
 use Rattle.pod_file.specs.declared.pods.Pods.{Pods}
 use Rattle.pod_workers.specs.Join.{joined}
 use Rattle.pod_workers.specs.declared.plan.Plan.{Plan}
-use Rattle.tool_words.specs.Words.{words_of}
+use Rattle.tool_words.specs.Words.{words_given}
 use Rattle.tool_words.specs.declared.words.Words.{Words}
 use Rattle.tool_run.specs.Lines.{word_line, unread_line, error_line}
 use Rattle.tool_run.specs.Refusals.{list_error, pods_error, plan_error, file_at_fault}
@@ -91,4 +91,4 @@ verdict_if None files = usage
 verdict_if (Some words) files = verdict_on words (plan_of files words)
 
 abbrev pub verdict_of : List (List ℕ) → StoredFiles → Verdict
-verdict_of words files = verdict_if (words_of words) files
+verdict_of words files = verdict_if (words_given words) files

@@ -4,7 +4,7 @@ ghost use Rattle.std.specs.Prelude.{◌≡◌, ◌<◌, ◌≤◌, Some, IfSome,
 ghost use Rattle.std.specs.Thread.{IsSync};
 ghost use Rattle.pod_workers.specs.Extends.{Rounds};
 ghost use Rattle.pod_workers.specs.Order.{IsInFileOrder};
-ghost use Rattle.tool_words.specs.Words.{words_of};
+ghost use Rattle.tool_words.specs.Words.{words_given};
 ghost use Rattle.tool_words.specs.declared.words.Words.{Words};
 ghost use Rattle.tool_run.specs.Ends.{Reported, Reports, ReportsStop};
 ghost use Rattle.tool_run.specs.Rounds.{KeepsFileOrder, MakesRounds};
@@ -101,7 +101,7 @@ fn run_by<M: Fn(Book<ListKernel>, u8) -> Book<ListKernel>, F: Files, S: Sink>(
 ) -> Outcome
     requires { MakesRounds M.Fn make.now }
     ensures causes { HasCauses (sides words.now (F.files files.old) (F.faults files.old) (F.faults files.new) (S.written sink.old) (S.written sink.new) (S.faults sink.old) (S.faults sink.new)) result.status result.book }
-    ensures order { (by : Words) → words_of words.now ≡ Some by → KeepsFileOrder M.Fn make.now by.threads → IfSome result.book IsInFileOrder }
+    ensures order { (by : Words) → words_given words.now ≡ Some by → KeepsFileOrder M.Fn make.now by.threads → IfSome result.book IsInFileOrder }
     ensures keeps { F.files files.new ≡ F.files files.old }
 {
     let due = settle(make, alloc, words, files);

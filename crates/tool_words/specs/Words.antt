@@ -17,8 +17,9 @@ number_of text = digits_value 10 (without_leading_plus text)
 abbrev pub number_at : Text → List Row → Option ℕ
 number_at name found = option_map number_of (one_of name found)
 
-abbrev pub flag_at : Text → List Row → Bool
-flag_at name found = option_map_or (λ text. bytes_eq text (codes "true")) (one_of name found) false
+-- the flag is given
+abbrev pub has_flag : Text → List Row → Bool
+has_flag name found = option_map_or (λ text. bytes_eq text (codes "true")) (one_of name found) false
 
 abbrev pub lists_at : List Row → List Text
 lists_at found = unwrap_or (all_of lists_word found) []
@@ -27,12 +28,13 @@ lists_at found = unwrap_or (all_of lists_word found) []
 abbrev pub asks_generator : Text → Bool
 asks_generator pods = starts_with nat_eq pods (codes "gen:")
 
-abbrev pub words_at : List Row → Text → Words
-words_at found pods = record {
+-- what the rows say, with this PODS
+abbrev pub words_in : List Row → Text → Words
+words_in found pods = record {
   threads = unwrap_or (number_at threads_option found) 1;
   stop_at = number_at stop_at_option found;
-  trace = flag_at trace_flag found;
-  dump = flag_at dump_flag found;
+  trace = has_flag trace_flag found;
+  dump = has_flag dump_flag found;
   pods = pods;
   lists = lists_at found;
 }
@@ -43,13 +45,13 @@ are_within pods lists = nat_le (length lists) most_lists && not (asks_generator 
 
 abbrev pub words_if : List Row → Option Text → Option Words
 words_if found None = None
-words_if found (Some pods) = if are_within pods (lists_at found) then Some (words_at found pods) else None
+words_if found (Some pods) = if are_within pods (lists_at found) then Some (words_in found pods) else None
 
--- what the words say, where they are taken
-unfoldable pub words_of : List Text → Option Words
-words_of words = if fits words then words_if (rows words) (first_of pods_word (rows words)) else None
+-- what the words say; none where the command doesn't take them, or they are not within the limits
+unfoldable pub words_given : List Text → Option Words
+words_given words = if fits words then words_if (rows words) (first_of pods_word (rows words)) else None
 
--- what the words say; or they are not taken; or memory ran out
+-- what the words say; or they are refused; or memory ran out
 abbrev pub Reads : Option Words → Result Words WordsEnd → Type 0
 Reads wanted (Ok words) = wanted ≡ Some words
 Reads wanted (Err Usage) = wanted ≡ None

@@ -1,8 +1,8 @@
 //! The words of the program `cnitool`: options, flags, a pod file and network lists.
 //!
-//! What it promises above: [`read_words`] gives exactly what the definition `words_of` (`specs/Words.antt`) says of the
-//! words, and refuses exactly the words that it doesn't take. What clap takes is clap's own definition, on the command
-//! that `specs/Command.antt` writes out.
+//! What it promises above: [`read_words`] gives exactly what the definition `words_given` (`specs/Words.antt`) says of
+//! the words, and refuses exactly the words that it doesn't take. What clap takes is clap's own definition, on the
+//! command that `specs/Command.antt` writes out.
 //!
 //! ```text
 //! // --trace pods.json net.json

@@ -6,7 +6,7 @@ ghost use Rattle.clap.specs.Walk.{first_of, rows_of};
 ghost use Rattle.clap.specs.declared.builder.value_parser.ValueParser.TheVariants as parser;
 ghost use Rattle.tool_words.specs.Command.{counts_to, greatest_entry, most_threads, pods_word, stop_at_option, threads_option};
 ghost use Rattle.tool_words.specs.Parse.{Parses, Passes};
-ghost use Rattle.tool_words.specs.Words.{flag_at, lists_at, number_at};
+ghost use Rattle.tool_words.specs.Words.{has_flag, lists_at, number_at};
 
 use crate::command::{LISTS_WORD, PODS_WORD, STOP_AT_OPTION, THREADS_OPTION, make_command};
 use crate::words::WordsEnd;
@@ -49,7 +49,7 @@ pub(crate) fn stop_at<'a>(matches: &ArgMatches<'a>) -> Option<u32>
 
 pub(crate) fn flag<'a>(matches: &ArgMatches<'a>, name: &str) -> bool
     requires { Passes matches.now name.now parser.Bool }
-    ensures { result ≡ flag_at name.now (rows_of (found_of matches.now)) }
+    ensures { result ≡ has_flag name.now (rows_of (found_of matches.now)) }
 {
     matches.get_flag(name)
 }

@@ -1,7 +1,7 @@
 //! What the words of the program say.
 
 ghost use Rattle.std.specs.Prelude.{◌≡◌, IfOk, map};
-ghost use Rattle.tool_words.specs.Words.{IsWithinLimits, Reads, are_within, asks_generator, words_of};
+ghost use Rattle.tool_words.specs.Words.{IsWithinLimits, Reads, are_within, asks_generator, words_given};
 
 use crate::command::{DUMP_FLAG, TRACE_FLAG};
 use crate::parse::{flag, lists, parse, pods, stop_at, threads};
@@ -51,7 +51,7 @@ impl From<NoMemory> for WordsEnd {
 ///
 /// Words that clap takes are refused where they name more than 64 lists, or where PODS begins `gen:`.
 pub fn read_words(alloc: Global, words: &[Text]) -> Result<Words, WordsEnd>
-    ensures exact { Reads (words_of words.now) result }
+    ensures exact { Reads (words_given words.now) result }
     ensures limits { IfOk result IsWithinLimits }
 {
     let matches = parse(alloc, words)?;
