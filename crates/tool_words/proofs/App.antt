@@ -14,7 +14,7 @@ use Rattle.clap.specs.Built.{AddsArg}
 use Rattle.clap.specs.declared.builder.arg.Arg.{Arg}
 use Rattle.clap.specs.declared.builder.command.Command.{Command}
 use Rattle.clap.proofs.OnLiterals.{clap_on_literals}
-use Rattle.tool_words.specs.Command.{the_app, IsArg, fits, rows}
+use Rattle.tool_words.specs.Command.{the_app, IsArg, clap_takes, rows}
 
 -- one argument more
 pub with_arg : (old new : Command) (a : Arg) (app : App) (rule : Rule) → AddsArg old a new → app_of old ≡ app → IsArg a rule → app_of new ≡ with_rule app rule
@@ -28,24 +28,24 @@ is_simple_and_free-the_app : is_simple_and_free the_app ≡ true
 unfolding clap_on_literals
 is_simple_and_free-the_app = refl
 
-pub fit : (app : App) (given words : List Text) → app ≡ the_app → given ≡ words → (is_simple_and_free app ≡ true → fault_of app given ≡ []) → fits words ≡ true
-unfolding fits
-fit app given words is same h =
+pub taken : (app : App) (given words : List Text) → app ≡ the_app → given ≡ words → (is_simple_and_free app ≡ true → fault_of app given ≡ []) → clap_takes words ≡ true
+unfolding clap_takes
+taken app given words is same h =
     let none : fault_of the_app words ≡ [] = ap₂ fault_of (sym is) (sym same) ∙ h (ap is_simple_and_free is ∙ is_simple_and_free-the_app) in
     ap is_empty none
 
-pub rows-fit : (app : App) (given words : List Text) (m : ArgMatches) → app ≡ the_app → given ≡ words → HasMatchesOf app given m → rows_of (found_of m) ≡ rows words
+pub rows-are : (app : App) (given words : List Text) (m : ArgMatches) → app ≡ the_app → given ≡ words → HasMatchesOf app given m → rows_of (found_of m) ≡ rows words
 unfolding rows
-rows-fit app given words m is same h = (h (ap is_simple is ∙ is_simple-the_app)).0 ∙ ap₂ matches_of is same
+rows-are app given words m is same h = (h (ap is_simple is ∙ is_simple-the_app)).0 ∙ ap₂ matches_of is same
 
 not_empty : (k : ErrorKind) (kinds : Kinds) → IsAmong k kinds → is_empty kinds ≡ false
 not_empty k [] h = absurd h
 not_empty k (x ∷ xs) h = ne_eqb _ _ (λ e. omega arith)
 
-pub not_fit : (app : App) (given words : List Text) (e : Error) → app ≡ the_app → given ≡ words → (is_simple_and_free app ≡ true → HasKind (fault_of app given) e)
-    → (kind_of e ≡ OutOfMemory → ⊥) → fits words ≡ false
-unfolding fits
-not_fit app given words e is same h other =
+pub not_taken : (app : App) (given words : List Text) (e : Error) → app ≡ the_app → given ≡ words → (is_simple_and_free app ≡ true → HasKind (fault_of app given) e)
+    → (kind_of e ≡ OutOfMemory → ⊥) → clap_takes words ≡ false
+unfolding clap_takes
+not_taken app given words e is same h other =
     elim (h (ap is_simple_and_free is ∙ is_simple_and_free-the_app)) [
       | inl memory ↦ absurd (other memory)
       | inr among ↦ ap is_empty (ap₂ fault_of (sym is) (sym same)) ∙ not_empty (kind_of e) (fault_of app given) among

@@ -11,13 +11,13 @@ use Rattle.tool_words.specs.declared.words.WordsEnd.TheVariants.{Usage, NoMemory
 
 pub refused : (words : List Text) (end : WordsEnd) → Parses words (Err end) → Reads (words_given words) (Err end)
 unfolding words_given
-refused words Usage unfit = rw unfit refl
-refused words NoMemory unfit = tt
+refused words Usage refusal = rw refusal refl
+refused words NoMemory refusal = tt
 
 pub says : (words : List Text) (m : ArgMatches) (pods : Option Text) → IsParseOf words m → pods ≡ first_of pods_word (rows_of (found_of m))
     → words_given words ≡ words_if (rows_of (found_of m)) pods
 unfolding words_given
-says words m pods p is = rw (p.fit, ← p.rows_are, is) refl
+says words m pods p is = rw (p.taken, ← p.rows_are, is) refl
 
 -- words within the limits, and beyond them
 pub by_limits : (words : List Text) (m : ArgMatches) (pods : Text) (lists : List Text) (b : Bool) → IsParseOf words m → Some pods ≡ first_of pods_word (rows_of (found_of m))

@@ -79,8 +79,8 @@ abbrev pub IsArg : Arg → Rule → Type 0
 IsArg a rule = (rule_of a ≡ rule) × (a.global ≡ false)
 
 -- the command takes the words: clap finds no fault in them
-unfoldable pub fits : List Text → Bool
-fits words = is_empty (fault_of the_app words)
+unfoldable pub clap_takes : List Text → Bool
+clap_takes words = is_empty (fault_of the_app words)
 
 -- what the command makes of words that it takes
 unfoldable pub rows : List Text → List Row

@@ -6,7 +6,7 @@ use Rattle.clap.specs.Walk.{Text, rows_of}
 use Rattle.clap.specs.declared.builder.value_parser.ValueParser.{ValueParser}
 use Rattle.clap.specs.declared.builder.value_parser.ValueParser.TheVariants as parser
 use Rattle.clap.specs.declared.parser.matches.ArgMatches.{ArgMatches}
-use Rattle.tool_words.specs.Command.{fits, rows, counts_to, most_threads, greatest_entry, threads_option, stop_at_option, trace_flag, dump_flag}
+use Rattle.tool_words.specs.Command.{clap_takes, rows, counts_to, most_threads, greatest_entry, threads_option, stop_at_option, trace_flag, dump_flag}
 use Rattle.tool_words.specs.declared.words.WordsEnd.{WordsEnd}
 use Rattle.tool_words.specs.declared.words.WordsEnd.TheVariants.{Usage, NoMemory}
 
@@ -16,7 +16,7 @@ Passes m name q = (text : Text) → one_text (found_of m) name ≡ Some text
     → (given : Text) × (text ≡ read_as (reading_of q) given) × Accepts false q given
 
 pub record IsParseOf (words : List Text) (m : ArgMatches) : Type 0 where
-  pub fit : fits words ≡ true
+  pub taken : clap_takes words ≡ true
   pub rows_are : rows_of (found_of m) ≡ rows words
   pub threads : Passes m threads_option (counts_to most_threads)
   pub stop_at : Passes m stop_at_option (counts_to greatest_entry)
@@ -26,5 +26,5 @@ pub record IsParseOf (words : List Text) (m : ArgMatches) : Type 0 where
 -- a parse of the words; or the command does not take them; or memory ran out
 abbrev pub Parses : List Text → Result ArgMatches WordsEnd → Type 0
 Parses words (Ok m) = IsParseOf words m
-Parses words (Err Usage) = fits words ≡ false
+Parses words (Err Usage) = clap_takes words ≡ false
 Parses words (Err NoMemory) = ⊤

@@ -5,7 +5,7 @@ use Rattle.std.specs.Option.{option_map_or}
 use Rattle.std.specs.Str.{bytes_eq}
 use Rattle.std.specs.Str.Parse.{digits_value, without_leading_plus}
 use Rattle.clap.specs.Walk.{Row, Text, first_of, one_of, all_of}
-use Rattle.tool_words.specs.Command.{fits, rows, most_threads, greatest_entry, most_lists, threads_option, stop_at_option, trace_flag, dump_flag, pods_word, lists_word}
+use Rattle.tool_words.specs.Command.{clap_takes, rows, most_threads, greatest_entry, most_lists, threads_option, stop_at_option, trace_flag, dump_flag, pods_word, lists_word}
 use Rattle.tool_words.specs.declared.words.Words.{Words}
 use Rattle.tool_words.specs.declared.words.WordsEnd.{WordsEnd}
 use Rattle.tool_words.specs.declared.words.WordsEnd.TheVariants.{Usage, NoMemory}
@@ -49,7 +49,7 @@ words_if found (Some pods) = if are_within pods (lists_at found) then Some (word
 
 -- what the words say; none where the command doesn't take them, or they are not within the limits
 unfoldable pub words_given : List Text → Option Words
-words_given words = if fits words then words_if (rows words) (first_of pods_word (rows words)) else None
+words_given words = if clap_takes words then words_if (rows words) (first_of pods_word (rows words)) else None
 
 -- what the words say; or they are refused; or memory ran out
 abbrev pub Reads : Option Words → Result Words WordsEnd → Type 0
