@@ -51,7 +51,10 @@ not_taken app given words e is same h other =
       | inr among ↦ ap is_empty (ap₂ fault_of (sym is) (sym same)) ∙ not_empty (kind_of e) (fault_of app given) among
     ]
 
--- words that are written out: a whole line, a number that is too large, and no word
+-- ---- worked examples
+
+-- What clap's definitions make of words that are written out: whole lines, a number that is too large, no word, words
+-- behind `--`, and a flag that is given twice. Each is worked out by the check, and no other proof cites it.
 worked_line : fault_of the_app (codes "--threads" ∷ codes "4" ∷ codes "p.json" ∷ codes "a.json" ∷ codes "--dump" ∷ codes "b.json" ∷ []) ≡ []
 unfolding clap_on_literals
 worked_line = refl
