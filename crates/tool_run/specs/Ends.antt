@@ -40,8 +40,8 @@ Reported old new before now (Ok made) outcome =
     (outcome.book ≡ Some made.book) × Reports old new before now made.text.items (status_of made.book.answers) outcome.status
 Reported old new before now (Err stop) outcome = (outcome.book ≡ None) × ReportsStop old new before now stop outcome.status
 
--- the text of a book of the plan that told files want, every round of which is over; where so many threads keep the file's
--- order, its commands went in it; or the files stop the plan, or memory ran out
+-- the text of a book of the plan that told files want, every round of which is over; where so many threads keep the
+-- file's order, its commands went in it; or the files stop the plan, or memory ran out
 abbrev pub SettlesFor : (keeps : ℕ → Type 0) → Words → Option StoredFiles → ℕ → ℕ → Due → Type 0
 SettlesFor keeps words files before now (Ok made) =
     WhereTold files (λ stored. plan_of stored words ≡ Ok made.book.plan) × (length made.book.plan.pods.rounds ≤ made.book.round) × Legal made.book

@@ -1,7 +1,7 @@
 //! A run on the calling thread alone.
 
 use crate::run_alone;
-use crate::tests::{ONE, files_of, sink_of, words_of};
+use crate::tests::{ONE, files_of, sink_of, texts_of};
 use cni_addr::Text;
 use cni_io::{Files, Sink};
 use std::alloc::Global;
@@ -16,7 +16,7 @@ fn status_of<F: Files, S: Sink>(alloc: Global, words: &[Text], files: &mut F, si
 fn one_add_goes_alone(rt: HostRuntime) -> Result<(), Fail> {
     let alloc = rt.alloc();
     let mut files = files_of(alloc, ONE)?;
-    let words = words_of(alloc, &["pods.json", "net.json"])?;
+    let words = texts_of(alloc, &["pods.json", "net.json"])?;
     let mut sink = sink_of(alloc)?;
     let status = status_of(alloc, words.as_slice(), &mut files, &mut sink);
     assert_eq!(rt; status, 0);

@@ -1,5 +1,5 @@
-//! Two ADDs of one round, stepped in turn by hand, the room that an entry of the history takes, and the codes of errors;
-//! and the words, the files and the sink of the other tests.
+//! Two ADDs of one round, stepped in turn by hand, the room that an entry of the history takes, and the codes of
+//! errors; and the words, the files and the sink of the other tests.
 
 ghost use Rattle.std.specs.Prelude.{◌≤◌, IfOk, length};
 ghost use Rattle.tool_words.specs.Command.{most_lists};
@@ -52,7 +52,7 @@ pub(crate) fn files_of(alloc: Global, pods: &str) -> Result<MemFiles, Fail> {
 }
 
 /// The words of a run.
-pub(crate) fn words_of(alloc: Global, given: &[&str]) -> Result<Items<Text>, Fail> {
+pub(crate) fn texts_of(alloc: Global, given: &[&str]) -> Result<Items<Text>, Fail> {
     let mut words = Items::new(alloc);
     for word in given {
         words.push(Text::of(alloc, word)?)?;

@@ -1,6 +1,6 @@
 //! Runs by several threads, with gates that show that two of them are at work at one time.
 
-use crate::tests::{files_of, sink_of, words_of};
+use crate::tests::{files_of, sink_of, texts_of};
 use crate::{Outcome, run};
 use cni_addr::Text;
 use cni_io::{Files, Sink};
@@ -93,7 +93,7 @@ fn run_with<R: Threads + Wait + Sync, G: Gate>(
     pods: &str,
     gate: &G,
 ) -> Result<Seen, Fail> {
-    let words = words_of(alloc, &["--threads", threads, "pods.json", "net.json"])?;
+    let words = texts_of(alloc, &["--threads", threads, "pods.json", "net.json"])?;
     let mut files = files_of(alloc, pods)?;
     let mut sink = sink_of(alloc)?;
     let outcome = run_over(rt, alloc, words.as_slice(), &mut files, &mut sink, gate);
