@@ -127,14 +127,14 @@ fn given(alloc: Global, answers: &[Option<Answer>]) -> Result<Vec<u128>, Fail> {
     Ok(given)
 }
 
-/// A command's number, and how many steps were made for it.
+/// A point that a worker comes to: a command's number, and how many steps were made for it.
 #[derive(Clone, Copy, PartialEq, Eq)]
 struct Point {
     command: u32,
     calls: u32,
 }
 
-/// Holds each of two commands at its place until the other has come to its own.
+/// Holds each of two commands at its point until the other has come to its own.
 #[derive(Drop)]
 struct Meeting {
     first: Point,
@@ -156,11 +156,11 @@ fn meeting_of(first: Point, second: Point) -> Meeting {
 
 impl Gate for Meeting {
     fn pass(&self, command: u32, calls: u32) {
-        let place = Point { command, calls };
-        if place == self.first {
+        let point = Point { command, calls };
+        if point == self.first {
             self.come(&self.first_came, &self.second_came);
         }
-        if place == self.second {
+        if point == self.second {
             self.come(&self.second_came, &self.first_came);
         }
     }
