@@ -3,7 +3,7 @@
 use crate::objects::{
     address, att, cached, host_end, inner_end, key, lease, macvlan, route, rule, set, setting,
 };
-use crate::words::{RowError, cidr_of, cut, kind_of, placed};
+use crate::words::{RowError, cidr_of, cut, kind_of, link_words};
 use cni_addr::{Family, Text};
 use kernel_types::{Call, Change, Object, Probe, link_mac, table_named};
 use std::alloc::Global;
@@ -52,7 +52,7 @@ fn macvlan_add(alloc: Global, words: &str) -> Result<Call, RowError> {
 
 /// `LinkSet CONTAINER NAMESPACE NAME` turns the promiscuous mode on.
 fn link_set(alloc: Global, words: &str) -> Result<Call, RowError> {
-    let at = placed(words);
+    let at = link_words(words);
     let att = att(alloc, at.container)?;
     let key = key(alloc, at.ns, at.link)?;
     Ok(Call::LinkSet {

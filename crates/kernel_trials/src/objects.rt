@@ -4,7 +4,7 @@ ghost use Rattle.std.specs.Prelude.{◌≡◌, [], ◌∷◌, None, IfOk};
 ghost use Rattle.kernel_types.specs.declared.object.LinkKind.TheVariants as kinds;
 ghost use Rattle.kernel_types.specs.declared.object.Tag.TheVariants as tags;
 
-use crate::words::{RowError, addr_of, cidr_of, cut, placed, port_of};
+use crate::words::{RowError, addr_of, cidr_of, cut, link_words, port_of};
 use cni_addr::{Items, MacvlanMode, NoMemory, Range, RangeSet, Text};
 use cni_result::{AddResult, Cached, Version, no_dns};
 use kernel_types::{
@@ -86,7 +86,7 @@ pub(crate) fn device(alloc: Global, name: &str) -> Result<Link, NoMemory>
 
 /// The host's end of a veth pair, by the words of the whole pair: container, inner place, outer name and its master.
 pub(crate) fn host_end(alloc: Global, words: &str) -> Result<Link, RowError> {
-    let at = placed(words);
+    let at = link_words(words);
     let (outer, master) = cut(at.rest);
     let place = key(alloc, "", outer)?;
     let master = Text::of(alloc, master)?;
@@ -97,7 +97,7 @@ pub(crate) fn host_end(alloc: Global, words: &str) -> Result<Link, RowError> {
 
 /// The container's end, by the same words.
 pub(crate) fn inner_end(alloc: Global, words: &str) -> Result<Link, RowError> {
-    let at = placed(words);
+    let at = link_words(words);
     let (outer, _) = cut(at.rest);
     let place = key(alloc, at.ns, at.link)?;
     let peer = key(alloc, "", outer)?;
@@ -107,7 +107,7 @@ pub(crate) fn inner_end(alloc: Global, words: &str) -> Result<Link, RowError> {
 
 /// A macvlan link in bridge mode: container, place and master.
 pub(crate) fn macvlan(alloc: Global, words: &str) -> Result<Link, RowError> {
-    let at = placed(words);
+    let at = link_words(words);
     let place = key(alloc, at.ns, at.link)?;
     let master = Text::of(alloc, at.rest)?;
     let tag = own(alloc, at.container)?;
@@ -117,7 +117,7 @@ pub(crate) fn macvlan(alloc: Global, words: &str) -> Result<Link, RowError> {
 
 /// Container, place and address.
 pub(crate) fn address(alloc: Global, words: &str) -> Result<AddrObj, RowError> {
-    let at = placed(words);
+    let at = link_words(words);
     let cidr = cidr_of(at.rest)?;
     let ns = Text::of(alloc, at.ns)?;
     let link = Text::of(alloc, at.link)?;
@@ -132,7 +132,7 @@ pub(crate) fn address(alloc: Global, words: &str) -> Result<AddrObj, RowError> {
 
 /// The default route: container and place.
 pub(crate) fn route(alloc: Global, words: &str) -> Result<RouteObj, RowError> {
-    let at = placed(words);
+    let at = link_words(words);
     let dst = cidr_of("0.0.0.0/0")?;
     let gateway = addr_of("10.88.0.1")?;
     let ns = Text::of(alloc, at.ns)?;

@@ -27,7 +27,7 @@ pub(crate) fn cut(words: &str) -> (&str, &str) {
     }
 }
 
-/// A container, the place of a link, and the words after these.
+/// The words of a link: a container, the link's place as its namespace and name, and the words after these.
 #[derive(Clone, Copy)]
 pub(crate) struct LinkWords<'a> {
     pub(crate) container: &'a str,
@@ -36,7 +36,7 @@ pub(crate) struct LinkWords<'a> {
     pub(crate) rest: &'a str,
 }
 
-pub(crate) fn placed(words: &str) -> LinkWords<'_> {
+pub(crate) fn link_words(words: &str) -> LinkWords<'_> {
     let (container, words) = cut(words);
     let (ns, words) = cut(words);
     let (link, rest) = cut(words);
