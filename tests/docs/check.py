@@ -105,7 +105,7 @@ def wrong_in(path, sources, program):
         yield from missing_definitions(text)
     if program:
         yield from examples.wrong_sessions(text, program)
-        yield from examples.unread_examples(text, program)
+        yield from examples.wrong_examples(text, program)
 
 
 def main():

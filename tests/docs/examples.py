@@ -2,8 +2,8 @@
 
 A session is a block of lines that begin with four spaces: a command after `$ `, below it the lines that it prints. A
 line `..` stands for any lines. A block of JSON in docs/FORMATS.md or docs/plugins/ is a network list, a pod file, a
-plugin or the `ipam` of one, and is to be read. examples/first is the data of crates/cnitool, whose output `rt ci`
-compares.
+plugin or the `ipam` of one. A pod file is run on the document's lists, and all else is read; none is to be refused, and
+the lines right below one are what it prints. examples/first is the data of crates/cnitool, whose output `rt ci` compares.
 """
 
 import json
@@ -11,11 +11,14 @@ import pathlib
 import re
 import shlex
 import sys
+import textwrap
 
 sys.path.insert(0, str(pathlib.Path(__file__).resolve().parent.parent))
 
 from program import NO_PODS, REFUSED, TOP, network_list, run, run_on
 
+# a block of JSON, and the lines below it that no command prints
+EXAMPLE = re.compile(r"^```json\n(.*?)^```\n(?:\n((?:    (?!\$ )[^\n]*\n)+))?", re.MULTILINE | re.DOTALL)
 FIRST = ("bridge", "ptp", "macvlan")
 # each file of examples/first, and the file of crates/cnitool that says the same
 TWICE = {"net.json": "data/net.json", "pods.json": "data/pods.json", "output.txt": "stdout"}
@@ -44,11 +47,11 @@ def wrong_sessions(text, program):
             yield f"`{command}` prints something else"
 
 
-def files_of(value):
-    """The pod file and the lists by which an example is read."""
+def files_of(value, lists):
+    """The pod file and the lists by which an example is read, of which a pod file's are these, by name."""
     if "rounds" in value:
         networks = {command["network"] for a_round in value["rounds"] for command in a_round if "network" in command}
-        return [value, *(network_list(name, {"type": "bridge"}) for name in sorted(networks))]
+        return [value, *(lists[name] for name in sorted(networks) if name in lists)]
     if "plugins" in value:
         return [NO_PODS, value]
     if value["type"] == "host-local":
@@ -57,12 +60,17 @@ def files_of(value):
     return [NO_PODS, network_list("example", *plugins)]
 
 
-def unread_examples(text, program):
-    for block in re.findall(r"^```json\n(.*?)^```$", text, flags=re.MULTILINE | re.DOTALL):
-        files = {f"{number}.json": content for number, content in enumerate(files_of(json.loads(block)))}
+def wrong_examples(text, program):
+    examples = [(json.loads(block), lines) for block, lines in EXAMPLE.findall(text)]
+    lists = {value["name"]: value for value, _ in examples if "plugins" in value}
+    for value, lines in examples:
+        files = {f"{number}.json": content for number, content in enumerate(files_of(value, lists))}
         done = run_on(program, [*files], files)
+        printed = done.stdout.decode("utf-8")
         if done.returncode == REFUSED:
-            yield f"an example is refused: {done.stdout.decode('utf-8').strip()}"
+            yield f"an example is refused: {printed.strip()}"
+        elif lines and printed != textwrap.dedent(lines):
+            yield "an example prints something else"
 
 
 def unlike_crate():
