@@ -1,11 +1,11 @@
 -- The configuration of the `bridge` plugin, key by key in the order of its refusals.
 use Rattle.std.specs.Prelude.{◌&&◌, ◌||◌, ℕ, List, [], ◌∷◌, codes, Bool, true, false, not, if◌then◌else◌, Result, Ok, ⊤}
 use Rattle.serde_json.specs.Data.{Data}
-use Rattle.cni_json.specs.Fields.{text_field}
+use Rattle.cni_json.specs.Fields.{text_field, tested}
 use Rattle.cni_json.specs.Outcome.{◌>>=◌}
 use Rattle.cni_json.specs.declared.fields.Field.{Field}
 use Rattle.net_conf.specs.Ipam.{addressing_at}
-use Rattle.net_conf.specs.Members.{with_default, flag_at, tested, mtu_at}
+use Rattle.net_conf.specs.Members.{with_default, flag_at, mtu_at}
 use Rattle.net_conf.specs.Names.{is_interface_name}
 use Rattle.net_conf.specs.Outside.{Row, all_supported}
 use Rattle.net_conf.specs.Refusals.{invalid}
@@ -24,7 +24,7 @@ bridge_rows =
     ∷ (codes "ipMasqBackend", Backend) ∷ []
 
 abbrev pub bridge_name_of : Field (List ℕ) → Result (List ℕ) ConfError
-bridge_name_of f = with_default (codes "bridge") (codes "cni0") (tested (codes "bridge") is_interface_name) f
+bridge_name_of f = with_default (codes "bridge") (codes "cni0") (tested (invalid (codes "bridge")) is_interface_name) f
 
 -- the bridge's name
 unfoldable pub bridge_name_at : Data → Result (List ℕ) ConfError

@@ -5,7 +5,7 @@ use Rattle.serde_json.specs.Data.{Data}
 use Rattle.serde_json.specs.Find.{as_null}
 use Rattle.cni_addr.specs.AddrText.{addr_of_text}
 use Rattle.cni_addr.specs.declared.address.Addr.{Addr}
-use Rattle.cni_json.specs.Fields.{bool_field, text_field, u64_field, member_or, needed}
+use Rattle.cni_json.specs.Fields.{bool_field, text_field, u64_field, member_or, needed, tested}
 use Rattle.cni_json.specs.Outcome.{◌>>=◌}
 use Rattle.cni_json.specs.declared.fields.Field.{Field}
 use Rattle.net_conf.specs.Refusals.{invalid}
@@ -20,18 +20,14 @@ is_null d = is_some (as_null d)
 abbrev pub with_default : {A B : Type 0} → List ℕ → B → (A → Result B ConfError) → Field A → Result B ConfError
 with_default blamed default read f = member_or (Ok default) (invalid blamed) read f
 
--- a value that passes the test; else this key or part is to blame
-abbrev pub tested : {A : Type 0} → List ℕ → (A → Bool) → A → Result A ConfError
-tested blamed test x = if test x then Ok x else invalid blamed
-
--- a value that was found and passes the test
+-- a value that was found and passes the test; else this key or part is to blame
 abbrev pub passing : {A : Type 0} → List ℕ → (A → Bool) → Option A → Result A ConfError
 passing blamed test None = invalid blamed
-passing blamed test (Some x) = tested blamed test x
+passing blamed test (Some x) = tested (invalid blamed) test x
 
 -- a text that must be there and pass the test
 abbrev pub needed_text : List ℕ → (List ℕ → Bool) → Field (List ℕ) → Result (List ℕ) ConfError
-needed_text key test f = needed (invalid key) (tested key test) f
+needed_text key test f = needed (invalid key) (tested (invalid key) test) f
 
 -- what was read, its value under f
 abbrev pub ok_map : {A B : Type 0} → (A → B) → Result A ConfError → Result B ConfError
