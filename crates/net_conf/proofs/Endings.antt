@@ -1,7 +1,7 @@
 -- What is read of lists whose items pass a test first, how many are read, what passes a test itself, and what holds of
--- a value that may be given.
+-- a value or its default.
 use Rattle.std.proofs.Common.{◌≡◌, ℕ, suc, List, [], ◌∷◌, length, Bool, true, Option, Some, None, Result, Ok, Err, refl, sym, ap, ◌∙◌, subst}
-use Rattle.std.specs.Prelude.{All, unwrap_or}
+use Rattle.std.specs.Prelude.{All, IfSome, unwrap_or}
 use Rattle.std.proofs.lemmas.Bool.{and_parts}
 use Rattle.std.proofs.lemmas.List.Elements.{All-nil, All-cons}
 use Rattle.serde_json.specs.Data.{Data, Items, no_items, item}
@@ -45,20 +45,10 @@ needed_text-ok key test Absent text is = cc
 needed_text-ok key test WrongKind text is = cc
 needed_text-ok key test (Here found) text is = (passing-ok key test (Some found) text is).0
 
--- what holds of the value, if one is given
-abbrev pub IfGiven : {A : Type 0} → (A → Type 0) → Option A → Type 0
-IfGiven {A = A} P o = (x : A) → o ≡ Some x → P x
-
-pub none_given : {A : Type 0} (P : A → Type 0) → IfGiven P None
-none_given P x same = cc
-
-pub some_given : {A : Type 0} (P : A → Type 0) (x : A) → P x → IfGiven P (Some x)
-some_given P x holds y same = let this : x ≡ y = cc in subst P this holds
-
 -- what holds of the default holds of the value or the default
-pub or_default : {A : Type 0} (P : A → Type 0) (given : Option A) (default : A) → IfGiven P given → P default → P (unwrap_or given default)
+pub or_default : {A : Type 0} (P : A → Type 0) (given : Option A) (default : A) → IfSome given P → P default → P (unwrap_or given default)
 or_default P None default kept holds = holds
-or_default P (Some x) default kept holds = kept x refl
+or_default P (Some x) default kept holds = kept
 
 -- what was read under f is f of what was read
 pub mapped : {A B : Type 0} (f : A → B) (r : Result A ConfError) (b : B) → ok_map f r ≡ Ok b → Goes r (λ x. Ok (f x)) b

@@ -19,7 +19,7 @@ use Rattle.net_conf.proofs.TuningFacts.{by_outcome, given_mtu_at-ok, tuning_at-o
 use Rattle.cni_result.specs.Dns.{dns_of_object}
 use Rattle.net_conf.specs.Bridge.{bridge_rows, bridge_name_of, bridge_name_at, gateway_role_at, mode_flags_at, is_one_mode, not_both, modes_at, bridge_at}
 use Rattle.net_conf.specs.Firewall.{firewall_at}
-use Rattle.net_conf.specs.Ipam.{manager_at, host_local_at, is_empty, ipam_of, ipam_at, addressing_at}
+use Rattle.net_conf.specs.Ipam.{manager_at, host_local_at, is_empty, read_ipam_of, ipam_at, addressing_at}
 use Rattle.net_conf.specs.Macvlan.{macvlan_rows, master_at, mode_at, macvlan_at}
 use Rattle.net_conf.specs.Members.{flag_at, default_mtu, given_mtu_at, mtu_at, ok_map}
 use Rattle.net_conf.specs.Names.{is_interface_name}
@@ -80,9 +80,9 @@ host_local_or_none-ok d found is =
     let conf = mapped _ (host_local_at d) found same in
     subst IsWellFormedIpam (ok_same conf.rest) (host_local_at-ok d conf.value conf.first))
 
-ipam_of-ok : (o : Option Data) (found : Option HostLocalConf) → ipam_of o ≡ Ok found → IsWellFormedIpam found
-ipam_of-ok None found is = subst IsWellFormedIpam (ok_same is) tt
-ipam_of-ok (Some d) found is = host_local_or_none-ok d found is
+read_ipam_of-ok : (o : Option Data) (found : Option HostLocalConf) → read_ipam_of o ≡ Ok found → IsWellFormedIpam found
+read_ipam_of-ok None found is = subst IsWellFormedIpam (ok_same is) tt
+read_ipam_of-ok (Some d) found is = host_local_or_none-ok d found is
 
 abbrev HasIpam : Addressing → Type 0
 HasIpam addressing = IsWellFormedIpam addressing.ipam
@@ -92,7 +92,7 @@ unfolding addressing_at ipam_at
 addressing_at-ok d found is =
     let dns = goes (dns_of_object (refusal.Invalid (codes "dns")) d) _ found is in
     let ipam = goes (ipam_at d) _ found dns.rest in
-    subst HasIpam (ok_same ipam.rest) (ipam_of-ok (member_at (codes "ipam") d) ipam.value ipam.first)
+    subst HasIpam (ok_same ipam.rest) (read_ipam_of-ok (member_at (codes "ipam") d) ipam.value ipam.first)
 
 -- ---- the first plugin
 

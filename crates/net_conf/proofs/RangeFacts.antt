@@ -1,19 +1,20 @@
 -- What a range keeps that is read.
 use Rattle.std.proofs.Common.{◌≡◌, ℕ, ◌<◌, Bool, true, List, codes, Option, Some, Ok, refl, sym, ◌∙◌, subst, arith}
+use Rattle.std.specs.Prelude.{IfSome}
 use Rattle.std.proofs.lemmas.Bool.{eq-eqb}
 use Rattle.serde_json.specs.Data.{Data}
 use Rattle.cni_json.specs.declared.fields.Field.{Field}
 use Rattle.cni_json.specs.declared.fields.Field.TheVariants.{Absent, WrongKind, Here}
 use Rattle.cni_addr.proofs.AddrTexts.{read_is_spelled}
 use Rattle.cni_addr.proofs.CidrTexts.{network_read_is_spelled, spelled_is_cidr}
-use Rattle.cni_addr.proofs.Networks.{contains_between, family_eq-true, IsAddr-last_of}
+use Rattle.cni_addr.proofs.Networks.{contains_between, family_eq-true, last_family, IsAddr-last_of}
 use Rattle.cni_addr.specs.declared.range.Range.{Range}
 use Rattle.cni_addr.specs.AddrText.{addr_of_text}
 use Rattle.cni_addr.specs.CidrText.{cidr_of_text}
 use Rattle.cni_addr.specs.Network.{IsCidr, network_of, last_of, contains}
 use Rattle.cni_addr.specs.Value.{AddrValue, CidrValue, IsAddr, bits_below}
 use Rattle.cni_json.proofs.Endings.{goes, ok_same, passed}
-use Rattle.net_conf.proofs.Endings.{mapped, passing-ok, IfGiven, none_given, some_given, or_default}
+use Rattle.net_conf.proofs.Endings.{mapped, passing-ok, or_default}
 use Rattle.net_conf.proofs.RangeLemmas.{subnet_room}
 use Rattle.net_conf.specs.Members.{passing, addr_if_of, addr_if_at}
 use Rattle.net_conf.specs.Ranges.{is_subnet, subnet_of, subnet_at, addr_or_at, first_host, last_host, is_in_order, in_order, is_address_of, range_at}
@@ -29,16 +30,12 @@ read_is_addr text a read = (read_is_spelled text a read).fits
 
 -- ---- addresses of a network
 
-last_family : (c : CidrValue) → (last_of c).family ≡ c.addr.family
-unfolding last_of
-last_family c = refl
-
 -- an address of a network fits its family
 pub contained_is_addr : (c : CidrValue) (a : AddrValue) → IsCidr c → contains c a ≡ true → IsAddr a
 contained_is_addr c a kept inside =
     let between = (contains_between c a).0 inside in
     let last = IsAddr-last_of c kept in
-    let same : (last_of c).family ≡ a.family = last_family c ∙ between.0 in
+    let same : (last_of c).family ≡ a.family = sym (last_family c) ∙ between.0 in
     record {
       within = subst (λ f. a.bits < bits_below f) same (let below = last.within in omega arith);
       built = sym same ∙ last.built;
@@ -81,15 +78,15 @@ subnet_at-ok d c is = subnet_of-ok _ c is
 abbrev IsRead : (AddrValue → Bool) → AddrValue → Type 0
 IsRead test a = IsAddr a × (test a ≡ true)
 
-addr_if_of-ok : (blamed : List ℕ) (test : AddrValue → Bool) (f : Field (List ℕ)) (found : Option AddrValue) → addr_if_of blamed test f ≡ Ok found → IfGiven (IsRead test) found
-addr_if_of-ok blamed test Absent found is = subst (IfGiven (IsRead test)) (ok_same is) (none_given (IsRead test))
+addr_if_of-ok : (blamed : List ℕ) (test : AddrValue → Bool) (f : Field (List ℕ)) (found : Option AddrValue) → addr_if_of blamed test f ≡ Ok found → IfSome found (IsRead test)
+addr_if_of-ok blamed test Absent found is = subst (λ o. IfSome o (IsRead test)) (ok_same is) tt
 addr_if_of-ok blamed test WrongKind found is = cc
 addr_if_of-ok blamed test (Here text) found is =
     let read = mapped _ (passing blamed test (addr_of_text text)) found is in
     let kept = passing-ok blamed test (addr_of_text text) read.value read.first in
-    subst (IfGiven (IsRead test)) (ok_same read.rest) (some_given (IsRead test) read.value (read_is_addr text read.value kept.1, kept.0))
+    subst (λ o. IfSome o (IsRead test)) (ok_same read.rest) (read_is_addr text read.value kept.1, kept.0)
 
-pub addr_if_at-ok : (blamed key : List ℕ) (test : AddrValue → Bool) (d : Data) (found : Option AddrValue) → addr_if_at blamed key test d ≡ Ok found → IfGiven (IsRead test) found
+pub addr_if_at-ok : (blamed key : List ℕ) (test : AddrValue → Bool) (d : Data) (found : Option AddrValue) → addr_if_at blamed key test d ≡ Ok found → IfSome found (IsRead test)
 unfolding addr_if_at
 addr_if_at-ok blamed key test d found is = addr_if_of-ok blamed test _ found is
 

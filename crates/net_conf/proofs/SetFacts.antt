@@ -3,6 +3,7 @@ use Rattle.std.proofs.Common.{◌≡◌, ℕ, suc, ◌+◌, ◌<◌, Bool, true,
 use Rattle.std.specs.Prelude.{All, ok_or, option_map}
 use Rattle.std.specs.List.{list_all}
 use Rattle.std.proofs.lemmas.Bool.{and_parts}
+use Rattle.std.proofs.lemmas.Option.{IfSome_then}
 use Rattle.std.proofs.lemmas.List.Elements.{All-nil, All-cons, All-append}
 use Rattle.serde_json.specs.Data.{Data, null, boolean, number, string, array, object, Items, no_items, item}
 use Rattle.serde_json.specs.Events.{items_len}
@@ -22,7 +23,7 @@ use Rattle.cni_json.proofs.EachLemmas.{each_after-front}
 use Rattle.net_conf.proofs.RangeFacts.{addr_if_at-ok, range_at-ok, read_is_cidr}
 use Rattle.cni_json.specs.Each.{each, each_after, with_front}
 use Rattle.net_conf.specs.Ranges.{is_address_of, range_at}
-use Rattle.net_conf.specs.Routes.{destination_of, destination_at, route_at, routes_of, routes_at}
+use Rattle.net_conf.specs.Routes.{destination_of, destination_at, route_at, read_routes_of, routes_at}
 use Rattle.net_conf.specs.Sets.{set_of, is_set, all_items, is_of_one_family, ranges_of, has_subnet, listed_at, is_set_count, one_if, well_formed, own_sets_of, separate, sets_at}
 use Rattle.net_conf.specs.WellFormed.{IsWellFormedRange, IsWellFormedSet, IsWellFormedRoute}
 use Rattle.net_conf.specs.declared.error.ConfError.{ConfError}
@@ -131,13 +132,13 @@ route_at-ok d route is =
     let kept = destination_at-ok d dst.value dst.first in
     let hop = addr_if_at-ok _ _ (is_address_of dst.value.addr.family) d gw.value gw.first in
     subst IsWellFormedRoute (ok_same gw.rest)
-    (record { is_cidr = kept.0; no_host_bits = kept.1; hop_is_addr = λ a same. (hop a same).0; hop_family = λ a same. family_eq-true a.family dst.value.addr.family (hop a same).1 })
+    (record { is_cidr = kept.0; no_host_bits = kept.1; hop_is_addr = IfSome_then gw.value hop (λ a kept. kept.0); hop_family = IfSome_then gw.value hop (λ a kept. family_eq-true a.family dst.value.addr.family kept.1) })
 
-routes_of-ok : (f : Field Items) (routes : List RouteEntry) → routes_of f ≡ Ok routes → All IsWellFormedRoute routes
-routes_of-ok Absent routes is = subst (All IsWellFormedRoute) (ok_same is) (All-nil IsWellFormedRoute)
-routes_of-ok WrongKind routes is = cc
-routes_of-ok (Here ds) routes is = each_all route_at IsWellFormedRoute route_at-ok ds routes is
+read_routes_of-ok : (f : Field Items) (routes : List RouteEntry) → read_routes_of f ≡ Ok routes → All IsWellFormedRoute routes
+read_routes_of-ok Absent routes is = subst (All IsWellFormedRoute) (ok_same is) (All-nil IsWellFormedRoute)
+read_routes_of-ok WrongKind routes is = cc
+read_routes_of-ok (Here ds) routes is = each_all route_at IsWellFormedRoute route_at-ok ds routes is
 
 pub routes_at-ok : (d : Data) (routes : List RouteEntry) → routes_at d ≡ Ok routes → All IsWellFormedRoute routes
 unfolding routes_at
-routes_at-ok d routes is = routes_of-ok _ routes is
+routes_at-ok d routes is = read_routes_of-ok _ routes is

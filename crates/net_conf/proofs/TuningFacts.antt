@@ -1,6 +1,7 @@
 -- What the configuration of `tuning` keeps that is read.
 use Rattle.std.proofs.Common.{◌≡◌, ℕ, Bool, true, false, List, [], codes, Option, Some, None, Result, Ok, Less, nat_cmp, nat_eq, refl, sym, ap, ◌∙◌, subst}
-use Rattle.std.specs.Prelude.{All, not, map, if◌then◌else◌, ok_or, option_map}
+use Rattle.std.specs.Option.{ForSome}
+use Rattle.std.specs.Prelude.{All, IfSome, not, map, if◌then◌else◌, ok_or, option_map}
 use Rattle.std.specs.Cmp.Lexicographic.{slice_cmp}
 use Rattle.std.specs.List.Sorted.{IsStrictlySortedBy}
 use Rattle.std.specs.List.{AllByRecursion, IsDistinct}
@@ -22,9 +23,8 @@ use Rattle.cni_json.proofs.Ascending.{IsBelow, get-everywhere}
 use Rattle.cni_json.proofs.Endings.{goes, ok_same, passed}
 use Rattle.cni_json.proofs.WholeNumbers.{member_at-found, u32_of-fits}
 use Rattle.cni_json.specs.WellFormed.{keys, AreAscending, HasAscendingKeys, KeysAscend}
-use Rattle.net_conf.proofs.Endings.{IfGiven, none_given, some_given}
 use Rattle.net_conf.specs.Members.{is_null, flag_at, is_mtu, given_mtu_of, given_mtu_at}
-use Rattle.net_conf.specs.Tuning.{has_part, is_network_setting, setting_or_refused, setting_of, settings_of, sysctl_of, sysctl_at, new_mac_of, new_mac_at, queue_length_of, queue_length_at, tuning_at}
+use Rattle.net_conf.specs.Tuning.{has_part, is_network_setting, setting_or_refused, read_setting_of, settings_of, sysctl_of, sysctl_at, new_mac_of, new_mac_at, queue_length_of, queue_length_at, tuning_at}
 use Rattle.net_conf.specs.WellFormed.{IsMtu, IsNetworkSetting, IsWellFormedTuning}
 use Rattle.net_conf.specs.declared.chained.Sysctl.{Sysctl}
 use Rattle.net_conf.specs.declared.chained.TuningConf.{TuningConf}
@@ -46,13 +46,13 @@ setting_or_refused-ok key value setting is =
     (λ net same. by_outcome (has_part (codes "IFNAME") key) _ _ _ same (λ name refused. cc)
     (λ plain read. subst (IsSettingOf key) (ok_same read) (refl, not-false (is_network_setting key) net)))
 
-setting_of-ok : (key : List ℕ) (d : Data) (setting : Sysctl) → setting_of key d ≡ Ok setting → IsSettingOf key setting
-setting_of-ok key null setting is = cc
-setting_of-ok key (boolean b) setting is = cc
-setting_of-ok key (number n) setting is = cc
-setting_of-ok key (string value) setting is = setting_or_refused-ok key value setting is
-setting_of-ok key (array ds) setting is = cc
-setting_of-ok key (object ms) setting is = cc
+read_setting_of-ok : (key : List ℕ) (d : Data) (setting : Sysctl) → read_setting_of key d ≡ Ok setting → IsSettingOf key setting
+read_setting_of-ok key null setting is = cc
+read_setting_of-ok key (boolean b) setting is = cc
+read_setting_of-ok key (number n) setting is = cc
+read_setting_of-ok key (string value) setting is = setting_or_refused-ok key value setting is
+read_setting_of-ok key (array ds) setting is = cc
+read_setting_of-ok key (object ms) setting is = cc
 
 abbrev setting_keys : List Sysctl → List (List ℕ)
 setting_keys settings = map (λ setting. setting.key) settings
@@ -73,9 +73,9 @@ below_settings : (k : List ℕ) (ms : Members) (settings : List Sysctl) → IsBe
 below_settings k no_members settings below is = subst (λ found. AllByRecursion (Differs k) (setting_keys found)) (ok_same is) tt
 below_settings k (member l d ms) settings below is =
     by_outcome (is_null d) _ _ _ is (λ null same. below_settings k ms settings below.1 same) (λ there same.
-    let one = goes (setting_of l d) _ settings same in
+    let one = goes (read_setting_of l d) _ settings same in
     let more = goes (settings_of ms) _ settings one.rest in
-    let key = (setting_of-ok l d one.value one.first).0 in
+    let key = (read_setting_of-ok l d one.value one.first).0 in
     let here : Differs k one.value.key = subst (Differs k) (sym key) (below_differs k l below.0) in
     subst (λ found. AllByRecursion (Differs k) (setting_keys found)) (ok_same more.rest) (here, below_settings k ms more.value below.1 more.first))
 
@@ -84,9 +84,9 @@ unfolding IsDistinct IsStrictlySortedBy
 settings_of-ok no_members settings order is = subst AreSettings (ok_same is) (record { network = All-nil IsNetworkSetting; once = tt })
 settings_of-ok (member k d ms) settings order is =
     by_outcome (is_null d) _ _ _ is (λ null same. settings_of-ok ms settings order.1 same) (λ there same.
-    let one = goes (setting_of k d) _ settings same in
+    let one = goes (read_setting_of k d) _ settings same in
     let more = goes (settings_of ms) _ settings one.rest in
-    let setting = setting_of-ok k d one.value one.first in
+    let setting = read_setting_of-ok k d one.value one.first in
     let others = settings_of-ok ms more.value order.1 more.first in
     let differs : AllByRecursion (Differs one.value.key) (setting_keys more.value) = subst (λ l. AllByRecursion (Differs l) (setting_keys more.value)) (sym setting.0) (below_settings k ms more.value order.0 more.first) in
     subst AreSettings (ok_same more.rest) (record {
@@ -110,43 +110,43 @@ sysctl_at-ok d settings order is = sysctl_of-ok (member_at (codes "sysctl") d) s
 
 -- ---- numbers
 
-mac_or-ok : (o : Option Mac) (e : ConfError) (found : Option Mac) → IfGiven IsMac o → ok_or (option_map Some o) e ≡ Ok found → IfGiven IsMac found
+mac_or-ok : (o : Option Mac) (e : ConfError) (found : Option Mac) → ForSome o IsMac → ok_or (option_map Some o) e ≡ Ok found → IfSome found IsMac
 mac_or-ok None e found kept is = cc
-mac_or-ok (Some v) e found kept is = subst (IfGiven IsMac) (ok_same is) kept
+mac_or-ok (Some v) e found kept is = subst (λ o. IfSome o IsMac) (ok_same is) (kept v refl)
 
-new_mac_of-ok : (f : Field (List ℕ)) (found : Option Mac) → new_mac_of f ≡ Ok found → IfGiven IsMac found
-new_mac_of-ok Absent found is = subst (IfGiven IsMac) (ok_same is) (none_given IsMac)
+new_mac_of-ok : (f : Field (List ℕ)) (found : Option Mac) → new_mac_of f ≡ Ok found → IfSome found IsMac
+new_mac_of-ok Absent found is = subst (λ o. IfSome o IsMac) (ok_same is) tt
 new_mac_of-ok WrongKind found is = cc
 new_mac_of-ok (Here text) found is =
     by_outcome (bytes_eq text []) _ _ _ is
-    (λ empty same. subst (IfGiven IsMac) (ok_same same) (none_given IsMac))
+    (λ empty same. subst (λ o. IfSome o IsMac) (ok_same same) tt)
     (λ some same. mac_or-ok (mac_of_text text) _ found (λ mac read. (mac_read_is_spelled text mac read).fits) same)
 
-new_mac_at-ok : (d : Data) (found : Option Mac) → new_mac_at d ≡ Ok found → IfGiven IsMac found
+new_mac_at-ok : (d : Data) (found : Option Mac) → new_mac_at d ≡ Ok found → IfSome found IsMac
 unfolding new_mac_at
 new_mac_at-ok d found is = new_mac_of-ok _ found is
 
-given_mtu_of-ok : (f : Field ℕ) (found : Option ℕ) → given_mtu_of f ≡ Ok found → IfGiven IsMtu found
-given_mtu_of-ok Absent found is = subst (IfGiven IsMtu) (ok_same is) (none_given IsMtu)
+given_mtu_of-ok : (f : Field ℕ) (found : Option ℕ) → given_mtu_of f ≡ Ok found → IfSome found IsMtu
+given_mtu_of-ok Absent found is = subst (λ o. IfSome o IsMtu) (ok_same is) tt
 given_mtu_of-ok WrongKind found is = cc
 given_mtu_of-ok (Here n) found is =
     by_outcome (nat_eq n 0) _ _ _ is
-    (λ zero same. subst (IfGiven IsMtu) (ok_same same) (none_given IsMtu))
-    (λ some same. let test = passed (is_mtu n) (Some n) found _ same in subst (IfGiven IsMtu) test.1 (some_given IsMtu n test.0))
+    (λ zero same. subst (λ o. IfSome o IsMtu) (ok_same same) tt)
+    (λ some same. let test = passed (is_mtu n) (Some n) found _ same in subst (λ o. IfSome o IsMtu) test.1 test.0)
 
-pub given_mtu_at-ok : (d : Data) (found : Option ℕ) → given_mtu_at d ≡ Ok found → IfGiven IsMtu found
+pub given_mtu_at-ok : (d : Data) (found : Option ℕ) → given_mtu_at d ≡ Ok found → IfSome found IsMtu
 unfolding given_mtu_at
 given_mtu_at-ok d found is = given_mtu_of-ok (u64_field (codes "mtu") d) found is
 
 abbrev HasWord : ℕ → Type 0
 HasWord n = has_32_bits n ≡ true
 
-queue_length_of-ok : (f : Field ℕ) (found : Option ℕ) → ((n : ℕ) → f ≡ Here n → HasWord n) → queue_length_of f ≡ Ok found → IfGiven HasWord found
-queue_length_of-ok Absent found fits is = subst (IfGiven HasWord) (ok_same is) (none_given HasWord)
+queue_length_of-ok : (f : Field ℕ) (found : Option ℕ) → ((n : ℕ) → f ≡ Here n → HasWord n) → queue_length_of f ≡ Ok found → IfSome found HasWord
+queue_length_of-ok Absent found fits is = subst (λ o. IfSome o HasWord) (ok_same is) tt
 queue_length_of-ok WrongKind found fits is = cc
-queue_length_of-ok (Here n) found fits is = subst (IfGiven HasWord) (ok_same is) (some_given HasWord n (fits n refl))
+queue_length_of-ok (Here n) found fits is = subst (λ o. IfSome o HasWord) (ok_same is) (fits n refl)
 
-queue_length_at-ok : (d : Data) (found : Option ℕ) → queue_length_at d ≡ Ok found → IfGiven HasWord found
+queue_length_at-ok : (d : Data) (found : Option ℕ) → queue_length_at d ≡ Ok found → IfSome found HasWord
 unfolding queue_length_at
 queue_length_at-ok d found is = queue_length_of-ok (u32_field (codes "txQLen") d) found (u32_of-fits (get (codes "txQLen") d)) is
 

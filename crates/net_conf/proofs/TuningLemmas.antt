@@ -6,7 +6,7 @@ use Rattle.serde_json.specs.Data.{Data, Members, member}
 use Rattle.cni_json.proofs.EachLemmas.{with_front-more}
 use Rattle.cni_json.specs.Each.{with_front}
 use Rattle.net_conf.specs.Members.{is_null}
-use Rattle.net_conf.specs.Tuning.{has_part, settings_of, setting_of}
+use Rattle.net_conf.specs.Tuning.{has_part, settings_of, read_setting_of}
 use Rattle.net_conf.specs.declared.chained.Sysctl.{Sysctl}
 
 has_part-suc : (part text : List ℕ) (i : ℕ) → i < length text → has_part part (drop i text) ≡ (starts_with nat_eq (drop i text) part || has_part part (drop (suc i) text))
@@ -21,7 +21,7 @@ has_part-drop part text i within = rw add-one (has_part-suc part text i within)
 pub ruleset parts = (has_part-drop, take_rest)
 
 -- a setting that is read joins those that were found
-pub settings-found : (front : List Sysctl) (s : Sysctl) (key : List ℕ) (d : Data) (ms : Members) → is_null d ≡ false → setting_of key d ≡ Ok s
+pub settings-found : (front : List Sysctl) (s : Sysctl) (key : List ℕ) (d : Data) (ms : Members) → is_null d ≡ false → read_setting_of key d ≡ Ok s
     → with_front front (settings_of (member key d ms)) ≡ with_front (front ++ s ∷ []) (settings_of ms)
 settings-found front s key d ms there read = rw (there, read) (sym (with_front-more front s (settings_of ms)))
 

@@ -49,13 +49,13 @@ is_empty (object ms) = all_null ms
 is_empty d = false
 
 -- an absent object, and one in which nothing but null stands, ask for no address
-abbrev pub ipam_of : Option Data → Result (Option HostLocalConf) ConfError
-ipam_of None = Ok None
-ipam_of (Some d) = if is_empty d then Ok None else ok_map Some (host_local_at d)
+abbrev pub read_ipam_of : Option Data → Result (Option HostLocalConf) ConfError
+read_ipam_of None = Ok None
+read_ipam_of (Some d) = if is_empty d then Ok None else ok_map Some (host_local_at d)
 
 -- the `ipam` of a plugin's object
 unfoldable pub ipam_at : Data → Result (Option HostLocalConf) ConfError
-ipam_at d = ipam_of (member_at (codes "ipam") d)
+ipam_at d = read_ipam_of (member_at (codes "ipam") d)
 
 -- the members that each plugin which makes an interface has last
 unfoldable pub addressing_at : Data → Result Addressing ConfError

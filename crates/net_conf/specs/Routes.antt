@@ -39,9 +39,9 @@ route_at d = do
   gw ← hop_at dst.addr.family d
   Ok (record { dst = dst; gw = gw })
 
-abbrev pub routes_of : Field Items → Result (List RouteEntry) ConfError
-routes_of f = list_or wrong_routes route_at f
+abbrev pub read_routes_of : Field Items → Result (List RouteEntry) ConfError
+read_routes_of f = list_or wrong_routes route_at f
 
 -- the routes, none where there is no list
 unfoldable pub routes_at : Data → Result (List RouteEntry) ConfError
-routes_at d = routes_of (list_field (codes "routes") d)
+routes_at d = read_routes_of (list_field (codes "routes") d)

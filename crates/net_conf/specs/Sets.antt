@@ -10,11 +10,10 @@ use Rattle.cni_json.specs.declared.fields.Field.{Field}
 use Rattle.cni_addr.specs.declared.address.Family.{Family}
 use Rattle.cni_addr.specs.declared.range.Range.{Range}
 use Rattle.cni_addr.specs.declared.range.RangeSet.{RangeSet}
-use Rattle.cni_addr.specs.Codes.{family_eq}
 use Rattle.ip_pool.specs.Pool.{are_apart}
 use Rattle.cni_json.specs.Each.{each, each_after}
 use Rattle.net_conf.specs.Members.{with_default}
-use Rattle.net_conf.specs.Ranges.{range_at}
+use Rattle.net_conf.specs.Ranges.{is_address_of, range_at}
 use Rattle.net_conf.specs.Refusals.{invalid}
 use Rattle.net_conf.specs.declared.error.ConfError.{ConfError}
 
@@ -42,7 +41,7 @@ is_set (array (item d ds)) = all_items is_object (item d ds)
 is_set d = false
 
 abbrev pub is_range_of : Family → Range → Bool
-is_range_of family r = family_eq r.subnet.addr.family family
+is_range_of family r = is_address_of family r.subnet.addr
 
 -- each range has the family of the first
 abbrev pub have_one_family : List Range → Bool
@@ -79,7 +78,6 @@ most_sets = 65536
 abbrev pub is_set_count : ℕ → Bool
 is_set_count n = nat_le 1 n && nat_le n most_sets
 
--- as a number
 abbrev pub one_if : Bool → ℕ
 one_if true = 1
 one_if false = 0

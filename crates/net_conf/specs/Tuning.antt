@@ -32,15 +32,15 @@ setting_or_refused key value =
     else if has_part (codes "IFNAME") key then Err (refusal.Unsupported key (compact_text (string value)))
     else Ok (record { key = key; value = value })
 
-abbrev pub setting_of : List ℕ → Data → Result Sysctl ConfError
-setting_of key (string value) = setting_or_refused key value
-setting_of key d = invalid (codes "sysctl")
+abbrev pub read_setting_of : List ℕ → Data → Result Sysctl ConfError
+read_setting_of key (string value) = setting_or_refused key value
+read_setting_of key d = invalid (codes "sysctl")
 
 -- the settings in the order of their keys; a member that is null is as an absent one
 abbrev pub settings_of : Members → Result (List Sysctl) ConfError
 settings_of no_members = Ok []
 settings_of (member key d ms) = if is_null d then settings_of ms else (do
-  first ← setting_of key d
+  first ← read_setting_of key d
   rest ← settings_of ms
   Ok (first ∷ rest))
 

@@ -1,9 +1,7 @@
 -- What every network list that is read keeps.
-use Rattle.std.specs.Prelude.{◌≡◌, ℕ, ◌<◌, length, IsTrue, All, Option, Some, None, map, ⊤}
+use Rattle.std.specs.Prelude.{◌≡◌, ℕ, ◌<◌, length, IsTrue, All, Option, IfSome, map, ⊤}
 use Rattle.std.specs.List.{IsDistinct}
 use Rattle.std.specs.Str.{bytes_eq}
-use Rattle.cni_addr.specs.declared.address.Addr.{Addr}
-use Rattle.cni_addr.specs.declared.mac.Mac.{Mac}
 use Rattle.cni_addr.specs.declared.range.Range.{Range}
 use Rattle.cni_addr.specs.declared.range.RangeSet.{RangeSet}
 use Rattle.cni_addr.specs.MacText.{IsMac}
@@ -56,8 +54,8 @@ pub record IsWellFormedSet (set : RangeSet) : Type 0 where
 pub record IsWellFormedRoute (route : RouteEntry) : Type 0 where
   pub is_cidr : IsCidr route.dst
   pub no_host_bits : network_of route.dst ≡ route.dst
-  pub hop_is_addr : (gw : Addr) → route.gw ≡ Some gw → IsAddr gw
-  pub hop_family : (gw : Addr) → route.gw ≡ Some gw → gw.family ≡ route.dst.addr.family
+  pub hop_is_addr : IfSome route.gw IsAddr
+  pub hop_family : IfSome route.gw (λ gw. gw.family ≡ route.dst.addr.family)
 
 -- there are sets, not too many, and no two ranges of any two sets share an address
 pub record IsWellFormedHostLocal (conf : HostLocalConf) : Type 0 where
@@ -67,8 +65,7 @@ pub record IsWellFormedHostLocal (conf : HostLocalConf) : Type 0 where
   pub routes : All IsWellFormedRoute conf.routes
 
 abbrev pub IsWellFormedIpam : Option HostLocalConf → Type 0
-IsWellFormedIpam None = ⊤
-IsWellFormedIpam (Some conf) = IsWellFormedHostLocal conf
+IsWellFormedIpam ipam = IfSome ipam IsWellFormedHostLocal
 
 -- ---- plugins
 
@@ -103,9 +100,9 @@ IsNetworkSetting setting = IsTrue (is_network_setting setting.key)
 pub record IsWellFormedTuning (conf : TuningConf) : Type 0 where
   pub settings : All IsNetworkSetting conf.sysctl
   pub keys_once : IsDistinct bytes_eq (map (λ setting. setting.key) conf.sysctl)
-  pub mac : (mac : Mac) → conf.mac ≡ Some mac → IsMac mac
-  pub mtu : (n : ℕ) → conf.mtu ≡ Some n → IsMtu n
-  pub queue_length : (n : ℕ) → conf.tx_qlen ≡ Some n → IsTrue (has_32_bits n)
+  pub mac : IfSome conf.mac IsMac
+  pub mtu : IfSome conf.mtu IsMtu
+  pub queue_length : IfSome conf.tx_qlen (λ n. IsTrue (has_32_bits n))
 
 abbrev pub IsWellFormedChained : Chained → Type 0
 IsWellFormedChained (later.Portmap conf) = ⊤

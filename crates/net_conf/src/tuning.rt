@@ -61,7 +61,7 @@ fn settings(alloc: Global, members: &Map<String, Value>) -> Result<Items<Sysctl>
 
 #[tactic(auto, using(cni_json::proofs::Steps::steps))]
 fn setting(alloc: Global, key: &str, member: &Value) -> Result<Sysctl, ConfError>
-    ensures { GivesAs is_want_of_memory (λ setting. setting) result (wanted.setting_of key.now (view member.now)) }
+    ensures { GivesAs is_want_of_memory (λ setting. setting) result (wanted.read_setting_of key.now (view member.now)) }
 {
     match member {
         Value::String(text) => {
