@@ -1,6 +1,6 @@
 -- What the rounds of a pod file keep that are read.
 use Rattle.std.proofs.Common.{◌≡◌, ℕ, zero, suc, ◌+◌, ◌≤◌, Bool, true, false, not, List, [], ◌∷◌, ◌++◌, length, codes, Option, Some, None, Ok, Err, refl, sym, ap, ap₂, ◌∙◌, subst, arith}
-use Rattle.std.specs.Prelude.{◌||◌, if◌then◌else◌, nat_le, is_some, All, scan, slice_get, ok_or, option_map}
+use Rattle.std.specs.Prelude.{◌||◌, if◌then◌else◌, nat_le, is_some, IfSome, All, scan, slice_get, ok_or, option_map}
 use Rattle.std.specs.List.{list_any}
 use Rattle.std.proofs.lemmas.Bool.Decides.{nat_tests}
 use Rattle.std.proofs.lemmas.List.{length-append}
@@ -50,15 +50,12 @@ table_at-ok place verb d table is = table_of-ok place verb (text_field (codes "t
 
 -- a number of 32 bits, if any
 abbrev IsStop : Option ℕ → Type 0
-IsStop stop = (n : ℕ) → stop ≡ Some n → has_32_bits n ≡ true
-
-some_stop : (n : ℕ) → has_32_bits n ≡ true → IsStop (Some n)
-some_stop n fits m same = let e : n ≡ m = cc in subst (λ k. has_32_bits k ≡ true) e fits
+IsStop stop = IfSome stop (λ n. has_32_bits n ≡ true)
 
 stop_of-ok : (place : CommandPlace) (f : Field ℕ) (stop : Option ℕ) → ((n : ℕ) → f ≡ Here n → has_32_bits n ≡ true) → stop_of place f ≡ Ok stop → IsStop stop
-stop_of-ok place Absent stop fits is = subst IsStop (ok_same is) (λ n same. cc)
+stop_of-ok place Absent stop fits is = subst IsStop (ok_same is) tt
 stop_of-ok place WrongKind stop fits is = cc
-stop_of-ok place (Here n) stop fits is = subst IsStop (ok_same is) (some_stop n (fits n refl))
+stop_of-ok place (Here n) stop fits is = subst IsStop (ok_same is) (fits n refl)
 
 stop_at-ok : (place : CommandPlace) (d : Data) (stop : Option ℕ) → stop_at place d ≡ Ok stop → IsStop stop
 unfolding stop_at

@@ -3,7 +3,7 @@ use Rattle.std.specs.Prelude.{ℕ, ◌&&◌, List, [], codes, Bool, true, false,
 use Rattle.std.specs.Str.{bytes_eq}
 use Rattle.serde_json.specs.Data.{Data}
 use Rattle.cni_json.specs.Outcome.{◌>>=◌}
-use Rattle.cni_json.specs.Fields.{text_field, u32_field, u64_of, has_32_bits, member_or, object_or, needed}
+use Rattle.cni_json.specs.Fields.{text_field, u32_field, u64_of, has_32_bits, member_or, object_or, needed, tested}
 use Rattle.cni_json.specs.declared.fields.Field.{Field}
 use Rattle.kernel_types.specs.Texts.{table_named}
 use Rattle.kernel_types.specs.declared.rule.Table.{Table}
@@ -104,7 +104,7 @@ is_call_number n = nat_le 1 n && has_32_bits n
 
 abbrev pub fault_of : CommandPlace → Option ℕ → Result ℕ PodError
 fault_of place None = wrong_key place (codes "faults")
-fault_of place (Some n) = if is_call_number n then Ok n else wrong_key place (codes "faults")
+fault_of place (Some n) = tested (wrong_key place (codes "faults")) is_call_number n
 
 -- a call that fails
 abbrev pub fault_at : CommandPlace → Data → Result ℕ PodError

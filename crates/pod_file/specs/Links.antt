@@ -5,7 +5,7 @@ use Rattle.std.specs.Str.{bytes_eq}
 use Rattle.serde_json.specs.Data.{Data, Items}
 use Rattle.cni_json.specs.Each.{each_after}
 use Rattle.cni_json.specs.Outcome.{◌>>=◌}
-use Rattle.cni_json.specs.Fields.{text_field, list_field, u64_field, member_or, object_or, needed}
+use Rattle.cni_json.specs.Fields.{text_field, list_field, u64_field, member_or, object_or, needed, tested}
 use Rattle.cni_json.specs.declared.fields.Field.{Field}
 use Rattle.kernel_types.specs.Names.{link_mac_of}
 use Rattle.kernel_types.specs.Texts.{link_kind_text}
@@ -32,7 +32,7 @@ abbrev pub wrong_link : {A : Type 0} → ℕ → Result A PodError
 wrong_link index = wrong (member_path (codes "opening.links") index)
 
 abbrev pub interface_name : ℕ → List ℕ → Result (List ℕ) PodError
-interface_name index text = if is_interface_name text then Ok text else wrong_link index
+interface_name index text = tested (wrong_link index) is_interface_name text
 
 -- the link's name
 unfoldable pub name_at : ℕ → Data → Result (List ℕ) PodError
@@ -56,7 +56,7 @@ abbrev pub is_place : List (List ℕ) → List ℕ → Bool
 is_place names ns = is_host_ns ns || list_any (bytes_eq ns) names
 
 abbrev pub place_named : List (List ℕ) → ℕ → List ℕ → Result (List ℕ) PodError
-place_named names index text = if is_place names text then Ok text else wrong_link index
+place_named names index text = tested (wrong_link index) (is_place names) text
 
 abbrev pub ns_of : List (List ℕ) → ℕ → Field (List ℕ) → Result (List ℕ) PodError
 ns_of names index f = member_or (Ok []) (wrong_link index) (place_named names index) f
@@ -66,7 +66,7 @@ unfoldable pub ns_at : List (List ℕ) → ℕ → Data → Result (List ℕ) Po
 ns_at names index d = ns_of names index (text_field (codes "ns") d)
 
 abbrev pub mtu_of : ℕ → ℕ → Result ℕ PodError
-mtu_of index n = if is_mtu n then Ok n else wrong_link index
+mtu_of index n = tested (wrong_link index) is_mtu n
 
 -- the link's MTU
 unfoldable pub mtu_at : ℕ → Data → Result ℕ PodError

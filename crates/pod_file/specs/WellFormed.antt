@@ -1,5 +1,5 @@
 -- What every pod file that is read keeps.
-use Rattle.std.specs.Prelude.{◌≡◌, ℕ, ◌+◌, ◌≤◌, List, [], length, IsTrue, All, Some, is_some, slice_get}
+use Rattle.std.specs.Prelude.{◌≡◌, ℕ, ◌+◌, ◌≤◌, List, [], length, IsTrue, IfSome, All, Some, is_some, slice_get}
 use Rattle.cni_json.specs.Fields.{has_32_bits}
 use Rattle.kernel_types.specs.Equal.{tag_eq}
 use Rattle.kernel_types.specs.Sound.{AllPassTest, IsSound}
@@ -30,7 +30,7 @@ IsCallNumber n = IsTrue (is_call_number n)
 -- a verb that needs a table has one, and the numbers of calls are in their bounds
 pub record IsWellFormedCommand (command : Command) : Type 0 where
   pub table : IsTrue (needs_table command.verb) → IsTrue (is_some command.table)
-  pub stop : (n : ℕ) → command.stop ≡ Some n → IsTrue (has_32_bits n)
+  pub stop : IfSome command.stop (λ n. IsTrue (has_32_bits n))
   pub faults : All IsCallNumber command.faults
 
 -- a command that must stand alone is the only one

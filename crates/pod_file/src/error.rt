@@ -43,7 +43,7 @@ impl Refusal for PodError {
     ghost tells_want_of_memory = { λ n e is. Prim.search rules };
 }
 
-// The refusal of the place whose text was made, or of the want of memory that kept it from being made.
+/// The refusal of the place whose text was made, or of the want of memory that kept it from being made.
 fn shape(path: Result<Text, NoMemory>) -> PodError
     ensures made { IfOk path (λ text. result ≡ refusal.Shape text) }
     ensures not_made { IfErr path (λ _. result ≡ refusal.NoMemory) }
