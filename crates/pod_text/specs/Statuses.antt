@@ -5,9 +5,9 @@ use Rattle.cni_verbs.specs.declared.answer.Answer.{Answer}
 use Rattle.cni_verbs.specs.declared.answer.Answer.TheVariants.{Refused, OutOfMemory, Stopped}
 
 -- the command was refused memory
-abbrev pub is_memory : Option Answer → Bool
-is_memory (Some OutOfMemory) = true
-is_memory answer = false
+abbrev pub is_out_of_memory : Option Answer → Bool
+is_out_of_memory (Some OutOfMemory) = true
+is_out_of_memory answer = false
 
 -- the command was refused, or stopped before its end
 abbrev pub is_failure : Option Answer → Bool
@@ -17,4 +17,4 @@ is_failure answer = false
 
 -- 8 where memory was refused, else 1 where a command failed, else 0
 abbrev pub status_of : List (Option Answer) → ℕ
-status_of answers = if list_any is_memory answers then 8 else if list_any is_failure answers then 1 else 0
+status_of answers = if list_any is_out_of_memory answers then 8 else if list_any is_failure answers then 1 else 0

@@ -2,7 +2,7 @@
 
 ghost use Rattle.std.specs.Prelude.{◌≡◌};
 ghost use Rattle.std.specs.List.{list_any};
-ghost use Rattle.pod_text.specs.Statuses.{is_memory, is_failure, status_of};
+ghost use Rattle.pod_text.specs.Statuses.{is_out_of_memory, is_failure, status_of};
 
 use cni_verbs::Answer;
 use kernel_model::Kernel;
@@ -35,8 +35,8 @@ pub const NO_WORDS_STATUS: u8 = 7;
 /// Some command ran out of memory.
 pub const COMMAND_MEMORY_STATUS: u8 = 8;
 
-fn is_memory(answer: &Option<Answer>) -> bool
-    ensures { result ≡ is_memory answer.now }
+fn is_out_of_memory(answer: &Option<Answer>) -> bool
+    ensures { result ≡ is_out_of_memory answer.now }
 {
     matches!(answer, Some(Answer::OutOfMemory))
 }
@@ -48,9 +48,9 @@ fn is_failure(answer: &Option<Answer>) -> bool
 }
 
 fn any_memory(answers: &[Option<Answer>]) -> bool
-    ensures { result ≡ list_any is_memory answers.now }
+    ensures { result ≡ list_any is_out_of_memory answers.now }
 {
-    answers.iter().any(|answer| is_memory(answer))
+    answers.iter().any(|answer| is_out_of_memory(answer))
 }
 
 fn any_failure(answers: &[Option<Answer>]) -> bool

@@ -6,7 +6,7 @@ use Rattle.cni_io.specs.Faults.{Rose}
 use Rattle.cni_io.specs.Files.{StoredFiles}
 use Rattle.cni_verbs.specs.declared.answer.Answer.{Answer}
 use Rattle.cni_addr.specs.Lists.{IsAmong}
-use Rattle.pod_text.specs.Statuses.{is_failure, is_memory, status_of}
+use Rattle.pod_text.specs.Statuses.{is_failure, is_out_of_memory, status_of}
 use Rattle.pod_workers.specs.Order.{IsInFileOrder}
 use Rattle.pod_workers.specs.World.{World}
 use Rattle.pod_workers.specs.declared.plan.Plan.{Plan}
@@ -36,7 +36,7 @@ pub data Ended (r : Sides) (status : ℕ) (book : Option World) : Type 0 where
 -- ---- statuses of a text
 
 status_is : (answers : List (Option Answer)) → IsAmong (status_of answers) Printed
-status_is answers = go (list_any is_memory answers) (list_any is_failure answers)
+status_is answers = go (list_any is_out_of_memory answers) (list_any is_failure answers)
   where
     go : (m f : Bool) → IsAmong (cond m 8 (cond f 1 0)) Printed
     go true f = inr (inr (inl refl))
