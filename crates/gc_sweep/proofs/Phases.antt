@@ -1,6 +1,6 @@
 -- A run's state, by its list and its work.
 use Rattle.std.proofs.Common.{◌≡◌, ℕ, ◌+◌, Bool, true, false, List, [], ◌∷◌, length, Option, Some, None, refl, sym, ◌∙◌, ap, subst, arith}
-use Rattle.std.specs.Prelude.{option_map, ◌==◌}
+use Rattle.std.specs.Prelude.{◌==◌}
 use Rattle.std.proofs.lemmas.Bool.Decides.{nat_tests}
 use Rattle.std.proofs.lemmas.Option.{same_Some, none-some}
 use Rattle.cni_result.specs.declared.version.Version.{Version}
@@ -13,7 +13,7 @@ use Rattle.kernel_types.specs.declared.call.Kind.{Kind}
 use Rattle.kernel_types.specs.declared.call.Reply.{Reply}
 use Rattle.kernel_types.specs.Replies.{is_fault}
 use Rattle.cni_verbs.specs.Answers.{answer_of, error_of, plain_answer}
-use Rattle.cni_verbs.specs.Progress.{Progress, is_gc, advanced, answer_by, answer_in}
+use Rattle.cni_verbs.specs.Progress.{Progress, is_gc, advanced, answer_in}
 use Rattle.cni_verbs.specs.Script.{State, Collecting, IsOpen, collecting, early_ending, start_state, start_of, advance, next_call, call_of_work, finish_of, finish_of_work, gc_of, faults_after, has_no_work}
 use Rattle.cni_verbs.specs.Sweep.{Job, Sweep, Work, start_work, work_after}
 use Rattle.cni_verbs.specs.Wanted.{kinds_of}
@@ -122,20 +122,20 @@ unfolding finish_of
 finish_working w faults = refl
 
 pub answers_late : (list : NetList) (c : Command) (p : SweepPlace) (faults : List ℕ) (ks : List Kind) → ks ≡ kinds_of list → is_early list.version list.disable_gc ≡ false
-    → option_map (answer_by (Some list) c) (finish_of_work (jobs_left ks p) (sweeps_after ks p.stage) faults) ≡ answer_in (Some list) c (collecting list.version list.disable_gc (work_of (kinds_of list) p) faults)
+    → answer_in (Some list) c (Collecting (work_of ks p) faults) ≡ answer_in (Some list) c (collecting list.version list.disable_gc (work_of (kinds_of list) p) faults)
 answers_late list c p faults ks same h =
     let w = work_of (kinds_of list) p in
-    ap (λ k. option_map (answer_by (Some list) c) (finish_of_work (jobs_left k p) (sweeps_after k p.stage) faults)) same
-    ∙ ap (option_map (answer_by (Some list) c)) (sym (ap finish_of (late list.version list.disable_gc w faults h) ∙ finish_working w faults))
+    ap (λ k. answer_in (Some list) c (Collecting (work_of k p) faults)) same
+    ∙ ap (answer_in (Some list) c) (sym (late list.version list.disable_gc w faults h))
 
 no_length : (k : ℕ) (ks : List ℕ) → (length (k ∷ ks) == 0) ≡ true → ⊥
 no_length k ks h = let n : length (k ∷ ks) ≡ 0 = grind (arith, nat_tests, h) in omega arith
 
 abbrev answer_of_work : NetList → Command → List Job → List Sweep → List ℕ → Option Answer
-answer_of_work list c jobs sweeps faults = option_map (answer_by (Some list) c) (finish_of_work jobs sweeps faults)
+answer_of_work list c jobs sweeps faults = answer_in (Some list) c (Collecting (record { jobs = jobs; sweeps = sweeps }) faults)
 
 pub ends_clean : (list : NetList) (c : Command) (jobs : List Job) (sweeps : List Sweep) (faults : List ℕ) → has_no_work jobs sweeps ≡ true → (length faults == 0) ≡ true → Some Yes ≡ answer_of_work list c jobs sweeps faults
-unfolding answer_of
+unfolding finish_of answer_of
 ends_clean list c [] [] [] h clean = refl
 ends_clean list c [] [] (k ∷ faults) h clean = absurd (no_length k faults clean)
 ends_clean list c [] (s ∷ sweeps) faults h clean = cc
@@ -143,7 +143,7 @@ ends_clean list c (j ∷ jobs) sweeps faults h clean = cc
 
 pub ends_faulty : (list : NetList) (c : Command) (jobs : List Job) (sweeps : List Sweep) (faults : List ℕ) → has_no_work jobs sweeps ≡ true → (length faults == 0) ≡ false
     → Some (Refused (error_of list.version c (causes.Faults faults))) ≡ answer_of_work list c jobs sweeps faults
-unfolding answer_of
+unfolding finish_of answer_of
 ends_faulty list c [] [] [] h some = cc
 ends_faulty list c [] [] (k ∷ faults) h some = refl
 ends_faulty list c [] (s ∷ sweeps) faults h some = cc

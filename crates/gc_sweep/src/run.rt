@@ -1,12 +1,12 @@
 //! The run of a garbage collection, a call at a time.
 
-ghost use Rattle.std.specs.Prelude.{◌≡◌, ◌+◌, ◌<◌, ◌^◌, IfOk, OnOk, OnErr, IsOk, Some, None, [], false, true, option_map};
+ghost use Rattle.std.specs.Prelude.{◌≡◌, ◌+◌, ◌<◌, ◌^◌, IfOk, OnOk, OnErr, IsOk, Some, None, [], false, true};
 ghost use Rattle.std.specs.Bool.{FalseIff};
 ghost use Rattle.kernel_types.specs.Replies.{is_fault};
-ghost use Rattle.cni_verbs.specs.Progress.{is_gc, progress, advanced, answer_at, answer_by};
-ghost use Rattle.cni_verbs.specs.Script.{IsOpen, next_call, finish_of_work, faults_after};
+ghost use Rattle.cni_verbs.specs.Progress.{is_gc, progress, advanced, answer_at, answer_in};
+ghost use Rattle.cni_verbs.specs.Script.{Collecting, IsOpen, next_call, faults_after};
 ghost use Rattle.gc_sweep.specs.Sweep.{is_early};
-ghost use Rattle.gc_sweep.specs.View.{jobs_left, sweeps_after, IsPlace};
+ghost use Rattle.gc_sweep.specs.View.{work_of, IsPlace};
 
 use crate::place::{SweepPlace, next_call, take};
 use cni_addr::{Duplicate, Items, NoMemory};
@@ -135,6 +135,7 @@ fn is_early(list: &NetList) -> bool
 }
 
 /// The answer where no work is left.
+#[tactic(auto, unfolding(cni_verbs::specs::Script::finish_of))]
 fn work_answer(
     alloc: Global,
     list: &NetList,
@@ -144,8 +145,7 @@ fn work_answer(
     faults: &Items<u64>,
 ) -> Result<Option<Answer>, NoMemory>
     requires { IsPlace kinds.now place.now }
-    ensures { IfOk result (λ answer. answer ≡ option_map (answer_by (Some list.now) command.now)
-        (finish_of_work (jobs_left kinds.now place.now) (sweeps_after kinds.now place.now.stage) faults.now)) }
+    ensures { IfOk result (λ answer. answer ≡ answer_in (Some list.now) command.now (Collecting (work_of kinds.now place.now) faults.now)) }
 {
     if place.is_done() {
         if faults.as_slice().is_empty() {
