@@ -112,7 +112,7 @@ no-lead c es Added verb none h = h
 no-lead c es Yes verb none h = not-both c verb h.verb
 no-lead c es (Skipped skip) verb none h = h
 no-lead c es Versions verb none h = h
-no-lead c es (Refused cause) verb none h = let f = h.first in split_nil f.granted f.later f.by (sym none ∙ f.are)
+no-lead c es (Refused cause) verb none h = let f = h.first.refuses in split_nil f.past f.later h.first.by (sym none ∙ f.are)
 
 pub first-call : (list : NetList) (c : Command) (es : List Entry) (st : State) (s : Share) (call : Call) → c.verb ≡ verbs.Add → es ≡ [] → turn c st ≡ Calls call → Undoing list c es st s → call ≡ Begin (att_of c) c.netns
 unfolding turn
