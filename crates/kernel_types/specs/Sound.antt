@@ -57,7 +57,7 @@ link_fits_tag link Outside = is_shared_kind link.kind
 link_fits_tag link Base = is_shared_kind link.kind && is_host_ns link.ns
 link_fits_tag link (Own att) = is_owned_kind link.ns link.kind
 
--- the link at the peer's place names this one as its peer, has its tag, and one of the two is in the host
+-- the link at the peer's place names this one as its peer and has its tag
 abbrev pub peers_back : Link → LinkKey → Link → Bool
 peers_back link key peer = is_at key.ns key.name peer && is_peer_at link.ns link.name peer.peer && tag_eq peer.tag link.tag
 

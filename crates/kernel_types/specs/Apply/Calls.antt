@@ -306,11 +306,12 @@ abbrev pub ns_add_of : Host → List ℕ → Host × Reply
 ns_add_of host name =
     unless_there (has_named_ns host name) (Taken Outside) host (record host { namespaces = host.namespaces ++ outside_namespace name ∷ [] })
 
--- the links of a namespace, and their peers
+-- the peer stands in the namespace of this name
 abbrev pub has_peer_in : List ℕ → Option LinkKey → Bool
 has_peer_in name None = false
 has_peer_in name (Some key) = bytes_eq key.ns name
 
+-- the links that go with a namespace: those in it, and their peers
 abbrev pub goes_with_ns : List ℕ → Link → Bool
 goes_with_ns name link = bytes_eq link.ns name || has_peer_in name link.peer
 
