@@ -155,20 +155,6 @@ fn copy_pool_free(network: &Text, set: &RangeSet) -> Result<Call, NoMemory>
     Ok(Call::PoolFree { network, set })
 }
 
-fn copy_setting_set(setting: &Setting) -> Result<Call, NoMemory>
-    ensures { IfOk result (λ twin. twin ≡ calls.SettingSet setting.now) }
-{
-    let setting = setting.copy()?;
-    Ok(Call::SettingSet { setting })
-}
-
-fn copy_has_obj(probe: &Probe) -> Result<Call, NoMemory>
-    ensures { IfOk result (λ twin. twin ≡ calls.HasObj probe.now) }
-{
-    let probe = probe.copy()?;
-    Ok(Call::HasObj { probe })
-}
-
 fn copy_owners_of(network: &Text, kind: Kind) -> Result<Call, NoMemory>
     ensures { IfOk result (λ twin. twin ≡ calls.OwnersOf network.now kind) }
 {
@@ -181,13 +167,6 @@ fn copy_ns_change(name: &Text, add: bool) -> Result<Call, NoMemory>
 {
     let name = name.copy()?;
     Ok(Call::NsChange { name, add })
-}
-
-fn copy_outside(change: &Change) -> Result<Call, NoMemory>
-    ensures { IfOk result (λ twin. twin ≡ calls.Outside change.now) }
-{
-    let change = change.copy()?;
-    Ok(Call::Outside { change })
 }
 
 impl Duplicate for Call {
@@ -214,7 +193,9 @@ impl Duplicate for Call {
             Call::AddrAdd { obj } => Ok(Call::AddrAdd { obj: obj.copy()? }),
             Call::RouteAdd { obj } => Ok(Call::RouteAdd { obj: obj.copy()? }),
             Call::RuleAppend { rule } => Ok(Call::RuleAppend { rule: rule.copy()? }),
-            Call::SettingSet { setting } => copy_setting_set(setting),
+            Call::SettingSet { setting } => Ok(Call::SettingSet {
+                setting: setting.copy()?,
+            }),
             Call::LeaseNext { att, number, set } => copy_lease_next(att, *number, set),
             Call::CachePut { att, cached } => copy_cache_put(att, cached),
             Call::LinkDel { att } => Ok(Call::LinkDel { att: att.copy()? }),
@@ -222,12 +203,16 @@ impl Duplicate for Call {
             Call::SettingDel { att } => Ok(Call::SettingDel { att: att.copy()? }),
             Call::LeaseDel { att } => Ok(Call::LeaseDel { att: att.copy()? }),
             Call::CacheDel { att } => Ok(Call::CacheDel { att: att.copy()? }),
-            Call::HasObj { probe } => copy_has_obj(probe),
+            Call::HasObj { probe } => Ok(Call::HasObj {
+                probe: probe.copy()?,
+            }),
             Call::CacheGet { att } => Ok(Call::CacheGet { att: att.copy()? }),
             Call::OwnersOf { network, kind } => copy_owners_of(network, *kind),
             Call::PoolFree { network, set } => copy_pool_free(network, set),
             Call::NsChange { name, add } => copy_ns_change(name, *add),
-            Call::Outside { change } => copy_outside(change),
+            Call::Outside { change } => Ok(Call::Outside {
+                change: change.copy()?,
+            }),
         }
     }
 }
