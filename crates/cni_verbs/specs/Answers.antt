@@ -16,8 +16,8 @@ use Rattle.cni_result.specs.declared.version.Version.TheVariants.{V1_1}
 use Rattle.net_conf.specs.declared.list.NetList.{NetList}
 use Rattle.pod_file.specs.declared.command.Command.{Command}
 use Rattle.pod_file.specs.Commands.{verb_text}
-use Rattle.kernel_text.specs.Words.{chain_text}
-use Rattle.kernel_types.specs.Texts.{attachment_text, tag_text, table_text}
+use Rattle.kernel_text.specs.Words.{attachment_text, tag_text, chain_text}
+use Rattle.kernel_types.specs.Texts.{table_text}
 use Rattle.kernel_types.specs.Words.{is_host_ns}
 use Rattle.cni_verbs.specs.CommandWords.{att_of}
 use Rattle.cni_verbs.specs.ErrorKinds.{error_kind_code, error_kind_title, message_about, message_of_field}

@@ -7,8 +7,8 @@ use Rattle.cni_result.specs.Mappings.{proto_data, mapping_data}
 use Rattle.cni_result.specs.Members.{text_data, number_data, ◌▷◌, put_if, put_if_true, put_list_unless_empty}
 use Rattle.cni_result.specs.Results.{addr_data, cidr_data, mac_data, result_data}
 use Rattle.cni_addr.specs.Modes.{mode_text}
-use Rattle.kernel_types.specs.Texts.{tag_text, link_kind_text, table_text}
-use Rattle.kernel_text.specs.Words.{link_mode, chain_text, target_text}
+use Rattle.kernel_types.specs.Texts.{link_kind_text, table_text}
+use Rattle.kernel_text.specs.Words.{tag_text, link_mode, chain_text, target_text}
 use Rattle.kernel_types.specs.declared.object.AddrObj.{AddrObj}
 use Rattle.kernel_types.specs.declared.object.CachedObj.{CachedObj}
 use Rattle.kernel_types.specs.declared.object.Host.{Host}

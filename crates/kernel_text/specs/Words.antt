@@ -1,15 +1,28 @@
--- The mode of a link, and chains and targets as texts.
+-- Attachments, owners, chains and targets as texts, and the mode of a link.
 use Rattle.std.specs.Prelude.{ℕ, List, [], ◌∷◌, ◌++◌, codes, Option, Some, None, decimal}
 use Rattle.std.specs.List.{join_with_byte}
 use Rattle.cni_addr.specs.AddrText.{addr_text}
 use Rattle.cni_addr.specs.MacText.{colon}
 use Rattle.cni_addr.specs.declared.macvlan.MacvlanMode.{MacvlanMode}
+use Rattle.kernel_types.specs.declared.object.Att.{Att}
+use Rattle.kernel_types.specs.declared.object.Tag.{Tag}
+use Rattle.kernel_types.specs.declared.object.Tag.TheVariants.{Outside, Base, Own}
 use Rattle.kernel_types.specs.declared.rule.Chain.{Chain}
 use Rattle.kernel_types.specs.declared.rule.Chain.TheVariants as chains
 use Rattle.kernel_types.specs.declared.object.LinkKind.{LinkKind}
 use Rattle.kernel_types.specs.declared.object.LinkKind.TheVariants as kinds
 use Rattle.kernel_types.specs.declared.rule.Target.{Target}
 use Rattle.kernel_types.specs.declared.rule.Target.TheVariants as targets
+
+-- `NETWORK/CONTAINER/IFNAME`
+abbrev pub attachment_text : Att → List ℕ
+attachment_text att = att.network ++ codes "/" ++ att.container ++ codes "/" ++ att.ifname
+
+-- an owner
+abbrev pub tag_text : Tag → List ℕ
+tag_text Outside = codes "outside"
+tag_text Base = codes "base"
+tag_text (Own att) = attachment_text att
 
 -- the mode of a macvlan link; no other link has one
 abbrev pub link_mode : LinkKind → Option MacvlanMode

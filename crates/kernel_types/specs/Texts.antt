@@ -1,23 +1,11 @@
--- How attachments, owners, kinds of links and tables are written in messages, traces and dumps, and named in pod files.
-use Rattle.std.specs.Prelude.{ℕ, List, ◌++◌, codes, Option, find}
+-- How kinds of links and tables are written in messages and dumps, and named in pod files.
+use Rattle.std.specs.Prelude.{ℕ, List, codes, Option, find}
 use Rattle.std.specs.Str.{bytes_eq}
-use Rattle.kernel_types.specs.declared.object.Att.{Att}
 use Rattle.kernel_types.specs.declared.object.LinkKind.{LinkKind}
 use Rattle.kernel_types.specs.declared.object.LinkKind.TheVariants as kinds
 use Rattle.kernel_types.specs.declared.rule.Table.{Table}
 use Rattle.kernel_types.specs.declared.rule.Table.TheVariants as tables
-use Rattle.kernel_types.specs.declared.object.Tag.{Tag}
-use Rattle.kernel_types.specs.declared.object.Tag.TheVariants.{Outside, Base, Own}
 use Rattle.kernel_types.specs.declared.rule.TheConstants.Table.{ALL}
-
--- `NETWORK/CONTAINER/IFNAME`
-abbrev pub attachment_text : Att → List ℕ
-attachment_text att = att.network ++ codes "/" ++ att.container ++ codes "/" ++ att.ifname
-
-abbrev pub tag_text : Tag → List ℕ
-tag_text Outside = codes "outside"
-tag_text Base = codes "base"
-tag_text (Own att) = attachment_text att
 
 -- what a link is
 abbrev pub link_kind_text : LinkKind → List ℕ
