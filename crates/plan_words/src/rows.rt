@@ -30,7 +30,7 @@ pub trait GivenRow {
 
     ghost values: { Self → List (Option Given) };
 
-    /// How many places there are.
+    /// How many places there are: few enough that 16 keys or calls for each can be counted in 64 bits.
     fn places(&self) -> usize
         ensures all { result ≡ length (values self.now) }
         ensures few { 16 * result < 2 ^ 64 };

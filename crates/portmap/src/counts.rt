@@ -21,7 +21,7 @@ pub trait MappingRow {
 
     ghost values: { Self → List (Option PortMapping) };
 
-    /// How many places there are.
+    /// How many places there are: few enough that 16 keys for each can be counted in 64 bits.
     fn places(&self) -> usize
         ensures all { result ≡ length (values self.now) }
         ensures few { 16 * result < 2 ^ 64 };
