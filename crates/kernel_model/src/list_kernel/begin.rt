@@ -15,6 +15,7 @@ impl ListKernel {
     fn has_objects(&self, att: &Att) -> bool
         ensures { result ≡ has_objects self.now att.now }
     {
+        // by `|`, which has no branches, so that the proof has no case a list
         let links = any_own(&self.links, att);
         let addresses = any_own(&self.addresses, att);
         let routes = any_own(&self.routes, att);
