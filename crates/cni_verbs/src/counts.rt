@@ -44,7 +44,7 @@ fn is_named_as_host_end(command: &Command) -> bool
 pub(crate) fn ends_are_two(command: &Command, netns: &Text) -> bool
     ensures { result ≡ has_two_ends (words.att_of command.now) netns.now }
 {
-    !(is_host_ns(netns) && is_named_as_host_end(command))
+    !(is_host_ns(netns.as_str()) && is_named_as_host_end(command))
 }
 
 // ---- the mappings

@@ -6,14 +6,14 @@ ghost use Rattle.cni_verbs.specs.Answers as answers;
 use crate::answer::Missed;
 use cni_addr::{Addr, Cidr, NoMemory, Text, write_addr, write_cidr};
 use kernel_text::words::chain_text;
-use kernel_types::words::names_host_ns;
+use kernel_types::words::is_host_ns;
 use kernel_types::{Chain, Table, table_text};
 use std::alloc::Global;
 
 fn place_text(ns: &str) -> &str
     ensures { result.now ≡ answers.place_text ns.entry.now }
 {
-    if names_host_ns(ns) { "-" } else { ns }
+    if is_host_ns(ns) { "-" } else { ns }
 }
 
 /// Two texts with a space between them.

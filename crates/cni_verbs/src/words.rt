@@ -258,7 +258,7 @@ fn add_faults(command: &Command) -> WordFaults
     ensures { result ≡ words.add_faults command.now }
 {
     WordFaults {
-        netns: is_host_ns(&command.netns),
+        netns: is_host_ns(command.netns.as_str()),
         args: !are_arguments(command.args.as_str()),
         ..del_faults(command)
     }
@@ -319,7 +319,7 @@ pub fn netns_refusal(command: &Command) -> Option<Cause>
     ensures { result ≡ words.netns_refusal command.now }
 {
     refusal_by(WordFaults {
-        netns: is_host_ns(&command.netns),
+        netns: is_host_ns(command.netns.as_str()),
         ..no_faults()
     })
 }
@@ -330,7 +330,7 @@ pub fn drop_refusal(command: &Command) -> Option<Cause>
     ensures { result ≡ words.drop_refusal command.now }
 {
     refusal_by(WordFaults {
-        netns: is_host_ns(&command.netns),
+        netns: is_host_ns(command.netns.as_str()),
         ifname: !is_interface_name(command.ifname.as_str()),
         ..no_faults()
     })

@@ -11,7 +11,7 @@ use kernel_types::words::{is_at, is_host_ns};
 use kernel_types::{Link, NsObj, Tag};
 
 /// Whether a namespace has this name.
-pub(crate) fn has_named_ns(namespaces: &[NsObj], name: &Text) -> bool
+pub(crate) fn has_ns_in(namespaces: &[NsObj], name: &Text) -> bool
     ensures { result ≡ has_ns_in namespaces.now name.now }
 {
     namespaces.iter().any(|n| n.name == *name)
@@ -21,11 +21,11 @@ pub(crate) fn has_named_ns(namespaces: &[NsObj], name: &Text) -> bool
 pub(crate) fn is_host_or_ns(namespaces: &[NsObj], ns: &Text) -> bool
     ensures { result ≡ is_host_or_ns namespaces.now ns.now }
 {
-    is_host_ns(ns) || has_named_ns(namespaces, ns)
+    is_host_ns(ns.as_str()) || has_ns_in(namespaces, ns)
 }
 
 /// The link at this place.
-pub(crate) fn link_at<'a>(links: &'a [Link], ns: &Text, name: &Text) -> Option<&'a Link>
+pub(crate) fn link_in<'a>(links: &'a [Link], ns: &Text, name: &Text) -> Option<&'a Link>
     ensures { option_copied result ≡ link_in links.now ns.now name.now }
 {
     links.iter().find(|l| is_at(ns.as_str(), name.as_str(), l))
@@ -35,7 +35,7 @@ pub(crate) fn link_at<'a>(links: &'a [Link], ns: &Text, name: &Text) -> Option<&
 pub(crate) fn is_host_link(name: &Text, link: &Link) -> bool
     ensures { result ≡ is_host_link name.now link.now }
 {
-    is_host_ns(&link.ns) && link.name == *name
+    is_host_ns(link.ns.as_str()) && link.name == *name
 }
 
 /// The host's link of this name.
@@ -53,7 +53,7 @@ pub(crate) fn is_host_bridge(name: &Text, link: &Link) -> bool
 }
 
 /// Whether a bridge of the host has this name.
-pub(crate) fn has_host_bridge(links: &[Link], name: &Text) -> bool
+pub(crate) fn has_bridge_in(links: &[Link], name: &Text) -> bool
     ensures { result ≡ has_bridge_in links.now name.now }
 {
     links.iter().any(|l| is_host_bridge(name, l))
@@ -73,7 +73,7 @@ pub(crate) fn has_free_master(links: &[Link], name: &Text) -> bool
 }
 
 /// Whether a link of this tag stands at this place.
-pub(crate) fn has_link_of(links: &[Link], ns: &Text, name: &Text, tag: &Tag) -> bool
+pub(crate) fn has_link_in(links: &[Link], ns: &Text, name: &Text, tag: &Tag) -> bool
     ensures { result ≡ has_link_in links.now ns.now name.now tag.now }
 {
     links.iter().any(|l| is_link_of(ns, name, tag, l))

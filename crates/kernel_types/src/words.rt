@@ -9,18 +9,11 @@ ghost use Rattle.kernel_types.specs.Words.{is_at, is_bridge, is_host_ns, is_macv
 use crate::object::{AddrObj, Last, Link, LinkKey, LinkKind, RouteObj, Setting, Tag};
 use cni_addr::{Addr, Text};
 
-/// Whether a text is the name of the host's own namespace, which is empty.
-pub fn names_host_ns(name: &str) -> bool
-    ensures { result ≡ is_host_ns name.now }
-{
-    name.is_empty()
-}
-
-/// Whether a namespace of this name is the host's own.
-pub fn is_host_ns(ns: &Text) -> bool
+/// Whether a namespace of this name is the host's own, whose name is empty.
+pub fn is_host_ns(ns: &str) -> bool
     ensures { result ≡ is_host_ns ns.now }
 {
-    names_host_ns(ns.as_str())
+    ns.is_empty()
 }
 
 /// Whether the link stands at this place.
@@ -88,7 +81,7 @@ fn last_lease_of<'a>(lasts: &'a [Last], network: &Text, number: u32) -> Option<&
 }
 
 /// The address that was leased last of the set of this number in the network. Linear in the list.
-pub fn last_leased(lasts: &[Last], network: &Text, number: u32) -> Option<Addr>
+pub fn last_in(lasts: &[Last], network: &Text, number: u32) -> Option<Addr>
     ensures { result ≡ last_in lasts.now network.now number }
 {
     last_lease_of(lasts, network, number).map(|last| last.addr)

@@ -16,7 +16,7 @@ ghost use Rattle.pod_file.specs.declared.error.PodError.TheVariants as refusal;
 use crate::error::{PodError, wrong, wrong_member};
 use cni_addr::{Items, Text};
 use cni_json::{Field, Value, field_list, field_str, field_u64, need_object, read_each_after};
-use kernel_types::words::{is_at, names_host_ns};
+use kernel_types::words::{is_at, is_host_ns};
 use kernel_types::{Link, LinkKey, LinkKind, Tag, link_kind_text, link_mac};
 use net_conf::{DEFAULT_MTU, is_interface_name, is_mtu};
 use std::alloc::Global;
@@ -141,7 +141,7 @@ fn ns(alloc: Global, names: &[Text], index: usize, member: &Value) -> Result<Tex
 pub fn is_place(names: &[Text], ns: &str) -> bool
     ensures { result ≡ wanted.is_place names.now ns.now }
 {
-    names_host_ns(ns) || is_named(names, ns)
+    is_host_ns(ns) || is_named(names, ns)
 }
 
 fn is_named(names: &[Text], name: &str) -> bool

@@ -8,9 +8,7 @@ ghost use Rattle.kernel_types.specs.declared.object.Host.{Host};
 use super::ListKernel;
 use crate::compared::contains;
 use crate::lists::push_both;
-use crate::words::{
-    copy_tag, has_free_master, has_host_bridge, has_link_of, has_named_ns, link_at,
-};
+use crate::words::{copy_tag, has_bridge_in, has_free_master, has_link_in, has_ns_in, link_in};
 use cni_addr::{Duplicate, NoMemory, Text};
 use kernel_types::words::{is_same_addr, is_same_route, is_same_setting};
 use kernel_types::{AddrObj, Link, Reply, RouteObj, Rule, Setting, Tag};
@@ -59,7 +57,7 @@ impl ListKernel {
         ensures { result ≡ has_bridge_as_master self.now master.now }
     {
         match master {
-            Some(name) => has_host_bridge(&self.links, name),
+            Some(name) => has_bridge_in(&self.links, name),
             None => true,
         }
     }
@@ -68,16 +66,16 @@ impl ListKernel {
         ensures ok { IfOk result (λ reply. (self.new, reply) ≡ veth_add_of self.old host_end.now inner_end.now) }
         ensures err { OnErr result (self.new ≡ self.old) }
     {
-        if !has_named_ns(&self.namespaces, &inner_end.ns) {
+        if !has_ns_in(&self.namespaces, &inner_end.ns) {
             return Ok(Reply::NoNs);
         }
         if !self.has_bridge_as_master(&host_end.master) {
             return Ok(Reply::NoLink);
         }
-        if let Some(tag) = copy_tag(link_at(&self.links, &inner_end.ns, &inner_end.name))? {
+        if let Some(tag) = copy_tag(link_in(&self.links, &inner_end.ns, &inner_end.name))? {
             return Ok(Reply::Taken(tag));
         }
-        if let Some(tag) = copy_tag(link_at(&self.links, &host_end.ns, &host_end.name))? {
+        if let Some(tag) = copy_tag(link_in(&self.links, &host_end.ns, &host_end.name))? {
             return Ok(Reply::Taken(tag));
         }
         let first = host_end.copy()?;
@@ -99,13 +97,13 @@ impl ListKernel {
         ensures ok { IfOk result (λ reply. (self.new, reply) ≡ macvlan_add_of self.old link.now) }
         ensures err { OnErr result (self.new ≡ self.old) }
     {
-        if !has_named_ns(&self.namespaces, &link.ns) {
+        if !has_ns_in(&self.namespaces, &link.ns) {
             return Ok(Reply::NoNs);
         }
         if !self.has_master(&link.master) {
             return Ok(Reply::NoLink);
         }
-        let taken = copy_tag(link_at(&self.links, &link.ns, &link.name))?;
+        let taken = copy_tag(link_in(&self.links, &link.ns, &link.name))?;
         append_unless_taken(&mut self.links, taken, link)
     }
 
@@ -113,7 +111,7 @@ impl ListKernel {
         ensures ok { IfOk result (λ reply. (self.new, reply) ≡ addr_add_of self.old obj.now) }
         ensures err { OnErr result (self.new ≡ self.old) }
     {
-        if !has_link_of(&self.links, &obj.ns, &obj.link, &obj.tag) {
+        if !has_link_in(&self.links, &obj.ns, &obj.link, &obj.tag) {
             return Ok(Reply::NoLink);
         }
         let taken = copy_tag(same_addr(&self.addresses, obj))?;
@@ -124,7 +122,7 @@ impl ListKernel {
         ensures ok { IfOk result (λ reply. (self.new, reply) ≡ route_add_of self.old obj.now) }
         ensures err { OnErr result (self.new ≡ self.old) }
     {
-        if !has_link_of(&self.links, &obj.ns, &obj.link, &obj.tag) {
+        if !has_link_in(&self.links, &obj.ns, &obj.link, &obj.tag) {
             return Ok(Reply::NoLink);
         }
         let taken = copy_tag(same_route(&self.routes, obj))?;
@@ -146,7 +144,7 @@ impl ListKernel {
         ensures ok { IfOk result (λ reply. (self.new, reply) ≡ setting_set_of self.old setting.now) }
         ensures err { OnErr result (self.new ≡ self.old) }
     {
-        if !has_named_ns(&self.namespaces, &setting.ns) {
+        if !has_ns_in(&self.namespaces, &setting.ns) {
             return Ok(Reply::NoNs);
         }
         let taken = copy_tag(same_setting(&self.settings, setting))?;

@@ -10,7 +10,7 @@ ghost use Rattle.kernel_types.specs.declared.call.Call.TheVariants.{NsChange, Ou
 
 use super::ListKernel;
 use super::leaving::{AtPlace, InNamespace};
-use crate::words::{has_named_ns, link_at};
+use crate::words::{has_ns_in, link_in};
 use cni_addr::{NoMemory, Text};
 use kernel_types::{Change, LinkKey, NsObj, Reply, Rule, Setting, Table, Tag};
 
@@ -37,7 +37,7 @@ impl ListKernel {
         ensures ok { IfOk result (λ reply. (self.new, reply) ≡ ns_add_of self.old name.now) }
         ensures err { OnErr result (self.new ≡ self.old) }
     {
-        if has_named_ns(&self.namespaces, name) {
+        if has_ns_in(&self.namespaces, name) {
             return Ok(Reply::Taken(Tag::Outside));
         }
         self.namespaces.push(NsObj::outside(name)?)?;
@@ -48,7 +48,7 @@ impl ListKernel {
     fn ns_del(&mut self, name: &Text) -> Reply
         ensures { (self.new, result) ≡ ns_del_of self.old name.now }
     {
-        if !has_named_ns(&self.namespaces, name) {
+        if !has_ns_in(&self.namespaces, name) {
             return Reply::NoNs;
         }
         self.drop_leaving(&InNamespace { name });
@@ -72,10 +72,10 @@ impl ListKernel {
     fn drop_link(&mut self, key: &LinkKey) -> Reply
         ensures { (self.new, result) ≡ drop_link_of self.old key.now }
     {
-        if !has_named_ns(&self.namespaces, &key.ns) {
+        if !has_ns_in(&self.namespaces, &key.ns) {
             return Reply::NoNs;
         }
-        match link_at(&self.links, &key.ns, &key.name) {
+        match link_in(&self.links, &key.ns, &key.name) {
             Some(_) => {
                 self.drop_leaving(&AtPlace {
                     ns: &key.ns,

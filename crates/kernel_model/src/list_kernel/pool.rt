@@ -13,7 +13,7 @@ ghost use Rattle.ip_pool.specs.Pool.{pick_of};
 use super::ListKernel;
 use cni_addr::{Addr, Duplicate, NoMemory, RangeSet, Text};
 use ip_pool::{Taken, has_free, pick};
-use kernel_types::words::last_leased;
+use kernel_types::words::last_in;
 use kernel_types::{Att, Last, Lease, Reply};
 
 /// The addresses that are leased in a network.
@@ -97,7 +97,7 @@ impl ListKernel {
             leases: &self.leases,
             network,
         };
-        pick(set, last_leased(&self.lasts, network, number), &taken)
+        pick(set, last_in(&self.lasts, network, number), &taken)
     }
 
     /// Linear in the leases for each address that is tried.

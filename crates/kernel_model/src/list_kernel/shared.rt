@@ -5,7 +5,7 @@ ghost use Rattle.std.specs.List.{list_any};
 ghost use Rattle.kernel_types.specs.Apply.Calls.{bridge_ensure_of, new_bridge, gateway_ensure_of, new_gateway, is_same_addr, forward_ensure_of, forward_key, new_forward, is_same_setting};
 
 use super::ListKernel;
-use crate::words::{has_host_bridge, host_link};
+use crate::words::{has_bridge_in, host_link};
 use cni_addr::{Cidr, Duplicate, Family, NoMemory, Text};
 use kernel_types::words::{is_same_addr, is_same_setting};
 use kernel_types::{AddrObj, Link, LinkKey, LinkKind, Reply, Setting, Tag, link_mac};
@@ -111,7 +111,7 @@ impl ListKernel {
         ensures ok { IfOk result (λ reply. (self.new, reply) ≡ gateway_ensure_of self.old bridge.now cidr) }
         ensures err { OnErr result (self.new ≡ self.old) }
     {
-        if !has_host_bridge(&self.links, bridge) {
+        if !has_bridge_in(&self.links, bridge) {
             return Ok(Reply::NoLink);
         }
         let gateway = new_gateway(alloc, bridge, cidr)?;
