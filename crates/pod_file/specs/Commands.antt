@@ -59,6 +59,14 @@ abbrev pub needs_table : Verb → Bool
 needs_table verbs.Flush = true
 needs_table verb = false
 
+-- the verbs that no other command may stand beside in a round
+abbrev pub is_exclusive_verb : Verb → Bool
+is_exclusive_verb verbs.Add = false
+is_exclusive_verb verbs.Check = false
+is_exclusive_verb verbs.Del = false
+is_exclusive_verb verbs.Version = false
+is_exclusive_verb verb = true
+
 -- ---- texts
 
 -- the network's name, which must be there for a verb that speaks of one

@@ -1,15 +1,13 @@
 -- The rounds of a pod file: how many there may be, which commands stand alone, and how commands are numbered.
-use Rattle.std.specs.Prelude.{ℕ, ◌+◌, ◌&&◌, ◌||◌, List, [], ◌∷◌, flat_map, scan, length, codes, Bool, true, false, not, nat_le, if◌then◌else◌, Result, Ok, Err, ⊤}
+use Rattle.std.specs.Prelude.{ℕ, ◌+◌, ◌&&◌, ◌||◌, List, [], ◌∷◌, flat_map, scan, length, codes, Bool, not, nat_le, if◌then◌else◌, Result, Ok, Err, ⊤}
 use Rattle.std.specs.List.{list_any}
 use Rattle.serde_json.specs.Data.{Data, array, Items}
 use Rattle.cni_json.specs.Fields.{list_field, needed}
 use Rattle.cni_json.specs.declared.fields.Field.{Field}
-use Rattle.pod_file.specs.Commands.{command_at}
+use Rattle.pod_file.specs.Commands.{is_exclusive_verb, command_at}
 use Rattle.cni_json.specs.Each.{each_from}
 use Rattle.pod_file.specs.Refusals.{wrong, member_path}
 use Rattle.pod_file.specs.declared.command.Command.{Command}
-use Rattle.pod_file.specs.declared.command.Verb.{Verb}
-use Rattle.pod_file.specs.declared.command.Verb.TheVariants as verbs
 use Rattle.pod_file.specs.declared.error.PodError.{PodError}
 use Rattle.pod_file.specs.declared.error.PodError.TheVariants as refusal
 
@@ -47,14 +45,6 @@ abbrev pub few : List (List Command) → Result ⊤ PodError
 few rounds = if are_few rounds then Ok tt else wrong (codes "rounds")
 
 -- ---- commands that stand alone
-
--- the verbs that no other command may stand beside in a round
-abbrev pub is_exclusive_verb : Verb → Bool
-is_exclusive_verb verbs.Add = false
-is_exclusive_verb verbs.Check = false
-is_exclusive_verb verbs.Del = false
-is_exclusive_verb verbs.Version = false
-is_exclusive_verb verb = true
 
 abbrev pub is_exclusive : Command → Bool
 is_exclusive command = is_exclusive_verb command.verb

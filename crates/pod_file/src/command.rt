@@ -1,7 +1,7 @@
 //! Commands of a pod file.
 
 ghost use Rattle.std.specs.Prelude.{◌≡◌, Some};
-ghost use Rattle.pod_file.specs.Commands.{is_of_network, verb_text, verb_named};
+ghost use Rattle.pod_file.specs.Commands.{is_of_network, needs_table, is_exclusive_verb, verb_text, verb_named};
 
 use cni_addr::{Items, Text};
 use kernel_types::Table;
@@ -43,6 +43,23 @@ impl Verb {
         match self {
             Verb::Add | Verb::Check | Verb::Del | Verb::Gc | Verb::Status | Verb::Version => true,
             Verb::NsAdd | Verb::NsDel | Verb::Drop | Verb::Flush => false,
+        }
+    }
+
+    /// Whether the verb empties a table, which its command must name.
+    pub(crate) fn needs_table(self) -> bool
+        ensures { result ≡ needs_table self }
+    {
+        matches!(self, Verb::Flush)
+    }
+
+    /// Whether the verb's command has its round for itself.
+    pub(crate) fn is_exclusive(self) -> bool
+        ensures { result ≡ is_exclusive_verb self }
+    {
+        match self {
+            Verb::Gc | Verb::Status | Verb::NsAdd | Verb::NsDel | Verb::Drop | Verb::Flush => true,
+            Verb::Add | Verb::Check | Verb::Del | Verb::Version => false,
         }
     }
 }

@@ -113,19 +113,13 @@ fn table(
     ensures { GivesAs is_want_of_memory (λ table. table) result (wanted.table_at place verb (view command.now)) }
 {
     match field_str(command, "table") {
-        Field::Absent if needs_table(verb) => Err(wrong_key(alloc, place, "table")),
+        Field::Absent if verb.needs_table() => Err(wrong_key(alloc, place, "table")),
         Field::Absent => Ok(None),
         Field::WrongKind => Err(wrong_key(alloc, place, "table")),
         Field::Here(found) => table_named(found)
             .map(Some)
             .ok_or_else(|| wrong_key(alloc, place, "table")),
     }
-}
-
-fn needs_table(verb: Verb) -> bool
-    ensures { result ≡ wanted.needs_table verb }
-{
-    matches!(verb, Verb::Flush)
 }
 
 #[tactic(auto, using(cni_json::proofs::Steps::steps), unfolding(crate::specs::Commands::stop_at))]

@@ -7,7 +7,7 @@ ghost use Rattle.cni_json.specs.Outcome.{GivesAs};
 ghost use Rattle.pod_file.specs.Refusals.{is_want_of_memory};
 ghost use Rattle.pod_file.specs.Rounds as wanted;
 
-use crate::command::{Command, Verb};
+use crate::command::Command;
 use crate::commands::read_command;
 use crate::error::{PodError, wrong, wrong_member};
 use crate::place::CommandPlace;
@@ -105,16 +105,7 @@ fn is_alone(commands: &[Command]) -> bool
 fn has_exclusive(commands: &[Command]) -> bool
     ensures { result ≡ list_any wanted.is_exclusive commands.now }
 {
-    commands.iter().any(|command| is_exclusive(command))
-}
-
-fn is_exclusive(command: &Command) -> bool
-    ensures { result ≡ wanted.is_exclusive command.now }
-{
-    match command.verb {
-        Verb::Gc | Verb::Status | Verb::NsAdd | Verb::NsDel | Verb::Drop | Verb::Flush => true,
-        Verb::Add | Verb::Check | Verb::Del | Verb::Version => false,
-    }
+    commands.iter().any(|command| command.verb.is_exclusive())
 }
 
 /// The rounds with their commands numbered from 1 in file order.

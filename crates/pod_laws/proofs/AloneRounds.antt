@@ -5,7 +5,7 @@ use Rattle.std.specs.List.{list_any}
 use Rattle.std.proofs.lemmas.Bool.{cases_lt, cases_order, le-ltb, lt-ltb, or_left}
 use Rattle.std.proofs.lemmas.List.Elements.{filter-append}
 use Rattle.std.proofs.lemmas.Option.{same_Some}
-use Rattle.pod_file.specs.Rounds.{is_exclusive_verb}
+use Rattle.pod_file.specs.Commands.{is_exclusive_verb}
 use Rattle.kernel_types.proofs.ListLemmas.{list_any-append_right}
 use Rattle.plan_words.proofs.Deletions.{empty_none}
 use Rattle.pod_workers.specs.Facts.{EachOne, IsEntryOf}

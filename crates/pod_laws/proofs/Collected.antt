@@ -26,11 +26,10 @@ use Rattle.gc_sweep.specs.Trace as trace
 use Rattle.cni_verbs.specs.Progress.{is_gc}
 use Rattle.gc_sweep.proofs.Calls.{gc_bound}
 use Rattle.gc_sweep.proofs.Leaves.{always_bounded, faults_named, over_excused, yes_keeps}
-use Rattle.pod_file.specs.Commands.{is_of_network}
+use Rattle.pod_file.specs.Commands.{is_of_network, is_exclusive_verb}
 use Rattle.pod_workers.specs.Plans.{Placed, list_for}
 use Rattle.pod_workers.specs.World.{World, after, made_in, made_of}
 use Rattle.pod_workers.specs.declared.plan.Entry.{Entry}
-use Rattle.pod_file.specs.Rounds.{is_exclusive_verb}
 use Rattle.pod_workers.proofs.Listed.{listed-network}
 use Rattle.pod_laws.specs.Collected.{CollectionsAreAnswered, CollectionsAreBounded, CollectionsAreShort, IsCleanCollection, IsCollectionAnswer, IsFaultyCollection}
 use Rattle.pod_laws.specs.Moments.{has_fault, host_at_end, host_at_start, own_entries}

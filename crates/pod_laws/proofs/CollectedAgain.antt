@@ -3,7 +3,6 @@ use Rattle.std.proofs.Common.{◌≡◌, ℕ, ◌≤◌, Bool, true, false, List
 use Rattle.std.specs.Prelude.{filter, if◌then◌else◌}
 use Rattle.plan_words.proofs.KeyLists.{filter-within}
 use Rattle.net_conf.specs.declared.list.NetList.{NetList}
-use Rattle.pod_file.specs.Rounds.{is_exclusive_verb}
 use Rattle.pod_file.specs.declared.command.Command.{Command}
 use Rattle.pod_file.specs.declared.command.ValidAtt.{ValidAtt}
 use Rattle.kernel_types.specs.Touch.{DropsOnly}
@@ -13,7 +12,7 @@ use Rattle.gc_sweep.specs.Keep.{keep, stays}
 use Rattle.gc_sweep.specs.Sweep.{Bounds}
 use Rattle.gc_sweep.proofs.Kept.{host_of_parts}
 use Rattle.gc_sweep.proofs.Lists.{count_drops, filter_every}
-use Rattle.pod_file.specs.Commands.{is_of_network}
+use Rattle.pod_file.specs.Commands.{is_of_network, is_exclusive_verb}
 use Rattle.pod_workers.specs.declared.plan.Entry.{Entry}
 use Rattle.pod_workers.proofs.Listed.{listed-network}
 use Rattle.pod_workers.proofs.Splits.{none-or-some}
