@@ -11,7 +11,7 @@ use crate::command::Command;
 use crate::error::{PodError, wrong};
 use crate::opening::opening;
 use crate::pods::Pods;
-use crate::rounds::{are_few, each_alone, numbered, rounds};
+use crate::rounds::{all_numbered, are_few, each_alone, rounds};
 use cni_addr::Items;
 use cni_json::{ReadEnd, Value, need_object};
 use std::alloc::Global;
@@ -40,7 +40,7 @@ fn pods(alloc: Global, top: &Value) -> Result<Pods, PodError>
     each_alone(rounds.as_slice())?;
     Ok(Pods {
         opening,
-        rounds: numbered(alloc, rounds),
+        rounds: all_numbered(alloc, rounds),
     })
 }
 

@@ -110,7 +110,7 @@ fn has_exclusive(commands: &[Command]) -> bool
 
 /// The rounds with their commands numbered from 1 in file order.
 #[tactic(auto, using(crate::proofs::Numbering::numbers), unfolding(crate::specs::Rounds::are_few))]
-pub fn numbered(alloc: Global, rounds: Items<Items<Command>>) -> Items<Items<Command>>
+pub fn all_numbered(alloc: Global, rounds: Items<Items<Command>>) -> Items<Items<Command>>
     requires { wanted.are_few rounds ≡ true }
     ensures { result ≡ wanted.all_numbered 1 rounds }
 {

@@ -1,6 +1,6 @@
 use Rattle.std.proofs.Common.{◌≡◌, ◌+◌, ◌≤◌, ◌++◌, length, take, drop}
 use Rattle.pod_file.specs.Rounds.{in_file_order, all_numbered, file_limit}
-use Rattle.pod_file.proofs.rounds.numbered.Given as goal
+use Rattle.pod_file.proofs.rounds.all_numbered.Given as goal
 
 -- the rounds so far have their numbers, those that are left follow, and there are few of them
 abbrev pub invariant-loop-commands : goal.invariant-loop-commands
