@@ -17,7 +17,7 @@ use std::alloc::Global;
 
 /// The texts that name what a command is about.
 #[derive(Drop)]
-pub struct CommandTexts {
+pub(crate) struct CommandTexts {
     pub network: Text,
     pub container: Text,
     pub netns: Text,
@@ -27,7 +27,11 @@ pub struct CommandTexts {
 
 /// The command at this place, which has no number yet.
 #[tactic(auto, using(cni_json::proofs::Steps::steps), unfolding(crate::specs::Commands::command_at))]
-pub fn read_command(alloc: Global, place: CommandPlace, value: &Value) -> Result<Command, PodError>
+pub(crate) fn read_command(
+    alloc: Global,
+    place: CommandPlace,
+    value: &Value,
+) -> Result<Command, PodError>
     ensures { GivesAs is_want_of_memory (λ command. command) result (wanted.command_at place (view value.now)) }
 {
     need_object(value, || wrong_command(alloc, place))?;

@@ -26,7 +26,7 @@ const KINDS: [LinkKind; 2] = [LinkKind::Device, LinkKind::Bridge];
 
 /// The links, none where there is no list of them.
 #[tactic(auto, using(cni_json::proofs::Steps::steps), unfolding(crate::specs::Links::links_at))]
-pub fn links(alloc: Global, names: &[Text], opening: &Value) -> Result<Items<Link>, PodError>
+pub(crate) fn links(alloc: Global, names: &[Text], opening: &Value) -> Result<Items<Link>, PodError>
     ensures { GivesAs is_want_of_memory (λ links. links) result (wanted.links_at names.now (view opening.now)) }
 {
     listed(
@@ -41,7 +41,7 @@ pub fn links(alloc: Global, names: &[Text], opening: &Value) -> Result<Items<Lin
 /// The list under the key, whose place is the path, each member as the function reads it after those before it; it is
 /// empty where it is absent.
 #[tactic(auto, using(cni_json::proofs::Steps::steps), unfolding(crate::specs::Links::listed_at))]
-pub fn listed<T: Drop, R: Fn(&[T], &Value) -> Result<T, PodError>>(
+pub(crate) fn listed<T: Drop, R: Fn(&[T], &Value) -> Result<T, PodError>>(
     alloc: Global,
     opening: &Value,
     key: &str,
@@ -138,7 +138,7 @@ fn ns(alloc: Global, names: &[Text], index: usize, member: &Value) -> Result<Tex
 }
 
 /// Whether the text is the host's, or the name of one of the namespaces.
-pub fn is_place(names: &[Text], ns: &str) -> bool
+pub(crate) fn is_place(names: &[Text], ns: &str) -> bool
     ensures { result ≡ wanted.is_place names.now ns.now }
 {
     is_host_ns(ns) || is_named(names, ns)

@@ -19,7 +19,7 @@ use cni_json::{Field, Value, field_str, field_u64, need_object, read_list_or};
 use std::alloc::Global;
 
 /// A text of the command itself, or the default where it is absent.
-pub fn text(
+pub(crate) fn text(
     alloc: Global,
     place: CommandPlace,
     key: &str,
@@ -52,7 +52,7 @@ fn inner_text(
 
 /// A text in the value of the command's key `outer` that must be there.
 #[tactic(auto, using(cni_json::proofs::Steps::steps), unfolding(crate::specs::Members::needed_text_at))]
-pub fn needed_text(
+pub(crate) fn needed_text(
     alloc: Global,
     place: CommandPlace,
     outer: &str,
@@ -69,7 +69,7 @@ pub fn needed_text(
 
 /// The list under the command's key, each member as the function reads it; it is empty where it is absent.
 #[tactic(auto, using(cni_json::proofs::Steps::steps), unfolding(crate::specs::Members::list_at))]
-pub fn list<T: Drop, R: Fn(&Value) -> Result<T, PodError>>(
+pub(crate) fn list<T: Drop, R: Fn(&Value) -> Result<T, PodError>>(
     alloc: Global,
     place: CommandPlace,
     key: &str,
@@ -85,7 +85,7 @@ pub fn list<T: Drop, R: Fn(&Value) -> Result<T, PodError>>(
 
 /// The port mappings, as they are written.
 #[tactic(auto, using(cni_json::proofs::Steps::steps), unfolding(crate::specs::Members::mappings_at))]
-pub fn mappings(
+pub(crate) fn mappings(
     alloc: Global,
     place: CommandPlace,
     command: &Value,
@@ -155,7 +155,7 @@ fn mapping_text(
 
 /// The attachments that a GC keeps.
 #[tactic(auto, using(cni_json::proofs::Steps::steps), unfolding(crate::specs::Members::valid_at))]
-pub fn valid_attachments(
+pub(crate) fn valid_attachments(
     alloc: Global,
     place: CommandPlace,
     command: &Value,

@@ -16,7 +16,7 @@ use std::alloc::Global;
 
 /// The host as it is found, empty where there is no opening.
 #[tactic(auto, using(cni_json::proofs::Steps::steps), unfolding(crate::specs::Opening::opening_at))]
-pub fn opening(alloc: Global, top: &Value) -> Result<Host, PodError>
+pub(crate) fn opening(alloc: Global, top: &Value) -> Result<Host, PodError>
     ensures { GivesAs is_want_of_memory (λ host. host) result (wanted.opening_at (view top.now)) }
 {
     match field_object(top, "opening") {

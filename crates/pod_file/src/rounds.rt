@@ -20,7 +20,7 @@ const LIMIT: usize = 65_536;
 
 /// The rounds, whose commands have no numbers yet.
 #[tactic(auto, using(cni_json::proofs::Steps::steps), unfolding(crate::specs::Rounds::rounds_at))]
-pub fn rounds(alloc: Global, top: &Value) -> Result<Items<Items<Command>>, PodError>
+pub(crate) fn rounds(alloc: Global, top: &Value) -> Result<Items<Items<Command>>, PodError>
     ensures { GivesAs is_want_of_memory (λ rounds. rounds) result (wanted.rounds_at (view top.now)) }
 {
     match field_list(top, "rounds") {
@@ -59,7 +59,7 @@ fn command(alloc: Global, round: usize, index: usize, member: &Value) -> Result<
 
 /// Whether the rounds and their commands are within the limits.
 #[tactic(auto, unfolding(crate::specs::Rounds::are_few))]
-pub fn are_few(rounds: &[Items<Command>]) -> bool
+pub(crate) fn are_few(rounds: &[Items<Command>]) -> bool
     ensures { result ≡ wanted.are_few rounds.now }
 {
     rounds.len() <= LIMIT && have_few_commands(rounds)
@@ -82,7 +82,7 @@ fn have_few_commands(rounds: &[Items<Command>]) -> bool
 
 /// Refuses the first round in which a command that must stand alone doesn't.
 #[tactic(auto, unfolding(crate::specs::Rounds::are_few))]
-pub fn each_alone(rounds: &[Items<Command>]) -> Result<(), PodError>
+pub(crate) fn each_alone(rounds: &[Items<Command>]) -> Result<(), PodError>
     requires { wanted.are_few rounds.now ≡ true }
     ensures { result ≡ wanted.each_alone 0 rounds.now }
 {
@@ -110,7 +110,7 @@ fn has_exclusive(commands: &[Command]) -> bool
 
 /// The rounds with their commands numbered from 1 in file order.
 #[tactic(auto, using(crate::proofs::Numbering::numbers), unfolding(crate::specs::Rounds::are_few))]
-pub fn all_numbered(alloc: Global, rounds: Items<Items<Command>>) -> Items<Items<Command>>
+pub(crate) fn all_numbered(alloc: Global, rounds: Items<Items<Command>>) -> Items<Items<Command>>
     requires { wanted.are_few rounds ≡ true }
     ensures { result ≡ wanted.all_numbered 1 rounds }
 {
