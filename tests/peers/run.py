@@ -62,9 +62,8 @@ class ThroughLowBits:
         return str(ipaddress.IPv4Address(self.base + (network << 16) + low))
 
     def subnet(self, text):
-        subnet = ipaddress.IPv6Network(text)
-        assert subnet.prefixlen >= 112
-        return f"{self.address(str(subnet.network_address))}/{subnet.prefixlen - 96}"
+        assert ipaddress.IPv6Network(text).prefixlen >= 112
+        return self.cidr(text)
 
     def cidr(self, text):
         address, prefix = text.split("/")
