@@ -13,8 +13,12 @@ BUILT = TOP / (TOP / "tests/built.txt").read_text(encoding="utf-8").strip()
 DIRECTORY = object()
 # the most seconds that a run may take
 MOST_SECONDS = 120
-# the status where a file or a plan is refused
+# the statuses: no command failed, some command was refused or stopped, a file or a plan is refused, and some command
+# ran out of memory
+SUCCESS = 0
+FAILURE = 1
 REFUSED = 3
+COMMAND_MEMORY = 8
 
 
 def program_of(words):

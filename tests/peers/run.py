@@ -24,7 +24,17 @@ import sys
 sys.dont_write_bytecode = True
 sys.path.insert(0, str(pathlib.Path(__file__).resolve().parent.parent))
 
-from program import bridge, command, count_failed, lines_of, network_list, program_of, run_on
+from program import (
+    FAILURE,
+    SUCCESS,
+    bridge,
+    command,
+    count_failed,
+    lines_of,
+    network_list,
+    program_of,
+    run_on,
+)
 from recorded import is_ipv6, recordings
 
 ADDRESSES = ("rangeStart", "rangeEnd", "gateway")
@@ -127,7 +137,7 @@ def differences(program, recorded):
     sets, operations = recorded["sets"], recorded["sequence"]
     maps = [map_of(number, given_set) for number, given_set in enumerate(sets)]
     status, lines = printed(program, {"pods.json": pod_file(operations), "net.json": list_of(maps, sets)})
-    if status not in (0, 1):
+    if status not in (SUCCESS, FAILURE):
         yield f"status {status}: {lines}"
         return
     answers = [answer_of(line) for line in lines if "verb" in line]

@@ -35,9 +35,12 @@ sys.dont_write_bytecode = True
 sys.path.insert(0, str(pathlib.Path(__file__).resolve().parent.parent))
 
 from program import (
+    COMMAND_MEMORY,
     DIRECTORY,
+    FAILURE,
     NO_PODS,
     REFUSED,
+    SUCCESS,
     TOP,
     compact,
     count_failed,
@@ -128,14 +131,14 @@ def reader_rows():
                 line = compact({"error": error, "file": file}, ensure_ascii=False)
                 yield {**run_row, "status": REFUSED, "stdout": [line]}
             elif file == "net.json":
-                yield {**run_row, "status": 0, "stdout": []}
+                yield {**run_row, "status": SUCCESS, "stdout": []}
             else:
                 yield {**run_row, "later": True}
 
 
 def is_read(status, lines):
     if status != REFUSED:
-        return status in (0, 1, 8)
+        return status in (SUCCESS, FAILURE, COMMAND_MEMORY)
     error = json.loads(lines[0])["error"] if lines else ""
     return isinstance(error, dict) and LATER.fullmatch(error["msg"]) is not None
 
