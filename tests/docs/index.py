@@ -20,6 +20,11 @@ from written import settle
 INDEX = TOP / "docs" / "INDEX.md"
 DEFINITION = re.compile(r"^(?:(?:abbrev|unfoldable) pub|pub (?:record|data)) (\S+)", re.MULTILINE)
 ITEM = re.compile(r"^ *pub (?:fn|struct|enum|trait|const) (\w+)", re.MULTILINE)
+# where the next item of a file begins, as it is laid out
+NEXT_ITEM = re.compile(r"^(?=\S)", re.MULTILINE)
+# a module that the root of a crate keeps for itself, and the names that it hands on from its modules
+KEPT = re.compile(r"^mod (\w+);", re.MULTILINE)
+HANDED_ON = re.compile(r"^pub use (?:\w+::)+(\w+|{[^}]*});", re.MULTILINE)
 HEAD = """# Index
 
 Every public definition (`specs/`) and every public function and type (`src/`), by crate and file.
@@ -53,11 +58,30 @@ def without_tests(text):
     return re.split(r"^#\[cfg\(test\)\]", text, maxsplit=1, flags=re.MULTILINE)[0]
 
 
-def names_in(path):
+def is_among(item, names):
+    """Whether an item of a file has one of these names, or is an `impl` of such a type."""
+    own = re.findall(r"\w+", item.splitlines()[0]) if item.startswith("impl") else ITEM.findall(item)
+    return not names.isdisjoint(own)
+
+
+def reached(crate, path):
+    """The items of a file that are reached from outside its crate: where the root keeps the module for itself, those
+    that it hands on, with their methods."""
+    items = NEXT_ITEM.split(without_tests(path.read_text(encoding="utf-8")))
+    root = crate / "src" / "lib.rt"
+    declared = root.read_text(encoding="utf-8") if root.exists() else ""
+    module = path.relative_to(crate / "src").parts[0].removesuffix(".rt")
+    if module not in KEPT.findall(declared):
+        return items
+    handed_on = set(re.findall(r"\w+", " ".join(HANDED_ON.findall(declared))))
+    return [item for item in items if is_among(item, handed_on)]
+
+
+def names_in(crate, path):
     text = path.read_text(encoding="utf-8")
     if path.suffix == ".antt":
         return first_comment(text, "--"), DEFINITION.findall(text)
-    return first_comment(text, "//!"), ITEM.findall(without_tests(text))
+    return first_comment(text, "//!"), ITEM.findall("".join(reached(crate, path)))
 
 
 def files_of(crate):
@@ -71,7 +95,7 @@ def index():
     for crate in crates():
         lines.append(f"## {crate.name}\n")
         for path in files_of(crate):
-            said, names = names_in(path)
+            said, names = names_in(crate, path)
             if not names:
                 continue
             unique = ", ".join(f"`{it}`" for it in dict.fromkeys(names))
