@@ -4,8 +4,7 @@ ghost use Rattle.std.specs.Prelude.{◌≡◌, ◌+◌, ◌*◌, ◌^◌, ◌≤
 ghost use Rattle.cni_result.specs.declared.result.IpEntry.{IpEntry};
 ghost use Rattle.kernel_types.specs.declared.object.Att.{Att};
 ghost use Rattle.pod_file.specs.declared.command.Command.{Command};
-ghost use Rattle.plan_words.specs.Rows.{present};
-ghost use Rattle.host_local.specs.Leases.{given_row};
+ghost use Rattle.host_local.specs.Leases.{given_of};
 ghost use Rattle.bridge_ptp.specs.PtpKeys.{has_two_ends};
 ghost use Rattle.cni_verbs.specs.Phases.{questions_about};
 ghost use Rattle.cni_verbs.specs.Questions as asked;
@@ -24,7 +23,7 @@ use pod_file::Command;
 
 fn count_objects(first: &First, two_ends: bool, given: GivenByIps) -> usize
     ensures { (att : Att) (netns : List ℕ) → has_two_ends att netns ≡ two_ends
-        → let share = wanted.share_after first.now att netns (present (given_row given.entry.sets.now (map (λ ip. ip.address.addr) given.entry.ips.now))) in
+        → let share = wanted.share_after first.now att netns (given_of given.entry.sets.now (map (λ ip. ip.address.addr) given.entry.ips.now)) in
         result ≡ length share.addresses + length share.routes + length share.rules }
 {
     match first {
@@ -36,7 +35,7 @@ fn count_objects(first: &First, two_ends: bool, given: GivenByIps) -> usize
 
 fn count_made(chained: &Chained, mappings: &[PortMapping], given: GivenByIps) -> usize
     ensures { (att : Att) (netns : List ℕ) (ips : List IpEntry)
-        → map (λ ip. ip.address) ips ≡ map (λ g. g.address) (present (given_row given.entry.sets.now (map (λ ip. ip.address.addr) given.entry.ips.now)))
+        → map (λ ip. ip.address) ips ≡ map (λ g. g.address) (given_of given.entry.sets.now (map (λ ip. ip.address.addr) given.entry.ips.now))
         → result ≡ length (wanted.rules_of chained.now att mappings.now ips) + length (wanted.settings_of chained.now att netns) }
 {
     match chained {
@@ -48,7 +47,7 @@ fn count_made(chained: &Chained, mappings: &[PortMapping], given: GivenByIps) ->
 
 fn count_all_made(chained: &[Chained], mappings: &[PortMapping], given: GivenByIps) -> u128
     ensures count { (att : Att) (netns : List ℕ) (ips : List IpEntry)
-        → map (λ ip. ip.address) ips ≡ map (λ g. g.address) (present (given_row given.entry.sets.now (map (λ ip. ip.address.addr) given.entry.ips.now)))
+        → map (λ ip. ip.address) ips ≡ map (λ g. g.address) (given_of given.entry.sets.now (map (λ ip. ip.address.addr) given.entry.ips.now))
         → result ≡ length (flat_map (λ c. wanted.rules_of c att mappings.now ips) chained.now) + length (flat_map (λ c. wanted.settings_of c att netns) chained.now) }
     ensures most { result ≤ length chained.now * 2 ^ 64 }
 {

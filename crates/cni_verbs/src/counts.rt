@@ -7,7 +7,7 @@ ghost use Rattle.cni_result.specs.declared.result.IpEntry.{IpEntry};
 ghost use Rattle.kernel_types.specs.Names.{host_name_of};
 ghost use Rattle.kernel_types.specs.declared.object.Att.{Att};
 ghost use Rattle.plan_words.specs.Rows.{present};
-ghost use Rattle.host_local.specs.Leases.{given_row};
+ghost use Rattle.host_local.specs.Leases.{given_of};
 ghost use Rattle.bridge_ptp.specs.PtpKeys.{has_two_ends};
 ghost use Rattle.cni_verbs.specs.CommandWords as words;
 ghost use Rattle.cni_verbs.specs.Script.{back_of};
@@ -71,7 +71,7 @@ impl<'a> MappingRow for TakenMappings<'a> {
 // ---- the plugins
 
 fn count_after(first: &First, two_ends: bool, given: GivenBySets) -> usize
-    ensures { (att : Att) (netns : List ℕ) → has_two_ends att netns ≡ two_ends → result ≡ length (wanted.calls_after first.now att netns (present (given_row given.entry.sets.now given.entry.addrs.now))) }
+    ensures { (att : Att) (netns : List ℕ) → has_two_ends att netns ≡ two_ends → result ≡ length (wanted.calls_after first.now att netns (given_of given.entry.sets.now given.entry.addrs.now)) }
 {
     match first {
         First::Bridge(conf) => bridge_after_count(conf, given),
@@ -81,7 +81,7 @@ fn count_after(first: &First, two_ends: bool, given: GivenBySets) -> usize
 }
 
 fn count_chained(chained: &Chained, mappings: TakenMappings, given: GivenBySets) -> usize
-    ensures { (att : Att) (netns : List ℕ) (ips : List IpEntry) → map (λ ip. ip.address) ips ≡ map (λ g. g.address) (present (given_row given.entry.sets.now given.entry.addrs.now))
+    ensures { (att : Att) (netns : List ℕ) (ips : List IpEntry) → map (λ ip. ip.address) ips ≡ map (λ g. g.address) (given_of given.entry.sets.now given.entry.addrs.now)
         → result ≡ length (wanted.chained_calls chained.now att netns (present (map words.mapping_of mappings.entry.0.now)) ips) }
 {
     match chained {
@@ -92,7 +92,7 @@ fn count_chained(chained: &Chained, mappings: TakenMappings, given: GivenBySets)
 }
 
 fn count_all_chained(chained: &[Chained], mappings: TakenMappings, given: GivenBySets) -> u128
-    ensures count { (att : Att) (netns : List ℕ) (prev : AddResult) → map (λ ip. ip.address) prev.ips ≡ map (λ g. g.address) (present (given_row given.entry.sets.now given.entry.addrs.now))
+    ensures count { (att : Att) (netns : List ℕ) (prev : AddResult) → map (λ ip. ip.address) prev.ips ≡ map (λ g. g.address) (given_of given.entry.sets.now given.entry.addrs.now)
         → result ≡ length (wanted.all_chained_calls chained.now att netns (present (map words.mapping_of mappings.entry.0.now)) prev) }
     ensures most { result ≤ length chained.now * 2 ^ 64 }
 {

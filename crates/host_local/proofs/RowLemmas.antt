@@ -19,10 +19,6 @@ present-cons (Some x) row = refl
 pub given_of-cons : (set : RangeSet) (sets : List RangeSet) (addr : Addr) (addrs : List Addr) → given_of (set ∷ sets) (addr ∷ addrs) ≡ given_in set addr ++ given_of sets addrs
 given_of-cons set sets addr addrs = present-cons (given_by_set set addr) (given_row sets addrs)
 
--- what is there is what is given
-pub present-given_row : (sets : List RangeSet) (addrs : List Addr) → present (given_row sets addrs) ≡ given_of sets addrs
-present-given_row sets addrs = refl
-
 pub given_row-places : (sets : List RangeSet) (addrs : List Addr) → length (given_row sets addrs) ≡ min (length sets) (length addrs)
 given_row-places [] addrs = omega arith
 given_row-places (s ∷ ss) [] = omega arith

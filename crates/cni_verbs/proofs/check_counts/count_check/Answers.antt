@@ -1,15 +1,13 @@
-use Rattle.std.proofs.Common.{◌≡◌, ◌+◌, List, length, map, sym, ◌∙◌, ap}
+use Rattle.std.proofs.Common.{◌≡◌, ◌+◌, List, length, map, refl, sym, ◌∙◌, ap}
 use Rattle.std.specs.Prelude.{flat_map}
 use Rattle.cni_addr.specs.declared.address.Addr.{Addr}
 use Rattle.cni_result.specs.declared.result.IpEntry.{IpEntry}
 use Rattle.kernel_types.specs.declared.call.Given.{Given}
-use Rattle.plan_words.specs.Rows.{present}
 use Rattle.host_local.specs.Conf.{ipam_of}
-use Rattle.host_local.specs.Leases.{given_row}
-use Rattle.host_local.proofs.RowLemmas.{present-given_row}
+use Rattle.host_local.specs.Leases.{given_of}
 use Rattle.cni_verbs.specs.CommandWords.{att_of}
 use Rattle.cni_verbs.specs.Questions.{addresses_of_result, bridge_questions}
-use Rattle.cni_verbs.specs.Wanted.{sets_of, share_after, rules_of, settings_of, given_by_list, first_plugin_result}
+use Rattle.cni_verbs.specs.Wanted.{share_after, rules_of, settings_of, given_by_list, first_plugin_result}
 use Rattle.cni_verbs.proofs.BackCounts.{first-addresses}
 use Rattle.cni_verbs.proofs.CheckCounts.{check-counted}
 use Rattle.cni_verbs.proofs.check_counts.count_check.Goals as goal
@@ -25,8 +23,8 @@ returns c =
     let share = share_after list.first att netns given in
     let prev = first_plugin_result list att netns addrs in
     let listed : List Addr = map (λ (ip : IpEntry). ip.address.addr) c.as_slice-ips.result.now in
-    let there : present (given_row c.sets_of.result.now listed) ≡ given = rw (c.sets_of.ensures, c.as_slice-ips.ensures) (present-given_row (sets_of list) addrs) in
-    let same : map (λ ip. ip.address) prev.ips ≡ map (λ (g : Given). g.address) (present (given_row c.sets_of.result.now listed)) =
+    let there : given_of c.sets_of.result.now listed ≡ given = rw (c.sets_of.ensures, c.as_slice-ips.ensures) refl in
+    let same : map (λ ip. ip.address) prev.ips ≡ map (λ (g : Given). g.address) (given_of c.sets_of.result.now listed) =
     first-addresses list.first att netns (ipam_of list.first) given list.version ∙ ap (map (λ (g : Given). g.address)) (sym there) in
     let objects : c.count_objects-objects.result ≡ length share.addresses + length share.routes + length share.rules = rw there at (c.count_objects-objects.ensures att netns (sym c.ends_are_two-two_ends.ensures)) in
     let all = c.count_all_made-made.ensures.count att netns prev.ips same in

@@ -4,10 +4,9 @@ use Rattle.kernel_types.specs.declared.call.Given.{Given}
 use Rattle.kernel_types.specs.declared.call.Call.TheVariants.{CachePut}
 use Rattle.plan_words.specs.Rows.{present}
 use Rattle.host_local.specs.Conf.{ipam_of}
-use Rattle.host_local.specs.Leases.{given_row}
-use Rattle.host_local.proofs.RowLemmas.{present-given_row}
+use Rattle.host_local.specs.Leases.{given_of}
 use Rattle.cni_verbs.specs.CommandWords.{att_of, mapping_of, mappings_of}
-use Rattle.cni_verbs.specs.Wanted.{sets_of, given_by_list, calls_after, all_chained_calls, first_plugin_result, cached_of}
+use Rattle.cni_verbs.specs.Wanted.{given_by_list, calls_after, all_chained_calls, first_plugin_result, cached_of}
 use Rattle.cni_verbs.proofs.BackCounts.{first-addresses, present-taken}
 use Rattle.cni_verbs.proofs.counts.back_count.Goals as goal
 
@@ -20,8 +19,8 @@ returns c =
     let mappings = mappings_of list c.args.command.now in
     let given = given_by_list list addrs in
     let prev = first_plugin_result list att netns addrs in
-    let there : present (given_row c.sets_of.result.now addrs) ≡ given = rw c.sets_of.ensures (present-given_row (sets_of list) addrs) in
-    let same : map (λ ip. ip.address) prev.ips ≡ map (λ (g : Given). g.address) (present (given_row c.sets_of.result.now addrs)) =
+    let there : given_of c.sets_of.result.now addrs ≡ given = ap (λ sets. given_of sets addrs) c.sets_of.ensures in
+    let same : map (λ ip. ip.address) prev.ips ≡ map (λ (g : Given). g.address) (given_of c.sets_of.result.now addrs) =
     first-addresses list.first att netns (ipam_of list.first) given list.version ∙ ap (map (λ (g : Given). g.address)) (sym there) in
     let taken : present (map mapping_of c.raw_mappings.result.now) ≡ mappings = present-taken mapping_of c.raw_mappings.result.now ∙ c.raw_mappings.ensures in
     let after : c.count_after-after.result ≡ length (calls_after list.first att netns given) = rw there at (c.count_after-after.ensures att netns (sym c.ends_are_two.ensures)) in
