@@ -141,7 +141,7 @@ fn entries_for(
     result_routes(
         alloc,
         conf.is_default_gateway,
-        routes_of(&conf.ipam),
+        routes_of(conf.ipam.as_ref()),
         ips.as_slice(),
     )
 }

@@ -75,7 +75,7 @@ fn count_routes<G: GivenRow>(conf: &BridgeConf, given: &G) -> usize
         → result ≡ length (shapes.routes_on att netns all (plan.bridge_entries conf.now (present (G.values given.now)))) }
     ensures most { result ≤ length (routes_of conf.now.ipam) + 2 }
 {
-    let configured = routes_of(&conf.ipam);
+    let configured = routes_of(conf.ipam.as_ref());
     let v4 = default_of_family(conf.is_default_gateway, configured, Family::V4, given);
     let v6 = default_of_family(conf.is_default_gateway, configured, Family::V6, given);
     count_keys(&RouteKeys { configured, v4, v6 })
@@ -132,7 +132,7 @@ fn count_of_objects<G: GivenRow + Copy>(conf: &BridgeConf, given: G) -> usize
     ensures most { result ≤ 3 * length (G.values given) + length (routes_of conf.now.ipam) + 2 }
 {
     let _places = given.places();
-    let configured = routes_of(&conf.ipam);
+    let configured = routes_of(conf.ipam.as_ref());
     let _few = 16 * configured.len();
     let addresses = count_addresses(given);
     let routes = count_routes(conf, &given);
@@ -154,7 +154,7 @@ pub fn bridge_object_count<G: GivenRow + Copy>(conf: &BridgeConf, given: G) -> u
 pub fn bridge_after_count<G: GivenRow + Copy>(conf: &BridgeConf, given: G) -> usize
     ensures { (att : Att) (netns : List ℕ) → length (plan.bridge_calls_after conf.now att netns (present (G.values given))) ≡ result }
 {
-    let configured = routes_of(&conf.ipam);
+    let configured = routes_of(conf.ipam.as_ref());
     let _places = given.places();
     let _few = 16 * configured.len();
     let objects = count_of_objects(conf, given);

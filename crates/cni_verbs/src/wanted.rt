@@ -2,7 +2,6 @@
 //! it one after another.
 
 ghost use Rattle.std.specs.Prelude.{◌≡◌, ◌++◌, [], IfOk, OnOk};
-ghost use Rattle.std.specs.Option.{option_copied};
 ghost use Rattle.host_local.specs.Conf.{ipam_of};
 ghost use Rattle.host_local.specs.Results.{ipam_result_of};
 ghost use Rattle.kernel_types.specs.declared.call.Call.TheVariants as call;
@@ -13,11 +12,11 @@ use bridge_ptp::{
     ptp_result,
 };
 use cni_addr::{Addr, Duplicate, Items, NoMemory, RangeSet, Text};
-use cni_result::{AddResult, Cached, PortMapping, Version};
+use cni_result::{AddResult, Cached, PortMapping};
 use firewall_tuning::{firewall_calls, firewall_kinds, tuning_calls, tuning_kinds, tuning_result};
-use host_local::given_of;
+use host_local::{given_of, ipam_of, ipam_result};
 use kernel_types::{Att, Call, Given, Kind};
-use net_conf::{Chained, First, HostLocalConf, NetList};
+use net_conf::{Chained, First, NetList};
 use std::alloc::Global;
 
 fn push_all<T: Drop>(list: &mut Vec<T>, more: Items<T>) -> Result<(), NoMemory>
@@ -90,16 +89,6 @@ fn first_kinds(alloc: Global, first: &First) -> Result<Items<Kind>, NoMemory>
 
 // ---- addresses
 
-fn ipam_of(first: &First) -> Option<&HostLocalConf>
-    ensures { option_copied result ≡ ipam_of first.now }
-{
-    match first {
-        First::Bridge(conf) => conf.ipam.as_ref(),
-        First::Ptp(conf) => Some(&conf.ipam),
-        First::Macvlan(conf) => conf.ipam.as_ref(),
-    }
-}
-
 /// The range sets of the list, of each of which an ADD leases one address. Takes no memory.
 pub fn sets_of(list: &NetList) -> &[RangeSet]
     ensures { result.now ≡ wanted.sets_of list.now }
@@ -107,26 +96,6 @@ pub fn sets_of(list: &NetList) -> &[RangeSet]
     match ipam_of(&list.first) {
         Some(ipam) => ipam.sets.as_slice(),
         None => &[],
-    }
-}
-
-fn ipam_result(
-    alloc: Global,
-    first: &First,
-    given: &[Given],
-    version: Version,
-) -> Result<AddResult, NoMemory>
-    ensures { IfOk result (λ r. r ≡ ipam_result_of (ipam_of first.now) given.now version) }
-{
-    match ipam_of(first) {
-        Some(ipam) => host_local::ipam_result(alloc, ipam, given, version),
-        None => {
-            let nothing = HostLocalConf {
-                sets: Items::new(alloc),
-                routes: Items::new(alloc),
-            };
-            host_local::ipam_result(alloc, &nothing, given, version)
-        }
     }
 }
 
@@ -140,7 +109,7 @@ fn first_plugin_result(
     ensures { IfOk result (λ r. r ≡ wanted.first_result list.now.first att.now netns.now
         (ipam_result_of (ipam_of list.now.first) given.now list.now.version)) }
 {
-    let ipam = ipam_result(alloc, &list.first, given, list.version)?;
+    let ipam = ipam_result(alloc, ipam_of(&list.first), given, list.version)?;
     first_result(alloc, &list.first, att, netns, &ipam)
 }
 

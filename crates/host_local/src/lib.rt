@@ -11,6 +11,7 @@
 //! ```
 #![tactic(auto)]
 
+pub mod conf;
 pub mod laws;
 pub mod leases;
 pub mod results;
@@ -18,6 +19,7 @@ pub mod rows;
 #[cfg(test)]
 mod tests;
 
+pub use conf::{ipam_of, routes_of};
 pub use leases::{lease_at, release_kinds};
 pub use results::{ipam_result, ips_of};
-pub use rows::{GivenByIps, GivenBySets, given_of, routes_of};
+pub use rows::{GivenByIps, GivenBySets, given_of};

@@ -1,9 +1,11 @@
 //! The plugin's result.
 
-ghost use Rattle.std.specs.Prelude.{◌≡◌, map, IfOk, Some};
+ghost use Rattle.std.specs.Prelude.{◌≡◌, map, IfOk};
+ghost use Rattle.std.specs.Option.{option_copied};
 ghost use Rattle.host_local.specs.Results as results;
 
-use cni_addr::{Duplicate, Items, NoMemory};
+use crate::conf::routes_of;
+use cni_addr::{Items, NoMemory, copies};
 use cni_result::{AddResult, IpEntry, Version, no_dns};
 use kernel_types::Given;
 use net_conf::HostLocalConf;
@@ -28,17 +30,17 @@ pub fn ips_of(alloc: Global, given: &[Given]) -> Result<Items<IpEntry>, NoMemory
 /// completes (CNI specification, section 4, "IPAM").
 pub fn ipam_result(
     alloc: Global,
-    conf: &HostLocalConf,
+    ipam: Option<&HostLocalConf>,
     given: &[Given],
     version: Version,
 ) -> Result<AddResult, NoMemory>
-    ensures { IfOk result (λ r. r ≡ results.ipam_result_of (Some conf.now) given.now version) }
+    ensures { IfOk result (λ r. r ≡ results.ipam_result_of (option_copied ipam.entry) given.now version) }
 {
     Ok(AddResult {
         version,
         interfaces: Items::new(alloc),
         ips: ips_of(alloc, given)?,
-        routes: conf.routes.copy()?,
+        routes: copies(alloc, routes_of(ipam))?,
         dns: no_dns(alloc)?,
     })
 }

@@ -1,14 +1,12 @@
 //! What leased addresses mean, each computed when it is asked for.
 
 ghost use Rattle.std.specs.Prelude.{◌≡◌, ◌<◌, IfOk, Some, length, map, slice_get};
-ghost use Rattle.host_local.specs.Conf.{routes_of};
 ghost use Rattle.host_local.specs.Leases.{given_of};
 
 use crate::leases::find_given;
 use cni_addr::{Addr, NoMemory, RangeSet};
-use cni_result::{IpEntry, RouteEntry};
+use cni_result::IpEntry;
 use kernel_types::Given;
-use net_conf::HostLocalConf;
 use plan_words::GivenRow;
 use std::alloc::Global;
 
@@ -87,15 +85,5 @@ impl<'a> GivenRow for GivenByIps<'a> {
     fn given_at(&self, place: usize) -> Option<Given> {
         let addr = addr_at(self.ips, place);
         find_given(&self.sets[place], &addr)
-    }
-}
-
-/// The configured routes; none where no addresses are given. Takes no memory.
-pub fn routes_of(ipam: &Option<HostLocalConf>) -> &[RouteEntry]
-    ensures { result.now ≡ routes_of ipam.now }
-{
-    match ipam {
-        Some(conf) => conf.routes.as_slice(),
-        None => &[],
     }
 }

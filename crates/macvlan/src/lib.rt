@@ -55,7 +55,7 @@ pub fn after(
     ensures { IfOk result (λ calls. calls ≡ plan.macvlan_calls_after conf.now att.now netns.now given.now) }
 {
     let addresses = addresses_on(alloc, att, netns, given)?;
-    let routes = routes_on(alloc, att, netns, given, routes_of(&conf.ipam))?;
+    let routes = routes_on(alloc, att, netns, given, routes_of(conf.ipam.as_ref()))?;
     let mut calls = Vec::new(alloc);
     ask_all(&mut calls, addresses.as_slice())?;
     ask_all(&mut calls, routes.as_slice())?;
@@ -67,7 +67,7 @@ pub fn after(
 pub fn after_count<G: GivenRow + Copy>(conf: &MacvlanConf, given: G) -> usize
     ensures { (att : Att) (netns : List ℕ) → length (plan.macvlan_calls_after conf.now att netns (present (G.values given))) ≡ result }
 {
-    let entries = routes_of(&conf.ipam);
+    let entries = routes_of(conf.ipam.as_ref());
     let _places = given.places();
     let _few = 16 * entries.len();
     count_addresses(given) + count_routes(entries)

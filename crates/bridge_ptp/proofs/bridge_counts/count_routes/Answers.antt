@@ -19,4 +19,4 @@ returns-clause-count g c = λ att netns all.
     count-keys (λ (r : RouteEntry). r.dst) (route_on att netns all) _ is_same_route (bridge_routes b configured ips) _ c.count_keys.result c.count_keys.ensures.count
     (present-routes b configured ips c.default_of_family-v4.result c.default_of_family-v6.result c.default_of_family-v4.ensures c.default_of_family-v6.ensures)
     (same-route att netns all) in
-    rw c.routes_of-configured.ensures at counted
+    rw (c.routes_of-configured.ensures, c.as_ref.ensures.value) at counted
