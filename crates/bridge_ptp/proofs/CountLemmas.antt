@@ -1,8 +1,9 @@
 -- The keys of what `bridge` makes after the leases.
-use Rattle.std.proofs.Common.{◌≡◌, ℕ, ◌+◌, ◌-◌, ◌<◌, Bool, true, false, not, List, [], ◌∷◌, ◌++◌, map, length, Option, Some, None, refl, sym, ◌∙◌, ap, arith}
-use Rattle.std.specs.Prelude.{◌&&◌, slice_get, option_map, option_to_list, if◌then◌else◌}
+use Rattle.std.proofs.Common.{◌≡◌, ℕ, ◌+◌, ◌-◌, ◌<◌, Bool, true, List, [], ◌∷◌, ◌++◌, map, length, Option, Some, None, refl, sym, ◌∙◌, ap, arith}
+use Rattle.std.specs.Prelude.{slice_get, option_map, option_to_list, if◌then◌else◌}
 use Rattle.std.proofs.lemmas.List.{length-append, length-map, map-append}
 use Rattle.std.proofs.lemmas.Option.{slice_get-map, slice_get_read}
+use Rattle.cni_addr.specs.declared.address.Addr.{Addr}
 use Rattle.cni_addr.specs.declared.address.Cidr.{Cidr}
 use Rattle.cni_addr.specs.declared.address.Family.{Family}
 use Rattle.cni_addr.specs.declared.address.Family.TheVariants.{V4, V6}
@@ -12,13 +13,13 @@ use Rattle.net_conf.specs.declared.first.BridgeConf.{BridgeConf}
 use Rattle.kernel_types.specs.declared.call.Given.{Given}
 use Rattle.plan_words.specs.Families.{is_of_family, first_given, first_of_family}
 use Rattle.plan_words.specs.Rows.{present}
-use Rattle.plan_words.specs.Shapes.{default_route, forward_calls}
+use Rattle.plan_words.specs.Shapes.{forward_calls}
 use Rattle.plan_words.proofs.CountLemmas.{find-map}
 use Rattle.plan_words.proofs.RowLemmas.{slice_get-before, slice_get-behind, present-append, present-keys}
 use Rattle.host_local.specs.Results.{ip_of}
 use Rattle.bridge_ptp.specs.Bridge.{gateway_calls}
 use Rattle.bridge_ptp.specs.Gateways.{gateway_call, gateways_on}
-use Rattle.bridge_ptp.specs.Results.{has_destination, added_default, bridge_routes}
+use Rattle.bridge_ptp.specs.Results.{default_to, added_default, bridge_routes}
 
 -- ---- the default routes
 
@@ -26,17 +27,17 @@ use Rattle.bridge_ptp.specs.Results.{has_destination, added_default, bridge_rout
 pub find-ips : (family : Family) (given : List Given) → first_of_family family (map ip_of given) ≡ option_map ip_of (first_given family given)
 find-ips family given = find-map ip_of (λ (ip : IpEntry). is_of_family family ip.address) given
 
-by-added : (b : Bool) (r : RouteEntry) → map (λ x. x.dst) (if b then r ∷ [] else []) ≡ (if b then r.dst ∷ [] else [])
-by-added true r = refl
-by-added false r = refl
+destination-of : (gw : Option Addr) (o : Option Cidr) → option_to_list o ≡ map (λ (r : RouteEntry). r.dst) (option_to_list (option_map (λ dst. record { dst = dst; gw = gw }) o))
+destination-of gw None = refl
+destination-of gw (Some dst) = refl
 
-pub default-found : (b : Bool) (family : Family) (configured : List RouteEntry) (given : List Given) (g : Given) (keys : List Cidr) → first_given family given ≡ Some g
-    → keys ≡ (if b && not (has_destination configured (default_route g.address.addr.family)) then default_route g.address.addr.family ∷ [] else [])
-    → keys ≡ map (λ r. r.dst) (added_default b configured (first_of_family family (map ip_of given)))
-default-found b family configured given g keys at is =
-    is
-    ∙ sym (by-added (b && not (has_destination configured (default_route g.address.addr.family))) (record { dst = default_route g.address.addr.family; gw = Some g.gateway }))
-    ∙ sym (ap (λ o. map (λ r. r.dst) (added_default b configured o)) (find-ips family given ∙ ap (option_map ip_of) at))
+pub default-found : (b : Bool) (family : Family) (configured : List RouteEntry) (given : List Given) (g : Given) (o : Option Cidr) → first_given family given ≡ Some g
+    → o ≡ default_to b configured g.address.addr.family
+    → option_to_list o ≡ map (λ r. r.dst) (added_default b configured (first_of_family family (map ip_of given)))
+default-found b family configured given g o at is =
+    ap option_to_list is
+    ∙ destination-of (Some g.gateway) (default_to b configured g.address.addr.family)
+    ∙ sym (ap (λ ip. map (λ r. r.dst) (added_default b configured ip)) (find-ips family given ∙ ap (option_map ip_of) at))
 
 pub default-none : (b : Bool) (family : Family) (configured : List RouteEntry) (given : List Given) → first_given family given ≡ None → [] ≡ map (λ r. r.dst) (added_default b configured (first_of_family family (map ip_of given)))
 default-none b family configured given at = sym (ap (λ o. map (λ r. r.dst) (added_default b configured o)) (find-ips family given ∙ ap (option_map ip_of) at))

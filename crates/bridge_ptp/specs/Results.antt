@@ -1,8 +1,9 @@
 -- What a plugin that makes interfaces answers (CNI specification, section 5, ADD Success).
-use Rattle.std.specs.Prelude.{ℕ, Bool, not, ◌&&◌, List, [], ◌∷◌, ◌++◌, map, Option, Some, None, if◌then◌else◌}
+use Rattle.std.specs.Prelude.{ℕ, Bool, not, ◌&&◌, List, [], ◌∷◌, ◌++◌, map, Option, Some, None, option_map, option_to_list, if◌then◌else◌}
 use Rattle.std.specs.List.{list_any}
 use Rattle.cni_addr.specs.Equal.{cidr_eq}
 use Rattle.cni_addr.specs.declared.address.Cidr.{Cidr}
+use Rattle.cni_addr.specs.declared.address.Family.{Family}
 use Rattle.cni_addr.specs.declared.address.Family.TheVariants.{V4, V6}
 use Rattle.cni_result.specs.Versions.{mtu_since_1_1}
 use Rattle.cni_result.specs.declared.version.Version.{Version}
@@ -43,14 +44,16 @@ at_interface index ip = record { address = ip.address; gateway = ip.gateway; int
 abbrev pub has_destination : List RouteEntry → Cidr → Bool
 has_destination routes dst = list_any (λ r. cidr_eq r.dst dst) routes
 
--- what `isDefaultGateway` adds where this is a family's first address: the default route by its gateway, unless one is
--- configured
+-- the default route of the family, which `isDefaultGateway` adds unless it is configured
+abbrev pub default_to : Bool → List RouteEntry → Family → Option Cidr
+default_to is_default_gateway routes family =
+    if is_default_gateway && not (has_destination routes (default_route family)) then Some (default_route family) else None
+
+-- what `isDefaultGateway` adds where this is a family's first address: the default route by its gateway
 abbrev pub added_default : Bool → List RouteEntry → Option IpEntry → List RouteEntry
 added_default is_default_gateway routes None = []
 added_default is_default_gateway routes (Some ip) =
-    if is_default_gateway && not (has_destination routes (default_route ip.address.addr.family))
-    then record { dst = default_route ip.address.addr.family; gw = ip.gateway } ∷ []
-    else []
+    option_to_list (option_map (λ dst. record { dst = dst; gw = ip.gateway }) (default_to is_default_gateway routes ip.address.addr.family))
 
 -- the default routes at the end, IPv4 first
 abbrev pub bridge_routes : Bool → List RouteEntry → List IpEntry → List RouteEntry

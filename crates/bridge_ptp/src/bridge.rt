@@ -1,8 +1,7 @@
 //! The `bridge` plugin.
 
-ghost use Rattle.std.specs.Prelude.{◌≡◌, ◌++◌, ◌∷◌, [], not, ◌&&◌, option_to_list, Some, IfOk, OnOk, if◌then◌else◌};
+ghost use Rattle.std.specs.Prelude.{◌≡◌, ◌++◌, Some, IfOk, OnOk};
 ghost use Rattle.plan_words.specs.Families.{first_of_family};
-ghost use Rattle.plan_words.specs.Shapes as shapes;
 ghost use Rattle.bridge_ptp.specs.Bridge as plan;
 ghost use Rattle.bridge_ptp.specs.Gateways as gateways;
 ghost use Rattle.bridge_ptp.specs.Results as results;
@@ -53,12 +52,12 @@ fn has_destination(entries: &[RouteEntry], dst: &Cidr) -> bool
 }
 
 /// The default route of the address's family, where `isDefaultGateway` adds it: unless one is configured.
-pub(crate) fn added_default(
+pub(crate) fn default_to(
     is_default_gateway: bool,
     configured: &[RouteEntry],
     addr: &Addr,
 ) -> Option<Cidr>
-    ensures { let dst = shapes.default_route addr.now.family in option_to_list result ≡ (if is_default_gateway && not (results.has_destination configured.now dst) then dst ∷ [] else []) }
+    ensures { result ≡ results.default_to is_default_gateway configured.now addr.now.family }
 {
     let dst = default_route(addr.family);
     if is_default_gateway && !has_destination(configured, &dst) {
@@ -77,7 +76,7 @@ fn push_default_by(
 ) -> Result<(), NoMemory>
     ensures { OnOk result (entries.new ≡ entries.old ++ results.added_default is_default_gateway configured.now (Some ip.now)) }
 {
-    match added_default(is_default_gateway, configured, &ip.address.addr) {
+    match default_to(is_default_gateway, configured, &ip.address.addr) {
         Some(dst) => entries.push(RouteEntry {
             dst,
             gw: ip.gateway,

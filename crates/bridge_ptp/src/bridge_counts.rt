@@ -12,7 +12,7 @@ ghost use Rattle.bridge_ptp.specs.Bridge as plan;
 ghost use Rattle.bridge_ptp.specs.Gateways as gateways;
 ghost use Rattle.bridge_ptp.specs.Results as results;
 
-use crate::bridge::added_default;
+use crate::bridge::default_to;
 use cni_addr::{Addr, Cidr, Family};
 use cni_result::RouteEntry;
 use host_local::routes_of;
@@ -35,7 +35,7 @@ fn default_of_family<G: GivenRow>(
     ensures { option_to_list result ≡ map (λ r. r.dst) (results.added_default is_default_gateway configured.now (first_of_family family (map ip_of (present (G.values given.now))))) }
 {
     match first_given(given, family) {
-        Some(g) => added_default(is_default_gateway, configured, &g.address.addr),
+        Some(g) => default_to(is_default_gateway, configured, &g.address.addr),
         None => None,
     }
 }

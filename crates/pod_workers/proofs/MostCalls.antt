@@ -8,7 +8,6 @@ use Rattle.cni_addr.specs.Lists.{each_key_once}
 use Rattle.cni_addr.specs.declared.address.Addr.{Addr}
 use Rattle.cni_addr.specs.declared.address.Family.{Family}
 use Rattle.cni_addr.specs.declared.address.Family.TheVariants as families
-use Rattle.cni_addr.specs.declared.range.Range.{Range}
 use Rattle.cni_addr.specs.declared.range.RangeSet.{RangeSet}
 use Rattle.cni_result.specs.declared.cached.PortMapping.{PortMapping}
 use Rattle.cni_result.specs.declared.result.AddResult.{AddResult}
@@ -65,18 +64,18 @@ length-if : {X : Type 0} (b : Bool) (xs : List X) (most : ℕ) → length xs ≤
 length-if true xs most h = h
 length-if false xs most h = omega arith
 
--- ---- leased addresses
+length-one : {X Y : Type 0} (f : X → Y) (o : Option X) → length (option_to_list (option_map f o)) ≤ 1
+length-one f None = omega arith
+length-one f (Some x) = omega arith
 
-length-given_in : (o : Option Range) (addr : Addr) → length (option_to_list (option_map (given_by addr) o)) ≤ 1
-length-given_in None addr = omega arith
-length-given_in (Some r) addr = omega arith
+-- ---- leased addresses
 
 length-given : (sets : List RangeSet) (addrs : List Addr) → length (given_of sets addrs) ≤ length sets
 length-given [] addrs = omega arith
 length-given (set ∷ sets) [] = omega arith
 length-given (set ∷ sets) (addr ∷ addrs) =
     let rest = length-given sets addrs in
-    let one = length-given_in (find (is_between addr) set.ranges) addr in
+    let one = length-one (given_by addr) (find (is_between addr) set.ranges) in
     let both = ap length (given_of-cons set sets addr addrs) ∙ length-append (given_in set addr) (given_of sets addrs) in
     omega arith
 
@@ -113,10 +112,6 @@ length-forward gs =
     let b = length-if (has_family families.V6 gs) (ForwardEnsure families.V6 ∷ []) 1 (omega arith) in
     let c = length-append (forward_for families.V4 gs) (forward_for families.V6 gs) in
     omega arith
-
-length-one : {X : Type 0} (b : Bool) (x : X) → length (if b then x ∷ [] else []) ≤ 1
-length-one true x = omega arith
-length-one false x = omega arith
 
 length-added : (b : Bool) (routes : List RouteEntry) (o : Option IpEntry) → length (added_default b routes o) ≤ 1
 length-added b routes None = omega arith
