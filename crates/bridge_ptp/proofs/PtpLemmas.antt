@@ -13,7 +13,9 @@ use Rattle.cni_addr.specs.Network.{whole}
 use Rattle.cni_addr.specs.declared.address.Addr.{Addr}
 use Rattle.cni_addr.specs.declared.address.Cidr.{Cidr}
 use Rattle.cni_result.specs.declared.result.RouteEntry.{RouteEntry}
+use Rattle.kernel_types.proofs.Cases.{host_ns-eq}
 use Rattle.kernel_types.specs.Names.{host_name_of}
+use Rattle.kernel_types.specs.Words.{is_host_ns}
 use Rattle.kernel_types.specs.declared.object.Att.{Att}
 use Rattle.kernel_types.specs.declared.object.Tag.TheVariants.{Own}
 use Rattle.kernel_types.specs.declared.call.Given.{Given}
@@ -99,15 +101,15 @@ keys-lying b row entries =
 
 -- ---- the same keys
 
-ends-by : (netns ifname name : List ℕ) (b h k : Bool) → not (bytes_eq netns [] && bytes_eq ifname name) ≡ b → (bytes_eq (ns_at netns k) (ns_at netns h) && bytes_eq (name_at ifname name k) (name_at ifname name h)) ≡ beq (h && b) (k && b)
+ends-by : (netns ifname name : List ℕ) (b h k : Bool) → not (is_host_ns netns && bytes_eq ifname name) ≡ b → (bytes_eq (ns_at netns k) (ns_at netns h) && bytes_eq (name_at ifname name k) (name_at ifname name h)) ≡ beq (h && b) (k && b)
 ends-by netns ifname name true true true e = grind (arith, nat_list_eq_equiv.refl name)
 ends-by netns ifname name false true true e = grind (arith, nat_list_eq_equiv.refl name)
 ends-by netns ifname name true false false e = grind (arith, nat_list_eq_equiv.refl netns, nat_list_eq_equiv.refl ifname)
 ends-by netns ifname name false false false e = grind (arith, nat_list_eq_equiv.refl netns, nat_list_eq_equiv.refl ifname)
-ends-by netns ifname name true true false e = grind (arith, e)
-ends-by netns ifname name false true false e = grind (arith, e)
-ends-by netns ifname name true false true e = grind (arith, e, nat_list_eq_equiv.symm netns [], nat_list_eq_equiv.symm ifname name)
-ends-by netns ifname name false false true e = grind (arith, e, nat_list_eq_equiv.symm netns [], nat_list_eq_equiv.symm ifname name)
+ends-by netns ifname name true true false e = grind (arith, e, host_ns-eq netns)
+ends-by netns ifname name false true false e = grind (arith, e, host_ns-eq netns)
+ends-by netns ifname name true false true e = grind (arith, e, host_ns-eq netns, nat_list_eq_equiv.symm netns [], nat_list_eq_equiv.symm ifname name)
+ends-by netns ifname name false false true e = grind (arith, e, host_ns-eq netns, nat_list_eq_equiv.symm netns [], nat_list_eq_equiv.symm ifname name)
 
 and-with : (a b c : Bool) → ((a && b) && c) ≡ ((a && c) && b)
 and-with a b c = grind arith

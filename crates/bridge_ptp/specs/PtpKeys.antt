@@ -5,13 +5,14 @@ use Rattle.cni_addr.specs.Network.{whole}
 use Rattle.cni_addr.specs.declared.address.Addr.{Addr}
 use Rattle.cni_addr.specs.declared.address.Cidr.{Cidr}
 use Rattle.kernel_types.specs.Names.{host_name_of}
+use Rattle.kernel_types.specs.Words.{is_host_ns}
 use Rattle.kernel_types.specs.declared.object.Att.{Att}
 use Rattle.kernel_types.specs.declared.call.Given.{Given}
 use Rattle.bridge_ptp.specs.declared.ptp_counts.PtpKey.{PtpKey}
 
 -- the ends are two, unless the container's is named in the host's namespace as the host's is
 abbrev pub has_two_ends : Att → List ℕ → Bool
-has_two_ends att netns = not (bytes_eq netns [] && bytes_eq att.ifname (host_name_of att))
+has_two_ends att netns = not (is_host_ns netns && bytes_eq att.ifname (host_name_of att))
 
 abbrev pub address_key : Bool → Addr → PtpKey
 address_key on_host addr = record { on_host = on_host; address = Some addr; destination = None }
