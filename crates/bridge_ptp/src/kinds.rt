@@ -5,7 +5,6 @@ ghost use Rattle.std.specs.Option.{option_copied};
 ghost use Rattle.bridge_ptp.specs.Kinds as plan;
 
 use cni_addr::{Items, NoMemory};
-use host_local::release_kinds;
 use kernel_types::Kind;
 use net_conf::HostLocalConf;
 use std::alloc::Global;
@@ -24,7 +23,7 @@ pub fn interface_kinds(
         kinds.push(Kind::Rules)?;
     }
     if ipam.is_some() {
-        let [leases] = release_kinds();
+        let [leases] = host_local::kinds();
         kinds.push(leases)?;
     }
     Ok(kinds)

@@ -1,5 +1,5 @@
 -- The leases of an attachment, and what a leased address means by its range (the `host-local` plugin).
-use Rattle.std.specs.Prelude.{ℕ, ◌+◌, List, find, map, scan, zip, Option, option_map, option_to_list}
+use Rattle.std.specs.Prelude.{ℕ, ◌+◌, List, [], ◌∷◌, find, map, scan, zip, Option, option_map, option_to_list}
 use Rattle.cni_addr.specs.declared.address.Addr.{Addr}
 use Rattle.cni_addr.specs.declared.range.Range.{Range}
 use Rattle.cni_addr.specs.declared.range.RangeSet.{RangeSet}
@@ -8,6 +8,8 @@ use Rattle.kernel_types.specs.declared.object.Att.{Att}
 use Rattle.kernel_types.specs.declared.call.Call.{Call}
 use Rattle.kernel_types.specs.declared.call.Call.TheVariants.{LeaseNext}
 use Rattle.kernel_types.specs.declared.call.Given.{Given}
+use Rattle.kernel_types.specs.declared.call.Kind.{Kind}
+use Rattle.kernel_types.specs.declared.call.Kind.TheVariants.{Leases}
 use Rattle.plan_words.specs.Rows.{present}
 
 -- one lease of each set, in order
@@ -35,3 +37,7 @@ given_row sets addrs = map (λ p. given_by_set p.0 p.1) (zip sets addrs)
 -- the k-th address by the k-th set; one that its set doesn't hold is passed over, which no candidate is (Laws.antt)
 abbrev pub given_of : List RangeSet → List Addr → List Given
 given_of sets addrs = present (given_row sets addrs)
+
+-- the kinds of objects that DEL takes back
+abbrev pub host_local_kinds : List Kind
+host_local_kinds = Leases ∷ []

@@ -1,10 +1,9 @@
 //! Leases and given addresses.
 
-ghost use Rattle.std.specs.Prelude.{◌≡◌, ◌∷◌, [], ◌<◌, ◌^◌, find, option_map, slice_get, IfOk};
+ghost use Rattle.std.specs.Prelude.{◌≡◌, ◌<◌, ◌^◌, find, option_map, slice_get, IfOk};
 ghost use Rattle.std.specs.Option.{option_copied};
 ghost use Rattle.ip_pool.specs.NextAddress.{is_between};
 ghost use Rattle.kernel_types.specs.declared.call.Call.TheVariants.{LeaseNext};
-ghost use Rattle.kernel_types.specs.declared.call.Kind.TheVariants.{Leases};
 ghost use Rattle.host_local.specs.Leases as leases;
 
 use cni_addr::{Addr, Cidr, Duplicate, NoMemory, Range, RangeSet};
@@ -55,8 +54,8 @@ pub(crate) fn find_given(set: &RangeSet, addr: &Addr) -> Option<Given>
 }
 
 /// The kinds of objects that DEL takes back.
-pub fn release_kinds() -> [Kind; 1]
-    ensures { result ≡ Leases ∷ [] }
+pub fn kinds() -> [Kind; 1]
+    ensures { result ≡ leases.host_local_kinds }
 {
     [Kind::Leases]
 }

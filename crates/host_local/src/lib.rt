@@ -20,6 +20,6 @@ pub mod rows;
 mod tests;
 
 pub use conf::{ipam_of, routes_of};
-pub use leases::{lease_at, release_kinds};
+pub use leases::{kinds, lease_at};
 pub use results::{ipam_result, ips_of};
 pub use rows::{GivenByIps, GivenBySets, given_of};

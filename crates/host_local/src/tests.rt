@@ -3,7 +3,7 @@
 ghost use Rattle.std.specs.Prelude.{◌≡◌, IfOk, length};
 ghost use Rattle.cni_addr.specs.declared.address.Family.TheVariants.{V4};
 
-use super::{given_of, lease_at, release_kinds};
+use super::{given_of, kinds, lease_at};
 use cni_addr::{Addr, Cidr, Duplicate, Family, Items, NoMemory, Range, RangeSet, Text};
 use kernel_types::{Att, Call, Given, Kind};
 use net_conf::HostLocalConf;
@@ -101,7 +101,7 @@ fn each_set_is_leased_from_once(rt: HostRuntime) -> Result<(), Fail> {
     assert!(rt; leases(&first, &att, 0, &sets[0]));
     assert!(rt; leases(&second, &att, 1, &sets[1]));
     assert!(rt; third.is_none());
-    assert!(rt; release_kinds() == [Kind::Leases]);
+    assert!(rt; kinds() == [Kind::Leases]);
     Ok(())
 }
 
