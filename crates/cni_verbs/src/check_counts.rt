@@ -10,7 +10,7 @@ ghost use Rattle.cni_verbs.specs.Phases.{questions_about};
 ghost use Rattle.cni_verbs.specs.Questions as asked;
 ghost use Rattle.cni_verbs.specs.Wanted as wanted;
 
-use crate::counts::ends_are_two;
+use crate::counts::has_two_ends;
 use crate::wanted::sets_of;
 use bridge_ptp::{bridge_object_count, ptp_object_count};
 use cni_result::{Cached, Interface, PortMapping};
@@ -103,7 +103,7 @@ fn count_check(list: &NetList, command: &Command, cached: &Cached) -> u128
     };
     let chained = list.chained.as_slice();
     let _few = 2 * chained.len();
-    let two_ends = ends_are_two(command, &cached.netns);
+    let two_ends = has_two_ends(command, &cached.netns);
     let objects = count_objects(&list.first, two_ends, row);
     let made = count_all_made(chained, cached.mappings.as_slice(), row);
     let bridges = count_bridges(&list.first, cached.result.interfaces.as_slice());

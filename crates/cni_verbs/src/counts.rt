@@ -41,7 +41,7 @@ fn is_named_as_host_end(command: &Command) -> bool
 
 /// Whether a pair of the attachment has two ends, where the container's lies in this namespace: its name in the host's
 /// namespace may be that of the host's end.
-pub(crate) fn ends_are_two(command: &Command, netns: &Text) -> bool
+pub(crate) fn has_two_ends(command: &Command, netns: &Text) -> bool
     ensures { result ≡ has_two_ends (words.att_of command.now) netns.now }
 {
     !(is_host_ns(netns.as_str()) && is_named_as_host_end(command))
@@ -116,7 +116,7 @@ pub(crate) fn back_count(list: &NetList, command: &Command, given: &[Addr]) -> u
     };
     let _few = 2 * list.chained.as_slice().len();
     let mappings = TakenMappings(raw_mappings(list, command));
-    let after = count_after(&list.first, ends_are_two(command, &command.netns), row);
+    let after = count_after(&list.first, has_two_ends(command, &command.netns), row);
     let chained = count_all_chained(list.chained.as_slice(), mappings, row);
     after as u128 + chained + 1
 }

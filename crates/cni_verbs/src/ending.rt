@@ -133,7 +133,7 @@ fn answer_at_end(
 }
 
 /// What the run of this list answers, where it is over.
-pub(crate) fn answer_of(
+pub(crate) fn answer_in(
     alloc: Global,
     list: &NetList,
     command: &Command,

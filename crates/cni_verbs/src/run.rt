@@ -10,7 +10,7 @@ ghost use Rattle.cni_verbs.specs.Wanted.{sets_of, kinds_of};
 
 use crate::advance::{after, after_outside};
 use crate::answer::Answer;
-use crate::ending::{answer_of, answer_outside};
+use crate::ending::{answer_in, answer_outside};
 use crate::next::{before_of, next_of, next_outside};
 use crate::over::{is_over, is_over_outside};
 use crate::phase::Phase;
@@ -240,7 +240,7 @@ impl Run {
     {
         let alloc = *self.given.allocator();
         match &self.list {
-            Some(list) => answer_of(
+            Some(list) => answer_in(
                 alloc,
                 list,
                 &self.command,

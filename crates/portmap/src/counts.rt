@@ -84,7 +84,7 @@ fn masquerade_key(mapping: &PortMapping, to: Addr, source: Cidr) -> PortKey
     }
 }
 
-fn from_host(mapping: &PortMapping, to: Addr) -> Option<PortKey>
+fn from_host_key(mapping: &PortMapping, to: Addr) -> Option<PortKey>
     ensures { result ≡ keys.from_host_key mapping.now to to.family }
 {
     match to.family {
@@ -101,7 +101,7 @@ fn keys_to(snat: bool, mapping: &PortMapping, address: Cidr) -> [Option<PortKey>
         let dnat = Some(dnat_key(mapping, to));
         if snat {
             let own = masquerade_key(mapping, to, network_of(&address));
-            [dnat, Some(own), from_host(mapping, to)]
+            [dnat, Some(own), from_host_key(mapping, to)]
         } else {
             [dnat, None, None]
         }

@@ -26,7 +26,7 @@ returns c =
     let there : given_of c.sets_of.result.now listed ≡ given = rw (c.sets_of.ensures, c.as_slice-ips.ensures) refl in
     let same : map (λ ip. ip.address) prev.ips ≡ map (λ (g : Given). g.address) (given_of c.sets_of.result.now listed) =
     first-addresses list.first att netns (ipam_of list.first) given list.version ∙ ap (map (λ (g : Given). g.address)) (sym there) in
-    let objects : c.count_objects-objects.result ≡ length share.addresses + length share.routes + length share.rules = rw there at (c.count_objects-objects.ensures att netns (sym c.ends_are_two-two_ends.ensures)) in
+    let objects : c.count_objects-objects.result ≡ length share.addresses + length share.routes + length share.rules = rw there at (c.count_objects-objects.ensures att netns (sym c.has_two_ends-two_ends.ensures)) in
     let all = c.count_all_made-made.ensures.count att netns prev.ips same in
     let made : c.count_all_made-made.result ≡ length (flat_map (λ x. rules_of x att cached.mappings prev.ips) list.chained) + length (flat_map (λ x. settings_of x att netns) list.chained) =
     rw (c.as_slice-chained.ensures, c.as_slice.ensures) at all in

@@ -23,7 +23,7 @@ returns c =
     let same : map (λ ip. ip.address) prev.ips ≡ map (λ (g : Given). g.address) (given_of c.sets_of.result.now addrs) =
     first-addresses list.first att netns (ipam_of list.first) given list.version ∙ ap (map (λ (g : Given). g.address)) (sym there) in
     let taken : present (map mapping_of c.raw_mappings.result.now) ≡ mappings = present-taken mapping_of c.raw_mappings.result.now ∙ c.raw_mappings.ensures in
-    let after : c.count_after-after.result ≡ length (calls_after list.first att netns given) = rw there at (c.count_after-after.ensures att netns (sym c.ends_are_two.ensures)) in
+    let after : c.count_after-after.result ≡ length (calls_after list.first att netns given) = rw there at (c.count_after-after.ensures att netns (sym c.has_two_ends.ensures)) in
     let chained = c.count_all_chained-chained.ensures.count att netns prev same in
     let chained_is : c.count_all_chained-chained.result ≡ length (all_chained_calls list.chained att netns mappings prev) = rw (c.as_slice-2.ensures, taken) at chained in
     sym (

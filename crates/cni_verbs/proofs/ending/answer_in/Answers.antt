@@ -2,7 +2,7 @@ use Rattle.std.proofs.Common.{Some}
 use Rattle.cni_verbs.specs.Phases.{state_in}
 use Rattle.cni_verbs.specs.Progress as progress
 use Rattle.cni_verbs.proofs.Ends.{unended}
-use Rattle.cni_verbs.proofs.ending.answer_of.Goals as goal
+use Rattle.cni_verbs.proofs.ending.answer_in.Goals as goal
 
 pub returns-else-is_over : goal.returns-else-is_over
 returns-else-is_over c =
