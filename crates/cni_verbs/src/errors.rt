@@ -155,7 +155,7 @@ fn details_of(alloc: Global, command: &Command, cause: &Cause) -> Result<Text, N
 
 /// The error that a verb answers where it refuses for this cause, in the version of its list.
 #[tactic(auto, unfolding(crate::specs::Answers::error_of))]
-pub fn error_of(
+fn error_of(
     alloc: Global,
     version: Version,
     command: &Command,
@@ -172,7 +172,7 @@ pub fn error_of(
 }
 
 /// The answer of a verb that refuses for this cause, in the version of its list.
-pub fn refused(
+pub(crate) fn refused(
     alloc: Global,
     version: Version,
     command: &Command,

@@ -24,7 +24,7 @@ mod check_counts;
 mod counts;
 mod ending;
 pub mod error_kind;
-pub mod errors;
+mod errors;
 mod inquiry;
 pub mod laws;
 mod missed;
