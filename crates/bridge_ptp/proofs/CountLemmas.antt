@@ -9,6 +9,7 @@ use Rattle.cni_addr.specs.declared.address.Family.{Family}
 use Rattle.cni_addr.specs.declared.address.Family.TheVariants.{V4, V6}
 use Rattle.cni_result.specs.declared.result.IpEntry.{IpEntry}
 use Rattle.cni_result.specs.declared.result.RouteEntry.{RouteEntry}
+use Rattle.net_conf.specs.BridgeModes.{is_gateway}
 use Rattle.net_conf.specs.declared.first.BridgeConf.{BridgeConf}
 use Rattle.kernel_types.specs.declared.call.Given.{Given}
 use Rattle.plan_words.specs.Families.{is_of_family, first_given, first_of_family}
@@ -64,7 +65,7 @@ present-routes b configured ips v4 v6 is4 is6 =
 
 -- ---- the gateways
 
-pub gateway_calls_counted : (conf : BridgeConf) (given : List Given) (n m : ℕ) → ((bridge : List ℕ) → n ≡ length (gateways_on bridge given)) → m ≡ length (forward_calls given) → conf.is_gateway ≡ true
+pub gateway_calls_counted : (conf : BridgeConf) (given : List Given) (n m : ℕ) → ((bridge : List ℕ) → n ≡ length (gateways_on bridge given)) → m ≡ length (forward_calls given) → is_gateway conf.gateway ≡ true
     → n + m ≡ length (gateway_calls conf given)
 gateway_calls_counted conf given n m counted forward is =
     let asked = map gateway_call (gateways_on conf.bridge given) in

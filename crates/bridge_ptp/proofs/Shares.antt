@@ -3,6 +3,7 @@ use Rattle.std.proofs.Common.{◌≡◌, ℕ, Bool, true, false, ap, List, [], �
 use Rattle.std.proofs.lemmas.List.{append-nil}
 use Rattle.std.specs.Prelude.{filter_map, flat_map}
 use Rattle.std.specs.List.{list_all}
+use Rattle.net_conf.specs.BridgeModes.{is_gateway, hairpin}
 use Rattle.net_conf.specs.declared.first.BridgeConf.{BridgeConf}
 use Rattle.net_conf.specs.declared.first.PtpConf.{PtpConf}
 use Rattle.kernel_types.specs.Words.{is_own}
@@ -28,10 +29,10 @@ own-bridge_before conf att netns = own-calls (grind (arith, att_eq-refl att))
 
 pub bridge-appends_before : (conf : BridgeConf) (att : Att) (netns : List ℕ) → AppendsShare att (bridge_calls_before conf att netns) (bridge_share_before conf att netns)
 bridge-appends_before conf att netns =
-    appends-links att (bridge_calls_before conf att netns) (host_end att netns _ conf.mtu conf.hairpin ∷ inner_end att netns conf.mtu ∷ []) (own-bridge_before conf att netns) (λ s. refl)
+    appends-links att (bridge_calls_before conf att netns) (host_end att netns _ conf.mtu (hairpin conf.mode) ∷ inner_end att netns conf.mtu ∷ []) (own-bridge_before conf att netns) (λ s. refl)
 
 own-gateway_calls : (att : Att) (conf : BridgeConf) (given : List Given) → AreOwnCalls att (gateway_calls conf given)
-own-gateway_calls att conf given = own-if conf.is_gateway (own-append (own-each att gateway_call (λ g. refl) (gateways_on conf.bridge given)) (own-forward_calls att given))
+own-gateway_calls att conf given = own-if (is_gateway conf.gateway) (own-append (own-each att gateway_call (λ g. refl) (gateways_on conf.bridge given)) (own-forward_calls att given))
 
 pub own-bridge_after : (conf : BridgeConf) (att : Att) (netns : List ℕ) (given : List Given) → AreOwnCalls att (bridge_calls_after conf att netns given)
 own-bridge_after conf att netns given =
@@ -47,7 +48,7 @@ share-asked s (x ∷ xs) = share-asked s xs
 share-gateways : (conf : BridgeConf) (given : List Given) (s : Share) → share_after_calls s (gateway_calls conf given) ≡ s
 share-gateways conf given s =
     let asked = map gateway_call (gateways_on conf.bridge given) in
-    share_after_calls-if s conf.is_gateway (asked ++ forward_calls given)
+    share_after_calls-if s (is_gateway conf.gateway) (asked ++ forward_calls given)
     (share_after_calls-then s s s asked (forward_calls given) (share-asked s (gateways_on conf.bridge given)) (share_after_calls-forward s given))
 
 -- what the calls after the leases add to a share

@@ -2,6 +2,7 @@
 -- master.
 use Rattle.std.specs.Prelude.{ℕ, List, [], ◌∷◌, ◌++◌, map, Some, if◌then◌else◌}
 use Rattle.cni_result.specs.declared.result.RouteEntry.{RouteEntry}
+use Rattle.net_conf.specs.BridgeModes.{is_gateway, is_default, hairpin, promisc}
 use Rattle.net_conf.specs.declared.first.BridgeConf.{BridgeConf}
 use Rattle.kernel_types.specs.declared.object.Att.{Att}
 use Rattle.kernel_types.specs.declared.call.Given.{Given}
@@ -21,12 +22,12 @@ use Rattle.bridge_ptp.specs.Veth.{veth_share, veth_pair}
 
 -- those of the result, by which the container's end has its own
 abbrev pub bridge_entries : BridgeConf → List Given → List RouteEntry
-bridge_entries conf given = bridge_routes conf.is_default_gateway (routes_of conf.ipam) (map ip_of given)
+bridge_entries conf given = bridge_routes (is_default conf.gateway) (routes_of conf.ipam) (map ip_of given)
 
 -- ---- the share
 
 abbrev pub bridge_share_before : BridgeConf → Att → List ℕ → Share
-bridge_share_before conf att netns = veth_share att netns (Some conf.bridge) conf.mtu conf.hairpin
+bridge_share_before conf att netns = veth_share att netns (Some conf.bridge) conf.mtu (hairpin conf.mode)
 
 abbrev pub bridge_share_after : BridgeConf → Att → List ℕ → List Given → Share
 bridge_share_after conf att netns given = record no_objects {
@@ -38,11 +39,11 @@ bridge_share_after conf att netns given = record no_objects {
 -- ---- the calls
 
 abbrev pub gateway_calls : BridgeConf → List Given → List Call
-gateway_calls conf given = if conf.is_gateway then map gateway_call (gateways_on conf.bridge given) ++ forward_calls given else []
+gateway_calls conf given = if is_gateway conf.gateway then map gateway_call (gateways_on conf.bridge given) ++ forward_calls given else []
 
 abbrev pub bridge_calls_before : BridgeConf → Att → List ℕ → List Call
 bridge_calls_before conf att netns =
-    BridgeEnsure conf.bridge conf.mtu conf.promisc ∷ veth_pair att netns (Some conf.bridge) conf.mtu conf.hairpin ∷ []
+    BridgeEnsure conf.bridge conf.mtu (promisc conf.mode) ∷ veth_pair att netns (Some conf.bridge) conf.mtu (hairpin conf.mode) ∷ []
 
 abbrev pub bridge_calls_after : BridgeConf → Att → List ℕ → List Given → List Call
 bridge_calls_after conf att netns given =

@@ -12,6 +12,7 @@ use Rattle.cni_result.specs.declared.result.IpEntry.{IpEntry}
 use Rattle.cni_result.specs.declared.result.RouteEntry.{RouteEntry}
 use Rattle.cni_result.specs.declared.result.AddResult.{AddResult}
 use Rattle.cni_result.specs.declared.result.Dns.{Dns}
+use Rattle.net_conf.specs.BridgeModes.{is_default}
 use Rattle.net_conf.specs.declared.first.BridgeConf.{BridgeConf}
 use Rattle.net_conf.specs.declared.first.PtpConf.{PtpConf}
 use Rattle.kernel_types.specs.Names.{host_name_of, host_mac_of, inner_mac_of, link_mac_of}
@@ -70,7 +71,7 @@ completed ipam interfaces index routes dns =
 
 abbrev pub bridge_result_of : BridgeConf → Att → List ℕ → AddResult → AddResult
 bridge_result_of conf att netns ipam =
-    completed ipam (bridge_interface conf.bridge ∷ pair_interfaces att netns conf.mtu ipam.version) 2 (bridge_routes conf.is_default_gateway ipam.routes ipam.ips) conf.dns
+    completed ipam (bridge_interface conf.bridge ∷ pair_interfaces att netns conf.mtu ipam.version) 2 (bridge_routes (is_default conf.gateway) ipam.routes ipam.ips) conf.dns
 
 abbrev pub ptp_result_of : PtpConf → Att → List ℕ → AddResult → AddResult
 ptp_result_of conf att netns ipam = completed ipam (pair_interfaces att netns conf.mtu ipam.version) 1 ipam.routes conf.dns

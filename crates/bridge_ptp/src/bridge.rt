@@ -35,10 +35,10 @@ pub fn bridge_before(
     calls.push(Call::BridgeEnsure {
         name: conf.bridge.copy()?,
         mtu: conf.mtu,
-        promisc: conf.promisc,
+        promisc: conf.mode.promisc(),
     })?;
     let master = Some(conf.bridge.copy()?);
-    calls.push(veth_pair(alloc, att, netns, master, conf.mtu, conf.hairpin)?)?;
+    calls.push(veth_pair(alloc, att, netns, master, conf.mtu, conf.mode.hairpin())?)?;
     Ok(calls)
 }
 
@@ -139,7 +139,7 @@ fn entries_for(
     let ips = ips_of(alloc, given)?;
     result_routes(
         alloc,
-        conf.is_default_gateway,
+        conf.gateway.is_default(),
         routes_of(conf.ipam.as_ref()),
         ips.as_slice(),
     )
@@ -212,7 +212,7 @@ fn ask_gateways(
 ) -> Result<(), NoMemory>
     ensures { OnOk result (calls.new.items ≡ calls.old.items ++ plan.gateway_calls conf.now given.now) }
 {
-    if conf.is_gateway {
+    if conf.gateway.is_gateway() {
         let all = gateways_on(alloc, &conf.bridge, given)?;
         ask_all(calls, all.as_slice())?;
         ask_forward(calls, given)?;
@@ -262,7 +262,7 @@ pub fn bridge_result(
     push_pair(alloc, &mut interfaces, att, netns, conf.mtu, ipam.version)?;
     let routes = result_routes(
         alloc,
-        conf.is_default_gateway,
+        conf.gateway.is_default(),
         ipam.routes.as_slice(),
         ipam.ips.as_slice(),
     )?;

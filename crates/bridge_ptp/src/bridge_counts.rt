@@ -76,8 +76,9 @@ fn count_routes<G: GivenRow>(conf: &BridgeConf, given: &G) -> usize
     ensures most { result ≤ length (routes_of conf.now.ipam) + 2 }
 {
     let configured = routes_of(conf.ipam.as_ref());
-    let v4 = default_of_family(conf.is_default_gateway, configured, Family::V4, given);
-    let v6 = default_of_family(conf.is_default_gateway, configured, Family::V6, given);
+    let is_default = conf.gateway.is_default();
+    let v4 = default_of_family(is_default, configured, Family::V4, given);
+    let v6 = default_of_family(is_default, configured, Family::V6, given);
     count_keys(&RouteKeys { configured, v4, v6 })
 }
 
@@ -114,7 +115,7 @@ fn count_gateway_calls<G: GivenRow + Copy>(conf: &BridgeConf, given: G) -> usize
     ensures count { result ≡ length (plan.gateway_calls conf.now (present (G.values given))) }
     ensures most { result ≤ length (G.values given) + 2 }
 {
-    if conf.is_gateway {
+    if conf.gateway.is_gateway() {
         let _places = given.places();
         count_gateways(given) + count_forward_calls(&given)
     } else {

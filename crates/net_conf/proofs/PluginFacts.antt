@@ -3,7 +3,7 @@ use Rattle.std.proofs.Common.{◌≡◌, ℕ, true, false, List, [], ◌∷◌, 
 use Rattle.std.specs.Prelude.{All, map, if◌then◌else◌, ok_or}
 use Rattle.std.specs.List.{AllByRecursion, IsDistinct, list_any}
 use Rattle.std.specs.Str.{chars}
-use Rattle.std.proofs.lemmas.Bool.{or_parts, or_right}
+use Rattle.std.proofs.lemmas.Bool.{or_parts}
 use Rattle.std.proofs.lemmas.List.Elements.{All-nil, All-push}
 use Rattle.serde_json.specs.Data.{Data, null, boolean, number, string, array, object, Items, no_items, item}
 use Rattle.serde_json.specs.Find.{get, as_array}
@@ -17,7 +17,7 @@ use Rattle.net_conf.proofs.Endings.{mapped, needed_text-ok, or_default, passing-
 use Rattle.net_conf.proofs.SetFacts.{sets_at-ok, routes_at-ok}
 use Rattle.net_conf.proofs.TuningFacts.{by_outcome, given_mtu_at-ok, tuning_at-ok}
 use Rattle.cni_result.specs.Dns.{dns_of_object}
-use Rattle.net_conf.specs.Bridge.{bridge_rows, bridge_name_of, bridge_name_at, gateway_role_at, mode_flags_at, is_one_mode, not_both, modes_at, bridge_at}
+use Rattle.net_conf.specs.Bridge.{bridge_rows, bridge_name_of, bridge_name_at, gateway_role_at, bridge_mode_at, bridge_at}
 use Rattle.net_conf.specs.Firewall.{firewall_at}
 use Rattle.net_conf.specs.Ipam.{manager_at, host_local_at, is_empty, read_ipam_of, ipam_at, addressing_at}
 use Rattle.net_conf.specs.Macvlan.{macvlan_rows, master_at, mode_at, macvlan_at}
@@ -33,8 +33,6 @@ use Rattle.net_conf.specs.Routes.{routes_at}
 use Rattle.net_conf.specs.Sets.{sets_at}
 use Rattle.net_conf.specs.Tuning.{tuning_at}
 use Rattle.net_conf.specs.WellFormed.{IsMtu, IsWellFormedHostLocal, IsWellFormedIpam, IsWellFormedBridge, IsWellFormedPtp, IsWellFormedMacvlan, IsWellFormedFirst, IsWellFormedChained}
-use Rattle.net_conf.specs.declared.bridge.BridgeModes.{BridgeModes}
-use Rattle.net_conf.specs.declared.bridge.GatewayRole.{GatewayRole}
 use Rattle.net_conf.specs.declared.chained.Chained.{Chained}
 use Rattle.net_conf.specs.declared.error.ConfError.TheVariants as refusal
 use Rattle.net_conf.specs.declared.first.BridgeConf.{BridgeConf}
@@ -113,26 +111,6 @@ master_at-ok : (d : Data) (name : List ℕ) → master_at d ≡ Ok name → IsNa
 unfolding master_at
 master_at-ok d name is = needed_text-ok (codes "master") is_interface_name (text_field (codes "master") d) name is
 
-abbrev IsRole : GatewayRole → Type 0
-IsRole role = role.is_default_gateway ≡ true → role.is_gateway ≡ true
-
-gateway_role_at-ok : (d : Data) (role : GatewayRole) → gateway_role_at d ≡ Ok role → IsRole role
-unfolding gateway_role_at
-gateway_role_at-ok d role is =
-    let gateway = goes (flag_at (codes "isGateway") false d) _ role is in
-    let default = goes (flag_at (codes "isDefaultGateway") false d) _ role gateway.rest in
-    subst IsRole (ok_same default.rest) (or_right gateway.value default.value)
-
-abbrev IsOneMode : BridgeModes → Type 0
-IsOneMode modes = is_one_mode modes.hairpin modes.promisc ≡ true
-
-modes_at-ok : (d : Data) (found : BridgeModes) → modes_at d ≡ Ok found → IsOneMode found
-unfolding modes_at not_both
-modes_at-ok d found is =
-    let modes = goes (mode_flags_at d) _ found is in
-    let test = goes (not_both modes.value) _ found modes.rest in
-    subst IsOneMode (ok_same test.rest) (passed (is_one_mode modes.value.hairpin modes.value.promisc) tt test.value _ test.first).0
-
 bridge_at-ok : (d : Data) (conf : BridgeConf) → bridge_at d ≡ Ok conf → IsWellFormedBridge conf
 unfolding bridge_at
 bridge_at-ok d conf is =
@@ -141,13 +119,11 @@ bridge_at-ok d conf is =
     let role = goes (gateway_role_at d) _ conf name.rest in
     let masq = goes (flag_at (codes "ipMasq") false d) _ conf role.rest in
     let mtu = goes (mtu_at d) _ conf masq.rest in
-    let modes = goes (modes_at d) _ conf mtu.rest in
-    let addressing = goes (addressing_at d) _ conf modes.rest in
+    let mode = goes (bridge_mode_at d) _ conf mtu.rest in
+    let addressing = goes (addressing_at d) _ conf mode.rest in
     subst IsWellFormedBridge (ok_same addressing.rest) (record {
       name = bridge_name_at-ok d name.value name.first;
-      default_is_gateway = gateway_role_at-ok d role.value role.first;
       mtu = mtu_at-ok d mtu.value mtu.first;
-      one_mode = modes_at-ok d modes.value modes.first;
       ipam = addressing_at-ok d addressing.value addressing.first;
     })
 

@@ -1,5 +1,5 @@
 -- The configuration of the `bridge` plugin, key by key in the order of its refusals.
-use Rattle.std.specs.Prelude.{◌&&◌, ◌||◌, ℕ, List, [], ◌∷◌, codes, Bool, true, false, not, if◌then◌else◌, Result, Ok, ⊤}
+use Rattle.std.specs.Prelude.{ℕ, List, [], ◌∷◌, codes, Bool, true, false, Result, Ok}
 use Rattle.serde_json.specs.Data.{Data}
 use Rattle.cni_json.specs.Fields.{text_field, tested}
 use Rattle.cni_json.specs.Outcome.{◌>>=◌}
@@ -9,8 +9,10 @@ use Rattle.net_conf.specs.Members.{with_default, flag_at, mtu_at}
 use Rattle.net_conf.specs.Names.{is_interface_name}
 use Rattle.net_conf.specs.Outside.{Row, all_supported}
 use Rattle.net_conf.specs.Refusals.{invalid}
-use Rattle.net_conf.specs.declared.bridge.BridgeModes.{BridgeModes}
-use Rattle.net_conf.specs.declared.bridge.GatewayRole.{GatewayRole}
+use Rattle.net_conf.specs.declared.bridge_modes.BridgeMode.{BridgeMode}
+use Rattle.net_conf.specs.declared.bridge_modes.BridgeMode.TheVariants as modes
+use Rattle.net_conf.specs.declared.bridge_modes.GatewayRole.{GatewayRole}
+use Rattle.net_conf.specs.declared.bridge_modes.GatewayRole.TheVariants as roles
 use Rattle.net_conf.specs.declared.error.ConfError.{ConfError}
 use Rattle.net_conf.specs.declared.first.BridgeConf.{BridgeConf}
 use Rattle.net_conf.specs.declared.outside.Accepted.TheVariants.{Zero, EmptyList, IsFlag, Backend}
@@ -30,55 +32,53 @@ bridge_name_of f = with_default (codes "bridge") (codes "cni0") (tested (invalid
 unfoldable pub bridge_name_at : Data → Result (List ℕ) ConfError
 bridge_name_at d = bridge_name_of (text_field (codes "bridge") d)
 
--- whether the bridge has the gateways' addresses, which a default gateway asks for too
+-- a default gateway is a gateway, whatever the first flag says
+abbrev pub role_of : Bool → Bool → GatewayRole
+role_of is_gateway true = roles.DefaultGateway
+role_of true false = roles.Gateway
+role_of false false = roles.None
+
+-- what the bridge is to its containers
 unfoldable pub gateway_role_at : Data → Result GatewayRole ConfError
 gateway_role_at d = do
-  gateway ← flag_at (codes "isGateway") false d
-  default_gateway ← flag_at (codes "isDefaultGateway") false d
-  Ok (record { is_gateway = gateway || default_gateway; is_default_gateway = default_gateway })
+  is_gateway ← flag_at (codes "isGateway") false d
+  is_default ← flag_at (codes "isDefaultGateway") false d
+  Ok (role_of is_gateway is_default)
 
 -- whether the bridge takes every frame
 unfoldable pub promisc_at : Data → Result Bool ConfError
 promisc_at d = flag_at (codes "promiscMode") false d
 
--- the modes of the bridge and of its ports
-unfoldable pub mode_flags_at : Data → Result BridgeModes ConfError
-mode_flags_at d = do
+-- a bridge in promiscuous mode needs no hairpin
+abbrev pub mode_of : Bool → Bool → Result BridgeMode ConfError
+mode_of false false = Ok modes.Plain
+mode_of true false = Ok modes.Hairpin
+mode_of false true = Ok modes.Promisc
+mode_of true true = invalid (codes "hairpinMode")
+
+-- the mode of the bridge and of its ports
+unfoldable pub bridge_mode_at : Data → Result BridgeMode ConfError
+bridge_mode_at d = do
   hairpin ← flag_at (codes "hairpinMode") false d
   promisc ← promisc_at d
-  Ok (record { hairpin = hairpin; promisc = promisc })
-
--- a bridge in promiscuous mode needs no hairpin
-abbrev pub is_one_mode : Bool → Bool → Bool
-is_one_mode hairpin promisc = not (hairpin && promisc)
-
-unfoldable pub not_both : BridgeModes → Result ⊤ ConfError
-not_both modes = if is_one_mode modes.hairpin modes.promisc then Ok tt else invalid (codes "hairpinMode")
-
-unfoldable pub modes_at : Data → Result BridgeModes ConfError
-modes_at d = do
-  modes ← mode_flags_at d
-  _ ← not_both modes
-  Ok modes
+  mode_of hairpin promisc
 
 -- the configuration that a `bridge` plugin's object gives
 unfoldable pub bridge_at : Data → Result BridgeConf ConfError
 bridge_at d = do
   _ ← all_supported bridge_rows d
   bridge ← bridge_name_at d
-  role ← gateway_role_at d
+  gateway ← gateway_role_at d
   masq ← flag_at (codes "ipMasq") false d
   mtu ← mtu_at d
-  modes ← modes_at d
+  mode ← bridge_mode_at d
   addressing ← addressing_at d
   Ok (record {
     bridge = bridge;
-    is_gateway = role.is_gateway;
-    is_default_gateway = role.is_default_gateway;
+    gateway = gateway;
     ip_masq = masq;
     mtu = mtu;
-    hairpin = modes.hairpin;
-    promisc = modes.promisc;
+    mode = mode;
     ipam = addressing.ipam;
     dns = addressing.dns;
   })

@@ -10,7 +10,6 @@ use Rattle.cni_addr.specs.Value.{IsAddr}
 use Rattle.cni_json.specs.Fields.{has_32_bits}
 use Rattle.cni_result.specs.declared.result.RouteEntry.{RouteEntry}
 use Rattle.ip_pool.specs.Pool.{are_apart}
-use Rattle.net_conf.specs.Bridge.{is_one_mode}
 use Rattle.net_conf.specs.Members.{is_mtu}
 use Rattle.net_conf.specs.Names.{is_network_name, is_interface_name}
 use Rattle.net_conf.specs.PluginTypes.{type_eq, type_of_chained}
@@ -74,9 +73,7 @@ IsMtu n = IsTrue (is_mtu n)
 
 pub record IsWellFormedBridge (conf : BridgeConf) : Type 0 where
   pub name : IsTrue (is_interface_name conf.bridge)
-  pub default_is_gateway : IsTrue conf.is_default_gateway → IsTrue conf.is_gateway
   pub mtu : IsMtu conf.mtu
-  pub one_mode : IsTrue (is_one_mode conf.hairpin conf.promisc)
   pub ipam : IsWellFormedIpam conf.ipam
 
 pub record IsWellFormedPtp (conf : PtpConf) : Type 0 where

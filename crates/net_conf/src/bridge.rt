@@ -8,6 +8,7 @@ ghost use Rattle.net_conf.specs.Bridge as wanted;
 ghost use Rattle.net_conf.specs.Outside as outside;
 ghost use Rattle.net_conf.specs.Refusals.{is_want_of_memory};
 
+use crate::bridge_modes::{BridgeMode, GatewayRole};
 use crate::error::{ConfError, invalid};
 use crate::first::BridgeConf;
 use crate::ipam::addressing_of;
@@ -18,20 +19,6 @@ use cni_addr::Text;
 use cni_json::{Field, Value, field_str};
 use std::alloc::Global;
 
-/// Whether the bridge gets the gateways' addresses, and whether it is the containers' default gateway.
-#[derive(Clone, Copy)]
-pub struct GatewayRole {
-    pub is_gateway: bool,
-    pub is_default_gateway: bool,
-}
-
-/// How frames come back to the port that they came from.
-#[derive(Clone, Copy)]
-pub struct BridgeModes {
-    pub hairpin: bool,
-    pub promisc: bool,
-}
-
 /// The configuration of the `bridge` plugin, from its object in a list.
 #[tactic(auto, using(cni_json::proofs::Steps::steps), unfolding(crate::specs::Bridge::bridge_at))]
 pub fn bridge(alloc: Global, object: &Value) -> Result<BridgeConf, ConfError>
@@ -40,19 +27,17 @@ pub fn bridge(alloc: Global, object: &Value) -> Result<BridgeConf, ConfError>
 {
     bridge_supported(alloc, object)?;
     let bridge = bridge_name(alloc, object)?;
-    let role = gateway_role(alloc, object)?;
+    let gateway = gateway_role(alloc, object)?;
     let ip_masq = flag(alloc, object, "ipMasq", false)?;
     let mtu = mtu(alloc, object)?;
-    let modes = modes(alloc, object)?;
+    let mode = bridge_mode(alloc, object)?;
     let addressing = addressing_of(alloc, object)?;
     Ok(BridgeConf {
         bridge,
-        is_gateway: role.is_gateway,
-        is_default_gateway: role.is_default_gateway,
+        gateway,
         ip_masq,
         mtu,
-        hairpin: modes.hairpin,
-        promisc: modes.promisc,
+        mode,
         ipam: addressing.ipam,
         dns: addressing.dns,
     })
@@ -94,29 +79,27 @@ fn gateway_role(alloc: Global, object: &Value) -> Result<GatewayRole, ConfError>
     ensures { GivesAs is_want_of_memory (λ role. role) result (wanted.gateway_role_at (view object.now)) }
 {
     let is_gateway = flag(alloc, object, "isGateway", false)?;
-    let is_default_gateway = flag(alloc, object, "isDefaultGateway", false)?;
-    Ok(GatewayRole {
-        is_gateway: is_gateway || is_default_gateway,
-        is_default_gateway,
-    })
+    let is_default = flag(alloc, object, "isDefaultGateway", false)?;
+    Ok(role_of(is_gateway, is_default))
 }
 
-#[tactic(auto, using(cni_json::proofs::Steps::steps), unfolding(crate::specs::Bridge::modes_at))]
-fn modes(alloc: Global, object: &Value) -> Result<BridgeModes, ConfError>
-    ensures { GivesAs is_want_of_memory (λ modes. modes) result (wanted.modes_at (view object.now)) }
+fn role_of(is_gateway: bool, is_default: bool) -> GatewayRole
+    ensures { result ≡ wanted.role_of is_gateway is_default }
 {
-    let modes = mode_flags(alloc, object)?;
-    not_both(alloc, modes)?;
-    Ok(modes)
+    match (is_gateway, is_default) {
+        (_, true) => GatewayRole::DefaultGateway,
+        (true, false) => GatewayRole::Gateway,
+        (false, false) => GatewayRole::None,
+    }
 }
 
-#[tactic(auto, using(cni_json::proofs::Steps::steps), unfolding(crate::specs::Bridge::mode_flags_at))]
-fn mode_flags(alloc: Global, object: &Value) -> Result<BridgeModes, ConfError>
-    ensures { GivesAs is_want_of_memory (λ modes. modes) result (wanted.mode_flags_at (view object.now)) }
+#[tactic(auto, using(cni_json::proofs::Steps::steps), unfolding(crate::specs::Bridge::bridge_mode_at))]
+fn bridge_mode(alloc: Global, object: &Value) -> Result<BridgeMode, ConfError>
+    ensures { GivesAs is_want_of_memory (λ mode. mode) result (wanted.bridge_mode_at (view object.now)) }
 {
     let hairpin = flag(alloc, object, "hairpinMode", false)?;
     let promisc = promisc(alloc, object)?;
-    Ok(BridgeModes { hairpin, promisc })
+    mode_of(alloc, hairpin, promisc)
 }
 
 #[tactic(auto, unfolding(crate::specs::Bridge::promisc_at))]
@@ -126,11 +109,14 @@ fn promisc(alloc: Global, object: &Value) -> Result<bool, ConfError>
     flag(alloc, object, "promiscMode", false)
 }
 
-#[tactic(auto, using(cni_json::proofs::Steps::steps), unfolding(crate::specs::Bridge::not_both))]
-fn not_both(alloc: Global, modes: BridgeModes) -> Result<(), ConfError>
-    ensures { GivesAs is_want_of_memory (λ t. t) result (wanted.not_both modes) }
+#[tactic(auto, using(cni_json::proofs::Steps::steps))]
+fn mode_of(alloc: Global, hairpin: bool, promisc: bool) -> Result<BridgeMode, ConfError>
+    ensures { GivesAs is_want_of_memory (λ mode. mode) result (wanted.mode_of hairpin promisc) }
 {
-    (!(modes.hairpin && modes.promisc))
-        .then_some(())
-        .ok_or_else(|| invalid(alloc, "hairpinMode"))
+    match (hairpin, promisc) {
+        (false, false) => Ok(BridgeMode::Plain),
+        (true, false) => Ok(BridgeMode::Hairpin),
+        (false, true) => Ok(BridgeMode::Promisc),
+        (true, true) => Err(invalid(alloc, "hairpinMode")),
+    }
 }

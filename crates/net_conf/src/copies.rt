@@ -18,12 +18,10 @@ impl Duplicate for BridgeConf {
     fn copy(&self) -> Result<BridgeConf, NoMemory> {
         Ok(BridgeConf {
             bridge: self.bridge.copy()?,
-            is_gateway: self.is_gateway,
-            is_default_gateway: self.is_default_gateway,
+            gateway: self.gateway,
             ip_masq: self.ip_masq,
             mtu: self.mtu,
-            hairpin: self.hairpin,
-            promisc: self.promisc,
+            mode: self.mode,
             ipam: self.ipam.copy()?,
             dns: self.dns.copy()?,
         })

@@ -1,5 +1,6 @@
 //! The plugin that makes the interface, the first of a list.
 
+use crate::bridge_modes::{BridgeMode, GatewayRole};
 use cni_addr::{Items, MacvlanMode, RangeSet, Text};
 use cni_result::{Dns, RouteEntry};
 
@@ -10,17 +11,14 @@ pub struct HostLocalConf {
     pub routes: Items<RouteEntry>,
 }
 
-/// The configuration of `bridge`. The MTU passes [`is_mtu`](crate::is_mtu), and `is_default_gateway`
-/// comes with `is_gateway`.
+/// The configuration of `bridge`. The MTU passes [`is_mtu`](crate::is_mtu).
 #[derive(PartialEq, Eq, Drop)]
 pub struct BridgeConf {
     pub bridge: Text,
-    pub is_gateway: bool,
-    pub is_default_gateway: bool,
+    pub gateway: GatewayRole,
     pub ip_masq: bool,
     pub mtu: u32,
-    pub hairpin: bool,
-    pub promisc: bool,
+    pub mode: BridgeMode,
     pub ipam: Option<HostLocalConf>,
     pub dns: Dns,
 }

@@ -13,6 +13,7 @@
 
 mod apart;
 mod bridge;
+mod bridge_modes;
 pub mod chained;
 mod copies;
 mod error;
@@ -35,6 +36,7 @@ mod routes;
 mod sets;
 mod tuning;
 
+pub use bridge_modes::{BridgeMode, GatewayRole};
 pub use chained::{Chained, FirewallConf, PortmapConf, Sysctl, TuningConf};
 pub use error::ConfError;
 pub use first::{BridgeConf, First, HostLocalConf, MacvlanConf, PtpConf};

@@ -9,6 +9,7 @@ use Rattle.cni_addr.specs.declared.address.Addr.{Addr}
 use Rattle.cni_addr.specs.declared.mac.Mac.{Mac}
 use Rattle.cni_result.proofs.ReadAgain.{each_of}
 use Rattle.cni_result.specs.declared.cached.PortMapping.{PortMapping}
+use Rattle.net_conf.specs.BridgeModes as bridge_modes
 use Rattle.net_conf.specs.declared.first.PtpConf.{PtpConf}
 use Rattle.net_conf.specs.declared.first.First.{First}
 use Rattle.net_conf.specs.declared.first.First.TheVariants.{Bridge, Ptp, Macvlan}
@@ -159,7 +160,7 @@ pair-inner : (att : Att) (netns : List ℕ) (h i : Link) → is_link_of netns at
 pair-inner att netns h i there = grind (arith, there)
 
 inner-there : (first : First) (att : Att) (netns : List ℕ) → HasInner att netns (share_before first att netns).links
-inner-there (Bridge conf) att netns = pair-inner att netns (host_end att netns (Some conf.bridge) conf.mtu conf.hairpin) (inner_end att netns conf.mtu) (link-there netns att.ifname (Own att) (inner_end att netns conf.mtu) refl refl refl)
+inner-there (Bridge conf) att netns = pair-inner att netns (host_end att netns (Some conf.bridge) conf.mtu (bridge_modes.hairpin conf.mode)) (inner_end att netns conf.mtu) (link-there netns att.ifname (Own att) (inner_end att netns conf.mtu) refl refl refl)
 inner-there (Ptp conf) att netns = pair-inner att netns (host_end att netns None conf.mtu false) (inner_end att netns conf.mtu) (link-there netns att.ifname (Own att) (inner_end att netns conf.mtu) refl refl refl)
 inner-there (Macvlan conf) att netns =
     let there = link-there netns att.ifname (Own att) (macvlan_link att netns conf.master conf.mode conf.mtu) refl refl refl in

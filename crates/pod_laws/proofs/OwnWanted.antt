@@ -5,6 +5,7 @@ use Rattle.std.specs.List.{list_all, filter_map}
 use Rattle.cni_addr.specs.declared.address.Addr.{Addr}
 use Rattle.cni_result.specs.declared.cached.PortMapping.{PortMapping}
 use Rattle.cni_result.specs.declared.result.IpEntry.{IpEntry}
+use Rattle.net_conf.specs.BridgeModes.{is_default}
 use Rattle.net_conf.specs.declared.first.First.{First}
 use Rattle.net_conf.specs.declared.first.First.TheVariants.{Bridge, Ptp, Macvlan}
 use Rattle.net_conf.specs.declared.chained.Chained.{Chained}
@@ -64,7 +65,7 @@ own-first_addresses (Ptp conf) att netns given = own-addresses_in att (ptp_objec
 own-first_addresses (Macvlan conf) att netns given = own-addresses att netns given
 
 own-first_routes : (first : First) (att : Att) (netns : List ℕ) (given : List Given) → list_all (λ x. is_own att x.tag) (share_after first att netns given).routes ≡ true
-own-first_routes (Bridge conf) att netns given = own-routes att netns given (bridge_routes conf.is_default_gateway (routes_of conf.ipam) (map ip_of given))
+own-first_routes (Bridge conf) att netns given = own-routes att netns given (bridge_routes (is_default conf.gateway) (routes_of conf.ipam) (map ip_of given))
 own-first_routes (Ptp conf) att netns given = own-routes_in att (ptp_objects conf att netns given) (own-objects conf att netns given)
 own-first_routes (Macvlan conf) att netns given = own-routes att netns given (routes_of conf.ipam)
 

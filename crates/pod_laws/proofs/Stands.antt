@@ -7,6 +7,7 @@ use Rattle.std.specs.Str.{bytes_eq}
 use Rattle.cni_addr.specs.declared.address.Addr.{Addr}
 use Rattle.cni_result.proofs.ReadAgain.{each_of}
 use Rattle.cni_result.specs.declared.cached.PortMapping.{PortMapping}
+use Rattle.net_conf.specs.BridgeModes.{hairpin, promisc}
 use Rattle.net_conf.specs.declared.first.BridgeConf.{BridgeConf}
 use Rattle.net_conf.specs.declared.first.First.{First}
 use Rattle.net_conf.specs.declared.first.First.TheVariants.{Bridge, Ptp, Macvlan}
@@ -105,8 +106,8 @@ after-ensure conf host x v xs is none not (inl left) = absurd (let e : true ≡ 
 
 bridge-first : (first : First) (att : Att) (netns : List ℕ) (host : Host) (made xs : List Call) (x : Call) → calls_before first att netns ≡ made ++ x ∷ xs → BridgeComes first (x ∷ xs) host → has_bridge_as_master host (bridge_for x) ≡ true
 bridge-first (Bridge conf) att netns host made xs x part comes =
-    let ensure = BridgeEnsure conf.bridge conf.mtu conf.promisc in
-    let veth = VethAdd (host_end att netns (Some conf.bridge) conf.mtu conf.hairpin) (inner_end att netns conf.mtu) in
+    let ensure = BridgeEnsure conf.bridge conf.mtu (promisc conf.mode) in
+    let veth = VethAdd (host_end att netns (Some conf.bridge) conf.mtu (hairpin conf.mode)) (inner_end att netns conf.mtu) in
     elim (one-or-none ensure veth x made xs part) [
       | inl is ↦ ap (λ j. has_bridge_as_master host (bridge_for j)) is
       | inr is ↦ ap (λ j. has_bridge_as_master host (bridge_for j)) is.0 ∙ after-ensure conf host x veth xs is.0 is.1 refl comes

@@ -13,6 +13,7 @@ use Rattle.cni_result.specs.declared.cached.PortMapping.{PortMapping}
 use Rattle.cni_result.specs.declared.result.AddResult.{AddResult}
 use Rattle.cni_result.specs.declared.result.IpEntry.{IpEntry}
 use Rattle.cni_result.specs.declared.result.RouteEntry.{RouteEntry}
+use Rattle.net_conf.specs.BridgeModes.{is_gateway, is_default}
 use Rattle.net_conf.specs.declared.first.BridgeConf.{BridgeConf}
 use Rattle.net_conf.specs.declared.first.PtpConf.{PtpConf}
 use Rattle.net_conf.specs.declared.first.First.{First}
@@ -88,7 +89,7 @@ masqueraded false rest h = cc
 
 passes-gateways : (p : Call → Bool) (conf : BridgeConf) (att : Att) (netns : List ℕ) (given : List Given) → PassesFirst p (Bridge conf) att netns → list_all p (gateway_calls conf given) ≡ true
 passes-gateways p conf att netns given w =
-    list_all-if p conf.is_gateway (map gateway_call (gateways_on conf.bridge given) ++ forward_calls given)
+    list_all-if p (is_gateway conf.gateway) (map gateway_call (gateways_on conf.bridge given) ++ forward_calls given)
     (list_all-append p (map gateway_call (gateways_on conf.bridge given)) (forward_calls given)
     (passes-once p gateway_call is_same_gateway (gateway_of conf.bridge) (λ g. w.gateway conf refl (gateway_of conf.bridge g).cidr) given) (passes-forward p w.forward given))
 
@@ -111,7 +112,7 @@ passes-objects p conf att netns given w =
 
 pub passes-after : (p : Call → Bool) (first : First) (att : Att) (netns : List ℕ) (given : List Given) → PassesFirst p first att netns → list_all p (calls_after first att netns given) ≡ true
 passes-after p (Bridge conf) att netns given w =
-    let entries = bridge_routes conf.is_default_gateway (routes_of conf.ipam) (map ip_of given) in
+    let entries = bridge_routes (is_default conf.gateway) (routes_of conf.ipam) (map ip_of given) in
     let routes = routes_on att netns given entries in
     let rules = masquerade_rules conf.ip_masq att given in
     list_all-append p (map AddrAdd (addresses_on att netns given)) (map RouteAdd routes ++ (gateway_calls conf given ++ map RuleAppend rules)) (passes-once p AddrAdd is_same_addr (address_on att netns) w.address given)

@@ -30,6 +30,7 @@ use Rattle.kernel_types.specs.Equal.{rule_eq}
 use Rattle.kernel_types.specs.declared.object.Att.{Att}
 use Rattle.kernel_types.specs.declared.call.Call.TheVariants.{AddrAdd, CachePut, ForwardEnsure, LeaseNext, LinkSet, RouteAdd, RuleAppend, SettingSet}
 use Rattle.kernel_types.specs.declared.call.Given.{Given}
+use Rattle.net_conf.specs.BridgeModes.{is_gateway, is_default}
 use Rattle.net_conf.specs.declared.chained.Chained.{Chained}
 use Rattle.net_conf.specs.declared.chained.Chained.TheVariants.{Portmap, Firewall, Tuning}
 use Rattle.net_conf.specs.declared.first.First.{First}
@@ -133,19 +134,19 @@ length-gateways conf gs =
     let c = length-map gs (gateway_of conf.bridge) in
     let d = length-forward gs in
     let e = length-append asked (forward_calls gs) in
-    length-if conf.is_gateway (asked ++ forward_calls gs) (length gs + 2) (omega arith)
+    length-if (is_gateway conf.gateway) (asked ++ forward_calls gs) (length gs + 2) (omega arith)
 
 -- ---- the first plugin
 
 length-first : (first : First) (att : Att) (netns : List ℕ) (gs : List Given) → length (calls_after first att netns gs) ≤ most_of_first first (length gs)
 length-first (Bridge conf) att netns gs =
-    let entries = bridge_routes conf.is_default_gateway (routes_of conf.ipam) (map ip_of gs) in
+    let entries = bridge_routes (is_default conf.gateway) (routes_of conf.ipam) (map ip_of gs) in
     let addresses = map AddrAdd (addresses_on att netns gs) in
     let routes = map RouteAdd (routes_on att netns gs entries) in
     let rules = map RuleAppend (masquerade_rules conf.ip_masq att gs) in
     let a = length-addresses att netns gs in
     let b = length-routes att netns gs entries in
-    let b2 = length-bridge_routes conf.is_default_gateway (routes_of conf.ipam) (map ip_of gs) in
+    let b2 = length-bridge_routes (is_default conf.gateway) (routes_of conf.ipam) (map ip_of gs) in
     let c = length-gateways conf gs in
     let d = length-masquerades conf.ip_masq att gs in
     let e1 = length-append addresses (routes ++ (gateway_calls conf gs ++ rules)) in

@@ -9,6 +9,7 @@ use Rattle.cni_result.proofs.ReadAgain.{each_of}
 use Rattle.cni_result.specs.declared.result.AddResult.{AddResult}
 use Rattle.cni_result.specs.declared.result.IpEntry.{IpEntry}
 use Rattle.cni_result.specs.declared.cached.PortMapping.{PortMapping}
+use Rattle.net_conf.specs.BridgeModes as bridge_modes
 use Rattle.net_conf.specs.declared.first.First.{First}
 use Rattle.net_conf.specs.declared.first.First.TheVariants.{Bridge, Ptp, Macvlan}
 use Rattle.net_conf.specs.declared.chained.Chained.{Chained}
@@ -65,7 +66,7 @@ planned-veth : (att : Att) (netns : List ℕ) (master : Option (List ℕ)) (mtu 
 planned-veth att netns master mtu hairpin place = (grind (arith, att_eq-refl att), pair att netns master mtu hairpin place)
 
 pub planned-before : (first : First) (att : Att) (netns : List ℕ) → is_host_ns netns ≡ false → AllPlanned att (calls_before first att netns)
-planned-before (Bridge c) att netns place = ((refl, tt), (planned-veth att netns (Some c.bridge) c.mtu c.hairpin place, tt))
+planned-before (Bridge c) att netns place = ((refl, tt), (planned-veth att netns (Some c.bridge) c.mtu (bridge_modes.hairpin c.mode) place, tt))
 planned-before (Ptp c) att netns place = (planned-veth att netns None c.mtu false place, tt)
 planned-before (Macvlan c) att netns place = ((att_eq-refl att, record { kind = refl; owned = refl; over = refl; alone = refl; inner = place }), tt)
 
