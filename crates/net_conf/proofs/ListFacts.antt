@@ -10,14 +10,14 @@ use Rattle.cni_json.proofs.Endings.{goes, ok_same}
 use Rattle.cni_json.specs.WellFormed.{KeysAscend}
 use Rattle.net_conf.proofs.Endings.{needed_text-ok}
 use Rattle.net_conf.proofs.PluginFacts.{chain_at-ok}
+use Rattle.net_conf.specs.Accepted.{supported}
 use Rattle.net_conf.specs.List.{read_or_refused, version_at, name_at, switch_at, disable_check_key, disable_gc_key, network_list_at, list_of}
 use Rattle.net_conf.specs.Names.{is_network_name}
-use Rattle.net_conf.specs.Outside.{supported}
 use Rattle.net_conf.specs.Plugins.{chain_at}
 use Rattle.net_conf.specs.Refusals.{invalid}
 use Rattle.net_conf.specs.WellFormed.{IsWellFormedList}
+use Rattle.net_conf.specs.declared.accepted.Accepted.TheVariants.{Nothing}
 use Rattle.net_conf.specs.declared.list.NetList.{NetList}
-use Rattle.net_conf.specs.declared.outside.Accepted.TheVariants.{Nothing}
 
 name_at-ok : (d : Data) (name : List ℕ) → name_at d ≡ Ok name → is_network_name name ≡ true
 unfolding name_at

@@ -17,13 +17,13 @@ use Rattle.net_conf.proofs.Endings.{mapped, needed_text-ok, or_default, passing-
 use Rattle.net_conf.proofs.SetFacts.{sets_at-ok, routes_at-ok}
 use Rattle.net_conf.proofs.TuningFacts.{by_outcome, given_mtu_at-ok, tuning_at-ok}
 use Rattle.cni_result.specs.Dns.{dns_of_object}
+use Rattle.net_conf.specs.Accepted.{supported, all_supported}
 use Rattle.net_conf.specs.Bridge.{bridge_rows, bridge_name_of, bridge_name_at, gateway_role_at, bridge_mode_at, bridge_at}
 use Rattle.net_conf.specs.Firewall.{firewall_at}
 use Rattle.net_conf.specs.Ipam.{manager_at, host_local_at, is_empty, read_ipam_of, ipam_at, addressing_at}
 use Rattle.net_conf.specs.Macvlan.{macvlan_rows, master_at, mode_at, macvlan_at}
 use Rattle.net_conf.specs.Members.{flag_at, default_mtu, given_mtu_at, mtu_at, ok_map}
 use Rattle.net_conf.specs.Names.{is_interface_name}
-use Rattle.net_conf.specs.Outside.{supported, all_supported}
 use Rattle.net_conf.specs.PluginTypes.{type_eq, type_of_chained}
 use Rattle.net_conf.specs.Plugins.{type_at, first_of, first_at, first_plugin, later_of, is_of_type, not_repeated, later_at, later_plugins, plugins_of, plugins_at, chain_at, wrong_plugins}
 use Rattle.net_conf.specs.Portmap.{portmap_at}
@@ -33,6 +33,7 @@ use Rattle.net_conf.specs.Routes.{routes_at}
 use Rattle.net_conf.specs.Sets.{sets_at}
 use Rattle.net_conf.specs.Tuning.{tuning_at}
 use Rattle.net_conf.specs.WellFormed.{IsMtu, IsWellFormedHostLocal, IsWellFormedIpam, IsWellFormedBridge, IsWellFormedPtp, IsWellFormedMacvlan, IsWellFormedFirst, IsWellFormedChained}
+use Rattle.net_conf.specs.declared.accepted.Accepted.TheVariants.{EmptyText}
 use Rattle.net_conf.specs.declared.chained.Chained.{Chained}
 use Rattle.net_conf.specs.declared.error.ConfError.TheVariants as refusal
 use Rattle.net_conf.specs.declared.first.BridgeConf.{BridgeConf}
@@ -41,7 +42,6 @@ use Rattle.net_conf.specs.declared.first.HostLocalConf.{HostLocalConf}
 use Rattle.net_conf.specs.declared.first.MacvlanConf.{MacvlanConf}
 use Rattle.net_conf.specs.declared.first.PtpConf.{PtpConf}
 use Rattle.net_conf.specs.declared.ipam.Addressing.{Addressing}
-use Rattle.net_conf.specs.declared.outside.Accepted.TheVariants.{EmptyText}
 use Rattle.net_conf.specs.declared.plugin_type.PluginType.{PluginType}
 use Rattle.net_conf.specs.declared.plugin_type.PluginType.TheVariants as plugin
 use Rattle.net_conf.specs.declared.plugins.PluginChain.{PluginChain}

@@ -9,7 +9,7 @@ use Rattle.serde_json.specs.View.{view, items_view}
 use Rattle.serde_json.specs.Written.{has_float, items_have_float}
 use Rattle.serde_json.specs.declared.value.Value.{Value}
 use Rattle.cni_json.specs.Each.{each_after}
-use Rattle.net_conf.specs.Outside.{is_empty_list}
+use Rattle.net_conf.specs.Accepted.{is_empty_list}
 use Rattle.net_conf.specs.Sets.{is_set, is_object, all_items}
 use Rattle.net_conf.specs.Plugins.{later_plugins, later_at}
 

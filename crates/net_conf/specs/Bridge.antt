@@ -4,18 +4,18 @@ use Rattle.serde_json.specs.Data.{Data}
 use Rattle.cni_json.specs.Fields.{text_field, tested}
 use Rattle.cni_json.specs.Outcome.{◌>>=◌}
 use Rattle.cni_json.specs.declared.fields.Field.{Field}
+use Rattle.net_conf.specs.Accepted.{Row, all_supported}
 use Rattle.net_conf.specs.Ipam.{addressing_at}
 use Rattle.net_conf.specs.Members.{with_default, flag_at, mtu_at}
 use Rattle.net_conf.specs.Names.{is_interface_name}
-use Rattle.net_conf.specs.Outside.{Row, all_supported}
 use Rattle.net_conf.specs.Refusals.{invalid}
+use Rattle.net_conf.specs.declared.accepted.Accepted.TheVariants.{Zero, EmptyList, IsFlag, Backend}
 use Rattle.net_conf.specs.declared.bridge_modes.BridgeMode.{BridgeMode}
 use Rattle.net_conf.specs.declared.bridge_modes.BridgeMode.TheVariants as modes
 use Rattle.net_conf.specs.declared.bridge_modes.GatewayRole.{GatewayRole}
 use Rattle.net_conf.specs.declared.bridge_modes.GatewayRole.TheVariants as roles
 use Rattle.net_conf.specs.declared.error.ConfError.{ConfError}
 use Rattle.net_conf.specs.declared.first.BridgeConf.{BridgeConf}
-use Rattle.net_conf.specs.declared.outside.Accepted.TheVariants.{Zero, EmptyList, IsFlag, Backend}
 
 -- keys that are not acted on
 abbrev pub bridge_rows : List Row

@@ -7,16 +7,16 @@ use Rattle.serde_json.specs.Written.{compact_text}
 use Rattle.cni_json.specs.Fields.{member_at, object_or}
 use Rattle.cni_json.specs.Outcome.{◌>>=◌}
 use Rattle.cni_result.specs.Dns.{dns_of_object}
+use Rattle.net_conf.specs.Accepted.{supported}
 use Rattle.net_conf.specs.Members.{is_null, ok_map}
-use Rattle.net_conf.specs.Outside.{supported}
 use Rattle.net_conf.specs.Refusals.{invalid}
 use Rattle.net_conf.specs.Routes.{routes_at}
 use Rattle.net_conf.specs.Sets.{sets_at}
+use Rattle.net_conf.specs.declared.accepted.Accepted.TheVariants.{EmptyText}
 use Rattle.net_conf.specs.declared.error.ConfError.{ConfError}
 use Rattle.net_conf.specs.declared.error.ConfError.TheVariants as refusal
 use Rattle.net_conf.specs.declared.first.HostLocalConf.{HostLocalConf}
 use Rattle.net_conf.specs.declared.ipam.Addressing.{Addressing}
-use Rattle.net_conf.specs.declared.outside.Accepted.TheVariants.{EmptyText}
 
 abbrev pub manager_of : Option Data → Result ⊤ ConfError
 manager_of (Some (string text)) =

@@ -10,15 +10,15 @@ use Rattle.cni_json.specs.declared.reading.ReadEnd.{ReadEnd}
 use Rattle.cni_json.specs.declared.reading.ReadEnd.TheVariants as ends
 use Rattle.cni_result.specs.Versions.{version_named}
 use Rattle.cni_result.specs.declared.version.Version.{Version}
+use Rattle.net_conf.specs.Accepted.{supported}
 use Rattle.net_conf.specs.Members.{needed_text}
 use Rattle.net_conf.specs.Names.{is_network_name}
-use Rattle.net_conf.specs.Outside.{supported}
 use Rattle.net_conf.specs.Plugins.{chain_at}
 use Rattle.net_conf.specs.Refusals.{invalid}
+use Rattle.net_conf.specs.declared.accepted.Accepted.TheVariants.{Nothing}
 use Rattle.net_conf.specs.declared.error.ConfError.{ConfError}
 use Rattle.net_conf.specs.declared.error.ConfError.TheVariants as refusal
 use Rattle.net_conf.specs.declared.list.NetList.{NetList}
-use Rattle.net_conf.specs.declared.outside.Accepted.TheVariants.{Nothing}
 
 -- bytes that are no JSON, or have another number than whole ones of 64 bits
 abbrev pub read_or_refused : Result Data ReadEnd → Result Data ConfError

@@ -7,14 +7,14 @@ use Rattle.cni_json.specs.declared.fields.Field.{Field}
 use Rattle.cni_addr.specs.declared.macvlan.MacvlanMode.{MacvlanMode}
 use Rattle.cni_addr.specs.Modes.{mode_named}
 use Rattle.cni_addr.specs.declared.macvlan.MacvlanMode.TheVariants.{Bridge}
+use Rattle.net_conf.specs.Accepted.{Row, all_supported}
 use Rattle.net_conf.specs.Ipam.{addressing_at}
 use Rattle.net_conf.specs.Members.{with_default, needed_text, mtu_at}
 use Rattle.net_conf.specs.Names.{is_interface_name}
-use Rattle.net_conf.specs.Outside.{Row, all_supported}
+use Rattle.net_conf.specs.declared.accepted.Accepted.TheVariants.{IsFlag}
 use Rattle.net_conf.specs.declared.error.ConfError.{ConfError}
 use Rattle.net_conf.specs.declared.error.ConfError.TheVariants as refusal
 use Rattle.net_conf.specs.declared.first.MacvlanConf.{MacvlanConf}
-use Rattle.net_conf.specs.declared.outside.Accepted.TheVariants.{IsFlag}
 
 -- keys that are not acted on
 abbrev pub macvlan_rows : List Row

@@ -7,9 +7,9 @@ ghost use Rattle.cni_json.specs.Outcome.{GivesAs};
 ghost use Rattle.net_conf.specs.Ipam as wanted;
 ghost use Rattle.net_conf.specs.Refusals.{is_want_of_memory};
 
+use crate::accepted::{Accepted, supported};
 use crate::error::{ConfError, invalid, unsupported};
 use crate::first::HostLocalConf;
-use crate::outside::{Accepted, supported};
 use crate::routes::routes;
 use crate::sets::sets;
 use cni_json::{Map, Value, member, need_object};

@@ -11,6 +11,7 @@
 //! ```
 #![tactic(auto)]
 
+mod accepted;
 mod apart;
 mod bridge;
 mod bridge_modes;
@@ -25,7 +26,6 @@ pub mod list;
 mod macvlan;
 mod members;
 pub mod names;
-mod outside;
 mod plugin_type;
 mod plugins;
 mod portmap;

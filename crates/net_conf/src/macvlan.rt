@@ -4,16 +4,16 @@ ghost use Rattle.std.specs.Prelude.{◌≡◌, false};
 ghost use Rattle.serde_json.specs.View.{view};
 ghost use Rattle.serde_json.specs.Written.{has_float};
 ghost use Rattle.cni_json.specs.Outcome.{GivesAs};
+ghost use Rattle.net_conf.specs.Accepted as accepted;
 ghost use Rattle.net_conf.specs.Macvlan as wanted;
-ghost use Rattle.net_conf.specs.Outside as outside;
 ghost use Rattle.net_conf.specs.Refusals.{is_want_of_memory};
 
+use crate::accepted::{Accepted, all_supported};
 use crate::error::{ConfError, invalid};
 use crate::first::MacvlanConf;
 use crate::ipam::addressing_of;
 use crate::members::mtu;
 use crate::names::is_interface_name;
-use crate::outside::{Accepted, all_supported};
 use cni_addr::{MacvlanMode, Text, mode_named};
 use cni_json::{Field, Value, field_str};
 use std::alloc::Global;
@@ -40,7 +40,7 @@ pub fn macvlan(alloc: Global, object: &Value) -> Result<MacvlanConf, ConfError>
 
 fn macvlan_supported(alloc: Global, object: &Value) -> Result<(), ConfError>
     requires { has_float (view object.now) ≡ false }
-    ensures { GivesAs is_want_of_memory (λ t. t) result (outside.all_supported wanted.macvlan_rows (view object.now)) }
+    ensures { GivesAs is_want_of_memory (λ t. t) result (accepted.all_supported wanted.macvlan_rows (view object.now)) }
 {
     all_supported(
         alloc,

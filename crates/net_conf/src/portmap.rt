@@ -4,14 +4,14 @@ ghost use Rattle.std.specs.Prelude.{◌≡◌, false};
 ghost use Rattle.serde_json.specs.View.{view};
 ghost use Rattle.serde_json.specs.Written.{has_float};
 ghost use Rattle.cni_json.specs.Outcome.{GivesAs};
-ghost use Rattle.net_conf.specs.Outside as outside;
+ghost use Rattle.net_conf.specs.Accepted as accepted;
 ghost use Rattle.net_conf.specs.Portmap as wanted;
 ghost use Rattle.net_conf.specs.Refusals.{is_want_of_memory};
 
+use crate::accepted::{Accepted, all_supported};
 use crate::chained::PortmapConf;
 use crate::error::{ConfError, invalid};
 use crate::members::{flag, flag_within};
-use crate::outside::{Accepted, all_supported};
 use cni_json::{Field, Value, field_object};
 use std::alloc::Global;
 
@@ -29,7 +29,7 @@ pub fn portmap(alloc: Global, object: &Value) -> Result<PortmapConf, ConfError>
 
 fn portmap_supported(alloc: Global, object: &Value) -> Result<(), ConfError>
     requires { has_float (view object.now) ≡ false }
-    ensures { GivesAs is_want_of_memory (λ t. t) result (outside.all_supported wanted.portmap_rows (view object.now)) }
+    ensures { GivesAs is_want_of_memory (λ t. t) result (accepted.all_supported wanted.portmap_rows (view object.now)) }
 {
     all_supported(
         alloc,

@@ -7,10 +7,10 @@ ghost use Rattle.cni_json.specs.Outcome.{GivesAs};
 ghost use Rattle.net_conf.specs.List as wanted;
 ghost use Rattle.net_conf.specs.Refusals.{is_want_of_memory};
 
+use crate::accepted::{Accepted, supported};
 use crate::error::{ConfError, invalid, version_refused};
 use crate::list::{DISABLE_CHECK_KEY, DISABLE_GC_KEY, NetList};
 use crate::names::is_network_name;
-use crate::outside::{Accepted, supported};
 use crate::plugins::plugin_chain;
 use cni_addr::Text;
 use cni_json::{Field, ReadEnd, Value, field_str, member, need_object};

@@ -3,9 +3,9 @@ use Rattle.serde_json.specs.View.{view, items_view}
 use Rattle.serde_json.specs.Data.{array}
 use Rattle.serde_json.specs.declared.value.Value.{Value}
 use Rattle.serde_json.proofs.Views.{view-Array}
-use Rattle.net_conf.specs.Outside.{accepts, is_empty_list}
+use Rattle.net_conf.specs.Accepted.{accepts, is_empty_list}
 use Rattle.net_conf.proofs.ValueLemmas.{empty_items}
-use Rattle.net_conf.proofs.outside.is_accepted.Goals as goal
+use Rattle.net_conf.proofs.accepted.is_accepted.Goals as goal
 
 pub returns-in-EmptyList-Array : goal.returns-in-EmptyList-Array
 returns-in-EmptyList-Array c =

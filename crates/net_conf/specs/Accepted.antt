@@ -7,8 +7,8 @@ use Rattle.serde_json.specs.Find.{as_number, as_str}
 use Rattle.serde_json.specs.Written.{compact_text}
 use Rattle.cni_json.specs.Fields.{member_at}
 use Rattle.cni_json.specs.Outcome.{◌>>=◌}
-use Rattle.net_conf.specs.declared.outside.Accepted.{Accepted}
-use Rattle.net_conf.specs.declared.outside.Accepted.TheVariants.{Nothing, Zero, AnyNumber, EmptyList, IsFlag, EmptyText, AnyText, Backend, OpenPolicy}
+use Rattle.net_conf.specs.declared.accepted.Accepted.{Accepted}
+use Rattle.net_conf.specs.declared.accepted.Accepted.TheVariants.{Nothing, Zero, AnyNumber, EmptyList, IsFlag, EmptyText, AnyText, Backend, OpenPolicy}
 use Rattle.net_conf.specs.declared.error.ConfError.{ConfError}
 use Rattle.net_conf.specs.declared.error.ConfError.TheVariants as refusal
 

@@ -1,7 +1,7 @@
 use Rattle.std.proofs.Common.{◌≡◌, drop}
 use Rattle.serde_json.specs.View.{view}
-use Rattle.net_conf.specs.Outside.{all_supported, rows_of}
-use Rattle.net_conf.proofs.outside.all_supported.Given as goal
+use Rattle.net_conf.specs.Accepted.{all_supported, rows_of}
+use Rattle.net_conf.proofs.accepted.all_supported.Given as goal
 
 -- what is left decides
 abbrev pub invariant-loop-key : goal.invariant-loop-key

@@ -5,7 +5,7 @@ ghost use Rattle.serde_json.specs.Data.{string};
 ghost use Rattle.serde_json.specs.View.{view};
 ghost use Rattle.serde_json.specs.Written.{has_float};
 ghost use Rattle.cni_json.specs.Outcome.{GivesAs};
-ghost use Rattle.net_conf.specs.Outside as outside;
+ghost use Rattle.net_conf.specs.Accepted as wanted;
 ghost use Rattle.net_conf.specs.Refusals.{is_want_of_memory};
 
 use crate::error::{ConfError, unsupported};
@@ -29,7 +29,7 @@ pub enum Accepted {
 }
 
 fn is_accepted(accepted: Accepted, value: &Value) -> bool
-    ensures { result ≡ outside.accepts accepted (view value.now) }
+    ensures { result ≡ wanted.accepts accepted (view value.now) }
 {
     match (accepted, value) {
         (Accepted::Zero, value) => value.as_u64() == Some(0),
@@ -46,13 +46,13 @@ fn is_accepted(accepted: Accepted, value: &Value) -> bool
 }
 
 fn is_default_text(default: &str, text: &str) -> bool
-    ensures { result ≡ outside.is_default_text default.now (string text.now) }
+    ensures { result ≡ wanted.is_default_text default.now (string text.now) }
 {
     text == "" || text == default
 }
 
 /// Refuses a value of the key that is neither absent, null nor accepted.
-#[tactic(auto, using(cni_json::proofs::Steps::steps, cni_json::proofs::WholeNumbers::parts_are_whole), unfolding(crate::specs::Outside::supported))]
+#[tactic(auto, using(cni_json::proofs::Steps::steps, cni_json::proofs::WholeNumbers::parts_are_whole), unfolding(crate::specs::Accepted::supported))]
 pub fn supported(
     alloc: Global,
     object: &Value,
@@ -60,7 +60,7 @@ pub fn supported(
     accepted: Accepted,
 ) -> Result<(), ConfError>
     requires { has_float (view object.now) ≡ false }
-    ensures { GivesAs is_want_of_memory (λ t. t) result (outside.supported accepted key.now (view object.now)) }
+    ensures { GivesAs is_want_of_memory (λ t. t) result (wanted.supported accepted key.now (view object.now)) }
 {
     match member(object, key) {
         None => Ok(()),
@@ -82,7 +82,7 @@ pub fn all_supported(
     rows: &[(&str, Accepted)],
 ) -> Result<(), ConfError>
     requires { has_float (view object.now) ≡ false }
-    ensures { GivesAs is_want_of_memory (λ t. t) result (outside.all_supported (outside.rows_of rows.now) (view object.now)) }
+    ensures { GivesAs is_want_of_memory (λ t. t) result (wanted.all_supported (wanted.rows_of rows.now) (view object.now)) }
 {
     for (key, accepted) in rows {
         supported(alloc, object, key, *accepted)?;
