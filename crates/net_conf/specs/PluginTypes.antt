@@ -1,9 +1,25 @@
--- The types of plugins, by number, and the type of a later plugin.
-use Rattle.std.specs.Prelude.{ℕ, Bool, ◌==◌}
+-- The types of plugins, by their words (the `type` of the reference plugins) and by number, and the type of a later
+-- plugin.
+use Rattle.std.specs.Prelude.{ℕ, Bool, ◌==◌, List, codes, Option, find}
+use Rattle.std.specs.Str.{bytes_eq}
 use Rattle.net_conf.specs.declared.chained.Chained.{Chained}
 use Rattle.net_conf.specs.declared.chained.Chained.TheVariants as later
+use Rattle.net_conf.specs.declared.plugin_type.TheConstants.PluginType.{ALL}
 use Rattle.net_conf.specs.declared.plugin_type.PluginType.{PluginType}
 use Rattle.net_conf.specs.declared.plugin_type.PluginType.TheVariants as plugin
+
+-- a type as a plugin's object names it
+abbrev pub type_text : PluginType → List ℕ
+type_text plugin.Bridge = codes "bridge"
+type_text plugin.Ptp = codes "ptp"
+type_text plugin.Macvlan = codes "macvlan"
+type_text plugin.Portmap = codes "portmap"
+type_text plugin.Firewall = codes "firewall"
+type_text plugin.Tuning = codes "tuning"
+
+-- the type whose word the text is
+abbrev pub type_named : List ℕ → Option PluginType
+type_named text = find (λ type. bytes_eq text (type_text type)) ALL
 
 -- the place of the variant
 abbrev pub type_code : PluginType → ℕ

@@ -1,7 +1,6 @@
 -- The plugins of a list, and which may stand where.
-use Rattle.std.specs.Prelude.{ℕ, List, [], codes, Bool, if◌then◌else◌, Result, Ok, ⊤}
+use Rattle.std.specs.Prelude.{ℕ, List, [], codes, Bool, if◌then◌else◌, Result, Ok, ok_or, ⊤}
 use Rattle.std.specs.List.{list_any}
-use Rattle.std.specs.Str.{bytes_eq}
 use Rattle.serde_json.specs.Data.{Data, Items, no_items, item}
 use Rattle.cni_json.specs.Each.{each_after}
 use Rattle.cni_json.specs.Fields.{text_field, list_field, needed, object_or}
@@ -11,7 +10,7 @@ use Rattle.net_conf.specs.Bridge.{bridge_at}
 use Rattle.net_conf.specs.Firewall.{firewall_at}
 use Rattle.net_conf.specs.Macvlan.{macvlan_at}
 use Rattle.net_conf.specs.Members.{ok_map}
-use Rattle.net_conf.specs.PluginTypes.{type_eq, type_of_chained}
+use Rattle.net_conf.specs.PluginTypes.{type_named, type_eq, type_of_chained}
 use Rattle.net_conf.specs.Portmap.{portmap_at}
 use Rattle.net_conf.specs.Ptp.{ptp_at}
 use Rattle.net_conf.specs.Refusals.{invalid}
@@ -19,6 +18,7 @@ use Rattle.net_conf.specs.Tuning.{tuning_at}
 use Rattle.net_conf.specs.declared.chained.Chained.{Chained}
 use Rattle.net_conf.specs.declared.chained.Chained.TheVariants as later
 use Rattle.net_conf.specs.declared.error.ConfError.{ConfError}
+use Rattle.net_conf.specs.declared.error.ConfError.TheVariants as refusal
 use Rattle.net_conf.specs.declared.first.First.{First}
 use Rattle.net_conf.specs.declared.first.First.TheVariants as first
 use Rattle.net_conf.specs.declared.plugins.PluginChain.{PluginChain}
@@ -28,18 +28,8 @@ use Rattle.net_conf.specs.declared.plugin_type.PluginType.TheVariants as plugin
 abbrev pub wrong_plugins : {A : Type 0} → Result A ConfError
 wrong_plugins = invalid (codes "plugins")
 
-abbrev pub type_named : List ℕ → Result PluginType ConfError
-type_named text =
-    if bytes_eq text (codes "bridge") then Ok plugin.Bridge
-    else if bytes_eq text (codes "ptp") then Ok plugin.Ptp
-    else if bytes_eq text (codes "macvlan") then Ok plugin.Macvlan
-    else if bytes_eq text (codes "portmap") then Ok plugin.Portmap
-    else if bytes_eq text (codes "firewall") then Ok plugin.Firewall
-    else if bytes_eq text (codes "tuning") then Ok plugin.Tuning
-    else invalid (codes "type")
-
 abbrev pub type_of : Field (List ℕ) → Result PluginType ConfError
-type_of f = needed (invalid (codes "type")) type_named f
+type_of f = needed (invalid (codes "type")) (λ text. ok_or (type_named text) (refusal.Invalid (codes "type"))) f
 
 -- the type that the object names
 unfoldable pub type_at : Data → Result PluginType ConfError

@@ -1,6 +1,6 @@
-//! The types of plugins.
+//! The types of plugins, and their words.
 
-ghost use Rattle.std.specs.Prelude.{◌≡◌};
+ghost use Rattle.std.specs.Prelude.{◌≡◌, Some};
 ghost use Rattle.net_conf.specs.PluginTypes as plugin_types;
 
 use crate::chained::Chained;
@@ -14,6 +14,43 @@ pub enum PluginType {
     Portmap,
     Firewall,
     Tuning,
+}
+
+impl PluginType {
+    /// Every type once.
+    pub const ALL: [PluginType; 6] = [
+        PluginType::Bridge,
+        PluginType::Ptp,
+        PluginType::Macvlan,
+        PluginType::Portmap,
+        PluginType::Firewall,
+        PluginType::Tuning,
+    ];
+}
+
+/// The type as a plugin's object names it. Takes no memory.
+pub fn type_text(plugin_type: PluginType) -> &'static str
+    ensures text { result.now ≡ plugin_types.type_text plugin_type }
+    ensures named_again { plugin_types.type_named (plugin_types.type_text plugin_type) ≡ Some plugin_type }
+{
+    match plugin_type {
+        PluginType::Bridge => "bridge",
+        PluginType::Ptp => "ptp",
+        PluginType::Macvlan => "macvlan",
+        PluginType::Portmap => "portmap",
+        PluginType::Firewall => "firewall",
+        PluginType::Tuning => "tuning",
+    }
+}
+
+/// The type whose word the text is. Takes no memory.
+pub fn type_named(text: &str) -> Option<PluginType>
+    ensures { result ≡ plugin_types.type_named text.now }
+{
+    PluginType::ALL
+        .iter()
+        .copied()
+        .find(|plugin_type| text == type_text(*plugin_type))
 }
 
 impl PartialEq for PluginType {

@@ -15,7 +15,7 @@ use crate::error::{ConfError, invalid};
 use crate::firewall::firewall;
 use crate::first::First;
 use crate::macvlan::macvlan;
-use crate::plugin_type::{PluginType, type_of_chained};
+use crate::plugin_type::{PluginType, type_named, type_of_chained};
 use crate::portmap::portmap;
 use crate::ptp::ptp;
 use crate::tuning::tuning;
@@ -138,13 +138,8 @@ fn plugin_type(alloc: Global, plugin: &Value) -> Result<PluginType, ConfError>
     ensures { GivesAs is_want_of_memory (λ kind. kind) result (wanted.type_at (view plugin.now)) }
 {
     match field_str(plugin, "type") {
-        Field::Here("bridge") => Ok(PluginType::Bridge),
-        Field::Here("ptp") => Ok(PluginType::Ptp),
-        Field::Here("macvlan") => Ok(PluginType::Macvlan),
-        Field::Here("portmap") => Ok(PluginType::Portmap),
-        Field::Here("firewall") => Ok(PluginType::Firewall),
-        Field::Here("tuning") => Ok(PluginType::Tuning),
-        Field::Here(_) | Field::Absent | Field::WrongKind => Err(invalid(alloc, "type")),
+        Field::Here(found) => type_named(found).ok_or_else(|| invalid(alloc, "type")),
+        Field::Absent | Field::WrongKind => Err(invalid(alloc, "type")),
     }
 }
 
