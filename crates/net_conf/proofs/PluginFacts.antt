@@ -12,7 +12,7 @@ use Rattle.cni_json.specs.declared.fields.Field.{Field}
 use Rattle.cni_json.specs.declared.fields.Field.TheVariants.{Absent, WrongKind, Here}
 use Rattle.cni_json.proofs.Ascending.{get-everywhere}
 use Rattle.cni_json.specs.WellFormed.{EverywhereInItems, HasAscendingKeys, KeysAscend}
-use Rattle.cni_json.proofs.Endings.{goes, ok_same, passed, not_refused, each_after_keeps}
+use Rattle.cni_json.proofs.Endings.{goes, ok_same, not_refused, each_after_keeps}
 use Rattle.net_conf.proofs.Endings.{mapped, needed_text-ok, or_default, passing-ok}
 use Rattle.net_conf.proofs.SetFacts.{sets_at-ok, routes_at-ok}
 use Rattle.net_conf.proofs.TuningFacts.{by_outcome, given_mtu_at-ok, tuning_at-ok}
