@@ -7,7 +7,7 @@ ghost use Rattle.host_local.specs.Conf.{ipam_of, routes_of};
 use cni_result::RouteEntry;
 use net_conf::{First, HostLocalConf};
 
-/// The configuration of the addresses that the first plugin of a list asks for; none where it has none.
+/// What the first plugin of a list asks of `host-local`, if it does.
 pub fn ipam_of(first: &First) -> Option<&HostLocalConf>
     ensures { option_copied result ≡ ipam_of first.now }
 {
