@@ -86,7 +86,7 @@ abbrev pub EndsByFault : List Entry → Bool → Ending → Type 0 → Type 0
 EndsByFault entries true ending Otherwise = ending ≡ Refused (causes.Fault (length entries))
 EndsByFault entries false ending Otherwise = Otherwise
 
--- it ends without an error where all is there, and else by what is lacking
+-- it ends with Yes where all is there, and else by what is lacking
 abbrev pub EndsByTest : Bool → Ending → Type 0 → Type 0
 EndsByTest true ending Lacks = ending ≡ Yes
 EndsByTest false ending Lacks = Lacks

@@ -88,8 +88,8 @@ pub record AreInARow (d c : Placed) : Type 0 where
   pub network : d.command.network ≡ c.command.network
   pub valid : d.command.valid ≡ c.command.valid
 
--- where the second is answered without an error, it leaves what is to be kept of the host at the start of the first
--- one's round, whatever the first came to, also where it made no call
+-- where the second is answered Yes, it leaves what is to be kept of the host at the start of the first one's round,
+-- whatever the first came to, also where it made no call
 abbrev pub CollectionsInARowKeep : Type 0
 CollectionsInARowKeep = (w : World) → Legal w → (m n : ℕ) (d c : Placed)
     → slice_get (commands_of w.plan) m ≡ Some d → slice_get (commands_of w.plan) n ≡ Some c → AreInARow d c → slice_get w.answers n ≡ Some (Some answers.Yes)

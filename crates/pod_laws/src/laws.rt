@@ -1,6 +1,7 @@
 //! Laws of answers, each carried by a function that does nothing.
 //!
 //! A command's moment is its last entry; what is said of a host there holds of it whatever other commands did since.
+//! `ok` is the answer `Yes`, as it is printed; a command that its list disables is skipped, which is another answer.
 
 ghost use Rattle.pod_laws.specs.Added.{WasAdded};
 ghost use Rattle.pod_laws.specs.Apart.{EachCollectionTakesTheStaleAlone, EachEntryKeepsTheRest, EachEntryLeavesOthers};
@@ -49,7 +50,7 @@ pub fn an_unrefused_add_is_answered_a_result()
 
 // ---- DEL
 
-/// Nothing of an attachment is left where its DEL was answered without an error.
+/// A DEL that was answered `ok` had good words and no fault, and nothing of its attachment is left at its last entry.
 pub fn a_deleted_attachment_is_gone()
     ensures { WasDeleted }
 {}
@@ -59,13 +60,13 @@ pub fn a_deletion_fails_by_words_or_fault()
     ensures { WasNotDeleted }
 {}
 
-/// A DEL is answered without an error or with a refusal, unless memory was refused or it was stopped. Its namespace is
-/// not asked for.
+/// A DEL is answered `ok` or with a refusal, unless memory was refused or it was stopped. Its namespace is not asked
+/// for.
 pub fn every_del_is_answered()
     ensures { AnswersOfDel }
 {}
 
-/// A DEL with good words and no fault is answered without an error, unless memory was refused or it was stopped.
+/// A DEL with good words and no fault is answered `ok`, unless memory was refused or it was stopped.
 pub fn a_calm_del_is_answered_without_error()
     ensures { CalmIsDeleted }
 {}
@@ -75,7 +76,7 @@ pub fn a_deletion_removes_own_objects()
     ensures { EachDeletionIsOwn }
 {}
 
-/// After a DEL that was answered without an error, each entry of a later DEL of its attachment leaves the host as it
+/// After the last entry of a DEL that was answered `ok`, each entry of a DEL of its attachment leaves the host as it
 /// is, until an ADD of that attachment has begun.
 pub fn a_repeated_deletion_leaves_the_host()
     ensures { RepeatedDeletionsLeave }
@@ -83,11 +84,11 @@ pub fn a_repeated_deletion_leaves_the_host()
 
 // ---- GC
 
-/// A GC is refused with no call made where its list is older than the verb (code 1), and skipped so where its list
-/// disables it. Else, unless memory was refused or it was stopped, it is answered without an error where it met no
-/// fault: then the host right after its last entry is the one right before its first without the objects of stale
-/// attachments. Where it met faults, its error (code 103) names them all, and each such object that is left had a
-/// faulty call.
+/// A GC is refused with no call made where its list is older than the verb (code 1), and skipped so where a list of
+/// version 1.1.0 disables it. Else it makes calls, and is answered `ok` where it met no fault: then the host right
+/// after its last entry is the one right before its first without the objects of stale attachments. Where it met
+/// faults, its error (code 103) names them all, and each such object that is left had a faulty call. So it is unless
+/// memory was refused or it was stopped.
 pub fn every_collection_is_answered()
     ensures { CollectionsAreAnswered }
 {}
@@ -109,7 +110,7 @@ pub fn each_collection_fills_its_round()
     ensures { CollectionsFillTheirRounds }
 {}
 
-/// A GC that is answered without an error leaves what a GC of the round before it, with the same network and valid
+/// A GC that is answered `ok` leaves what a GC of the round before it, with the same network and valid
 /// list, was to keep of the host at the start of that round, whatever that one came to, also where it made no call.
 pub fn a_second_collection_finishes_the_first()
     ensures { CollectionsInARowKeep }
@@ -196,9 +197,9 @@ pub fn each_version_is_the_lists()
 
 /// NSADD, NSDEL, DROP and FLUSH are refused by their words (code 4), with no call made, or make the one change that
 /// they ask for, whose reply decides: the namespace isn't there (code 100), a namespace of the name is (code 101), the
-/// call was a fault (code 103), or what was to be taken away isn't there (code 105); any other reply is answered Yes. A
-/// FLUSH that names no table makes no call and is answered Yes. So it is unless memory was refused or the command was
-/// stopped.
+/// call was a fault (code 103), or what was to be taken away isn't there (code 105); any other reply is answered `ok`.
+/// A FLUSH that names no table makes no call and is answered `ok`. So it is unless memory was refused or the command
+/// was stopped.
 pub fn each_change_is_answered_by_its_reply()
     ensures { ChangesAreAnswered }
 {}
@@ -210,19 +211,20 @@ pub fn each_question_leaves_the_host()
     ensures { EachQuestionLeavesTheHost }
 {}
 
-/// A STATUS is answered without an error where each range set of its list has a free address in the host at its entries
-/// and the master of `macvlan` is there. Else it is refused for the first that isn't available (code 50): the range
-/// sets in order, and then the master. A list older than 1.1.0 refuses it (code 1), and a fault does (code 103). So it
-/// is unless memory was refused or it was stopped.
+/// A STATUS of a list of version 1.1.0 ends at a fault (code 103). Without one it is answered `ok` where each range set
+/// of its list has a free address in the host at its entries and the master of `macvlan` is there, and else refused for
+/// the first that isn't available (code 50): the range sets in order, and then the master. An older list refuses it
+/// with no call made (code 1). So it is unless memory was refused or it was stopped.
 pub fn a_status_tells_what_is_available()
     ensures { WasAvailable }
 {}
 
-/// A CHECK is answered without an error where its attachment has a cached entry, and the host at its last entry holds
-/// all that the cached result says that there is. With no cached entry the attachment is unknown (code 3); else the
-/// first object that isn't there is named (code 110): the bridge, links, addresses, routes, rules, settings and leases.
-/// Bad words refuse it (code 4), a list may skip it, and a fault ends it (code 103). So it is unless memory was refused
-/// or it was stopped, whatever other commands did between its entries.
+/// Bad words refuse a CHECK (code 4), and with good ones a list that disables it skips it, both with no call made.
+/// Where its list doesn't disable it, it ends at a fault (code 103). Without one it is answered `ok` where its
+/// attachment has a cached entry, and the host at its last entry holds all that the cached result says that there is.
+/// With no cached entry the attachment is unknown (code 3); else the first object that isn't there is named (code 110):
+/// the bridge, links, addresses, routes, rules, settings and leases. So it is unless memory was refused or it was
+/// stopped, whatever other commands did between its entries.
 pub fn a_check_tells_what_the_host_holds()
     ensures { WasChecked }
 {}
