@@ -44,7 +44,7 @@ pub fn every_add_is_answered()
 
 /// An ADD with good words and no refusing entry is answered with a result, unless memory was refused or it was
 /// stopped.
-pub fn an_unrefused_add_is_answered_a_result()
+pub fn an_unrefused_add_is_answered_with_a_result()
     ensures { UnrefusedIsAdded }
 {}
 
