@@ -1,8 +1,9 @@
 -- A run's state, by its list and its work.
 use Rattle.std.proofs.Common.{◌≡◌, ℕ, ◌+◌, Bool, true, false, List, [], ◌∷◌, length, Option, Some, None, refl, sym, ◌∙◌, ap, subst, arith}
-use Rattle.std.specs.Prelude.{◌==◌}
+use Rattle.std.specs.Prelude.{◌==◌, option_map}
+use Rattle.std.specs.Bool.{then_some}
 use Rattle.std.proofs.lemmas.Bool.Decides.{nat_tests}
-use Rattle.std.proofs.lemmas.Option.{same_Some, none-some}
+use Rattle.std.proofs.lemmas.Option.{none-some}
 use Rattle.cni_result.specs.declared.version.Version.{Version}
 use Rattle.cni_result.specs.declared.version.Version.TheVariants.{V1_0, V1_1}
 use Rattle.net_conf.specs.declared.list.NetList.{NetList}
@@ -12,20 +13,17 @@ use Rattle.pod_file.specs.declared.command.Verb.TheVariants as verbs
 use Rattle.kernel_types.specs.declared.call.Kind.{Kind}
 use Rattle.kernel_types.specs.declared.call.Reply.{Reply}
 use Rattle.kernel_types.specs.Replies.{is_fault}
-use Rattle.cni_verbs.specs.Answers.{answer_of, error_of, plain_answer}
+use Rattle.cni_verbs.specs.Answers.{answer_of, plain_answer}
 use Rattle.cni_verbs.specs.Progress.{Progress, is_gc, advanced, answer_in}
-use Rattle.cni_verbs.specs.Script.{State, Collecting, IsOpen, collecting, early_ending, start_state, start_of, advance, next_call, call_of_work, finish_of, finish_of_work, gc_of, faults_after, has_no_work}
+use Rattle.cni_verbs.specs.Script.{State, Collecting, IsOpen, collecting, early_ending, start_state, start_of, advance, next_call, call_of_work, finish_of, finish_of_work, gc_of, faults_after, has_no_work, swept}
 use Rattle.cni_verbs.specs.Sweep.{Job, Sweep, Work, start_work, work_after}
 use Rattle.cni_verbs.specs.Wanted.{kinds_of}
-use Rattle.cni_verbs.specs.declared.answer.Answer.{Answer}
-use Rattle.cni_verbs.specs.declared.answer.Answer.TheVariants.{Yes, Refused}
 use Rattle.cni_verbs.specs.declared.answer.Cause.TheVariants as causes
 use Rattle.cni_verbs.specs.declared.answer.Ending.{Ending}
 use Rattle.cni_verbs.specs.declared.answer.Ending.TheVariants as endings
-use Rattle.cni_verbs.specs.declared.answer.Skip.TheVariants as skips
 use Rattle.pod_file.specs.declared.command.ValidAtt.{ValidAtt}
 use Rattle.gc_sweep.specs.Sweep.{is_early}
-use Rattle.gc_sweep.specs.View.{HasTaken, progress_of, work_of, jobs_left, sweeps_after}
+use Rattle.gc_sweep.specs.View.{HasTaken, IsInRange, IsPlace, ending_in, progress_of, work_of, jobs_left, sweeps_after}
 use Rattle.gc_sweep.specs.declared.place.SweepPlace.{SweepPlace}
 
 -- ---- the start
@@ -110,41 +108,54 @@ taken list c made ks ls valid p q faults more r opened ks_is ls_is valid_is work
 
 -- ---- the answer
 
-pub answers_early : (list : NetList) (c : Command) (w : Work) (faults : List ℕ) (version : Version) (disabled : Bool) (ending : Ending) → early_ending version disabled ≡ Some ending
-    → Some (plain_answer list.version c ending) ≡ answer_in (Some list) c (collecting version disabled w faults)
-unfolding finish_of answer_of
-answers_early list c w faults V1_0 disabled ending is = ap (λ e. Some (plain_answer list.version c e)) (same_Some ending (endings.Refused (causes.TooOld V1_0)) (sym is))
-answers_early list c w faults V1_1 true ending is = ap (λ e. Some (plain_answer list.version c e)) (same_Some ending (endings.Skipped skips.Gc) (sym is))
-answers_early list c w faults V1_1 false ending is = absurd (none-some ending is)
-
 pub finish_working : (w : Work) (faults : List ℕ) → finish_of (Collecting w faults) ≡ finish_of_work w.jobs w.sweeps faults
 unfolding finish_of
 finish_working w faults = refl
 
-pub answers_late : (list : NetList) (c : Command) (p : SweepPlace) (faults : List ℕ) (ks : List Kind) → ks ≡ kinds_of list → is_early list.version list.disable_gc ≡ false
-    → answer_in (Some list) c (Collecting (work_of ks p) faults) ≡ answer_in (Some list) c (collecting list.version list.disable_gc (work_of (kinds_of list) p) faults)
-answers_late list c p faults ks same h =
-    let w = work_of (kinds_of list) p in
-    ap (λ k. answer_in (Some list) c (Collecting (work_of k p) faults)) same
-    ∙ ap (answer_in (Some list) c) (sym (late list.version list.disable_gc w faults h))
+pub ends_early : (version : Version) (disabled : Bool) (w : Work) (faults : List ℕ) (ending : Ending) → early_ending version disabled ≡ Some ending → Some ending ≡ ending_in (collecting version disabled w faults)
+unfolding finish_of
+ends_early V1_0 disabled w faults ending is = sym is
+ends_early V1_1 true w faults ending is = sym is
+ends_early V1_1 false w faults ending is = absurd (none-some ending is)
+
+ends_working : (jobs : List Job) (sweeps : List Sweep) (faults : List ℕ) (b : Bool) → has_no_work jobs sweeps ≡ b → then_some b (swept faults) ≡ ending_in (Collecting (record { jobs = jobs; sweeps = sweeps }) faults)
+unfolding finish_of
+ends_working [] [] faults true h = refl
+ends_working [] [] faults false h = cc
+ends_working [] (s ∷ sweeps) faults true h = cc
+ends_working [] (s ∷ sweeps) faults false h = refl
+ends_working (j ∷ jobs) sweeps faults true h = cc
+ends_working (j ∷ jobs) sweeps faults false h = refl
+
+-- it is over where no work is left
+pub ends_late : (list : NetList) (p : SweepPlace) (faults : List ℕ) (ks : List Kind) (b : Bool) → IsInRange list ks p → ((kinds : List Kind) → IsPlace kinds p → b ≡ has_no_work (jobs_left kinds p) (sweeps_after kinds p.stage))
+    → is_early list.version list.disable_gc ≡ false → then_some b (swept faults) ≡ ending_in (collecting list.version list.disable_gc (work_of (kinds_of list) p) faults)
+ends_late list p faults ks b range done h =
+    let here : IsPlace (kinds_of list) p = subst (λ k. IsPlace k p) range.0 range.1 in
+    ends_working (jobs_left (kinds_of list) p) (sweeps_after (kinds_of list) p.stage) faults b (sym (done (kinds_of list) here))
+    ∙ ap ending_in (sym (late list.version list.disable_gc (work_of (kinds_of list) p) faults h))
 
 no_length : (k : ℕ) (ks : List ℕ) → (length (k ∷ ks) == 0) ≡ true → ⊥
 no_length k ks h = let n : length (k ∷ ks) ≡ 0 = grind (arith, nat_tests, h) in omega arith
 
-abbrev answer_of_work : NetList → Command → List Job → List Sweep → List ℕ → Option Answer
-answer_of_work list c jobs sweeps faults = answer_in (Some list) c (Collecting (record { jobs = jobs; sweeps = sweeps }) faults)
+pub swept_clean : (faults : List ℕ) → (length faults == 0) ≡ true → endings.Yes ≡ swept faults
+swept_clean [] clean = refl
+swept_clean (k ∷ faults) clean = absurd (no_length k faults clean)
 
-pub ends_clean : (list : NetList) (c : Command) (jobs : List Job) (sweeps : List Sweep) (faults : List ℕ) → has_no_work jobs sweeps ≡ true → (length faults == 0) ≡ true → Some Yes ≡ answer_of_work list c jobs sweeps faults
-unfolding finish_of answer_of
-ends_clean list c [] [] [] h clean = refl
-ends_clean list c [] [] (k ∷ faults) h clean = absurd (no_length k faults clean)
-ends_clean list c [] (s ∷ sweeps) faults h clean = cc
-ends_clean list c (j ∷ jobs) sweeps faults h clean = cc
+pub swept_faulty : (faults : List ℕ) → (length faults == 0) ≡ false → endings.Refused (causes.Faults faults) ≡ swept faults
+swept_faulty [] some = cc
+swept_faulty (k ∷ faults) some = refl
 
-pub ends_faulty : (list : NetList) (c : Command) (jobs : List Job) (sweeps : List Sweep) (faults : List ℕ) → has_no_work jobs sweeps ≡ true → (length faults == 0) ≡ false
-    → Some (Refused (error_of list.version c (causes.Faults faults))) ≡ answer_of_work list c jobs sweeps faults
+answers_by : (list : NetList) (c : Command) (version : Version) (disabled : Bool) (jobs : List Job) (sweeps : List Sweep) (faults : List ℕ)
+    → (let s : State = collecting version disabled (record { jobs = jobs; sweeps = sweeps }) faults in option_map (plain_answer list.version c) (ending_in s) ≡ answer_in (Some list) c s)
 unfolding finish_of answer_of
-ends_faulty list c [] [] [] h some = cc
-ends_faulty list c [] [] (k ∷ faults) h some = refl
-ends_faulty list c [] (s ∷ sweeps) faults h some = cc
-ends_faulty list c (j ∷ jobs) sweeps faults h some = cc
+answers_by list c V1_0 disabled jobs sweeps faults = refl
+answers_by list c V1_1 true jobs sweeps faults = refl
+answers_by list c V1_1 false [] [] [] = refl
+answers_by list c V1_1 false [] [] (k ∷ faults) = refl
+answers_by list c V1_1 false [] (s ∷ sweeps) faults = refl
+answers_by list c V1_1 false (j ∷ jobs) sweeps faults = refl
+
+-- no ending of a collection has a result of its own
+pub answers : (list : NetList) (c : Command) (w : Work) (faults : List ℕ) (ending : Option Ending) → (let s : State = collecting list.version list.disable_gc w faults in ending ≡ ending_in s → option_map (plain_answer list.version c) ending ≡ answer_in (Some list) c s)
+answers list c w faults ending is = ap (option_map (plain_answer list.version c)) is ∙ answers_by list c list.version list.disable_gc w.jobs w.sweeps faults

@@ -1,5 +1,5 @@
 -- What the fields of a run stand for.
-use Rattle.std.specs.Prelude.{◌≡◌, ℕ, ◌<◌, List, [], ◌∷◌, map, drop, length, Option, Some, None}
+use Rattle.std.specs.Prelude.{◌≡◌, ℕ, ◌<◌, List, [], ◌∷◌, map, drop, length, Option, Some, None, option_map}
 use Rattle.std.specs.List.{after_first}
 use Rattle.kernel_types.specs.Codes.{kind_eq}
 use Rattle.kernel_types.specs.declared.object.Att.{Att}
@@ -9,9 +9,10 @@ use Rattle.net_conf.specs.declared.list.NetList.{NetList}
 use Rattle.pod_file.specs.declared.command.Command.{Command}
 use Rattle.pod_file.specs.declared.command.ValidAtt.{ValidAtt}
 use Rattle.cni_verbs.specs.Progress.{Progress}
-use Rattle.cni_verbs.specs.Script.{collecting}
+use Rattle.cni_verbs.specs.Script.{State, Finish, collecting, finish_of}
 use Rattle.cni_verbs.specs.Sweep.{Step, AskCached, Delete, Sweep, Job, Work, first_sweep, kind_sweep, all_sweeps, job_of, after_step, work_after}
 use Rattle.cni_verbs.specs.Wanted.{kinds_of}
+use Rattle.cni_verbs.specs.declared.answer.Ending.{Ending}
 use Rattle.gc_sweep.specs.declared.place.Stage.{Stage}
 use Rattle.gc_sweep.specs.declared.place.Stage.TheVariants.{Start, First, Of}
 use Rattle.gc_sweep.specs.declared.place.OwnerStep.{OwnerStep}
@@ -66,6 +67,10 @@ progress_of list c made place faults =
 
 abbrev pub IsInRange : NetList → List Kind → SweepPlace → Type 0
 IsInRange list ks place = (ks ≡ kinds_of list) × IsPlace ks place
+
+-- how a run in this state ends, where it is over
+abbrev pub ending_in : State → Option Ending
+ending_in s = option_map (λ (f : Finish). f.ending) (finish_of s)
 
 -- ---- one reply
 

@@ -3,16 +3,15 @@
 ghost use Rattle.std.specs.Prelude.{◌≡◌, ◌+◌, ◌<◌, ◌^◌, IfOk, OnOk, OnErr, IsOk, Some, None, [], false, true};
 ghost use Rattle.std.specs.Bool.{FalseIff};
 ghost use Rattle.kernel_types.specs.Replies.{is_fault};
-ghost use Rattle.cni_verbs.specs.Progress.{is_gc, progress, advanced, answer_at, answer_in};
-ghost use Rattle.cni_verbs.specs.Script.{Collecting, IsOpen, next_call, faults_after};
+ghost use Rattle.cni_verbs.specs.Progress.{is_gc, progress, advanced, answer_at};
+ghost use Rattle.cni_verbs.specs.Script.{IsOpen, next_call, faults_after, swept};
 ghost use Rattle.gc_sweep.specs.Sweep.{is_early};
-ghost use Rattle.gc_sweep.specs.View.{work_of, IsPlace};
+ghost use Rattle.gc_sweep.specs.View.{ending_in};
 
 use crate::place::{SweepPlace, next_call, take};
 use cni_addr::{Duplicate, Items, NoMemory};
-use cni_verbs::errors::refused;
 use cni_verbs::wanted::kinds_of;
-use cni_verbs::{Answer, Cause, early_ending, plain_answer};
+use cni_verbs::{Answer, Cause, Ending, early_ending, plain_answer};
 use kernel_types::{Call, Kind, Reply};
 use net_conf::NetList;
 use pod_file::Command;
@@ -108,21 +107,30 @@ impl GcRun {
         ensures { IfOk result (λ answer. answer ≡ answer_at self.now) }
     {
         let alloc = *self.place.owners.allocator();
-        match early_ending(&self.list) {
+        match self.ending()? {
             Some(ending) => Ok(Some(plain_answer(
                 alloc,
                 self.list.version,
                 &self.command,
                 &ending,
             )?)),
-            None => work_answer(
-                alloc,
-                &self.list,
-                &self.command,
-                self.kinds.as_slice(),
-                &self.place,
-                &self.faults,
-            ),
+            None => Ok(None),
+        }
+    }
+
+    /// How the collection ends, where it is over.
+    fn ending(&self) -> Result<Option<Ending>, NoMemory>
+        ensures { IfOk result (λ ending. ending ≡ ending_in self.now.state) }
+    {
+        match early_ending(&self.list) {
+            Some(ending) => Ok(Some(ending)),
+            None => {
+                if self.place.is_done() {
+                    Ok(Some(swept(&self.faults)?))
+                } else {
+                    Ok(None)
+                }
+            }
         }
     }
 }
@@ -134,28 +142,14 @@ fn is_early(list: &NetList) -> bool
     early_ending(list).is_some()
 }
 
-/// The answer where no work is left.
-#[tactic(auto, unfolding(cni_verbs::specs::Script::finish_of))]
-fn work_answer(
-    alloc: Global,
-    list: &NetList,
-    command: &Command,
-    kinds: &[Kind],
-    place: &SweepPlace,
-    faults: &Items<u64>,
-) -> Result<Option<Answer>, NoMemory>
-    requires { IsPlace kinds.now place.now }
-    ensures { IfOk result (λ answer. answer ≡ answer_in (Some list.now) command.now (Collecting (work_of kinds.now place.now) faults.now)) }
+/// How a collection with these faults ends, where no work is left.
+fn swept(faults: &Items<u64>) -> Result<Ending, NoMemory>
+    ensures { IfOk result (λ ending. ending ≡ swept faults.now) }
 {
-    if place.is_done() {
-        if faults.as_slice().is_empty() {
-            Ok(Some(Answer::Yes))
-        } else {
-            let cause = Cause::Faults(faults.copy()?);
-            Ok(Some(refused(alloc, list.version, command, &cause)?))
-        }
+    if faults.as_slice().is_empty() {
+        Ok(Ending::Yes)
     } else {
-        Ok(None)
+        Ok(Ending::Refused(Cause::Faults(faults.copy()?)))
     }
 }
 
