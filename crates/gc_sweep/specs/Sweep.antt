@@ -27,7 +27,7 @@ is_early version disabled = is_some (early_ending version disabled)
 abbrev pub IsCollected : NetList → Type 0
 IsCollected list = is_early list.version list.disable_gc ≡ false
 
--- a collection that is answered without an error leaves what is kept
+-- a collection that is answered Yes leaves exactly what is kept
 abbrev pub YesKeeps : Type 0
 YesKeeps = (list : NetList) (c : Command) (host : Host) (es : List Made) → is_gc c.verb ≡ true → IsSound host → IsRun list c host es → Ends list c es Yes
     → host_from host es ≡ keep c.network c.valid host
@@ -61,6 +61,6 @@ abbrev pub fault_numbers : ℕ → List Made → List ℕ
 fault_numbers made [] = []
 fault_numbers made (e ∷ es) = if is_fault e.reply then (made + 1) ∷ fault_numbers (made + 1) es else fault_numbers (made + 1) es
 
--- without a fault the answer is no error, and else its error names all calls that were faulty
+-- without a fault it ends with Yes, and else with a refusal that names all calls that were faulty
 abbrev pub FaultsNamed : Type 0
 FaultsNamed = (list : NetList) (c : Command) (es : List Made) (ending : Ending) → is_gc c.verb ≡ true → IsCollected list → Ends list c es ending → ending ≡ swept (fault_numbers 0 es)

@@ -4,7 +4,8 @@
 ghost use Rattle.gc_sweep.specs.Bound.{GcBound};
 ghost use Rattle.gc_sweep.specs.Sweep.{YesKeeps, AlwaysBounded, OverExcused, FaultsNamed};
 
-/// A collection that is answered without an error leaves exactly what its valid list keeps.
+/// A collection that is answered `ok` leaves exactly what is kept of the host. (One that its list disables is skipped,
+/// which is another answer.)
 #[tactic(auto, using(crate::proofs::Leaves::yes_keeps))]
 pub fn a_clean_collection_leaves_what_is_kept()
     ensures { YesKeeps }
@@ -20,7 +21,8 @@ pub fn what_is_left_over_is_excused()
     ensures { OverExcused }
 {}
 
-/// The answer names every call that was faulty.
+/// The answer of a collection that its list doesn't end before its first call is `ok` where no call was faulty, and
+/// else an error that names every one that was.
 pub fn every_fault_is_named()
     ensures { FaultsNamed }
 {}
