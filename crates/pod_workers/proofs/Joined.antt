@@ -1,6 +1,6 @@
 -- A plan that was joined is well formed.
 use Rattle.std.proofs.Common.{◌≡◌, ℕ, ◌+◌, ◌<◌, Bool, true, false, not, cond, List, [], ◌∷◌, ◌++◌, length, take, drop, get_or, Option, Some, None, Ok, refl, sym, ◌∙◌, ap, subst, arith}
-use Rattle.std.specs.Prelude.{if◌then◌else◌, ◌&&◌, is_some, option_map, position}
+use Rattle.std.specs.Prelude.{if◌then◌else◌, ◌&&◌, option_map, position}
 use Rattle.std.specs.List.{list_any, list_all, position_from}
 use Rattle.std.specs.Option.{option_or}
 use Rattle.std.specs.Str.{bytes_eq}
@@ -12,7 +12,7 @@ use Rattle.net_conf.specs.declared.list.NetList.{NetList}
 use Rattle.plan_words.proofs.CountLemmas.{list_any-find}
 use Rattle.pod_workers.specs.Join.{joined, plan_unless, first_repeat_after, first_without_list}
 use Rattle.pod_workers.specs.Laws.{JoinedPlansAreWellFormed}
-use Rattle.pod_workers.specs.Plans.{Placed, placed_from, IsWellFormed, commands_of, lacks_list, list_named}
+use Rattle.pod_workers.specs.Plans.{Placed, placed_from, IsWellFormed, commands_of, has_list, lacks_list}
 use Rattle.pod_workers.specs.declared.plan.Plan.{Plan}
 use Rattle.pod_workers.specs.declared.plan.PlanError.TheVariants.{SameName, NoNetwork}
 
@@ -64,8 +64,8 @@ apart-more earlier l ls none apart =
 apart : (earlier : List NetList) (place : ℕ) (ls : List NetList) → first_repeat_after earlier place ls ≡ None → AreApart earlier ls
 apart earlier place [] none = (none-later earlier, refl)
 apart earlier place (l ∷ ls) none =
-    elim (is_some (list_named earlier l.name))
-    as (λ b. is_some (list_named earlier l.name) ≡ b → cond b (Some place) (first_repeat_after (earlier ++ l ∷ []) (place + 1) ls) ≡ None → AreApart earlier (l ∷ ls)) [
+    elim (has_list earlier l.name)
+    as (λ b. has_list earlier l.name ≡ b → cond b (Some place) (first_repeat_after (earlier ++ l ∷ []) (place + 1) ls) ≡ None → AreApart earlier (l ∷ ls)) [
       | true ↦ λ is h. absurd (none-some place (sym h))
       | false ↦ λ is h. apart-more earlier l ls (list_any-find (λ e. bytes_eq e.name l.name) earlier ∙ is) (apart (earlier ++ l ∷ []) (place + 1) ls h)
     ] refl none
@@ -100,18 +100,18 @@ joined_is_well_formed p q h lists pods =
 
 repeats-step : (lists : List NetList) (i : ℕ) (l : NetList) → i < length lists → l ≡ get_or lists i l
     → first_repeat_after (take i lists) i (drop i lists)
-    ≡ (if is_some (list_named (take i lists) l.name) then Some i else first_repeat_after (take (i + 1) lists) (i + 1) (drop (i + 1) lists))
+    ≡ (if has_list (take i lists) l.name then Some i else first_repeat_after (take (i + 1) lists) (i + 1) (drop (i + 1) lists))
 repeats-step lists i l within is =
     ap (first_repeat_after (take i lists) i) (drop_more lists i l within ∙ ap (λ x. x ∷ drop (i + 1) lists) (sym is))
-    ∙ ap (λ earlier. if is_some (list_named (take i lists) l.name) then Some i else first_repeat_after earlier (i + 1) (drop (i + 1) lists))
+    ∙ ap (λ earlier. if has_list (take i lists) l.name then Some i else first_repeat_after earlier (i + 1) (drop (i + 1) lists))
     (ap (λ x. take i lists ++ x ∷ []) is ∙ sym (take_more lists i l within))
 
-pub repeats-here : (lists : List NetList) (i : ℕ) (l : NetList) → i < length lists → l ≡ get_or lists i l → is_some (list_named (take i lists) l.name) ≡ true
+pub repeats-here : (lists : List NetList) (i : ℕ) (l : NetList) → i < length lists → l ≡ get_or lists i l → has_list (take i lists) l.name ≡ true
     → first_repeat_after (take i lists) i (drop i lists) ≡ first_repeat_after [] 0 lists → Some i ≡ first_repeat_after [] 0 lists
 repeats-here lists i l within is has so_far =
     sym (sym so_far ∙ repeats-step lists i l within is ∙ ap (λ b. if b then Some i else first_repeat_after (take (i + 1) lists) (i + 1) (drop (i + 1) lists)) has)
 
-pub repeats-later : (lists : List NetList) (i : ℕ) (l : NetList) → i < length lists → l ≡ get_or lists i l → is_some (list_named (take i lists) l.name) ≡ false
+pub repeats-later : (lists : List NetList) (i : ℕ) (l : NetList) → i < length lists → l ≡ get_or lists i l → has_list (take i lists) l.name ≡ false
     → first_repeat_after (take i lists) i (drop i lists) ≡ first_repeat_after [] 0 lists
     → first_repeat_after (take (i + 1) lists) (i + 1) (drop (i + 1) lists) ≡ first_repeat_after [] 0 lists
 repeats-later lists i l within is has_none so_far =

@@ -1,7 +1,7 @@
 -- The list of a command's network.
-use Rattle.std.proofs.Common.{◌≡◌, ℕ, Bool, true, false, not, List, Option, Some, None, slice_get, refl, sym, ◌∙◌, ap, subst}
-use Rattle.std.specs.Prelude.{◌&&◌, is_some}
-use Rattle.std.proofs.lemmas.Bool.{true≢false}
+use Rattle.std.proofs.Common.{◌≡◌, ℕ, Bool, true, false, not, List, Option, Some, None, slice_get, refl, sym, ap, subst}
+use Rattle.std.specs.Prelude.{◌&&◌, is_some, if◌then◌else◌}
+use Rattle.std.proofs.lemmas.Bool.{false≢true}
 use Rattle.cni_verbs.specs.Progress.{is_gc}
 use Rattle.kernel_types.specs.declared.object.Host.{Host}
 use Rattle.net_conf.specs.declared.list.NetList.{NetList}
@@ -10,7 +10,7 @@ use Rattle.pod_file.specs.declared.command.Verb.{Verb}
 use Rattle.pod_file.specs.declared.command.Verb.TheVariants as verbs
 use Rattle.pod_workers.specs.Legal.{Legal}
 use Rattle.pod_file.specs.Commands.{is_of_network}
-use Rattle.pod_workers.specs.Plans.{Placed, commands_of, list_for, list_in, lacks_list}
+use Rattle.pod_workers.specs.Plans.{Placed, commands_of, list_for, list_named, lacks_list}
 use Rattle.pod_workers.specs.Tasks.{IsListed}
 use Rattle.pod_workers.specs.World.{World}
 use Rattle.pod_workers.specs.declared.index.Place.{Place}
@@ -18,15 +18,16 @@ use Rattle.pod_workers.specs.declared.slots.Slot.{Slot}
 use Rattle.pod_workers.proofs.Kept.{IsFound}
 use Rattle.pod_workers.proofs.Sound.{fine, list_all-at}
 
-has-list : (b : Bool) (o : Option NetList) → b ≡ true → not (b && not (is_some o)) ≡ true → (list : NetList) × (o ≡ Some list)
-has-list b (Some list) network there = (list, refl)
-has-list b None network there = absurd (true≢false (sym there ∙ ap (λ t. not (t && true)) network))
+named-list : (b : Bool) (o : Option NetList) → b ≡ true → not (b && not (is_some o)) ≡ true → (list : NetList) × ((if b then o else None) ≡ Some list)
+named-list true (Some list) network there = (list, refl)
+named-list true None network there = absurd (false≢true there)
+named-list false o network there = absurd (false≢true network)
 
 -- the network of each command that speaks of one has a list
 pub listed-network : (w : World) → Legal w → (n : ℕ) (c : Placed) → slice_get (commands_of w.plan) n ≡ Some c → is_of_network c.command.verb ≡ true → (list : NetList) × (list_for w.plan c.command ≡ Some list)
 unfolding list_for
 listed-network w legal n c at network =
-    has-list (is_of_network c.command.verb) (list_in w.plan.lists c.command) network
+    named-list (is_of_network c.command.verb) (list_named w.plan.lists c.command.network) network
     (list_all-at (λ (d : Placed). not (lacks_list w.plan.lists d.command)) (commands_of w.plan) n c (fine w legal).plan.networks at)
 
 gc-of_network : (v : Verb) → is_gc v ≡ true → is_of_network v ≡ true

@@ -1,9 +1,9 @@
 -- When lists and a pod file make a plan, and why they make none.
-use Rattle.std.specs.Prelude.{ℕ, ◌+◌, List, [], ◌∷◌, ◌++◌, position, is_some, Option, Some, None, option_map, Result, Ok, Err, if◌then◌else◌}
+use Rattle.std.specs.Prelude.{ℕ, ◌+◌, List, [], ◌∷◌, ◌++◌, position, Option, Some, None, option_map, Result, Ok, Err, if◌then◌else◌}
 use Rattle.std.specs.Option.{option_or}
 use Rattle.net_conf.specs.declared.list.NetList.{NetList}
 use Rattle.pod_file.specs.declared.command.Command.{Command}
-use Rattle.pod_workers.specs.Plans.{lacks_list, list_named, placed_from}
+use Rattle.pod_workers.specs.Plans.{has_list, lacks_list, placed_from}
 use Rattle.pod_workers.specs.declared.plan.Plan.{Plan}
 use Rattle.pod_workers.specs.declared.plan.PlanError.{PlanError}
 use Rattle.pod_workers.specs.declared.plan.PlanError.TheVariants.{SameName, NoNetwork}
@@ -12,7 +12,7 @@ use Rattle.pod_workers.specs.declared.plan.PlanError.TheVariants.{SameName, NoNe
 abbrev pub first_repeat_after : List NetList → ℕ → List NetList → Option ℕ
 first_repeat_after earlier place [] = None
 first_repeat_after earlier place (l ∷ ls) =
-    if is_some (list_named earlier l.name) then Some place else first_repeat_after (earlier ++ l ∷ []) (place + 1) ls
+    if has_list earlier l.name then Some place else first_repeat_after (earlier ++ l ∷ []) (place + 1) ls
 
 -- the place of the first command of a network that no list has
 abbrev pub first_without_list : List NetList → List (List Command) → Option ℕ

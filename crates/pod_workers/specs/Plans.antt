@@ -40,9 +40,13 @@ list_named lists name = find (λ l. bytes_eq l.name name) lists
 abbrev pub list_in : List NetList → Command → Option NetList
 list_in lists c = if is_of_network c.verb then list_named lists c.network else None
 
+-- a list has this name
+abbrev pub has_list : List NetList → List ℕ → Bool
+has_list lists name = is_some (list_named lists name)
+
 -- the command is of a network that no list has
 abbrev pub lacks_list : List NetList → Command → Bool
-lacks_list lists c = is_of_network c.verb && not (is_some (list_in lists c))
+lacks_list lists c = is_of_network c.verb && not (has_list lists c.network)
 
 unfoldable pub list_for : Plan → Command → Option NetList
 list_for p c = list_in p.lists c

@@ -1,12 +1,12 @@
 //! Lists and a pod file as one plan.
 
-ghost use Rattle.std.specs.Prelude.{◌≡◌, ◌<◌, ◌≤◌, ◌^◌, [], is_some, length, position};
+ghost use Rattle.std.specs.Prelude.{◌≡◌, ◌<◌, ◌≤◌, ◌^◌, [], length, position};
 ghost use Rattle.std.specs.Option.{option_copied};
 ghost use Rattle.pod_workers.specs.Join.{first_repeat_after, first_without_list, joined, refusal_of};
 ghost use Rattle.pod_workers.specs.Laws.{JoinedPlansAreWellFormed};
 ghost use Rattle.pod_workers.specs.declared.plan.Plan.{Plan};
 ghost use Rattle.pod_file.specs.Rounds.{file_limit};
-ghost use Rattle.pod_workers.specs.Plans.{commands_of, lacks_list, list_in, list_named, placed_from};
+ghost use Rattle.pod_workers.specs.Plans.{commands_of, has_list, lacks_list, list_in, list_named, placed_from};
 
 use crate::plan::{Plan, PlanError};
 use cni_addr::{Items, Text};
@@ -55,10 +55,16 @@ pub(crate) fn list_in<'a>(lists: &'a [NetList], command: &Command) -> Option<&'a
     }
 }
 
+fn has_list(lists: &[NetList], name: &Text) -> bool
+    ensures { result ≡ has_list lists.now name.now }
+{
+    list_named(lists, name).is_some()
+}
+
 fn lacks_list(lists: &[NetList], command: &Command) -> bool
     ensures { result ≡ lacks_list lists.now command.now }
 {
-    command.verb.is_of_network() && list_in(lists, command).is_none()
+    command.verb.is_of_network() && !has_list(lists, &command.network)
 }
 
 /// Why these make no plan, if they don't.
@@ -100,19 +106,13 @@ fn first_without_list(lists: &[NetList], rounds: &[Items<Command>]) -> Option<u3
     None
 }
 
-fn has_name(lists: &[NetList], name: &Text) -> bool
-    ensures { result ≡ is_some (list_named lists.now name.now) }
-{
-    list_named(lists, name).is_some()
-}
-
 /// The place of the first list that has the name of an earlier one.
 fn first_repeat(lists: &[NetList]) -> Option<u32>
     requires { length lists.now < 2 ^ 32 }
     ensures { result ≡ first_repeat_after [] 0 lists.now }
 {
     for (place, list) in lists.iter().enumerate() {
-        if has_name(&lists[..place], &list.name) {
+        if has_list(&lists[..place], &list.name) {
             return Some(place as u32);
         }
     }
