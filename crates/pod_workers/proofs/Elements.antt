@@ -13,6 +13,13 @@ at_number-is xs number n is = elim (eqb_tells number 0) [
   | inr f ↦ (let place : number - 1 ≡ n = omega arith in ap (λ (b : Bool). if b then None else slice_get xs (number - 1)) f.0 ∙ ap (slice_get xs) place)
 ]
 
+-- what stands at a number stands at the place before it
+pub numbered : {X : Type 0} (xs : List X) (number : ℕ) (x : X) → at_number xs number ≡ Some x → (number ≡ (number - 1) + 1) × (slice_get xs (number - 1) ≡ Some x)
+numbered xs number x is = elim (eqb_tells number 0) [
+  | inl t ↦ absurd (none-some x (sym (ap (λ (b : Bool). if b then None else slice_get xs (number - 1)) t.0) ∙ is))
+  | inr f ↦ ((let ne = f.1 in omega arith), sym (ap (λ (b : Bool). if b then None else slice_get xs (number - 1)) f.0) ∙ is)
+]
+
 pub slice_get-right : {X : Type 0} (xs ys : List X) (i : ℕ) → slice_get (xs ++ ys) (length xs + i) ≡ slice_get ys i
 slice_get-right xs ys i = slice_get-behind xs ys (length xs) (length xs + i) i refl refl
 

@@ -11,10 +11,11 @@ use Rattle.pod_workers.specs.Extends.{is_of_round}
 use Rattle.pod_workers.specs.Index.{IsIndex, IsLatest, IsPlaced, is_cut_by, is_open, lets_through, may_step_by}
 use Rattle.pod_workers.specs.Plans.{Placed, commands_of, IsOf}
 use Rattle.pod_workers.specs.Slots.{IsKept}
-use Rattle.pod_workers.specs.World.{World, Blocks, IsAnswered, IsReady, IsReadyNumber, cuts_round, is_cut, is_cut_at, is_entry_in, is_in_round, is_there_in, last_entry}
+use Rattle.pod_workers.specs.World.{World, Blocks, IsAnswered, IsReady, IsReadyNumber, at_number, cuts_round, is_cut, is_cut_at, is_entry_in, is_in_round, is_there_in, last_entry}
 use Rattle.pod_workers.specs.declared.index.Place.{Place}
 use Rattle.pod_workers.specs.declared.plan.Entry.{Entry}
 use Rattle.pod_workers.specs.declared.slots.Slot.{Slot}
+use Rattle.pod_workers.proofs.Elements.{at_number-is, numbered}
 use Rattle.pod_workers.proofs.Order.{IsInOrder, in_order, not_both}
 
 is-open : (o : Option (Option Answer)) → is_open o ≡ true → o ≡ Some None
@@ -98,15 +99,33 @@ placed-default [] n within = absurd (omega arith)
 placed-default (c ∷ cs) n within = c
 
 -- whether the command of this number may step
-pub ready-tells : (b : Bool) (host : Host) (slots : List (Option Slot)) (places : List Place) (before : ℕ) (w v : World) (n : ℕ) (p : Place) (number : ℕ) → IsKept host slots places before w → w ≡ v → number ≡ n + 1
-    → slice_get places n ≡ Some p → b ≡ may_step_by p w.answers w.round n → MatchBool b (IsReadyNumber v number) (IsReadyNumber v number → ⊥)
-ready-tells b host slots places before w v n p number kept same is place tells =
-    let within : n < length (commands_of w.plan) = rw (sym kept.index.long) (slice_get_within places n p place) in
+pub ready-tells : (b : Bool) (host : Host) (slots : List (Option Slot)) (places : List Place) (before : ℕ) (w v : World) (p : Place) (number : ℕ) → IsKept host slots places before w → w ≡ v
+    → at_number places number ≡ Some p → b ≡ may_step_by p w.answers w.round (number - 1) → MatchBool b (IsReadyNumber v number) (IsReadyNumber v number → ⊥)
+ready-tells b host slots places before w v p number kept same found tells =
+    let at = numbered places number p found in
+    let n = number - 1 in
+    let within : n < length (commands_of w.plan) = rw (sym kept.index.long) (slice_get_within places n p at.1) in
     let short : n < length w.answers = rw kept.answers_long within in
     let c = get_or (commands_of w.plan) n (placed-default (commands_of w.plan) n within) in
     let at_n = slice_get-get_or (commands_of w.plan) n (placed-default (commands_of w.plan) n within) within in
     subst (λ u. MatchBool b (IsReadyNumber u number) (IsReadyNumber u number → ⊥)) same
-    (ready-by b w n c p number is (in_order w kept.legal) short at_n (kept.index.each n c p at_n place) tells)
+    (ready-by b w n c p number at.0 (in_order w kept.legal) short at_n (kept.index.each n c p at_n at.1) tells)
+
+-- a command that has a place has room for its answer
+pub place-answered : (host : Host) (slots : List (Option Slot)) (places : List Place) (before : ℕ) (w : World) (p : Place) (number : ℕ) → IsKept host slots places before w → at_number places number ≡ Some p → number - 1 < length w.answers
+place-answered host slots places before w p number kept found =
+    let within = slice_get_within places (number - 1) p (numbered places number p found).1 in
+    let a = kept.index.long in
+    let b = kept.answers_long in
+    omega arith
+
+-- a number with no place is no command's
+pub ready-nowhere : (host : Host) (slots : List (Option Slot)) (places : List Place) (before : ℕ) (w v : World) (number : ℕ) → IsKept host slots places before w → w ≡ v → at_number places number ≡ None → IsReadyNumber v number → ⊥
+ready-nowhere host slots places before w v number kept same none ready =
+    let r = subst (λ u. IsReadyNumber u number) (sym same) ready in
+    let within = slice_get_within (commands_of w.plan) r.0 r.1 r.3.there in
+    let short : r.0 < length places = rw kept.index.long within in
+    none-some _ (sym none ∙ at_number-is places number r.0 r.2 ∙ slice_get-get_or places r.0 (record { round = 0; within = 0; previous = None }) short)
 
 -- ---- where a round is stopped
 

@@ -141,12 +141,13 @@ impl<K: Kernel + Drop> Book<K> {
     pub fn ready(&self, command: u32) -> bool
         ensures { MatchBool result (IsReadyNumber self.now command) (IsReadyNumber self.now command → ⊥) }
     {
-        if command == 0 || self.places.len() < command as usize {
-            return false;
+        match at_number(self.places.as_slice(), command) {
+            None => false,
+            Some(place) => {
+                let n = (command - 1) as usize;
+                may_step(*place, self.answers.as_slice(), self.round, n)
+            }
         }
-        let n = (command - 1) as usize;
-        let place = place_at(self.places.as_slice(), n);
-        may_step(place, self.answers.as_slice(), self.round, n)
     }
 
     /// One step of the command of this number: a call, or its answer. Where memory is refused, host and history stay as

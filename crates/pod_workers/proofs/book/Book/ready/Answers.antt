@@ -1,12 +1,25 @@
-use Rattle.std.proofs.Common.{◌≡◌, ◌+◌, ◌-◌, slice_get, sym, ◌∙◌, ap, arith}
+use Rattle.std.proofs.Common.{◌≡◌, ◌+◌, ◌-◌, sym, ◌∙◌, ap, arith}
+use Rattle.std.specs.Option.{option_copied}
 use Rattle.pod_workers.specs.Index.{may_step_by}
-use Rattle.pod_workers.proofs.ReadyByIndex.{ready-tells}
+use Rattle.pod_workers.specs.World.{at_number}
+use Rattle.pod_workers.proofs.Elements.{numbered}
+use Rattle.pod_workers.proofs.ReadyByIndex.{place-answered, ready-nowhere, ready-tells}
 use Rattle.pod_workers.proofs.book.Book.ready.Goals as goal
 
-pub returns : goal.returns
-returns g c =
-    let number : c.args.command ≡ (c.args.command - 1) + 1 = omega arith in
-    ready-tells c.may_step.result (g.K.Kernel.host c.self.inside.kernel) c.self.inside.slots.items c.self.inside.places.items c.self.inside.before _ c.args.self.now (c.args.command - 1) c.place_at-place.result
-    c.args.command c.self.invariant c.self.view_is number
-    (ap (λ ps. slice_get ps (c.args.command - 1)) (sym c.as_slice.ensures.value) ∙ c.place_at-place.ensures)
-    (c.may_step.ensures ∙ ap (λ xs. may_step_by c.place_at-place.result xs c.self.inside.round (c.args.command - 1)) c.as_slice-2.ensures.value)
+pub overflow_sub-n : goal.overflow_sub-n
+overflow_sub-n g c = let is : c.args.command ≡ (c.args.command - 1) + 1 = (numbered _ _ _ (sym c.at_number.ensures ∙ ap option_copied c.in-Some.is)).0 in omega arith
+
+pub may_step-requires : goal.may_step-requires
+may_step-requires g c =
+    rw c.as_slice-in-Some.ensures.value
+    (place-answered _ _ _ _ _ _ c.args.command c.self.invariant (ap (λ ps. at_number ps c.args.command) (sym c.as_slice.ensures.value) ∙ sym c.at_number.ensures ∙ ap option_copied c.in-Some.is))
+
+pub returns-in-None : goal.returns-in-None
+returns-in-None g c =
+    ready-nowhere _ _ _ _ _ _ c.args.command c.self.invariant c.self.view_is (ap (λ ps. at_number ps c.args.command) (sym c.as_slice.ensures.value) ∙ sym c.at_number.ensures ∙ ap option_copied c.in-None.is)
+
+pub returns-in-Some : goal.returns-in-Some
+returns-in-Some g c =
+    ready-tells c.may_step.result _ _ _ _ _ _ c.in-Some.place.now c.args.command c.self.invariant c.self.view_is
+    (ap (λ ps. at_number ps c.args.command) (sym c.as_slice.ensures.value) ∙ sym c.at_number.ensures ∙ ap option_copied c.in-Some.is)
+    (c.may_step.ensures ∙ ap (λ xs. may_step_by c.in-Some.place.now xs c.self.inside.round (c.args.command - 1)) c.as_slice-in-Some.ensures.value)
