@@ -276,7 +276,7 @@ collected_by [] [] = None
 collected_by [] (s ∷ sweeps) = Some (λ network. OwnersOf network s.kind)
 collected_by (j ∷ jobs) sweeps = Some (λ network. step_call j.att j.step)
 
--- a collection that met no fault is answered without an error
+-- a collection that met no fault succeeds
 abbrev pub swept : List ℕ → Ending
 swept [] = Yes
 swept (number ∷ numbers) = Refused (causes.Faults (number ∷ numbers))
