@@ -25,8 +25,6 @@ mod place;
 pub mod pods;
 mod read;
 mod rounds;
-#[cfg(test)]
-mod tests;
 
 pub use command::{Command, RawMapping, ValidAtt, Verb, verb_named, verb_text};
 pub use error::PodError;

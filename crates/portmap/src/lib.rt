@@ -214,6 +214,3 @@ pub fn kinds() -> [Kind; 1]
 {
     [Kind::Rules]
 }
-
-#[cfg(test)]
-mod tests;
