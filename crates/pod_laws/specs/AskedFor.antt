@@ -109,7 +109,11 @@ AreMadeOrWanted list c given links = AreAmong links (untuned list (att_of c) c.n
 abbrev pub EachLinkIsWanted : Type 0
 EachLinkIsWanted = (list : NetList) (c : Command) (given : List Addr) (links : List Link) → at_most_one (is_of_type Tuning) list.chained ≡ true → AreLinksOf list c given links → AreMadeOrWanted list c given links
 
--- and with those of every attachment at every moment, since in each list of a plan it comes at most once
+-- and with those of every attachment after these entries
+abbrev pub EachHasLinksMadeOrWanted : Plan → List Entry → Type 0
+EachHasLinksMadeOrWanted p h = (att : Att) (a : IsAskedFor p h att)
+    → AreMadeOrWanted a.list a.by.command (leases_in (replies_of a.place h)) (objects_after p att h).links
+
+-- at every moment, since in each list of a plan it comes at most once
 abbrev pub LinksAreMadeOrWanted : Type 0
-LinksAreMadeOrWanted = (w : World) → Legal w → (att : Att) (a : IsAskedFor w.plan w.history att)
-    → AreMadeOrWanted a.list a.by.command (leases_in (replies_of a.place w.history)) (objects_after w.plan att w.history).links
+LinksAreMadeOrWanted = (w : World) → Legal w → EachHasLinksMadeOrWanted w.plan w.history
