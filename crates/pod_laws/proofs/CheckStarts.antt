@@ -1,6 +1,6 @@
 -- What a CHECK asks for is in the host before its first entry as after its last.
 use Rattle.std.proofs.Common.{◌≡◌, ◌≢◌, ℕ, ◌+◌, Bool, true, false, not, List, [], ◌∷◌, ◌++◌, length, Option, Some, None, refl, sym, ◌∙◌, ap, subst, inl, inr, ◌⊎◌, arith}
-use Rattle.std.specs.Prelude.{◌&&◌, ◌==◌, filter, if◌then◌else◌}
+use Rattle.std.specs.Prelude.{◌&&◌, filter, if◌then◌else◌}
 use Rattle.std.specs.List.{list_all, list_any}
 use Rattle.std.specs.Cmp.Lexicographic.{nat_list_eq_equiv}
 use Rattle.std.specs.Str.{bytes_eq}
@@ -12,7 +12,6 @@ use Rattle.std.proofs.lemmas.Slice.Eq.{bytes_eq-Decides}
 use Rattle.cni_addr.specs.Equal.{mac_eq}
 use Rattle.cni_addr.specs.Lists.{distinct}
 use Rattle.cni_addr.specs.declared.mac.Mac.{Mac}
-use Rattle.cni_result.specs.declared.cached.Cached.{Cached}
 use Rattle.cni_result.specs.declared.result.Interface.{Interface}
 use Rattle.cni_verbs.specs.CommandWords.{att_of}
 use Rattle.cni_verbs.specs.Questions.{addresses_of_result, cached_share}
@@ -26,7 +25,6 @@ use Rattle.kernel_types.specs.declared.object.Att.{Att}
 use Rattle.kernel_types.specs.declared.object.Host.{Host}
 use Rattle.kernel_types.specs.declared.object.Link.{Link}
 use Rattle.kernel_types.specs.declared.object.Tag.{Tag}
-use Rattle.kernel_types.specs.declared.call.Call.{Call}
 use Rattle.kernel_types.specs.declared.call.Probe.TheVariants.{BridgeAt}
 use Rattle.net_conf.specs.declared.first.First.{First}
 use Rattle.net_conf.specs.declared.first.First.TheVariants.{Bridge, Ptp, Macvlan}
@@ -34,15 +32,14 @@ use Rattle.net_conf.specs.declared.list.NetList.{NetList}
 use Rattle.plan_words.specs.Share.{Share, share_of}
 use Rattle.pod_file.specs.Commands.{is_of_network}
 use Rattle.pod_file.specs.declared.command.Command.{Command}
-use Rattle.pod_file.specs.declared.command.Verb.TheVariants as verbs
 use Rattle.pod_workers.specs.Legal.{Legal}
-use Rattle.pod_workers.specs.Plans.{Placed, commands_of, list_for}
-use Rattle.pod_workers.specs.World.{World, after, entry_of, host_of, host_on}
+use Rattle.pod_workers.specs.Plans.{Placed}
+use Rattle.pod_workers.specs.World.{World, after, entry_of, host_of}
 use Rattle.pod_workers.specs.declared.plan.Entry.{Entry}
 use Rattle.pod_workers.specs.declared.plan.Plan.{Plan}
 use Rattle.pod_workers.proofs.Histories.{after-append}
 use Rattle.pod_workers.proofs.Listed.{listed-network}
-use Rattle.pod_laws.specs.Checked.{ChecksHoldFromTheirStart, HoldAlike, are_in, has_bridge_by, has_bridge_named, has_bridge_of, has_objects_of, holds_cached}
+use Rattle.pod_laws.specs.Checked.{ChecksHoldFromTheirStart, HoldAlike, are_in, has_bridge_by, has_bridge_named, has_bridge_of, has_objects_of}
 use Rattle.pod_laws.specs.Granted.{only_asks}
 use Rattle.pod_laws.specs.Moments.{host_at_end, host_at_start, is_of, own_entries, until_first, until_last}
 use Rattle.pod_laws.proofs.AloneRuns.{until_first-own}
@@ -51,7 +48,7 @@ use Rattle.pod_laws.proofs.Entries.{is_of-own, no-entries, own_entries-other, un
 use Rattle.pod_laws.proofs.DistinctLeases.{sound-at_end}
 use Rattle.pod_laws.proofs.OwnWanted.{AreOwn, own-wanted}
 use Rattle.pod_laws.proofs.QuestionRuns.{question-entered}
-use Rattle.pod_laws.proofs.Steps.{AllListed, GoesOn, IsOtherKept, IsOwnKept, ListFact, by-listed}
+use Rattle.pod_laws.proofs.Steps.{AllListed, IsOtherKept, IsOwnKept, ListFact, by-listed}
 use Rattle.pod_laws.proofs.SteadyHosts.{KeepsAsked, KeepsBridges, asked-kept, keeps-same}
 
 -- ---- from the first entry to the last
