@@ -1,3 +1,4 @@
+pub mod AddCalls
 pub mod AfterReplies
 pub mod Arguments
 pub mod Asked
@@ -7,5 +8,6 @@ pub mod CheckCounts
 pub mod Ends
 pub mod Gathered
 pub mod NextCalls
+pub mod OwnCalls
 pub mod PhaseSteps
 pub mod WantedShare
