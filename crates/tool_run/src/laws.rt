@@ -1,4 +1,4 @@
-//! What lists and pods that were read make. The function does nothing: a caller gets the law by calling it.
+//! Laws, each carried by a function that does nothing: a caller gets the law by calling it.
 
 ghost use Rattle.std.specs.Prelude.{◌≡◌, ◌≤◌, All, Ok, length};
 ghost use Rattle.pod_file.specs.Rounds.{file_limit};
@@ -6,6 +6,7 @@ ghost use Rattle.pod_workers.specs.Join.{joined};
 ghost use Rattle.pod_workers.specs.Plans.{IsWellFormed, commands_of};
 ghost use Rattle.pod_workers.specs.declared.plan.Plan.{Plan};
 ghost use Rattle.tool_run.specs.Causes.{IsReadList, IsReadPods};
+ghost use Rattle.tool_run.specs.Statuses.{EachStatusIsOfItsVerdict, RefusedWordsAreTold};
 
 use net_conf::network_list_laws;
 use pod_file::pod_file_laws;
@@ -20,3 +21,16 @@ pub(crate) fn read_plans_are_well_formed()
     pod_file_laws();
     joined_plans_are_well_formed();
 }
+
+/// Where files are told and neither a read nor a write failed, the status is one of what words and files come to, or 6,
+/// out of memory.
+#[tactic(auto, using(crate::proofs::Ended::each_status_is_of_its_verdict))]
+pub fn an_undisturbed_status_is_of_its_verdict()
+    ensures { EachStatusIsOfItsVerdict }
+{}
+
+/// Words that aren't taken end with 2, with 5 where the sink gave up, or with 6 where memory ran out.
+#[tactic(auto, using(crate::proofs::Ended::refused_words_are_told))]
+pub fn refused_words_are_told()
+    ensures { RefusedWordsAreTold }
+{}

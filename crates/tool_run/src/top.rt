@@ -2,13 +2,15 @@
 
 ghost use Rattle.std.specs.Prelude.{◌≡◌, ◌<◌, ◌≤◌, Some, IfSome, length};
 ghost use Rattle.std.specs.Thread.{IsSync};
+ghost use Rattle.pod_laws.specs.Guaranteed.{IsGuaranteed};
 ghost use Rattle.pod_workers.specs.Extends.{Rounds};
 ghost use Rattle.pod_workers.specs.Order.{IsInFileOrder};
 ghost use Rattle.tool_words.specs.Words.{words_given};
 ghost use Rattle.tool_words.specs.declared.words.Words.{Words};
 ghost use Rattle.tool_run.specs.Ends.{Reported, Reports, ReportsStop};
 ghost use Rattle.tool_run.specs.Rounds.{KeepsFileOrder, MakesRounds};
-ghost use Rattle.tool_run.specs.Statuses.{AskForOneThread, HasCauses, sides};
+ghost use Rattle.tool_run.specs.Seen.{files_seen, sink_seen};
+ghost use Rattle.tool_run.specs.Statuses.{AskForOneThread, Ends, IsDetermined, sides};
 
 use crate::lines::USAGE;
 use crate::plan::Stop;
@@ -17,9 +19,10 @@ use crate::settle::{CarriedOut, settle};
 use cni_addr::Text;
 use cni_io::{Files, Sink, write_whole};
 use kernel_model::ListKernel;
+use pod_laws::every_legal_history_is_guaranteed;
 use pod_text::{MEMORY_STATUS, READ_STATUS, REFUSED_STATUS, USAGE_STATUS, WRITE_STATUS, status};
 use pod_threads::Gate;
-use pod_workers::Book;
+use pod_workers::{Book, one_outcome};
 use std::alloc::Global;
 use std::sync::Wait;
 use std::thread::Threads;
@@ -49,8 +52,14 @@ pub fn run<R: Threads + Wait + Sync, F: Files, S: Sink, G: Gate>(
     sink: &mut S,
     gate: &G,
 ) -> Outcome
-    ensures causes { HasCauses (sides words.now (F.files files.old) (F.faults files.old) (F.faults files.new) (S.written sink.old) (S.written sink.new) (S.faults sink.old) (S.faults sink.new)) result.status result.book }
+    ensures ends { Ends (sides words.now
+        (files_seen F.files F.faults files.old files.new)
+        (sink_seen S.written S.faults sink.old sink.new)) result.status result.book }
+    ensures guaranteed { IfSome result.book IsGuaranteed }
     ensures order { AskForOneThread words.now → IfSome result.book IsInFileOrder }
+    ensures determined { AskForOneThread words.now → IsDetermined (sides words.now
+        (files_seen F.files F.faults files.old files.new)
+        (sink_seen S.written S.faults sink.old sink.new)) result.status }
     ensures keeps { F.files files.new ≡ F.files files.old }
 {
     run_by(
@@ -74,8 +83,14 @@ pub fn run_alone<F: Files, S: Sink>(
     files: &mut F,
     sink: &mut S,
 ) -> Outcome
-    ensures causes { HasCauses (sides words.now (F.files files.old) (F.faults files.old) (F.faults files.new) (S.written sink.old) (S.written sink.new) (S.faults sink.old) (S.faults sink.new)) result.status result.book }
+    ensures ends { Ends (sides words.now
+        (files_seen F.files F.faults files.old files.new)
+        (sink_seen S.written S.faults sink.old sink.new)) result.status result.book }
+    ensures guaranteed { IfSome result.book IsGuaranteed }
     ensures order { IfSome result.book IsInFileOrder }
+    ensures determined { IsDetermined (sides words.now
+        (files_seen F.files F.faults files.old files.new)
+        (sink_seen S.written S.faults sink.old sink.new)) result.status }
     ensures keeps { F.files files.new ≡ F.files files.old }
 {
     run_by(
@@ -100,10 +115,18 @@ fn run_by<M: Fn(Book<ListKernel>, u8) -> Book<ListKernel>, F: Files, S: Sink>(
     sink: &mut S,
 ) -> Outcome
     requires { MakesRounds M.Fn make.now }
-    ensures causes { HasCauses (sides words.now (F.files files.old) (F.faults files.old) (F.faults files.new) (S.written sink.old) (S.written sink.new) (S.faults sink.old) (S.faults sink.new)) result.status result.book }
+    ensures ends { Ends (sides words.now
+        (files_seen F.files F.faults files.old files.new)
+        (sink_seen S.written S.faults sink.old sink.new)) result.status result.book }
+    ensures guaranteed { IfSome result.book IsGuaranteed }
     ensures order { (by : Words) → words_given words.now ≡ Some by → KeepsFileOrder M.Fn make.now by.threads → IfSome result.book IsInFileOrder }
+    ensures determined { IfSome result.book IsInFileOrder → IsDetermined (sides words.now
+        (files_seen F.files F.faults files.old files.new)
+        (sink_seen S.written S.faults sink.old sink.new)) result.status }
     ensures keeps { F.files files.new ≡ F.files files.old }
 {
+    every_legal_history_is_guaranteed();
+    one_outcome();
     let due = settle(make, alloc, words, files);
     report(sink, due)
 }

@@ -1,6 +1,6 @@
 use Rattle.tool_run.specs.Rounds.{KeepsFileOrder}
 use Rattle.tool_run.specs.Statuses.{Sides}
-use Rattle.tool_run.proofs.Ended.{causes, ended, ordered}
+use Rattle.tool_run.proofs.Ended.{determined, ended, guaranteed, ordered}
 use Rattle.tool_run.proofs.top.run_by.Goals as goal
 
 pub returns : goal.returns
@@ -18,8 +18,11 @@ returns g c =
     let keeps = KeepsFileOrder g.M.Fn c.args.make.now in
     let due = c.settle-due.result in
     let outcome = c.report.result in
+    let how = ended keeps sides due outcome c.settle-due.ensures.settles c.report.ensures in
     record {
-      causes = causes sides outcome.status outcome.book (ended keeps sides due outcome c.settle-due.ensures.settles c.report.ensures);
+      ends = how;
+      guaranteed = guaranteed sides outcome.status outcome.book c.every_legal_history_is_guaranteed.ensures how;
       order = ordered keeps sides due outcome c.settle-due.ensures.settles c.report.ensures;
+      determined = λ order. determined sides outcome.status outcome.book c.one_outcome.ensures order how;
       keeps = c.settle-due.ensures.keeps;
     }
