@@ -98,13 +98,17 @@ sides words files sink = record {
 -- sink gave up behind a front of what was due (5); or memory ran out outside the commands, and nothing was written (6).
 pub data Ends (r : Sides) (status : ℕ) (book : Option World) : Type 0 where
   of_usage : status ≡ 2 → book ≡ None → words_given r.words ≡ None → Wrote r.old r.new usage_line → Ends r status book
-  of_line : (bytes : List ℕ) → status ≡ 3 → book ≡ None → (w : Words) → words_given r.words ≡ Some w → ComesTo r.words r.files (line bytes) → Wrote r.old r.new bytes
-      → Ends r status book
-  of_read : (bytes : List ℕ) → status ≡ 4 → book ≡ None → IsUnreadOf r.words r.reads_before r.reads_now bytes → Wrote r.old r.new bytes → Ends r status book
-  of_text : (b : World) (bytes : List ℕ) → IsAmong status (0 ∷ 1 ∷ 8 ∷ []) → status ≡ status_of b.answers → book ≡ Some b → IsCarriedOut r.words r.files b → IsTextOf r.words b bytes
+  of_line : (bytes : List ℕ) → status ≡ 3 → book ≡ None
+      → (w : Words) → words_given r.words ≡ Some w → ComesTo r.words r.files (line bytes)
       → Wrote r.old r.new bytes → Ends r status book
-  of_sink : (bytes : List ℕ) → status ≡ 5 → Rose r.writes_before r.writes_now → IfSome book (IsCarriedOut r.words r.files)
-      → IsToWrite r.words r.files r.reads_before r.reads_now book bytes → WroteFront r.old r.new bytes → Ends r status book
+  of_read : (bytes : List ℕ) → status ≡ 4 → book ≡ None → IsUnreadOf r.words r.reads_before r.reads_now bytes
+      → Wrote r.old r.new bytes → Ends r status book
+  of_text : (b : World) (bytes : List ℕ) → IsAmong status (0 ∷ 1 ∷ 8 ∷ []) → status ≡ status_of b.answers
+      → book ≡ Some b → IsCarriedOut r.words r.files b → IsTextOf r.words b bytes
+      → Wrote r.old r.new bytes → Ends r status book
+  of_sink : (bytes : List ℕ) → status ≡ 5 → Rose r.writes_before r.writes_now
+      → IfSome book (IsCarriedOut r.words r.files) → IsToWrite r.words r.files r.reads_before r.reads_now book bytes
+      → WroteFront r.old r.new bytes → Ends r status book
   of_memory : status ≡ 6 → book ≡ None → WroteNothing r.old r.new r.writes_before r.writes_now → Ends r status book
 
 -- where the files are told and neither count of faults rose, the status is one of what words and files come to, or 6
