@@ -18,7 +18,8 @@ A row has the files that lie where the program runs, the words, and what is expe
     stdout_to   the file that standard output goes to, in place of a pipe that is read
     for_each    the row stands for as many as these lists have places: `<K>` is what the list K has at the row's place
 
-A file is a JSON value that is written compactly, or `@NAME`, one of the lists; or {"text": ..}, {"size": N} or {"directory": true}.
+A file is a JSON value that is written compactly, or `@NAME`, one of the lists; or {"text": ..}, {"size": N} or {"directory": true};
+or {"before": .., "repeated": .., "times": N, "after": ..}, texts, of which the second stands N times, between commas.
 In a line `<HV N/C/I>`, `<MH N/C/I>` and `<MC N/C/I>` are the host end's name, its MAC and the container end's MAC of the
 attachment of container C to network N by interface I, and `<ML NAME>` is the MAC of another link; they are derived here.
 """
@@ -80,6 +81,9 @@ def content_of(given, lists):
         return DIRECTORY
     if isinstance(given, dict) and "size" in given:
         return b" " * given["size"]
+    if isinstance(given, dict) and "repeated" in given:
+        members = ",".join([given["repeated"]] * given["times"])
+        return f"{given['before']}{members}{given['after']}".encode("utf-8")
     if isinstance(given, dict) and "text" in given:
         return given["text"].encode("utf-8")
     return given

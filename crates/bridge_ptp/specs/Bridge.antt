@@ -14,7 +14,7 @@ use Rattle.plan_words.specs.Share.{Share, no_objects}
 use Rattle.host_local.specs.Conf.{routes_of}
 use Rattle.host_local.specs.Results.{ip_of}
 use Rattle.bridge_ptp.specs.Gateways.{gateway_call, gateways_on}
-use Rattle.bridge_ptp.specs.Kinds.{interface_kinds}
+use Rattle.host_local.specs.Kinds.{interface_kinds}
 use Rattle.bridge_ptp.specs.Results.{bridge_routes}
 use Rattle.bridge_ptp.specs.Veth.{veth_share, veth_pair}
 

@@ -14,7 +14,7 @@ use Rattle.kernel_types.specs.declared.call.Call.TheVariants.{AddrAdd, RouteAdd,
 use Rattle.cni_addr.specs.Lists.{each_key_once}
 use Rattle.plan_words.specs.Shapes.{host_key, address_at, route_at, address_on, route_by, route_on, masquerade_rules, forward_calls}
 use Rattle.plan_words.specs.Share.{Share, no_objects}
-use Rattle.bridge_ptp.specs.Kinds.{interface_kinds}
+use Rattle.host_local.specs.Kinds.{interface_kinds}
 use Rattle.bridge_ptp.specs.Veth.{veth_share, veth_pair}
 -- an address or a route, in the order in which they are asked for
 pub use Rattle.bridge_ptp.specs.declared.ptp.AddressOrRoute.{AddressOrRoute}

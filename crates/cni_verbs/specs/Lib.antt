@@ -1,3 +1,4 @@
+pub mod AddCalls
 pub mod Answers
 pub mod Codes
 pub mod CommandWords

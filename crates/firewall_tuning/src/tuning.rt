@@ -43,7 +43,7 @@ fn settings_of(
 // ---- the container's link
 
 /// Whether any value of the link is configured.
-pub(crate) fn sets_any(conf: &TuningConf) -> bool
+fn sets_any(conf: &TuningConf) -> bool
     ensures { result ≡ plan.sets_any conf.now }
 {
     conf.mac.is_some()
@@ -84,7 +84,7 @@ pub fn tuning_calls(
 {
     let settings = settings_of(alloc, att, netns, conf.sysctl.as_slice())?;
     let mut calls = Vec::new(alloc);
-    ask_all(&mut calls, settings.as_slice())?;
+    ask_all(&mut calls, settings)?;
     ask_link_values(&mut calls, conf, att, netns)?;
     Ok(Items::of_vec(calls))
 }

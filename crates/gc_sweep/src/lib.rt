@@ -26,6 +26,3 @@ mod place;
 pub mod run;
 
 pub use run::GcRun;
-
-#[cfg(test)]
-mod tests;

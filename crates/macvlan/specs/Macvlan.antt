@@ -7,11 +7,11 @@ use Rattle.kernel_types.specs.declared.call.Given.{Given}
 use Rattle.kernel_types.specs.declared.call.Kind.{Kind}
 use Rattle.kernel_types.specs.declared.call.Call.{Call}
 use Rattle.kernel_types.specs.declared.call.Call.TheVariants.{MacvlanAdd, AddrAdd, RouteAdd}
+use Rattle.plan_words.specs.Results.{inner_interface, completed}
 use Rattle.plan_words.specs.Shapes.{macvlan_link, addresses_on, routes_on}
 use Rattle.plan_words.specs.Share.{Share, no_objects}
 use Rattle.host_local.specs.Conf.{routes_of}
-use Rattle.bridge_ptp.specs.Kinds.{interface_kinds}
-use Rattle.bridge_ptp.specs.Results.{inner_interface, completed}
+use Rattle.host_local.specs.Kinds.{interface_kinds}
 
 abbrev pub macvlan_share_before : MacvlanConf → Att → List ℕ → Share
 macvlan_share_before conf att netns = record no_objects { links = macvlan_link att netns conf.master conf.mode conf.mtu ∷ [] }

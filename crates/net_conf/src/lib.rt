@@ -30,19 +30,22 @@ mod plugin_type;
 mod plugins;
 mod portmap;
 mod ptp;
+pub mod range_sets;
 mod ranges;
 mod read;
 mod routes;
 mod sets;
+#[cfg(test)]
+mod tests;
 mod tuning;
 
 pub use bridge_modes::{BridgeMode, GatewayRole};
-pub use chained::{Chained, FirewallConf, PortmapConf, Sysctl, TuningConf};
+pub use chained::{Chained, ChainedPlugins, FirewallConf, PortmapConf, Sysctl, TuningConf};
 pub use error::ConfError;
 pub use first::{BridgeConf, First, HostLocalConf, MacvlanConf, PtpConf};
 pub use laws::network_list_laws;
 pub use list::{DISABLE_CHECK_KEY, DISABLE_GC_KEY, NetList};
 pub use members::{DEFAULT_MTU, is_mtu};
 pub use names::{is_container_id, is_interface_name, is_network_name};
+pub use range_sets::{MOST_SETS, RangeSets};
 pub use read::read_list;
-pub use sets::MOST_SETS;

@@ -24,6 +24,7 @@ use Rattle.plan_words.proofs.CallLists.{share_after_calls-append}
 use Rattle.plan_words.proofs.OtherCalls.{share-other}
 use Rattle.plan_words.proofs.Refusals.{refused-same, refused-lease}
 use Rattle.pod_file.specs.declared.command.Command.{Command}
+use Rattle.cni_verbs.specs.AddCalls.{is_done}
 use Rattle.cni_verbs.specs.CommandWords.{att_of}
 use Rattle.cni_verbs.specs.Script.{State, AtBegin, BeforeLeases, Leasing, AfterLeases, ReadingCache, Deleting, FindingEntry, Asking, Changing, Collecting, Over, Calls, before_of, back_of, turn, leases_in}
 use Rattle.cni_verbs.specs.Wanted.{deletion}
@@ -36,7 +37,7 @@ use Rattle.pod_workers.proofs.Order.{other_number, ready_is}
 use Rattle.pod_workers.proofs.Planned.{LeftArePlanned}
 use Rattle.pod_workers.proofs.Sound.{sound_host}
 use Rattle.pod_workers.proofs.Deletable.{done_or_not, leased_or_not}
-use Rattle.pod_laws.specs.AskedFor.{begins, is_begin_of, is_done, AreAskedFor, HasNothingUnasked, IsAskedFor, NothingIsUnasked}
+use Rattle.pod_laws.specs.AskedFor.{begins, is_begin_of, AreAskedFor, HasNothingUnasked, IsAskedFor, NothingIsUnasked}
 use Rattle.pod_laws.specs.Moments.{objects_after, own_entries}
 use Rattle.pod_laws.proofs.Achieved.{Achieved, achieved-start, achieved-step, begun-none, leased-done, leased-push, leased-same, leased_in, leases-one, leases-push, own-made, with_leases}
 use Rattle.pod_laws.proofs.Begins.{all-last, begin-apart, deletion-no_begin, last_begun-same, not-begins, outside-no_begin, plan-no_begin, question-no_begin}

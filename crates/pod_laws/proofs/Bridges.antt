@@ -17,7 +17,7 @@ use Rattle.net_conf.specs.declared.list.NetList.{NetList}
 use Rattle.pod_file.specs.declared.command.Command.{Command}
 use Rattle.kernel_types.specs.Allowed.{IsAllowed}
 use Rattle.kernel_types.specs.Apply.{apply}
-use Rattle.kernel_types.specs.Apply.Calls.{bridge_or_new, new_bridge, has_bridge_as_master}
+use Rattle.kernel_types.specs.Apply.Calls.{bridge_or_new, new_bridge, master_is_bridge_or_none}
 use Rattle.kernel_types.specs.Isolation.{ensures_shared, is_from_outside}
 use Rattle.kernel_types.specs.Sound.{IsSound, link_fits_tag}
 use Rattle.kernel_types.specs.Words.{is_bridge, is_host_bridge, is_host_link, is_owned, has_host_bridge}
@@ -120,9 +120,9 @@ bridge_of (Macvlan conf) = None
 
 -- the bridge, if the list has one, is there
 abbrev pub BridgeIn : First → Host → Type 0
-BridgeIn first host = has_bridge_as_master host (bridge_of first) ≡ true
+BridgeIn first host = master_is_bridge_or_none host (bridge_of first) ≡ true
 
-bridge-in-stays : (o : Option (List ℕ)) (host : Host) (call : Call) → IsSound host → IsAllowed host call → is_from_outside call ≡ false → has_bridge_as_master host o ≡ true → has_bridge_as_master (apply host call).0 o ≡ true
+bridge-in-stays : (o : Option (List ℕ)) (host : Host) (call : Call) → IsSound host → IsAllowed host call → is_from_outside call ≡ false → master_is_bridge_or_none host o ≡ true → master_is_bridge_or_none (apply host call).0 o ≡ true
 bridge-in-stays None host call sound allowed inside there = refl
 bridge-in-stays (Some name) host call sound allowed inside there = bridge-stays (is_host_bridge name) (passes-host_bridges name) host call sound allowed inside there
 

@@ -60,7 +60,7 @@ same-own p own w old new same there = sym (any-filter_same p own true w new) ∙
 and-fifth : (a b d e r : Bool) → (a && (b && (d && (e && r)))) ≡ true → r ≡ true
 and-fifth a b d e r h = (and_parts e r (and_parts d (e && r) (and_parts b (d && (e && r)) (and_parts a (b && (d && (e && r))) h).1).1).1).1
 
-link-tag : (a b : Link) → link_eq a b ≡ true → tag_eq a.tag b.tag ≡ true
+pub link-tag : (a b : Link) → link_eq a b ≡ true → tag_eq a.tag b.tag ≡ true
 link-tag a b h =
     let last = a.tx_qlen == b.tx_qlen && tag_eq a.tag b.tag in
     let third = beq a.promisc b.promisc && (beq a.allmulti b.allmulti && last) in
@@ -69,13 +69,13 @@ link-tag a b h =
     let is_third : third ≡ true = and-fifth (option_eq key_eq a.peer b.peer) (mac_eq a.mac b.mac) (a.mtu == b.mtu) (beq a.hairpin b.hairpin) third is_second in
     (and_parts (a.tx_qlen == b.tx_qlen) (tag_eq a.tag b.tag) (and_parts (beq a.allmulti b.allmulti) last (and_parts (beq a.promisc b.promisc) (beq a.allmulti b.allmulti && last) is_third).1).1).1
 
-address-tag : (a b : AddrObj) → addr_obj_eq a b ≡ true → tag_eq a.tag b.tag ≡ true
+pub address-tag : (a b : AddrObj) → addr_obj_eq a b ≡ true → tag_eq a.tag b.tag ≡ true
 address-tag a b h = grind (arith, h)
 
-route-tag : (a b : RouteObj) → route_eq a b ≡ true → tag_eq a.tag b.tag ≡ true
+pub route-tag : (a b : RouteObj) → route_eq a b ≡ true → tag_eq a.tag b.tag ≡ true
 route-tag a b h = grind (arith, h)
 
-rule-tag : (a b : Rule) → rule_eq a b ≡ true → tag_eq a.tag b.tag ≡ true
+pub rule-tag : (a b : Rule) → rule_eq a b ≡ true → tag_eq a.tag b.tag ≡ true
 rule-tag a b h =
     let last = target_eq a.target b.target && tag_eq a.tag b.tag in
     let ports = option_eq (λ p q. p == q) a.dport b.dport in
@@ -84,10 +84,10 @@ rule-tag a b h =
     let is_last : last ≡ true = and-fifth (beq a.not_dst b.not_dst) (option_eq proto_eq a.protocol b.protocol) ports (beq a.established b.established) last is_second in
     (and_parts (target_eq a.target b.target) (tag_eq a.tag b.tag) is_last).1
 
-setting-tag : (a b : Setting) → setting_eq a b ≡ true → tag_eq a.tag b.tag ≡ true
+pub setting-tag : (a b : Setting) → setting_eq a b ≡ true → tag_eq a.tag b.tag ≡ true
 setting-tag a b h = grind (arith, h)
 
-lease-tag : (a b : Lease) → lease_eq a b ≡ true → tag_eq a.tag b.tag ≡ true
+pub lease-tag : (a b : Lease) → lease_eq a b ≡ true → tag_eq a.tag b.tag ≡ true
 lease-tag a b h = grind (arith, h)
 
 -- a question for an object of the attachment among the objects of one list of the host

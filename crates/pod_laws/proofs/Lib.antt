@@ -10,6 +10,7 @@ pub mod Causes
 pub mod ChangedRuns
 pub mod CheckQuestions
 pub mod CheckRuns
+pub mod CheckStarts
 pub mod Collected
 pub mod CollectedAgain
 pub mod CollectedRuns
@@ -23,6 +24,7 @@ pub mod Entries
 pub mod FirstEntries
 pub mod Footing
 pub mod Fronts
+pub mod Guaranteed
 pub mod InTurn
 pub mod LastAddresses
 pub mod OfAnswers

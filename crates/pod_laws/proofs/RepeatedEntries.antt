@@ -25,6 +25,7 @@ use Rattle.kernel_types.specs.declared.call.Kind.TheVariants as kinds
 use Rattle.plan_words.specs.PlanCalls.{is_call_of}
 use Rattle.plan_words.specs.Share.{Share, share_of, no_objects}
 use Rattle.plan_words.proofs.Refusals.{refused-same, refused-lease}
+use Rattle.cni_verbs.specs.AddCalls.{is_done}
 use Rattle.cni_verbs.specs.CommandWords.{att_of}
 use Rattle.cni_verbs.specs.Script.{State, AtBegin, BeforeLeases, Leasing, AfterLeases, ReadingCache, Deleting, FindingEntry, Asking, Changing, Collecting, Over, Calls, turn}
 use Rattle.cni_verbs.specs.Wanted.{deletion}
@@ -35,7 +36,7 @@ use Rattle.pod_workers.specs.World.{World, entry_of, host_of, host_on}
 use Rattle.pod_workers.specs.declared.plan.Entry.{Entry}
 use Rattle.pod_workers.specs.declared.plan.Plan.{Plan}
 use Rattle.pod_workers.proofs.Sound.{sound_host}
-use Rattle.pod_laws.specs.AskedFor.{begins, is_begin_of, is_done}
+use Rattle.pod_laws.specs.AskedFor.{begins, is_begin_of}
 use Rattle.pod_laws.specs.Moments.{IsGone, is_of, own_entries, until_last}
 use Rattle.pod_laws.specs.Single.{EachEntry}
 use Rattle.pod_laws.specs.Refused.{is_granted, lets_go_on}

@@ -32,16 +32,18 @@ use Rattle.cni_verbs.specs.Wanted.{kinds_of, deletion}
 use Rattle.pod_file.specs.WellFormed.{IsOpening}
 use Rattle.pod_workers.specs.Legal.{Legal}
 use Rattle.pod_file.specs.Commands.{is_of_network}
+use Rattle.pod_workers.specs.PlanCalls.{has_kind, is_of_kinds}
 use Rattle.pod_workers.specs.Plans.{Placed, IsWellFormed, list_for, list_named}
 use Rattle.pod_workers.specs.World.{World, entry_of, host_of, host_on, own_replies}
 use Rattle.pod_workers.specs.declared.plan.Entry.{Entry}
 use Rattle.pod_workers.specs.declared.plan.Plan.{Plan}
 use Rattle.pod_workers.proofs.Histories.{after-append}
+use Rattle.pod_workers.proofs.PlanCalls.{leases-kinds_of}
 use Rattle.pod_workers.proofs.Planned.{LeftArePlanned, left-are-planned}
 use Rattle.pod_workers.proofs.Sound.{sound_host, if-listed}
 use Rattle.pod_workers.proofs.Deletable.{done_or_not, leased_or_not}
 use Rattle.pod_laws.specs.Moments.{objects_after}
-use Rattle.pod_laws.proofs.OfKinds.{has, call_fits, HasKindsAlone, HasKindsAlone-nothing, HasKindsAlone-call, HasKindsAlone-removes, leases-kinds_of}
+use Rattle.pod_laws.proofs.OfKinds.{HasKindsAlone, HasKindsAlone-nothing, HasKindsAlone-call, HasKindsAlone-removes}
 use Rattle.pod_laws.proofs.Removes.{removes-deletion}
 use Rattle.pod_laws.proofs.States.{LeftFit, is_question, left-fit, question-leaves, asked-is_question}
 use Rattle.pod_laws.proofs.Steps.{Changes, GoesOn, by-entries, on-entry}
@@ -52,19 +54,19 @@ use Rattle.pod_laws.proofs.Turns.{AsksOrCollects, removes-changed, turn-of, work
 abbrev AfterCall : Att → Host → List Kind → Call → Type 0
 AfterCall att k ks call = HasKindsAlone ks (share_of att (apply k call).0)
 
-within-plan : (att : Att) (k : Host) (ks : List Kind) (call : Call) → is_plan_call_of att call ≡ true → call_fits ks call ≡ true → HasKindsAlone ks (share_of att k) → AfterCall att k ks call
+within-plan : (att : Att) (k : Host) (ks : List Kind) (call : Call) → is_plan_call_of att call ≡ true → is_of_kinds ks call ≡ true → HasKindsAlone ks (share_of att k) → AfterCall att k ks call
 within-plan att k ks call own fits w =
     elim (done_or_not (apply k call).1) [
       | inl done ↦ subst (HasKindsAlone ks) (sym (share-own att k call own done)) (HasKindsAlone-call ks (share_of att k) call fits w)
       | inr not ↦ subst (λ h. HasKindsAlone ks (share_of att h)) (sym (refused-same att k call own not)) w
     ]
 
-within-lease : (att : Att) (k : Host) (ks : List Kind) (number : ℕ) (set : RangeSet) → has kinds.Leases ks ≡ true → HasKindsAlone ks (share_of att k) → AfterCall att k ks (LeaseNext att number set)
+within-lease : (att : Att) (k : Host) (ks : List Kind) (number : ℕ) (set : RangeSet) → has_kind kinds.Leases ks ≡ true → HasKindsAlone ks (share_of att k) → AfterCall att k ks (LeaseNext att number set)
 within-lease att k ks number set there w =
     elim (leased_or_not (apply k (LeaseNext att number set)).1) [
       | inl leased ↦
           subst (HasKindsAlone ks) (sym (share-lease att k number set leased.0 leased.1))
-          (record { links = w.links; rules = w.rules; settings = w.settings; leases = λ g. absurd (both_ways (has kinds.Leases ks) g there); cached = w.cached })
+          (record { links = w.links; rules = w.rules; settings = w.settings; leases = λ g. absurd (both_ways (has_kind kinds.Leases ks) g there); cached = w.cached })
       | inr not ↦ subst (λ h. HasKindsAlone ks (share_of att h)) (sym (refused-lease k att number set not)) w
     ]
 
@@ -80,13 +82,13 @@ unfolding turn
 within-turn list c AtBegin k call left fit sound is w = subst (AfterCall (att_of c) k (kinds_of list)) (let e : Begin (att_of c) c.netns ≡ call = cc in e) w
 within-turn list c (BeforeLeases x xs) k call left fit sound is w =
     subst (AfterCall (att_of c) k (kinds_of list)) (let e : x ≡ call = cc in e)
-    (within-plan (att_of c) k (kinds_of list) x left.0.0.0 (and_parts (call_fits (kinds_of list) x) (list_all (call_fits (kinds_of list)) xs) fit).0 w)
+    (within-plan (att_of c) k (kinds_of list) x left.0.0.0 (and_parts (is_of_kinds (kinds_of list) x) (list_all (is_of_kinds (kinds_of list)) xs) fit).0 w)
 within-turn list c (Leasing set sets given) k call left fit sound is w =
     subst (AfterCall (att_of c) k (kinds_of list)) (let e : LeaseNext (att_of c) (length given) set ≡ call = cc in e)
     (within-lease (att_of c) k (kinds_of list) (length given) set (leases-kinds_of list left.0.0 sets set left.0.1) w)
 within-turn list c (AfterLeases x xs given) k call left fit sound is w =
     subst (AfterCall (att_of c) k (kinds_of list)) (let e : x ≡ call = cc in e)
-    (within-plan (att_of c) k (kinds_of list) x left.0.0 (and_parts (call_fits (kinds_of list) x) (list_all (call_fits (kinds_of list)) xs) fit).0 w)
+    (within-plan (att_of c) k (kinds_of list) x left.0.0 (and_parts (is_of_kinds (kinds_of list) x) (list_all (is_of_kinds (kinds_of list)) xs) fit).0 w)
 within-turn list c (ReadingCache ending) k call left fit sound is w = subst (AfterCall (att_of c) k (kinds_of list)) (let e : CacheGet (att_of c) ≡ call = cc in e) w
 within-turn list c (Deleting kind ks ending) k call left fit sound is w =
     subst (AfterCall (att_of c) k (kinds_of list)) (let e : deletion (att_of c) kind ≡ call = cc in e)

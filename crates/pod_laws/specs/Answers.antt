@@ -42,10 +42,14 @@ OrCutOff Is a = Is a ⊎ (is_cut_off a ≡ true)
 
 -- ---- each answer of a verb, in every legal history, whatever was interleaved, stopped, faulted or refused memory
 
--- this holds of it, of its world and of its command, at place n
+-- in this world this holds of it and of its command, at place n
+abbrev pub EachAnswerIn : World → Verb → (ℕ → Command → Answer → Type 0) → Type 0
+EachAnswerIn w verb Holds = (n : ℕ) (c : Placed) (a : Answer)
+    → slice_get (commands_of w.plan) n ≡ Some c → c.command.verb ≡ verb → slice_get w.answers n ≡ Some (Some a) → Holds n c.command a
+
+-- in every legal world
 abbrev pub EachAnswer : Verb → (World → ℕ → Command → Answer → Type 0) → Type 0
-EachAnswer verb Holds = (w : World) → Legal w → (n : ℕ) (c : Placed) (a : Answer)
-    → slice_get (commands_of w.plan) n ≡ Some c → c.command.verb ≡ verb → slice_get w.answers n ≡ Some (Some a) → Holds w n c.command a
+EachAnswer verb Holds = (w : World) → Legal w → EachAnswerIn w verb (Holds w)
 
 -- and of the list of its network
 abbrev pub EachListAnswer : Verb → (World → ℕ → Command → NetList → Answer → Type 0) → Type 0
@@ -68,6 +72,12 @@ EachRefusal verb IsFor = EachListAnswer verb (λ w n c list a. (error : CniError
 abbrev pub EachEnding : Verb → (NetList → Command → List Entry → Host → Ending → Type 0) → Type 0
 EachEnding verb EndsSo = EachListAnswer verb (λ w n c list a. is_cut_off a ≡ false
     → (ending : Ending) × (a ≡ answer_of_ending list c ending []) × EndsSo list c (own_entries n w.history) (host_at_end w n) ending)
+
+-- ---- with its list
+
+-- the network of the command has a list, of which this holds
+abbrev pub HoldsOfItsList : World → Command → (NetList → Type 0) → Type 0
+HoldsOfItsList w c Holds = (list : NetList) × (list_for w.plan c ≡ Some list) × Holds list
 
 -- ---- the first that fails
 

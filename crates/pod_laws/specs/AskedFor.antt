@@ -3,6 +3,7 @@ use Rattle.std.specs.Prelude.{◌≡◌, ℕ, ◌+◌, ◌⊎◌, Bool, true, fa
 use Rattle.std.specs.List.{list_any, AllByRecursion}
 use Rattle.std.specs.Option.{option_or}
 use Rattle.cni_addr.specs.declared.address.Addr.{Addr}
+use Rattle.cni_verbs.specs.AddCalls.{is_done}
 use Rattle.cni_verbs.specs.CommandWords.{att_of, mappings_of}
 use Rattle.cni_verbs.specs.Script.{leases_in}
 use Rattle.cni_verbs.specs.Wanted.{back_calls, untuned, wanted}
@@ -12,8 +13,6 @@ use Rattle.kernel_types.specs.declared.object.Att.{Att}
 use Rattle.kernel_types.specs.declared.object.Link.{Link}
 use Rattle.kernel_types.specs.declared.call.Call.{Call}
 use Rattle.kernel_types.specs.declared.call.Call.TheVariants.{Begin}
-use Rattle.kernel_types.specs.declared.call.Reply.{Reply}
-use Rattle.kernel_types.specs.declared.call.Reply.TheVariants.{Done}
 use Rattle.net_conf.specs.Plugins.{is_of_type}
 use Rattle.net_conf.specs.declared.list.NetList.{NetList}
 use Rattle.net_conf.specs.declared.plugin_type.PluginType.TheVariants.{Tuning}
@@ -38,10 +37,6 @@ AreAmong xs all = AllByRecursion (λ x. IsAmong x all) xs
 abbrev pub is_begin_of : Att → Call → Bool
 is_begin_of att (Begin a netns) = att_eq a att
 is_begin_of att call = false
-
-abbrev pub is_done : Reply → Bool
-is_done Done = true
-is_done reply = false
 
 -- a Begin for the attachment that was done
 abbrev pub begins : Att → Entry → Bool
@@ -109,7 +104,11 @@ AreMadeOrWanted list c given links = AreAmong links (untuned list (att_of c) c.n
 abbrev pub EachLinkIsWanted : Type 0
 EachLinkIsWanted = (list : NetList) (c : Command) (given : List Addr) (links : List Link) → at_most_one (is_of_type Tuning) list.chained ≡ true → AreLinksOf list c given links → AreMadeOrWanted list c given links
 
--- and with those of every attachment at every moment, since in each list of a plan it comes at most once
+-- and with those of every attachment after these entries
+abbrev pub EachHasLinksMadeOrWanted : Plan → List Entry → Type 0
+EachHasLinksMadeOrWanted p h = (att : Att) (a : IsAskedFor p h att)
+    → AreMadeOrWanted a.list a.by.command (leases_in (replies_of a.place h)) (objects_after p att h).links
+
+-- at every moment, since in each list of a plan it comes at most once
 abbrev pub LinksAreMadeOrWanted : Type 0
-LinksAreMadeOrWanted = (w : World) → Legal w → (att : Att) (a : IsAskedFor w.plan w.history att)
-    → AreMadeOrWanted a.list a.by.command (leases_in (replies_of a.place w.history)) (objects_after w.plan att w.history).links
+LinksAreMadeOrWanted = (w : World) → Legal w → EachHasLinksMadeOrWanted w.plan w.history

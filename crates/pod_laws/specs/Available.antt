@@ -47,6 +47,6 @@ abbrev pub EndsStatus : NetList → Command → List Entry → Host → Version 
 EndsStatus list c entries host V1_0 ending = (entries ≡ []) × (ending ≡ Refused (causes.TooOld V1_0))
 EndsStatus list c entries host V1_1 ending = EndsByFault entries (has_fault entries) ending (EndsByTest (is_available list c host) ending (LacksService list c host ending))
 
--- with the host at its last entry, which is the one at its first: it stands alone in its round
+-- with the host at its last entry
 abbrev pub WasAvailable : Type 0
 WasAvailable = EachEnding verbs.Status (λ list c entries host. EndsStatus list c entries host list.version)

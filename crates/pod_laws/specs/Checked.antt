@@ -14,7 +14,7 @@ use Rattle.cni_verbs.specs.declared.answer.Missed.{Missed}
 use Rattle.cni_verbs.specs.declared.answer.Skip.TheVariants as skips
 use Rattle.kernel_types.specs.Apply.Calls.{has_object}
 use Rattle.kernel_types.specs.Equal.{link_eq, addr_obj_eq, route_eq, rule_eq, setting_eq, lease_eq}
-use Rattle.kernel_types.specs.Words.{cached_in}
+use Rattle.kernel_types.specs.Words.{cached_in, has_host_bridge}
 use Rattle.kernel_types.specs.declared.object.Host.{Host}
 use Rattle.kernel_types.specs.declared.call.Probe.TheVariants.{BridgeAt}
 use Rattle.net_conf.specs.declared.first.First.{First}
@@ -23,10 +23,13 @@ use Rattle.net_conf.specs.declared.list.NetList.{NetList}
 use Rattle.plan_words.specs.Share.{Share}
 use Rattle.pod_file.specs.declared.command.Command.{Command}
 use Rattle.pod_file.specs.declared.command.Verb.TheVariants as verbs
+use Rattle.pod_workers.specs.Legal.{Legal}
+use Rattle.pod_workers.specs.Plans.{Placed}
+use Rattle.pod_workers.specs.World.{World}
 use Rattle.pod_workers.specs.declared.plan.Entry.{Entry}
 use Rattle.pod_laws.specs.Granted.{EndsByDenied}
-use Rattle.pod_laws.specs.Moments.{has_fault}
-use Rattle.pod_laws.specs.Answers.{EachEnding, EndsByFault, EndsByTest}
+use Rattle.pod_laws.specs.Moments.{EachCalling, has_fault, host_at_end, host_at_start}
+use Rattle.pod_laws.specs.Answers.{EachEnding, EndsByFault, EndsByTest, HoldsOfItsList}
 
 -- ---- what the host holds
 
@@ -86,3 +89,26 @@ EndsCheck list c entries host None ending = EndsByList list c entries host list.
 -- with the host at its last entry, whatever other commands did between its entries
 abbrev pub WasChecked : Type 0
 WasChecked = EachEnding verbs.Check (λ list c entries host. EndsCheck list c entries host (del_refusal c))
+
+-- ---- at its start
+
+-- a bridge of the host has the name of the result's first interface, where the plugin is `bridge`
+abbrev pub has_bridge_named : Host → First → List Interface → Bool
+has_bridge_named host (firsts.Bridge conf) (i ∷ is) = has_host_bridge host i.name
+has_bridge_named host first interfaces = true
+
+-- The attachment has one cached entry in both hosts, and both hold what a cached result says, or neither does. All of
+-- that is the attachment's own but the bridge, which an ADD ensures before it caches its result: so that no other
+-- command brings it between the two, one of its name is to be in the first.
+pub record HoldAlike (list : NetList) (c : Command) (start last : Host) : Type 0 where
+  pub entry : cached_in start (att_of c) ≡ cached_in last (att_of c)
+  pub objects : (cached : Cached) → has_bridge_named start list.first cached.result.interfaces ≡ true → holds_cached list c cached start ≡ holds_cached list c cached last
+
+-- the hosts right before the first entry of the command at place n and right after its last
+abbrev pub HoldsFromItsStart : World → ℕ → Placed → Type 0
+HoldsFromItsStart w n c = HoldsOfItsList w c.command (λ list. HoldAlike list c.command (host_at_start w n) (host_at_end w n))
+
+-- so what a CHECK found at its last entry was so at its first, whatever other commands did meanwhile, and also where it
+-- was stopped
+abbrev pub ChecksHoldFromTheirStart : Type 0
+ChecksHoldFromTheirStart = (w : World) → Legal w → EachCalling w verbs.Check (HoldsFromItsStart w)

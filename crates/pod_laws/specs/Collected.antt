@@ -18,7 +18,7 @@ use Rattle.pod_workers.specs.Legal.{Legal}
 use Rattle.pod_workers.specs.Plans.{Placed, commands_of, list_for}
 use Rattle.pod_workers.specs.World.{World, made_in}
 use Rattle.pod_workers.specs.declared.plan.Entry.{Entry}
-use Rattle.pod_laws.specs.Moments.{has_fault, host_at_end, host_at_round, host_at_start, own_entries}
+use Rattle.pod_laws.specs.Moments.{EachCalling, has_fault, host_at_end, host_at_round, host_at_start, own_entries}
 use Rattle.pod_laws.specs.Answers.{EachListAnswer, OrCutOff}
 
 -- ---- answers
@@ -63,11 +63,14 @@ CollectionsAreAnswered = EachListAnswer verbs.Gc (λ w n c list. OrCutOff (IsCol
 
 -- this holds of each collection that made a call, wherever it was stopped, at place n
 abbrev pub EachCallingCollection : (World → ℕ → Placed → Type 0) → Type 0
-EachCallingCollection Holds = (w : World) → Legal w → (n : ℕ) (c : Placed) → slice_get (commands_of w.plan) n ≡ Some c → c.command.verb ≡ verbs.Gc → own_entries n w.history ≢ [] → Holds w n c
+EachCallingCollection Holds = (w : World) → Legal w → EachCalling w verbs.Gc (Holds w)
 
 -- it lost nothing that is to be kept, and added nothing
+abbrev pub IsBoundedCollection : World → ℕ → Placed → Type 0
+IsBoundedCollection w n c = Bounds c.command (host_at_start w n) (host_at_end w n)
+
 abbrev pub CollectionsAreBounded : Type 0
-CollectionsAreBounded = EachCallingCollection (λ w n c. Bounds c.command (host_at_start w n) (host_at_end w n))
+CollectionsAreBounded = EachCallingCollection IsBoundedCollection
 
 -- and it made at most six calls; for each stale attachment that owned an object at its start six more than the kinds of
 -- a DEL; and one for each object that is not kept

@@ -9,6 +9,7 @@ pub mod Checked
 pub mod Collected
 pub mod Deleted
 pub mod Granted
+pub mod Guaranteed
 pub mod Lasts
 pub mod Moments
 pub mod Refused

@@ -1,12 +1,13 @@
 -- The moments of the first and the last entry of one command, and of the start of a round, and what an attachment has
 -- at a moment.
-use Rattle.std.specs.Prelude.{◌≡◌, ℕ, Bool, false, List, [], ◌∷◌, nat_lt, Option, if◌then◌else◌}
+use Rattle.std.specs.Prelude.{◌≡◌, ◌≢◌, ℕ, Bool, false, List, [], ◌∷◌, nat_lt, Option, Some, slice_get, if◌then◌else◌}
 use Rattle.std.specs.List.{list_any}
 use Rattle.std.specs.Option.{option_map_or}
 use Rattle.kernel_types.specs.Replies.{is_fault}
 use Rattle.kernel_types.specs.declared.object.Att.{Att}
 use Rattle.kernel_types.specs.declared.object.Host.{Host}
 use Rattle.plan_words.specs.Share.{Share, share_of, no_objects}
+use Rattle.pod_file.specs.declared.command.Verb.{Verb}
 use Rattle.pod_workers.specs.Plans.{Placed, commands_of}
 use Rattle.pod_workers.specs.World.{World, after, at_number}
 pub use Rattle.pod_workers.specs.World.{is_of, own_entries}
@@ -21,6 +22,10 @@ until_last n (e ∷ es) = if list_any (is_of n) (e ∷ es) then e ∷ until_last
 -- the host right after the last entry of the command at place n
 abbrev pub host_at_end : World → ℕ → Host
 host_at_end w n = after w.plan.pods.opening (until_last n w.history)
+
+-- this holds of each command of the verb that made a call, stopped or not, at place n
+abbrev pub EachCalling : World → Verb → (ℕ → Placed → Type 0) → Type 0
+EachCalling w verb Holds = (n : ℕ) (c : Placed) → slice_get (commands_of w.plan) n ≡ Some c → c.command.verb ≡ verb → own_entries n w.history ≢ [] → Holds n c
 
 -- some entry is a fault
 abbrev pub has_fault : List Entry → Bool

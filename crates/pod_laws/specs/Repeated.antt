@@ -29,9 +29,12 @@ GoneStaysGone = (w : World) → Legal w → (att : Att) (before between later : 
 
 -- after the last entry of a DEL that was answered Yes, each entry of a DEL of its attachment leaves the whole host,
 -- until an ADD of it has begun
-abbrev pub RepeatedDeletionsLeave : Type 0
-RepeatedDeletionsLeave = (w : World) → Legal w → (n m : ℕ) (c d : Placed) (between later : List Entry) (e : Entry)
+abbrev pub RepeatsLeave : World → Type 0
+RepeatsLeave w = (n m : ℕ) (c d : Placed) (between later : List Entry) (e : Entry)
     → slice_get (commands_of w.plan) n ≡ Some c → c.command.verb ≡ verbs.Del → slice_get w.answers n ≡ Some (Some answers.Yes)
     → slice_get (commands_of w.plan) m ≡ Some d → d.command.verb ≡ verbs.Del → att_of d.command ≡ att_of c.command → e.command ≡ m + 1
     → w.history ≡ until_last n w.history ++ between ++ e ∷ later → list_any (begins (att_of c.command)) between ≡ false
     → after w.plan.pods.opening (until_last n w.history ++ between ++ e ∷ []) ≡ after w.plan.pods.opening (until_last n w.history ++ between)
+
+abbrev pub RepeatedDeletionsLeave : Type 0
+RepeatedDeletionsLeave = (w : World) → Legal w → RepeatsLeave w

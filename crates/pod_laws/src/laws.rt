@@ -9,10 +9,11 @@ ghost use Rattle.pod_laws.specs.AskedFor.{EachLinkIsWanted, LinksAreMadeOrWanted
 ghost use Rattle.pod_laws.specs.Available.{WasAvailable};
 ghost use Rattle.pod_laws.specs.Bounded.{EachAddHasMost, EachChangeIsOneCall, EachRunIsBounded};
 ghost use Rattle.pod_laws.specs.Changed.{ChangesAreAnswered, VersionsAreTheLists};
-ghost use Rattle.pod_laws.specs.Checked.{WasChecked};
+ghost use Rattle.pod_laws.specs.Checked.{ChecksHoldFromTheirStart, WasChecked};
 ghost use Rattle.pod_laws.specs.Collected.{CollectionsAreAnswered, CollectionsAreBounded, CollectionsAreShort, CollectionsFillTheirRounds, CollectionsInARowKeep};
 ghost use Rattle.pod_laws.specs.Deleted.{AnswersOfDel, CalmIsDeleted, EachDeletionIsOwn, WasDeleted, WasNotDeleted};
 ghost use Rattle.pod_laws.specs.Granted.{EachQuestionLeavesTheHost};
+ghost use Rattle.pod_laws.specs.Guaranteed.{EveryLegalHistoryIsGuaranteed};
 ghost use Rattle.pod_laws.specs.Lasts.{EachLastIsCandidate};
 ghost use Rattle.pod_laws.specs.Refused.{AnswersOfAdd, BeginLeavesTheHost, UnrefusedIsAdded, WasRefused};
 ghost use Rattle.pod_laws.specs.Repeated.{GoneStaysGone, RepeatedDeletionsLeave};
@@ -227,4 +228,19 @@ pub fn a_status_tells_what_is_available()
 /// stopped, whatever other commands did between its entries.
 pub fn a_check_tells_what_the_host_holds()
     ensures { WasChecked }
+{}
+
+/// What a CHECK that made a call asks for is in the host right before its first entry as it is right after its last,
+/// whatever other commands did between and also where it was stopped: one cached entry, and all or not all of what a
+/// cached result says that there is. A bridge of the name that such a result tells is to be there at the start, since
+/// other commands may bring it: an ADD ensures it before it caches its result.
+pub fn a_check_holds_from_its_start()
+    ensures { ChecksHoldFromTheirStart }
+{}
+
+// ---- all of it
+
+/// The guarantee of every legal history, sentence by sentence: `IsGuaranteed`.
+pub fn every_legal_history_is_guaranteed()
+    ensures { EveryLegalHistoryIsGuaranteed }
 {}

@@ -10,7 +10,9 @@
 //! (`specs/Repeated.antt`), which entries leave the other attachments and what none owns (`specs/Apart.antt`), that
 //! asking changes nothing (`specs/Granted.antt`), that each last address is a candidate of its set
 //! (`specs/Lasts.antt`), and of every run how many calls it makes at most (`specs/Bounded.antt`). What the laws share
-//! of answers is in `specs/Answers.antt`. Each law stands on a function that does nothing.
+//! of answers is in `specs/Answers.antt`. Each law stands on a function that does nothing. Their sum, of one world, is
+//! `IsGuaranteed` (`specs/Guaranteed.antt`): every legal history has it, and the program's top call promises it of its
+//! book.
 //!
 //! ```text
 //! an_added_attachment_is_made() // a proof above gets the law by calling it
@@ -20,9 +22,10 @@
 pub mod laws;
 
 pub use laws::{
-    a_calm_del_is_answered_without_error, a_check_tells_what_the_host_holds,
-    a_collection_makes_few_calls, a_deleted_attachment_is_gone, a_deletion_fails_by_words_or_fault,
-    a_deletion_removes_own_objects, a_gone_attachment_stays_gone, a_refused_attachment_is_undone,
+    a_calm_del_is_answered_without_error, a_check_holds_from_its_start,
+    a_check_tells_what_the_host_holds, a_collection_makes_few_calls, a_deleted_attachment_is_gone,
+    a_deletion_fails_by_words_or_fault, a_deletion_removes_own_objects,
+    a_gone_attachment_stays_gone, a_refused_attachment_is_undone,
     a_repeated_deletion_leaves_the_host, a_second_collection_finishes_the_first,
     a_status_tells_what_is_available, an_added_attachment_is_made,
     an_unrefused_add_is_answered_with_a_result, begin_leaves_the_host, each_add_has_most_calls,
@@ -31,5 +34,5 @@ pub use laws::{
     each_last_is_a_candidate, each_link_is_wanted, each_question_leaves_the_host,
     each_run_is_bounded, each_version_is_the_lists, every_add_is_answered,
     every_collection_is_answered, every_collection_is_bounded, every_del_is_answered,
-    links_are_as_made_or_as_wanted, nothing_is_unasked,
+    every_legal_history_is_guaranteed, links_are_as_made_or_as_wanted, nothing_is_unasked,
 };

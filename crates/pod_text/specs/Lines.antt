@@ -4,7 +4,7 @@ use Rattle.std.specs.Prelude.{ℕ, ◌+◌, Bool, true, List, [], ◌∷◌, ◌
 use Rattle.std.specs.List.{flat_map}
 use Rattle.serde_json.specs.Data.{Data, boolean, object, Members, no_members, put}
 use Rattle.cni_json.specs.Json.{line_of}
-use Rattle.cni_result.specs.Members.{text_data, number_data, list_data, ◌▷◌}
+use Rattle.cni_json.specs.Members.{text_data, number_data, list_data, ◌▷◌}
 use Rattle.cni_result.specs.Results.{version_data, result_data, error_data}
 use Rattle.cni_result.specs.declared.version.Version.{Version}
 use Rattle.cni_result.specs.declared.version.Version.TheVariants.{V1_0, V1_1}

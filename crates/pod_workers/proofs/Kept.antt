@@ -16,7 +16,7 @@ use Rattle.pod_file.specs.declared.command.Command.{Command}
 use Rattle.pod_workers.specs.Index.{command_at_place, is_cut_by}
 use Rattle.pod_workers.specs.Legal.{Legal, steps, refused_memory}
 use Rattle.pod_workers.specs.Plans.{Placed, commands_of, list_for}
-use Rattle.pod_workers.specs.Slots.{Fits, CarriesOn, IsKept, MayBeMade, MayCarryOn, next_in, opened, opened_by, slot_after}
+use Rattle.pod_workers.specs.Slots.{Fits, CarriesOn, IsKept, MayBeMade, MayCarryOn, next_in, opened, opened_by, SlotView}
 use Rattle.pod_workers.specs.World.{World, IsReady, IsReadyNumber, IsUpToStop, answered, done, end_of, entry_by, entry_of, host_of, host_on, is_cut, next_by, next_of, own_replies, stepped, with_entry}
 use Rattle.pod_workers.specs.declared.index.Place.{Place}
 use Rattle.pod_workers.specs.declared.plan.Entry.{Entry}
@@ -60,12 +60,12 @@ turn-of None c rs = refl
 turn-of (Some list) c rs = refl
 
 -- the run that was given these replies
-abbrev pub slot_at : Option NetList → Command → List Reply → Slot
+abbrev pub slot_at : Option NetList → Command → List Reply → SlotView
 slot_at list c rs = record { run = progress list c rs; made = length rs }
 
 pub opened-is : (list : Option NetList) (c : Command) (rs : List Reply) (s : Option Slot) → Fits list c rs s → opened list c s ≡ slot_at list c rs
 opened-is list c rs None fits = ap (slot_at list c) (sym fits)
-opened-is list c rs (Some s) fits = ap (λ m. record { run = s.run; made = m }) fits.0 ∙ ap (λ r. record { run = r; made = length rs }) fits.1
+opened-is list c rs (Some s) fits = ap (λ m. record { run = s.run.progress; made = m }) fits.0 ∙ ap (λ r. record { run = r; made = length rs }) fits.1
 
 pub within-fits : (list : Option NetList) (c : Command) (rs : List Reply) (s : Option Slot) → Fits list c rs s → IsUpToStop c.stop (length rs)
 within-fits list c rs None fits = subst (λ (q : List Reply). IsUpToStop c.stop (length q)) (sym fits) (none-made c.stop)
@@ -95,7 +95,7 @@ here host slots places before w n c s kept ready slot =
     }
 
 -- what the run does next is the world's next
-next-here : (w : World) (n : ℕ) (c : Command) (s : Slot) (cut : Bool) → s ≡ slot_at (list_for w.plan c) c (own_replies w n) → cut ≡ is_cut w → next_in c cut s ≡ next_of w c (own_replies w n)
+next-here : (w : World) (n : ℕ) (c : Command) (s : SlotView) (cut : Bool) → s ≡ slot_at (list_for w.plan c) c (own_replies w n) → cut ≡ is_cut w → next_in c cut s ≡ next_of w c (own_replies w n)
 unfolding next_in
 next-here w n c s cut run cut_is =
     let list = list_for w.plan c in
@@ -113,7 +113,7 @@ may-carry-on host slots places before w n c s cut h cut_is small =
     let rs = own_replies w n in
     let list = list_for w.plan c.command in
     let few = length-replies_of n w.history in
-    let P : Slot → Type 0 = MayCarryOn host w.history c.command cut in
+    let P : SlotView → Type 0 = MayCarryOn host w.history c.command cut in
     let Q : Host → Type 0 = λ k. MayBeMade k (next_in c.command cut (slot_at list c.command rs)) in
     let made = subst (MayBeMade (host_of w)) (sym (next-here w n c.command (slot_at list c.command rs) cut refl cut_is)) (may-be-made w n c (next_of w c.command rs) h.kept.legal h.ready refl) in
     subst P (sym h.run) (record {
@@ -196,11 +196,14 @@ went-by host host' slots places before w n c h' t (next.Call call faulty) kept r
     let made : with_entry w e ≡ stepped w n c.command = ap (with_entry w) same_entry ∙ sym (ap (done w n) is) in
     let legal : Legal (with_entry w e) = steps w (with_entry w e) n c kept.legal ready made in
     let more = length_push rs e.reply in
-    let fits : Fits list c.command (rs ++ e.reply ∷ []) (Some (slot_after (slot_at list c.command rs) e.reply)) =
-    (sym more, sym (progress-append list c.command rs e.reply), within-more c.command.stop (length rs) (goes_in w n c.command call faulty is).no_stop) in
-    let still = call_keeps host slots places before w n c e (slot_after (slot_at list c.command rs) e.reply) kept ready legal number fits in
+    let made_is : t.made ≡ length rs + 1 = ap (λ (v : SlotView). v.made) d.0 in
+    let run_is : t.run.progress ≡ advanced (progress list c.command rs) e.reply = ap (λ (v : SlotView). v.run) d.0 in
+    let within = within-more c.command.stop (length rs) (goes_in w n c.command call faulty is).no_stop in
+    let fits : Fits list c.command (rs ++ e.reply ∷ []) (Some t) =
+    (made_is ∙ sym more, run_is ∙ sym (progress-append list c.command rs e.reply), subst (IsUpToStop c.command.stop) (sym made_is) within) in
+    let still = call_keeps host slots places before w n c e t kept ready legal number fits in
     record {
-      kept = rw (d.0, d.1, d.2) still;
+      kept = rw (d.1, d.2) still;
       made = ap (λ h. world_with w h w.answers) d.2 ∙ made;
       end_is = sym (ap end_of is);
     }
@@ -220,7 +223,7 @@ over-by host host' slots places before w n c h' b (next.Answer a) kept ready is 
       end_is = sym (ap end_of is);
     }
 
-done-at : (host host' : Host) (w : World) (n : ℕ) (c : Command) (s : Slot) (cut : Bool) (h' : List Entry) (o : Advance) → s ≡ slot_at (list_for w.plan c) c (own_replies w n) → cut ≡ is_cut w
+done-at : (host host' : Host) (w : World) (n : ℕ) (c : Command) (s : SlotView) (cut : Bool) (h' : List Entry) (o : Advance) → s ≡ slot_at (list_for w.plan c) c (own_replies w n) → cut ≡ is_cut w
     → CarriesOn host host' w.history h' c s (next_in c cut s) o → CarriesOn host host' w.history h' c (slot_at (list_for w.plan c) c (own_replies w n)) (next_of w c (own_replies w n)) o
 done-at host host' w n c s cut h' o run cut_is d =
     subst (λ x. CarriesOn host host' w.history h' c (slot_at (list_for w.plan c) c (own_replies w n)) x o) (next-here w n c s cut run cut_is)

@@ -8,6 +8,7 @@ use Rattle.net_conf.specs.declared.list.NetList.{NetList}
 use Rattle.pod_file.specs.declared.command.Command.{Command}
 use Rattle.pod_file.specs.declared.command.Verb.{Verb}
 use Rattle.pod_file.specs.declared.command.Verb.TheVariants as verbs
+use Rattle.pod_workers.specs.Laws.{EachNetworkCommandHasItsList}
 use Rattle.pod_workers.specs.Legal.{Legal}
 use Rattle.pod_file.specs.Commands.{is_of_network}
 use Rattle.pod_workers.specs.Plans.{Placed, commands_of, list_for, list_named, lacks_list}
@@ -23,10 +24,9 @@ named-list true (Some list) network there = (list, refl)
 named-list true None network there = absurd (false≢true there)
 named-list false o network there = absurd (false≢true network)
 
--- the network of each command that speaks of one has a list
-pub listed-network : (w : World) → Legal w → (n : ℕ) (c : Placed) → slice_get (commands_of w.plan) n ≡ Some c → is_of_network c.command.verb ≡ true → (list : NetList) × (list_for w.plan c.command ≡ Some list)
+pub listed_network : EachNetworkCommandHasItsList
 unfolding list_for
-listed-network w legal n c at network =
+listed_network w legal n c at network =
     named-list (is_of_network c.command.verb) (list_named w.plan.lists c.command.network) network
     (list_all-at (λ (d : Placed). not (lacks_list w.plan.lists d.command)) (commands_of w.plan) n c (fine w legal).plan.networks at)
 
@@ -36,7 +36,7 @@ gc-of_network _ gc = cc
 
 command-listed : (w : World) → Legal w → (n : ℕ) (c : Placed) → slice_get (commands_of w.plan) n ≡ Some c → IsListed w.plan.lists c.command
 unfolding list_for
-command-listed w legal n c at gc = ap is_some (listed-network w legal n c at (gc-of_network c.command.verb gc)).1
+command-listed w legal n c at gc = ap is_some (listed_network w legal n c at (gc-of_network c.command.verb gc)).1
 
 pub found-listed : (host : Host) (slots : List (Option Slot)) (places : List Place) (before : ℕ) (w : World) (number n : ℕ) (s : Option Slot) (of : Command) → IsFound host slots places before w number n s of → IsListed w.plan.lists of
 found-listed host slots places before w number n s of f =

@@ -241,7 +241,7 @@ round-fits host slots places before w cs kept is =
     let fits = placed-fits w.plan.pods.rounds w.round cs is in
     let all = ap length (placed-all w) in
     let bounds = few_commands w.plan (fine w kept.legal).plan.pods in
-    let rounds = (fine w kept.legal).plan.pods.few_rounds in
+    let rounds = (fine w kept.legal).plan.pods.rounds.few_rounds in
     let before_is = kept.before_is in
     let within = slice_get_within w.plan.pods.rounds w.round cs is in
     (omega (arith, fits, all, bounds, before_is), omega (arith, within, rounds))

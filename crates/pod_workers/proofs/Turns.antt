@@ -19,7 +19,7 @@ use Rattle.kernel_types.specs.declared.object.Host.{Host}
 use Rattle.kernel_types.proofs.Replies.{IsReplyOf-apply}
 use Rattle.net_conf.specs.declared.list.NetList.{NetList}
 use Rattle.pod_file.specs.declared.command.Command.{Command}
-use Rattle.pod_workers.specs.Slots.{CarriesOn, MayBeMade, next_in, slot_after}
+use Rattle.pod_workers.specs.Slots.{CarriesOn, MayBeMade, SlotView, next_in, seen, slot_after}
 use Rattle.pod_workers.specs.World.{entry_by, host_on, is_faulty, is_stop, next_by}
 use Rattle.pod_workers.specs.declared.plan.Next.{Next}
 use Rattle.pod_workers.specs.declared.plan.Next.TheVariants as next
@@ -53,7 +53,7 @@ look-by : (list : Option NetList) (c : Command) (made : ℕ) (call : Call) (b : 
 look-by list c made call true below = absurd (false≢true (sym below))
 look-by list c made call false below = refl
 
-pub look-call : (s : Slot) (c : Command) (cut stopped : Bool) (call : Call) → s.run.command ≡ c → stopped ≡ (is_stop c.stop s.made || cut) → stopped ≡ false → next_call s.run.command s.run.state ≡ Some call
+pub look-call : (s : SlotView) (c : Command) (cut stopped : Bool) (call : Call) → s.run.command ≡ c → stopped ≡ (is_stop c.stop s.made || cut) → stopped ≡ false → next_call s.run.command s.run.state ≡ Some call
     → next.Call call (is_faulty c s.made) ≡ next_in c cut s
 unfolding next_in
 look-call s c cut stopped call of_command stop below is =
@@ -69,7 +69,7 @@ open-calls c s is_open = elim (calls_or_over c s) [
   | inr o ↦ absurd (o.not_open is_open)
 ]
 
-pub look-stop : (s : Slot) (c : Command) (cut stopped : Bool) → s.run.command ≡ c → stopped ≡ (is_stop c.stop s.made || cut) → stopped ≡ true → IsOpen s.run.state
+pub look-stop : (s : SlotView) (c : Command) (cut stopped : Bool) → s.run.command ≡ c → stopped ≡ (is_stop c.stop s.made || cut) → stopped ≡ true → IsOpen s.run.state
     → next.Answer (Stopped s.made) ≡ next_in c cut s
 unfolding next_in
 look-stop s c cut stopped of_command stop reached is_open =
@@ -80,7 +80,7 @@ call-open : (list : Option NetList) (c : Command) (made : ℕ) (cut : Bool) (s :
 call-open list c made cut s (Finishes f) call faulty t_is is = absurd cc
 call-open list c made cut s (Calls k) call faulty t_is is = open-where c s k t_is
 
-pub next-open : (s : Slot) (c : Command) (cut : Bool) (call : Call) (faulty : Bool) → next_in c cut s ≡ next.Call call faulty → IsOpen s.run.state
+pub next-open : (s : SlotView) (c : Command) (cut : Bool) (call : Call) (faulty : Bool) → next_in c cut s ≡ next.Call call faulty → IsOpen s.run.state
 unfolding next_in
 next-open s c cut call faulty is = call-open s.run.list c s.made cut s.run.state (turn c s.run.state) call faulty refl is
 
@@ -90,30 +90,30 @@ answer-by : (list : Option NetList) (c : Command) (o : Option Finish) (s : State
 answer-by list c None s made cut a o_is is = absurd (none-some a is)
 answer-by list c (Some f) s made cut a o_is is = ap next.Answer (sym (same_Some _ a is)) ∙ sym (ap (next_by list c made cut) (turn-finishes c s f o_is))
 
-pub look-answer : (s : Slot) (c : Command) (cut : Bool) (a : Answer) → s.run.command ≡ c → option_map (answer_by s.run.list s.run.command) (finish_of s.run.state) ≡ Some a → next.Answer a ≡ next_in c cut s
+pub look-answer : (s : SlotView) (c : Command) (cut : Bool) (a : Answer) → s.run.command ≡ c → option_map (answer_by s.run.list s.run.command) (finish_of s.run.state) ≡ Some a → next.Answer a ≡ next_in c cut s
 unfolding next_in
 look-answer s c cut a of_command is =
     answer-by s.run.list c (finish_of s.run.state) s.run.state s.made cut a refl (ap (λ k. option_map (answer_by s.run.list k) (finish_of s.run.state)) (sym of_command) ∙ is)
 
 -- a run that is over has an answer
-pub over-answers : (s : Slot) → (IsOpen s.run.state → ⊥) → option_map (answer_by s.run.list s.run.command) (finish_of s.run.state) ≡ None → ⊥
+pub over-answers : (s : SlotView) → (IsOpen s.run.state → ⊥) → option_map (answer_by s.run.list s.run.command) (finish_of s.run.state) ≡ None → ⊥
 over-answers s over no_answer = elim (calls_or_over s.run.command s.run.state) [
   | inl k ↦ over k.is_open
   | inr o ↦ none-some _ (sym no_answer ∙ ap (option_map (answer_by s.run.list s.run.command)) o.finish_is)
 ]
 
 -- a run that isn't has a call
-pub open-has-next : (s : Slot) → IsOpen s.run.state → next_call s.run.command s.run.state ≡ None → ⊥
+pub open-has-next : (s : SlotView) → IsOpen s.run.state → next_call s.run.command s.run.state ≡ None → ⊥
 open-has-next s is_open none = let u = open-calls s.run.command s.run.state is_open in none-some _ (sym none ∙ u.1)
 
 -- ---- what was done
 
-pub done-over : (host host' : Host) (h h' : List Entry) (c : Command) (s : Slot) (x : Next) (a : Answer) → x ≡ next.Answer a → host' ≡ host → h' ≡ h → CarriesOn host host' h h' c s x (advance.Over a)
+pub done-over : (host host' : Host) (h h' : List Entry) (c : Command) (s : SlotView) (x : Next) (a : Answer) → x ≡ next.Answer a → host' ≡ host → h' ≡ h → CarriesOn host host' h h' c s x (advance.Over a)
 unfolding CarriesOn
 done-over host host' h h' c s x a is same_host same_history = subst (λ y. CarriesOn host host' h h' c s y (advance.Over a)) (sym is) (refl, same_host, same_history)
 
-pub done-went : (host host' : Host) (h h' : List Entry) (c : Command) (s t : Slot) (x : Next) (call : Call) (faulty : Bool) (reply : Reply) → x ≡ next.Call call faulty → reply ≡ reply_to host call faulty
-    → host' ≡ host_on host (entry_by host c.number call faulty) → h' ≡ h ++ entry_by host c.number call faulty ∷ [] → t ≡ slot_after s reply → CarriesOn host host' h h' c s x (advance.Went t)
+pub done-went : (host host' : Host) (h h' : List Entry) (c : Command) (s : SlotView) (t : Slot) (x : Next) (call : Call) (faulty : Bool) (reply : Reply) → x ≡ next.Call call faulty → reply ≡ reply_to host call faulty
+    → host' ≡ host_on host (entry_by host c.number call faulty) → h' ≡ h ++ entry_by host c.number call faulty ∷ [] → seen t ≡ slot_after s reply → CarriesOn host host' h h' c s x (advance.Went t)
 unfolding CarriesOn
 done-went host host' h h' c s t x call faulty reply is replied host_is history_is after =
     subst (λ y. CarriesOn host host' h h' c s y (advance.Went t)) (sym is) (after ∙ ap (slot_after s) replied, host_is, history_is)

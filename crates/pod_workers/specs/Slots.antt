@@ -1,6 +1,6 @@
 -- What the runs of a book stand for, and what a book keeps.
 use Rattle.std.specs.Prelude.{◌≡◌, ℕ, ◌+◌, ◌<◌, ◌≤◌, ◌^◌, Bool, true, false, List, [], ◌∷◌, ◌++◌, length, take, Option, Some, None, slice_get}
-use Rattle.cni_verbs.specs.Progress.{progress, advanced}
+use Rattle.cni_verbs.specs.Progress.{Progress, progress, advanced}
 use Rattle.cni_verbs.specs.Script.{turn}
 use Rattle.kernel_types.specs.Allowed.{IsAllowed}
 use Rattle.kernel_types.specs.declared.call.Reply.{Reply}
@@ -21,19 +21,27 @@ use Rattle.pod_workers.specs.declared.slots.Advance.TheVariants as advance
 
 -- ---- one run
 
--- the run, begun where it isn't
-abbrev pub opened : Option NetList → Command → Option Slot → Slot
-opened list c None = record { run = progress list c []; made = 0 }
-opened list c (Some s) = s
+-- how far the run of a slot has come; whether it is prepared is no matter of the book
+pub record SlotView : Type 0 where
+  pub run : Progress
+  pub made : ℕ
 
-unfoldable pub opened_by : List NetList → Command → Option Slot → Slot
+abbrev pub seen : Slot → SlotView
+seen s = record { run = s.run.progress; made = s.made }
+
+-- the run, begun where it isn't
+abbrev pub opened : Option NetList → Command → Option Slot → SlotView
+opened list c None = record { run = progress list c []; made = 0 }
+opened list c (Some s) = seen s
+
+unfoldable pub opened_by : List NetList → Command → Option Slot → SlotView
 opened_by lists c s = opened (list_in lists c) c s
 
 -- what the command whose run this is does next
-unfoldable pub next_in : Command → Bool → Slot → Next
+unfoldable pub next_in : Command → Bool → SlotView → Next
 next_in c cut s = next_by s.run.list c s.made cut (turn c s.run.state)
 
-abbrev pub slot_after : Slot → Reply → Slot
+abbrev pub slot_after : SlotView → Reply → SlotView
 slot_after s r = record { run = advanced s.run r; made = s.made + 1 }
 
 -- where the command is stopped, its number of calls fits the answer
@@ -43,7 +51,7 @@ IsCountable c cut made = IsUpToStop c.stop made × (cut ≡ true → made < 2 ^ 
 -- a run that has not begun has no replies
 abbrev pub Fits : Option NetList → Command → List Reply → Option Slot → Type 0
 Fits list c rs None = rs ≡ []
-Fits list c rs (Some s) = (s.made ≡ length rs) × (s.run ≡ progress list c rs) × IsUpToStop c.stop s.made
+Fits list c rs (Some s) = (s.made ≡ length rs) × (s.run.progress ≡ progress list c rs) × IsUpToStop c.stop s.made
 
 -- ---- one step
 
@@ -53,7 +61,7 @@ MayBeMade host (next.Answer a) = Unit {0}
 MayBeMade host (next.Call call faulty) = faulty ≡ false → IsAllowed host call
 
 -- what a step needs to know of the run
-pub record MayCarryOn (host : Host) (h : List Entry) (c : Command) (cut : Bool) (s : Slot) : Type 0 where
+pub record MayCarryOn (host : Host) (h : List Entry) (c : Command) (cut : Bool) (s : SlotView) : Type 0 where
   pub of_command : s.run.command ≡ c
   pub counted : s.made ≡ s.run.made
   pub few : s.made ≤ length h
@@ -61,12 +69,12 @@ pub record MayCarryOn (host : Host) (h : List Entry) (c : Command) (cut : Bool) 
   pub allowed : MayBeMade host (next_in c cut s)
 
 -- from the first host and history to the second this was done, for this run
-unfoldable pub CarriesOn : Host → Host → List Entry → List Entry → Command → Slot → Next → Advance → Type 0
+unfoldable pub CarriesOn : Host → Host → List Entry → List Entry → Command → SlotView → Next → Advance → Type 0
 CarriesOn host host' h h' c s (next.Answer a) (advance.Over b) = (b ≡ a) × (host' ≡ host) × (h' ≡ h)
 CarriesOn host host' h h' c s (next.Answer a) (advance.Went t) = ⊥
 CarriesOn host host' h h' c s (next.Call call faulty) (advance.Over b) = ⊥
 CarriesOn host host' h h' c s (next.Call call faulty) (advance.Went t) =
-    (t ≡ slot_after s (reply_to host call faulty)) × (host' ≡ host_on host (entry_by host c.number call faulty)) × (h' ≡ h ++ entry_by host c.number call faulty ∷ [])
+    (seen t ≡ slot_after s (reply_to host call faulty)) × (host' ≡ host_on host (entry_by host c.number call faulty)) × (h' ≡ h ++ entry_by host c.number call faulty ∷ [])
 
 -- ---- a book
 

@@ -5,7 +5,7 @@ ghost use Rattle.cni_verbs.specs.Replies.{host_after, reply_to};
 ghost use Rattle.cni_verbs.specs.Script.{IsOpen};
 ghost use Rattle.kernel_types.specs.Allowed.{IsAllowed};
 ghost use Rattle.kernel_types.specs.Replies.{holds_text_or_list, is_fault};
-ghost use Rattle.pod_workers.specs.Slots.{IsCountable, CarriesOn, MayCarryOn, next_in, opened_by, slot_after};
+ghost use Rattle.pod_workers.specs.Slots.{IsCountable, CarriesOn, MayCarryOn, next_in, opened_by, seen, slot_after};
 ghost use Rattle.pod_workers.specs.Tasks.{IsListed};
 ghost use Rattle.pod_workers.specs.World.{IsUpToStop, entry_by, host_on, is_faulty, is_stop};
 
@@ -88,7 +88,7 @@ fn open(
     slot: Option<Slot>,
 ) -> Result<Slot, NoMemory>
     requires { IsListed lists.now command.now }
-    ensures { IfOk result (λ slot'. slot' ≡ opened_by lists.now command.now slot) }
+    ensures { IfOk result (λ slot'. seen slot' ≡ opened_by lists.now command.now slot) }
 {
     match slot {
         Some(slot) => Ok(slot),
@@ -107,8 +107,8 @@ fn act<K: Kernel>(
     cut: bool,
     mut slot: Slot,
 ) -> Result<Advance, NoMemory>
-    requires { MayCarryOn (K.host kernel.old) history.old.items command.now cut slot }
-    ensures ok { IfOk result (λ advance. CarriesOn (K.host kernel.old) (K.host kernel.new) history.old.items history.new.items command.now slot (next_in command.now cut slot) advance) }
+    requires { MayCarryOn (K.host kernel.old) history.old.items command.now cut (seen slot) }
+    ensures ok { IfOk result (λ advance. CarriesOn (K.host kernel.old) (K.host kernel.new) history.old.items history.new.items command.now (seen slot) (next_in command.now cut (seen slot)) advance) }
     ensures err { OnErr result ((K.host kernel.new ≡ K.host kernel.old) × (history.new.items ≡ history.old.items)) }
 {
     match look(&mut slot, command, cut) {
@@ -132,12 +132,13 @@ fn act<K: Kernel>(
     }
 }
 
-/// What a run does next: its script's answer, else a stop, else a call.
+/// What a run does next: its script's answer, else a stop, else a call. The run is prepared for it.
 fn look(slot: &mut Slot, command: &Command, cut: bool) -> Result<Next, NoMemory>
-    requires of_command { slot.old.run.command ≡ command.now }
+    requires of_command { slot.old.run.progress.command ≡ command.now }
     requires countable { IsCountable command.now cut slot.old.made }
-    ensures next { IfOk result (λ next. next ≡ next_in command.now cut slot.old) }
-    ensures same { slot.new ≡ slot.old }
+    ensures next { IfOk result (λ next. next ≡ next_in command.now cut (seen slot.old)) }
+    ensures same { seen slot.new ≡ seen slot.old }
+    ensures prepared { OnOk result (slot.new.run.prepared ≡ true) }
 {
     slot.run.prepare()?;
     let made = slot.made;
@@ -194,10 +195,11 @@ fn make<K: Kernel>(
     faulty: bool,
 ) -> Result<(), NoMemory>
     requires allowed { faulty ≡ false → IsAllowed (K.host kernel.old) call }
-    requires unfinished { IsOpen slot.old.run.state }
-    requires counted { slot.old.made ≡ slot.old.run.made }
+    requires prepared { slot.old.run.prepared ≡ true }
+    requires unfinished { IsOpen slot.old.run.progress.state }
+    requires counted { slot.old.made ≡ slot.old.run.progress.made }
     requires few { slot.old.made ≤ length history.old.items }
-    ensures slot { OnOk result (slot.new ≡ slot_after slot.old (reply_to (K.host kernel.old) call faulty)) }
+    ensures slot { OnOk result (seen slot.new ≡ slot_after (seen slot.old) (reply_to (K.host kernel.old) call faulty)) }
     ensures host { OnOk result (K.host kernel.new ≡ host_on (K.host kernel.old) (entry_by (K.host kernel.old) command call faulty)) }
     ensures history { OnOk result (history.new.items ≡ history.old.items ++ entry_by (K.host kernel.old) command call faulty ∷ []) }
     ensures err { OnErr result ((K.host kernel.new ≡ K.host kernel.old) × (history.new.items ≡ history.old.items)) }
@@ -233,12 +235,13 @@ fn ask<K: Kernel>(
     faulty: bool,
 ) -> Result<Reply, NoMemory>
     requires allowed { faulty ≡ false → IsAllowed (K.host kernel.old) call.now }
-    requires unfinished { IsOpen slot.old.run.state }
-    requires counted { slot.old.made ≡ slot.old.run.made }
+    requires prepared { slot.old.run.prepared ≡ true }
+    requires unfinished { IsOpen slot.old.run.progress.state }
+    requires counted { slot.old.made ≡ slot.old.run.progress.made }
     requires numbered { slot.old.made + 1 < 2 ^ 64 }
     ensures reply { IfOk result (λ reply. reply ≡ reply_to (K.host kernel.old) call.now faulty) }
     ensures host { IfOk result (λ reply. K.host kernel.new ≡ host_after (K.host kernel.old) call.now reply) }
-    ensures slot { IfOk result (λ reply. slot.new ≡ slot_after slot.old reply) }
+    ensures slot { IfOk result (λ reply. seen slot.new ≡ slot_after (seen slot.old) reply) }
     ensures err { OnErr result (K.host kernel.new ≡ K.host kernel.old) }
 {
     let reply = replied(alloc, kernel, call, faulty)?;
@@ -247,11 +250,12 @@ fn ask<K: Kernel>(
 
 /// Hands a reply to the run of a slot, and gives a copy of it.
 fn hand(slot: &mut Slot, reply: Reply) -> Result<Reply, NoMemory>
-    requires unfinished { IsOpen slot.old.run.state }
-    requires counted { slot.old.made ≡ slot.old.run.made }
+    requires prepared { slot.old.run.prepared ≡ true }
+    requires unfinished { IsOpen slot.old.run.progress.state }
+    requires counted { slot.old.made ≡ slot.old.run.progress.made }
     requires numbered { slot.old.made + 1 < 2 ^ 64 }
     ensures kept { IfOk result (λ kept. kept ≡ reply) }
-    ensures slot { OnOk result (slot.new ≡ slot_after slot.old reply) }
+    ensures slot { OnOk result (seen slot.new ≡ slot_after (seen slot.old) reply) }
     ensures err { OnErr result ((holds_text_or_list reply ≡ true) ⊎ (is_fault reply ≡ true)) }
 {
     match reply.twin() {

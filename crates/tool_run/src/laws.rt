@@ -1,22 +1,33 @@
-//! What lists and pods that were read make. The function does nothing: a caller gets the law by calling it.
+//! Laws of how a run ends, and of what lists and pods that were read make. A law is a function that does nothing: a
+//! caller gets it by calling it.
 
-ghost use Rattle.std.specs.Prelude.{◌≡◌, ◌≤◌, All, Ok, length};
-ghost use Rattle.pod_file.specs.Rounds.{file_limit};
+ghost use Rattle.std.specs.Prelude.{◌≡◌, All, Ok};
 ghost use Rattle.pod_workers.specs.Join.{joined};
-ghost use Rattle.pod_workers.specs.Plans.{IsWellFormed, commands_of};
+ghost use Rattle.pod_workers.specs.Plans.{IsWellFormed};
 ghost use Rattle.pod_workers.specs.declared.plan.Plan.{Plan};
 ghost use Rattle.tool_run.specs.Causes.{IsReadList, IsReadPods};
+ghost use Rattle.tool_run.specs.Statuses.{EachStatusIsOfItsVerdict, RefusedWordsAreTold};
 
 use net_conf::network_list_laws;
 use pod_file::pod_file_laws;
 use pod_workers::joined_plans_are_well_formed;
 
-/// Lists and pods that were read have few commands, and make a well-formed plan where they make one.
+/// Lists and pods that were read make a well-formed plan where they make one.
 pub(crate) fn read_plans_are_well_formed()
-    ensures few { (p : Plan) → IsReadPods p.pods → length (commands_of p) ≤ file_limit }
-    ensures well_formed { (p q : Plan) → All IsReadList p.lists → IsReadPods p.pods → joined p ≡ Ok q → IsWellFormed q }
+    ensures { (p q : Plan) → All IsReadList p.lists → IsReadPods p.pods → joined p ≡ Ok q → IsWellFormed q }
 {
     network_list_laws();
     pod_file_laws();
     joined_plans_are_well_formed();
 }
+
+/// Where the files are told and neither count of faults rose, the status of a run is one of what its words and files
+/// come to, or 6, want of memory.
+pub fn an_undisturbed_status_is_of_its_verdict()
+    ensures { EachStatusIsOfItsVerdict }
+{}
+
+/// Of words that aren't taken it is told so (2), unless the sink gave up (5) or memory ran out (6).
+pub fn refused_words_are_told()
+    ensures { RefusedWordsAreTold }
+{}

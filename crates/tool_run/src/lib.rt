@@ -1,12 +1,14 @@
 //! The top call of the program `cnitool`: words, files, a plan that is carried out on the modelled kernel, and the
 //! text.
 //!
-//! What it promises above: [`run`] by several threads, if it returns, and [`run_alone`] by one give each exit status
-//! its cause (`HasCauses`, `specs/Statuses.antt`), and at 6, want of memory, nothing was written. Where files and sink
-//! tell their bytes, what is written is the text of a legal book of exactly the plan that the definition `verdict_of`
-//! (`specs/Verdict.antt`) makes of the words and the files, or the one line that it gives in place of a plan. Where no
-//! read and no write failed, nothing but want of memory takes the place of that. Where one thread makes the rounds, the
-//! book's commands go in the order of the file.
+//! What it promises above: [`run`] by several threads, if it returns, and [`run_alone`] by one end in one of the ways of
+//! `Ends` (`specs/Statuses.antt`): what was to be reported was written, with its status; or the sink gave up, behind a
+//! front of it; or memory ran out outside the commands, and nothing was written. What is reported is the text of a
+//! book, or one line: that the words aren't taken, what is refused, or which read failed. Where the files are told, the
+//! book is of the plan that the definition `verdict_of` (`specs/Verdict.antt`) makes of words and files. The book has
+//! the guarantee `IsGuaranteed` of `pod_laws`, whatever the threads. Where one thread makes the rounds, the book's
+//! commands go in the order of the file, and words and files determine what is written and the status, want of memory
+//! and faults aside (`IsDetermined`).
 //!
 //! ```text
 //! // words: --threads 4 pods.json net.json
@@ -20,10 +22,12 @@
 #[cfg(test)]
 mod alone_tests;
 mod carry;
-mod laws;
+mod due;
+pub mod laws;
 mod lines;
 mod plan;
 mod refusals;
+mod report;
 mod rounds;
 mod settle;
 #[cfg(test)]
@@ -32,5 +36,6 @@ mod tests;
 mod thread_tests;
 pub mod top;
 
+pub use laws::{an_undisturbed_status_is_of_its_verdict, refused_words_are_told};
 pub use pod_text::{MEMORY_STATUS, NO_WORDS_STATUS};
 pub use top::{Outcome, run, run_alone};

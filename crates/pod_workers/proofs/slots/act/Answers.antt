@@ -1,5 +1,6 @@
-use Rattle.std.proofs.Common.{refl, sym, ◌∙◌, ap}
-use Rattle.pod_workers.specs.Slots.{slot_after}
+use Rattle.std.proofs.Common.{refl, sym, ◌∙◌, ap, subst}
+use Rattle.cni_verbs.specs.Script.{IsOpen}
+use Rattle.pod_workers.specs.Slots.{SlotView, slot_after}
 use Rattle.pod_workers.specs.World.{reply_to}
 use Rattle.pod_workers.proofs.Turns.{done-over, done-went, may-call, next-open}
 use Rattle.pod_workers.proofs.slots.act.Goals as goal
@@ -8,7 +9,7 @@ pub make-requires-clause-allowed : goal.make-requires-clause-allowed
 make-requires-clause-allowed g c = may-call (g.K.Kernel.host c.args.kernel.now) _ _ _ c.requires.allowed (sym c.in-Ok-Call.ensures.next ∙ c.in-Ok-Call.field-0-is)
 
 pub make-requires-clause-unfinished : goal.make-requires-clause-unfinished
-make-requires-clause-unfinished g c = rw c.look.ensures.same (next-open _ _ _ _ _ (sym c.in-Ok-Call.ensures.next ∙ c.in-Ok-Call.field-0-is))
+make-requires-clause-unfinished g c = subst (λ (v : SlotView). IsOpen v.run.state) (sym c.look.ensures.same) (next-open _ _ _ _ _ (sym c.in-Ok-Call.ensures.next ∙ c.in-Ok-Call.field-0-is))
 
 pub returns-in-Ok-Answer-clause-ok : goal.returns-in-Ok-Answer-clause-ok
 returns-in-Ok-Answer-clause-ok g c = done-over _ _ _ _ _ _ _ _ (sym c.in-Ok-Answer.ensures.next ∙ c.in-Ok-Answer.field-0-is) refl refl

@@ -1,10 +1,10 @@
 use Rattle.std.proofs.Common.{[], ◌∷◌, ◌++◌, ◌∙◌, ap}
 use Rattle.cni_verbs.specs.Replies.{host_after}
-use Rattle.pod_workers.specs.Slots.{slot_after}
+use Rattle.pod_workers.specs.Slots.{seen, slot_after}
 use Rattle.pod_workers.proofs.slots.make.Goals as goal
 
 pub returns-in-Ok-clause-slot : goal.returns-in-Ok-clause-slot
-returns-in-Ok-clause-slot g c = c.in-Ok.ensures.slot ∙ ap (slot_after c.args.slot.now) c.in-Ok.ensures.reply
+returns-in-Ok-clause-slot g c = c.in-Ok.ensures.slot ∙ ap (slot_after (seen c.args.slot.now)) c.in-Ok.ensures.reply
 
 pub returns-in-Ok-clause-host : goal.returns-in-Ok-clause-host
 returns-in-Ok-clause-host g c = c.in-Ok.ensures.host ∙ ap (host_after (g.K.Kernel.host c.args.kernel.now) c.args.call) c.in-Ok.ensures.reply

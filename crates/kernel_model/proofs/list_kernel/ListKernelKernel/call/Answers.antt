@@ -1,10 +1,24 @@
-use Rattle.std.proofs.Common.{◌∙◌, ap}
+use Rattle.std.proofs.Common.{◌≡◌, ◌∙◌, ap, sym, subst}
+use Rattle.std.specs.Prelude.{Result, Ok, Err, IfOk, OnErr}
 use Rattle.std.proofs.lemmas.Result.{IfOk-weaker}
+use Rattle.cni_addr.specs.declared.memory.NoMemory.{NoMemory}
+use Rattle.kernel_types.specs.Allowed.{IsAllowed}
+use Rattle.kernel_types.specs.Apply.{apply}
 use Rattle.kernel_types.specs.Replies.{is_fault}
+use Rattle.kernel_types.specs.Sound.{IsSound}
+use Rattle.kernel_types.proofs.EveryCall.{IsSound-apply}
 use Rattle.kernel_types.proofs.Replies.{IsReplyOf-apply}
 use Rattle.kernel_types.specs.declared.object.Host.{Host}
+use Rattle.kernel_types.specs.declared.call.Call.{Call}
 use Rattle.kernel_types.specs.declared.call.Reply.{Reply}
 use Rattle.kernel_model.proofs.list_kernel.ListKernelKernel.call.Goals as goal
+
+stays_sound : (old new : Host) (call : Call) (result : Result Reply NoMemory) → IsSound old → IsAllowed old call → IfOk result (λ reply. (new, reply) ≡ apply old call) → OnErr result (new ≡ old) → IsSound new
+stays_sound old new call (Ok reply) sound allowed ok err = subst IsSound (ap (λ (s : Host × Reply). s.0) (sym ok)) (IsSound-apply old call sound allowed)
+stays_sound old new call (Err e) sound allowed ok err = subst IsSound (sym err) sound
+
+pub invariant_of-self : goal.invariant_of-self
+invariant_of-self c = stays_sound _ _ c.args.call.now _ c.self.invariant c.requires c.carry_out.ensures.ok c.carry_out.ensures.err
 
 pub returns-clause-never : goal.returns-clause-never
 returns-clause-never c =

@@ -1,0 +1,7 @@
+use Rattle.std.proofs.Common.{◌≡◌, take, map}
+use Rattle.serde_json.specs.View.{view}
+use Rattle.cni_json.proofs.members.list_value.Given as goal
+
+-- the items so far are in the list
+abbrev pub invariant-loop-item : goal.invariant-loop-item
+invariant-loop-item g l = map view l.values.items ≡ map g.T.ToJson.json (take l.item-index l.items)

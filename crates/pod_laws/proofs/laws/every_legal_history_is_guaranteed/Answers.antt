@@ -1,0 +1,5 @@
+use Rattle.pod_laws.proofs.Guaranteed.{every_legal_history_is_guaranteed}
+use Rattle.pod_laws.proofs.laws.every_legal_history_is_guaranteed.Goals as goal
+
+pub returns : goal.returns
+returns c = every_legal_history_is_guaranteed
