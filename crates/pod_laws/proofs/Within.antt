@@ -33,7 +33,7 @@ use Rattle.pod_file.specs.WellFormed.{IsOpening}
 use Rattle.pod_workers.specs.Legal.{Legal}
 use Rattle.pod_file.specs.Commands.{is_of_network}
 use Rattle.pod_workers.specs.Plans.{Placed, IsWellFormed, list_for, list_named}
-use Rattle.pod_workers.specs.World.{World, entry_of, host_of, host_on, own_replies}
+use Rattle.pod_workers.specs.World.{World, entry_of, host_of, after_entry, own_replies}
 use Rattle.pod_workers.specs.declared.plan.Entry.{Entry}
 use Rattle.pod_workers.specs.declared.plan.Plan.{Plan}
 use Rattle.pod_workers.proofs.Histories.{after-append}
@@ -128,7 +128,7 @@ within-start : (p : Plan) → IsWellFormed p → AllWithin p []
 within-start p well = λ att list listed. subst (HasKindsAlone (kinds_of list)) (sym (opening-share att p.pods.opening well.pods.opening)) (HasKindsAlone-nothing (kinds_of list))
 
 within-mine : (w : World) (n : ℕ) (c : Placed) (list : NetList) (call : Call) (faulty : Bool) → GoesOn w n c list call faulty → HasKindsAlone (kinds_of list) (share_of (att_of c.command) (host_of w))
-    → HasKindsAlone (kinds_of list) (share_of (att_of c.command) (host_on (host_of w) (entry_of (host_of w) n call faulty)))
+    → HasKindsAlone (kinds_of list) (share_of (att_of c.command) (after_entry (host_of w) (entry_of (host_of w) n call faulty)))
 within-mine w n c list call faulty on was =
     let rs = own_replies w n in
     on-entry (λ k. HasKindsAlone (kinds_of list) (share_of (att_of c.command) k)) (host_of w) n call faulty was
@@ -136,7 +136,7 @@ within-mine w n c list call faulty on was =
 
 -- another attachment's share is the same, or a collection takes from it
 within-other : (w : World) (n : ℕ) (c : Placed) (list : NetList) (call : Call) (faulty : Bool) (att : Att) (ks : List Kind) → GoesOn w n c list call faulty → att_eq (att_of c.command) att ≡ false → HasKindsAlone ks (share_of att (host_of w))
-    → HasKindsAlone ks (share_of att (host_on (host_of w) (entry_of (host_of w) n call faulty)))
+    → HasKindsAlone ks (share_of att (after_entry (host_of w) (entry_of (host_of w) n call faulty)))
 within-other w n c list call faulty att ks on apart was =
     let sound = sound_host w on.legal in
     on-entry (λ k. HasKindsAlone ks (share_of att k)) (host_of w) n call faulty was
@@ -155,7 +155,7 @@ within-kept w n c list call faulty on was = λ att other listed.
           let atts : att_of c.command ≡ att = att_eq-same (att_of c.command) att same in
           let lists : list ≡ other = same_Some list other (sym found ∙ ap (λ (a : Att). list_named w.plan.lists a.network) atts ∙ listed) in
           let mine = within-mine w n c list call faulty on (was (att_of c.command) list found) in
-          subst (λ a. HasKindsAlone (kinds_of other) (share_of a (host_on (host_of w) e))) atts (subst (λ l. HasKindsAlone (kinds_of l) (share_of (att_of c.command) (host_on (host_of w) e))) lists mine)
+          subst (λ a. HasKindsAlone (kinds_of other) (share_of a (after_entry (host_of w) e))) atts (subst (λ l. HasKindsAlone (kinds_of l) (share_of (att_of c.command) (after_entry (host_of w) e))) lists mine)
       | inr apart ↦ within-other w n c list call faulty att (kinds_of other) on apart (was att other listed)
     ])
 
@@ -163,12 +163,12 @@ within-changed : (w : World) (n : ℕ) (c : Placed) (call : Call) (faulty : Bool
 within-changed w n c call faulty on was = λ att other listed.
     let e = entry_of (host_of w) n call faulty in
     subst (λ k. HasKindsAlone (kinds_of other) (share_of att k)) (sym (after-append w.plan.pods.opening w.history e))
-    (HasKindsAlone-removes att (kinds_of other) (host_of w) (host_on (host_of w) e) (removes-changed w n c call faulty on) (was att other listed))
+    (HasKindsAlone-removes att (kinds_of other) (host_of w) (after_entry (host_of w) e) (removes-changed w n c call faulty on) (was att other listed))
 
 pub all-within : (w : World) → Legal w → AllWithin w.plan w.history
 all-within w legal = by-entries AllWithin within-start within-kept within-changed w legal
 
 -- so it is after one entry more
 pub within-entered : (w : World) (n : ℕ) (c : Placed) (list : NetList) (call : Call) (faulty : Bool) → GoesOn w n c list call faulty
-    → HasKindsAlone (kinds_of list) (share_of (att_of c.command) (host_on (host_of w) (entry_of (host_of w) n call faulty)))
+    → HasKindsAlone (kinds_of list) (share_of (att_of c.command) (after_entry (host_of w) (entry_of (host_of w) n call faulty)))
 within-entered w n c list call faulty on = within-mine w n c list call faulty on (all-within w on.legal (att_of c.command) list (list_named-listed w.plan c.command list on.listed))

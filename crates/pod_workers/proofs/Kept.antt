@@ -17,7 +17,7 @@ use Rattle.pod_workers.specs.Index.{command_at_place, is_cut_by}
 use Rattle.pod_workers.specs.Legal.{Legal, steps, refused_memory}
 use Rattle.pod_workers.specs.Plans.{Placed, commands_of, list_for}
 use Rattle.pod_workers.specs.Slots.{Fits, CarriesOn, IsKept, MayBeMade, MayCarryOn, next_in, opened, opened_by, slot_after}
-use Rattle.pod_workers.specs.World.{World, IsReady, IsReadyNumber, IsUpToStop, answered, done, end_of, entry_by, entry_of, host_of, host_on, is_cut, next_by, next_of, own_replies, stepped, with_entry}
+use Rattle.pod_workers.specs.World.{World, IsReady, IsReadyNumber, IsUpToStop, answered, done, end_of, entry_by, entry_of, host_of, after_entry, is_cut, next_by, next_of, own_replies, stepped, with_entry}
 use Rattle.pod_workers.specs.declared.index.Place.{Place}
 use Rattle.pod_workers.specs.declared.plan.Entry.{Entry}
 use Rattle.pod_workers.specs.declared.plan.Next.{Next}
@@ -147,12 +147,12 @@ answer_keeps host slots places before w n c a kept ready legal = record {
 call_keeps : (host : Host) (slots : List (Option Slot)) (places : List Place) (before : ℕ) (w : World) (n : ℕ) (c : Placed) (e : Entry) (s : Slot)
     → IsKept host slots places before w → IsReady w n c → Legal (with_entry w e) → e.command ≡ n + 1
     → Fits (list_for w.plan c.command) c.command (own_replies w n ++ e.reply ∷ []) (Some s)
-    → IsKept (host_on host e) (slice_set slots n (Some s)) places before (with_entry w e)
+    → IsKept (after_entry host e) (slice_set slots n (Some s)) places before (with_entry w e)
 call_keeps host slots places before w n c e s kept ready legal own fits =
     let within : n < length slots = rw kept.slots_long (slice_get_within (commands_of w.plan) n c ready.there) in
     record {
       legal = legal;
-      host_is = ap (λ h. host_on h e) kept.host_is ∙ sym (after-append w.plan.pods.opening w.history e);
+      host_is = ap (λ h. after_entry h e) kept.host_is ∙ sym (after-append w.plan.pods.opening w.history e);
       slots_long = length-set slots n (Some s) ∙ kept.slots_long;
       answers_long = kept.answers_long;
       index = kept.index;

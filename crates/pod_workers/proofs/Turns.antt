@@ -20,7 +20,7 @@ use Rattle.kernel_types.proofs.Replies.{IsReplyOf-apply}
 use Rattle.net_conf.specs.declared.list.NetList.{NetList}
 use Rattle.pod_file.specs.declared.command.Command.{Command}
 use Rattle.pod_workers.specs.Slots.{CarriesOn, MayBeMade, next_in, slot_after}
-use Rattle.pod_workers.specs.World.{entry_by, host_on, is_faulty, is_stop, next_by}
+use Rattle.pod_workers.specs.World.{entry_by, after_entry, is_faulty, is_stop, next_by}
 use Rattle.pod_workers.specs.declared.plan.Next.{Next}
 use Rattle.pod_workers.specs.declared.plan.Next.TheVariants as next
 use Rattle.pod_workers.specs.declared.plan.Entry.{Entry}
@@ -113,7 +113,7 @@ unfolding CarriesOn
 done-over host host' h h' c s x a is same_host same_history = subst (λ y. CarriesOn host host' h h' c s y (advance.Over a)) (sym is) (refl, same_host, same_history)
 
 pub done-went : (host host' : Host) (h h' : List Entry) (c : Command) (s t : Slot) (x : Next) (call : Call) (faulty : Bool) (reply : Reply) → x ≡ next.Call call faulty → reply ≡ reply_to host call faulty
-    → host' ≡ host_on host (entry_by host c.number call faulty) → h' ≡ h ++ entry_by host c.number call faulty ∷ [] → t ≡ slot_after s reply → CarriesOn host host' h h' c s x (advance.Went t)
+    → host' ≡ after_entry host (entry_by host c.number call faulty) → h' ≡ h ++ entry_by host c.number call faulty ∷ [] → t ≡ slot_after s reply → CarriesOn host host' h h' c s x (advance.Went t)
 unfolding CarriesOn
 done-went host host' h h' c s t x call faulty reply is replied host_is history_is after =
     subst (λ y. CarriesOn host host' h h' c s y (advance.Went t)) (sym is) (after ∙ ap (slot_after s) replied, host_is, history_is)

@@ -10,7 +10,7 @@ use Rattle.pod_file.specs.declared.command.Command.{Command}
 use Rattle.pod_workers.specs.Index.{IsIndex}
 use Rattle.pod_workers.specs.Legal.{Legal}
 use Rattle.pod_workers.specs.Plans.{Placed, commands_of, list_for, list_in, placed_from}
-use Rattle.pod_workers.specs.World.{World, IsUpToStop, entry_by, host_of, host_on, next_by, own_replies, reply_to}
+use Rattle.pod_workers.specs.World.{World, IsUpToStop, entry_by, host_of, after_entry, next_by, own_replies, reply_to}
 use Rattle.pod_workers.specs.declared.index.Place.{Place}
 use Rattle.pod_workers.specs.declared.plan.Entry.{Entry}
 use Rattle.pod_workers.specs.declared.plan.Next.{Next}
@@ -66,7 +66,7 @@ CarriesOn host host' h h' c s (next.Answer a) (advance.Over b) = (b ≡ a) × (h
 CarriesOn host host' h h' c s (next.Answer a) (advance.Went t) = ⊥
 CarriesOn host host' h h' c s (next.Call call faulty) (advance.Over b) = ⊥
 CarriesOn host host' h h' c s (next.Call call faulty) (advance.Went t) =
-    (t ≡ slot_after s (reply_to host call faulty)) × (host' ≡ host_on host (entry_by host c.number call faulty)) × (h' ≡ h ++ entry_by host c.number call faulty ∷ [])
+    (t ≡ slot_after s (reply_to host call faulty)) × (host' ≡ after_entry host (entry_by host c.number call faulty)) × (h' ≡ h ++ entry_by host c.number call faulty ∷ [])
 
 -- ---- a book
 

@@ -7,8 +7,7 @@ pub use Rattle.cni_verbs.specs.Replies.{reply_to}
 use Rattle.cni_verbs.specs.Script.{Turn, Calls, Finishes}
 use Rattle.cni_verbs.specs.declared.answer.Answer.{Answer}
 use Rattle.cni_verbs.specs.declared.answer.Answer.TheVariants.{Stopped}
-use Rattle.gc_sweep.specs.Trace.{Made, host_from}
-use Rattle.gc_sweep.specs.Trace as trace
+use Rattle.gc_sweep.specs.Trace.{Made, host_from, host_on}
 use Rattle.kernel_types.specs.declared.object.Host.{Host}
 use Rattle.kernel_types.specs.declared.call.Call.{Call}
 use Rattle.kernel_types.specs.declared.call.Reply.{Reply}
@@ -54,8 +53,8 @@ abbrev pub made_in : List Entry → List Made
 made_in es = map made_of es
 
 -- the host after an entry, and after these entries
-abbrev pub host_on : Host → Entry → Host
-host_on host e = trace.host_on host (made_of e)
+abbrev pub after_entry : Host → Entry → Host
+after_entry host e = host_on host (made_of e)
 
 abbrev pub after : Host → List Entry → Host
 after host es = host_from host (made_in es)
@@ -183,9 +182,9 @@ IsReadyNumber w number = (n : ℕ) × (c : Placed) × (number ≡ n + 1) × IsRe
 abbrev pub begun : Plan → World
 begun p = record { plan = p; history = []; answers = map (λ (c : Placed). None) (commands_of p); round = 0 }
 
-abbrev pub answer_in : List (Option Answer) → ℕ → Option Answer
-answer_in answers number = option_flatten (at_number answers number)
+abbrev pub answer_among : List (Option Answer) → ℕ → Option Answer
+answer_among answers number = option_flatten (at_number answers number)
 
 -- the answer of the command of this number, from 1
-abbrev pub answer_at : World → ℕ → Option Answer
-answer_at w number = answer_in w.answers number
+abbrev pub answer_for : World → ℕ → Option Answer
+answer_for w number = answer_among w.answers number

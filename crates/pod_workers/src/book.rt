@@ -9,7 +9,7 @@ ghost use Rattle.pod_workers.specs.Legal.{Legal};
 ghost use Rattle.pod_workers.specs.Order.{AppendsInFileOrder, EarlierAreAnswered, IsEntryBy, IsInFileOrder};
 ghost use Rattle.pod_workers.specs.Plans.{IsWellFormed, Placed, commands_of};
 ghost use Rattle.pod_workers.specs.Slots.{AreNumbersOf};
-ghost use Rattle.pod_workers.specs.World.{IsReadyNumber, IsRoundOver, answer_at, answer_in, answered, at_number, begun, end_of, host_of, is_entry_in, next_of, next_round, own_replies, stepped};
+ghost use Rattle.pod_workers.specs.World.{IsReadyNumber, IsRoundOver, answer_for, answer_among, answered, at_number, begun, end_of, host_of, is_entry_in, next_of, next_round, own_replies, stepped};
 ghost use Rattle.pod_workers.specs.declared.index.Place.{Place};
 
 use crate::index::{Place, command_at, index_of, may_step, place_at, round_at};
@@ -96,9 +96,9 @@ impl<K: Kernel + Drop> Book<K> {
 
     /// The answer of the command of this number, from 1, where it has one.
     pub fn answer(&self, command: u32) -> Option<&Answer>
-        ensures { option_copied result ≡ answer_at self.now command }
+        ensures { option_copied result ≡ answer_for self.now command }
     {
-        answer_in(self.answers.as_slice(), command)
+        answer_among(self.answers.as_slice(), command)
     }
 
     /// The answers of all commands, in file order.
@@ -252,8 +252,8 @@ impl<K: Kernel + Drop> Book<K> {
     }
 }
 
-fn answer_in(answers: &[Option<Answer>], command: u32) -> Option<&Answer>
-    ensures { option_copied result ≡ answer_in answers.now command }
+fn answer_among(answers: &[Option<Answer>], command: u32) -> Option<&Answer>
+    ensures { option_copied result ≡ answer_among answers.now command }
 {
     match at_number(answers, command) {
         None => None,

@@ -7,7 +7,7 @@ ghost use Rattle.kernel_types.specs.Allowed.{IsAllowed};
 ghost use Rattle.kernel_types.specs.Replies.{holds_text_or_list, is_fault};
 ghost use Rattle.pod_workers.specs.Slots.{IsCountable, CarriesOn, MayCarryOn, next_in, opened_by, slot_after};
 ghost use Rattle.pod_workers.specs.Tasks.{IsListed};
-ghost use Rattle.pod_workers.specs.World.{IsUpToStop, entry_by, host_on, is_faulty, is_stop};
+ghost use Rattle.pod_workers.specs.World.{IsUpToStop, entry_by, after_entry, is_faulty, is_stop};
 
 use crate::join::list_in;
 use crate::plan::{Entry, Next};
@@ -198,7 +198,7 @@ fn make<K: Kernel>(
     requires counted { slot.old.made ≡ slot.old.run.made }
     requires few { slot.old.made ≤ length history.old.items }
     ensures slot { OnOk result (slot.new ≡ slot_after slot.old (reply_to (K.host kernel.old) call faulty)) }
-    ensures host { OnOk result (K.host kernel.new ≡ host_on (K.host kernel.old) (entry_by (K.host kernel.old) command call faulty)) }
+    ensures host { OnOk result (K.host kernel.new ≡ after_entry (K.host kernel.old) (entry_by (K.host kernel.old) command call faulty)) }
     ensures history { OnOk result (history.new.items ≡ history.old.items ++ entry_by (K.host kernel.old) command call faulty ∷ []) }
     ensures err { OnErr result ((K.host kernel.new ≡ K.host kernel.old) × (history.new.items ≡ history.old.items)) }
 {
