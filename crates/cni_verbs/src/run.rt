@@ -217,6 +217,13 @@ impl Run {
         self.made += 1;
     }
 
+    /// How many calls it has made.
+    pub fn made(&self) -> u64
+        ensures { result ≡ self.now.made }
+    {
+        self.made
+    }
+
     /// Whether the run has no call left to make. Takes no memory; quadratic in the addresses, the routes, the mappings
     /// and the settings where [`Run::prepare`] didn't run or wanted memory, else at once.
     pub fn over(&self) -> bool

@@ -2,7 +2,7 @@
 use Rattle.std.proofs.Common.{◌≡◌, ℕ, Bool, true, false, not, List, Option, Some, None, slice_get, refl, sym, ap, subst}
 use Rattle.std.specs.Prelude.{◌&&◌, is_some, if◌then◌else◌}
 use Rattle.std.proofs.lemmas.Bool.{false≢true}
-use Rattle.cni_verbs.specs.Progress.{is_gc}
+use Rattle.cni_verbs.specs.Progress.{Progress, is_gc}
 use Rattle.kernel_types.specs.declared.object.Host.{Host}
 use Rattle.net_conf.specs.declared.list.NetList.{NetList}
 use Rattle.pod_file.specs.declared.command.Command.{Command}
@@ -14,7 +14,6 @@ use Rattle.pod_workers.specs.Plans.{Placed, commands_of, list_for, list_named, l
 use Rattle.pod_workers.specs.Tasks.{IsListed}
 use Rattle.pod_workers.specs.World.{World}
 use Rattle.pod_workers.specs.declared.index.Place.{Place}
-use Rattle.pod_workers.specs.declared.slots.Slot.{Slot}
 use Rattle.pod_workers.proofs.Kept.{IsFound}
 use Rattle.pod_workers.proofs.Sound.{fine, list_all-at}
 
@@ -38,6 +37,6 @@ command-listed : (w : World) → Legal w → (n : ℕ) (c : Placed) → slice_ge
 unfolding list_for
 command-listed w legal n c at gc = ap is_some (listed-network w legal n c at (gc-of_network c.command.verb gc)).1
 
-pub found-listed : (host : Host) (slots : List (Option Slot)) (places : List Place) (before : ℕ) (w : World) (number n : ℕ) (s : Option Slot) (of : Command) → IsFound host slots places before w number n s of → IsListed w.plan.lists of
+pub found-listed : (host : Host) (slots : List (Option Progress)) (places : List Place) (before : ℕ) (w : World) (number n : ℕ) (s : Option Progress) (of : Command) → IsFound host slots places before w number n s of → IsListed w.plan.lists of
 found-listed host slots places before w number n s of f =
     subst (IsListed w.plan.lists) (sym f.of_is) (command-listed w f.here.kept.legal n f.command f.here.ready.there)

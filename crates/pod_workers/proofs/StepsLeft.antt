@@ -227,7 +227,7 @@ done-takes w n number c (next.Call call faulty) legal ready is goes = call-takes
 -- whatever a step of a ready command gives, fewer steps are left to it
 pub step_takes : (r : Result StepEnd NoMemory) (v w : World) (number : ℕ) → Legal v → IsReadyNumber v number → IsStepped r v w number → steps_left w number < steps_left v number
 step_takes (Ok x) v w number legal ready is =
-    subst (λ u. steps_left u number < steps_left v number) (sym (is.0 ready.0 ready.1 ready.2 ready.3.there))
+    subst (λ u. steps_left u number < steps_left v number) (sym (is.0 ready.0 ready.1 ready.2 ready.3.there).0)
     (done-takes v ready.0 number ready.1 (next_of v ready.1.command (own_replies v ready.0)) legal ready.3 ready.2 refl)
 step_takes (Err x) v w number legal ready is =
-    subst (λ u. steps_left u number < steps_left v number) (sym (is.1 ready.0 ready.2)) (answer-takes v ready.0 number ready.1 OutOfMemory ready.3 ready.2)
+    subst (λ u. steps_left u number < steps_left v number) (sym (is.1 ready.0 ready.1 ready.2 ready.3.there)) (answer-takes v ready.0 number ready.1 OutOfMemory ready.3 ready.2)

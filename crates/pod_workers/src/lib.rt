@@ -24,6 +24,7 @@ mod join;
 pub mod laws;
 pub mod plan;
 mod slots;
+mod step;
 mod task;
 
 pub use begun::begin_on_lists;
@@ -35,4 +36,4 @@ pub use laws::{
     every_answer_is_due, every_call_may_be_made, every_entry_follows, every_host_is_sound,
     file_order_is_kept, legal_worlds_meet_each_clause, no_address_is_leased_twice, one_outcome,
 };
-pub use plan::{Entry, Next, Plan, PlanError, StepEnd};
+pub use plan::{Entry, Plan, PlanError, StepEnd};

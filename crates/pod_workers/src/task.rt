@@ -23,7 +23,7 @@ enum Carried {
     Collection(GcRun),
 }
 
-/// The run of a command, of whichever verb.
+/// The run of a command, of whichever verb: how far its script has come.
 #[derive(Drop)]
 pub struct Task {
     run: Carried,
@@ -72,6 +72,16 @@ impl Task {
         match &mut self.run {
             Carried::Verb(run) => run.prepare(),
             Carried::Collection(_) => Ok(()),
+        }
+    }
+
+    /// How many calls it has made.
+    pub fn made(&self) -> u64
+        ensures { result ≡ self.now.made }
+    {
+        match &self.run {
+            Carried::Verb(run) => run.made(),
+            Carried::Collection(run) => run.made(),
         }
     }
 
