@@ -1,4 +1,4 @@
--- What the run of a command stands for, whichever crate carries it.
+-- What the task of a command stands for, whichever crate's run carries it. Only this crate's private clauses cite it.
 use Rattle.std.specs.Prelude.{◌≡◌, true, List, is_some}
 use Rattle.cni_verbs.specs.Progress.{Progress, is_gc}
 use Rattle.net_conf.specs.declared.list.NetList.{NetList}
