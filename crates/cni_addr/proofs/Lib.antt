@@ -2,6 +2,7 @@ pub mod AddrTexts
 pub mod Cases
 pub mod CidrTexts
 pub mod HexDigits
+pub mod KeyLists
 pub mod Lists
 pub mod MacTexts
 pub mod Networks

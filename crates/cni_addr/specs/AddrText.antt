@@ -4,7 +4,7 @@ use Rattle.std.specs.Int.{w32, w128, to_be_bytes, from_be_bytes}
 use Rattle.std.specs.Net.Addr.{segments_of}
 use Rattle.std.specs.Net.Grammar.{IsDotted, IsColonHex}
 use Rattle.std.specs.Net.Reader.{read_ipv4, whole_value}
-use Rattle.std.specs.Net.Text.{ipv4_text, ipv6_text}
+use Rattle.std.specs.Net.Text.{ipv4_text, hex_groups_text}
 use Rattle.cni_addr.specs.declared.address.Family.{Family}
 use Rattle.cni_addr.specs.declared.address.Family.TheVariants.{V4, V6}
 use Rattle.cni_addr.specs.Value.{AddrValue, IsAddr}
@@ -28,10 +28,10 @@ address_of_octets octets = record { family = V4; bits = from_be_bytes w32 octets
 unfoldable pub addr_of_text : List ℕ → Option AddrValue
 addr_of_text text = option_map address_of_octets (whole_value (read_ipv4 text))
 
--- the number as an address of the family is written (RFC 5952 for IPv6)
+-- the number as an address of the family is written (for IPv6 by RFC 5952, 4: groups of hex digits alone)
 abbrev pub bits_text : Family → ℕ → List ℕ
 bits_text V4 bits = ipv4_text (to_be_bytes w32 bits)
-bits_text V6 bits = ipv6_text (segments_of (to_be_bytes w128 bits))
+bits_text V6 bits = hex_groups_text (segments_of (to_be_bytes w128 bits))
 
 -- the text that is written of an address
 unfoldable pub addr_text : AddrValue → List ℕ

@@ -1,9 +1,12 @@
 //! Laws of the definitions that the calls of this crate are equal to. Each function does nothing: what it ensures is
 //! the law, and a proof above this crate gets it by calling the function, or by the lemma that its answer names.
 
-ghost use Rattle.std.specs.Prelude.{◌≡◌, ◌↔◌, ◌+◌, ◌%◌, ◌≤◌, ℕ, List, Some, None, true};
+ghost use Rattle.std.specs.Prelude.{◌≡◌, ◌↔◌, ◌+◌, ◌%◌, ◌≤◌, ℕ, Bool, List, Some, None, true};
+ghost use Rattle.std.specs.Cmp.{IsPartialEquivalence};
 ghost use Rattle.cni_addr.specs.Value.{AddrValue, CidrValue, IsAddr, bits_below};
 ghost use Rattle.cni_addr.specs.AddrText.{IsAddrText, addr_of_text, addr_text};
+ghost use Rattle.cni_addr.specs.Lists.{each_key_once};
+ghost use Rattle.cni_addr.specs.KeyLaws.{HasFirstOfEachKey};
 ghost use Rattle.cni_addr.specs.CidrText.{IsCidrText, cidr_of_text, cidr_text};
 ghost use Rattle.cni_addr.specs.MacText.{IsMac, IsMacText, mac_of_text, mac_text};
 ghost use Rattle.cni_addr.specs.Network.{IsCidr, contains, last_of, network_of, network_size, next_addr, whole};
@@ -53,4 +56,10 @@ pub fn next_addr_laws()
     ensures none { (a : AddrValue) → (next_addr a ≡ None) ↔ (a.bits + 1 ≡ bits_below a.family) }
     ensures higher { (a b : AddrValue) → IsAddr a → next_addr a ≡ Some b
         → IsAddr b × (b.family ≡ a.family) × (b.bits ≡ a.bits + 1) }
+{}
+
+/// A list in which each key stands once has the first element of each key, in the list's order. Two elements have one
+/// key where the test says so, whatever it compares.
+pub fn each_key_once_laws<T>()
+    ensures { (same : T → T → Bool) → IsPartialEquivalence same → HasFirstOfEachKey same (each_key_once same) }
 {}

@@ -66,7 +66,7 @@ IsSound-addr_add host obj owned sound =
     (λ there free. IsSound-with_addresses host _ sound (record {
       keys = distinct-push (λ a b. is_same_addr b a) host.addresses obj sound.addresses.keys
           (list_any-find_none (is_same_addr obj) host.addresses (none-option_map (λ a. a.tag) _ free));
-      lie = list_all-push (λ a. address_fits_tag host.links a a.tag) host.addresses obj sound.addresses.lie (address_fits_tag-owned host.links obj obj.tag owned there);
+      on_links = list_all-push (λ a. address_fits_tag host.links a a.tag) host.addresses obj sound.addresses.on_links (address_fits_tag-owned host.links obj obj.tag owned there);
     }))
 
 pub TouchesTag-addr_add : (host : Host) (obj : AddrObj) → is_owned obj.tag ≡ true → TouchesTag obj.tag host (addr_add_of host obj).0
@@ -82,7 +82,7 @@ IsSound-route_add host obj sound =
     (λ there free. IsSound-with_routes host _ sound (record {
       keys = distinct-push (λ a b. is_same_route b a) host.routes obj sound.routes.keys
           (list_any-find_none (is_same_route obj) host.routes (none-option_map (λ r. r.tag) _ free));
-      lie = list_all-push (λ r. list_any (is_link_of r.ns r.link r.tag) host.links) host.routes obj sound.routes.lie there;
+      on_links = list_all-push (λ r. list_any (is_link_of r.ns r.link r.tag) host.links) host.routes obj sound.routes.on_links there;
     }))
 
 pub TouchesTag-route_add : (host : Host) (obj : RouteObj) → is_owned obj.tag ≡ true → TouchesTag obj.tag host (route_add_of host obj).0
@@ -134,7 +134,7 @@ IsSound-gateway_ensure host bridge cidr sound =
     (λ there. by_absence IsSound (list_any (is_same_addr (new_gateway bridge cidr)) host.addresses) _ host _ sound
     (λ free. IsSound-with_addresses host _ sound (record {
       keys = distinct-push (λ a b. is_same_addr b a) host.addresses (new_gateway bridge cidr) sound.addresses.keys free;
-      lie = list_all-push (λ a. address_fits_tag host.links a a.tag) host.addresses (new_gateway bridge cidr) sound.addresses.lie there;
+      on_links = list_all-push (λ a. address_fits_tag host.links a a.tag) host.addresses (new_gateway bridge cidr) sound.addresses.on_links there;
     })))
     (λ _. sound)
 

@@ -8,7 +8,7 @@ use Rattle.std.proofs.lemmas.Slice.Eq.{bytes_eq-Decides}
 use Rattle.cni_addr.specs.Lists.{distinct}
 use Rattle.kernel_types.specs.Equal.{tag_eq}
 use Rattle.kernel_types.specs.Words.{is_host_ns, is_host_or_ns, is_host_link, is_own, is_at, is_peer_at, is_owned, is_link_of, is_veth, has_named_ns, link_at, is_host_bridge, is_macvlan}
-use Rattle.kernel_types.specs.Apply.Calls.{bridge_ensure_of, bridge_or_new, new_bridge, veth_add_of, macvlan_add_of, has_bridge_as_master, has_master}
+use Rattle.kernel_types.specs.Apply.Calls.{bridge_ensure_of, bridge_or_new, new_bridge, veth_add_of, macvlan_add_of, master_is_bridge_or_none, has_master}
 use Rattle.kernel_types.specs.Sound.{IsSound, peer_fits, peers_back, address_fits_tag, link_fits_tag, is_owned_kind}
 use Rattle.kernel_types.specs.Allowed.{IsVethPair, IsMacvlanLink}
 use Rattle.kernel_types.specs.Touch.{AddsBridge, TouchesOwnAlone, TouchesTag}
@@ -60,12 +60,12 @@ IsSound-more_links host more sound n = record {
   };
   addresses = record {
     keys = sound.addresses.keys;
-    lie = list_all-weaker (λ a. address_fits_tag host.links a a.tag) (λ a. address_fits_tag (host.links ++ more) a a.tag) (λ a h. address_fits_tag-more host.links more a a.tag h) host.addresses sound.addresses.lie;
+    on_links = list_all-weaker (λ a. address_fits_tag host.links a a.tag) (λ a. address_fits_tag (host.links ++ more) a a.tag) (λ a h. address_fits_tag-more host.links more a a.tag h) host.addresses sound.addresses.on_links;
   };
   routes = record {
     keys = sound.routes.keys;
-    lie = list_all-weaker (λ r. list_any (is_link_of r.ns r.link r.tag) host.links) (λ r. list_any (is_link_of r.ns r.link r.tag) (host.links ++ more))
-        (λ r h. list_any-append_left (is_link_of r.ns r.link r.tag) host.links more h) host.routes sound.routes.lie;
+    on_links = list_all-weaker (λ r. list_any (is_link_of r.ns r.link r.tag) host.links) (λ r. list_any (is_link_of r.ns r.link r.tag) (host.links ++ more))
+        (λ r h. list_any-append_left (is_link_of r.ns r.link r.tag) host.links more h) host.routes sound.routes.on_links;
   };
   rules = sound.rules;
   settings = sound.settings;
@@ -151,7 +151,7 @@ AreNewLinks-veth host h i pair there free_i free_h =
 pub IsSound-veth_add : (host : Host) (h i : Link) → IsVethPair h i → IsSound host → IsSound (veth_add_of host h i).0
 IsSound-veth_add host h i pair sound =
     by_test (λ (step : Host × Reply). IsSound step.0) (has_named_ns host i.ns) _ _
-    (λ there. by_addition IsSound (has_bridge_as_master host h.master) (option_map (λ l. l.tag) (option_or (link_at host i.ns i.name) (link_at host h.ns h.name))) host _ _ sound
+    (λ there. by_addition IsSound (master_is_bridge_or_none host h.master) (option_map (λ l. l.tag) (option_or (link_at host i.ns i.name) (link_at host h.ns h.name))) host _ _ sound
     (λ master free.
     let none = none-option_or (link_at host i.ns i.name) (link_at host h.ns h.name) (none-option_map (λ l. l.tag) _ free) in
     IsSound-more_links host (h ∷ i ∷ []) sound (AreNewLinks-veth host h i pair there none.0 none.1)))
@@ -163,7 +163,7 @@ touches-veth host h i att own_h own_i =
     let at_i : is_own att i.tag ≡ true = own-own att i.tag own_i in
     let nothing : TouchesOwnAlone att host host = TouchesOwnAlone-nothing att host in
     by_test (λ (step : Host × Reply). TouchesOwnAlone att host step.0) (has_named_ns host i.ns) _ _
-    (λ there. by_addition (TouchesOwnAlone att host) (has_bridge_as_master host h.master) (option_map (λ l. l.tag) (option_or (link_at host i.ns i.name) (link_at host h.ns h.name))) host _ _ nothing
+    (λ there. by_addition (TouchesOwnAlone att host) (master_is_bridge_or_none host h.master) (option_map (λ l. l.tag) (option_or (link_at host i.ns i.name) (link_at host h.ns h.name))) host _ _ nothing
     (λ _ _. TouchesOwnAlone-with_links att host _ (ChangesOnly-append (λ l. is_own att l.tag) host.links (h ∷ i ∷ []) (grind (arith, at_h, at_i)))))
     (λ _. nothing)
 

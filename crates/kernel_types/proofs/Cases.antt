@@ -9,7 +9,7 @@ use Rattle.cni_addr.proofs.Cases.{by_test}
 use Rattle.kernel_types.specs.Equal.{att_eq, tag_eq}
 use Rattle.kernel_types.specs.Words.{is_host_ns, is_host_bridge, is_own, is_owned, is_at, is_veth}
 use Rattle.kernel_types.specs.Apply.Calls.{append_unless_taken, unless_there}
-use Rattle.kernel_types.specs.Sound.{is_shared_kind}
+use Rattle.kernel_types.specs.Sound.{is_unowned_kind}
 use Rattle.kernel_types.specs.Touch.{TouchesOwnAlone, TouchesTag}
 use Rattle.kernel_types.specs.declared.object.Att.{Att}
 use Rattle.kernel_types.specs.declared.object.Link.{Link}
@@ -83,7 +83,7 @@ pub host_bridge-at : (ns name : List ℕ) (l : Link) → is_host_ns ns ≡ true 
 host_bridge-at [] name l host h = grind (arith, h, host_ns-eq l.ns)
 host_bridge-at (x ∷ xs) name l host h = grind (arith, host, nat_tests)
 
-pub shared-no_veth : (k : LinkKind) → is_shared_kind k ≡ true → is_veth k ≡ false
+pub shared-no_veth : (k : LinkKind) → is_unowned_kind k ≡ true → is_veth k ≡ false
 shared-no_veth Device h = refl
 shared-no_veth Bridge h = refl
 shared-no_veth Veth h = cc

@@ -91,12 +91,12 @@ IsSound-map_links f keeps host sound = record {
   };
   addresses = record {
     keys = sound.addresses.keys;
-    lie = list_all-weaker (λ a. address_fits_tag host.links a a.tag) (λ a. address_fits_tag (map f host.links) a a.tag) (λ a h. address_fits_tag-kept f keeps host.links a a.tag ∙ h) host.addresses sound.addresses.lie;
+    on_links = list_all-weaker (λ a. address_fits_tag host.links a a.tag) (λ a. address_fits_tag (map f host.links) a a.tag) (λ a h. address_fits_tag-kept f keeps host.links a a.tag ∙ h) host.addresses sound.addresses.on_links;
   };
   routes = record {
     keys = sound.routes.keys;
-    lie = list_all-weaker (λ r. list_any (is_link_of r.ns r.link r.tag) host.links) (λ r. list_any (is_link_of r.ns r.link r.tag) (map f host.links))
-        (λ r h. route_lies-kept f keeps host.links r.ns r.link r.tag ∙ h) host.routes sound.routes.lie;
+    on_links = list_all-weaker (λ r. list_any (is_link_of r.ns r.link r.tag) host.links) (λ r. list_any (is_link_of r.ns r.link r.tag) (map f host.links))
+        (λ r h. route_lies-kept f keeps host.links r.ns r.link r.tag ∙ h) host.routes sound.routes.on_links;
   };
   rules = sound.rules;
   settings = sound.settings;

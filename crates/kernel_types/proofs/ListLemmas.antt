@@ -8,6 +8,7 @@ use Rattle.std.proofs.lemmas.List.Folds as folds
 pub use Rattle.std.proofs.lemmas.List.Folds.{list_all-map}
 use Rattle.std.proofs.lemmas.Option.{cond_some}
 use Rattle.cni_addr.specs.Lists.{distinct, without_first}
+pub use Rattle.cni_addr.proofs.Lists.{are_new, distinct-append, distinct-push, filter-push_dropped, list_all-append, list_all-push, list_any-append_left, list_any-append_none, list_any-append_right, list_any-map, list_any-same_test}
 pub use Rattle.ip_pool.proofs.InOrder.{list_all-filter, list_all-weaker, passes-find}
 use Rattle.ip_pool.proofs.Lists.{list_any-no_position}
 
@@ -48,51 +49,11 @@ pub list_any-find_none : {X : Type 0} (p : X → Bool) (xs : List X) → find p 
 list_any-find_none p [] h = refl
 list_any-find_none p (x ∷ xs) h = grind (arith, list_any-find_none p xs)
 
-pub filter-push_dropped : {X : Type 0} (p : X → Bool) (xs : List X) (y : X) → p y ≡ false → filter p (xs ++ y ∷ []) ≡ filter p xs
-filter-push_dropped p [] y h = grind arith
-filter-push_dropped p (x ∷ xs) y h = grind (arith, filter-push_dropped p xs y)
-
 pub filter_never : {X : Type 0} (p q : X → Bool) → ((x : X) → q x ≡ true → p x ≡ false) → (xs : List X) → list_all q xs ≡ true → filter p xs ≡ []
 filter_never p q w [] h = refl
 filter_never p q w (x ∷ xs) h = grind (arith, w x, filter_never p q w xs)
 
--- ---- lists one after the other
-
-pub list_any-append_left : {X : Type 0} (p : X → Bool) (xs ys : List X) → list_any p xs ≡ true → list_any p (xs ++ ys) ≡ true
-list_any-append_left p xs ys h = folds.list_any-append p xs ys ∙ or_left (list_any p xs) (list_any p ys) h
-
-pub list_any-append_right : {X : Type 0} (p : X → Bool) (xs ys : List X) → list_any p ys ≡ true → list_any p (xs ++ ys) ≡ true
-list_any-append_right p xs ys h = folds.list_any-append p xs ys ∙ or_right (list_any p xs) (list_any p ys) h
-
-pub list_any-append_none : {X : Type 0} (p : X → Bool) (xs ys : List X) → list_any p xs ≡ false → list_any p ys ≡ false → list_any p (xs ++ ys) ≡ false
-list_any-append_none p xs ys h g = folds.list_any-append p xs ys ∙ or_from (list_any p xs) (list_any p ys) h g
-
-pub list_all-append : {X : Type 0} (p : X → Bool) (xs ys : List X) → list_all p xs ≡ true → list_all p ys ≡ true → list_all p (xs ++ ys) ≡ true
-list_all-append p xs ys h g = folds.list_all-append p xs ys ∙ and_from (list_all p xs) (list_all p ys) h g
-
--- none of ys is the same as one of xs
-abbrev pub are_new : {X : Type 0} → (X → X → Bool) → List X → List X → Bool
-are_new same xs ys = list_all (λ y. not (list_any (λ x. same x y) xs)) ys
-
-are_new-head : {X : Type 0} (same : X → X → Bool) (x : X) (xs ys : List X) → are_new same (x ∷ xs) ys ≡ true → list_any (same x) ys ≡ false
-are_new-head same x xs [] h = refl
-are_new-head same x xs (y ∷ ys) h = grind (arith, are_new-head same x xs ys)
-
-are_new-tail : {X : Type 0} (same : X → X → Bool) (x : X) (xs ys : List X) → are_new same (x ∷ xs) ys ≡ true → are_new same xs ys ≡ true
-are_new-tail same x xs [] h = refl
-are_new-tail same x xs (y ∷ ys) h = grind (arith, are_new-tail same x xs ys)
-
-pub distinct-append : {X : Type 0} (same : X → X → Bool) (xs ys : List X) → distinct same xs ≡ true → distinct same ys ≡ true → are_new same xs ys ≡ true → distinct same (xs ++ ys) ≡ true
-distinct-append same [] ys h g n = g
-distinct-append same (x ∷ xs) ys h g n =
-    let tail : distinct same (xs ++ ys) ≡ true = distinct-append same xs ys (grind (arith, h)) g (are_new-tail same x xs ys n) in
-    let head : list_any (same x) (xs ++ ys) ≡ false = list_any-append_none (same x) xs ys (grind (arith, h)) (are_new-head same x xs ys n) in
-    grind (arith, head, tail)
-
 -- ---- each element passes
-
-pub list_all-push : {X : Type 0} (p : X → Bool) (xs : List X) (y : X) → list_all p xs ≡ true → p y ≡ true → list_all p (xs ++ y ∷ []) ≡ true
-list_all-push p xs y h g = list_all-append p xs (y ∷ []) h (grind (arith, g))
 
 -- what passes and is kept passes another test
 pub list_all-kept : {X : Type 0} (p q keep : X → Bool) → ((x : X) → p x ≡ true → keep x ≡ true → q x ≡ true) → (xs : List X) → list_all p xs ≡ true → list_all q (filter keep xs) ≡ true
@@ -130,9 +91,6 @@ list_any-filter p keep (x ∷ xs) h = grind (arith, list_any-filter p keep xs)
 list_any-without_first : {X : Type 0} (p gone : X → Bool) (xs : List X) → list_any p xs ≡ false → list_any p (without_first gone xs) ≡ false
 list_any-without_first p gone [] h = refl
 list_any-without_first p gone (x ∷ xs) h = grind (arith, list_any-without_first p gone xs)
-
-pub distinct-push : {X : Type 0} (same : X → X → Bool) (xs : List X) (y : X) → distinct same xs ≡ true → list_any (λ x. same x y) xs ≡ false → distinct same (xs ++ y ∷ []) ≡ true
-distinct-push same xs y h g = distinct-append same xs (y ∷ []) h refl (grind (arith, g))
 
 pub distinct-filter : {X : Type 0} (same : X → X → Bool) (keep : X → Bool) (xs : List X) → distinct same xs ≡ true → distinct same (filter keep xs) ≡ true
 distinct-filter same keep [] h = refl
@@ -178,14 +136,6 @@ filter-without_first_of p gone self xs y z f g =
     filter-without_first_gone p (gone y) xs y f (self y) ∙ ap (λ v. filter (λ x. not (gone v x)) xs) same
 
 -- ---- lists changed in place
-
-pub list_any-map : {A B : Type 0} (p : B → Bool) (f : A → B) (xs : List A) → list_any p (map f xs) ≡ list_any (λ x. p (f x)) xs
-list_any-map p f [] = refl
-list_any-map p f (x ∷ xs) = grind (arith, list_any-map p f xs)
-
-pub list_any-same_test : {X : Type 0} (p q : X → Bool) → ((x : X) → p x ≡ q x) → (xs : List X) → list_any p xs ≡ list_any q xs
-list_any-same_test p q e [] = refl
-list_any-same_test p q e (x ∷ xs) = grind (arith, e x, list_any-same_test p q e xs)
 
 pub distinct-map : {X : Type 0} (same : X → X → Bool) (f : X → X) → ((x y : X) → same (f x) (f y) ≡ same x y) → (xs : List X) → distinct same (map f xs) ≡ distinct same xs
 distinct-map same f e [] = refl

@@ -6,7 +6,7 @@ use Rattle.std.specs.Str.{bytes_eq}
 use Rattle.cni_addr.specs.Lists.{distinct}
 use Rattle.kernel_types.specs.Equal.{tag_eq}
 use Rattle.kernel_types.specs.Words.{is_host_ns, outside_namespace}
-use Rattle.kernel_types.specs.Sound.{IsSound, link_fits_tag, peer_fits, is_shared_kind}
+use Rattle.kernel_types.specs.Sound.{IsSound, link_fits_tag, peer_fits, is_unowned_kind}
 use Rattle.kernel_types.specs.Opening.{opening_with, AreNamespaceNames, AreOutsideLinks, is_outside_link}
 use Rattle.kernel_types.proofs.Cases.{shared-no_veth}
 use Rattle.kernel_types.proofs.ListLemmas.{list_any-map, list_all-map, list_all-weaker}
@@ -25,12 +25,12 @@ all_outside : (names : List (List ℕ)) → list_all (λ n. tag_eq n.tag Outside
 all_outside [] = refl
 all_outside (x ∷ xs) = grind (arith, all_outside xs)
 
-shared-fits : (l : Link) (t : Tag) → tag_eq t Outside ≡ true → is_shared_kind l.kind ≡ true → link_fits_tag l t ≡ true
+shared-fits : (l : Link) (t : Tag) → tag_eq t Outside ≡ true → is_unowned_kind l.kind ≡ true → link_fits_tag l t ≡ true
 shared-fits l Outside h k = k
 shared-fits l Base h k = cc
 shared-fits l (Own att) h k = cc
 
-shared-alone : (links : List Link) (l : Link) (o : Option LinkKey) → is_none o ≡ true → is_shared_kind l.kind ≡ true → peer_fits links l o ≡ true
+shared-alone : (links : List Link) (l : Link) (o : Option LinkKey) → is_none o ≡ true → is_unowned_kind l.kind ≡ true → peer_fits links l o ≡ true
 shared-alone links l None h k = grind (arith, shared-no_veth l.kind k)
 shared-alone links l (Some key) h k = cc
 
@@ -47,8 +47,8 @@ IsSound-opening_with names links good outside = record {
     places = outside.places;
     peers = list_all-weaker is_outside_link (λ l. peer_fits links l l.peer) (λ l h. shared-alone links l l.peer (grind (arith, h)) (grind (arith, h))) links outside.outside;
   };
-  addresses = record { keys = refl; lie = refl };
-  routes = record { keys = refl; lie = refl };
+  addresses = record { keys = refl; on_links = refl };
+  routes = record { keys = refl; on_links = refl };
   rules = record { keys = refl; tags = refl };
   settings = record { keys = refl; tags = refl };
   leases = record { keys = refl; tags = refl };

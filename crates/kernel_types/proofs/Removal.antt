@@ -96,15 +96,15 @@ pub AreAddresses-without : (gone : Link → Bool) (links : List Link) (addresses
     → AreAddresses (filter (λ l. not (gone l)) links) (filter (λ a. not (list_any (λ l. gone l && is_at a.ns a.link l) links)) addresses)
 AreAddresses-without gone links addresses sound = record {
   keys = distinct-filter (λ a b. is_same_addr b a) (λ a. not (list_any (λ l. gone l && is_at a.ns a.link l) links)) addresses sound.keys;
-  lie = list_all-kept (λ a. address_fits_tag links a a.tag) (λ a. address_fits_tag (filter (λ l. not (gone l)) links) a a.tag) (λ a. not (list_any (λ l. gone l && is_at a.ns a.link l) links)) (λ a h stays. address_fits_tag-kept gone links a a.tag h stays) addresses sound.lie;
+  on_links = list_all-kept (λ a. address_fits_tag links a a.tag) (λ a. address_fits_tag (filter (λ l. not (gone l)) links) a a.tag) (λ a. not (list_any (λ l. gone l && is_at a.ns a.link l) links)) (λ a h stays. address_fits_tag-kept gone links a a.tag h stays) addresses sound.on_links;
 }
 
 pub AreRoutes-without : (gone : Link → Bool) (links : List Link) (routes : List RouteObj) → AreRoutes links routes
     → AreRoutes (filter (λ l. not (gone l)) links) (filter (λ r. not (list_any (λ l. gone l && is_at r.ns r.link l) links)) routes)
 AreRoutes-without gone links routes sound = record {
   keys = distinct-filter (λ a b. is_same_route b a) (λ r. not (list_any (λ l. gone l && is_at r.ns r.link l) links)) routes sound.keys;
-  lie = list_all-kept (λ r. list_any (is_link_of r.ns r.link r.tag) links) (λ r. list_any (is_link_of r.ns r.link r.tag) (filter (λ l. not (gone l)) links)) (λ r. not (list_any (λ l. gone l && is_at r.ns r.link l) links))
-      (λ r h stays. on_kept gone (is_link_of r.ns r.link r.tag) (is_at r.ns r.link) links (λ l h. (and_parts (is_at r.ns r.link l) (tag_eq l.tag r.tag) h).0) h stays) routes sound.lie;
+  on_links = list_all-kept (λ r. list_any (is_link_of r.ns r.link r.tag) links) (λ r. list_any (is_link_of r.ns r.link r.tag) (filter (λ l. not (gone l)) links)) (λ r. not (list_any (λ l. gone l && is_at r.ns r.link l) links))
+      (λ r h stays. on_kept gone (is_link_of r.ns r.link r.tag) (is_at r.ns r.link) links (λ l h. (and_parts (is_at r.ns r.link l) (tag_eq l.tag r.tag) h).0) h stays) routes sound.on_links;
 }
 
 pub IsSound-without_links : (q : List ℕ → List ℕ → Bool) (host : Host) → IsSound host → IsSound (without_links (goes_by q) host)

@@ -7,7 +7,7 @@ use Rattle.cni_addr.specs.declared.address.Addr.{Addr}
 use Rattle.kernel_types.specs.Equal.{rule_eq}
 use Rattle.kernel_types.specs.Words.{is_host_or_ns, is_host_link, is_bridge, is_own, has_named_ns, has_host_bridge, has_objects, link_at}
 use Rattle.kernel_types.specs.Apply as apply
-use Rattle.kernel_types.specs.Apply.Calls.{append_unless_taken, bridge_or_new, has_bridge_as_master, has_master, has_link_of, is_own_at, is_same_addr, is_same_route, is_same_setting, lease_taken, leased_addresses, last_leased, new_bridge, without_link}
+use Rattle.kernel_types.specs.Apply.Calls.{append_unless_taken, bridge_or_new, master_is_bridge_or_none, has_master, has_link_of, is_own_at, is_same_addr, is_same_route, is_same_setting, lease_taken, leased_addresses, last_leased, new_bridge, without_link}
 use Rattle.ip_pool.specs.Pool.{pick_of}
 use Rattle.kernel_types.specs.Replies.{is_fault, holds_text_or_list}
 use Rattle.cni_addr.proofs.Cases.{by_test}
@@ -68,7 +68,7 @@ IsReplyOf-apply host (ForwardEnsure family) =
     by_test (IsReplyOf host) (list_any _ host.settings) _ _ (λ _. in_place host _ refl) (λ _. changed host _ _ refl refl)
 IsReplyOf-apply host (VethAdd host_end inner_end) =
     by_test (IsReplyOf host) (has_named_ns host inner_end.ns) _ _
-    (λ _. by_test (IsReplyOf host) (has_bridge_as_master host host_end.master) _ _
+    (λ _. by_test (IsReplyOf host) (master_is_bridge_or_none host host_end.master) _ _
     (λ _. appended (option_map (λ l. l.tag) (option_or (link_at host inner_end.ns inner_end.name) (link_at host host_end.ns host_end.name))) host _) (λ _. in_place host _ refl))
     (λ _. in_place host _ refl)
 IsReplyOf-apply host (MacvlanAdd link) =

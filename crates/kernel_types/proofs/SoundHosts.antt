@@ -9,9 +9,9 @@ use Rattle.std.proofs.lemmas.Slice.Eq.{bytes_eq-Decides}
 use Rattle.cni_addr.specs.Lists.{distinct, IsAmong}
 use Rattle.kernel_types.specs.Equal.{addr_eq, tag_eq}
 use Rattle.kernel_types.specs.Words.{is_host_or_ns, is_owned, is_at, is_peer_at, is_link_of}
-use Rattle.kernel_types.specs.Apply.Calls.{goes_with}
-use Rattle.kernel_types.specs.Sound.{IsSound, AreInPlaces, NoNamespaceOwned, NoAddressTwice, is_link_or_peer, address_fits_tag, peer_fits, peers_back, setting_fits_tag}
-use Rattle.kernel_types.proofs.ListLemmas.{list_all-weaker, list_any-none, list_any-map_filter}
+use Rattle.kernel_types.specs.Apply.Calls.{goes_with, goes_with_ns, has_peer_in}
+use Rattle.kernel_types.specs.Sound.{IsSound, AreInPlaces, NoNamespaceOwned, NoAddressTwice, is_link_or_peer, is_in_ns_or_peer, address_fits_tag, peer_fits, peers_back, setting_fits_tag}
+use Rattle.kernel_types.proofs.ListLemmas.{list_all-weaker, list_any-weaker, list_any-none, list_any-map_filter}
 use Rattle.kernel_types.proofs.TouchRemoval.{is_at-symm}
 use Rattle.kernel_types.specs.declared.object.LinkKey.{LinkKey}
 use Rattle.kernel_types.specs.declared.object.Tag.{Tag}
@@ -46,9 +46,9 @@ place_of_setting namespaces s (Own att) h = h
 pub AreInPlaces-sound : (host : Host) → IsSound host → AreInPlaces host
 AreInPlaces-sound host sound = record {
   links = sound.links.places;
-  addresses = list_all-weaker (λ a. address_fits_tag host.links a a.tag) (λ a. is_host_or_ns host.namespaces a.ns) (λ a h. place_of_address host.namespaces host.links sound.links.places a a.tag h) host.addresses sound.addresses.lie;
+  addresses = list_all-weaker (λ a. address_fits_tag host.links a a.tag) (λ a. is_host_or_ns host.namespaces a.ns) (λ a h. place_of_address host.namespaces host.links sound.links.places a a.tag h) host.addresses sound.addresses.on_links;
   routes = list_all-weaker (λ r. list_any (is_link_of r.ns r.link r.tag) host.links) (λ r. is_host_or_ns host.namespaces r.ns)
-      (λ r h. place_of_link host.namespaces r.ns r.link (is_link_of r.ns r.link r.tag) host.links (λ l g. grind (arith, g)) h sound.links.places) host.routes sound.routes.lie;
+      (λ r h. place_of_link host.namespaces r.ns r.link (is_link_of r.ns r.link r.tag) host.links (λ l g. grind (arith, g)) h sound.links.places) host.routes sound.routes.on_links;
   settings = list_all-weaker (λ s. setting_fits_tag host.namespaces s s.tag) (λ s. is_host_or_ns host.namespaces s.ns) (λ s h. place_of_setting host.namespaces s s.tag h) host.settings sound.settings.tags;
 }
 
@@ -153,3 +153,34 @@ goes_with-sound host link other sound link_there other_there =
     (both_ways (is_peer_at link.ns link.name other.peer) (is_peer_at other.ns other.name link.peer)
     (peer_names_back host.links other link other.peer sound.links.keys at_link fits_other)
     (peer_names_back host.links link other link.peer sound.links.keys at_other fits_link))
+
+-- ---- what goes with a namespace
+
+-- the link is in the namespace, and the other is its peer
+abbrev is_peer_from : List ℕ → Link → Link → Bool
+is_peer_from name other l = bytes_eq l.ns name && is_peer_at other.ns other.name l.peer
+
+peer_in_its_ns : (ns place name : List ℕ) (o : Option LinkKey) → bytes_eq ns name ≡ true → is_peer_at ns place o ≡ true → has_peer_in name o ≡ true
+peer_in_its_ns ns place name None at p = cc
+peer_in_its_ns ns place name (Some key) at p =
+    let same : ns ≡ name = (bytes_eq-Decides ns name).0 at in
+    rw (← same) (grind (arith, p))
+
+peer_there : (links : List Link) (name : List ℕ) (other : Link) (o : Option LinkKey) → peer_fits links other o ≡ true → has_peer_in name o ≡ true → list_any (is_peer_from name other) links ≡ true
+peer_there links name other None fits h = cc
+peer_there links name other (Some key) fits h =
+    let same : key.ns ≡ name = (bytes_eq-Decides key.ns name).0 h in
+    list_any-weaker (peers_back other key) (is_peer_from name other) (λ l back. rw (← same) (grind (arith, back))) links (grind (arith, fits))
+
+-- in a sound host a link goes with a namespace exactly where it is in it, or is the peer of a link that is
+pub goes_with_ns-sound : (host : Host) (name : List ℕ) (other : Link) → IsSound host → Contains host.links other → goes_with_ns name other ≡ is_in_ns_or_peer name host.links other
+goes_with_ns-sound host name other sound other_there =
+    let at_other : IsAmong other host.links = IsAmong-Contains other host.links other_there in
+    let fits_other : peer_fits host.links other other.peer ≡ true = among-passes (λ l. peer_fits host.links l l.peer) other host.links at_other sound.links.peers in
+    ap (λ b. bytes_eq other.ns name || b)
+    (both_ways (has_peer_in name other.peer) (list_any (is_peer_from name other) host.links)
+    (peer_there host.links name other other.peer fits_other)
+    (from_among (is_peer_from name other) (has_peer_in name other.peer) host.links
+    (λ l at_link from.
+    let fits_link : peer_fits host.links l l.peer ≡ true = among-passes (λ l. peer_fits host.links l l.peer) l host.links at_link sound.links.peers in
+    peer_in_its_ns l.ns l.name name other.peer (grind (arith, from)) (peer_names_back host.links l other l.peer sound.links.keys at_other fits_link (grind (arith, from))))))

@@ -119,13 +119,13 @@ pub addresses_gone : (mine : Tag → Bool) → (gone : Link → Bool) (links : L
     → AreAddresses links addresses → list_all (λ a. not (list_any (λ l. gone l && is_at a.ns a.link l) links) || mine a.tag) addresses ≡ true
 addresses_gone mine gone links addresses keys may sound =
     list_all-weaker (λ a. address_fits_tag links a a.tag) (λ a. not (list_any (λ l. gone l && is_at a.ns a.link l) links) || mine a.tag)
-    (λ a h. keeps_or_owns (list_any (λ l. gone l && is_at a.ns a.link l) links) (mine a.tag) (address_gone mine gone links keys may a a.tag h)) addresses sound.lie
+    (λ a h. keeps_or_owns (list_any (λ l. gone l && is_at a.ns a.link l) links) (mine a.tag) (address_gone mine gone links keys may a a.tag h)) addresses sound.on_links
 
 pub routes_gone : (mine : Tag → Bool) → (gone : Link → Bool) (links : List Link) (routes : List RouteObj) → distinct (λ a b. is_at b.ns b.name a) links ≡ true → list_all (λ m. not (gone m) || may_go mine m) links ≡ true
     → AreRoutes links routes → list_all (λ r. not (list_any (λ l. gone l && is_at r.ns r.link l) links) || mine r.tag) routes ≡ true
 routes_gone mine gone links routes keys may sound =
     list_all-weaker (λ r. list_any (is_link_of r.ns r.link r.tag) links) (λ r. not (list_any (λ l. gone l && is_at r.ns r.link l) links) || mine r.tag)
-    (λ r h. keeps_or_owns (list_any (λ l. gone l && is_at r.ns r.link l) links) (mine r.tag) (on_gone mine gone links r.ns r.link r.tag keys may h)) routes sound.lie
+    (λ r h. keeps_or_owns (list_any (λ l. gone l && is_at r.ns r.link l) links) (mine r.tag) (on_gone mine gone links r.ns r.link r.tag keys may h)) routes sound.on_links
 
 -- ---- the links that go with one of an attachment
 

@@ -3,8 +3,7 @@ use Rattle.std.specs.Prelude.{◌≡◌, true, false, None, is_some}
 use Rattle.cni_addr.specs.declared.range.RangeSet.{RangeSet}
 use Rattle.ip_pool.specs.Pool.{are_apart}
 use Rattle.ip_pool.specs.NextAddress.{is_candidate_or_none}
-use Rattle.kernel_types.specs.Apply.Calls.{last_leased}
-use Rattle.kernel_types.specs.Words.{is_host_ns, is_macvlan, is_owned, is_peer_at, is_veth}
+use Rattle.kernel_types.specs.Words.{last_leased, is_host_ns, is_macvlan, is_owned, is_peer_at, is_veth}
 use Rattle.kernel_types.specs.declared.object.Link.{Link}
 use Rattle.kernel_types.specs.declared.object.Host.{Host}
 use Rattle.kernel_types.specs.declared.call.Call.{Call}
@@ -31,9 +30,9 @@ pub record IsMacvlanLink (link : Link) : Type 0 where
   pub alone : link.peer ≡ None
   pub inner : is_host_ns link.ns ≡ false
 
--- the pool's ranges share no address
-abbrev pub IsPool : RangeSet → Type 0
-IsPool set = are_apart set.ranges ≡ true
+-- the set's ranges share no address
+abbrev pub HasRangesApart : RangeSet → Type 0
+HasRangesApart set = are_apart set.ranges ≡ true
 
 abbrev pub IsAllowedChange : Change → Type 0
 IsAllowedChange (DropLink key) = is_host_ns key.ns ≡ false
@@ -51,7 +50,7 @@ IsAllowed host (AddrAdd obj) = is_owned obj.tag ≡ true
 IsAllowed host (RouteAdd obj) = is_owned obj.tag ≡ true
 IsAllowed host (RuleAppend rule) = is_owned rule.tag ≡ true
 IsAllowed host (SettingSet setting) = (is_owned setting.tag ≡ true) × (is_host_ns setting.ns ≡ false)
-IsAllowed host (LeaseNext att number set) = IsPool set × (is_candidate_or_none set (last_leased host att.network number) ≡ true)
+IsAllowed host (LeaseNext att number set) = HasRangesApart set × (is_candidate_or_none set (last_leased host att.network number) ≡ true)
 IsAllowed host (CachePut att cached) = Unit {0}
 IsAllowed host (LinkDel att) = Unit {0}
 IsAllowed host (RuleDel att) = Unit {0}
@@ -61,6 +60,6 @@ IsAllowed host (CacheDel att) = Unit {0}
 IsAllowed host (HasObj probe) = Unit {0}
 IsAllowed host (CacheGet att) = Unit {0}
 IsAllowed host (OwnersOf network kind) = Unit {0}
-IsAllowed host (PoolFree network set) = IsPool set
+IsAllowed host (PoolFree network set) = HasRangesApart set
 IsAllowed host (NsChange name add) = is_host_ns name ≡ false
 IsAllowed host (Outside change) = IsAllowedChange change

@@ -4,6 +4,7 @@ pub mod Codes
 pub mod Equal
 pub mod GivenAddress
 pub mod Isolation
+pub mod Keys
 pub mod Names
 pub mod Opening
 pub mod Replies

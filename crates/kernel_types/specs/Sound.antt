@@ -1,11 +1,11 @@
--- What holds of every host: keys are distinct, and tags, places and peers fit.
+-- What holds of every host that a kernel means: keys are distinct, and tags, places and peers fit.
 use Rattle.std.specs.Prelude.{◌≡◌, ℕ, Bool, true, false, not, ◌&&◌, ◌||◌, List, Option, Some, None, is_some}
 use Rattle.std.specs.List.{list_any, list_all}
 use Rattle.std.specs.Str.{bytes_eq}
 use Rattle.cni_addr.specs.Lists.{distinct}
-use Rattle.kernel_types.specs.Equal.{addr_eq, rule_eq, tag_eq}
-use Rattle.kernel_types.specs.Words.{is_host_ns, is_host_or_ns, is_owned, has_bridge_in, is_veth, is_at, is_peer_at}
-use Rattle.kernel_types.specs.Apply.Calls.{has_link_in, is_same_addr, is_same_route, is_same_setting, is_of_pool, leased_addresses, owner_in}
+use Rattle.kernel_types.specs.Equal.{addr_eq, tag_eq}
+use Rattle.kernel_types.specs.Keys.{is_same_addr, is_same_cached, is_same_last, is_same_lease, is_same_link, is_same_namespace, is_same_route, is_same_rule, is_same_setting}
+use Rattle.kernel_types.specs.Words.{is_host_ns, is_host_or_ns, is_owned, has_bridge_in, is_veth, is_at, is_peer_at, has_link_in, leased_addresses, owner_in}
 use Rattle.kernel_types.specs.declared.object.LinkKey.{LinkKey}
 use Rattle.kernel_types.specs.declared.object.Tag.{Tag}
 use Rattle.kernel_types.specs.declared.object.Tag.TheVariants.{Outside, Base, Own}
@@ -26,6 +26,10 @@ use Rattle.kernel_types.specs.declared.object.Host.{Host}
 abbrev pub HasDistinct : {X : Type 0} → (X → X → Bool) → List X → Type 0
 HasDistinct same xs = distinct same xs ≡ true
 
+-- no element has the key of an earlier one
+abbrev pub HasDistinctKeys : {X : Type 0} → (X → X → Bool) → List X → Type 0
+HasDistinctKeys is_same xs = HasDistinct (λ a b. is_same b a) xs
+
 -- each element passes
 abbrev pub AllPassTest : {X : Type 0} → (X → Bool) → List X → Type 0
 AllPassTest test xs = list_all test xs ≡ true
@@ -33,28 +37,28 @@ AllPassTest test xs = list_all test xs ≡ true
 -- ---- namespaces
 
 pub record AreNamespaces (namespaces : List NsObj) : Type 0 where
-  pub keys : HasDistinct (λ a b. bytes_eq a.name b.name) namespaces
+  pub keys : HasDistinctKeys is_same_namespace namespaces
   pub named : AllPassTest (λ n. not (is_host_ns n.name)) namespaces
   pub tags : AllPassTest (λ n. tag_eq n.tag Outside) namespaces
 
 -- ---- links
 
--- a kind that an attachment's link may have in that namespace, and one that another link may have
+-- a kind that an attachment's link may have in that namespace, and one that a link may have that none owns
 abbrev pub is_owned_kind : List ℕ → LinkKind → Bool
 is_owned_kind ns Device = false
 is_owned_kind ns Bridge = false
 is_owned_kind ns Veth = true
 is_owned_kind ns (Macvlan mode) = not (is_host_ns ns)
 
-abbrev pub is_shared_kind : LinkKind → Bool
-is_shared_kind Device = true
-is_shared_kind Bridge = true
-is_shared_kind Veth = false
-is_shared_kind (Macvlan mode) = false
+abbrev pub is_unowned_kind : LinkKind → Bool
+is_unowned_kind Device = true
+is_unowned_kind Bridge = true
+is_unowned_kind Veth = false
+is_unowned_kind (Macvlan mode) = false
 
 abbrev pub link_fits_tag : Link → Tag → Bool
-link_fits_tag link Outside = is_shared_kind link.kind
-link_fits_tag link Base = is_shared_kind link.kind && is_host_ns link.ns
+link_fits_tag link Outside = is_unowned_kind link.kind
+link_fits_tag link Base = is_unowned_kind link.kind && is_host_ns link.ns
 link_fits_tag link (Own att) = is_owned_kind link.ns link.kind
 
 -- the link at the peer's place names this one as its peer and has its tag
@@ -68,7 +72,7 @@ peer_fits links link (Some key) =
     is_veth link.kind && list_any (peers_back link key) links && not (is_host_ns link.ns && is_host_ns key.ns) && (is_host_ns link.ns || is_host_ns key.ns)
 
 pub record AreLinks (namespaces : List NsObj) (links : List Link) : Type 0 where
-  pub keys : HasDistinct (λ a b. is_at b.ns b.name a) links
+  pub keys : HasDistinctKeys is_same_link links
   pub tags : AllPassTest (λ l. link_fits_tag l l.tag) links
   pub places : AllPassTest (λ l. is_host_or_ns namespaces l.ns) links
   pub peers : AllPassTest (λ l. peer_fits links l l.peer) links
@@ -81,17 +85,17 @@ address_fits_tag links a Base = is_host_ns a.ns && has_bridge_in links a.link
 address_fits_tag links a (Own att) = has_link_in links a.ns a.link (Own att)
 
 pub record AreAddresses (links : List Link) (addresses : List AddrObj) : Type 0 where
-  pub keys : HasDistinct (λ a b. is_same_addr b a) addresses
-  pub lie : AllPassTest (λ a. address_fits_tag links a a.tag) addresses
+  pub keys : HasDistinctKeys is_same_addr addresses
+  pub on_links : AllPassTest (λ a. address_fits_tag links a a.tag) addresses
 
 pub record AreRoutes (links : List Link) (routes : List RouteObj) : Type 0 where
-  pub keys : HasDistinct (λ a b. is_same_route b a) routes
-  pub lie : AllPassTest (λ r. has_link_in links r.ns r.link r.tag) routes
+  pub keys : HasDistinctKeys is_same_route routes
+  pub on_links : AllPassTest (λ r. has_link_in links r.ns r.link r.tag) routes
 
 -- ---- the rest
 
 pub record AreRules (rules : List Rule) : Type 0 where
-  pub keys : HasDistinct (λ a b. rule_eq a b) rules
+  pub keys : HasDistinctKeys is_same_rule rules
   pub tags : AllPassTest (λ r. is_owned r.tag) rules
 
 abbrev pub setting_fits_tag : List NsObj → Setting → Tag → Bool
@@ -100,19 +104,19 @@ setting_fits_tag namespaces s Base = is_host_ns s.ns
 setting_fits_tag namespaces s (Own att) = is_host_or_ns namespaces s.ns
 
 pub record AreSettings (namespaces : List NsObj) (settings : List Setting) : Type 0 where
-  pub keys : HasDistinct (λ a b. is_same_setting b a) settings
+  pub keys : HasDistinctKeys is_same_setting settings
   pub tags : AllPassTest (λ s. setting_fits_tag namespaces s s.tag) settings
 
 pub record AreLeases (leases : List Lease) : Type 0 where
-  pub keys : HasDistinct (λ a b. bytes_eq a.network b.network && addr_eq a.addr b.addr) leases
+  pub keys : HasDistinctKeys is_same_lease leases
   pub tags : AllPassTest (λ l. is_some (owner_in l.network l.tag)) leases
 
 pub record AreCached (cached : List CachedObj) : Type 0 where
-  pub keys : HasDistinct (λ a b. tag_eq a.tag b.tag) cached
+  pub keys : HasDistinctKeys is_same_cached cached
   pub tags : AllPassTest (λ c. is_owned c.tag) cached
 
 pub record AreLasts (lasts : List Last) : Type 0 where
-  pub keys : HasDistinct (λ a b. is_of_pool b.network b.set a) lasts
+  pub keys : HasDistinctKeys is_same_last lasts
 
 pub record IsSound (host : Host) : Type 0 where
   pub namespaces : AreNamespaces host.namespaces
@@ -145,3 +149,8 @@ NoAddressTwice network host = HasDistinct addr_eq (leased_addresses host network
 -- the other link stands at this one's place, or at that of its peer
 abbrev pub is_link_or_peer : Link → Link → Bool
 is_link_or_peer link other = is_at link.ns link.name other || is_peer_at other.ns other.name link.peer
+
+-- the other link stands in the namespace, or is the peer of a link that does
+abbrev pub is_in_ns_or_peer : List ℕ → List Link → Link → Bool
+is_in_ns_or_peer name links other =
+    bytes_eq other.ns name || list_any (λ l. bytes_eq l.ns name && is_peer_at other.ns other.name l.peer) links

@@ -1,8 +1,7 @@
 -- What a call may change.
 use Rattle.std.specs.Prelude.{◌≡◌, ℕ, Bool, true, false, not, List, [], ◌∷◌, ◌++◌, ◌⊎◌}
 use Rattle.std.specs.List.{list_all}
-use Rattle.kernel_types.specs.Apply.Calls.{is_of_pool}
-use Rattle.kernel_types.specs.Words.{is_own}
+use Rattle.kernel_types.specs.Words.{is_of_pool, is_own}
 use Rattle.kernel_types.specs.declared.object.AddrObj.{AddrObj}
 use Rattle.kernel_types.specs.declared.object.Att.{Att}
 use Rattle.kernel_types.specs.declared.object.Host.{Host}
@@ -53,7 +52,7 @@ pub record TouchesOwnAndLast (att : Att) (network : List ℕ) (number : ℕ) (ol
   pub own : TouchesOwn att old new
   pub lasts : ChangesOnly (is_of_pool network number) old.lasts new.lasts
 
--- the same by the tag of an object that is made
+-- the same by the tag of an object that is made; no call that may be made makes one of the first two tags
 abbrev pub TouchesTag : Tag → Host → Host → Type 0
 TouchesTag tags.Outside old new = new ≡ old
 TouchesTag tags.Base old new = new ≡ old

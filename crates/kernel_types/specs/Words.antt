@@ -1,19 +1,20 @@
 -- What is asked of a host.
-use Rattle.std.specs.Prelude.{ℕ, Bool, true, false, ◌&&◌, ◌||◌, ◌==◌, List, length, Option, Some, None, find, option_map}
+use Rattle.std.specs.Prelude.{ℕ, Bool, true, false, ◌&&◌, ◌||◌, ◌==◌, List, length, map, filter, Option, Some, None, find, option_map, if◌then◌else◌}
 use Rattle.std.specs.List.{list_any}
 use Rattle.std.specs.Str.{bytes_eq}
 use Rattle.cni_addr.specs.declared.address.Addr.{Addr}
 use Rattle.cni_addr.specs.declared.mac.Mac.{Mac}
 use Rattle.cni_result.specs.declared.cached.Cached.{Cached}
-use Rattle.kernel_types.specs.Equal.{att_eq, mac_eq, tag_eq}
+use Rattle.kernel_types.specs.Equal.{att_eq, addr_eq, mac_eq, tag_eq}
 use Rattle.kernel_types.specs.declared.object.Att.{Att}
 use Rattle.kernel_types.specs.declared.object.LinkKey.{LinkKey}
 use Rattle.kernel_types.specs.declared.object.Tag.{Tag}
-use Rattle.kernel_types.specs.declared.object.Tag.TheVariants.{Outside, Own}
+use Rattle.kernel_types.specs.declared.object.Tag.TheVariants.{Outside, Base, Own}
 use Rattle.kernel_types.specs.declared.object.LinkKind.{LinkKind}
 use Rattle.kernel_types.specs.declared.object.LinkKind.TheVariants.{Bridge, Veth, Macvlan}
 use Rattle.kernel_types.specs.declared.object.Link.{Link}
 use Rattle.kernel_types.specs.declared.object.Lease.{Lease}
+use Rattle.kernel_types.specs.declared.object.Last.{Last}
 use Rattle.kernel_types.specs.declared.object.NsObj.{NsObj}
 use Rattle.kernel_types.specs.declared.object.Host.{Host}
 
@@ -93,10 +94,11 @@ link_at host ns name = link_in host.links ns name
 abbrev pub is_host_link : List ℕ → Link → Bool
 is_host_link name link = is_host_ns link.ns && bytes_eq link.name name
 
+-- a bridge of the host of this name
 abbrev pub is_host_bridge : List ℕ → Link → Bool
 is_host_bridge name link = is_host_link name link && is_bridge link.kind
 
--- and has this hardware address
+-- a bridge of the host of this name and hardware address
 abbrev pub is_bridge_with : List ℕ → Mac → Link → Bool
 is_bridge_with name mac link = is_host_bridge name link && mac_eq link.mac mac
 
@@ -129,3 +131,34 @@ is_link_of ns name tag link = is_at ns name link && tag_eq link.tag tag
 -- what is kept of the attachment's result
 abbrev pub cached_in : Host → Att → Option Cached
 cached_in host att = option_map (λ c. c.cached) (find (λ c. is_own att c.tag) host.cached)
+
+-- a link of this tag at this place is there to lie on
+abbrev pub has_link_in : List Link → List ℕ → List ℕ → Tag → Bool
+has_link_in links ns name tag = list_any (is_link_of ns name tag) links
+
+-- the attachment of this network that the tag names
+abbrev pub owner_in : List ℕ → Tag → Option Att
+owner_in network Outside = None
+owner_in network Base = None
+owner_in network (Own att) = if bytes_eq att.network network then Some att else None
+
+-- ---- leases
+
+-- the lease is of this network and address
+abbrev pub is_lease_at : List ℕ → Addr → Lease → Bool
+is_lease_at network addr lease = bytes_eq lease.network network && addr_eq lease.addr addr
+
+abbrev pub addresses_in : List Lease → List ℕ → List Addr
+addresses_in leases network = map (λ l. l.addr) (filter (λ l. bytes_eq l.network network) leases)
+
+abbrev pub leased_addresses : Host → List ℕ → List Addr
+leased_addresses host network = addresses_in host.leases network
+
+abbrev pub is_of_pool : List ℕ → ℕ → Last → Bool
+is_of_pool network number last = bytes_eq last.network network && last.set == number
+
+abbrev pub last_in : List Last → List ℕ → ℕ → Option Addr
+last_in lasts network number = option_map (λ l. l.addr) (find (is_of_pool network number) lasts)
+
+abbrev pub last_leased : Host → List ℕ → ℕ → Option Addr
+last_leased host network number = last_in host.lasts network number

@@ -1,19 +1,20 @@
 //! Laws of the modelled kernel, each carried by a function that does nothing.
 //!
-//! A caller that has a sound host, and a call that may be made in it, calls the function where its proof wants the law.
-//! The lemmas behind them stand in `proofs/`: `EveryCall` has the laws over all calls, `Isolation`, `SoundHosts` and
-//! `LeasedAddress` what follows.
+//! A caller that has a sound host, and a call that may be made in it, calls the function where its proof wants the law,
+//! or a lemma above this crate cites the lemma that its answer names. These stand in `proofs/`: `EveryCall` has the laws
+//! over all calls, `Isolation`, `SoundHosts` and `LeasedAddress` what follows.
 
 ghost use Rattle.std.specs.Prelude.{◌≡◌, true, false, Contains, Some};
 ghost use Rattle.ip_pool.specs.NextAddress.{is_candidate, is_taken, IsExhausted, IsNextAddress};
 ghost use Rattle.kernel_types.specs.Allowed.{IsAllowed};
 ghost use Rattle.kernel_types.specs.Apply.{apply};
-ghost use Rattle.kernel_types.specs.Apply.Calls.{goes_with, last_leased, lease_next_of, leased_addresses};
+ghost use Rattle.kernel_types.specs.Apply.Calls.{goes_with, goes_with_ns, lease_next_of};
 ghost use Rattle.kernel_types.specs.Isolation.{deletes_for, ensures_shared, is_from_outside, KeepsPart, KeepsUnowned, names_att, RemovesOwn};
 ghost use Rattle.kernel_types.specs.Opening.{opening_with, AreNamespaceNames, AreOutsideLinks};
 ghost use Rattle.kernel_types.specs.Replies.{is_fault, holds_text_or_list};
-ghost use Rattle.kernel_types.specs.Sound.{AreInPlaces, IsSound, is_link_or_peer, NoAddressTwice, NoNamespaceOwned};
+ghost use Rattle.kernel_types.specs.Sound.{AreInPlaces, IsSound, is_in_ns_or_peer, is_link_or_peer, NoAddressTwice, NoNamespaceOwned};
 ghost use Rattle.kernel_types.specs.Touch.{Touches};
+ghost use Rattle.kernel_types.specs.Words.{last_leased, leased_addresses};
 
 use crate::call::{Call, Reply};
 use crate::object::{Att, Host, Link};
@@ -98,6 +99,13 @@ pub fn only_the_peer_goes_with_a_link(host: &Host, link: &Link, other: &Link)
     requires link { Contains host.now.links link.now }
     requires other { Contains host.now.links other.now }
     ensures { goes_with link.now.ns link.now.name other.now ≡ is_link_or_peer link.now other.now }
+{}
+
+/// In a sound host exactly the links in a namespace and their peers go with it.
+pub fn only_its_links_and_their_peers_go_with_a_namespace(host: &Host, name: &Text, other: &Link)
+    requires sound { IsSound host.now }
+    requires other { Contains host.now.links other.now }
+    ensures { goes_with_ns name.now other.now ≡ is_in_ns_or_peer name.now host.now.links other.now }
 {}
 
 /// The address that LeaseNext replies was free and is a candidate of its set, and it is then the last of its pool.

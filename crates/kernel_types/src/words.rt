@@ -3,8 +3,8 @@
 
 ghost use Rattle.std.specs.Prelude.{◌≡◌, find};
 ghost use Rattle.std.specs.Option.{option_copied};
-ghost use Rattle.kernel_types.specs.Apply.Calls.{is_of_pool, last_in, is_same_addr, is_same_route, is_same_setting};
-ghost use Rattle.kernel_types.specs.Words.{is_at, is_bridge, is_host_ns, is_macvlan, is_owned, is_peer_at, is_veth};
+ghost use Rattle.kernel_types.specs.Keys.{is_same_addr, is_same_route, is_same_setting};
+ghost use Rattle.kernel_types.specs.Words.{is_at, is_bridge, is_host_ns, is_macvlan, is_owned, is_peer_at, is_veth, is_of_pool, last_in};
 
 use crate::object::{AddrObj, Last, Link, LinkKey, LinkKind, RouteObj, Setting, Tag};
 use cni_addr::{Addr, Text};
@@ -74,7 +74,7 @@ impl Last {
     }
 }
 
-fn last_lease_of<'a>(lasts: &'a [Last], network: &Text, number: u32) -> Option<&'a Last>
+fn last_of_pool<'a>(lasts: &'a [Last], network: &Text, number: u32) -> Option<&'a Last>
     ensures { option_copied result ≡ find (is_of_pool network.now number) lasts.now }
 {
     lasts.iter().find(|l| l.is_of_pool(network, number))
@@ -84,7 +84,7 @@ fn last_lease_of<'a>(lasts: &'a [Last], network: &Text, number: u32) -> Option<&
 pub fn last_in(lasts: &[Last], network: &Text, number: u32) -> Option<Addr>
     ensures { result ≡ last_in lasts.now network.now number }
 {
-    last_lease_of(lasts, network, number).map(|last| last.addr)
+    last_of_pool(lasts, network, number).map(|last| last.addr)
 }
 
 // ---- the keys of objects that a call adds unless their key is taken

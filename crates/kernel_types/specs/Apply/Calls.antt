@@ -10,10 +10,12 @@ use Rattle.cni_addr.specs.declared.address.Family.TheVariants.{V4, V6}
 use Rattle.cni_addr.specs.declared.mac.Mac.{Mac}
 use Rattle.cni_addr.specs.declared.range.RangeSet.{RangeSet}
 use Rattle.cni_result.specs.declared.cached.Cached.{Cached}
-use Rattle.kernel_types.specs.Equal.{att_eq, addr_eq, cidr_eq, link_eq, addr_obj_eq, route_eq, rule_eq, setting_eq, lease_eq, table_eq}
+use Rattle.kernel_types.specs.Equal.{att_eq, link_eq, addr_obj_eq, route_eq, rule_eq, setting_eq, lease_eq, table_eq}
 use Rattle.cni_addr.specs.Lists.{each_key_once, without_first}
 use Rattle.ip_pool.specs.Pool.{pick_of, has_free_of}
+pub use Rattle.kernel_types.specs.Keys.{is_same_addr, is_same_route, is_same_rule, is_same_setting}
 use Rattle.kernel_types.specs.Names.{link_mac_of}
+pub use Rattle.kernel_types.specs.Words.{has_link_in, addresses_in, is_of_pool, last_in, last_leased, leased_addresses, owner_in}
 use Rattle.kernel_types.specs.Words.{is_host_or_ns, is_own, is_owned, is_bridge, is_at, is_peer_at, has_named_ns, link_at, is_host_link, is_bridge_with, has_host_bridge, has_objects, is_link_of, new_link, lease_of, cached_in, outside_namespace}
 use Rattle.kernel_types.specs.declared.object.Att.{Att}
 use Rattle.kernel_types.specs.declared.object.LinkKey.{LinkKey}
@@ -46,17 +48,6 @@ append_unless_taken (Some tag) host next = (host, Taken tag)
 -- where it is there already, the host stays and this is the reply; else the host goes on to the next
 abbrev pub unless_there : Bool → Reply → Host → Host → Host × Reply
 unless_there there reply host next = if there then (host, reply) else (next, Done)
-
--- ---- keys: what stands in the way of a new object
-
-abbrev pub is_same_addr : AddrObj → AddrObj → Bool
-is_same_addr new a = bytes_eq a.ns new.ns && bytes_eq a.link new.link && addr_eq a.cidr.addr new.cidr.addr
-
-abbrev pub is_same_route : RouteObj → RouteObj → Bool
-is_same_route new r = bytes_eq r.ns new.ns && cidr_eq r.dst new.dst && bytes_eq r.link new.link
-
-abbrev pub is_same_setting : Setting → Setting → Bool
-is_same_setting new s = bytes_eq s.ns new.ns && bytes_eq s.key new.key
 
 -- ---- before an attachment
 
@@ -100,14 +91,14 @@ forward_ensure_of host family =
 -- ---- the objects of one attachment
 
 -- the link's master, if it has one, is a bridge of the host
-abbrev pub has_bridge_as_master : Host → Option (List ℕ) → Bool
-has_bridge_as_master host None = true
-has_bridge_as_master host (Some master) = has_host_bridge host master
+abbrev pub master_is_bridge_or_none : Host → Option (List ℕ) → Bool
+master_is_bridge_or_none host None = true
+master_is_bridge_or_none host (Some master) = has_host_bridge host master
 
 abbrev pub veth_add_of : Host → Link → Link → Host × Reply
 veth_add_of host host_end inner_end =
     if has_named_ns host inner_end.ns
-    then (if has_bridge_as_master host host_end.master
+    then (if master_is_bridge_or_none host host_end.master
     then append_unless_taken
     (option_map (λ l. l.tag) (option_or (link_at host inner_end.ns inner_end.name) (link_at host host_end.ns host_end.name)))
     host (record host { links = host.links ++ host_end ∷ inner_end ∷ [] })
@@ -156,9 +147,6 @@ link_set_of host att key mac mtu tx_qlen promisc allmulti =
     else (host, NoLink)
 
 -- a link of this tag is there to lie on
-abbrev pub has_link_in : List Link → List ℕ → List ℕ → Tag → Bool
-has_link_in links ns name tag = list_any (is_link_of ns name tag) links
-
 abbrev pub has_link_of : Host → List ℕ → List ℕ → Tag → Bool
 has_link_of host ns name tag = has_link_in host.links ns name tag
 
@@ -176,7 +164,7 @@ route_add_of host obj =
 
 abbrev pub rule_append_of : Host → Rule → Host × Reply
 rule_append_of host rule =
-    unless_there (list_any (λ r. rule_eq r rule) host.rules) (Taken rule.tag) host (record host { rules = host.rules ++ rule ∷ [] })
+    unless_there (list_any (is_same_rule rule) host.rules) (Taken rule.tag) host (record host { rules = host.rules ++ rule ∷ [] })
 
 abbrev pub setting_set_of : Host → Setting → Host × Reply
 setting_set_of host setting =
@@ -185,21 +173,6 @@ setting_set_of host setting =
     else (host, NoNs)
 
 -- ---- addresses of a pool
-
-abbrev pub addresses_in : List Lease → List ℕ → List Addr
-addresses_in leases network = map (λ l. l.addr) (filter (λ l. bytes_eq l.network network) leases)
-
-abbrev pub leased_addresses : Host → List ℕ → List Addr
-leased_addresses host network = addresses_in host.leases network
-
-abbrev pub is_of_pool : List ℕ → ℕ → Last → Bool
-is_of_pool network number last = bytes_eq last.network network && last.set == number
-
-abbrev pub last_in : List Last → List ℕ → ℕ → Option Addr
-last_in lasts network number = option_map (λ l. l.addr) (find (is_of_pool network number) lasts)
-
-abbrev pub last_leased : Host → List ℕ → ℕ → Option Addr
-last_leased host network number = last_in host.lasts network number
 
 abbrev pub moved_last : List ℕ → ℕ → Addr → Last → Last
 moved_last network number addr last = if is_of_pool network number last then record last { addr = addr } else last
@@ -290,12 +263,6 @@ tags_of host kinds.Rules = map (λ r. r.tag) host.rules
 tags_of host kinds.Settings = map (λ s. s.tag) host.settings
 tags_of host kinds.Leases = map (λ l. l.tag) host.leases
 tags_of host kinds.Cached = map (λ c. c.tag) host.cached
-
--- the attachment of this network that the tag names
-abbrev pub owner_in : List ℕ → Tag → Option Att
-owner_in network Outside = None
-owner_in network Base = None
-owner_in network (Own att) = if bytes_eq att.network network then Some att else None
 
 abbrev pub owners_of : Host → List ℕ → Kind → Host × Reply
 owners_of host network kind = (host, Owners (each_key_once att_eq (filter_map (owner_in network) (tags_of host kind))))

@@ -1,0 +1,46 @@
+-- When an object has the key of a new one: a list has at most one object of each key.
+use Rattle.std.specs.Prelude.{Bool, ◌&&◌}
+use Rattle.std.specs.Str.{bytes_eq}
+use Rattle.kernel_types.specs.Equal.{addr_eq, cidr_eq, rule_eq, tag_eq}
+use Rattle.kernel_types.specs.Words.{is_at, is_lease_at, is_of_pool}
+use Rattle.kernel_types.specs.declared.object.NsObj.{NsObj}
+use Rattle.kernel_types.specs.declared.object.Link.{Link}
+use Rattle.kernel_types.specs.declared.object.AddrObj.{AddrObj}
+use Rattle.kernel_types.specs.declared.object.RouteObj.{RouteObj}
+use Rattle.kernel_types.specs.declared.rule.Rule.{Rule}
+use Rattle.kernel_types.specs.declared.object.Setting.{Setting}
+use Rattle.kernel_types.specs.declared.object.Lease.{Lease}
+use Rattle.kernel_types.specs.declared.object.CachedObj.{CachedObj}
+use Rattle.kernel_types.specs.declared.object.Last.{Last}
+
+abbrev pub is_same_namespace : NsObj → NsObj → Bool
+is_same_namespace new n = bytes_eq n.name new.name
+
+abbrev pub is_same_link : Link → Link → Bool
+is_same_link new l = is_at new.ns new.name l
+
+-- whatever the prefix
+abbrev pub is_same_addr : AddrObj → AddrObj → Bool
+is_same_addr new a = bytes_eq a.ns new.ns && bytes_eq a.link new.link && addr_eq a.cidr.addr new.cidr.addr
+
+-- whatever the gateway
+abbrev pub is_same_route : RouteObj → RouteObj → Bool
+is_same_route new r = bytes_eq r.ns new.ns && cidr_eq r.dst new.dst && bytes_eq r.link new.link
+
+-- by all its fields
+abbrev pub is_same_rule : Rule → Rule → Bool
+is_same_rule new r = rule_eq r new
+
+-- whatever the value
+abbrev pub is_same_setting : Setting → Setting → Bool
+is_same_setting new s = bytes_eq s.ns new.ns && bytes_eq s.key new.key
+
+-- whoever has leased it
+abbrev pub is_same_lease : Lease → Lease → Bool
+is_same_lease new l = is_lease_at new.network new.addr l
+
+abbrev pub is_same_cached : CachedObj → CachedObj → Bool
+is_same_cached new c = tag_eq c.tag new.tag
+
+abbrev pub is_same_last : Last → Last → Bool
+is_same_last new l = is_of_pool new.network new.set l
