@@ -4,6 +4,7 @@ pub mod EachLemmas
 pub mod Endings
 pub mod LineFeed
 pub mod Lines
+pub mod ObjectLemmas
 pub mod OnLiterals
 pub mod OutcomeLemmas
 pub mod ReadingLemmas

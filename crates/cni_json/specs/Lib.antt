@@ -2,6 +2,7 @@ pub mod Each
 pub mod Fields
 pub mod Json
 pub mod Laws
+pub mod Members
 pub mod Outcome
 pub mod ReadEnds
 pub mod Readers

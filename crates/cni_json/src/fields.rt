@@ -2,7 +2,7 @@
 
 ghost use Rattle.std.specs.Prelude.{◌≡◌, Err, option_map};
 ghost use Rattle.serde_json.specs.View.{view, items_view};
-ghost use Rattle.cni_json.specs.Fields.{field_map, member_at, text_field, bool_field, u64_field, u32_field, has_32_bits, list_field, object_field, object_or};
+ghost use Rattle.cni_json.specs.Fields.{field_map, member_at, of_kind, text_field, bool_field, u64_field, u32_field, u32_of, list_field, object_field, object_or};
 ghost use Rattle.cni_json.specs.Outcome.{GivesAs};
 ghost use Rattle.cni_json.specs.Readers.{IsRefusal};
 
@@ -27,6 +27,16 @@ pub fn member<'a>(object: &'a Value, key: &str) -> Option<&'a Value>
     match object.get(key) {
         None | Some(Value::Null) => None,
         there => there,
+    }
+}
+
+/// A value that is there, of the wanted kind or of another.
+fn of_kind<T>(found: Option<T>) -> Field<T>
+    ensures { result ≡ of_kind found }
+{
+    match found {
+        Some(value) => Field::Here(value),
+        None => Field::WrongKind,
     }
 }
 
@@ -58,10 +68,7 @@ pub fn field_u64(object: &Value, key: &str) -> Field<u64>
 {
     match member(object, key) {
         None => Field::Absent,
-        Some(value) => match value.as_u64() {
-            Some(number) => Field::Here(number),
-            None => Field::WrongKind,
-        },
+        Some(value) => of_kind(value.as_u64()),
     }
 }
 
@@ -71,18 +78,15 @@ pub fn field_u32(object: &Value, key: &str) -> Field<u32>
 {
     match member(object, key) {
         None => Field::Absent,
-        Some(value) => match value.as_u64() {
-            Some(number) if has_32_bits(number) => Field::Here(number as u32),
-            _ => Field::WrongKind,
-        },
+        Some(value) => of_kind(u32_of(value)),
     }
 }
 
-/// Whether the number has 32 bits.
-pub fn has_32_bits(number: u64) -> bool
-    ensures { result ≡ has_32_bits number }
+/// The value as a whole number of 32 bits, where it is one.
+pub fn u32_of(value: &Value) -> Option<u32>
+    ensures { result ≡ u32_of (view value.now) }
 {
-    number <= 4_294_967_295
+    u32::try_from(value.as_u64()?).ok()
 }
 
 /// The member that is a list, as the slice of its items.

@@ -1,4 +1,5 @@
-//! JSON texts (RFC 8259) as values, the members of an object by their kind, and a value as a line.
+//! JSON texts (RFC 8259) as values, the members of an object by their kind, objects that are built, and a value as a
+//! line.
 //!
 //! The reading and the text are `serde_json`'s. This crate adds what each reader of configuration
 //! asks besides: each number of a value is a `u64` or an `i64`, and a member that is null is as an
@@ -11,6 +12,7 @@
 //!   `each_from` of a function that is told the member's place too, and `read_each_after` gives `each_after` of one
 //!   that is told what stands before the member. `read_list_or` gives `list_or` of the list under a key, and
 //!   `need_object` `object_or` of a value.
+//! - An object that `JsonObject` builds has the members that were put into it, in ascending byte order of their keys.
 //! - `line` writes `line_of` of the value.
 //! - What a line was written for is what it is read as (`a_line_is_read_again`), and the keys of
 //!   each object that is read ascend (`keys_ascend`).
@@ -33,6 +35,7 @@
 mod fields;
 mod laws;
 mod lists;
+mod members;
 mod reading;
 mod refusal;
 #[cfg(test)]
@@ -40,11 +43,12 @@ mod tests;
 mod writing;
 
 pub use fields::{
-    Field, field_bool, field_list, field_object, field_str, field_u32, field_u64, has_32_bits,
-    member, need_object,
+    Field, field_bool, field_list, field_object, field_str, field_u32, field_u64, member,
+    need_object, u32_of,
 };
 pub use laws::{a_line_feed_is_space, a_line_is_read_again, keys_ascend};
 pub use lists::{read_each, read_each_after, read_each_placed, read_list_or};
+pub use members::{JsonObject, ToJson, list_value};
 pub use reading::{ReadEnd, read};
 pub use refusal::Refusal;
 pub use serde_json::{Map, Value};

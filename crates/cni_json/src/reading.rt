@@ -13,7 +13,7 @@ use serde_json::{Map, Value};
 use std::alloc::Global;
 
 /// Why bytes were not read.
-#[derive(Clone, Copy, Debug)]
+#[derive(Clone, Copy, Debug, PartialEq, Eq)]
 pub enum ReadEnd {
     /// The bytes are no JSON text (RFC 8259) in UTF-8, have a number too large for an `f64`, or
     /// nest more than 127 lists and objects into one another.
@@ -22,26 +22,6 @@ pub enum ReadEnd {
     Number,
     /// Memory ran out.
     NoMemory,
-}
-
-impl PartialEq for ReadEnd {
-    ghost use Rattle.std.specs.Cmp.{partial_equiv_from_equiv, on_equiv, nat_eq_equiv};
-    ghost use Rattle.cni_json.specs.ReadEnds.{read_end_code, read_end_eq};
-
-    ghost eq = { read_end_eq };
-
-    ghost laws = { partial_equiv_from_equiv (on_equiv read_end_code nat_eq_equiv) };
-
-    fn eq(&self, other: &ReadEnd) -> bool {
-        *self as u8 == *other as u8
-    }
-}
-
-impl Eq for ReadEnd {
-    ghost use Rattle.std.specs.Cmp.{on_equiv, nat_eq_equiv};
-    ghost use Rattle.cni_json.specs.ReadEnds.{read_end_code};
-
-    ghost laws = { on_equiv read_end_code nat_eq_equiv };
 }
 
 /// The value that the bytes are.

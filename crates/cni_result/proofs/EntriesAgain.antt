@@ -18,10 +18,10 @@ use Rattle.cni_result.proofs.Lookups.{at_other, at_other_if, at_key_if}
 use Rattle.cni_result.proofs.ReadAgain.{cidr_again, optional_again, number_again}
 use Rattle.cni_result.specs.Fields.{optional}
 use Rattle.cni_result.specs.Laws.{IsInterfaceOf, IsIpEntry, IsRouteEntry}
-use Rattle.cni_result.specs.Members.{text_data, number_data, ◌▷◌, put_if}
+use Rattle.cni_json.specs.Members.{text_data, number_data, addr_data, cidr_data, mac_data, ◌▷◌, put_if}
 use Rattle.cni_result.specs.Reading.{text_at, text_if_at, cidr_of, cidr_at, addr_if_at, mac_if_at, number_if_at, mtu_if_at, interface_at, ip_at, route_at}
 use Rattle.cni_result.specs.Refusals.{invalid}
-use Rattle.cni_result.specs.Results.{mac_data, addr_data, cidr_data, interface_data, ip_data, route_data}
+use Rattle.cni_result.specs.Results.{interface_data, ip_data, route_data}
 use Rattle.cni_result.specs.Versions.{mtu_since_1_1}
 use Rattle.cni_result.specs.declared.result.Interface.{Interface}
 use Rattle.cni_result.specs.declared.result.IpEntry.{IpEntry}

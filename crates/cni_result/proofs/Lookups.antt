@@ -5,7 +5,7 @@ use Rattle.std.proofs.lemmas.Slice.Eq.{bytes_eq-Decides}
 use Rattle.serde_json.proofs.Views.{get_member-put, get_member-put_other}
 use Rattle.serde_json.specs.Data.{Data, string, object, Members, no_members, member, put}
 use Rattle.serde_json.specs.Find.{get_member}
-use Rattle.cni_result.specs.Members.{list_data, put_if, put_text_unless_empty, put_list_unless_empty, put_object_unless_empty}
+use Rattle.cni_json.specs.Members.{list_data, put_if, put_text_unless_empty, put_list_unless_empty, put_object_unless_empty}
 
 -- ---- at another key
 

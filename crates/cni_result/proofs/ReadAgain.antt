@@ -14,7 +14,7 @@ use Rattle.cni_json.specs.Each.{each}
 use Rattle.cni_addr.specs.CidrText.{cidr_of_text}
 use Rattle.cni_addr.specs.Value.{CidrValue}
 use Rattle.cni_result.specs.Reading.{cidr_of}
-use Rattle.cni_result.specs.Members.{text_data, number_data}
+use Rattle.cni_json.specs.Members.{text_data, number_data}
 use Rattle.cni_result.specs.Dns.{domain_of, dns_of, words_at, domain_at, dns_members_at}
 use Rattle.cni_result.specs.declared.refusal.ResultError.{ResultError}
 use Rattle.cni_result.specs.declared.result.Dns.{Dns}

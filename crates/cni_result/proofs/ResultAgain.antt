@@ -15,7 +15,7 @@ use Rattle.cni_result.proofs.ReadAgain.{each_again, list_again, list_if_again, d
 use Rattle.cni_result.specs.Dns.{word_of, words_of, words_at, domain_of, domain_at, dns_members_at, dns_of, dns_of_object}
 use Rattle.cni_result.specs.Fields.{list_of, list_at}
 use Rattle.cni_result.specs.Laws.{IsInterfaceOf, IsIpEntry, IsRouteEntry, IsReadable}
-use Rattle.cni_result.specs.Members.{text_data, list_data, ◌▷◌, put_text_unless_empty, put_list_unless_empty, put_object_unless_empty}
+use Rattle.cni_json.specs.Members.{text_data, list_data, ◌▷◌, put_text_unless_empty, put_list_unless_empty, put_object_unless_empty}
 use Rattle.cni_result.specs.Reading.{version_of, version_at, interface_at, interfaces_at, ip_at, ips_at, route_at, routes_at, indexes_at, result_at, result_of_bytes}
 use Rattle.cni_result.specs.Results.{version_data, interface_data, ip_data, route_data, dns_members, result_members, result_data}
 use Rattle.cni_result.specs.declared.refusal.ResultError.{ResultError}

@@ -2,8 +2,7 @@
 use Rattle.std.specs.Prelude.{ℕ, List, codes, Option, find}
 use Rattle.std.specs.Str.{bytes_eq}
 use Rattle.serde_json.specs.Data.{Data, object, no_members, put}
-use Rattle.cni_result.specs.Members.{text_data, number_data, ◌▷◌, put_if}
-use Rattle.cni_result.specs.Results.{addr_data}
+use Rattle.cni_json.specs.Members.{text_data, number_data, addr_data, ◌▷◌, put_if}
 use Rattle.cni_result.specs.declared.cached.PortMapping.{PortMapping}
 use Rattle.cni_result.specs.declared.cached.TheConstants.Proto.{ALL}
 use Rattle.cni_result.specs.declared.cached.Proto.{Proto}

@@ -1,12 +1,7 @@
 -- Results and errors as JSON (CNI specification 1.1.0, section 5).
 use Rattle.std.specs.Prelude.{codes}
 use Rattle.serde_json.specs.Data.{Data, object, Members, no_members, put}
-use Rattle.cni_addr.specs.AddrText.{addr_text}
-use Rattle.cni_addr.specs.CidrText.{cidr_text}
-use Rattle.cni_addr.specs.MacText.{mac_text}
-use Rattle.cni_addr.specs.Value.{AddrValue, CidrValue}
-use Rattle.cni_addr.specs.declared.mac.Mac.{Mac}
-use Rattle.cni_result.specs.Members.{text_data, number_data, list_data, ◌▷◌, put_if, put_text_unless_empty, put_list_unless_empty, put_object_unless_empty}
+use Rattle.cni_json.specs.Members.{addr_data, cidr_data, mac_data, text_data, number_data, list_data, ◌▷◌, put_if, put_text_unless_empty, put_list_unless_empty, put_object_unless_empty}
 use Rattle.cni_result.specs.Versions.{version_text, mtu_since_1_1}
 use Rattle.cni_result.specs.declared.error.CniError.{CniError}
 use Rattle.cni_result.specs.declared.result.AddResult.{AddResult}
@@ -18,15 +13,6 @@ use Rattle.cni_result.specs.declared.version.Version.{Version}
 
 abbrev pub version_data : Version → Data
 version_data version = text_data (version_text version)
-
-abbrev pub addr_data : AddrValue → Data
-addr_data a = text_data (addr_text a)
-
-abbrev pub cidr_data : CidrValue → Data
-cidr_data c = text_data (cidr_text c)
-
-abbrev pub mac_data : Mac → Data
-mac_data m = text_data (mac_text m)
 
 -- an entry of `interfaces`
 unfoldable pub interface_data : Version → Interface → Data

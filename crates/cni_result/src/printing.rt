@@ -3,20 +3,19 @@
 ghost use Rattle.std.specs.Prelude.{◌≡◌, false, IfOk, Ok};
 ghost use Rattle.serde_json.specs.View.{view};
 ghost use Rattle.serde_json.specs.Written.{has_float};
-ghost use Rattle.cni_result.specs.Members.{list_data, members_of};
+ghost use Rattle.cni_json.specs.Members.{list_data, members_of};
 ghost use Rattle.cni_json.specs.Json.{line_of};
 ghost use Rattle.cni_result.specs.Laws.{IsReadable};
 ghost use Rattle.cni_result.specs.Mappings.{proto_data, mapping_data};
 ghost use Rattle.cni_result.specs.Reading.{result_of_bytes};
-ghost use Rattle.cni_result.specs.Results.{version_data, addr_data, cidr_data, mac_data, interface_data, ip_data, route_data, dns_members, result_members, result_data, error_data};
+ghost use Rattle.cni_result.specs.Results.{version_data, interface_data, ip_data, route_data, dns_members, result_members, result_data, error_data};
 
 use crate::cached::{PortMapping, Proto, proto_text};
 use crate::error::CniError;
-use crate::members::{JsonObject, ToJson};
 use crate::result::{AddResult, Dns, Interface, IpEntry, RouteEntry};
 use crate::version::{Version, mtu_since_1_1, version_text};
-use cni_addr::{Addr, Cidr, Mac, NoMemory, write_addr, write_cidr, write_mac};
-use cni_json::line;
+use cni_addr::NoMemory;
+use cni_json::{JsonObject, ToJson, line};
 use serde_json::Value;
 use std::alloc::Global;
 
@@ -25,30 +24,6 @@ impl ToJson for Version {
 
     fn to_json(&self, alloc: Global) -> Result<Value, NoMemory> {
         Ok(Value::try_from_str(alloc, version_text(*self))?)
-    }
-}
-
-impl ToJson for Addr {
-    ghost json = { addr_data };
-
-    fn to_json(&self, alloc: Global) -> Result<Value, NoMemory> {
-        write_addr(alloc, self)?.to_json(alloc)
-    }
-}
-
-impl ToJson for Cidr {
-    ghost json = { cidr_data };
-
-    fn to_json(&self, alloc: Global) -> Result<Value, NoMemory> {
-        write_cidr(alloc, self)?.to_json(alloc)
-    }
-}
-
-impl ToJson for Mac {
-    ghost json = { mac_data };
-
-    fn to_json(&self, alloc: Global) -> Result<Value, NoMemory> {
-        write_mac(alloc, self)?.to_json(alloc)
     }
 }
 

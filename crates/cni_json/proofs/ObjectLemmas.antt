@@ -3,7 +3,7 @@ use Rattle.std.proofs.Common.{◌≡◌, ℕ, List, [], ◌∷◌, length, refl}
 use Rattle.serde_json.proofs.Views.{Entry}
 use Rattle.serde_json.specs.Data.{object, Members, put}
 use Rattle.serde_json.specs.View.{members_view}
-use Rattle.cni_result.specs.Members.{put_object_unless_empty}
+use Rattle.cni_json.specs.Members.{put_object_unless_empty}
 
 -- an object that has an entry isn't left out
 pub put_object_with_entry : (key : List ℕ) (entries : List Entry) (ms : Members) → (length entries ≡ 0 → ⊥) → put key (object (members_view entries)) ms ≡ put_object_unless_empty key (members_view entries) ms

@@ -1,11 +1,11 @@
 //! JSON objects that are built member by member (RFC 8259, section 4).
 
-ghost use Rattle.std.specs.Prelude.{◌≡◌, OnOk, IfOk};
+ghost use Rattle.std.specs.Prelude.{◌≡◌, OnErr, OnOk, IfOk};
 ghost use Rattle.serde_json.specs.Data.{Data, boolean, object, no_members, put as with_member};
 ghost use Rattle.serde_json.specs.View.{view};
-ghost use Rattle.cni_result.specs.Members.{members_of, text_data, number_data, list_data, put_if, put_if_true, put_text_unless_empty, put_list_unless_empty, put_object_unless_empty};
+ghost use Rattle.cni_json.specs.Members.{members_of, text_data, number_data, addr_data, cidr_data, mac_data, list_data, put_if, put_if_true, put_text_unless_empty, put_list_unless_empty, put_object_unless_empty};
 
-use cni_addr::{NoMemory, Text};
+use cni_addr::{Addr, Cidr, Mac, NoMemory, Text, write_addr, write_cidr, write_mac};
 use serde_json::{Map, Value, put};
 use std::alloc::Global;
 
@@ -59,6 +59,30 @@ impl ToJson for bool {
     }
 }
 
+impl ToJson for Addr {
+    ghost json = { addr_data };
+
+    fn to_json(&self, alloc: Global) -> Result<Value, NoMemory> {
+        write_addr(alloc, self)?.to_json(alloc)
+    }
+}
+
+impl ToJson for Cidr {
+    ghost json = { cidr_data };
+
+    fn to_json(&self, alloc: Global) -> Result<Value, NoMemory> {
+        write_cidr(alloc, self)?.to_json(alloc)
+    }
+}
+
+impl ToJson for Mac {
+    ghost json = { mac_data };
+
+    fn to_json(&self, alloc: Global) -> Result<Value, NoMemory> {
+        write_mac(alloc, self)?.to_json(alloc)
+    }
+}
+
 /// The items as a list.
 pub fn list_value<T: ToJson>(alloc: Global, items: &[T]) -> Result<Value, NoMemory>
     ensures { IfOk result (λ v. view v ≡ list_data T.json items.now) }
@@ -71,7 +95,7 @@ pub fn list_value<T: ToJson>(alloc: Global, items: &[T]) -> Result<Value, NoMemo
 }
 
 /// An object that is being built. Contracts see its members, in ascending byte order of their keys. A member that is
-/// put at a key that is there takes the other's place.
+/// put at a key that is there takes the other's place. Where memory runs out, the object stays as it was.
 #[derive(Drop)]
 pub struct JsonObject {
     alloc: Global,
@@ -99,14 +123,16 @@ impl JsonObject {
 
     /// Puts a value that is JSON already.
     pub fn put_value(&mut self, key: &str, value: Value) -> Result<(), NoMemory>
-        ensures { OnOk result (members_of self.new ≡ with_member key.now (view value) (members_of self.old)) }
+        ensures put { OnOk result (members_of self.new ≡ with_member key.now (view value) (members_of self.old)) }
+        ensures unchanged { OnErr result (members_of self.new ≡ members_of self.old) }
     {
         Ok(put(&mut self.members, self.alloc, key, value)?)
     }
 
     /// Puts a value.
     pub fn put<T: ToJson>(&mut self, key: &str, value: &T) -> Result<(), NoMemory>
-        ensures { OnOk result (members_of self.new ≡ with_member key.now (T.json value.now) (members_of self.old)) }
+        ensures put { OnOk result (members_of self.new ≡ with_member key.now (T.json value.now) (members_of self.old)) }
+        ensures unchanged { OnErr result (members_of self.new ≡ members_of self.old) }
     {
         let value = value.to_json(self.alloc)?;
         self.put_value(key, value)
@@ -114,7 +140,8 @@ impl JsonObject {
 
     /// Puts a value, if there is one.
     pub fn put_if<T: ToJson>(&mut self, key: &str, value: &Option<T>) -> Result<(), NoMemory>
-        ensures { OnOk result (members_of self.new ≡ put_if T.json key.now value.now (members_of self.old)) }
+        ensures put { OnOk result (members_of self.new ≡ put_if T.json key.now value.now (members_of self.old)) }
+        ensures unchanged { OnErr result (members_of self.new ≡ members_of self.old) }
     {
         match value {
             Some(value) => self.put(key, value),
@@ -124,14 +151,16 @@ impl JsonObject {
 
     /// Puts a truth value that is true.
     pub fn put_if_true(&mut self, key: &str, flag: bool) -> Result<(), NoMemory>
-        ensures { OnOk result (members_of self.new ≡ put_if_true key.now flag (members_of self.old)) }
+        ensures put { OnOk result (members_of self.new ≡ put_if_true key.now flag (members_of self.old)) }
+        ensures unchanged { OnErr result (members_of self.new ≡ members_of self.old) }
     {
         if flag { self.put(key, &flag) } else { Ok(()) }
     }
 
     /// Puts a text.
     pub fn put_text(&mut self, key: &str, text: &str) -> Result<(), NoMemory>
-        ensures { OnOk result (members_of self.new ≡ with_member key.now (text_data text.now) (members_of self.old)) }
+        ensures put { OnOk result (members_of self.new ≡ with_member key.now (text_data text.now) (members_of self.old)) }
+        ensures unchanged { OnErr result (members_of self.new ≡ members_of self.old) }
     {
         let value = Value::try_from_str(self.alloc, text)?;
         self.put_value(key, value)
@@ -139,7 +168,8 @@ impl JsonObject {
 
     /// Puts a text that isn't empty.
     pub fn put_text_unless_empty(&mut self, key: &str, text: &Text) -> Result<(), NoMemory>
-        ensures { OnOk result (members_of self.new ≡ put_text_unless_empty key.now text.now (members_of self.old)) }
+        ensures put { OnOk result (members_of self.new ≡ put_text_unless_empty key.now text.now (members_of self.old)) }
+        ensures unchanged { OnErr result (members_of self.new ≡ members_of self.old) }
     {
         if text.as_str().is_empty() {
             return Ok(());
@@ -149,7 +179,8 @@ impl JsonObject {
 
     /// Puts a list.
     pub fn put_list<T: ToJson>(&mut self, key: &str, items: &[T]) -> Result<(), NoMemory>
-        ensures { OnOk result (members_of self.new ≡ with_member key.now (list_data T.json items.now) (members_of self.old)) }
+        ensures put { OnOk result (members_of self.new ≡ with_member key.now (list_data T.json items.now) (members_of self.old)) }
+        ensures unchanged { OnErr result (members_of self.new ≡ members_of self.old) }
     {
         let value = list_value(self.alloc, items)?;
         self.put_value(key, value)
@@ -161,7 +192,8 @@ impl JsonObject {
         key: &str,
         items: &[T],
     ) -> Result<(), NoMemory>
-        ensures { OnOk result (members_of self.new ≡ put_list_unless_empty T.json key.now items.now (members_of self.old)) }
+        ensures put { OnOk result (members_of self.new ≡ put_list_unless_empty T.json key.now items.now (members_of self.old)) }
+        ensures unchanged { OnErr result (members_of self.new ≡ members_of self.old) }
     {
         if items.is_empty() {
             return Ok(());
@@ -172,7 +204,8 @@ impl JsonObject {
     /// Puts an object that has a member.
     #[tactic(auto, using(crate::proofs::ObjectLemmas::put_object_with_entry))]
     pub fn put_object_unless_empty(&mut self, key: &str, inner: JsonObject) -> Result<(), NoMemory>
-        ensures { OnOk result (members_of self.new ≡ put_object_unless_empty key.now (members_of inner) (members_of self.old)) }
+        ensures put { OnOk result (members_of self.new ≡ put_object_unless_empty key.now (members_of inner) (members_of self.old)) }
+        ensures unchanged { OnErr result (members_of self.new ≡ members_of self.old) }
     {
         if inner.members.is_empty() {
             return Ok(());

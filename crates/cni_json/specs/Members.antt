@@ -2,7 +2,12 @@
 use Rattle.std.specs.Prelude.{ℕ, List, [], ◌∷◌, Bool, true, if◌then◌else◌, Option, Some, None, map}
 use Rattle.serde_json.specs.Data.{Data, boolean, number, string, array, object, unsigned, Members, no_members, member, put}
 use Rattle.serde_json.specs.View.{items_of, members_view}
-use Rattle.cni_result.specs.declared.members.JsonObject.{JsonObject}
+use Rattle.cni_addr.specs.AddrText.{addr_text}
+use Rattle.cni_addr.specs.CidrText.{cidr_text}
+use Rattle.cni_addr.specs.MacText.{mac_text}
+use Rattle.cni_addr.specs.Value.{AddrValue, CidrValue}
+use Rattle.cni_addr.specs.declared.mac.Mac.{Mac}
+use Rattle.cni_json.specs.declared.members.JsonObject.{JsonObject}
 
 -- what an object that is being built holds, in ascending byte order of the keys
 abbrev pub members_of : JsonObject → Members
@@ -15,6 +20,18 @@ text_data text = string text
 -- a number that isn't below 0
 abbrev pub number_data : ℕ → Data
 number_data n = number (unsigned n)
+
+-- an address
+abbrev pub addr_data : AddrValue → Data
+addr_data a = text_data (addr_text a)
+
+-- a network
+abbrev pub cidr_data : CidrValue → Data
+cidr_data c = text_data (cidr_text c)
+
+-- a hardware address
+abbrev pub mac_data : Mac → Data
+mac_data m = text_data (mac_text m)
 
 -- a list, each item as its own data
 abbrev pub list_data : {A : Type 0} → (A → Data) → List A → Data

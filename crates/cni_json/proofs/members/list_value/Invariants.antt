@@ -1,6 +1,6 @@
 use Rattle.std.proofs.Common.{◌≡◌, take, map}
 use Rattle.serde_json.specs.View.{view}
-use Rattle.cni_result.proofs.members.list_value.Given as goal
+use Rattle.cni_json.proofs.members.list_value.Given as goal
 
 -- the items so far are in the list
 abbrev pub invariant-loop-item : goal.invariant-loop-item
