@@ -37,8 +37,8 @@ network_list_at-ok d list order is =
     subst IsWellFormedList (ok_same plugins.rest) (record {
       name = name_at-ok d name.value name.first;
       first = chain.first;
-      chained = chain.later.all;
-      types_once = chain.later.once;
+      chained = chain.later;
+      types_once = chain.types_once;
     })
 
 read-ok : (r : Result Data ReadEnd) (d : Data) → read_or_refused r ≡ Ok d → r ≡ Ok d

@@ -1,5 +1,5 @@
 -- What the plugins of a list keep that is read.
-use Rattle.std.proofs.Common.{◌≡◌, ℕ, true, false, List, [], ◌∷◌, ◌++◌, codes, Option, Some, None, Ok, refl, sym, subst}
+use Rattle.std.proofs.Common.{◌≡◌, ℕ, true, false, List, [], ◌∷◌, ◌++◌, codes, Option, Some, None, Ok, refl, sym, ap, subst}
 use Rattle.std.specs.Prelude.{All, map, if◌then◌else◌, ok_or}
 use Rattle.std.specs.List.{AllByRecursion, IsDistinct, list_any}
 use Rattle.std.specs.Str.{chars}
@@ -24,7 +24,7 @@ use Rattle.net_conf.specs.Ipam.{manager_at, host_local_at, is_empty, read_ipam_o
 use Rattle.net_conf.specs.Macvlan.{macvlan_rows, master_at, mode_at, macvlan_at}
 use Rattle.net_conf.specs.Members.{flag_at, default_mtu, given_mtu_at, mtu_at, ok_map}
 use Rattle.net_conf.specs.Names.{is_interface_name}
-use Rattle.net_conf.specs.PluginTypes.{type_eq, type_of_chained}
+use Rattle.net_conf.specs.PluginTypes.{HaveTypesOnce, type_eq, type_of_chained}
 use Rattle.net_conf.specs.Plugins.{type_at, first_of, first_at, first_plugin, later_of, is_of_type, not_repeated, later_at, later_plugins, plugins_of, plugins_at, chain_at, wrong_plugins}
 use Rattle.net_conf.specs.Portmap.{portmap_at}
 use Rattle.net_conf.specs.Ptp.{ptp_at}
@@ -178,28 +178,28 @@ first_plugin-ok (item d ds) found is = first_at-ok d found is
 
 -- ---- the later plugins
 
--- a plugin is well formed, and has the type that its object names
-abbrev IsLater : PluginType → Chained → Type 0
-IsLater type p = (type_of_chained p ≡ type) × IsWellFormedChained p
+-- the object names its plugin's type
+later_of-type : (type : PluginType) (d : Data) (found : Chained) → later_of type d ≡ Ok found → type_of_chained found ≡ type
+later_of-type plugin.Bridge d found is = cc
+later_of-type plugin.Ptp d found is = cc
+later_of-type plugin.Macvlan d found is = cc
+later_of-type plugin.Portmap d found is = let conf = mapped _ (portmap_at d) found is in ap type_of_chained (sym (ok_same conf.rest))
+later_of-type plugin.Firewall d found is = let conf = mapped _ (firewall_at d) found is in ap type_of_chained (sym (ok_same conf.rest))
+later_of-type plugin.Tuning d found is = let conf = mapped _ (tuning_at d) found is in ap type_of_chained (sym (ok_same conf.rest))
 
-later_of-ok : (type : PluginType) (d : Data) (found : Chained) → KeysAscend d → later_of type d ≡ Ok found → IsLater type found
+later_of-ok : (type : PluginType) (d : Data) (found : Chained) → KeysAscend d → later_of type d ≡ Ok found → IsWellFormedChained found
 later_of-ok plugin.Bridge d found order is = cc
 later_of-ok plugin.Ptp d found order is = cc
 later_of-ok plugin.Macvlan d found order is = cc
-later_of-ok plugin.Portmap d found order is = let conf = mapped _ (portmap_at d) found is in subst (IsLater plugin.Portmap) (ok_same conf.rest) (refl, tt)
-later_of-ok plugin.Firewall d found order is = let conf = mapped _ (firewall_at d) found is in subst (IsLater plugin.Firewall) (ok_same conf.rest) (refl, tt)
+later_of-ok plugin.Portmap d found order is = let conf = mapped _ (portmap_at d) found is in subst IsWellFormedChained (ok_same conf.rest) tt
+later_of-ok plugin.Firewall d found order is = let conf = mapped _ (firewall_at d) found is in subst IsWellFormedChained (ok_same conf.rest) tt
 later_of-ok plugin.Tuning d found order is =
     let conf = mapped _ (tuning_at d) found is in
-    subst (IsLater plugin.Tuning) (ok_same conf.rest) (refl, tuning_at-ok d conf.value order conf.first)
-
--- what later plugins keep together
-pub record AreLater (plugins : List Chained) : Type 0 where
-  pub all : All IsWellFormedChained plugins
-  pub once : IsDistinct type_eq (map type_of_chained plugins)
+    subst IsWellFormedChained (ok_same conf.rest) (tuning_at-ok d conf.value order conf.first)
 
 -- one more plugin, of a type that none of these has
 once_more : (before : List Chained) (next : Chained) (type : PluginType) → type_of_chained next ≡ type → list_any (is_of_type type) before ≡ false
-    → IsDistinct type_eq (map type_of_chained before) → IsDistinct type_eq (map type_of_chained (before ++ next ∷ []))
+    → HaveTypesOnce before → HaveTypesOnce (before ++ next ∷ [])
 unfolding IsDistinct
 once_more [] next type is none once = (tt, tt)
 once_more (p ∷ before) next type is none once =
@@ -212,33 +212,39 @@ once_more (p ∷ before) next type is none once =
     also [] all new = (new, tt)
     also (q ∷ ps) all new = (all.0, also ps all.1 new)
 
-later_at-ok : (before : List Chained) (d : Data) (next : Chained) → KeysAscend d → AreLater before → later_at before d ≡ Ok next → AreLater (before ++ next ∷ [])
+later_at-once : (before : List Chained) (d : Data) (next : Chained) → HaveTypesOnce before → later_at before d ≡ Ok next → HaveTypesOnce (before ++ next ∷ [])
 unfolding later_at not_repeated
-later_at-ok before d next order kept is =
+later_at-once before d next once is =
     let form = goes (object_or wrong_plugins d) _ next is in
     let type = goes (type_at d) _ next form.rest in
     let new = goes (not_repeated before type.value) _ next type.rest in
-    let here = later_of-ok type.value d next order new.rest in
     let none = (not_refused (list_any (is_of_type type.value) before) _ _ _ new.first).0 in
-    record {
-      all = All-push IsWellFormedChained before next kept.all here.1;
-      once = once_more before next type.value here.0 none kept.once;
-    }
+    once_more before next type.value (later_of-type type.value d next new.rest) none once
 
-none_later : AreLater []
+none_once : HaveTypesOnce []
 unfolding IsDistinct
-none_later = record { all = All-nil IsWellFormedChained; once = tt }
+none_once = tt
 
--- the later plugins so far, and that the keys of those to follow ascend
+pub later_plugins-once : (ds : Items) (found : List Chained) → later_plugins ds ≡ Ok found → HaveTypesOnce found
+later_plugins-once no_items found is = subst HaveTypesOnce (ok_same is) none_once
+later_plugins-once (item d ds) found is =
+    each_after_keeps later_at (λ before _. HaveTypesOnce before) (λ before d ds next once read. later_at-once before d next once read) [] ds found none_once is
+
+-- the later plugins so far are well formed, and the keys of those to follow ascend
 abbrev AreLaterSoFar : List Chained → Items → Type 0
-AreLaterSoFar before ds = AreLater before × EverywhereInItems HasAscendingKeys ds
+AreLaterSoFar before ds = All IsWellFormedChained before × EverywhereInItems HasAscendingKeys ds
 
 later_at-keeps : (before : List Chained) (d : Data) (ds : Items) (next : Chained) → AreLaterSoFar before (item d ds) → later_at before d ≡ Ok next → AreLaterSoFar (before ++ next ∷ []) ds
-later_at-keeps before d ds next kept is = (later_at-ok before d next kept.1.0 kept.0 is, kept.1.1)
+unfolding later_at not_repeated
+later_at-keeps before d ds next kept is =
+    let form = goes (object_or wrong_plugins d) _ next is in
+    let type = goes (type_at d) _ next form.rest in
+    let new = goes (not_repeated before type.value) _ next type.rest in
+    (All-push IsWellFormedChained before next kept.0 (later_of-ok type.value d next kept.1.0 new.rest), kept.1.1)
 
-later_plugins-ok : (ds : Items) (found : List Chained) → EverywhereInItems HasAscendingKeys ds → later_plugins ds ≡ Ok found → AreLater found
-later_plugins-ok no_items found order is = subst AreLater (ok_same is) none_later
-later_plugins-ok (item d ds) found order is = (each_after_keeps later_at AreLaterSoFar later_at-keeps [] ds found (none_later, order.1) is).0
+later_plugins-ok : (ds : Items) (found : List Chained) → EverywhereInItems HasAscendingKeys ds → later_plugins ds ≡ Ok found → All IsWellFormedChained found
+later_plugins-ok no_items found order is = subst (All IsWellFormedChained) (ok_same is) (All-nil IsWellFormedChained)
+later_plugins-ok (item d ds) found order is = (each_after_keeps later_at AreLaterSoFar later_at-keeps [] ds found (All-nil IsWellFormedChained, order.1) is).0
 
 -- ---- all plugins
 
@@ -258,7 +264,8 @@ plugins_at-ascends d ds order is = listed-ascends (get (codes "plugins") d) ds (
 -- what the plugins of a list keep
 pub record IsChain (chain : PluginChain) : Type 0 where
   pub first : IsWellFormedFirst chain.first
-  pub later : AreLater chain.chained
+  pub later : All IsWellFormedChained chain.chained
+  pub types_once : HaveTypesOnce chain.chained
 
 pub chain_at-ok : (d : Data) (chain : PluginChain) → KeysAscend d → chain_at d ≡ Ok chain → IsChain chain
 unfolding chain_at
@@ -269,4 +276,5 @@ chain_at-ok d chain order is =
     subst IsChain (ok_same others.rest) (record {
       first = first_plugin-ok plugins.value one.value one.first;
       later = later_plugins-ok plugins.value others.value (plugins_at-ascends d plugins.value order plugins.first) others.first;
+      types_once = later_plugins-once plugins.value others.value others.first;
     })

@@ -1,6 +1,7 @@
 -- The types of plugins, by their words (the `type` of the reference plugins) and by number, and the type of a later
 -- plugin.
-use Rattle.std.specs.Prelude.{ℕ, Bool, ◌==◌, List, codes, Option, find}
+use Rattle.std.specs.Prelude.{ℕ, Bool, ◌==◌, List, codes, Option, find, map}
+use Rattle.std.specs.List.{IsDistinct}
 use Rattle.std.specs.Str.{bytes_eq}
 use Rattle.net_conf.specs.declared.chained.Chained.{Chained}
 use Rattle.net_conf.specs.declared.chained.Chained.TheVariants as later
@@ -39,3 +40,7 @@ abbrev pub type_of_chained : Chained → PluginType
 type_of_chained (later.Portmap conf) = plugin.Portmap
 type_of_chained (later.Firewall conf) = plugin.Firewall
 type_of_chained (later.Tuning conf) = plugin.Tuning
+
+-- each type comes at most once
+abbrev pub HaveTypesOnce : List Chained → Type 0
+HaveTypesOnce plugins = IsDistinct type_eq (map type_of_chained plugins)

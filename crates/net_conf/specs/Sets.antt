@@ -1,5 +1,5 @@
 -- The sets of ranges (the `host-local` plugin, `ranges`, and the older form `subnet`).
-use Rattle.std.specs.Prelude.{◌+◌, ◌&&◌, ℕ, List, [], ◌∷◌, codes, Bool, true, false, nat_le, if◌then◌else◌, Result, Ok, is_some, ⊤}
+use Rattle.std.specs.Prelude.{◌+◌, ◌≤◌, ◌&&◌, ℕ, length, IsTrue, List, [], ◌∷◌, codes, Bool, true, false, nat_le, if◌then◌else◌, Result, Ok, is_some, ⊤}
 use Rattle.std.specs.List.{list_all, flat_map}
 use Rattle.serde_json.specs.Data.{Data, array, Items, no_items, item}
 use Rattle.serde_json.specs.Events.{items_len}
@@ -73,6 +73,11 @@ listed_at d = sets_listed (list_field (codes "ranges") d)
 -- the most sets that a configuration has
 abbrev pub most_sets : ℕ
 most_sets = 65536
+
+-- neither too many, nor is an address in two of their ranges
+pub record AreRangeSets (sets : List RangeSet) : Type 0 where
+  pub few : length sets ≤ most_sets
+  pub apart : IsTrue (are_apart (ranges_of sets))
 
 -- one set or more, and not too many
 abbrev pub is_set_count : ℕ → Bool

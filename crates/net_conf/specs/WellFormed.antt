@@ -12,7 +12,7 @@ use Rattle.cni_result.specs.declared.result.RouteEntry.{RouteEntry}
 use Rattle.ip_pool.specs.Pool.{are_apart}
 use Rattle.net_conf.specs.Members.{is_mtu}
 use Rattle.net_conf.specs.Names.{is_network_name, is_interface_name}
-use Rattle.net_conf.specs.PluginTypes.{type_eq, type_of_chained}
+use Rattle.net_conf.specs.PluginTypes.{HaveTypesOnce}
 use Rattle.net_conf.specs.Ranges.{is_subnet, is_in_order}
 use Rattle.net_conf.specs.Sets.{ranges_of, is_of_one_family, is_set_count}
 use Rattle.net_conf.specs.Tuning.{is_network_setting}
@@ -113,4 +113,4 @@ pub record IsWellFormedList (list : NetList) : Type 0 where
   pub name : IsTrue (is_network_name list.name)
   pub first : IsWellFormedFirst list.first
   pub chained : All IsWellFormedChained list.chained
-  pub types_once : IsDistinct type_eq (map type_of_chained list.chained)
+  pub types_once : HaveTypesOnce list.chained

@@ -10,8 +10,9 @@ use cni_addr::{Family, Range};
 use ip_pool::are_apart;
 
 /// Whether no two of the ranges share an address. Ranges of one family are put in order and compared with their
-/// neighbours alone, so that as many sets as an `ipam` may have take no time in proportion to their square.
-pub fn share_no_address(ranges: &mut [Range]) -> bool
+/// neighbours alone, so that as many sets as an `ipam` may have take no time in proportion to their square. The order in
+/// which it leaves the ranges is not specified: its caller drops them.
+pub(crate) fn share_no_address(ranges: &mut [Range]) -> bool
     ensures { result ≡ pools.are_apart ranges.old }
 {
     if have_addresses_of_one_family(ranges) {

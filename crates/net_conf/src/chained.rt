@@ -1,6 +1,10 @@
-//! The plugins that follow the first of a list. Each type comes at most once.
+//! The plugins that follow the first of a list.
 
-use cni_addr::{Items, Mac, Text};
+ghost use Rattle.std.specs.Prelude.{◌≡◌};
+ghost use Rattle.net_conf.specs.PluginTypes.{HaveTypesOnce};
+
+use cni_addr::{Duplicate, Items, Mac, NoMemory, Text};
+use std::marker::Model;
 
 /// The configuration of `portmap`: whether the runtime hands it the port mappings (its `capabilities`), and whether
 /// traffic from the host itself is masqueraded.
@@ -21,7 +25,8 @@ pub struct Sysctl {
     pub value: Text,
 }
 
-/// The configuration of `tuning`. Each key of `sysctl` begins with `net.`; an MTU passes [`is_mtu`](crate::is_mtu).
+/// The configuration of `tuning`. In a list that is read, each key of `sysctl` begins with `net.` and comes once, and an
+/// MTU passes [`is_mtu`](crate::is_mtu).
 #[derive(PartialEq, Eq, Drop)]
 pub struct TuningConf {
     pub sysctl: Items<Sysctl>,
@@ -38,4 +43,50 @@ pub enum Chained {
     Portmap(PortmapConf),
     Firewall(FirewallConf),
     Tuning(TuningConf),
+}
+
+/// Later plugins in the order of ADD, of which each type comes at most once.
+#[derive(PartialEq, Eq, Drop)]
+pub struct ChainedPlugins {
+    plugins: Items<Chained>,
+}
+
+impl Model for ChainedPlugins {
+    ghost use Rattle.std.specs.Prelude.{List};
+    ghost use Rattle.net_conf.specs.declared.chained.Chained.{Chained};
+
+    ghost Value = { List Chained };
+
+    ghost use Rattle.net_conf.specs.PluginTypes.{HaveTypesOnce};
+
+    ghost view = { λ c. c.plugins };
+
+    ghost invariant = { λ c. HaveTypesOnce c.plugins };
+
+    ghost inverse = { λ v. record { plugins = v } };
+}
+
+impl ChainedPlugins {
+    /// The plugins of a list of them. Takes no memory.
+    pub fn of_items(plugins: Items<Chained>) -> ChainedPlugins
+        requires { HaveTypesOnce plugins }
+        ensures { result ≡ plugins }
+    {
+        ChainedPlugins { plugins }
+    }
+
+    /// The plugins in order. Takes no memory.
+    pub fn as_slice(&self) -> &[Chained]
+        ensures { result.now ≡ self.now }
+    {
+        self.plugins.as_slice()
+    }
+}
+
+impl Duplicate for ChainedPlugins {
+    fn copy(&self) -> Result<ChainedPlugins, NoMemory> {
+        Ok(ChainedPlugins {
+            plugins: self.plugins.copy()?,
+        })
+    }
 }

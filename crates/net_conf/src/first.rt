@@ -1,17 +1,18 @@
 //! The plugin that makes the interface, the first of a list.
 
 use crate::bridge_modes::{BridgeMode, GatewayRole};
-use cni_addr::{Items, MacvlanMode, RangeSet, Text};
+use crate::range_sets::RangeSets;
+use cni_addr::{Items, MacvlanMode, Text};
 use cni_result::{Dns, RouteEntry};
 
-/// The configuration of `host-local`: an attachment gets one address of each set. There are at most 65,536 sets.
+/// The configuration of `host-local`: an attachment gets one address of each set.
 #[derive(PartialEq, Eq, Drop)]
 pub struct HostLocalConf {
-    pub sets: Items<RangeSet>,
+    pub sets: RangeSets,
     pub routes: Items<RouteEntry>,
 }
 
-/// The configuration of `bridge`. The MTU passes [`is_mtu`](crate::is_mtu).
+/// The configuration of `bridge`. In a list that is read, the MTU passes [`is_mtu`](crate::is_mtu).
 #[derive(PartialEq, Eq, Drop)]
 pub struct BridgeConf {
     pub bridge: Text,
@@ -23,7 +24,7 @@ pub struct BridgeConf {
     pub dns: Dns,
 }
 
-/// The configuration of `ptp`. The MTU passes [`is_mtu`](crate::is_mtu).
+/// The configuration of `ptp`. In a list that is read, the MTU passes [`is_mtu`](crate::is_mtu).
 #[derive(PartialEq, Eq, Drop)]
 pub struct PtpConf {
     pub ip_masq: bool,
@@ -32,7 +33,7 @@ pub struct PtpConf {
     pub dns: Dns,
 }
 
-/// The configuration of `macvlan`. The MTU passes [`is_mtu`](crate::is_mtu).
+/// The configuration of `macvlan`. In a list that is read, the MTU passes [`is_mtu`](crate::is_mtu).
 #[derive(PartialEq, Eq, Drop)]
 pub struct MacvlanConf {
     pub master: Text,

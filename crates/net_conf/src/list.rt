@@ -1,8 +1,8 @@
 //! A network list.
 
-use crate::chained::Chained;
+use crate::chained::ChainedPlugins;
 use crate::first::First;
-use cni_addr::{Items, Text};
+use cni_addr::Text;
 use cni_result::Version;
 
 /// The key of a list that disables CHECK.
@@ -20,5 +20,5 @@ pub struct NetList {
     pub disable_check: bool,
     pub disable_gc: bool,
     pub first: First,
-    pub chained: Items<Chained>,
+    pub chained: ChainedPlugins,
 }

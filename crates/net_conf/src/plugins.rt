@@ -10,7 +10,7 @@ ghost use Rattle.net_conf.specs.Plugins as wanted;
 ghost use Rattle.net_conf.specs.Refusals.{is_want_of_memory};
 
 use crate::bridge::bridge;
-use crate::chained::Chained;
+use crate::chained::{Chained, ChainedPlugins};
 use crate::error::{ConfError, invalid};
 use crate::firewall::firewall;
 use crate::first::First;
@@ -27,7 +27,7 @@ use std::alloc::Global;
 #[derive(Drop)]
 pub struct PluginChain {
     pub first: First,
-    pub chained: Items<Chained>,
+    pub chained: ChainedPlugins,
 }
 
 /// The plugins of a list: one that makes the interface, and then those that change it.
@@ -67,8 +67,17 @@ fn first_plugin(alloc: Global, plugins: &[Value]) -> Result<First, ConfError>
 }
 
 /// The plugins after the first, in order.
+#[tactic(auto, using(cni_json::proofs::Steps::steps))]
+fn later_plugins(alloc: Global, plugins: &[Value]) -> Result<ChainedPlugins, ConfError>
+    requires { items_have_float (items_view plugins.now) ≡ false }
+    ensures { GivesAs is_want_of_memory (λ chained. chained) result (wanted.later_plugins (items_view plugins.now)) }
+{
+    let chained = after_first(alloc, plugins)?;
+    Ok(ChainedPlugins::of_items(chained))
+}
+
 #[tactic(auto, using(cni_json::proofs::Steps::steps, crate::proofs::ValueLemmas::by_length, cni_json::proofs::WholeNumbers::parts_are_whole))]
-fn later_plugins(alloc: Global, plugins: &[Value]) -> Result<Items<Chained>, ConfError>
+fn after_first(alloc: Global, plugins: &[Value]) -> Result<Items<Chained>, ConfError>
     requires { items_have_float (items_view plugins.now) ≡ false }
     ensures { GivesAs is_want_of_memory (λ chained. chained) result (wanted.later_plugins (items_view plugins.now)) }
 {

@@ -18,7 +18,7 @@ use cni_result::{Version, version_named};
 use std::alloc::Global;
 
 /// The network list that the bytes spell (CNI specification 1.1.0, section 1), or the first refusal in the order of its
-/// parts. It takes time in proportion to the bytes.
+/// parts. It takes time in proportion to the bytes, and that of a sort of the ranges.
 #[tactic(auto, using(cni_json::proofs::Steps::steps), unfolding(crate::specs::List::list_of))]
 pub fn read_list(alloc: Global, bytes: &[u8]) -> Result<NetList, ConfError>
     ensures { GivesAs is_want_of_memory (λ list. list) result (wanted.list_of bytes.now) }

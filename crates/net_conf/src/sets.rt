@@ -11,17 +11,23 @@ ghost use Rattle.net_conf.specs.Sets as wanted;
 
 use crate::apart::share_no_address;
 use crate::error::{ConfError, invalid};
+use crate::range_sets::{MOST_SETS, RangeSets};
 use crate::ranges::range;
 use cni_addr::{Family, Items, NoMemory, Range, RangeSet};
 use cni_json::{Field, Value, field_list, member, read_each, read_each_after};
 use std::alloc::Global;
 
-/// The most sets that a configuration has.
-pub const MOST_SETS: usize = 65_536;
-
 /// The set that the object's own `subnet` gives, and then those of its `ranges`.
+#[tactic(auto, using(cni_json::proofs::Steps::steps))]
+pub fn sets(alloc: Global, object: &Value) -> Result<RangeSets, ConfError>
+    ensures { GivesAs is_want_of_memory (λ sets. sets) result (wanted.sets_at (view object.now)) }
+{
+    let sets = own_and_listed(alloc, object)?;
+    Ok(RangeSets::of_items(sets))
+}
+
 #[tactic(auto, using(cni_json::proofs::Steps::steps), unfolding(crate::specs::Sets::sets_at))]
-pub fn sets(alloc: Global, object: &Value) -> Result<Items<RangeSet>, ConfError>
+fn own_and_listed(alloc: Global, object: &Value) -> Result<Items<RangeSet>, ConfError>
     ensures { GivesAs is_want_of_memory (λ sets. sets) result (wanted.sets_at (view object.now)) }
 {
     let listed = listed(alloc, object)?;

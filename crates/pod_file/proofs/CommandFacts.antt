@@ -8,7 +8,7 @@ use Rattle.std.proofs.lemmas.List.Elements.{All-nil, All-cons, All-head, All-tai
 use Rattle.serde_json.specs.Data.{Data, null, boolean, number, string, array, object, Items}
 use Rattle.serde_json.specs.Find.{get}
 use Rattle.cni_json.specs.Each.{list_or}
-use Rattle.cni_json.specs.Fields.{text_field, list_field, u32_field, u64_of, has_32_bits, object_or}
+use Rattle.cni_json.specs.Fields.{text_field, list_field, u32_field, u32_of, has_32_bits, object_or}
 use Rattle.cni_json.specs.declared.fields.Field.{Field}
 use Rattle.cni_json.specs.declared.fields.Field.TheVariants.{Absent, WrongKind, Here}
 use Rattle.kernel_types.specs.Texts.{table_named}
@@ -68,7 +68,7 @@ fault_of-ok place (Some m) n is = let test = passed (is_call_number m) m n _ is 
 faults_of-ok : (place : CommandPlace) (f : Field Items) (faults : List ℕ) → list_or (wrong_key place (codes "faults")) (fault_at place) f ≡ Ok faults → All IsCallNumber faults
 faults_of-ok place Absent faults is = subst (All IsCallNumber) (ok_same is) (All-nil IsCallNumber)
 faults_of-ok place WrongKind faults is = cc
-faults_of-ok place (Here ds) faults is = each_all (fault_at place) IsCallNumber (λ d n read. fault_of-ok place (u64_of d) n read) ds faults is
+faults_of-ok place (Here ds) faults is = each_all (fault_at place) IsCallNumber (λ d n read. fault_of-ok place (u32_of d) n read) ds faults is
 
 faults_at-ok : (place : CommandPlace) (d : Data) (faults : List ℕ) → faults_at place d ≡ Ok faults → All IsCallNumber faults
 unfolding faults_at list_at

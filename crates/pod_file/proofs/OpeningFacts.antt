@@ -14,7 +14,7 @@ use Rattle.kernel_types.proofs.Namespaces.{by_place}
 use Rattle.kernel_types.proofs.Opening.{IsSound-opening_with}
 use Rattle.kernel_types.specs.Equal.{tag_eq}
 use Rattle.kernel_types.specs.Opening.{opening_with, AreNamespaceNames, AreOutsideLinks, is_outside_link}
-use Rattle.kernel_types.specs.Sound.{is_shared_kind}
+use Rattle.kernel_types.specs.Sound.{is_unowned_kind}
 use Rattle.kernel_types.specs.Words.{is_at, is_host_ns, is_host_or_ns, outside_namespace}
 use Rattle.kernel_types.specs.declared.object.Host.{Host}
 use Rattle.kernel_types.specs.declared.object.Link.{Link}
@@ -69,7 +69,7 @@ namespaces_at-ok d names is =
 -- ---- links
 
 abbrev IsShared : LinkKind → Type 0
-IsShared kind = is_shared_kind kind ≡ true
+IsShared kind = is_unowned_kind kind ≡ true
 
 kind_by-ok : (device bridge : Bool) (e : PodError) (kind : LinkKind) → ok_or (if device then Some Device else if bridge then Some Bridge else None) e ≡ Ok kind → IsShared kind
 kind_by-ok true bridge e kind is = subst IsShared (ok_same is) refl
@@ -156,7 +156,7 @@ outside-tag false alone outside is = cc
 opening_with-ok : (names : List (List ℕ)) (links : List Link) → AreNamespaceNames names → AreOutsideLinks names links → IsOpening (opening_with names links)
 opening_with-ok names links good outside = record {
   sound = IsSound-opening_with names links good outside;
-  links = list_all-weaker is_outside_link (λ l. tag_eq l.tag Outside) (λ l h. outside-tag (is_shared_kind l.kind) (is_none l.peer) (tag_eq l.tag Outside) h) links outside.outside;
+  links = list_all-weaker is_outside_link (λ l. tag_eq l.tag Outside) (λ l h. outside-tag (is_unowned_kind l.kind) (is_none l.peer) (tag_eq l.tag Outside) h) links outside.outside;
   addresses = refl;
   routes = refl;
   rules = refl;

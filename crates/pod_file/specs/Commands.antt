@@ -3,7 +3,7 @@ use Rattle.std.specs.Prelude.{ℕ, ◌&&◌, List, [], codes, Bool, true, false,
 use Rattle.std.specs.Str.{bytes_eq}
 use Rattle.serde_json.specs.Data.{Data}
 use Rattle.cni_json.specs.Outcome.{◌>>=◌}
-use Rattle.cni_json.specs.Fields.{text_field, u32_field, u64_of, has_32_bits, member_or, object_or, needed, tested}
+use Rattle.cni_json.specs.Fields.{text_field, u32_field, u32_of, has_32_bits, member_or, object_or, needed, tested}
 use Rattle.cni_json.specs.declared.fields.Field.{Field}
 use Rattle.kernel_types.specs.Texts.{table_named}
 use Rattle.kernel_types.specs.declared.rule.Table.{Table}
@@ -116,7 +116,7 @@ fault_of place (Some n) = tested (wrong_key place (codes "faults")) is_call_numb
 
 -- a call that fails
 abbrev pub fault_at : CommandPlace → Data → Result ℕ PodError
-fault_at place d = fault_of place (u64_of d)
+fault_at place d = fault_of place (u32_of d)
 
 -- the calls that fail, in any order
 unfoldable pub faults_at : CommandPlace → Data → Result (List ℕ) PodError

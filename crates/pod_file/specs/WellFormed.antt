@@ -38,12 +38,15 @@ pub record IsWellFormedRound (commands : List Command) : Type 0 where
   pub each : All IsWellFormedCommand commands
   pub alone : IsTrue (is_alone commands)
 
+-- the commands are numbered from 1 in file order, and neither they nor the rounds are too many
+pub record AreWellFormedRounds (rounds : List (List Command)) : Type 0 where
+  pub each : All IsWellFormedRound rounds
+  pub few_rounds : length rounds ≤ file_limit
+  pub few_commands : length (in_file_order rounds) ≤ file_limit
+  pub numbers : (n : ℕ) (command : Command) → slice_get (in_file_order rounds) n ≡ Some command → command.number ≡ n + 1
+
 -- ---- the file
 
--- the commands are numbered from 1 in file order, and neither they nor the rounds are too many
 pub record IsWellFormedPods (pods : Pods) : Type 0 where
   pub opening : IsOpening pods.opening
-  pub rounds : All IsWellFormedRound pods.rounds
-  pub few_rounds : length pods.rounds ≤ file_limit
-  pub few_commands : length (in_file_order pods.rounds) ≤ file_limit
-  pub numbers : (n : ℕ) (command : Command) → slice_get (in_file_order pods.rounds) n ≡ Some command → command.number ≡ n + 1
+  pub rounds : AreWellFormedRounds pods.rounds

@@ -7,7 +7,7 @@ use cni_addr::{Items, Text};
 use kernel_types::Table;
 
 /// What a command does: a verb of the CNI specification (section 2, "Execution Protocol"), or a change from outside.
-#[derive(Clone, Copy)]
+#[derive(Clone, Copy, PartialEq, Eq)]
 pub enum Verb {
     Add,
     Check,
@@ -62,26 +62,6 @@ impl Verb {
             Verb::Add | Verb::Check | Verb::Del | Verb::Version => false,
         }
     }
-}
-
-impl PartialEq for Verb {
-    ghost use Rattle.std.specs.Cmp.{partial_equiv_from_equiv, on_equiv, nat_eq_equiv};
-    ghost use Rattle.pod_file.specs.Codes.{verb_eq, verb_code};
-
-    ghost eq = { verb_eq };
-
-    ghost laws = { partial_equiv_from_equiv (on_equiv verb_code nat_eq_equiv) };
-
-    fn eq(&self, other: &Verb) -> bool {
-        *self as u8 == *other as u8
-    }
-}
-
-impl Eq for Verb {
-    ghost use Rattle.std.specs.Cmp.{on_equiv, nat_eq_equiv};
-    ghost use Rattle.pod_file.specs.Codes.{verb_code};
-
-    ghost laws = { on_equiv verb_code nat_eq_equiv };
 }
 
 /// The verb as pod files and the output spell it. Takes no memory.

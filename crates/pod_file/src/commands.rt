@@ -11,7 +11,7 @@ use crate::error::{PodError, wrong_command, wrong_key};
 use crate::members::{list, mappings, needed_text, text, valid_attachments};
 use crate::place::CommandPlace;
 use cni_addr::{Items, Text};
-use cni_json::{Field, Value, field_str, field_u32, has_32_bits, need_object};
+use cni_json::{Field, Value, field_str, field_u32, need_object, u32_of};
 use kernel_types::{Table, table_named};
 use std::alloc::Global;
 
@@ -154,15 +154,8 @@ fn faults(alloc: Global, place: CommandPlace, command: &Value) -> Result<Items<u
 fn fault(alloc: Global, place: CommandPlace, member: &Value) -> Result<u32, PodError>
     ensures { GivesAs is_want_of_memory (λ number. number) result (wanted.fault_at place (view member.now)) }
 {
-    match member.as_u64() {
-        Some(number) if is_call_number(number) => Ok(number as u32),
+    match u32_of(member) {
+        Some(number) if number != 0 => Ok(number),
         Some(_) | None => Err(wrong_key(alloc, place, "faults")),
     }
-}
-
-/// Whether a call may have the number: calls are counted from 1.
-fn is_call_number(number: u64) -> bool
-    ensures { result ≡ wanted.is_call_number number }
-{
-    number != 0 && has_32_bits(number)
 }

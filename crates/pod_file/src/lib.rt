@@ -29,5 +29,5 @@ mod rounds;
 pub use command::{Command, RawMapping, ValidAtt, Verb, verb_named, verb_text};
 pub use error::PodError;
 pub use laws::pod_file_laws;
-pub use pods::Pods;
+pub use pods::{Pods, Rounds};
 pub use read::read_pods;

@@ -10,7 +10,7 @@ ghost use Rattle.pod_file.specs.Rounds as limits;
 use crate::command::Command;
 use crate::error::{PodError, wrong};
 use crate::opening::opening;
-use crate::pods::Pods;
+use crate::pods::{Pods, Rounds};
 use crate::rounds::{all_numbered, are_few, each_alone, rounds};
 use cni_addr::Items;
 use cni_json::{ReadEnd, Value, need_object};
@@ -38,9 +38,10 @@ fn pods(alloc: Global, top: &Value) -> Result<Pods, PodError>
     let rounds = rounds(alloc, top)?;
     few(alloc, rounds.as_slice())?;
     each_alone(rounds.as_slice())?;
+    let numbered = all_numbered(alloc, rounds);
     Ok(Pods {
         opening,
-        rounds: all_numbered(alloc, rounds),
+        rounds: Rounds::of_items(numbered),
     })
 }
 
