@@ -4,12 +4,13 @@ ghost use Rattle.std.specs.Prelude.{◌≡◌, true, false, IfOk, OnErr, IsOk};
 ghost use Rattle.kernel_types.specs.Apply.{apply};
 ghost use Rattle.kernel_types.specs.Allowed.{IsAllowed};
 ghost use Rattle.kernel_types.specs.Replies.{is_fault, needs_no_memory};
+ghost use Rattle.kernel_types.specs.Sound.{IsSound};
 
 use cni_addr::NoMemory;
 use kernel_types::{Call, Host, Reply};
 use std::alloc::Global;
 
-/// A kernel, by the host that it means.
+/// A kernel, by the sound host that it means.
 pub trait Kernel {
     ghost use Rattle.kernel_types.specs.declared.object.Host.{Host};
 
@@ -23,9 +24,11 @@ pub trait Kernel {
         ensures ok { IfOk result (λ reply. (host self.new, reply) ≡ apply (host self.old) call.now) }
         ensures err { OnErr result (host self.new ≡ host self.old) }
         ensures frees { needs_no_memory call.now ≡ true → IsOk result }
-        ensures never { IfOk result (λ reply. is_fault reply ≡ false) };
+        ensures never { IfOk result (λ reply. is_fault reply ≡ false) }
+        ensures sound { IsSound (host self.new) };
 
     /// A copy of the host, of as many steps and as much memory as the host has objects.
     fn host(&self, alloc: Global) -> Result<Host, NoMemory>
-        ensures { IfOk result (λ h. h ≡ host self.now) };
+        ensures copy { IfOk result (λ h. h ≡ host self.now) }
+        ensures sound { IsSound (host self.now) };
 }

@@ -1,9 +1,10 @@
 //! The modelled kernel: the trait, and the kernel over plain lists.
 //!
-//! What it promises above: a [`Kernel`] means a host; a call that may be made gives the host and the reply of `apply`
-//! (`kernel_types/specs/Apply.antt`), want of memory leaves the host as it was, nine calls and the removal of a
+//! What it promises above: a [`Kernel`] means a sound host; a call that may be made gives the host and the reply of
+//! `apply` (`kernel_types/specs/Apply.antt`), want of memory leaves the host as it was, nine calls and the removal of a
 //! namespace never want memory, and no kernel replies with a fault. [`ListKernel`] keeps this contract over nine
-//! vectors, which it may scan: it is the plain definition made to run.
+//! vectors, which it may scan: it is the plain definition made to run. The types that a caller of a kernel names are
+//! handed on from `kernel_types`.
 //!
 //! ```text
 //! let mut kernel = ListKernel::of_host(opening);
@@ -20,4 +21,8 @@ mod owners;
 mod words;
 
 pub use kernel::Kernel;
+pub use kernel_types::{
+    AddrObj, Att, CachedObj, Call, Chain, Change, Given, Host, Kind, Last, Lease, Link, LinkKey,
+    LinkKind, NsObj, Object, Probe, Reply, RouteObj, Rule, Setting, Table, Tag, Target, link_mac,
+};
 pub use list_kernel::ListKernel;

@@ -25,13 +25,10 @@ use kernel_types::{
 use std::alloc::Global;
 use std::marker::Model;
 
-/// A kernel that keeps the lists of its host.
-///
-/// A call is linear in them but for four: `LeaseNext` and `PoolFree` scan the leases for each address that they try,
-/// `OwnersOf` the owners found so far for each object, and `NsChange` the addresses and routes for each link that goes
-/// with the namespace.
+/// The lists of a host, with a method for each call that is its equation. They may be any: what the kernel over them
+/// keeps is that they mean a sound host.
 #[derive(Drop)]
-pub struct ListKernel {
+struct HostLists {
     namespaces: Vec<NsObj>,
     links: Vec<Link>,
     addresses: Vec<AddrObj>,
@@ -43,7 +40,7 @@ pub struct ListKernel {
     lasts: Vec<Last>,
 }
 
-impl Model for ListKernel {
+impl Model for HostLists {
     ghost use Rattle.kernel_types.specs.declared.object.Host.{Host};
 
     ghost Value = { Host };
@@ -61,13 +58,11 @@ impl Model for ListKernel {
     } };
 }
 
-impl ListKernel {
-    /// The kernel that means this host. Takes no memory.
-    pub fn of_host(host: Host) -> ListKernel
-        requires { IsSound host }
+impl HostLists {
+    fn of_host(host: Host) -> HostLists
         ensures { result ≡ host }
     {
-        ListKernel {
+        HostLists {
             namespaces: host.namespaces.into_vec(),
             links: host.links.into_vec(),
             addresses: host.addresses.into_vec(),
@@ -145,14 +140,47 @@ impl ListKernel {
     }
 }
 
+/// A kernel that keeps the lists of its host.
+///
+/// A call is linear in them but for four: `LeaseNext` and `PoolFree` scan the leases for each address that they try,
+/// `OwnersOf` the owners found so far for each object, and `NsChange` the addresses and routes for each link that goes
+/// with the namespace.
+#[derive(Drop)]
+pub struct ListKernel {
+    lists: HostLists,
+}
+
+impl Model for ListKernel {
+    ghost use Rattle.kernel_types.specs.Sound.{IsSound};
+    ghost use Rattle.kernel_types.specs.declared.object.Host.{Host};
+
+    ghost Value = { Host };
+
+    ghost view = { λ k. k.lists };
+
+    ghost invariant = { λ k. IsSound k.lists };
+}
+
+impl ListKernel {
+    /// The kernel that means this host. Takes no memory.
+    pub fn of_host(host: Host) -> ListKernel
+        requires { IsSound host }
+        ensures { result ≡ host }
+    {
+        ListKernel {
+            lists: HostLists::of_host(host),
+        }
+    }
+}
+
 impl Kernel for ListKernel {
     ghost host = { λ k. k };
 
     fn call(&mut self, alloc: Global, call: &Call) -> Result<Reply, NoMemory> {
-        self.carry_out(alloc, call)
+        self.lists.carry_out(alloc, call)
     }
 
     fn host(&self, alloc: Global) -> Result<Host, NoMemory> {
-        self.copy_host(alloc)
+        self.lists.copy_host(alloc)
     }
 }

@@ -1,4 +1,4 @@
--- Each line of a dump has no number outside u64 and i64.
+-- No line of a dump has a number outside u64 and i64.
 use Rattle.std.proofs.Common.{◌≡◌, ℕ, List, ◌++◌, false, refl, ap, ◌∙◌, append_assoc}
 use Rattle.serde_json.specs.Data.{Data, Members}
 use Rattle.serde_json.specs.Written.{has_float, members_have_float}
@@ -75,6 +75,9 @@ cached_is_whole entry = search (puts_are_whole, result_is_whole, mapping_is_whol
 pub last_is_whole : (last : Last) → has_float (last_data last) ≡ false
 unfolding last_data
 last_is_whole last = refl
+
+-- no object of a dump has such a number
+pub ruleset objects_are_whole = (namespace_is_whole, link_is_whole, address_is_whole, route_is_whole, rule_is_whole, setting_is_whole, lease_is_whole, cached_is_whole, last_is_whole)
 
 -- ---- the lists one after another
 

@@ -4,8 +4,8 @@ use Rattle.std.specs.List.{flat_map}
 use Rattle.serde_json.specs.Data.{Data, boolean, object, Members, no_members, put}
 use Rattle.cni_json.specs.Json.{line_of}
 use Rattle.cni_result.specs.Mappings.{proto_data, mapping_data}
-use Rattle.cni_result.specs.Members.{text_data, number_data, ◌▷◌, put_if, put_if_true, put_list_unless_empty}
-use Rattle.cni_result.specs.Results.{addr_data, cidr_data, mac_data, result_data}
+use Rattle.cni_json.specs.Members.{text_data, number_data, addr_data, cidr_data, mac_data, ◌▷◌, put_if, put_if_true, put_list_unless_empty}
+use Rattle.cni_result.specs.Results.{result_data}
 use Rattle.cni_addr.specs.Modes.{mode_text}
 use Rattle.kernel_types.specs.Texts.{link_kind_text, table_text}
 use Rattle.kernel_text.specs.Words.{tag_text, link_mode, chain_text, target_text}

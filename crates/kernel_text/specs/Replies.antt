@@ -2,7 +2,7 @@
 use Rattle.std.specs.Prelude.{ℕ, List, ◌++◌, length, codes, decimal, true, false, Some, None}
 use Rattle.serde_json.specs.Data.{Data, object, no_members, put}
 use Rattle.cni_addr.specs.AddrText.{addr_text}
-use Rattle.cni_result.specs.Members.{text_data, number_data, ◌▷◌}
+use Rattle.cni_json.specs.Members.{text_data, number_data, ◌▷◌}
 use Rattle.kernel_text.specs.Words.{tag_text}
 use Rattle.kernel_types.specs.declared.call.Call.{Call}
 use Rattle.kernel_types.specs.declared.call.Call.TheVariants.{Begin, BridgeEnsure, GatewayEnsure, ForwardEnsure, VethAdd, MacvlanAdd, LinkSet, AddrAdd, RouteAdd, RuleAppend, SettingSet, LeaseNext, CachePut, LinkDel, RuleDel, SettingDel, LeaseDel, CacheDel, HasObj, CacheGet, OwnersOf, PoolFree, NsChange, Outside}

@@ -5,7 +5,7 @@ ghost use Rattle.kernel_text.specs.Dump.{address_data, route_data};
 use crate::dump::Dumped;
 use crate::tags::put_tag;
 use cni_addr::NoMemory;
-use cni_result::JsonObject;
+use cni_json::JsonObject;
 use kernel_types::{AddrObj, RouteObj};
 use serde_json::Value;
 use std::alloc::Global;

@@ -51,7 +51,7 @@ fn push_lines<T: Dumped>(alloc: Global, objects: &[T], lines: &mut Vec<u8>) -> R
 
 /// Appends the lines of all objects, list by list in the order of [`Host`]. What stood in `lines` stays; a refusal may
 /// leave a part of the dump behind it. It takes time and memory in proportion to the lines.
-#[tactic(auto, using(crate::proofs::TextLemmas::front_of_front, crate::proofs::DumpLemmas::namespace_is_whole, crate::proofs::DumpLemmas::link_is_whole, crate::proofs::DumpLemmas::address_is_whole, crate::proofs::DumpLemmas::route_is_whole, crate::proofs::DumpLemmas::rule_is_whole, crate::proofs::DumpLemmas::setting_is_whole, crate::proofs::DumpLemmas::lease_is_whole, crate::proofs::DumpLemmas::cached_is_whole, crate::proofs::DumpLemmas::last_is_whole))]
+#[tactic(auto, using(crate::proofs::TextLemmas::front_of_front, crate::proofs::DumpLemmas::objects_are_whole))]
 pub fn push_dump(alloc: Global, host: &Host, lines: &mut Vec<u8>) -> Result<(), NoMemory>
     ensures shown { OnOk result (lines.new.items ≡ lines.old.items ++ dump_of host.now) }
     ensures kept { take (vec_len lines.old) lines.new.items ≡ lines.old.items }

@@ -14,12 +14,12 @@
 //! ```
 #![tactic(auto)]
 
-pub mod addresses;
-pub mod bookkeeping;
+mod addresses;
+mod bookkeeping;
 pub mod dump;
-pub mod links;
+mod links;
 pub mod replies;
-pub mod rules;
+mod rules;
 pub mod tags;
 pub mod words;
 

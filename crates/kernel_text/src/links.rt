@@ -2,14 +2,14 @@
 
 ghost use Rattle.std.specs.Prelude.{◌≡◌, IfOk, OnOk};
 ghost use Rattle.serde_json.specs.View.{view};
-ghost use Rattle.cni_result.specs.Members.{members_of};
+ghost use Rattle.cni_json.specs.Members.{members_of};
 ghost use Rattle.kernel_text.specs.Dump.{namespace_data, link_key_data, link_data, put_identity, put_attributes, put_relations};
 
 use crate::dump::Dumped;
 use crate::tags::put_tag;
 use crate::words::link_mode;
 use cni_addr::{NoMemory, mode_text};
-use cni_result::JsonObject;
+use cni_json::JsonObject;
 use kernel_types::{Link, LinkKey, NsObj, link_kind_text};
 use serde_json::Value;
 use std::alloc::Global;

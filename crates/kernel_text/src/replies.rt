@@ -7,7 +7,7 @@ ghost use Rattle.kernel_text.specs.Replies.{call_name, reply_text, trace_data};
 
 use crate::tags::tag_text;
 use cni_addr::{NoMemory, Text, write_addr};
-use cni_result::JsonObject;
+use cni_json::JsonObject;
 use kernel_types::{Call, Reply};
 use serde_json::Value;
 use std::alloc::Global;

@@ -1,14 +1,14 @@
 //! Rules and settings as lines of the dump.
 
 ghost use Rattle.std.specs.Prelude.{◌≡◌, OnOk};
-ghost use Rattle.cni_result.specs.Members.{members_of};
+ghost use Rattle.cni_json.specs.Members.{members_of};
 ghost use Rattle.kernel_text.specs.Dump.{rule_data, put_match, put_chain, setting_data};
 
 use crate::dump::Dumped;
 use crate::tags::put_tag;
 use crate::words::{chain_text, target_text};
 use cni_addr::NoMemory;
-use cni_result::JsonObject;
+use cni_json::JsonObject;
 use kernel_types::{Rule, Setting, table_text};
 use serde_json::Value;
 use std::alloc::Global;

@@ -1,12 +1,12 @@
 //! Owners as texts.
 
 ghost use Rattle.std.specs.Prelude.{◌≡◌, IfOk, OnOk};
-ghost use Rattle.cni_result.specs.Members.{members_of};
+ghost use Rattle.cni_json.specs.Members.{members_of};
 ghost use Rattle.kernel_text.specs.Dump.{put_tag};
 ghost use Rattle.kernel_text.specs.Words.{attachment_text, tag_text};
 
 use cni_addr::{NoMemory, Text};
-use cni_result::JsonObject;
+use cni_json::JsonObject;
 use kernel_types::{Att, Tag};
 use std::alloc::Global;
 

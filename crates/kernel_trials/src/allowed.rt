@@ -3,7 +3,7 @@
 ghost use Rattle.std.specs.Prelude.{◌≡◌, true, false};
 ghost use Rattle.ip_pool.specs.NextAddress.{is_candidate_or_none};
 ghost use Rattle.kernel_types.specs.Apply.Calls.{last_leased};
-ghost use Rattle.kernel_types.specs.Allowed.{IsAllowed, IsAllowedChange, IsPool, IsVethPair, IsMacvlanLink};
+ghost use Rattle.kernel_types.specs.Allowed.{IsAllowed, IsAllowedChange, HasRangesApart, IsVethPair, IsMacvlanLink};
 ghost use Rattle.kernel_types.specs.Words.{is_host_ns, is_macvlan, is_owned, is_peer_at, is_veth};
 
 use cni_addr::{Addr, RangeSet, Text};
@@ -59,16 +59,16 @@ fn is_candidate_or_none(set: &RangeSet, last: Option<Addr>) -> bool
 }
 
 fn is_pool(set: &RangeSet) -> bool
-    ensures pool { result ≡ true → IsPool set.now }
-    ensures told { IsPool set.now → result ≡ true }
+    ensures pool { result ≡ true → HasRangesApart set.now }
+    ensures told { HasRangesApart set.now → result ≡ true }
 {
     are_apart(set.ranges.as_slice())
 }
 
 fn may_lease(host: &Host, network: &Text, number: u32, set: &RangeSet) -> bool
-    ensures pool { result ≡ true → IsPool set.now }
+    ensures pool { result ≡ true → HasRangesApart set.now }
     ensures last { result ≡ true → is_candidate_or_none set.now (last_leased host.now network.now number) ≡ true }
-    ensures told { IsPool set.now → is_candidate_or_none set.now (last_leased host.now network.now number) ≡ true → result ≡ true }
+    ensures told { HasRangesApart set.now → is_candidate_or_none set.now (last_leased host.now network.now number) ≡ true → result ≡ true }
 {
     is_pool(set) & is_candidate_or_none(set, last_in(host.lasts.as_slice(), network, number))
 }

@@ -25,8 +25,6 @@ mod calls;
 #[cfg(test)]
 mod objects;
 #[cfg(test)]
-mod outcomes;
-#[cfg(test)]
 mod table;
 #[cfg(test)]
 mod tests;

@@ -1,4 +1,4 @@
-//! The rows, one after another on one host, and what stands among them.
+//! The rows, one after another on one host.
 
 ghost use Rattle.std.specs.Prelude.{◌≡◌, true, IfOk};
 ghost use Rattle.kernel_types.specs.Allowed.{IsAllowed};
@@ -7,12 +7,11 @@ ghost use Rattle.kernel_types.specs.Sound.{IsSound};
 use crate::calls::call_of;
 use crate::is_allowed;
 use crate::objects::{device, one};
-use crate::outcomes::{KINDS, OUTCOMES};
 use crate::table::ROWS;
-use crate::words::{RowError, cut};
+use crate::words::RowError;
 use cni_addr::{NoMemory, Text};
 use kernel_model::{Kernel, ListKernel};
-use kernel_text::{call_name, reply_text};
+use kernel_text::reply_text;
 use kernel_types::{Call, Host, Reply, opening_with};
 use std::alloc::Global;
 use std::test::Fail;
@@ -79,50 +78,6 @@ fn each_call_and_each_refusal(rt: HostRuntime) -> Result<(), Fail> {
         } else {
             assert!(rt; row.starts_with('#'), "a row without an arrow: {row}");
         }
-    }
-    Ok(())
-}
-
-fn has_outcome(verb: &str, outcome: &str) -> bool {
-    for row in ROWS.lines() {
-        if let Some((call, reply)) = parts_of(row)
-            && cut(call).0 == verb
-            && reply.starts_with(outcome)
-        {
-            return true;
-        }
-    }
-    false
-}
-
-fn kind_of_row(alloc: Global, row: &str) -> Result<&'static str, RowError> {
-    let (words, _) = parts_of(row).unwrap_or(("", ""));
-    let call = call_of(alloc, words)?;
-    let kind = call_name(&call);
-    drop(call);
-    Ok(kind)
-}
-
-fn has_kind(alloc: Global, kind: &str) -> Result<bool, RowError> {
-    for row in ROWS.lines() {
-        if !row.starts_with('#') && kind_of_row(alloc, row)? == kind {
-            return Ok(true);
-        }
-    }
-    Ok(false)
-}
-
-#[test]
-fn no_row_is_lost(rt: HostRuntime) -> Result<(), Fail> {
-    for kind in KINDS.split(' ') {
-        assert!(rt; has_kind(rt.alloc(), kind)?, "no {kind}");
-    }
-    for line in OUTCOMES.lines() {
-        let (verb, outcome) = cut(line);
-        assert!(rt;
-            has_outcome(verb, outcome),
-            "no {verb} that is answered {outcome}"
-        );
     }
     Ok(())
 }

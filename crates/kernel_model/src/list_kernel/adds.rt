@@ -2,10 +2,11 @@
 
 ghost use Rattle.std.specs.Prelude.{◌≡◌, List, [], ◌∷◌, ◌++◌, IfOk, OnErr, find};
 ghost use Rattle.std.specs.Option.{option_copied};
-ghost use Rattle.kernel_types.specs.Apply.Calls.{append_unless_taken, veth_add_of, has_bridge_as_master, macvlan_add_of, has_master, addr_add_of, is_same_addr, route_add_of, is_same_route, rule_append_of, setting_set_of, is_same_setting};
+ghost use Rattle.kernel_types.specs.Apply.Calls.{append_unless_taken, veth_add_of, master_is_bridge_or_none, macvlan_add_of, has_master, addr_add_of, route_add_of, rule_append_of, setting_set_of};
+ghost use Rattle.kernel_types.specs.Keys.{is_same_addr, is_same_route, is_same_setting};
 ghost use Rattle.kernel_types.specs.declared.object.Host.{Host};
 
-use super::ListKernel;
+use super::HostLists;
 use crate::compared::contains;
 use crate::lists::push_both;
 use crate::words::{copy_tag, has_bridge_in, has_free_master, has_link_in, has_ns_in, link_in};
@@ -52,9 +53,9 @@ fn append_unless_taken<T: Duplicate + Drop>(
     Ok(Reply::Done)
 }
 
-impl ListKernel {
-    fn has_bridge_as_master(&self, master: &Option<Text>) -> bool
-        ensures { result ≡ has_bridge_as_master self.now master.now }
+impl HostLists {
+    fn master_is_bridge_or_none(&self, master: &Option<Text>) -> bool
+        ensures { result ≡ master_is_bridge_or_none self.now master.now }
     {
         match master {
             Some(name) => has_bridge_in(&self.links, name),
@@ -69,7 +70,7 @@ impl ListKernel {
         if !has_ns_in(&self.namespaces, &inner_end.ns) {
             return Ok(Reply::NoNs);
         }
-        if !self.has_bridge_as_master(&host_end.master) {
+        if !self.master_is_bridge_or_none(&host_end.master) {
             return Ok(Reply::NoLink);
         }
         if let Some(tag) = copy_tag(link_in(&self.links, &inner_end.ns, &inner_end.name))? {

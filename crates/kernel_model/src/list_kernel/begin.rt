@@ -4,13 +4,13 @@ ghost use Rattle.std.specs.Prelude.{◌≡◌, IfOk};
 ghost use Rattle.kernel_types.specs.Words.{has_objects};
 ghost use Rattle.kernel_types.specs.Apply.Calls.{begin_of};
 
-use super::ListKernel;
+use super::HostLists;
 use crate::lists::any_own;
 use crate::words::is_host_or_ns;
 use cni_addr::{Duplicate, NoMemory, Text};
 use kernel_types::{Att, Reply, Tag};
 
-impl ListKernel {
+impl HostLists {
     /// Whether some object is the attachment's.
     fn has_objects(&self, att: &Att) -> bool
         ensures { result ≡ has_objects self.now att.now }

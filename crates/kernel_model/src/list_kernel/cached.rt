@@ -3,13 +3,13 @@
 ghost use Rattle.std.specs.Prelude.{◌≡◌, IfOk, OnErr};
 ghost use Rattle.kernel_types.specs.Apply.Calls.{cache_put_of, cache_get_of};
 
-use super::ListKernel;
+use super::HostLists;
 use crate::lists::{any_own, find_own};
 use cni_addr::{Duplicate, NoMemory};
 use cni_result::Cached;
 use kernel_types::{Att, CachedObj, Reply, Tag};
 
-impl ListKernel {
+impl HostLists {
     pub(crate) fn cache_put(&mut self, att: &Att, cached: &Cached) -> Result<Reply, NoMemory>
         ensures ok { IfOk result (λ reply. (self.new, reply) ≡ cache_put_of self.old att.now cached.now) }
         ensures err { OnErr result (self.new ≡ self.old) }

@@ -4,7 +4,7 @@ ghost use Rattle.std.specs.Prelude.{◌≡◌};
 ghost use Rattle.std.specs.List.{list_any};
 ghost use Rattle.kernel_types.specs.Apply.Calls.{is_own_at, link_set_of};
 
-use super::ListKernel;
+use super::HostLists;
 use cni_addr::Mac;
 use kernel_types::{Att, Link, LinkKey, LinkValues, Reply, set_links};
 
@@ -15,7 +15,7 @@ fn has_own_at(links: &[Link], att: &Att, key: &LinkKey) -> bool
     links.iter().any(|l| l.is_own_at(att, key))
 }
 
-impl ListKernel {
+impl HostLists {
     pub(crate) fn link_set(
         &mut self,
         att: &Att,

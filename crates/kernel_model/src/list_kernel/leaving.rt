@@ -6,7 +6,7 @@ ghost use Rattle.kernel_types.specs.Words.{is_own};
 ghost use Rattle.kernel_types.specs.Apply.Calls.{goes_with, has_peer_in, without_links, link_del_of};
 ghost use Rattle.kernel_types.specs.declared.object.Link.{Link};
 
-use super::ListKernel;
+use super::HostLists;
 use crate::lists::{find_own, take_own};
 use cni_addr::Text;
 use kernel_types::words::{is_at, is_peer_at};
@@ -140,7 +140,7 @@ fn drop_own(links: &mut Vec<Link>, att: &Att)
     }
 }
 
-impl ListKernel {
+impl HostLists {
     /// Drops the links that leave, with the addresses and routes on them. Linear in the lists for each link that
     /// leaves.
     pub(super) fn drop_leaving<L: Leaving>(&mut self, leaving: &L)

@@ -8,7 +8,7 @@ ghost use Rattle.kernel_types.specs.Apply.{apply};
 ghost use Rattle.kernel_types.specs.Replies.{needs_no_memory};
 ghost use Rattle.kernel_types.specs.declared.call.Call.TheVariants.{NsChange, Outside};
 
-use super::ListKernel;
+use super::HostLists;
 use super::leaving::{AtPlace, InNamespace};
 use crate::words::{has_ns_in, link_in};
 use cni_addr::{NoMemory, Text};
@@ -32,7 +32,7 @@ fn drop_rules_of(rules: &mut Vec<Rule>, table: Table)
     rules.retain(|r| r.table != table);
 }
 
-impl ListKernel {
+impl HostLists {
     fn ns_add(&mut self, name: &Text) -> Result<Reply, NoMemory>
         ensures ok { IfOk result (λ reply. (self.new, reply) ≡ ns_add_of self.old name.now) }
         ensures err { OnErr result (self.new ≡ self.old) }

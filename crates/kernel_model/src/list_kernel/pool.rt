@@ -1,16 +1,14 @@
 //! Addresses of a pool.
 
-ghost use Rattle.std.specs.Prelude.{◌≡◌, true, ◌&&◌, [], ◌∷◌, ◌++◌, map, IfOk, OnOk, OnErr};
+ghost use Rattle.std.specs.Prelude.{◌≡◌, true, [], ◌∷◌, ◌++◌, map, IfOk, OnOk, OnErr};
 ghost use Rattle.std.specs.List.{list_any};
-ghost use Rattle.std.specs.Str.{bytes_eq};
-ghost use Rattle.cni_addr.specs.Equal.{addr_eq};
 ghost use Rattle.ip_pool.specs.NextAddress.{is_candidate_or_none};
-ghost use Rattle.kernel_types.specs.Allowed.{IsPool};
-ghost use Rattle.kernel_types.specs.Words.{lease_of};
-ghost use Rattle.kernel_types.specs.Apply.Calls.{is_of_pool, last_leased, leased_addresses, moved_last, with_last, lease_next_of, pool_free_of};
+ghost use Rattle.kernel_types.specs.Allowed.{HasRangesApart};
+ghost use Rattle.kernel_types.specs.Words.{is_lease_at, is_of_pool, last_leased, lease_of, leased_addresses};
+ghost use Rattle.kernel_types.specs.Apply.Calls.{moved_last, with_last, lease_next_of, pool_free_of};
 ghost use Rattle.ip_pool.specs.Pool.{pick_of};
 
-use super::ListKernel;
+use super::HostLists;
 use cni_addr::{Addr, Duplicate, NoMemory, RangeSet, Text};
 use ip_pool::{Taken, has_free, pick};
 use kernel_types::words::last_in;
@@ -24,7 +22,7 @@ struct NetworkLeases<'a> {
 }
 
 impl Taken for NetworkLeases<'_> {
-    ghost use Rattle.kernel_types.specs.Apply.Calls.{addresses_in};
+    ghost use Rattle.kernel_types.specs.Words.{addresses_in};
 
     ghost taken = { λ t. addresses_in t.leases.now t.network.now };
 
@@ -34,7 +32,7 @@ impl Taken for NetworkLeases<'_> {
 }
 
 fn is_leased(leases: &[Lease], network: &Text, addr: &Addr) -> bool
-    ensures { result ≡ list_any (λ l. bytes_eq l.network network.now && addr_eq l.addr addr.now) leases.now }
+    ensures { result ≡ list_any (is_lease_at network.now addr.now) leases.now }
 {
     leases
         .iter()
@@ -64,7 +62,7 @@ fn move_lasts(lasts: &mut Vec<Last>, network: &Text, number: u32, addr: Addr)
     }
 }
 
-impl ListKernel {
+impl HostLists {
     /// Leases the address, which becomes the last of its pool.
     fn lease(&mut self, att: &Att, number: u32, addr: Addr) -> Result<(), NoMemory>
         ensures ok { OnOk result (self.new ≡ with_last (record self.old { leases = self.old.leases ++ lease_of att.now addr ∷ [] }) att.now.network number addr) }
@@ -89,7 +87,7 @@ impl ListKernel {
 
     /// The address that is leased next.
     fn next_address(&self, network: &Text, number: u32, set: &RangeSet) -> Option<Addr>
-        requires pool { IsPool set.now }
+        requires pool { HasRangesApart set.now }
         requires last { is_candidate_or_none set.now (last_leased self.now network.now number) ≡ true }
         ensures { result ≡ pick_of set.now (last_leased self.now network.now number) (leased_addresses self.now network.now) }
     {
@@ -107,7 +105,7 @@ impl ListKernel {
         number: u32,
         set: &RangeSet,
     ) -> Result<Reply, NoMemory>
-        requires pool { IsPool set.now }
+        requires pool { HasRangesApart set.now }
         requires last { is_candidate_or_none set.now (last_leased self.old att.now.network number) ≡ true }
         ensures ok { IfOk result (λ reply. (self.new, reply) ≡ lease_next_of self.old att.now number set.now) }
         ensures err { OnErr result (self.new ≡ self.old) }
@@ -123,7 +121,7 @@ impl ListKernel {
 
     /// Linear in the leases for each address that is tried.
     pub(crate) fn pool_free(&self, network: &Text, set: &RangeSet) -> Reply
-        requires { IsPool set.now }
+        requires { HasRangesApart set.now }
         ensures { (self.now, result) ≡ pool_free_of self.now network.now set.now }
     {
         let taken = NetworkLeases {

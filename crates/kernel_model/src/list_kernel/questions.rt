@@ -6,7 +6,7 @@ ghost use Rattle.kernel_types.specs.Words.{is_bridge_with};
 ghost use Rattle.kernel_types.specs.Apply.Calls.{has_object, has_obj_of, owners_of};
 ghost use Rattle.kernel_types.specs.declared.call.Probe.TheVariants.{Whole};
 
-use super::ListKernel;
+use super::HostLists;
 use crate::compared::contains;
 use crate::owners::owners_among;
 use crate::words::{has_free_master, is_host_bridge};
@@ -23,7 +23,7 @@ fn has_bridge_at(links: &[Link], name: &Text, mac: &Mac) -> bool
         .any(|l| is_host_bridge(name, l) && l.mac == *mac)
 }
 
-impl ListKernel {
+impl HostLists {
     /// Whether an equal object is there.
     fn has_equal(&self, object: &Object) -> bool
         ensures { result ≡ has_object self.now (Whole object.now) }

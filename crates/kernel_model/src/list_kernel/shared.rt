@@ -2,9 +2,10 @@
 
 ghost use Rattle.std.specs.Prelude.{◌≡◌, IfOk, OnErr};
 ghost use Rattle.std.specs.List.{list_any};
-ghost use Rattle.kernel_types.specs.Apply.Calls.{bridge_ensure_of, new_bridge, gateway_ensure_of, new_gateway, is_same_addr, forward_ensure_of, forward_key, new_forward, is_same_setting};
+ghost use Rattle.kernel_types.specs.Apply.Calls.{bridge_ensure_of, new_bridge, gateway_ensure_of, new_gateway, forward_ensure_of, forward_key, new_forward};
+ghost use Rattle.kernel_types.specs.Keys.{is_same_addr, is_same_setting};
 
-use super::ListKernel;
+use super::HostLists;
 use crate::words::{has_bridge_in, host_link};
 use cni_addr::{Cidr, Duplicate, Family, NoMemory, Text};
 use kernel_types::words::{is_same_addr, is_same_setting};
@@ -79,7 +80,7 @@ fn has_same_setting(settings: &[Setting], obj: &Setting) -> bool
     settings.iter().any(|s| is_same_setting(obj, s))
 }
 
-impl ListKernel {
+impl HostLists {
     pub(crate) fn bridge_ensure(
         &mut self,
         alloc: Global,

@@ -3,7 +3,7 @@ use Rattle.std.specs.Prelude.{find}
 use Rattle.std.specs.Option.{option_map}
 use Rattle.std.proofs.lemmas.Result.{IfOk-weaker}
 use Rattle.kernel_types.specs.Apply.Calls.{has_link_of, is_same_addr}
-use Rattle.kernel_model.proofs.list_kernel.ListKernel.addr_add.Goals as goal
+use Rattle.kernel_model.proofs.list_kernel.HostLists.addr_add.Goals as goal
 
 pub returns-clause-ok : goal.returns-clause-ok
 returns-clause-ok c =
