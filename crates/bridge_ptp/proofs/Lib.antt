@@ -1,3 +1,1 @@
-pub mod CountLemmas
-pub mod PtpLemmas
 pub mod Shares

@@ -14,7 +14,7 @@ use Rattle.plan_words.specs.Share.{Share, no_objects}
 use Rattle.host_local.specs.Conf.{routes_of}
 use Rattle.host_local.specs.Results.{ip_of}
 use Rattle.bridge_ptp.specs.Gateways.{gateway_call, gateways_on}
-use Rattle.bridge_ptp.specs.Kinds.{interface_kinds}
+use Rattle.host_local.specs.Kinds.{interface_kinds}
 use Rattle.bridge_ptp.specs.Results.{bridge_routes}
 use Rattle.bridge_ptp.specs.Veth.{veth_share, veth_pair}
 
@@ -39,16 +39,19 @@ bridge_share_after conf att netns given = record no_objects {
 -- ---- the calls
 
 abbrev pub gateway_calls : BridgeConf → List Given → List Call
-gateway_calls conf given = if is_gateway conf.gateway then map gateway_call (gateways_on conf.bridge given) ++ forward_calls given else []
+gateway_calls conf given = if is_gateway conf.gateway
+    then map gateway_call (gateways_on conf.bridge given) ++ forward_calls given else []
 
 abbrev pub bridge_calls_before : BridgeConf → Att → List ℕ → List Call
 bridge_calls_before conf att netns =
-    BridgeEnsure conf.bridge conf.mtu (promisc conf.mode) ∷ veth_pair att netns (Some conf.bridge) conf.mtu (hairpin conf.mode) ∷ []
+    BridgeEnsure conf.bridge conf.mtu (promisc conf.mode)
+    ∷ veth_pair att netns (Some conf.bridge) conf.mtu (hairpin conf.mode) ∷ []
 
 abbrev pub bridge_calls_after : BridgeConf → Att → List ℕ → List Given → List Call
 bridge_calls_after conf att netns given =
     map AddrAdd (addresses_on att netns given)
-    ++ (map RouteAdd (routes_on att netns given (bridge_entries conf given)) ++ (gateway_calls conf given ++ map RuleAppend (masquerade_rules conf.ip_masq att given)))
+    ++ (map RouteAdd (routes_on att netns given (bridge_entries conf given))
+    ++ (gateway_calls conf given ++ map RuleAppend (masquerade_rules conf.ip_masq att given)))
 
 -- ---- the kinds of objects that DEL takes back
 

@@ -14,7 +14,7 @@ use Rattle.kernel_types.specs.declared.call.Call.TheVariants.{AddrAdd, RouteAdd,
 use Rattle.cni_addr.specs.Lists.{each_key_once}
 use Rattle.plan_words.specs.Shapes.{host_key, address_at, route_at, address_on, route_by, route_on, masquerade_rules, forward_calls}
 use Rattle.plan_words.specs.Share.{Share, no_objects}
-use Rattle.bridge_ptp.specs.Kinds.{interface_kinds}
+use Rattle.host_local.specs.Kinds.{interface_kinds}
 use Rattle.bridge_ptp.specs.Veth.{veth_share, veth_pair}
 -- an address or a route, in the order in which they are asked for
 pub use Rattle.bridge_ptp.specs.declared.ptp.AddressOrRoute.{AddressOrRoute}
@@ -56,7 +56,8 @@ ptp_objects_for att netns g =
     ∷ []
 
 abbrev pub ptp_objects : PtpConf → Att → List ℕ → List Given → List AddressOrRoute
-ptp_objects conf att netns given = each_key_once same_key (flat_map (ptp_objects_for att netns) given ++ map (λ r. Route (route_on att netns given r)) conf.ipam.routes)
+ptp_objects conf att netns given = each_key_once same_key
+    (flat_map (ptp_objects_for att netns) given ++ map (λ r. Route (route_on att netns given r)) conf.ipam.routes)
 
 abbrev pub ptp_share_before : PtpConf → Att → List ℕ → Share
 ptp_share_before conf att netns = veth_share att netns None conf.mtu false
@@ -72,7 +73,8 @@ abbrev pub ptp_calls_before : PtpConf → Att → List ℕ → List Call
 ptp_calls_before conf att netns = veth_pair att netns None conf.mtu false ∷ []
 
 abbrev pub ptp_calls_after : PtpConf → Att → List ℕ → List Given → List Call
-ptp_calls_after conf att netns given = map call_for (ptp_objects conf att netns given) ++ (forward_calls given ++ map RuleAppend (masquerade_rules conf.ip_masq att given))
+ptp_calls_after conf att netns given = map call_for (ptp_objects conf att netns given)
+    ++ (forward_calls given ++ map RuleAppend (masquerade_rules conf.ip_masq att given))
 
 -- the kinds of objects that DEL takes back
 abbrev pub ptp_kinds_of : PtpConf → List Kind

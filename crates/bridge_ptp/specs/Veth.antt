@@ -8,7 +8,9 @@ use Rattle.plan_words.specs.Share.{Share, no_objects}
 
 -- both ends, the host's under this master
 abbrev pub veth_share : Att → List ℕ → Option (List ℕ) → ℕ → Bool → Share
-veth_share att netns master mtu hairpin = record no_objects { links = host_end att netns master mtu hairpin ∷ inner_end att netns mtu ∷ [] }
+veth_share att netns master mtu hairpin = record no_objects {
+  links = host_end att netns master mtu hairpin ∷ inner_end att netns mtu ∷ [];
+}
 
 -- the call that makes them
 abbrev pub veth_pair : Att → List ℕ → Option (List ℕ) → ℕ → Bool → Call

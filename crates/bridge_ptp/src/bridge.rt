@@ -6,17 +6,16 @@ ghost use Rattle.bridge_ptp.specs.Bridge as plan;
 ghost use Rattle.bridge_ptp.specs.Gateways as gateways;
 ghost use Rattle.bridge_ptp.specs.Results as results;
 
-use crate::interfaces::{bridge_interface, completed, push_pair};
-use crate::kinds::interface_kinds;
+use crate::interfaces::{bridge_interface, push_pair};
 use crate::veth::veth_pair;
 use cni_addr::{Addr, Cidr, Duplicate, Family, Items, NoMemory, Text, copies};
 use cni_result::{AddResult, IpEntry, RouteEntry};
-use host_local::{ips_of, routes_of};
+use host_local::{interface_kinds, ips_of, routes_of};
 use kernel_types::{Att, Call, Given, Kind};
 use net_conf::BridgeConf;
 use plan_words::{
-    Asked, addresses_on, ask_all, ask_forward, default_route, first_of_family, masquerade_rules,
-    push_unless_there, routes_on,
+    Asked, addresses_on, ask_all, ask_forward, completed, default_route, first_of_family,
+    masquerade_rules, push_unless_there, routes_on,
 };
 use std::alloc::Global;
 
@@ -52,11 +51,7 @@ fn has_destination(entries: &[RouteEntry], dst: &Cidr) -> bool
 }
 
 /// The default route of the address's family, where `isDefaultGateway` adds it: unless one is configured.
-pub(crate) fn default_to(
-    is_default_gateway: bool,
-    configured: &[RouteEntry],
-    addr: &Addr,
-) -> Option<Cidr>
+fn default_to(is_default_gateway: bool, configured: &[RouteEntry], addr: &Addr) -> Option<Cidr>
     ensures { result ≡ results.default_to is_default_gateway configured.now addr.now.family }
 {
     let dst = default_route(addr.family);
@@ -74,7 +69,8 @@ fn push_default_by(
     configured: &[RouteEntry],
     ip: &IpEntry,
 ) -> Result<(), NoMemory>
-    ensures { OnOk result (entries.new ≡ entries.old ++ results.added_default is_default_gateway configured.now (Some ip.now)) }
+    ensures { OnOk result
+        (entries.new ≡ entries.old ++ results.added_default is_default_gateway configured.now (Some ip.now)) }
 {
     match default_to(is_default_gateway, configured, &ip.address.addr) {
         Some(dst) => entries.push(RouteEntry {
@@ -93,7 +89,9 @@ fn push_default(
     family: Family,
     ips: &[IpEntry],
 ) -> Result<(), NoMemory>
-    ensures { OnOk result (entries.new ≡ entries.old ++ results.added_default is_default_gateway configured.now (first_of_family family ips.now)) }
+    ensures { OnOk result
+        (entries.new
+        ≡ entries.old ++ results.added_default is_default_gateway configured.now (first_of_family family ips.now)) }
 {
     match first_of_family(ips, family) {
         Some(ip) => push_default_by(entries, is_default_gateway, configured, ip),
@@ -154,15 +152,6 @@ pub struct Gateway {
     cidr: Cidr,
 }
 
-impl Duplicate for Gateway {
-    fn copy(&self) -> Result<Gateway, NoMemory> {
-        Ok(Gateway {
-            bridge: self.bridge.copy()?,
-            cidr: self.cidr,
-        })
-    }
-}
-
 impl Asked for Gateway {
     ghost use Rattle.bridge_ptp.specs.Gateways as gateways;
 
@@ -214,7 +203,7 @@ fn ask_gateways(
 {
     if conf.gateway.is_gateway() {
         let all = gateways_on(alloc, &conf.bridge, given)?;
-        ask_all(calls, all.as_slice())?;
+        ask_all(calls, all)?;
         ask_forward(calls, given)?;
     }
     Ok(())
@@ -238,10 +227,10 @@ pub fn bridge_after(
     let routes = routes_on(alloc, att, netns, given, entries.as_slice())?;
     let rules = masquerade_rules(alloc, conf.ip_masq, att, given)?;
     let mut calls = Vec::new(alloc);
-    ask_all(&mut calls, addresses.as_slice())?;
-    ask_all(&mut calls, routes.as_slice())?;
+    ask_all(&mut calls, addresses)?;
+    ask_all(&mut calls, routes)?;
     ask_gateways(alloc, &mut calls, conf, given)?;
-    ask_all(&mut calls, rules.as_slice())?;
+    ask_all(&mut calls, rules)?;
     Ok(Items::of_vec(calls))
 }
 

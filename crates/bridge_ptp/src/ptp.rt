@@ -6,15 +6,15 @@ ghost use Rattle.plan_words.specs.Shapes as shapes;
 ghost use Rattle.bridge_ptp.specs.Ptp as plan;
 ghost use Rattle.bridge_ptp.specs.Results as results;
 
-use crate::interfaces::{completed, push_pair};
-use crate::kinds::interface_kinds;
+use crate::interfaces::push_pair;
 use crate::veth::veth_pair;
 use cni_addr::{Addr, Duplicate, Items, NoMemory, Text, whole};
 use cni_result::{AddResult, RouteEntry};
+use host_local::interface_kinds;
 use kernel_types::{AddrObj, Att, Call, Given, Kind, RouteObj};
 use net_conf::PtpConf;
 use plan_words::{
-    Asked, address_at, address_on, ask_all, ask_forward, host_key, masquerade_rules,
+    Asked, address_at, address_on, ask_all, ask_forward, completed, host_key, masquerade_rules,
     push_unless_there, route_at, route_by, route_on,
 };
 use std::alloc::Global;
@@ -24,15 +24,6 @@ use std::alloc::Global;
 pub enum AddressOrRoute {
     Address(AddrObj),
     Route(RouteObj),
-}
-
-impl Duplicate for AddressOrRoute {
-    fn copy(&self) -> Result<AddressOrRoute, NoMemory> {
-        match self {
-            AddressOrRoute::Address(obj) => Ok(AddressOrRoute::Address(obj.copy()?)),
-            AddressOrRoute::Route(obj) => Ok(AddressOrRoute::Route(obj.copy()?)),
-        }
-    }
 }
 
 impl Asked for AddressOrRoute {
@@ -110,7 +101,9 @@ fn push_objects_for(
     netns: &Text,
     given: &Given,
 ) -> Result<(), NoMemory>
-    ensures { OnOk result (objects.new.items ≡ fold (push_unless_there plan.same_key) objects.old.items (plan.ptp_objects_for att.now netns.now given.now)) }
+    ensures { OnOk result
+        (objects.new.items
+        ≡ fold (push_unless_there plan.same_key) objects.old.items (plan.ptp_objects_for att.now netns.now given.now)) }
 {
     push_address(objects, address_on(att, netns, given)?)?;
     push_route(objects, route_by(att, netns, whole(&given.gateway), None)?)?;
@@ -128,7 +121,9 @@ fn objects_for_each(
     netns: &Text,
     given: &[Given],
 ) -> Result<Vec<AddressOrRoute>, NoMemory>
-    ensures { IfOk result (λ objects. objects.items ≡ each_key_once plan.same_key (flat_map (plan.ptp_objects_for att.now netns.now) given.now)) }
+    ensures { IfOk result
+        (λ objects. objects.items
+        ≡ each_key_once plan.same_key (flat_map (plan.ptp_objects_for att.now netns.now) given.now)) }
 {
     let mut objects = Vec::new(alloc);
     for g in given {
@@ -144,7 +139,10 @@ fn push_routes(
     given: &[Given],
     entries: &[RouteEntry],
 ) -> Result<(), NoMemory>
-    ensures { OnOk result (objects.new.items ≡ fold (push_unless_there plan.same_key) objects.old.items (map (λ r. plan.Route (shapes.route_on att.now netns.now given.now r)) entries.now)) }
+    ensures { OnOk result
+        (objects.new.items
+        ≡ fold (push_unless_there plan.same_key) objects.old.items
+        (map (λ r. plan.Route (shapes.route_on att.now netns.now given.now r)) entries.now)) }
 {
     for entry in entries {
         push_route(objects, route_on(att, netns, given, entry)?)?;
@@ -180,9 +178,9 @@ pub fn ptp_after(
     let objects = ptp_objects(alloc, conf, att, netns, given)?;
     let rules = masquerade_rules(alloc, conf.ip_masq, att, given)?;
     let mut calls = Vec::new(alloc);
-    ask_all(&mut calls, objects.as_slice())?;
+    ask_all(&mut calls, objects)?;
     ask_forward(&mut calls, given)?;
-    ask_all(&mut calls, rules.as_slice())?;
+    ask_all(&mut calls, rules)?;
     Ok(Items::of_vec(calls))
 }
 

@@ -1,3 +1,1 @@
-pub mod CountLemmas
-pub mod PairLemmas
 pub mod Shares

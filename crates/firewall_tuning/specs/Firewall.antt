@@ -20,7 +20,8 @@ use Rattle.plan_words.specs.Shapes.{rule_for_all}
 
 -- to the address: what answers it
 abbrev pub accept_replies_to : Att → Addr → Rule
-accept_replies_to att addr = record (rule_for_all att Filter chains.Forward targets.Accept) { dst = Some (whole addr); established = true }
+accept_replies_to att addr = record
+    (rule_for_all att Filter chains.Forward targets.Accept) { dst = Some (whole addr); established = true }
 
 -- from the address: everything
 abbrev pub accept_from : Att → Addr → Rule

@@ -1,4 +1,3 @@
-pub mod Counts
 pub mod Firewall
 pub mod Shares
 pub mod Tuning

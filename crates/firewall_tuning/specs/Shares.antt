@@ -15,8 +15,12 @@ firewall_share_of att ips = record no_objects { rules = firewall_rules att ips }
 
 -- the container's link has its new values, and the settings stand at the end
 abbrev pub share_tuned : TuningConf → Att → List ℕ → Share → Share
-share_tuned conf att netns s = record s { links = tuned conf att netns s.links; settings = s.settings ++ tuning_settings conf att netns }
+share_tuned conf att netns s = record s {
+  links = tuned conf att netns s.links;
+  settings = s.settings ++ tuning_settings conf att netns;
+}
 
 -- in every sound host in which the calls of `tuning` are all done, they tune the attachment's share
 abbrev pub TunesShare : TuningConf → Att → List ℕ → Type 0
-TunesShare conf att netns = (host : Host) → IsSound host → AllDone host (tuning_calls_of conf att netns) → share_of att (applied host (tuning_calls_of conf att netns)) ≡ share_tuned conf att netns (share_of att host)
+TunesShare conf att netns = (host : Host) → IsSound host → AllDone host (tuning_calls_of conf att netns)
+    → share_of att (applied host (tuning_calls_of conf att netns)) ≡ share_tuned conf att netns (share_of att host)

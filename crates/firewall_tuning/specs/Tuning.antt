@@ -34,12 +34,15 @@ sets_any conf = is_some conf.mac || (is_some conf.mtu || (is_some conf.tx_qlen |
 
 abbrev pub link_set_calls : TuningConf → Att → List ℕ → List Call
 link_set_calls conf att netns =
-    if sets_any conf then LinkSet att (inner_key att netns) conf.mac conf.mtu conf.tx_qlen conf.promisc conf.allmulti ∷ [] else []
+    if sets_any conf
+    then LinkSet att (inner_key att netns) conf.mac conf.mtu conf.tx_qlen conf.promisc conf.allmulti ∷ [] else []
 
 -- the links after it
 abbrev pub tuned : TuningConf → Att → List ℕ → List Link → List Link
 tuned conf att netns links =
-    if sets_any conf then map (set_link att (inner_key att netns) conf.mac conf.mtu conf.tx_qlen conf.promisc conf.allmulti) links else links
+    if sets_any conf
+    then map (set_link att (inner_key att netns) conf.mac conf.mtu conf.tx_qlen conf.promisc conf.allmulti) links
+    else links
 
 abbrev pub tuning_calls_of : TuningConf → Att → List ℕ → List Call
 tuning_calls_of conf att netns = map SettingSet (tuning_settings conf att netns) ++ link_set_calls conf att netns
@@ -49,11 +52,23 @@ tuning_calls_of conf att netns = map SettingSet (tuning_settings conf att netns)
 -- the container's end alone has a sandbox
 abbrev pub tuned_interface : TuningConf → Version → Interface → Interface
 tuned_interface conf version i =
-    if is_some i.sandbox then record { name = i.name; mac = option_or conf.mac i.mac; mtu = option_or (mtu_since_1_1 version conf.mtu) i.mtu; sandbox = i.sandbox } else i
+    if is_some i.sandbox
+    then record {
+      name = i.name;
+      mac = option_or conf.mac i.mac;
+      mtu = option_or (mtu_since_1_1 version conf.mtu) i.mtu;
+      sandbox = i.sandbox;
+    } else i
 
 abbrev pub tuning_result_of : TuningConf → AddResult → AddResult
 tuning_result_of conf prev =
-    record { version = prev.version; interfaces = map (tuned_interface conf prev.version) prev.interfaces; ips = prev.ips; routes = prev.routes; dns = prev.dns }
+    record {
+      version = prev.version;
+      interfaces = map (tuned_interface conf prev.version) prev.interfaces;
+      ips = prev.ips;
+      routes = prev.routes;
+      dns = prev.dns;
+    }
 
 -- ---- the kinds
 

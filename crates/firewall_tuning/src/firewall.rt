@@ -3,7 +3,7 @@
 ghost use Rattle.std.specs.Prelude.{◌≡◌, IfOk};
 ghost use Rattle.firewall_tuning.specs.Firewall as plan;
 
-use cni_addr::{Addr, Items, NoMemory, whole};
+use cni_addr::{Addr, Duplicate, Items, NoMemory, whole};
 use cni_result::{AddResult, IpEntry};
 use kernel_types::{Att, Call, Chain, Kind, Rule, Table, Target};
 use plan_words::{ask_all, push_unless_there, rule_for_all};
@@ -47,8 +47,15 @@ pub fn firewall_calls(alloc: Global, att: &Att, prev: &AddResult) -> Result<Item
 {
     let rules = firewall_rules(alloc, att, prev.ips.as_slice())?;
     let mut calls = Vec::new(alloc);
-    ask_all(&mut calls, rules.as_slice())?;
+    ask_all(&mut calls, rules)?;
     Ok(Items::of_vec(calls))
+}
+
+/// The result before, unchanged.
+pub fn firewall_result(prev: &AddResult) -> Result<AddResult, NoMemory>
+    ensures { IfOk result (λ r. r ≡ prev.now) }
+{
+    prev.copy()
 }
 
 /// The kinds of objects that DEL takes back.

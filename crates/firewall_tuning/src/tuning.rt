@@ -31,7 +31,9 @@ fn settings_of(
     netns: &Text,
     sysctls: &[Sysctl],
 ) -> Result<Vec<Setting>, NoMemory>
-    ensures { IfOk result (λ settings. settings.items ≡ each_key_once is_same_setting (map (plan.setting_of att.now netns.now) sysctls.now)) }
+    ensures { IfOk result
+        (λ settings. settings.items
+        ≡ each_key_once is_same_setting (map (plan.setting_of att.now netns.now) sysctls.now)) }
 {
     let mut settings = Vec::new(alloc);
     for sysctl in sysctls {
@@ -43,7 +45,7 @@ fn settings_of(
 // ---- the container's link
 
 /// Whether any value of the link is configured.
-pub(crate) fn sets_any(conf: &TuningConf) -> bool
+fn sets_any(conf: &TuningConf) -> bool
     ensures { result ≡ plan.sets_any conf.now }
 {
     conf.mac.is_some()
@@ -84,7 +86,7 @@ pub fn tuning_calls(
 {
     let settings = settings_of(alloc, att, netns, conf.sysctl.as_slice())?;
     let mut calls = Vec::new(alloc);
-    ask_all(&mut calls, settings.as_slice())?;
+    ask_all(&mut calls, settings)?;
     ask_link_values(&mut calls, conf, att, netns)?;
     Ok(Items::of_vec(calls))
 }

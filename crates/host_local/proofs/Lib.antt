@@ -1,2 +1,1 @@
 pub mod LeaseLemmas
-pub mod RowLemmas

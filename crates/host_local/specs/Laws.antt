@@ -12,4 +12,5 @@ AreCandidates sets addrs = AllZip (λ set addr. is_candidate set addr ≡ true) 
 
 -- of candidates none is dropped, and none is moved
 abbrev pub CandidatesAreGiven : Type 0
-CandidatesAreGiven = (sets : List RangeSet) (addrs : List Addr) → AreCandidates sets addrs → map (λ given. given.address.addr) (given_of sets addrs) ≡ addrs
+CandidatesAreGiven = (sets : List RangeSet) (addrs : List Addr) → AreCandidates sets addrs
+    → map (λ given. given.address.addr) (given_of sets addrs) ≡ addrs

@@ -1,16 +1,16 @@
 -- The leases of an attachment, and what a leased address means by its range (the `host-local` plugin).
-use Rattle.std.specs.Prelude.{ℕ, ◌+◌, List, [], ◌∷◌, find, map, scan, zip, Option, option_map, option_to_list}
+use Rattle.std.specs.Prelude.{◌≡◌, ℕ, ◌+◌, true, List, [], ◌∷◌, filter_map, find, scan, slice_get, zip, Option, option_map, MatchOption}
+use Rattle.std.specs.Option.{option_and_then}
 use Rattle.cni_addr.specs.declared.address.Addr.{Addr}
 use Rattle.cni_addr.specs.declared.range.Range.{Range}
 use Rattle.cni_addr.specs.declared.range.RangeSet.{RangeSet}
-use Rattle.ip_pool.specs.NextAddress.{is_between}
+use Rattle.ip_pool.specs.NextAddress.{is_between, is_candidate}
 use Rattle.kernel_types.specs.declared.object.Att.{Att}
 use Rattle.kernel_types.specs.declared.call.Call.{Call}
 use Rattle.kernel_types.specs.declared.call.Call.TheVariants.{LeaseNext}
 use Rattle.kernel_types.specs.declared.call.Given.{Given}
 use Rattle.kernel_types.specs.declared.call.Kind.{Kind}
 use Rattle.kernel_types.specs.declared.call.Kind.TheVariants.{Leases}
-use Rattle.plan_words.specs.Rows.{present}
 
 -- one lease of each set, in order
 abbrev pub lease_calls_from : Att → ℕ → List RangeSet → List Call
@@ -27,16 +27,17 @@ given_by addr r = record { address = record { addr = addr; prefix = r.subnet.pre
 abbrev pub given_by_set : RangeSet → Addr → Option Given
 given_by_set set addr = option_map (given_by addr) (find (is_between addr) set.ranges)
 
-abbrev pub given_in : RangeSet → Addr → List Given
-given_in set addr = option_to_list (given_by_set set addr)
+-- the address is a candidate of the set of this number
+abbrev pub IsCandidateOf : List RangeSet → ℕ → Addr → Type 0
+IsCandidateOf sets number addr = MatchOption (slice_get sets number) ⊥ (λ set. is_candidate set addr ≡ true)
 
--- what is at each place, where the k-th address has a range in the k-th set
-abbrev pub given_row : List RangeSet → List Addr → List (Option Given)
-given_row sets addrs = map (λ p. given_by_set p.0 p.1) (zip sets addrs)
+-- by the set of this number
+abbrev pub given_at : List RangeSet → ℕ → Addr → Option Given
+given_at sets number addr = option_and_then (λ set. given_by_set set addr) (slice_get sets number)
 
 -- the k-th address by the k-th set; one that its set doesn't hold is passed over, which no candidate is (Laws.antt)
 abbrev pub given_of : List RangeSet → List Addr → List Given
-given_of sets addrs = present (given_row sets addrs)
+given_of sets addrs = filter_map (λ p. given_by_set p.0 p.1) (zip sets addrs)
 
 -- the kinds of objects that DEL takes back
 abbrev pub host_local_kinds : List Kind

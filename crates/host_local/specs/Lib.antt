@@ -1,4 +1,5 @@
 pub mod Conf
+pub mod Kinds
 pub mod Laws
 pub mod Leases
 pub mod Results

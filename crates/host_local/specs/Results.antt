@@ -3,6 +3,7 @@
 use Rattle.std.specs.Prelude.{List, [], map, Option, Some, None}
 use Rattle.cni_result.specs.declared.version.Version.{Version}
 use Rattle.cni_result.specs.declared.result.IpEntry.{IpEntry}
+use Rattle.cni_result.specs.declared.result.RouteEntry.{RouteEntry}
 use Rattle.cni_result.specs.Dns.{no_dns}
 use Rattle.cni_result.specs.declared.result.AddResult.{AddResult}
 use Rattle.net_conf.specs.declared.first.HostLocalConf.{HostLocalConf}
@@ -12,5 +13,8 @@ use Rattle.host_local.specs.Conf.{routes_of}
 abbrev pub ip_of : Given → IpEntry
 ip_of g = record { address = g.address; gateway = Some g.gateway; interface = None }
 
+abbrev pub result_with : List Given → List RouteEntry → Version → AddResult
+result_with given routes version = record { version = version; interfaces = []; ips = map ip_of given; routes = routes; dns = no_dns }
+
 abbrev pub ipam_result_of : Option HostLocalConf → List Given → Version → AddResult
-ipam_result_of ipam given version = record { version = version; interfaces = []; ips = map ip_of given; routes = routes_of ipam; dns = no_dns }
+ipam_result_of ipam given version = result_with given (routes_of ipam) version

@@ -6,20 +6,20 @@
 //! (`specs/Laws.antt`).
 //!
 //! ```text
-//! lease_at(sets, att, 0)?        // the LeaseNext of the first set
-//! given_of(alloc, sets, &addrs)? // 10.88.0.2/16, by the gateway 10.88.0.1, of the subnet 10.88.0.0/16
+//! lease_calls(alloc, &conf, &att)? // a LeaseNext of each range set
+//! given(&conf, 0, &addr)           // 10.88.0.2/16, by the gateway 10.88.0.1, of the subnet 10.88.0.0/16
 //! ```
 #![tactic(auto)]
 
 pub mod conf;
+pub mod kinds;
 pub mod laws;
 pub mod leases;
 pub mod results;
-pub mod rows;
 #[cfg(test)]
 mod tests;
 
 pub use conf::{ipam_of, routes_of};
-pub use leases::{kinds, lease_at};
-pub use results::{ipam_result, ips_of};
-pub use rows::{GivenByIps, GivenBySets, given_of};
+pub use kinds::interface_kinds;
+pub use leases::{given, given_of, lease_at, lease_calls, release_kinds};
+pub use results::{ipam_result, ipam_result_of, ips_of};

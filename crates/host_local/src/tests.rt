@@ -1,12 +1,14 @@
 //! The leases of an attachment to a network of two sets, and what their addresses mean.
 
-ghost use Rattle.std.specs.Prelude.{◌≡◌, IfOk, length};
+ghost use Rattle.std.specs.Prelude.{◌≡◌};
 ghost use Rattle.cni_addr.specs.declared.address.Family.TheVariants.{V4};
 
-use super::{given_of, kinds, lease_at};
-use cni_addr::{Addr, Cidr, Duplicate, Family, Items, NoMemory, Range, RangeSet, Text};
+use super::{given, given_of, ipam_result, lease_at, lease_calls, release_kinds};
+use cni_addr::{Addr, Cidr, Duplicate, Family, NoMemory, RangeSet, Text};
+use cni_result::Version;
+use ip_pool::contains_candidate;
 use kernel_types::{Att, Call, Given, Kind};
-use net_conf::HostLocalConf;
+use net_conf::{First, HostLocalConf, NetList, read_list};
 use std::alloc::Global;
 use std::test::Fail;
 
@@ -33,28 +35,22 @@ fn subnet(network: u32) -> Cidr
     }
 }
 
-/// From the address 2 to the address 9, by the gateway 1.
-fn set(alloc: Global, network: u32) -> Result<RangeSet, NoMemory> {
-    let mut ranges = Items::new(alloc);
-    ranges.push(Range {
-        subnet: subnet(network),
-        start: address(network, 2),
-        end: address(network, 9),
-        gateway: address(network, 1),
-    })?;
-    Ok(RangeSet { ranges })
+/// Two sets, each from the address 2 to the address 9, by the gateway 1.
+const TWO_SETS: &str =
+    r#"{"cniVersion":"1.1.0","name":"podman","plugins":[{"type":"ptp","ipam":{"type":"host-local","ranges":[[{"subnet":"10.88.0.0/16","rangeStart":"10.88.0.2","rangeEnd":"10.88.0.9","gateway":"10.88.0.1"}],[{"subnet":"10.89.0.0/16","rangeStart":"10.89.0.2","rangeEnd":"10.89.0.9","gateway":"10.89.0.1"}]]}}]}"#;
+
+fn two_sets(alloc: Global) -> Result<NetList, Fail> {
+    match read_list(alloc, TWO_SETS.as_bytes()) {
+        Ok(list) => Ok(list),
+        Err(_) => Err("a network list".into()),
+    }
 }
 
-fn two_sets(alloc: Global) -> Result<HostLocalConf, NoMemory>
-    ensures { IfOk result (λ conf. length conf.sets ≡ 2) }
-{
-    let mut sets = Items::new(alloc);
-    sets.push(set(alloc, TEN_88)?)?;
-    sets.push(set(alloc, TEN_89)?)?;
-    Ok(HostLocalConf {
-        sets,
-        routes: Items::new(alloc),
-    })
+fn ipam_of(list: &NetList) -> Option<&HostLocalConf> {
+    match &list.first {
+        First::Ptp(conf) => Some(&conf.ipam),
+        First::Bridge(_) | First::Macvlan(_) => None,
+    }
 }
 
 fn container(alloc: Global) -> Result<Att, NoMemory> {
@@ -92,25 +88,72 @@ fn leases(call: &Option<Call>, att: &Att, number: u32, set: &RangeSet) -> bool {
 
 #[test]
 fn each_set_is_leased_from_once(rt: HostRuntime) -> Result<(), Fail> {
-    let conf = two_sets(rt.alloc())?;
+    let list = two_sets(rt.alloc())?;
+    let Some(conf) = ipam_of(&list) else {
+        return Err("addresses".into());
+    };
     let sets = conf.sets.as_slice();
+    let [one, other] = sets else {
+        return Err("two sets".into());
+    };
     let att = container(rt.alloc())?;
     let first = lease_at(sets, att.copy()?, 0)?;
     let second = lease_at(sets, att.copy()?, 1)?;
     let third = lease_at(sets, att.copy()?, 2)?;
-    assert!(rt; leases(&first, &att, 0, &sets[0]));
-    assert!(rt; leases(&second, &att, 1, &sets[1]));
+    assert!(rt; leases(&first, &att, 0, one));
+    assert!(rt; leases(&second, &att, 1, other));
     assert!(rt; third.is_none());
-    assert!(rt; kinds() == [Kind::Leases]);
+    let all = lease_calls(rt.alloc(), conf, &att)?.into_vec();
+    assert!(rt; all.len() == 2 && first.as_ref() == all.first() && second.as_ref() == all.last());
+    assert!(rt; release_kinds() == [Kind::Leases]);
     Ok(())
 }
 
 #[test]
 fn an_address_is_given_by_the_range_of_its_set(rt: HostRuntime) -> Result<(), Fail> {
-    let conf = two_sets(rt.alloc())?;
+    let list = two_sets(rt.alloc())?;
+    let Some(conf) = ipam_of(&list) else {
+        return Err("addresses".into());
+    };
     let addrs = [address(TEN_88, 9), address(TEN_89, 2)];
     let both = given_of(rt.alloc(), conf.sets.as_slice(), &addrs)?;
     let meant = [means(TEN_88, 9), means(TEN_89, 2)];
     assert!(rt; both.as_slice() == meant.as_slice());
+    Ok(())
+}
+
+/// What the address means by the first set, where it is a candidate of it.
+fn given_by_first(conf: &HostLocalConf, addr: &Addr) -> Option<Given> {
+    match conf.sets.as_slice().get(0) {
+        Some(set) => {
+            if contains_candidate(set, addr) {
+                Some(given(conf, 0, addr))
+            } else {
+                None
+            }
+        }
+        None => None,
+    }
+}
+
+#[test]
+fn a_candidate_is_given_and_told(rt: HostRuntime) -> Result<(), Fail> {
+    let list = two_sets(rt.alloc())?;
+    let Some(conf) = ipam_of(&list) else {
+        return Err("addresses".into());
+    };
+    let one = given_by_first(conf, &address(TEN_88, 9));
+    assert!(rt; one == Some(means(TEN_88, 9)));
+    assert!(rt; given_by_first(conf, &address(TEN_88, 1)).is_none());
+    let found = ipam_result(rt.alloc(), conf, &[means(TEN_88, 9)], Version::V1_0)?;
+    assert!(rt; found.interfaces.as_slice().is_empty());
+    let gateways: Vec<Option<Addr>> = found
+        .ips
+        .as_slice()
+        .iter()
+        .map(|ip| ip.gateway)
+        .collect(rt.alloc())?;
+    let told = [Some(address(TEN_88, 1))];
+    assert!(rt; gateways.as_slice() == told.as_slice());
     Ok(())
 }

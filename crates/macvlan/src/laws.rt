@@ -10,6 +10,8 @@ use net_conf::MacvlanConf;
 /// In every sound host in which each call of `macvlan` is done, the calls before the leases append the link, and those
 /// after them its addresses and routes, in order.
 pub fn macvlan_appends_its_share(conf: &MacvlanConf, att: &Att, netns: &Text, given: &[Given])
-    ensures before { AppendsShare att.now (macvlan_calls_before conf.now att.now netns.now) (macvlan_share_before conf.now att.now netns.now) }
-    ensures after { AppendsShare att.now (macvlan_calls_after conf.now att.now netns.now given.now) (macvlan_share_after conf.now att.now netns.now given.now) }
+    ensures before { AppendsShare att.now (macvlan_calls_before conf.now att.now netns.now)
+        (macvlan_share_before conf.now att.now netns.now) }
+    ensures after { AppendsShare att.now (macvlan_calls_after conf.now att.now netns.now given.now)
+        (macvlan_share_after conf.now att.now netns.now given.now) }
 {}

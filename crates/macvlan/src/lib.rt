@@ -1,32 +1,25 @@
 //! The `macvlan` plugin: a link of the container over a link of the host.
 //!
-//! To the verbs it promises the calls before an address is leased, the calls after it and their number, the result,
-//! and the kinds of objects that DEL takes back. They are those of `specs/Macvlan.antt`.
+//! To the verbs it promises the calls before an address is leased, the calls after it, the result, and the kinds of
+//! objects that DEL takes back. They are those of `specs/Macvlan.antt`.
 //!
 //! ```text
 //! macvlan::before(alloc, &conf, &att, &netns)?        // MacvlanAdd
 //! macvlan::after(alloc, &conf, &att, &netns, &given)? // AddrAdd and RouteAdd
-//! macvlan::after_count(&conf, given.as_slice())       // how many they are, without memory
 //! ```
 #![tactic(auto)]
 
 pub mod laws;
 
-ghost use Rattle.std.specs.Prelude.{◌≡◌, ℕ, List, length, IfOk};
-ghost use Rattle.kernel_types.specs.declared.object.Att.{Att};
-ghost use Rattle.plan_words.specs.Rows.{present};
+ghost use Rattle.std.specs.Prelude.{◌≡◌, IfOk};
 ghost use Rattle.macvlan.specs.Macvlan as plan;
 
-use bridge_ptp::interfaces::{completed, inner_interface};
-use bridge_ptp::kinds::interface_kinds;
 use cni_addr::{Duplicate, Items, NoMemory, Text};
 use cni_result::AddResult;
-use host_local::routes_of;
+use host_local::{interface_kinds, routes_of};
 use kernel_types::{Att, Call, Given, Kind};
 use net_conf::MacvlanConf;
-use plan_words::{
-    GivenRow, addresses_on, ask_all, count_addresses, count_routes, macvlan_link, routes_on,
-};
+use plan_words::{addresses_on, ask_all, completed, inner_interface, macvlan_link, routes_on};
 use std::alloc::Global;
 
 /// The calls before an address is leased: the link.
@@ -57,20 +50,9 @@ pub fn after(
     let addresses = addresses_on(alloc, att, netns, given)?;
     let routes = routes_on(alloc, att, netns, given, routes_of(conf.ipam.as_ref()))?;
     let mut calls = Vec::new(alloc);
-    ask_all(&mut calls, addresses.as_slice())?;
-    ask_all(&mut calls, routes.as_slice())?;
+    ask_all(&mut calls, addresses)?;
+    ask_all(&mut calls, routes)?;
     Ok(Items::of_vec(calls))
-}
-
-/// How many calls there are after the leases, for any attachment that is given these addresses: an address or a
-/// destination that comes twice is asked for once. Takes no memory; quadratic in the addresses and in the routes.
-pub fn after_count<G: GivenRow + Copy>(conf: &MacvlanConf, given: G) -> usize
-    ensures { (att : Att) (netns : List ℕ) → length (plan.macvlan_calls_after conf.now att netns (present (G.values given))) ≡ result }
-{
-    let entries = routes_of(conf.ipam.as_ref());
-    let _places = given.places();
-    let _few = 16 * entries.len();
-    count_addresses(given) + count_routes(entries)
 }
 
 /// The result of the address plugin with the link and its index.

@@ -65,6 +65,6 @@ route_lies att links r none lies = unowned att links r.ns r.link r.tag none (λ 
 pub no-links : (att : Att) (host : Host) → IsSound host → (share_of att host).links ≡ [] → ((share_of att host).addresses ≡ []) × ((share_of att host).routes ≡ [])
 no-links att host sound none =
     let no = empty_none (λ l. is_own att l.tag) host.links none in (
-      filter_never (λ a. is_own att a.tag) (λ a. address_fits_tag host.links a a.tag) (λ a lies. addr_lies att host.links a no lies) host.addresses sound.addresses.lie,
-      filter_never (λ r. is_own att r.tag) (λ r. list_any (is_link_of r.ns r.link r.tag) host.links) (λ r lies. route_lies att host.links r no lies) host.routes sound.routes.lie,
+      filter_never (λ a. is_own att a.tag) (λ a. address_fits_tag host.links a a.tag) (λ a lies. addr_lies att host.links a no lies) host.addresses sound.addresses.on_links,
+      filter_never (λ r. is_own att r.tag) (λ r. list_any (is_link_of r.ns r.link r.tag) host.links) (λ r lies. route_lies att host.links r no lies) host.routes sound.routes.on_links,
     )

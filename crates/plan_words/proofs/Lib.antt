@@ -1,9 +1,7 @@
 pub mod Appends
 pub mod CallLists
-pub mod CountLemmas
 pub mod Deletions
 pub mod KeyLists
 pub mod OtherCalls
 pub mod OwnCalls
 pub mod Refusals
-pub mod RowLemmas

@@ -15,7 +15,7 @@ use Rattle.ip_pool.specs.Pool.{pick_of}
 use Rattle.kernel_types.specs.Equal.{att_eq, rule_eq}
 use Rattle.kernel_types.specs.Words.{is_own, is_host_or_ns, has_named_ns, link_at, is_host_link, has_host_bridge, has_objects, lease_of}
 use Rattle.kernel_types.specs.Apply.{apply}
-use Rattle.kernel_types.specs.Apply.Calls.{append_unless_taken, unless_there, begin_of, bridge_or_new, new_bridge, gateway_ensure_of, forward_ensure_of, has_bridge_as_master, veth_add_of, has_master, macvlan_add_of, with_values, set_link, is_own_at, link_set_of, has_link_of, is_same_addr, addr_add_of, is_same_route, route_add_of, rule_append_of, is_same_setting, setting_set_of, leased_addresses, last_leased, is_of_pool, with_last, lease_taken, lease_next_of, cache_put_of}
+use Rattle.kernel_types.specs.Apply.Calls.{append_unless_taken, unless_there, begin_of, bridge_or_new, new_bridge, gateway_ensure_of, forward_ensure_of, master_is_bridge_or_none, veth_add_of, has_master, macvlan_add_of, with_values, set_link, is_own_at, link_set_of, has_link_of, is_same_addr, addr_add_of, is_same_route, route_add_of, rule_append_of, is_same_setting, setting_set_of, leased_addresses, last_leased, is_of_pool, with_last, lease_taken, lease_next_of, cache_put_of}
 use Rattle.cni_addr.proofs.Cases.{by_test}
 use Rattle.kernel_types.proofs.Cases.{att_eq-refl}
 use Rattle.kernel_types.proofs.LeasedAddress.{same_leased}
@@ -75,7 +75,7 @@ own-forward att host family =
 own-veth : (att : Att) (host : Host) (h i : Link) → is_own att h.tag ≡ true → is_own att i.tag ≡ true → Grows att (share_after_call (share_of att host) (VethAdd h i)) (veth_add_of host h i)
 own-veth att host h i own_h own_i =
     grows-if att _ (has_named_ns host i.ns) host _ _ (λ e. cc)
-    (grows-if att _ (has_bridge_as_master host h.master) host _ _ (λ e. cc)
+    (grows-if att _ (master_is_bridge_or_none host h.master) host _ _ (λ e. cc)
     (grows-appended att _ (option_map (λ l. l.tag) (option_or (link_at host i.ns i.name) (link_at host h.ns h.name))) host _
     (ap (λ l. record (share_of att host) { links = l }) (filter-two_kept (λ l. is_own att l.tag) host.links h i own_h own_i))))
 

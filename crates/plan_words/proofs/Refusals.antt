@@ -9,7 +9,7 @@ use Rattle.ip_pool.specs.Pool.{pick_of}
 use Rattle.kernel_types.specs.Equal.{rule_eq}
 use Rattle.kernel_types.specs.Words.{is_own, has_named_ns, link_at, is_host_link, has_host_bridge}
 use Rattle.kernel_types.specs.Apply.{apply}
-use Rattle.kernel_types.specs.Apply.Calls.{append_unless_taken, unless_there, bridge_or_new, new_bridge, new_gateway, new_forward, has_bridge_as_master, has_master, is_own_at, has_link_of, is_same_addr, is_same_route, is_same_setting, leased_addresses, last_leased, lease_taken, lease_next_of}
+use Rattle.kernel_types.specs.Apply.Calls.{append_unless_taken, unless_there, bridge_or_new, new_bridge, new_gateway, new_forward, master_is_bridge_or_none, has_master, is_own_at, has_link_of, is_same_addr, is_same_route, is_same_setting, leased_addresses, last_leased, lease_taken, lease_next_of}
 use Rattle.kernel_types.specs.declared.object.Att.{Att}
 use Rattle.kernel_types.specs.declared.object.Tag.{Tag}
 use Rattle.kernel_types.specs.declared.object.Link.{Link}
@@ -50,7 +50,7 @@ refused-same att host (GatewayEnsure bridge cidr) is =
 refused-same att host (ForwardEnsure family) is = same-there (list_any (is_same_setting (new_forward family)) host.settings) Done host _
 refused-same att host (VethAdd h i) is =
     same-if (has_named_ns host i.ns) host _ _
-    (same-if (has_bridge_as_master host h.master) host _ _
+    (same-if (master_is_bridge_or_none host h.master) host _ _
     (same-appended (option_map (λ l. l.tag) (option_or (link_at host i.ns i.name) (link_at host h.ns h.name))) host _))
 refused-same att host (MacvlanAdd link) is =
     same-if (has_named_ns host link.ns) host _ _

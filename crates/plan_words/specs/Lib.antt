@@ -1,6 +1,5 @@
 pub mod Families
 pub mod PlanCalls
-pub mod Rows
-pub mod RuleKeys
+pub mod Results
 pub mod Shapes
 pub mod Share

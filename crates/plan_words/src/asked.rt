@@ -1,15 +1,15 @@
 //! Lists of objects in which each key stands once, and the calls that ask for them.
 
-ghost use Rattle.std.specs.Prelude.{◌≡◌, ◌++◌, map, OnOk};
+ghost use Rattle.std.specs.Prelude.{◌≡◌, ◌++◌, map, OnErr, OnOk};
 ghost use Rattle.std.specs.List.{list_any};
 ghost use Rattle.cni_addr.specs.Lists.{push_unless_there};
 
-use cni_addr::{Duplicate, NoMemory};
+use cni_addr::NoMemory;
 use kernel_types::words::{is_same_addr, is_same_route, is_same_setting};
 use kernel_types::{AddrObj, Call, RouteObj, Rule, Setting};
 
 /// An object that a call asks for, with the test whether another has its key.
-pub trait Asked: Duplicate + Drop {
+pub trait Asked: Drop {
     ghost use Rattle.std.specs.Prelude.{◌≡◌, Bool};
     ghost use Rattle.kernel_types.specs.declared.call.Call.{Call};
 
@@ -100,10 +100,11 @@ fn has<T: Asked>(objects: &[T], object: &T) -> bool
     objects.iter().any(|x| object.has_key(x))
 }
 
-/// Puts the object at the end, unless one with its key is there. Linear in the list, which is short: it holds the
-/// objects of one attachment.
+/// Puts the object at the end, unless one with its key is there, or leaves the list as it was. Linear in the list: it
+/// holds the objects of one attachment.
 pub fn push_unless_there<T: Asked>(objects: &mut Vec<T>, object: T) -> Result<(), NoMemory>
-    ensures { OnOk result (objects.new.items ≡ push_unless_there T.same_key objects.old.items object) }
+    ensures ok { OnOk result (objects.new.items ≡ push_unless_there T.same_key objects.old.items object) }
+    ensures err { OnErr result (objects.new.items ≡ objects.old.items) }
 {
     if has(objects, &object) {
         return Ok(());
@@ -112,12 +113,16 @@ pub fn push_unless_there<T: Asked>(objects: &mut Vec<T>, object: T) -> Result<()
     Ok(())
 }
 
-/// Puts the calls that ask for the objects at the end.
-pub fn ask_all<T: Asked>(calls: &mut Vec<Call>, objects: &[T]) -> Result<(), NoMemory>
-    ensures { OnOk result (calls.new.items ≡ calls.old.items ++ map T.call_for objects.now) }
+/// Puts the calls that ask for the objects at the end, or leaves the calls as they were.
+pub fn ask_all<T: Asked>(calls: &mut Vec<Call>, objects: Vec<T>) -> Result<(), NoMemory>
+    ensures ok { OnOk result (calls.new.items ≡ calls.old.items ++ map T.call_for objects.items) }
+    ensures err { OnErr result (calls.new.items ≡ calls.old.items) }
 {
-    for object in objects {
-        calls.push(object.copy()?.ask())?;
-    }
+    let alloc = *calls.allocator();
+    let mut asked: Vec<Call> = objects
+        .into_iter()
+        .map(|object| object.ask())
+        .collect(alloc)?;
+    calls.append(&mut asked)?;
     Ok(())
 }

@@ -3,9 +3,7 @@
 ghost use Rattle.std.specs.Prelude.{◌≡◌};
 ghost use Rattle.std.specs.Option.{option_copied};
 ghost use Rattle.plan_words.specs.Families as families;
-ghost use Rattle.plan_words.specs.Rows.{present};
 
-use crate::rows::GivenRow;
 use cni_addr::{Cidr, Family};
 use cni_result::IpEntry;
 use kernel_types::Given;
@@ -24,23 +22,15 @@ pub fn first_of_family<'a>(ips: &'a [IpEntry], family: Family) -> Option<&'a IpE
 }
 
 /// The first given address of the family. Takes no memory.
-pub fn first_given<G: GivenRow>(given: &G, family: Family) -> Option<Given>
-    ensures { result ≡ families.first_given family (present (G.values given.now)) }
+pub fn first_given<'a>(given: &'a [Given], family: Family) -> Option<&'a Given>
+    ensures { option_copied result ≡ families.first_given family given.now }
 {
-    for place in 0..given.places() {
-        if let Some(g) = given.given_at(place) {
-            if is_of_family(&g.address, family) {
-                return Some(g);
-            }
-        }
-    }
-    None
+    given.iter().find(|g| is_of_family(&g.address, family))
 }
 
 /// Whether an address of the family is given. Takes no memory.
-#[tactic(auto, using(crate::proofs::CountLemmas::family_steps))]
-pub fn has_family<G: GivenRow>(given: &G, family: Family) -> bool
-    ensures { result ≡ families.has_family family (present (G.values given.now)) }
+pub fn has_family(given: &[Given], family: Family) -> bool
+    ensures { result ≡ families.has_family family given.now }
 {
-    first_given(given, family).is_some()
+    given.iter().any(|g| is_of_family(&g.address, family))
 }

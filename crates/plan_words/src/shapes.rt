@@ -173,11 +173,10 @@ pub fn addresses_on(
     Ok(objects)
 }
 
-#[tactic(auto, using(crate::proofs::RowLemmas::given_steps))]
 fn family_gateway(given: &[Given], family: Family) -> Option<Addr>
     ensures { result ≡ option_map (λ g. g.gateway) (families.first_given family given.now) }
 {
-    first_given(&given, family).map(|g| g.gateway)
+    first_given(given, family).map(|g| g.gateway)
 }
 
 fn gateway_for(given: &[Given], route: &RouteEntry) -> Option<Addr>
@@ -295,11 +294,10 @@ pub fn masquerade_rules(
     }
 }
 
-#[tactic(auto, using(crate::proofs::RowLemmas::given_steps))]
 fn ask_forward_for(calls: &mut Vec<Call>, family: Family, given: &[Given]) -> Result<(), NoMemory>
     ensures { OnOk result (calls.new.items ≡ calls.old.items ++ shapes.forward_for family given.now) }
 {
-    if has_family(&given, family) {
+    if has_family(given, family) {
         calls.push(Call::ForwardEnsure { family })?;
     }
     Ok(())

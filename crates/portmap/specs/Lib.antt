@@ -1,3 +1,2 @@
-pub mod PortKeys
 pub mod Portmap
 pub mod Share

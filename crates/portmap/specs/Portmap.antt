@@ -58,13 +58,15 @@ from_host att m addr V6 = []
 abbrev pub masquerades_of : Bool → Att → IpEntry → PortMapping → List Rule
 masquerades_of snat att ip m =
     if snat
-    then hostport_masquerade att m ip.address.addr (network_of ip.address) ∷ from_host att m ip.address.addr ip.address.addr.family
+    then hostport_masquerade att m ip.address.addr (network_of ip.address)
+    ∷ from_host att m ip.address.addr ip.address.addr.family
     else []
 
 abbrev pub rules_for : Bool → Att → PortMapping → Option IpEntry → List Rule
 rules_for snat att m None = []
 rules_for snat att m (Some ip) =
-    if host_ip_allows m.host_ip ip.address.addr then dnat_of att m ip.address.addr ∷ masquerades_of snat att ip m else []
+    if host_ip_allows m.host_ip ip.address.addr
+    then dnat_of att m ip.address.addr ∷ masquerades_of snat att ip m else []
 
 -- for the first address of each family, IPv4 first
 abbrev pub mapping_rules : Bool → Att → List IpEntry → PortMapping → List Rule

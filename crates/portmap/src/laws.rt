@@ -16,5 +16,6 @@ pub fn portmap_appends_its_share(
     mappings: &[PortMapping],
     prev: &AddResult,
 )
-    ensures { AppendsShare att.now (portmap_calls_of conf.now att.now mappings.now prev.now.ips) (portmap_share_of conf.now att.now mappings.now prev.now.ips) }
+    ensures { AppendsShare att.now (portmap_calls_of conf.now att.now mappings.now prev.now.ips)
+        (portmap_share_of conf.now att.now mappings.now prev.now.ips) }
 {}

@@ -1,15 +1,13 @@
 //! The `portmap` plugin: ports of the host that lead to the container.
 //!
-//! To the verbs it promises its calls and the kinds of objects that DEL takes back as values. They are those of
-//! `specs/Portmap.antt`; its result is the one before.
+//! To the verbs it promises its calls, its result, which is the one before, and the kinds of objects that DEL takes
+//! back. They are those of `specs/Portmap.antt`.
 //!
 //! ```text
 //! portmap::calls(alloc, &conf, &att, &mappings, &prev)? // for each mapping up to three RuleAppend an address
-//! portmap::count(&conf, mappings.as_slice(), given.as_slice()) // how many they are, without memory
 //! ```
 #![tactic(auto)]
 
-pub mod counts;
 pub mod laws;
 
 ghost use Rattle.std.specs.Prelude.{◌≡◌, fold, option_map, IfOk, OnOk};
@@ -19,16 +17,15 @@ ghost use Rattle.cni_addr.specs.Lists.{push_unless_there};
 ghost use Rattle.plan_words.specs.Families as families;
 ghost use Rattle.portmap.specs.Portmap as plan;
 
-use cni_addr::{Addr, Cidr, Family, Items, NoMemory, network_of, whole};
+use cni_addr::{Addr, Cidr, Duplicate, Family, Items, NoMemory, network_of, whole};
 use cni_result::{AddResult, IpEntry, PortMapping};
-pub use counts::{MappingRow, count};
 use kernel_types::{Att, Call, Chain, Kind, Rule, Table, Target};
 use net_conf::PortmapConf;
 use plan_words::{ask_all, first_of_family, push_unless_there, rule_for_all};
 use std::alloc::Global;
 
 /// `127.0.0.1/32`
-pub(crate) fn loopback() -> Cidr
+fn loopback() -> Cidr
     ensures { result ≡ plan.loopback }
 {
     Cidr {
@@ -41,7 +38,7 @@ pub(crate) fn loopback() -> Cidr
 }
 
 /// Whether the mapping asks for no host address of the other family.
-pub(crate) fn host_ip_allows(mapping: &PortMapping, addr: &Addr) -> bool
+fn host_ip_allows(mapping: &PortMapping, addr: &Addr) -> bool
     ensures { result ≡ plan.host_ip_allows mapping.now.host_ip addr.now }
 {
     match mapping.host_ip {
@@ -97,7 +94,10 @@ fn push_from_host(
     mapping: &PortMapping,
     addr: &Addr,
 ) -> Result<(), NoMemory>
-    ensures { OnOk result (rules.new.items ≡ fold (push_unless_there rule_eq) rules.old.items (plan.from_host att.now mapping.now addr.now addr.now.family)) }
+    ensures { OnOk result
+        (rules.new.items
+        ≡ fold (push_unless_there rule_eq) rules.old.items
+        (plan.from_host att.now mapping.now addr.now addr.now.family)) }
 {
     match addr.family {
         Family::V4 => {
@@ -114,7 +114,9 @@ fn push_masquerades(
     ip: &IpEntry,
     mapping: &PortMapping,
 ) -> Result<(), NoMemory>
-    ensures { OnOk result (rules.new.items ≡ fold (push_unless_there rule_eq) rules.old.items (plan.masquerades_of snat att.now ip.now mapping.now)) }
+    ensures { OnOk result
+        (rules.new.items
+        ≡ fold (push_unless_there rule_eq) rules.old.items (plan.masquerades_of snat att.now ip.now mapping.now)) }
 {
     if snat {
         let addr = ip.address.addr;
@@ -136,7 +138,9 @@ fn push_rules_to(
     mapping: &PortMapping,
     ip: &IpEntry,
 ) -> Result<(), NoMemory>
-    ensures { OnOk result (rules.new.items ≡ fold (push_unless_there rule_eq) rules.old.items (plan.rules_for snat att.now mapping.now (Some ip.now))) }
+    ensures { OnOk result
+        (rules.new.items
+        ≡ fold (push_unless_there rule_eq) rules.old.items (plan.rules_for snat att.now mapping.now (Some ip.now))) }
 {
     if host_ip_allows(mapping, &ip.address.addr) {
         push_unless_there(rules, dnat_of(att, mapping, &ip.address.addr)?)?;
@@ -153,7 +157,10 @@ fn push_rules_for(
     mapping: &PortMapping,
     family: Family,
 ) -> Result<(), NoMemory>
-    ensures { OnOk result (rules.new.items ≡ fold (push_unless_there rule_eq) rules.old.items (plan.rules_for snat att.now mapping.now (families.first_of_family family ips.now))) }
+    ensures { OnOk result
+        (rules.new.items
+        ≡ fold (push_unless_there rule_eq) rules.old.items
+        (plan.rules_for snat att.now mapping.now (families.first_of_family family ips.now))) }
 {
     match first_of_family(ips, family) {
         Some(ip) => push_rules_to(rules, snat, att, mapping, ip),
@@ -169,7 +176,9 @@ fn push_mapping_rules(
     ips: &[IpEntry],
     mapping: &PortMapping,
 ) -> Result<(), NoMemory>
-    ensures { OnOk result (rules.new.items ≡ fold (push_unless_there rule_eq) rules.old.items (plan.mapping_rules snat att.now ips.now mapping.now)) }
+    ensures { OnOk result
+        (rules.new.items
+        ≡ fold (push_unless_there rule_eq) rules.old.items (plan.mapping_rules snat att.now ips.now mapping.now)) }
 {
     push_rules_for(rules, snat, att, ips, mapping, Family::V4)?;
     push_rules_for(rules, snat, att, ips, mapping, Family::V6)
@@ -204,8 +213,15 @@ pub fn calls(
 {
     let rules = portmap_rules(alloc, conf, att, mappings, prev.ips.as_slice())?;
     let mut all = Vec::new(alloc);
-    ask_all(&mut all, rules.as_slice())?;
+    ask_all(&mut all, rules)?;
     Ok(Items::of_vec(all))
+}
+
+/// The result before, unchanged.
+pub fn result(prev: &AddResult) -> Result<AddResult, NoMemory>
+    ensures { IfOk result (λ r. r ≡ prev.now) }
+{
+    prev.copy()
 }
 
 /// The kinds of objects that DEL takes back.
