@@ -1,59 +1,119 @@
 -- Which phases are over, and how they end.
-use Rattle.std.proofs.Common.{◌≡◌, ℕ, ◌<◌, ◌≤◌, List, [], ◌∷◌, length, drop, refl, sym, ap, subst, arith, not, Option, Some, None, inl, inr}
+use Rattle.std.proofs.Common.{◌≡◌, ℕ, ◌<◌, ◌≤◌, List, [], ◌∷◌, ◌++◌, length, drop, refl, sym, ap, subst, arith, not, Option, Some, None, inl, inr}
+use Rattle.std.proofs.lemmas.List.{length-append}
 use Rattle.std.specs.Prelude.{◌⊎◌, Bool, true, false, option_map, MatchBool}
 use Rattle.std.specs.Bool.{FalseIff}
 use Rattle.cni_addr.specs.declared.address.Addr.{Addr}
+use Rattle.cni_result.specs.declared.cached.Cached.{Cached}
 use Rattle.net_conf.specs.declared.list.NetList.{NetList}
 use Rattle.pod_file.specs.declared.command.Command.{Command}
 use Rattle.kernel_types.specs.declared.call.Kind.{Kind}
 use Rattle.kernel_types.specs.declared.call.Call.{Call}
+use Rattle.kernel_types.specs.declared.call.Call.TheVariants.{CachePut}
 use Rattle.kernel_types.specs.declared.call.Reply.{Reply}
-use Rattle.cni_verbs.specs.Wanted.{sets_of, kinds_of}
+use Rattle.cni_verbs.specs.Questions.{check_questions}
+use Rattle.cni_verbs.specs.CommandWords.{att_of, mappings_of}
+use Rattle.cni_verbs.specs.Wanted.{sets_of, kinds_of, calls_after, all_chained_calls, first_plugin_result, given_by_list, cached_of}
 use Rattle.cni_verbs.specs.Script.{State, Finish, IsOpen, before_of, back_of, finish_of}
 use Rattle.cni_verbs.specs.Script as script
-use Rattle.cni_verbs.specs.Phases.{KeepsPlan, Stands, questions_about, questions_left, state_in, state_outside, state_by_phase}
+use Rattle.cni_verbs.specs.Phases.{KeepsPlan, state_in, state_outside, state_by_phase}
 use Rattle.cni_verbs.specs.declared.answer.Ending.{Ending}
 use Rattle.cni_verbs.specs.declared.answer.Ending.TheVariants.{Added, Yes}
-use Rattle.cni_verbs.specs.declared.inquiry.Inquiry.{Inquiry}
+use Rattle.cni_verbs.specs.declared.answer.Question.{Question}
 use Rattle.cni_verbs.specs.declared.phase.Phase.{Phase}
 use Rattle.cni_verbs.specs.declared.phase.Phase.TheVariants as phases
 use Rattle.cni_verbs.proofs.CallsOrOver.{calls_or_over}
-use Rattle.cni_verbs.proofs.PhaseSteps.{left_of, opens, denied_is_over}
+use Rattle.cni_verbs.proofs.PhaseSteps.{left_of, opens}
+use Rattle.cni_verbs.proofs.QuestionCounts.{questions-left}
 
 -- what a phase's state is, where it is open or over
 abbrev pub IsOverIf : Bool → State → Type 0
 IsOverIf over s = FalseIff over (IsOpen s)
 
-pub early-open : (list : NetList) (c : Command) (before : List Call) (kinds : List Kind) (room made : ℕ) (addrs : List Addr) (phase : Phase)
-    → KeepsPlan list c before kinds room made addrs phase
-    → (phase ≡ phases.AtBegin) ⊎ (((passed : ℕ) × (phase ≡ phases.BeforeLeases passed)) ⊎ ((phase ≡ phases.Leasing) ⊎ (((ending : Ending) × (phase ≡ phases.ReadingCache ending)) ⊎ ((phase ≡ phases.FindingEntry) ⊎ ((change : Call) × (phase ≡ phases.Changing change))))))
-    → IsOpen (state_in list c addrs phase)
-early-open list c before kinds room made addrs phase kept (inl is) = subst (λ p. IsOpen (state_in list c addrs p)) (sym is) tt
-early-open list c before kinds room made addrs phase kept (inr (inl w)) =
-    let S : Phase → Type 0 = λ p. Stands (length before) (length (sets_of list)) made addrs p in
-    let here : (w.0 < length before) × (addrs ≡ []) = subst S w.1 kept.stands in
+starts-after : (calls : List Call) (addrs : List Addr) → 0 < length calls → IsOpen (script.after_leases calls addrs)
+starts-after [] addrs h = absurd (omega arith)
+starts-after (call ∷ calls) addrs h = tt
+
+starts-asking : (questions : List Question) → 0 < length questions → IsOpen (script.asking questions)
+starts-asking [] h = absurd (omega arith)
+starts-asking (question ∷ questions) h = tt
+
+ends-with : {X : Type 0} (xs ys : List X) (z : X) → 0 < length (xs ++ (ys ++ z ∷ []))
+ends-with xs ys z = omega (arith, length-append xs (ys ++ z ∷ []), length-append ys (z ∷ []))
+
+-- the cached entry comes last
+calls-left : (list : NetList) (c : Command) (addrs : List Addr) → 0 < length (back_of list c addrs)
+calls-left list c addrs =
+    let att = att_of c in
+    let mappings = mappings_of list c in
+    ends-with {X = Call}
+    (calls_after list.first att c.netns (given_by_list list addrs))
+    (all_chained_calls list.chained att c.netns mappings (first_plugin_result list att c.netns addrs))
+    (CachePut att (cached_of list att c.netns mappings addrs))
+
+-- a phase whose work isn't done, or isn't made yet
+abbrev is_early : Phase → Bool
+is_early (phases.AfterLeases calls passed) = false
+is_early (phases.Deleting passed ending) = false
+is_early (phases.Asking questions passed) = false
+is_early (phases.Over ending) = false
+is_early phase = true
+
+-- as a match tells it
+abbrev pub IsEarly : Phase → Type 0
+IsEarly phase =
+    (phase ≡ phases.AtBegin)
+    ⊎ (((passed : ℕ) × (phase ≡ phases.BeforeLeases passed))
+    ⊎ ((phase ≡ phases.Leasing)
+    ⊎ ((phase ≡ phases.Leased)
+    ⊎ (((ending : Ending) × (phase ≡ phases.ReadingCache ending))
+    ⊎ ((phase ≡ phases.FindingEntry) ⊎ (((cached : Cached) × (phase ≡ phases.Found cached)) ⊎ ((change : Call) × (phase ≡ phases.Changing change))))))))
+
+told-early : (phase : Phase) → IsEarly phase → is_early phase ≡ true
+told-early phase (inl is) = ap is_early is
+told-early phase (inr (inl w)) = ap is_early w.1
+told-early phase (inr (inr (inl is))) = ap is_early is
+told-early phase (inr (inr (inr (inl is)))) = ap is_early is
+told-early phase (inr (inr (inr (inr (inl w))))) = ap is_early w.1
+told-early phase (inr (inr (inr (inr (inr (inl is)))))) = ap is_early is
+told-early phase (inr (inr (inr (inr (inr (inr (inl w))))))) = ap is_early w.1
+told-early phase (inr (inr (inr (inr (inr (inr (inr w))))))) = ap is_early w.1
+
+open-where : (list : NetList) (c : Command) (before : List Call) (kinds : List Kind) (room made : ℕ) (addrs : List Addr) (phase : Phase)
+    → KeepsPlan list c before kinds room made addrs phase → is_early phase ≡ true → IsOpen (state_in list c addrs phase)
+open-where list c before kinds room made addrs phases.AtBegin kept early = tt
+open-where list c before kinds room made addrs (phases.BeforeLeases passed) kept early =
     let same = ap length kept.before_is in
-    let lt : w.0 < length (before_of list c) = let below = here.0 in omega arith in
-    subst (λ p. IsOpen (state_in list c addrs p)) (sym w.1)
-    (subst (λ calls. IsOpen (script.before_leases list c calls)) (sym (left_of (before_of list c) w.0 lt).1.1) tt)
-early-open list c before kinds room made addrs phase kept (inr (inr (inl is))) =
-    let S : Phase → Type 0 = λ p. Stands (length before) (length (sets_of list)) made addrs p in
-    subst (λ p. IsOpen (state_in list c addrs p)) (sym is)
-    (subst (λ sets. IsOpen (script.leasing list c sets addrs)) (sym (left_of (sets_of list) (length addrs) (subst S is kept.stands)).1.1) tt)
-early-open list c before kinds room made addrs phase kept (inr (inr (inr (inl w)))) = subst (λ p. IsOpen (state_in list c addrs p)) (sym w.1) tt
-early-open list c before kinds room made addrs phase kept (inr (inr (inr (inr (inl is))))) = subst (λ p. IsOpen (state_in list c addrs p)) (sym is) tt
-early-open list c before kinds room made addrs phase kept (inr (inr (inr (inr (inr w))))) = subst (λ p. IsOpen (state_in list c addrs p)) (sym w.1) tt
+    let below : passed < length before = kept.stands.0 in
+    let lt : passed < length (before_of list c) = omega arith in
+    subst (λ calls. IsOpen (script.before_leases list c calls)) (sym (left_of (before_of list c) passed lt).1.1) tt
+open-where list c before kinds room made addrs phases.Leasing kept early =
+    subst (λ sets. IsOpen (script.leasing list c sets addrs)) (sym (left_of (sets_of list) (length addrs) kept.stands).1.1) tt
+open-where list c before kinds room made addrs phases.Leased kept early = starts-after (back_of list c addrs) addrs (calls-left list c addrs)
+open-where list c before kinds room made addrs (phases.AfterLeases calls passed) kept early = absurd cc
+open-where list c before kinds room made addrs (phases.ReadingCache ending) kept early = tt
+open-where list c before kinds room made addrs (phases.Deleting passed ending) kept early = absurd cc
+open-where list c before kinds room made addrs phases.FindingEntry kept early = tt
+open-where list c before kinds room made addrs (phases.Found cached) kept early = starts-asking (check_questions list c cached) (questions-left list c cached)
+open-where list c before kinds room made addrs (phases.Asking questions passed) kept early = absurd cc
+open-where list c before kinds room made addrs (phases.Changing change) kept early = tt
+open-where list c before kinds room made addrs (phases.Over ending) kept early = absurd cc
+
+pub early-open : (list : NetList) (c : Command) (before : List Call) (kinds : List Kind) (room made : ℕ) (addrs : List Addr) (phase : Phase)
+    → KeepsPlan list c before kinds room made addrs phase → IsEarly phase → IsOpen (state_in list c addrs phase)
+early-open list c before kinds room made addrs phase kept early = open-where list c before kinds room made addrs phase kept (told-early phase early)
 
 over-listed : {X : Type 0} (state : List X → State) (items : List X) (passed : ℕ) (over : Bool) → (IsOpen (state []) → ⊥) → ((item : X) (left : List X) → IsOpen (state (item ∷ left)))
     → MatchBool over (length items ≤ passed) (passed < length items) → IsOverIf over (state (drop passed items))
 over-listed state items passed true ends starts h = λ opened. let lt = opens state items passed ends opened in omega arith
 over-listed state items passed false ends starts h = subst (λ left. IsOpen (state left)) (sym (left_of items passed h).1.1) (starts _ _)
 
-pub after-leases-over : (list : NetList) (c : Command) (passed : ℕ) (prepared : Option (List Call)) (addrs : List Addr) (phase : Phase) (over : Bool) → phase ≡ phases.AfterLeases passed prepared
-    → MatchBool over (length (back_of list c addrs) ≤ passed) (passed < length (back_of list c addrs)) → IsOverIf over (state_in list c addrs phase)
-after-leases-over list c passed prepared addrs phase over is h =
+pub after-leases-over : (list : NetList) (c : Command) (passed : ℕ) (calls read : List Call) (addrs : List Addr) (phase : Phase) (over : Bool) → phase ≡ phases.AfterLeases calls passed
+    → read ≡ calls → MatchBool over (length read ≤ passed) (passed < length read) → IsOverIf over (state_in list c addrs phase)
+after-leases-over list c passed calls read addrs phase over is same h =
     subst (λ p. IsOverIf over (state_in list c addrs p)) (sym is)
-    (over-listed (λ calls. script.after_leases calls addrs) (back_of list c addrs) passed over (λ opened. opened) (λ call calls. tt) h)
+    (subst (λ cs. IsOverIf over (script.after_leases (drop passed cs) addrs)) same
+    (over-listed (λ left. script.after_leases left addrs) read passed over (λ opened. opened) (λ call left. tt) h))
 
 pub deleting-over : (list : NetList) (c : Command) (passed : ℕ) (ending : Ending) (kinds : List Kind) (addrs : List Addr) (phase : Phase) (over : Bool) → phase ≡ phases.Deleting passed ending
     → kinds ≡ kinds_of list → MatchBool over (length kinds ≤ passed) (passed < length kinds) → IsOverIf over (state_in list c addrs phase)
@@ -62,17 +122,12 @@ deleting-over list c passed ending kinds addrs phase over is same h =
     (subst (λ ks. IsOverIf over (script.deleting (drop passed ks) ending)) same
     (over-listed (λ ks. script.deleting ks ending) kinds passed over (λ opened. opened) (λ kind ks. tt) h))
 
-pub asking-over : (list : NetList) (c : Command) (inquiry : Inquiry) (addrs : List Addr) (phase : Phase) (over : Bool) → phase ≡ phases.Asking inquiry
-    → MatchBool over (length (questions_about list c inquiry.about) ≤ inquiry.passed) (inquiry.passed < length (questions_about list c inquiry.about))
-    → IsOverIf over (state_in list c addrs phase)
-asking-over list c inquiry addrs phase over is h =
+pub asking-over : (list : NetList) (c : Command) (passed : ℕ) (questions read : List Question) (addrs : List Addr) (phase : Phase) (over : Bool) → phase ≡ phases.Asking questions passed
+    → read ≡ questions → MatchBool over (length read ≤ passed) (passed < length read) → IsOverIf over (state_in list c addrs phase)
+asking-over list c passed questions read addrs phase over is same h =
     subst (λ p. IsOverIf over (state_in list c addrs p)) (sym is)
-    (over-listed script.asking (questions_about list c inquiry.about) inquiry.passed over (λ opened. opened) (λ question questions. tt) h)
-
-pub denied-over : (list : NetList) (c : Command) (addrs : List Addr) (phase : Phase) → ((inquiry : Inquiry) × (phase ≡ phases.Denied inquiry)) ⊎ ((ending : Ending) × (phase ≡ phases.Over ending))
-    → IsOpen (state_in list c addrs phase) → ⊥
-denied-over list c addrs phase (inl w) opened = denied_is_over (questions_left list c w.0) (subst (λ p. IsOpen (state_in list c addrs p)) w.1 opened)
-denied-over list c addrs phase (inr w) opened = subst (λ p. IsOpen (state_in list c addrs p)) w.1 opened
+    (subst (λ qs. IsOverIf over (script.asking (drop passed qs))) same
+    (over-listed script.asking read passed over (λ opened. opened) (λ question left. tt) h))
 
 -- ---- a run of no network
 
@@ -99,12 +154,12 @@ finish-listed : {A X : Type 0} (state : List X → State) (items : List X) (fini
 finish-listed state [] finish f ends starts over = sym (ap (option_map f) ends)
 finish-listed state (item ∷ left) finish f ends starts over = absurd (over (starts item left))
 
-pub after-finish : {A : Type 0} (list : NetList) (c : Command) (passed : ℕ) (prepared : Option (List Call)) (addrs : List Addr) (phase : Phase) (f : Finish → A) → phase ≡ phases.AfterLeases passed prepared
+pub after-finish : {A : Type 0} (list : NetList) (c : Command) (passed : ℕ) (calls : List Call) (addrs : List Addr) (phase : Phase) (f : Finish → A) → phase ≡ phases.AfterLeases calls passed
     → (IsOpen (state_in list c addrs phase) → ⊥) → Some (f (record { ending = Added; given = addrs })) ≡ option_map f (finish_of (state_in list c addrs phase))
 unfolding finish_of
-after-finish list c passed prepared addrs phase f is over =
+after-finish list c passed calls addrs phase f is over =
     subst (λ p. Some (f (record { ending = Added; given = addrs })) ≡ option_map f (finish_of (state_in list c addrs p))) (sym is)
-    (finish-listed (λ calls. script.after_leases calls addrs) (drop passed (back_of list c addrs)) (record { ending = Added; given = addrs }) f refl (λ call calls. tt)
+    (finish-listed (λ left. script.after_leases left addrs) (drop passed calls) (record { ending = Added; given = addrs }) f refl (λ call left. tt)
     (subst (λ p. IsOpen (state_in list c addrs p) → ⊥) is over))
 
 pub deleting-finish : {A : Type 0} (list : NetList) (c : Command) (passed : ℕ) (ending : Ending) (addrs : List Addr) (phase : Phase) (f : Finish → A) → phase ≡ phases.Deleting passed ending
@@ -115,12 +170,12 @@ deleting-finish list c passed ending addrs phase f is over =
     (finish-listed (λ kinds. script.deleting kinds ending) (drop passed (kinds_of list)) (record { ending = ending; given = [] }) f refl (λ kind kinds. tt)
     (subst (λ p. IsOpen (state_in list c addrs p) → ⊥) is over))
 
-pub asking-finish : {A : Type 0} (list : NetList) (c : Command) (inquiry : Inquiry) (addrs : List Addr) (phase : Phase) (f : Finish → A) → phase ≡ phases.Asking inquiry
+pub asking-finish : {A : Type 0} (list : NetList) (c : Command) (passed : ℕ) (questions : List Question) (addrs : List Addr) (phase : Phase) (f : Finish → A) → phase ≡ phases.Asking questions passed
     → (IsOpen (state_in list c addrs phase) → ⊥) → Some (f (record { ending = Yes; given = [] })) ≡ option_map f (finish_of (state_in list c addrs phase))
 unfolding finish_of
-asking-finish list c inquiry addrs phase f is over =
+asking-finish list c passed questions addrs phase f is over =
     subst (λ p. Some (f (record { ending = Yes; given = [] })) ≡ option_map f (finish_of (state_in list c addrs p))) (sym is)
-    (finish-listed script.asking (questions_left list c inquiry) (record { ending = Yes; given = [] }) f refl (λ question questions. tt)
+    (finish-listed script.asking (drop passed questions) (record { ending = Yes; given = [] }) f refl (λ question left. tt)
     (subst (λ p. IsOpen (state_in list c addrs p) → ⊥) is over))
 
 pub over-finish : {A : Type 0} (list : NetList) (c : Command) (ending : Ending) (addrs : List Addr) (phase : Phase) (f : Finish → A) → phase ≡ phases.Over ending

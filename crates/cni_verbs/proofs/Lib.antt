@@ -2,12 +2,12 @@ pub mod AddCalls
 pub mod AfterReplies
 pub mod Arguments
 pub mod Asked
-pub mod BackCounts
 pub mod CallsOrOver
-pub mod CheckCounts
 pub mod Ends
 pub mod Gathered
+pub mod GivenAddresses
 pub mod NextCalls
 pub mod OwnCalls
 pub mod PhaseSteps
+pub mod QuestionCounts
 pub mod WantedShare

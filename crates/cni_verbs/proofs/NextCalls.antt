@@ -1,7 +1,8 @@
 -- What a phase calls next, and how it ends.
-use Rattle.std.proofs.Common.{◌≡◌, ℕ, ◌+◌, ◌^◌, ◌<◌, ◌≤◌, List, [], ◌∷◌, length, drop, refl, sym, ap, ◌∙◌, subst, arith, Option, Some, None, Result, inl, inr}
+use Rattle.std.proofs.Common.{◌≡◌, ℕ, ◌+◌, ◌<◌, ◌≤◌, List, [], ◌∷◌, length, drop, refl, sym, ap, ◌∙◌, subst, arith, true, Option, Some, None, Result, inl, inr}
 use Rattle.std.specs.Prelude.{◌⊎◌, slice_get, option_map, IfOk, Ok, Err}
 use Rattle.cni_addr.specs.declared.address.Addr.{Addr}
+use Rattle.cni_result.specs.declared.cached.Cached.{Cached}
 use Rattle.net_conf.specs.declared.list.NetList.{NetList}
 use Rattle.pod_file.specs.declared.command.Command.{Command}
 use Rattle.kernel_types.specs.declared.call.Kind.{Kind}
@@ -10,13 +11,11 @@ use Rattle.kernel_types.specs.declared.call.Call.TheVariants.{Begin, LeaseNext, 
 use Rattle.cni_verbs.specs.CommandWords.{att_of}
 use Rattle.cni_verbs.specs.Wanted.{sets_of, kinds_of, deletion}
 use Rattle.cni_verbs.specs.Script as script
-use Rattle.cni_verbs.specs.Script.{State, Finish, before_of, back_of, next_call, finish_of}
-use Rattle.cni_verbs.specs.Phases.{Stands, IsPrepared, KeepsPlan, KeepsPlanBy, IsPhaseOf, IsSameButPrepared, denied, questions_about, questions_left, state_in, state_outside, state_by_phase}
+use Rattle.cni_verbs.specs.Script.{State, before_of, next_call}
+use Rattle.cni_verbs.specs.Phases.{Stands, KeepsPlan, KeepsPlanBy, IsPhaseOf, IsSameButPrepared, is_prepared, state_in, state_outside, state_by_phase}
 use Rattle.cni_verbs.specs.Progress.{answer_in}
 use Rattle.cni_verbs.specs.declared.answer.Ending.{Ending}
-use Rattle.cni_verbs.specs.declared.answer.Ending.TheVariants.{Yes, Refused}
 use Rattle.cni_verbs.specs.declared.answer.Question.{Question}
-use Rattle.cni_verbs.specs.declared.inquiry.Inquiry.{Inquiry}
 use Rattle.cni_verbs.specs.declared.phase.Phase.{Phase}
 use Rattle.cni_verbs.specs.declared.phase.Phase.TheVariants as phases
 use Rattle.cni_verbs.proofs.PhaseSteps.{left_of, left_or_none}
@@ -77,11 +76,11 @@ next_listed c state call_of items passed over calls =
       | inr w ↦ ap call_of w.0 ∙ over ∙ sym (ap (λ left. next_call c (state left)) w.1)
     ]
 
-pub next_after : (list : NetList) (c : Command) (passed : ℕ) (kept : Option (List Call)) (addrs : List Addr) (phase : Phase) → phase ≡ phases.AfterLeases passed kept
-    → slice_get (back_of list c addrs) passed ≡ next_call c (state_in list c addrs phase)
+pub next_after : (list : NetList) (c : Command) (passed : ℕ) (calls : List Call) (addrs : List Addr) (phase : Phase) → phase ≡ phases.AfterLeases calls passed
+    → slice_get calls passed ≡ next_call c (state_in list c addrs phase)
 unfolding next_call
-next_after list c passed kept addrs phase is =
-    next_listed c (λ calls. script.after_leases calls addrs) (λ call. call) (back_of list c addrs) passed refl (λ call calls. refl)
+next_after list c passed calls addrs phase is =
+    next_listed c (λ left. script.after_leases left addrs) (λ call. call) calls passed refl (λ call left. refl)
     ∙ sym (ap (λ p. next_call c (state_in list c addrs p)) is)
 
 pub next_cache : (list : NetList) (c : Command) (addrs : List Addr) (phase : Phase) → ((ending : Ending) × (phase ≡ phases.ReadingCache ending)) ⊎ (phase ≡ phases.FindingEntry)
@@ -99,66 +98,38 @@ next_deletion list c before kinds room made passed ending addrs phase kept is =
     ∙ ap (λ ks. next_call c (script.deleting (drop passed ks) ending)) kept.kinds_is
     ∙ sym (ap (λ p. next_call c (state_in list c addrs p)) is)
 
-pub next_asking : (list : NetList) (c : Command) (inquiry : Inquiry) (addrs : List Addr) (phase : Phase) → phase ≡ phases.Asking inquiry
-    → option_map (λ question. question.call) (slice_get (questions_about list c inquiry.about) inquiry.passed) ≡ next_call c (state_in list c addrs phase)
+pub next_asking : (list : NetList) (c : Command) (passed : ℕ) (questions : List Question) (addrs : List Addr) (phase : Phase) → phase ≡ phases.Asking questions passed
+    → option_map (λ question. question.call) (slice_get questions passed) ≡ next_call c (state_in list c addrs phase)
 unfolding next_call
-next_asking list c inquiry addrs phase is =
-    next_listed c script.asking (option_map (λ question. question.call)) (questions_about list c inquiry.about) inquiry.passed refl (λ question questions. refl)
+next_asking list c passed questions addrs phase is =
+    next_listed c script.asking (option_map (λ question. question.call)) questions passed refl (λ question left. refl)
     ∙ sym (ap (λ p. next_call c (state_in list c addrs p)) is)
 
 pub next_change : (list : NetList) (c : Command) (change : Call) (addrs : List Addr) (phase : Phase) → phase ≡ phases.Changing change → Some change ≡ next_call c (state_in list c addrs phase)
 unfolding next_call
 next_change list c change addrs phase is = sym (ap (λ p. next_call c (state_in list c addrs p)) is)
 
-at_denial : (c : Command) (questions : List Question) → None ≡ next_call c (denied questions)
+pub next_over : (list : NetList) (c : Command) (addrs : List Addr) (phase : Phase) (ending : Ending) → phase ≡ phases.Over ending → None ≡ next_call c (state_in list c addrs phase)
 unfolding next_call
-at_denial c [] = refl
-at_denial c (question ∷ questions) = refl
+next_over list c addrs phase ending is = sym (ap (λ p. next_call c (state_in list c addrs p)) is)
 
-pub next_over : (list : NetList) (c : Command) (addrs : List Addr) (phase : Phase) → ((inquiry : Inquiry) × (phase ≡ phases.Denied inquiry)) ⊎ ((ending : Ending) × (phase ≡ phases.Over ending))
-    → None ≡ next_call c (state_in list c addrs phase)
-unfolding next_call
-next_over list c addrs phase (inl w) = at_denial c (questions_left list c w.0) ∙ sym (ap (λ p. next_call c (state_in list c addrs p)) w.1)
-next_over list c addrs phase (inr w) = sym (ap (λ p. next_call c (state_in list c addrs p)) w.1)
-
--- ---- the end
-
-pub denied_finish : {A : Type 0} (questions : List Question) (place : ℕ) (question : Question) (f : Finish → A) → slice_get questions place ≡ Some question
-    → Some (f (record { ending = Refused question.lack; given = [] })) ≡ option_map f (finish_of (denied (drop place questions)))
-unfolding finish_of
-denied_finish questions place question f got =
-    elim (left_or_none questions place) [
-      | inl w ↦
-          let same : w.0 ≡ question = let e = w.1.0 in cc in
-          sym (ap (λ rest. option_map f (finish_of (denied rest))) w.1.1 ∙ ap (λ q. Some (f (record { ending = Refused q.lack; given = [] }))) same)
-      | inr w ↦ let e = w.0 in absurd cc
-    ]
-
-pub denied_none : {A : Type 0} (questions : List Question) (place : ℕ) (f : Finish → A) → slice_get questions place ≡ None
-    → Some (f (record { ending = Yes; given = [] })) ≡ option_map f (finish_of (denied (drop place questions)))
-unfolding finish_of
-denied_none questions place f got =
-    elim (left_or_none questions place) [
-      | inl w ↦ let e = w.1.0 in absurd cc
-      | inr w ↦ sym (ap (λ rest. option_map f (finish_of (denied rest))) w.1)
-    ]
+pub is-prepared : (phase : Phase) → is_prepared phase ≡ true → (phase ≡ phases.Leased) ⊎ ((cached : Cached) × (phase ≡ phases.Found cached)) → ⊥
+is-prepared phase h (inl is) = let e = ap is_prepared is in cc
+is-prepared phase h (inr w) = let e = ap is_prepared w.1 in cc
 
 -- ---- the start
 
 pub kept_at_start : (list : NetList) (c : Command) (before : List Call) (kinds : List Kind) (room : ℕ) (given : List Addr) (phase : Phase)
-    → IsPhaseOf list c 0 [] phase (script.start_state list c) → before ≡ before_of list c → kinds ≡ kinds_of list → length (sets_of list) < 2 ^ 32
+    → IsPhaseOf list c 0 [] phase (script.start_state list c) → before ≡ before_of list c → kinds ≡ kinds_of list
     → length (sets_of list) ≤ room → given ≡ [] → KeepsPlan list c before kinds room 0 given phase
-kept_at_start list c before kinds room given phase starts before_is kinds_is few room_is none =
+kept_at_start list c before kinds room given phase starts before_is kinds_is room_is none =
     let B : List Call → Type 0 = λ calls. Stands (length calls) (length (sets_of list)) 0 [] phase in
     let G : List Addr → Type 0 = λ addrs. Stands (length before) (length (sets_of list)) 0 addrs phase in
-    let R : List Addr → Type 0 = λ addrs. IsPrepared list c addrs phase in
     record {
       before_is = before_is;
       kinds_is = kinds_is;
-      few = few;
       room_is = room_is;
       stands = subst G (sym none) (subst B (sym before_is) starts.stands);
-      prepared = subst R (sym none) starts.prepared;
     }
 
 pub seen_at_start : (list : NetList) (c : Command) (given : List Addr) (phase : Phase) → IsPhaseOf list c 0 [] phase (script.start_state list c) → given ≡ []
@@ -187,10 +158,8 @@ kept_prepared list l c before kinds room made given addrs old new is seen same k
     subst N (sym is) (record {
       before_is = before_that.before_is;
       kinds_is = before_that.kinds_is;
-      few = before_that.few;
       room_is = before_that.room_is;
       stands = goes_on.stands (length before) (length (sets_of l)) made before_that.stands;
-      prepared = goes_on.prepared before_that.prepared;
     })
 
 -- ---- a change from outside

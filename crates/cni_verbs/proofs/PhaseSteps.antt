@@ -1,5 +1,5 @@
 -- Each phase after a reply stands for the script's state after it.
-use Rattle.std.proofs.Common.{◌≡◌, ℕ, ◌+◌, ◌<◌, ◌≤◌, List, [], ◌∷◌, ◌++◌, length, drop, refl, sym, ap, ◌∙◌, subst, arith, Option, Some, None}
+use Rattle.std.proofs.Common.{◌≡◌, ℕ, ◌+◌, ◌<◌, ◌≤◌, List, [], ◌∷◌, ◌++◌, length, drop, refl, sym, ap, ◌∙◌, subst, arith, true, Some, None}
 use Rattle.std.specs.Prelude.{◌⊎◌, slice_get}
 use Rattle.std.proofs.Common.{inl, inr, suc, add-one, drop-cons, get_or}
 use Rattle.std.proofs.lemmas.List.{drop_all}
@@ -14,11 +14,11 @@ use Rattle.kernel_types.specs.declared.call.Reply.{Reply}
 use Rattle.kernel_types.specs.declared.call.Reply.TheVariants.{Leased}
 use Rattle.cni_verbs.specs.Wanted.{sets_of, kinds_of}
 use Rattle.cni_verbs.specs.Script as script
-use Rattle.cni_verbs.specs.Script.{State, before_of, back_of, advance, IsOpen}
-use Rattle.cni_verbs.specs.Phases.{Stands, IsPrepared, HasQuestionsOf, IsPhaseOf, denied, questions_about, questions_left, state_in}
+use Rattle.cni_verbs.specs.Script.{State, before_of, advance, IsOpen}
+use Rattle.cni_verbs.specs.Phases.{Awaits, Stands, IsPhaseOf, is_prepared, state_in}
 use Rattle.cni_verbs.specs.declared.answer.Ending.{Ending}
+use Rattle.cni_verbs.specs.declared.answer.Ending.TheVariants.{Refused}
 use Rattle.cni_verbs.specs.declared.answer.Question.{Question}
-use Rattle.cni_verbs.specs.declared.inquiry.Inquiry.{Inquiry}
 use Rattle.cni_verbs.specs.declared.phase.Phase.{Phase}
 use Rattle.cni_verbs.specs.declared.phase.Phase.TheVariants as phases
 
@@ -85,12 +85,12 @@ item_left state items passed over h =
     let left = left_of items passed (opens state items passed over h) in
     (left.0, left.1.1)
 
-pub steps_after : (list : NetList) (c : Command) (number passed : ℕ) (addrs : List Addr) (r : Reply) → IsOpen (script.after_leases (drop passed (back_of list c addrs)) addrs)
-    → script.at_call_after number (drop (passed + 1) (back_of list c addrs)) addrs r ≡ advance list c number (script.after_leases (drop passed (back_of list c addrs)) addrs) r
+pub steps_after : (list : NetList) (c : Command) (number passed : ℕ) (calls : List Call) (addrs : List Addr) (r : Reply) → IsOpen (script.after_leases (drop passed calls) addrs)
+    → script.at_call_after number (drop (passed + 1) calls) addrs r ≡ advance list c number (script.after_leases (drop passed calls) addrs) r
 unfolding advance
-steps_after list c number passed addrs r h =
-    let left = item_left (λ calls. script.after_leases calls addrs) (back_of list c addrs) passed (λ h. h) h in
-    sym (ap (λ calls. advance list c number (script.after_leases calls addrs) r) left.1)
+steps_after list c number passed calls addrs r h =
+    let left = item_left (λ left. script.after_leases left addrs) calls passed (λ h. h) h in
+    sym (ap (λ left. advance list c number (script.after_leases left addrs) r) left.1)
 
 pub steps_deletion : (list : NetList) (c : Command) (number passed : ℕ) (kind : Kind) (ending : Ending) (r : Reply)
     → drop passed (kinds_of list) ≡ kind ∷ drop (passed + 1) (kinds_of list)
@@ -98,11 +98,11 @@ pub steps_deletion : (list : NetList) (c : Command) (number passed : ℕ) (kind 
 unfolding advance
 steps_deletion list c number passed kind ending r here = sym (ap (λ kinds. advance list c number (script.deleting kinds ending) r) here)
 
-steps_question : (list : NetList) (c : Command) (number : ℕ) (question : Question) (inquiry : Inquiry) (r : Reply)
-    → questions_left list c inquiry ≡ question ∷ drop (inquiry.passed + 1) (questions_about list c inquiry.about)
-    → script.at_question number question (drop (inquiry.passed + 1) (questions_about list c inquiry.about)) r ≡ advance list c number (script.asking (questions_left list c inquiry)) r
+steps_question : (list : NetList) (c : Command) (number passed : ℕ) (question : Question) (questions : List Question) (r : Reply)
+    → drop passed questions ≡ question ∷ drop (passed + 1) questions
+    → script.at_question number question (drop (passed + 1) questions) r ≡ advance list c number (script.asking (drop passed questions)) r
 unfolding advance
-steps_question list c number question inquiry r here = sym (ap (λ questions. advance list c number (script.asking questions) r) here)
+steps_question list c number passed question questions r here = sym (ap (λ left. advance list c number (script.asking left) r) here)
 
 steps_entry : (list : NetList) (c : Command) (number : ℕ) (r : Reply) → script.at_entry list c number r ≡ advance list c number script.FindingEntry r
 unfolding advance
@@ -111,10 +111,6 @@ steps_entry list c number r = refl
 steps_changing : (list : NetList) (c : Command) (number : ℕ) (change : Call) (r : Reply) → script.Over (script.changed number r) [] ≡ advance list c number (script.Changing change) r
 unfolding advance
 steps_changing list c number change r = refl
-
-pub denied_is_over : (questions : List Question) → IsOpen (denied questions) → ⊥
-denied_is_over [] h = h
-denied_is_over (question ∷ questions) h = h
 
 pub steps_begin : (list : NetList) (c : Command) (number : ℕ) (r : Reply) → script.at_begin list c number r ≡ advance list c number script.AtBegin r
 unfolding advance
@@ -175,15 +171,14 @@ goes_lease list c calls sets made old new phase r next is stands all h =
     let F : Phase → Type 0 = λ p. Goes list c made old new p r next in
     subst F (sym is) (at_state list c (made + 1) new next (steps_lease list c (made + 1) old r lt) h)
 
-pub goes_after : (list : NetList) (c : Command) (made passed : ℕ) (kept : Option (List Call)) (addrs : List Addr) (phase : Phase) (r : Reply) (next : Phase) → phase ≡ phases.AfterLeases passed kept
-    → IsPrepared list c addrs phase → IsOpen (state_in list c addrs phase)
-    → (IsPrepared list c addrs (phases.AfterLeases passed kept) → IsPhaseOf list c (made + 1) addrs next (script.at_call_after (made + 1) (drop (passed + 1) (back_of list c addrs)) addrs r))
+pub goes_after : (list : NetList) (c : Command) (made passed : ℕ) (calls : List Call) (addrs : List Addr) (phase : Phase) (r : Reply) (next : Phase) → phase ≡ phases.AfterLeases calls passed
+    → IsOpen (state_in list c addrs phase)
+    → IsPhaseOf list c (made + 1) addrs next (script.at_call_after (made + 1) (drop (passed + 1) calls) addrs r)
     → Goes list c made addrs addrs phase r next
-goes_after list c made passed kept addrs phase r next is prepared opens h =
-    let R : Phase → Type 0 = λ p. IsPrepared list c addrs p in
+goes_after list c made passed calls addrs phase r next is opens h =
     let O : Phase → Type 0 = λ p. IsOpen (state_in list c addrs p) in
     let F : Phase → Type 0 = λ p. Goes list c made addrs addrs p r next in
-    subst F (sym is) (at_state list c (made + 1) addrs next (steps_after list c (made + 1) passed addrs r (subst O is opens)) (h (subst R is prepared)))
+    subst F (sym is) (at_state list c (made + 1) addrs next (steps_after list c (made + 1) passed calls addrs r (subst O is opens)) h)
 
 pub goes_cache : (list : NetList) (c : Command) (made : ℕ) (ending : Ending) (addrs : List Addr) (phase : Phase) (r : Reply) (next : Phase) → phase ≡ phases.ReadingCache ending
     → IsPhaseOf list c (made + 1) addrs next (script.at_cache list (made + 1) ending r) → Goes list c made addrs addrs phase r next
@@ -208,17 +203,16 @@ goes_entry list c made addrs phase r next is h =
     let F : Phase → Type 0 = λ p. Goes list c made addrs addrs p r next in
     subst F (sym is) (at_state list c (made + 1) addrs next (steps_entry list c (made + 1) r) h)
 
-pub goes_asking : (list : NetList) (c : Command) (made : ℕ) (inquiry : Inquiry) (addrs : List Addr) (phase : Phase) (r : Reply) (next : Phase) → phase ≡ phases.Asking inquiry
-    → IsPrepared list c addrs phase → IsOpen (state_in list c addrs phase)
-    → ((question : Question) → HasQuestionsOf list c inquiry → questions_left list c inquiry ≡ question ∷ drop (inquiry.passed + 1) (questions_about list c inquiry.about)
-    → IsPhaseOf list c (made + 1) addrs next (script.at_question (made + 1) question (drop (inquiry.passed + 1) (questions_about list c inquiry.about)) r))
+pub goes_asking : (list : NetList) (c : Command) (made passed : ℕ) (questions : List Question) (addrs : List Addr) (phase : Phase) (r : Reply) (next : Phase) → phase ≡ phases.Asking questions passed
+    → IsOpen (state_in list c addrs phase)
+    → ((question : Question) → slice_get questions passed ≡ Some question
+    → IsPhaseOf list c (made + 1) addrs next (script.at_question (made + 1) question (drop (passed + 1) questions) r))
     → Goes list c made addrs addrs phase r next
-goes_asking list c made inquiry addrs phase r next is prepared opens h =
-    let R : Phase → Type 0 = λ p. IsPrepared list c addrs p in
+goes_asking list c made passed questions addrs phase r next is unended h =
     let O : Phase → Type 0 = λ p. IsOpen (state_in list c addrs p) in
-    let left = item_left script.asking (questions_about list c inquiry.about) inquiry.passed (λ h. h) (subst O is opens) in
+    let left = left_of questions passed (opens script.asking questions passed (λ h. h) (subst O is unended)) in
     let F : Phase → Type 0 = λ p. Goes list c made addrs addrs p r next in
-    subst F (sym is) (at_state list c (made + 1) addrs next (steps_question list c (made + 1) left.0 inquiry r left.1) (h left.0 (subst R is prepared) left.1))
+    subst F (sym is) (at_state list c (made + 1) addrs next (steps_question list c (made + 1) passed left.0 questions r left.1.1) (h left.0 left.1.0))
 
 pub goes_changing : (list : NetList) (c : Command) (made : ℕ) (change : Call) (addrs : List Addr) (phase : Phase) (r : Reply) (next : Phase) → phase ≡ phases.Changing change
     → IsPhaseOf list c (made + 1) addrs next (script.Over (script.changed (made + 1) r) []) → Goes list c made addrs addrs phase r next
@@ -228,4 +222,25 @@ goes_changing list c made change addrs phase r next is h =
 
 pub over_goes : (list : NetList) (c : Command) (made : ℕ) (addrs : List Addr) (ending changed : Ending) → ending ≡ changed
     → IsPhaseOf list c made addrs (phases.Over ending) (script.Over changed [])
-over_goes list c made addrs ending changed same = record { is = ap (λ e. script.Over e []) same; stands = tt; prepared = tt }
+over_goes list c made addrs ending changed same = record { is = ap (λ e. script.Over e []) same; stands = tt }
+
+-- ---- which phases a reply may come to
+
+pub awaits : (list : NetList) (c : Command) (addrs : List Addr) (phase : Phase) → IsOpen (state_in list c addrs phase) → is_prepared phase ≡ true → Awaits phase
+awaits list c addrs phases.AtBegin h is = tt
+awaits list c addrs (phases.BeforeLeases passed) h is = tt
+awaits list c addrs phases.Leasing h is = tt
+awaits list c addrs phases.Leased h is = cc
+awaits list c addrs (phases.AfterLeases calls passed) h is = opens (λ left. script.after_leases left addrs) calls passed (λ h. h) h
+awaits list c addrs (phases.ReadingCache ending) h is = tt
+awaits list c addrs (phases.Deleting passed ending) h is = tt
+awaits list c addrs phases.FindingEntry h is = tt
+awaits list c addrs (phases.Found cached) h is = cc
+awaits list c addrs (phases.Asking questions passed) h is = opens script.asking questions passed (λ h. h) h
+awaits list c addrs (phases.Changing change) h is = tt
+awaits list c addrs (phases.Over ending) h is = h
+
+-- the question that was denied is the one at its place
+pub taken-at : (questions : List Question) (place : ℕ) (taken question : Question) → slice_get questions place ≡ Some taken → slice_get questions place ≡ Some question
+    → phases.Over (Refused taken.lack) ≡ phases.Over (Refused question.lack)
+taken-at questions place taken question here there = let same : taken ≡ question = cc in ap (λ (q : Question). phases.Over (Refused q.lack)) same

@@ -30,7 +30,7 @@ use Rattle.firewall_tuning.specs.Firewall.{firewall_rules}
 use Rattle.firewall_tuning.specs.Tuning.{tuned, tuning_settings}
 use Rattle.firewall_tuning.proofs.Shares.{share-tuning}
 use Rattle.cni_verbs.specs.Wanted.{share_before, share_after, calls_before, calls_after, rules_of, settings_of, links_after, chained_calls, chained_result, all_chained_calls, all_links_after, given_by_list, first_plugin_result, cached_of, wanted, back_calls}
-use Rattle.cni_verbs.proofs.BackCounts.{chained-ips}
+use Rattle.cni_verbs.proofs.GivenAddresses.{chained-ips}
 
 -- ---- the plugin that makes the interface
 

@@ -1,35 +1,17 @@
 -- What a run keeps in place of its script's state: how many of each list of the plan are behind it.
-use Rattle.std.specs.Prelude.{◌≡◌, ℕ, ◌<◌, ◌≤◌, ◌^◌, List, [], ◌∷◌, length, drop, Option, Some, None, IfSome, ⊤}
+use Rattle.std.specs.Prelude.{◌≡◌, ℕ, ◌<◌, ◌≤◌, Bool, true, false, List, [], length, drop, Option, Some, None, ⊤}
 use Rattle.cni_addr.specs.declared.address.Addr.{Addr}
-use Rattle.cni_result.specs.declared.cached.Cached.{Cached}
 use Rattle.net_conf.specs.declared.list.NetList.{NetList}
 use Rattle.pod_file.specs.declared.command.Command.{Command}
 use Rattle.kernel_types.specs.declared.call.Call.{Call}
 use Rattle.kernel_types.specs.declared.call.Kind.{Kind}
 use Rattle.cni_verbs.specs.Wanted.{sets_of, kinds_of}
-use Rattle.cni_verbs.specs.Questions.{check_questions, status_questions}
+use Rattle.cni_verbs.specs.Questions.{check_questions}
 use Rattle.cni_verbs.specs.Script.{State, Over, before_of, back_of, after_leases, leasing, before_leases, deleting, asking}
 use Rattle.cni_verbs.specs.Script as states
 use Rattle.cni_verbs.specs.declared.answer.Ending.TheVariants.{Yes}
-use Rattle.cni_verbs.specs.declared.answer.Question.{Question}
-use Rattle.cni_verbs.specs.declared.inquiry.Inquiry.{Inquiry}
 use Rattle.cni_verbs.specs.declared.phase.Phase.{Phase}
 use Rattle.cni_verbs.specs.declared.phase.Phase.TheVariants as phases
-
--- ---- questions
-
--- a CHECK asks about a cached entry, a STATUS about none
-abbrev pub questions_about : NetList → Command → Option Cached → List Question
-questions_about list c None = status_questions list c
-questions_about list c (Some cached) = check_questions list c cached
-
--- the end of a run whose next question was denied
-abbrev pub denied : List Question → State
-denied [] = Over Yes []
-denied (question ∷ questions) = states.refused question.lack
-
-abbrev pub questions_left : NetList → Command → Inquiry → List Question
-questions_left list c inquiry = drop inquiry.passed (questions_about list c inquiry.about)
 
 -- ---- the state of a phase
 
@@ -38,12 +20,13 @@ abbrev pub state_in : NetList → Command → List Addr → Phase → State
 state_in list c given phases.AtBegin = states.AtBegin
 state_in list c given (phases.BeforeLeases passed) = before_leases list c (drop passed (before_of list c))
 state_in list c given phases.Leasing = leasing list c (drop (length given) (sets_of list)) given
-state_in list c given (phases.AfterLeases passed prepared) = after_leases (drop passed (back_of list c given)) given
+state_in list c given phases.Leased = after_leases (back_of list c given) given
+state_in list c given (phases.AfterLeases calls passed) = after_leases (drop passed calls) given
 state_in list c given (phases.ReadingCache ending) = states.ReadingCache ending
 state_in list c given (phases.Deleting passed ending) = deleting (drop passed (kinds_of list)) ending
 state_in list c given phases.FindingEntry = states.FindingEntry
-state_in list c given (phases.Asking inquiry) = asking (questions_left list c inquiry)
-state_in list c given (phases.Denied inquiry) = denied (questions_left list c inquiry)
+state_in list c given (phases.Found cached) = asking (check_questions list c cached)
+state_in list c given (phases.Asking questions passed) = asking (drop passed questions)
 state_in list c given (phases.Changing change) = states.Changing change
 state_in list c given (phases.Over ending) = Over ending []
 
@@ -65,34 +48,36 @@ abbrev pub Stands : (calls sets made : ℕ) → List Addr → Phase → Type 0
 Stands calls sets made given phases.AtBegin = given ≡ []
 Stands calls sets made given (phases.BeforeLeases passed) = (passed < calls) × (given ≡ [])
 Stands calls sets made given phases.Leasing = length given < sets
-Stands calls sets made given (phases.AfterLeases passed prepared) = passed ≤ made
+Stands calls sets made given (phases.AfterLeases planned passed) = passed ≤ made
 Stands calls sets made given (phases.Deleting passed ending) = passed ≤ made
-Stands calls sets made given (phases.Asking inquiry) = inquiry.passed ≤ made
+Stands calls sets made given (phases.Asking questions passed) = passed ≤ made
 Stands calls sets made given phase = ⊤
 
--- where the questions are prepared, they are those of what is asked about
-abbrev pub HasQuestionsOf : NetList → Command → Inquiry → Type 0
-HasQuestionsOf list c inquiry = IfSome inquiry.questions (λ questions. questions ≡ questions_about list c inquiry.about)
+-- what the next call is looked up in is made: the calls after the leases, the questions of a CHECK
+abbrev pub is_prepared : Phase → Bool
+is_prepared phases.Leased = false
+is_prepared (phases.Found cached) = false
+is_prepared phase = true
 
--- where the calls after the leases are prepared, they are those of these addresses
-abbrev pub HasCallsOf : NetList → Command → List Addr → Option (List Call) → Type 0
-HasCallsOf list c given prepared = IfSome prepared (λ calls. calls ≡ back_of list c given)
+abbrev pub is_prepared_by : Option NetList → Phase → Bool
+is_prepared_by None phase = true
+is_prepared_by (Some list) phase = is_prepared phase
 
--- what the phase has prepared is its own
-abbrev pub IsPrepared : NetList → Command → List Addr → Phase → Type 0
-IsPrepared list c given (phases.AfterLeases passed prepared) = HasCallsOf list c given prepared
-IsPrepared list c given (phases.Asking inquiry) = HasQuestionsOf list c inquiry
-IsPrepared list c given (phases.Denied inquiry) = HasQuestionsOf list c inquiry
-IsPrepared list c given phase = ⊤
+-- a reply may come: one of the calls or questions that are made is left
+abbrev pub Awaits : Phase → Type 0
+Awaits phases.Leased = ⊥
+Awaits (phases.AfterLeases calls passed) = passed < length calls
+Awaits (phases.Found cached) = ⊥
+Awaits (phases.Asking questions passed) = passed < length questions
+Awaits (phases.Over ending) = ⊥
+Awaits phase = ⊤
 
 -- a run of this list keeps the parts of its plan, and has room for an address of each set
 pub record KeepsPlan (list : NetList) (c : Command) (before : List Call) (kinds : List Kind) (room : ℕ) (made : ℕ) (given : List Addr) (phase : Phase) : Type 0 where
   pub before_is : before ≡ before_of list c
   pub kinds_is : kinds ≡ kinds_of list
-  pub few : length (sets_of list) < 2 ^ 32
   pub room_is : length (sets_of list) ≤ room
   pub stands : Stands (length before) (length (sets_of list)) made given phase
-  pub prepared : IsPrepared list c given phase
 
 abbrev pub KeepsPlanBy : Option NetList → Command → List Call → List Kind → ℕ → ℕ → List Addr → Phase → Type 0
 KeepsPlanBy None c before kinds room made given phase = ⊤
@@ -102,10 +87,8 @@ KeepsPlanBy (Some list) c before kinds room made given phase = KeepsPlan list c 
 pub record IsPhaseOf (list : NetList) (c : Command) (made : ℕ) (given : List Addr) (phase : Phase) (state : State) : Type 0 where
   pub is : state_in list c given phase ≡ state
   pub stands : Stands (length (before_of list c)) (length (sets_of list)) made given phase
-  pub prepared : IsPrepared list c given phase
 
--- the phase means the same, and may hold more that is prepared
+-- the phase means the same, and its list may be made
 pub record IsSameButPrepared (list : NetList) (c : Command) (given : List Addr) (old new : Phase) : Type 0 where
   pub state : state_in list c given new ≡ state_in list c given old
   pub stands : (calls sets made : ℕ) → Stands calls sets made given old → Stands calls sets made given new
-  pub prepared : IsPrepared list c given old → IsPrepared list c given new

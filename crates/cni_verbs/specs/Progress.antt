@@ -21,6 +21,11 @@ pub record Progress : Type 0 where
   pub made : ℕ
   pub state : State
 
+-- how far a run has come, and whether what its next call is looked up in is made
+pub record RunView : Type 0 where
+  pub progress : Progress
+  pub prepared : Bool
+
 -- a command of no network is a change from outside
 abbrev pub state_by : Option NetList → Command → List Reply → State
 state_by None c rs = outside_after c rs

@@ -1,19 +1,18 @@
 //! The phase after a reply. Nothing here takes memory.
 
-ghost use Rattle.std.specs.Prelude.{◌≡◌, ℕ, ◌+◌, ◌<◌, ◌≤◌, ◌^◌, [], ◌∷◌, List, length, drop, Some, None, vec_capacity};
+ghost use Rattle.std.specs.Prelude.{◌≡◌, ℕ, ◌+◌, ◌<◌, ◌≤◌, ◌^◌, [], ◌∷◌, List, length, drop, slice_get, Some, vec_capacity};
 ghost use Rattle.cni_addr.specs.declared.address.Addr.{Addr};
 ghost use Rattle.net_conf.specs.declared.list.NetList.{NetList};
 ghost use Rattle.pod_file.specs.declared.command.Command.{Command};
 ghost use Rattle.kernel_types.specs.declared.call.Kind.{Kind};
 ghost use Rattle.kernel_types.specs.declared.call.Reply.{Reply};
 ghost use Rattle.cni_verbs.specs.Wanted.{sets_of, kinds_of};
-ghost use Rattle.cni_verbs.specs.Script.{IsOpen, before_of, back_of};
+ghost use Rattle.cni_verbs.specs.Script.{IsOpen, before_of};
 ghost use Rattle.cni_verbs.specs.Script as script;
 ghost use Rattle.cni_verbs.specs.declared.answer.Question.{Question};
-ghost use Rattle.cni_verbs.specs.Phases.{Stands, IsPrepared, HasQuestionsOf, IsPhaseOf, questions_about, questions_left, state_in, state_outside};
+ghost use Rattle.cni_verbs.specs.Phases.{Awaits, Stands, IsPhaseOf, state_in, state_outside};
 
-use crate::answer::{Cause, Ending};
-use crate::inquiry::Inquiry;
+use crate::answer::{Cause, Ending, Question};
 use crate::over::is_changing;
 use crate::phase::Phase;
 use cni_addr::{Addr, Items};
@@ -67,10 +66,7 @@ fn leasing(given: usize, sets: usize) -> Phase
     if given < sets {
         Phase::Leasing
     } else {
-        Phase::AfterLeases {
-            passed: 0,
-            calls: None,
-        }
+        Phase::Leased
     }
 }
 
@@ -128,15 +124,15 @@ fn after_lease(given: &mut Vec<Addr>, sets: usize, number: u64, reply: Reply) ->
     }
 }
 
-fn after_call_after(passed: usize, calls: Option<Items<Call>>, number: u64, reply: Reply) -> Phase
+fn after_call_after(calls: Items<Call>, passed: usize, number: u64, reply: Reply) -> Phase
     requires { passed < number }
-    ensures { (list : NetList) (c : Command) (addrs : List Addr) → IsPrepared list c addrs (Phase.AfterLeases passed calls)
-        → IsPhaseOf list c number addrs result (script.at_call_after number (drop (passed + 1) (back_of list c addrs)) addrs reply) }
+    ensures { (list : NetList) (c : Command) (addrs : List Addr)
+        → IsPhaseOf list c number addrs result (script.at_call_after number (drop (passed + 1) calls) addrs reply) }
 {
     match reply {
         Reply::Done => Phase::AfterLeases {
-            passed: passed + 1,
             calls,
+            passed: passed + 1,
         },
         refusal => undoing(0, number, refusal),
     }
@@ -167,24 +163,36 @@ fn after_entry(number: u64, reply: Reply) -> Phase
     ensures { (list : NetList) (c : Command) (addrs : List Addr) → IsPhaseOf list c number addrs result (script.at_entry list c number reply) }
 {
     match reply {
-        Reply::Entry(Some(cached)) => Phase::asking(Some(cached)),
+        Reply::Entry(Some(cached)) => Phase::Found(cached),
         Reply::Entry(None) => Phase::refused(Cause::Unknown),
         _ => Phase::refused(Cause::Fault(number)),
     }
 }
 
-fn after_question(mut inquiry: Inquiry, number: u64, reply: Reply) -> Phase
-    requires { inquiry.passed < number }
-    ensures { (list : NetList) (c : Command) (addrs : List Addr) (question : Question) → HasQuestionsOf list c inquiry
-        → questions_left list c inquiry ≡ question ∷ drop (inquiry.passed + 1) (questions_about list c inquiry.about)
-        → IsPhaseOf list c number addrs result (script.at_question number question (drop (inquiry.passed + 1) (questions_about list c inquiry.about)) reply) }
+/// The end of a run whose question at this place was answered with no.
+fn denied(questions: Items<Question>, place: usize) -> Phase
+    requires { place < length questions }
+    ensures { (question : Question) → slice_get questions place ≡ Some question → result ≡ Phase.Over (Ending.Refused question.lack) }
+{
+    let mut questions = questions.into_vec();
+    let Question { call, lack } = questions.swap_remove(place);
+    drop(call);
+    drop(questions);
+    Phase::refused(lack)
+}
+
+fn after_question(questions: Items<Question>, passed: usize, number: u64, reply: Reply) -> Phase
+    requires passed { passed < number }
+    requires left { passed < length questions }
+    ensures { (list : NetList) (c : Command) (addrs : List Addr) (question : Question) → slice_get questions passed ≡ Some question
+        → IsPhaseOf list c number addrs result (script.at_question number question (drop (passed + 1) questions) reply) }
 {
     match reply {
-        Reply::Has(true) => {
-            inquiry.passed += 1;
-            Phase::Asking(inquiry)
-        }
-        Reply::Has(false) => Phase::Denied(inquiry),
+        Reply::Has(true) => Phase::Asking {
+            questions,
+            passed: passed + 1,
+        },
+        Reply::Has(false) => denied(questions, passed),
         _ => Phase::refused(Cause::Fault(number)),
     }
 }
@@ -217,10 +225,9 @@ pub(crate) fn after_outside(phase: &mut Phase, number: u64, reply: Reply)
 
 // ---- every phase
 
-/// The phase after a reply, where so many calls were made before it. A leased address is put to the given ones, and
-/// what the phase held is handed on.
+/// The phase after a reply, where so many calls were made before it. A leased address is put to the given ones.
 pub(crate) fn after(
-    phase: &mut Phase,
+    phase: Phase,
     calls: usize,
     given: &mut Vec<Addr>,
     sets: usize,
@@ -228,30 +235,29 @@ pub(crate) fn after(
     reply: Reply,
 ) -> Phase
     requires numbered { made + 1 < 2 ^ 64 }
-    requires stands { Stands calls sets made given.old.items phase.old }
+    requires stands { Stands calls sets made given.old.items phase }
+    requires awaits { Awaits phase }
     requires few { sets < 2 ^ 32 }
     requires room { sets ≤ vec_capacity given.old }
     ensures phase { (list : NetList) (c : Command) → length (before_of list c) ≡ calls → length (sets_of list) ≡ sets
-        → IsPrepared list c given.old.items phase.old → IsOpen (state_in list c given.old.items phase.old)
-        → IsPhaseOf list c (made + 1) given.new.items result (script.advance list c (made + 1) (state_in list c given.old.items phase.old) reply) }
+        → IsOpen (state_in list c given.old.items phase)
+        → IsPhaseOf list c (made + 1) given.new.items result (script.advance list c (made + 1) (state_in list c given.old.items phase) reply) }
     ensures room { sets ≤ vec_capacity given.new }
 {
     let number = made + 1;
     match phase {
         Phase::AtBegin => after_begin(calls, sets, number, reply),
-        Phase::BeforeLeases(passed) => after_call_before(*passed, calls, sets, number, reply),
+        Phase::BeforeLeases(passed) => after_call_before(passed, calls, sets, number, reply),
         Phase::Leasing => after_lease(given, sets, number, reply),
-        Phase::AfterLeases { passed, calls } => {
-            after_call_after(*passed, calls.take(), number, reply)
-        }
-        Phase::ReadingCache(ending) => after_cache(number, replace(ending, Ending::Yes), reply),
-        Phase::Deleting(passed, ending) => {
-            after_deletion(*passed, number, replace(ending, Ending::Yes), reply)
-        }
+        Phase::AfterLeases { calls, passed } => after_call_after(calls, passed, number, reply),
+        Phase::ReadingCache(ending) => after_cache(number, ending, reply),
+        Phase::Deleting(passed, ending) => after_deletion(passed, number, ending, reply),
         Phase::FindingEntry => after_entry(number, reply),
-        Phase::Asking(inquiry) => after_question(inquiry.hand_on(), number, reply),
-        Phase::Changing(_) => Phase::Over(changed(number, reply)),
-        // To a run that is over, no reply comes.
-        Phase::Denied(_) | Phase::Over(_) => Phase::Over(changed(number, reply)),
+        Phase::Asking { questions, passed } => after_question(questions, passed, number, reply),
+        Phase::Changing(call) => {
+            drop(call);
+            Phase::Over(changed(number, reply))
+        }
+        Phase::Leased | Phase::Found(_) | Phase::Over(_) => unreachable!(),
     }
 }

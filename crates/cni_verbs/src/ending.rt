@@ -1,17 +1,15 @@
 //! What a run answers at its end.
 
-ghost use Rattle.std.specs.Prelude.{◌≡◌, ℕ, List, Some, None, drop, slice_get, IfOk};
-ghost use Rattle.std.specs.Option.{option_copied};
+ghost use Rattle.std.specs.Prelude.{◌≡◌, ℕ, List, Some, None, IfOk};
 ghost use Rattle.kernel_types.specs.declared.call.Call.{Call};
 ghost use Rattle.kernel_types.specs.declared.call.Kind.{Kind};
 ghost use Rattle.cni_verbs.specs.Script.{IsOpen};
 ghost use Rattle.cni_verbs.specs.Answers.{answer_of_ending, plain_answer};
 ghost use Rattle.cni_verbs.specs.Progress.{answer_in};
-ghost use Rattle.cni_verbs.specs.Phases.{KeepsPlan, HasQuestionsOf, denied, questions_left, state_in, state_outside};
+ghost use Rattle.cni_verbs.specs.Phases.{KeepsPlan, state_in, state_outside};
 
-use crate::answer::{Answer, Ending, Question};
+use crate::answer::{Answer, Ending};
 use crate::errors::refused;
-use crate::inquiry::{Inquiry, questions_of};
 use crate::over::{is_over, is_over_outside};
 use crate::phase::Phase;
 use crate::wanted::result_of_add;
@@ -72,40 +70,6 @@ fn ended(
     }
 }
 
-fn question_at(questions: &[Question], place: usize) -> Option<&Question>
-    ensures { option_copied result ≡ slice_get questions.now place }
-{
-    questions.get(place)
-}
-
-fn denied_at(
-    alloc: Global,
-    list: &NetList,
-    command: &Command,
-    questions: &[Question],
-    place: usize,
-) -> Result<Answer, NoMemory>
-    ensures { IfOk result (λ answer. Some answer ≡ answer_in (Some list.now) command.now (denied (drop place questions.now))) }
-{
-    match question_at(questions, place) {
-        Some(question) => refused(alloc, list.version, command, &question.lack),
-        None => Ok(Answer::Yes),
-    }
-}
-
-fn denied(
-    alloc: Global,
-    list: &NetList,
-    command: &Command,
-    inquiry: &Inquiry,
-) -> Result<Answer, NoMemory>
-    requires { HasQuestionsOf list.now command.now inquiry.now }
-    ensures { IfOk result (λ answer. Some answer ≡ answer_in (Some list.now) command.now (denied (questions_left list.now command.now inquiry.now))) }
-{
-    let questions = questions_of(alloc, list, command, inquiry)?;
-    denied_at(alloc, list, command, questions.as_slice(), inquiry.passed)
-}
-
 fn answer_at_end(
     alloc: Global,
     list: &NetList,
@@ -120,14 +84,15 @@ fn answer_at_end(
     match phase {
         Phase::AfterLeases { .. } => ended(alloc, list, command, &Ending::Added, given),
         Phase::Deleting(_, ending) => ended(alloc, list, command, ending, &[]),
-        Phase::Asking(_) => ended(alloc, list, command, &Ending::Yes, &[]),
-        Phase::Denied(inquiry) => denied(alloc, list, command, inquiry),
+        Phase::Asking { .. } => ended(alloc, list, command, &Ending::Yes, &[]),
         Phase::Over(ending) => ended(alloc, list, command, ending, &[]),
         Phase::AtBegin
         | Phase::BeforeLeases(_)
         | Phase::Leasing
+        | Phase::Leased
         | Phase::ReadingCache(_)
         | Phase::FindingEntry
+        | Phase::Found(_)
         | Phase::Changing(_) => unreachable!(),
     }
 }
@@ -144,7 +109,7 @@ pub(crate) fn answer_in(
     requires { (before : List Call) × (room : ℕ) × (made : ℕ) × KeepsPlan list.now command.now before kinds.now room made given.now phase.now }
     ensures { IfOk result (λ answer. answer ≡ answer_in (Some list.now) command.now (state_in list.now command.now given.now phase.now)) }
 {
-    if is_over(list, command, kinds, given, phase) {
+    if is_over(kinds, given, phase) {
         Ok(Some(answer_at_end(alloc, list, command, given, phase)?))
     } else {
         Ok(None)

@@ -6,13 +6,15 @@
 //! and the errors (`specs/Answers.antt`), whose codes and titles every error of the program has from here
 //! (`specs/ErrorKinds.antt`). A [`Run`] follows the script one reply at a time and keeps no replies: it is seen as the
 //! list, the command and the script's state (`specs/Progress.antt`), its next call and its answer are the script's, and
-//! to take a reply wants no memory. A command of no network runs too: it is one change from outside. A garbage
-//! collection isn't a `Run`.
+//! to take a reply wants no memory: what takes some is made by `prepare`, once after each reply. A command of no network
+//! runs too: it is one change from outside. A garbage collection isn't a `Run`.
 //!
 //! ```text
 //! let mut run = Run::start(alloc, Some(&list), &add)?;
+//! run.prepare()?;
 //! run.next()?              // Begin
 //! run.take(Reply::NoNs);
+//! run.prepare()?;
 //! run.next()?              // None
 //! run.answer()?            // Refused: code 100, "namespace missing", with the namespace as its details
 //! ```
@@ -20,12 +22,9 @@
 
 mod advance;
 pub mod answer;
-mod check_counts;
-mod counts;
 mod ending;
 pub mod error_kind;
 mod errors;
-mod inquiry;
 pub mod laws;
 mod missed;
 mod next;

@@ -1,15 +1,14 @@
 //! The call that a run makes next.
 
-ghost use Rattle.std.specs.Prelude.{◌≡◌, ℕ, ◌<◌, ◌^◌, Some, slice_get, option_map, IfOk};
+ghost use Rattle.std.specs.Prelude.{◌≡◌, ℕ, ◌<◌, true, Some, length, slice_get, option_map, IfOk};
 ghost use Rattle.kernel_types.specs.declared.call.Call.TheVariants as call;
 ghost use Rattle.cni_verbs.specs.CommandWords.{att_of};
 ghost use Rattle.cni_verbs.specs.Wanted.{deletion, sets_of};
 ghost use Rattle.cni_verbs.specs.Script.{before_of, back_of, next_call};
-ghost use Rattle.cni_verbs.specs.Phases.{HasCallsOf, KeepsPlan, state_in, state_outside};
+ghost use Rattle.cni_verbs.specs.Phases.{KeepsPlan, is_prepared, state_in, state_outside};
 
-use crate::inquiry::call_asked;
+use crate::answer::Question;
 use crate::phase::Phase;
-use crate::prepare::prepared_or_made;
 use crate::wanted::{back_calls, calls_before, deletion, sets_of};
 use crate::words::{att_of, mappings_of};
 use cni_addr::{Addr, Duplicate, Items, NoMemory};
@@ -68,25 +67,20 @@ fn call_at(calls: &[Call], place: usize) -> Result<Option<Call>, NoMemory>
 }
 
 fn lease_next(list: &NetList, command: &Command, place: usize) -> Result<Option<Call>, NoMemory>
-    requires { place < 2 ^ 32 }
+    requires { place < length (sets_of list.now) }
     ensures { IfOk result (λ next. next ≡ option_map (call.LeaseNext (att_of command.now) place) (slice_get (sets_of list.now) place)) }
 {
-    lease_at(sets_of(list), att_of(command)?, place)
+    let sets = sets_of(list);
+    lease_at(sets, att_of(command)?, place as u32)
 }
 
-fn call_after(
-    alloc: Global,
-    list: &NetList,
-    command: &Command,
-    given: &[Addr],
-    calls: &Option<Items<Call>>,
-    place: usize,
-) -> Result<Option<Call>, NoMemory>
-    requires { HasCallsOf list.now command.now given.now calls.now }
-    ensures { IfOk result (λ next. next ≡ slice_get (back_of list.now command.now given.now) place) }
+fn call_asked(questions: &[Question], place: usize) -> Result<Option<Call>, NoMemory>
+    ensures { IfOk result (λ next. next ≡ option_map (λ question. question.call) (slice_get questions.now place)) }
 {
-    let calls = prepared_or_made(calls, || back_of(alloc, list, command, given))?;
-    call_at(calls.as_slice(), place)
+    match questions.get(place) {
+        Some(question) => Ok(Some(question.call.copy()?)),
+        None => Ok(None),
+    }
 }
 
 fn cache_get(command: &Command) -> Result<Option<Call>, NoMemory>
@@ -108,7 +102,6 @@ fn deletion_at(command: &Command, kinds: &[Kind], place: usize) -> Result<Option
 
 /// The call that the run of this list makes next.
 pub(crate) fn next_of(
-    alloc: Global,
     list: &NetList,
     command: &Command,
     before: &[Call],
@@ -116,21 +109,21 @@ pub(crate) fn next_of(
     given: &[Addr],
     phase: &Phase,
 ) -> Result<Option<Call>, NoMemory>
-    requires { (room : ℕ) × (made : ℕ) × KeepsPlan list.now command.now before.now kinds.now room made given.now phase.now }
+    requires kept { (room : ℕ) × (made : ℕ) × KeepsPlan list.now command.now before.now kinds.now room made given.now phase.now }
+    requires prepared { is_prepared phase.now ≡ true }
     ensures { IfOk result (λ next. next ≡ next_call command.now (state_in list.now command.now given.now phase.now)) }
 {
     match phase {
         Phase::AtBegin => begin(command),
         Phase::BeforeLeases(passed) => call_at(before, *passed),
         Phase::Leasing => lease_next(list, command, given.len()),
-        Phase::AfterLeases { passed, calls } => {
-            call_after(alloc, list, command, given, calls, *passed)
-        }
+        Phase::AfterLeases { calls, passed } => call_at(calls.as_slice(), *passed),
         Phase::ReadingCache(_) | Phase::FindingEntry => cache_get(command),
         Phase::Deleting(passed, _) => deletion_at(command, kinds, *passed),
-        Phase::Asking(inquiry) => call_asked(alloc, list, command, inquiry),
+        Phase::Asking { questions, passed } => call_asked(questions.as_slice(), *passed),
         Phase::Changing(change) => Ok(Some(change.copy()?)),
-        Phase::Denied(_) | Phase::Over(_) => Ok(None),
+        Phase::Over(_) => Ok(None),
+        Phase::Leased | Phase::Found(_) => unreachable!(),
     }
 }
 

@@ -2,78 +2,42 @@
 
 ghost use Rattle.std.specs.Prelude.{◌≡◌, ◌≤◌, ◌<◌, ℕ, List, length, MatchBool};
 ghost use Rattle.std.specs.Bool.{FalseIff};
+ghost use Rattle.net_conf.specs.declared.list.NetList.{NetList};
+ghost use Rattle.pod_file.specs.declared.command.Command.{Command};
 ghost use Rattle.kernel_types.specs.declared.call.Call.{Call};
 ghost use Rattle.kernel_types.specs.declared.call.Reply.{Reply};
-ghost use Rattle.cni_verbs.specs.Script.{IsOpen, back_of, outside_advance};
-ghost use Rattle.cni_verbs.specs.Phases.{KeepsPlan, HasCallsOf, HasQuestionsOf, questions_about, state_in, state_outside};
+ghost use Rattle.cni_verbs.specs.Script.{IsOpen, outside_advance};
+ghost use Rattle.cni_verbs.specs.Phases.{KeepsPlan, state_in, state_outside};
 
-use crate::check_counts::count_questions;
-use crate::counts::back_count;
-use crate::inquiry::Inquiry;
 use crate::phase::Phase;
-use cni_addr::{Addr, Items};
-use kernel_types::{Call, Kind};
-use net_conf::NetList;
-use pod_file::Command;
+use cni_addr::Addr;
+use kernel_types::Kind;
 
-fn passed_all_calls(
-    list: &NetList,
-    command: &Command,
-    given: &[Addr],
-    calls: &Option<Items<Call>>,
-    passed: usize,
-) -> bool
-    requires { HasCallsOf list.now command.now given.now calls.now }
-    ensures { MatchBool result (length (back_of list.now command.now given.now) ≤ passed) (passed < length (back_of list.now command.now given.now)) }
+fn passed_all<T>(items: &[T], passed: usize) -> bool
+    ensures { MatchBool result (length items.now ≤ passed) (passed < length items.now) }
 {
-    match calls {
-        Some(calls) => passed >= calls.as_slice().len(),
-        None => passed as u128 >= back_count(list, command, given),
-    }
+    passed >= items.len()
 }
 
-fn passed_all_questions(list: &NetList, command: &Command, inquiry: &Inquiry) -> bool
-    requires { HasQuestionsOf list.now command.now inquiry.now }
-    ensures { MatchBool result
-        (length (questions_about list.now command.now inquiry.now.about) ≤ inquiry.now.passed)
-        (inquiry.now.passed < length (questions_about list.now command.now inquiry.now.about)) }
-{
-    match &inquiry.questions {
-        Some(questions) => inquiry.passed >= questions.as_slice().len(),
-        None => inquiry.passed as u128 >= count_questions(list, command, &inquiry.about),
-    }
-}
-
-fn passed_all_kinds(kinds: &[Kind], passed: usize) -> bool
-    ensures { MatchBool result (length kinds.now ≤ passed) (passed < length kinds.now) }
-{
-    passed >= kinds.len()
-}
-
-/// Whether the run of this list is over.
-pub(crate) fn is_over(
-    list: &NetList,
-    command: &Command,
-    kinds: &[Kind],
-    given: &[Addr],
-    phase: &Phase,
-) -> bool
-    requires { (before : List Call) × (room : ℕ) × (made : ℕ) × KeepsPlan list.now command.now before kinds.now room made given.now phase.now }
-    ensures { FalseIff result (IsOpen (state_in list.now command.now given.now phase.now)) }
+/// Whether the run of a list is over. One whose calls after the leases or whose questions aren't made yet isn't: an ADD
+/// ends with its cached entry, and a CHECK asks for a link at least.
+pub(crate) fn is_over(kinds: &[Kind], given: &[Addr], phase: &Phase) -> bool
+    ensures { (list : NetList) (c : Command) (before : List Call) (room made : ℕ) → KeepsPlan list c before kinds.now room made given.now phase.now
+        → FalseIff result (IsOpen (state_in list c given.now phase.now)) }
 {
     match phase {
         Phase::AtBegin
         | Phase::BeforeLeases(_)
         | Phase::Leasing
+        | Phase::Leased
         | Phase::ReadingCache(_)
         | Phase::FindingEntry
+        | Phase::Found(_)
         | Phase::Changing(_) => false,
-        Phase::AfterLeases { passed, calls } => {
-            passed_all_calls(list, command, given, calls, *passed)
-        }
-        Phase::Deleting(passed, _) => passed_all_kinds(kinds, *passed),
-        Phase::Asking(inquiry) => passed_all_questions(list, command, inquiry),
-        Phase::Denied(_) | Phase::Over(_) => true,
+        Phase::AfterLeases { calls, passed } => passed_all(calls.as_slice(), *passed),
+        Phase::Deleting(passed, _) => passed_all(kinds, *passed),
+        Phase::Asking { questions, passed } => passed_all(questions.as_slice(), *passed),
+        Phase::Over(_) => true,
     }
 }
 

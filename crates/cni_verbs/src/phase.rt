@@ -1,9 +1,8 @@
 //! How far a run has come.
 
-ghost use Rattle.std.specs.Prelude.{◌≡◌, None};
+ghost use Rattle.std.specs.Prelude.{◌≡◌};
 
-use crate::answer::{Cause, Ending};
-use crate::inquiry::Inquiry;
+use crate::answer::{Cause, Ending, Question};
 use cni_addr::Items;
 use cni_result::Cached;
 use kernel_types::Call;
@@ -17,10 +16,12 @@ pub(crate) enum Phase {
     BeforeLeases(usize),
     /// Sets are left to lease from.
     Leasing,
-    /// So many calls after the leases were made. The list of them is made when it is first asked for.
+    /// No set is left to lease from, and the calls after the leases aren't made yet.
+    Leased,
+    /// So many of the calls after the leases are behind it.
     AfterLeases {
+        calls: Items<Call>,
         passed: usize,
-        calls: Option<Items<Call>>,
     },
     /// The cached entry is read ahead of the deletions.
     ReadingCache(Ending),
@@ -28,10 +29,13 @@ pub(crate) enum Phase {
     Deleting(usize, Ending),
     /// The cached entry is read ahead of the questions of a check.
     FindingEntry,
-    /// Questions are asked one by one.
-    Asking(Inquiry),
-    /// The question at this place was answered with no. Its cause is looked up when the answer is asked for.
-    Denied(Inquiry),
+    /// A CHECK asks about this cached entry, and its questions aren't made yet.
+    Found(Cached),
+    /// So many questions were answered with yes.
+    Asking {
+        questions: Items<Question>,
+        passed: usize,
+    },
     /// A change from outside is made by this call.
     Changing(Call),
     Over(Ending),
@@ -43,16 +47,5 @@ impl Phase {
         ensures { result ≡ Phase.Over (Ending.Refused cause) }
     {
         Phase::Over(Ending::Refused(cause))
-    }
-
-    /// The first question is next, of what a CHECK asks about this cached entry, or a STATUS about none.
-    pub(crate) fn asking(about: Option<Cached>) -> Phase
-        ensures { result ≡ Phase.Asking (record { about = about; passed = 0; questions = None }) }
-    {
-        Phase::Asking(Inquiry {
-            about,
-            passed: 0,
-            questions: None,
-        })
     }
 }

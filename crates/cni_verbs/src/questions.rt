@@ -1,8 +1,9 @@
 //! What CHECK and STATUS ask of the kernel.
 
-ghost use Rattle.std.specs.Prelude.{◌≡◌, ◌+◌, ◌++◌, [], map, IfOk, OnOk};
+ghost use Rattle.std.specs.Prelude.{◌≡◌, ◌+◌, ◌++◌, ◌≤◌, [], length, map, IfOk, OnOk};
 ghost use Rattle.kernel_types.specs.declared.call.Call.TheVariants as calls;
 ghost use Rattle.cni_verbs.specs.Questions as asked;
+ghost use Rattle.net_conf.specs.Sets.{most_sets};
 
 use crate::answer::{Cause, Missed, Question};
 use crate::share::{Objects, no_objects};
@@ -267,13 +268,9 @@ pub(crate) fn check_questions(
 
 // ---- STATUS
 
-fn pool_question(network: &Text, place: usize, set: &RangeSet) -> Result<Question, NoMemory>
-    ensures { IfOk result (λ q. q ≡ asked.pool_question network.now place set.now) }
+fn pool_question(network: &Text, number: u32, set: &RangeSet) -> Result<Question, NoMemory>
+    ensures { IfOk result (λ q. q ≡ asked.pool_question network.now number set.now) }
 {
-    // The list of a run has no more than `MOST_SETS`, so the number fits.
-    let Ok(number) = u32::try_from(place) else {
-        return Err(NoMemory);
-    };
     let network = network.copy()?;
     let set = set.copy()?;
     Ok(Question {
@@ -287,10 +284,11 @@ fn ask_pools(
     network: &Text,
     sets: &[RangeSet],
 ) -> Result<(), NoMemory>
+    requires few { length sets.now ≤ most_sets }
     ensures { OnOk result (questions.new.items ≡ questions.old.items ++ asked.pool_questions network.now 0 sets.now) }
 {
     for (place, set) in sets.iter().enumerate() {
-        let question = pool_question(network, place, set)?;
+        let question = pool_question(network, place as u32, set)?;
         questions.push(question)?;
     }
     Ok(())

@@ -1,6 +1,6 @@
 //! One command's run, a call at a time.
 
-ghost use Rattle.std.specs.Prelude.{◌≡◌, ◌+◌, ◌<◌, ◌≤◌, ◌^◌, is_some, false, true, [], None, Some, IfOk, length, vec_capacity};
+ghost use Rattle.std.specs.Prelude.{◌≡◌, ◌+◌, ◌<◌, ◌≤◌, ◌^◌, is_some, false, true, [], None, Some, IfOk, OnOk, length, vec_capacity};
 ghost use Rattle.std.specs.Bool.{FalseIff};
 ghost use Rattle.std.specs.Option.{option_copied};
 ghost use Rattle.cni_verbs.specs.Progress.{is_gc, progress, advanced, answer_at};
@@ -19,7 +19,7 @@ use crate::start::{first_outside, first_phase};
 use crate::wanted::{kinds_of, sets_of};
 use cni_addr::{Addr, Duplicate, Items, NoMemory};
 use kernel_types::{Call, Kind, Reply};
-use net_conf::{MOST_SETS, NetList};
+use net_conf::NetList;
 use pod_file::Command;
 use std::alloc::Global;
 use std::marker::Model;
@@ -40,20 +40,22 @@ pub struct Run {
 
 impl Model for Run {
     ghost use Rattle.std.specs.Prelude.{vec_capacity};
-    ghost use Rattle.cni_verbs.specs.Phases.{KeepsPlanBy, state_by_phase};
-    ghost use Rattle.cni_verbs.specs.Progress.{Progress};
+    ghost use Rattle.cni_verbs.specs.Phases.{KeepsPlanBy, is_prepared_by, state_by_phase};
+    ghost use Rattle.cni_verbs.specs.Progress.{RunView};
 
-    ghost Value = { Progress };
+    ghost Value = { RunView };
 
-    ghost view = { λ r. record { list = r.list; command = r.command; made = r.made; state = state_by_phase r.list r.command r.given.items r.phase } };
+    ghost view = { λ r. record {
+      progress = record { list = r.list; command = r.command; made = r.made; state = state_by_phase r.list r.command r.given.items r.phase };
+      prepared = is_prepared_by r.list r.phase;
+    } };
 
     ghost invariant = { λ r. KeepsPlanBy r.list r.command r.before r.kinds (vec_capacity r.given) r.made r.given.items r.phase };
 }
 
 impl Run {
-    /// The run of a command of this list, or of a command of no network, before its first call. A list with more than
-    /// [`MOST_SETS`] sets is refused as for want of memory. A garbage collection isn't a run: it keeps owners and
-    /// sweeps.
+    /// The run of a command of this list, or of a command of no network, before its first call. A garbage collection
+    /// isn't a run: it keeps owners and sweeps.
     ///
     /// It copies the list and the command, and keeps the copies until it is dropped. Texts are shared, so that takes
     /// time and memory in proportion to the ranges, routes and settings of the list, and to the mappings and valid
@@ -61,7 +63,7 @@ impl Run {
     /// of a DEL, both in proportion to the list, and room for an address of each range set.
     pub fn start(alloc: Global, list: Option<&NetList>, command: &Command) -> Result<Run, NoMemory>
         requires { is_gc command.now.verb ≡ false }
-        ensures { IfOk result (λ run. run ≡ progress (option_copied list.entry) command.now []) }
+        ensures { IfOk result (λ run. run.progress ≡ progress (option_copied list.entry) command.now []) }
     {
         match list {
             Some(list) => Run::of_list(alloc, list, command),
@@ -71,15 +73,11 @@ impl Run {
 
     fn of_list(alloc: Global, list: &NetList, command: &Command) -> Result<Run, NoMemory>
         requires { is_gc command.now.verb ≡ false }
-        ensures { IfOk result (λ run. run ≡ progress (Some list.now) command.now []) }
+        ensures { IfOk result (λ run. run.progress ≡ progress (Some list.now) command.now []) }
     {
-        let sets = sets_of(list).len();
-        if sets > MOST_SETS {
-            return Err(NoMemory);
-        }
         let before = before_of(alloc, list, command)?;
         let kinds = kinds_of(alloc, list)?;
-        let given = Vec::with_capacity(alloc, sets)?;
+        let given = Vec::with_capacity(alloc, sets_of(list).len())?;
         let list_copy = list.copy()?;
         let command_copy = command.copy()?;
         let phase = first_phase(alloc, list, command)?;
@@ -97,10 +95,9 @@ impl Run {
         requires phase { IsPhaseOf list command 0 [] phase (start_state list command) }
         requires before { before ≡ before_of list command }
         requires kinds { kinds ≡ kinds_of list }
-        requires few { length (sets_of list) < 2 ^ 32 }
         requires room { length (sets_of list) ≤ vec_capacity given }
         requires empty { given.items ≡ [] }
-        ensures { result ≡ progress (Some list) command [] }
+        ensures { result.progress ≡ progress (Some list) command [] }
     {
         let run = Run {
             list: Some(list),
@@ -115,7 +112,7 @@ impl Run {
     }
 
     fn of_no_list(alloc: Global, command: &Command) -> Result<Run, NoMemory>
-        ensures { IfOk result (λ run. run ≡ progress None command.now []) }
+        ensures { IfOk result (λ run. run.progress ≡ progress None command.now []) }
     {
         let twin = command.copy()?;
         let phase = first_outside(command)?;
@@ -124,7 +121,7 @@ impl Run {
 
     fn begun_outside(alloc: Global, command: Command, phase: Phase) -> Run
         requires { state_outside phase ≡ outside_start command }
-        ensures { result ≡ progress None command [] }
+        ensures { result.progress ≡ progress None command [] }
     {
         let run = Run {
             list: None,
@@ -138,11 +135,11 @@ impl Run {
         run
     }
 
-    /// Makes what the next call is looked up in, where it isn't made yet. It changes nothing that is seen, whether
-    /// memory lacks or not; without it [`Run::next`] makes the same anew at each call after the leases and at each
-    /// question.
+    /// Makes what the next call is looked up in, where it isn't made yet: [`Run::next`] and [`Run::take`] ask for it
+    /// after each reply. How far the run has come stays the same, whether memory lacks or not.
     pub fn prepare(&mut self) -> Result<(), NoMemory>
-        ensures { self.new ≡ self.old }
+        ensures same { self.new.progress ≡ self.old.progress }
+        ensures ready { OnOk result (self.new.prepared ≡ true) }
     {
         let alloc = *self.given.allocator();
         if let Some(list) = &self.list {
@@ -154,12 +151,11 @@ impl Run {
 
     /// The call to make next, or none where the run is over.
     pub fn next(&self) -> Result<Option<Call>, NoMemory>
-        ensures { IfOk result (λ call. call ≡ next_call self.now.command self.now.state) }
+        requires prepared { self.now.prepared ≡ true }
+        ensures { IfOk result (λ call. call ≡ next_call self.now.progress.command self.now.progress.state) }
     {
-        let alloc = *self.given.allocator();
         match &self.list {
             Some(list) => next_of(
-                alloc,
                 list,
                 &self.command,
                 self.before.as_slice(),
@@ -173,9 +169,10 @@ impl Run {
 
     /// Takes the reply to the call that [`Run::next`] gave. Takes no memory.
     pub fn take(&mut self, reply: Reply)
-        requires open { IsOpen self.old.state }
-        requires numbered { self.old.made + 1 < 2 ^ 64 }
-        ensures { self.new ≡ advanced self.old reply }
+        requires prepared { self.old.prepared ≡ true }
+        requires open { IsOpen self.old.progress.state }
+        requires numbered { self.old.progress.made + 1 < 2 ^ 64 }
+        ensures { self.new.progress ≡ advanced self.old.progress reply }
     {
         if self.list.is_some() {
             self.take_by_list(reply);
@@ -185,58 +182,56 @@ impl Run {
     }
 
     fn take_by_list(&mut self, reply: Reply)
-        requires listed { is_some self.old.list ≡ true }
-        requires open { IsOpen self.old.state }
-        requires numbered { self.old.made + 1 < 2 ^ 64 }
-        ensures { self.new ≡ advanced self.old reply }
+        requires listed { is_some self.old.progress.list ≡ true }
+        requires prepared { self.old.prepared ≡ true }
+        requires open { IsOpen self.old.progress.state }
+        requires numbered { self.old.progress.made + 1 < 2 ^ 64 }
+        ensures { self.new.progress ≡ advanced self.old.progress reply }
     {
         let sets = match &self.list {
             Some(list) => sets_of(list).len(),
             None => unreachable!(),
         };
         let calls = self.before.as_slice().len();
-        let next = after(
-            &mut self.phase,
-            calls,
-            &mut self.given,
-            sets,
-            self.made,
-            reply,
-        );
-        let old = replace(&mut self.phase, next);
-        drop(old);
+        let phase = replace(&mut self.phase, Phase::Leasing);
+        let next = after(phase, calls, &mut self.given, sets, self.made, reply);
+        drop(replace(&mut self.phase, next));
         self.made += 1;
     }
 
     fn take_outside(&mut self, reply: Reply)
-        requires alone { self.old.list ≡ None }
-        requires numbered { self.old.made + 1 < 2 ^ 64 }
-        ensures { self.new ≡ advanced self.old reply }
+        requires alone { self.old.progress.list ≡ None }
+        requires numbered { self.old.progress.made + 1 < 2 ^ 64 }
+        ensures { self.new.progress ≡ advanced self.old.progress reply }
     {
         after_outside(&mut self.phase, self.made + 1, reply);
         self.made += 1;
     }
 
-    /// Whether the run has no call left to make. Takes no memory; quadratic in the addresses, the routes, the mappings
-    /// and the settings where [`Run::prepare`] didn't run or wanted memory, else at once.
+    /// How many calls it has made.
+    pub fn made(&self) -> u64
+        ensures { result ≡ self.now.progress.made }
+    {
+        self.made
+    }
+
+    /// Whether the run has no call left to make. Takes no memory.
     pub fn over(&self) -> bool
-        ensures { FalseIff result (IsOpen self.now.state) }
+        ensures { FalseIff result (IsOpen self.now.progress.state) }
     {
         match &self.list {
-            Some(list) => is_over(
-                list,
-                &self.command,
-                self.kinds.as_slice(),
-                self.given.as_slice(),
-                &self.phase,
-            ),
+            Some(_) => {
+                let kinds = self.kinds.as_slice();
+                let given = self.given.as_slice();
+                is_over(kinds, given, &self.phase)
+            }
             None => is_over_outside(&self.phase),
         }
     }
 
     /// What the command is answered, where the run is over.
     pub fn answer(&self) -> Result<Option<Answer>, NoMemory>
-        ensures { IfOk result (λ answer. answer ≡ answer_at self.now) }
+        ensures { IfOk result (λ answer. answer ≡ answer_at self.now.progress) }
     {
         let alloc = *self.given.allocator();
         match &self.list {

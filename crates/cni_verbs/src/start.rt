@@ -14,6 +14,7 @@ ghost use Rattle.cni_verbs.specs.Phases.{IsPhaseOf, state_outside};
 
 use crate::answer::{Cause, Ending, Skip};
 use crate::phase::Phase;
+use crate::questions::status_questions;
 use crate::words::{add_refusal, del_refusal, drop_refusal, netns_refusal};
 use cni_addr::{Duplicate, NoMemory};
 use cni_result::Version;
@@ -75,12 +76,16 @@ pub fn early_ending(list: &NetList) -> Option<Ending>
     old_ending(list.version).or(list.disable_gc.then_some(Ending::Skipped(Skip::Gc)))
 }
 
-fn first_of_status(list: &NetList) -> Phase
-    ensures { (c : Command) → IsPhaseOf list.now c 0 [] result (unless_ended (script.old_ending list.now.version) (asking (status_questions list.now c))) }
+fn first_of_status(alloc: Global, list: &NetList, command: &Command) -> Result<Phase, NoMemory>
+    ensures { IfOk result (λ phase. IsPhaseOf list.now command.now 0 [] phase
+        (unless_ended (script.old_ending list.now.version) (asking (status_questions list.now command.now)))) }
 {
     match old_ending(list.version) {
-        Some(ending) => Phase::Over(ending),
-        None => Phase::asking(None),
+        Some(ending) => Ok(Phase::Over(ending)),
+        None => Ok(Phase::Asking {
+            questions: status_questions(alloc, list, command)?,
+            passed: 0,
+        }),
     }
 }
 
@@ -99,7 +104,7 @@ pub(crate) fn first_phase(
         Verb::Check => Ok(first_of_check(list, command)),
         Verb::Del => Ok(first_of_del(command)),
         Verb::Gc => unreachable!(),
-        Verb::Status => Ok(first_of_status(list)),
+        Verb::Status => first_of_status(alloc, list, command),
         Verb::Version => Ok(Phase::Over(Ending::Versions)),
         Verb::NsAdd | Verb::NsDel | Verb::Drop | Verb::Flush => Ok(Phase::Over(Ending::Yes)),
     }

@@ -1,10 +1,11 @@
 //! The calls of an ADD, its result, and the kinds of objects that a DEL takes back, each as the plugins of a list make
 //! it one after another.
 
-ghost use Rattle.std.specs.Prelude.{◌≡◌, ◌++◌, [], IfOk, OnOk};
+ghost use Rattle.std.specs.Prelude.{◌≡◌, ◌++◌, ◌≤◌, [], length, IfOk, OnOk};
 ghost use Rattle.host_local.specs.Conf.{ipam_of};
 ghost use Rattle.host_local.specs.Results.{ipam_result_of};
 ghost use Rattle.kernel_types.specs.declared.call.Call.TheVariants as call;
+ghost use Rattle.net_conf.specs.Sets.{most_sets};
 ghost use Rattle.cni_verbs.specs.Wanted as wanted;
 
 use bridge_ptp::{
@@ -13,8 +14,10 @@ use bridge_ptp::{
 };
 use cni_addr::{Addr, Duplicate, Items, NoMemory, RangeSet, Text};
 use cni_result::{AddResult, Cached, PortMapping};
-use firewall_tuning::{firewall_calls, firewall_kinds, tuning_calls, tuning_kinds, tuning_result};
-use host_local::{given_of, ipam_of, ipam_result};
+use firewall_tuning::{
+    firewall_calls, firewall_kinds, firewall_result, tuning_calls, tuning_kinds, tuning_result,
+};
+use host_local::{given_of, ipam_of, ipam_result_of};
 use kernel_types::{Att, Call, Given, Kind};
 use net_conf::{Chained, First, NetList};
 use std::alloc::Global;
@@ -91,7 +94,8 @@ fn first_kinds(alloc: Global, first: &First) -> Result<Items<Kind>, NoMemory>
 
 /// The range sets of the list, of each of which an ADD leases one address. Takes no memory.
 pub fn sets_of(list: &NetList) -> &[RangeSet]
-    ensures { result.now ≡ wanted.sets_of list.now }
+    ensures all { result.now ≡ wanted.sets_of list.now }
+    ensures few { length result.now ≤ most_sets }
 {
     match ipam_of(&list.first) {
         Some(ipam) => ipam.sets.as_slice(),
@@ -109,7 +113,7 @@ fn first_plugin_result(
     ensures { IfOk result (λ r. r ≡ wanted.first_result list.now.first att.now netns.now
         (ipam_result_of (ipam_of list.now.first) given.now list.now.version)) }
 {
-    let ipam = ipam_result(alloc, ipam_of(&list.first), given, list.version)?;
+    let ipam = ipam_result_of(alloc, ipam_of(&list.first), given, list.version)?;
     first_result(alloc, &list.first, att, netns, &ipam)
 }
 
@@ -132,12 +136,12 @@ fn chained_calls(
     }
 }
 
-/// The result of a chained plugin. One that changes nothing of it hands on the result before.
 fn chained_result(alloc: Global, chained: &Chained, prev: &AddResult) -> Result<AddResult, NoMemory>
     ensures { IfOk result (λ r. r ≡ wanted.chained_result chained.now prev.now) }
 {
     match chained {
-        Chained::Portmap(_) | Chained::Firewall(_) => prev.copy(),
+        Chained::Portmap(_) => portmap::result(prev),
+        Chained::Firewall(_) => firewall_result(prev),
         Chained::Tuning(conf) => tuning_result(alloc, conf, prev),
     }
 }

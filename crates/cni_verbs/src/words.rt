@@ -203,7 +203,7 @@ fn all_mappings(alloc: Global, raws: &[RawMapping]) -> Result<Vec<PortMapping>, 
 /// What the command gives of the mappings that reach the plugins of the list: nothing where no `portmap` is handed
 /// them. Takes no memory.
 #[tactic(auto, unfolding(crate::specs::CommandWords::mappings_of))]
-pub(crate) fn raw_mappings<'a>(list: &NetList, command: &'a Command) -> &'a [RawMapping]
+fn raw_mappings<'a>(list: &NetList, command: &'a Command) -> &'a [RawMapping]
     ensures { filter_map words.mapping_of result.now ≡ words.mappings_of list.now command.now }
 {
     if some_takes(list.chained.as_slice()) {

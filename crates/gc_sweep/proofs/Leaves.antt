@@ -109,8 +109,8 @@ excused_all gc es k sound all =
     let links : list_all (λ (l : Link). is_excused gc.network gc.valid es Links l.tag) k.links ≡ true = sym (list_all-map (is_excused gc.network gc.valid es Links) (λ (l : Link). l.tag) k.links) ∙ all Links in
     record {
       of_kind = all;
-      addresses = list_all-weaker (λ a. address_fits_tag k.links a a.tag) (λ a. is_excused gc.network gc.valid es Links a.tag) (λ a w. address_excused gc es k.links links a a.tag w) k.addresses sound.addresses.lie;
-      routes = list_all-weaker (λ r. list_any (is_link_of r.ns r.link r.tag) k.links) (λ r. is_excused gc.network gc.valid es Links r.tag) (λ r w. link_excused gc es k.links r.ns r.link r.tag links w) k.routes sound.routes.lie;
+      addresses = list_all-weaker (λ a. address_fits_tag k.links a a.tag) (λ a. is_excused gc.network gc.valid es Links a.tag) (λ a w. address_excused gc es k.links links a a.tag w) k.addresses sound.addresses.on_links;
+      routes = list_all-weaker (λ r. list_any (is_link_of r.ns r.link r.tag) k.links) (λ r. is_excused gc.network gc.valid es Links r.tag) (λ r w. link_excused gc es k.links r.ns r.link r.tag links w) k.routes sound.routes.on_links;
     }
 
 pub over_excused : OverExcused

@@ -94,6 +94,13 @@ impl GcRun {
         Ok(())
     }
 
+    /// How many calls it has made.
+    pub fn made(&self) -> u64
+        ensures { result ≡ self.now.made }
+    {
+        self.made
+    }
+
     /// Whether no call is left to make.
     pub fn over(&self) -> bool
         ensures { FalseIff result (IsOpen self.now.state) }

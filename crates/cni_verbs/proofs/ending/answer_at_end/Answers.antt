@@ -23,7 +23,7 @@ pub returns-in-Asking : goal.returns-in-Asking
 unfolding answer_of
 returns-in-Asking c =
     ok_some_by c.ended-in-Asking.result
-    (asking-finish c.args.list.now c.args.command.now _ c.args.given.now c.args.phase.now (progress.answer_by (Some c.args.list.now) c.args.command.now) c.in-Asking.is c.requires.over)
+    (asking-finish c.args.list.now c.args.command.now _ _ c.args.given.now c.args.phase.now (progress.answer_by (Some c.args.list.now) c.args.command.now) c.in-Asking.is c.requires.over)
     c.ended-in-Asking.ensures
 
 pub returns-in-Over : goal.returns-in-Over

@@ -1,5 +1,7 @@
-use Rattle.std.proofs.Common.{◌∙◌, Some, ap}
-use Rattle.cni_verbs.proofs.NextCalls.{ok_by, next_begin, next_before, next_lease, next_after, next_cache, next_deletion, next_asking, next_change, next_over}
+use Rattle.std.proofs.Common.{◌∙◌, List, Some, ap}
+use Rattle.std.specs.Prelude.{option_map, slice_get}
+use Rattle.cni_verbs.specs.declared.answer.Question.{Question}
+use Rattle.cni_verbs.proofs.NextCalls.{ok_by, next_begin, next_before, next_lease, next_after, next_cache, next_deletion, next_asking, next_change, next_over, is-prepared}
 use Rattle.cni_verbs.proofs.next.next_of.Goals as goal
 
 pub returns-in-AtBegin : goal.returns-in-AtBegin
@@ -9,18 +11,20 @@ returns-in-AtBegin c =
 pub returns-in-BeforeLeases : goal.returns-in-BeforeLeases
 returns-in-BeforeLeases c =
     ok_by c.call_at.result
-    (next_before c.args.list.now c.args.command.now c.args.before.now c.args.kinds.now c.requires.0 c.requires.1 _ c.args.given.now c.args.phase.now c.requires.2 c.in-BeforeLeases.is)
+    (next_before c.args.list.now c.args.command.now c.args.before.now c.args.kinds.now c.requires.kept.0 c.requires.kept.1 _ c.args.given.now c.args.phase.now c.requires.kept.2 c.in-BeforeLeases.is)
     c.call_at.ensures
 
 pub returns-in-Leasing : goal.returns-in-Leasing
 returns-in-Leasing c =
     ok_by c.lease_next.result
-    (next_lease c.args.list.now c.args.command.now c.args.before.now c.args.kinds.now c.requires.0 c.requires.1 c.args.given.now c.args.phase.now c.requires.2 c.in-Leasing.is)
+    (next_lease c.args.list.now c.args.command.now c.args.before.now c.args.kinds.now c.requires.kept.0 c.requires.kept.1 c.args.given.now c.args.phase.now c.requires.kept.2 c.in-Leasing.is)
     c.lease_next.ensures
 
 pub returns-in-AfterLeases : goal.returns-in-AfterLeases
 returns-in-AfterLeases c =
-    ok_by c.call_after.result (next_after c.args.list.now c.args.command.now _ _ c.args.given.now c.args.phase.now c.in-AfterLeases.is) c.call_after.ensures
+    ok_by c.call_at-in-AfterLeases.result
+    (ap (λ calls. slice_get calls c.in-AfterLeases.passed) c.as_slice.ensures ∙ next_after c.args.list.now c.args.command.now _ _ c.args.given.now c.args.phase.now c.in-AfterLeases.is)
+    c.call_at-in-AfterLeases.ensures
 
 pub returns-in-ReadingCache : goal.returns-in-ReadingCache
 returns-in-ReadingCache c =
@@ -29,16 +33,22 @@ returns-in-ReadingCache c =
 pub returns-in-Deleting : goal.returns-in-Deleting
 returns-in-Deleting c =
     ok_by c.deletion_at.result
-    (next_deletion c.args.list.now c.args.command.now c.args.before.now c.args.kinds.now c.requires.0 c.requires.1 _ _ c.args.given.now c.args.phase.now c.requires.2 c.in-Deleting.is)
+    (next_deletion c.args.list.now c.args.command.now c.args.before.now c.args.kinds.now c.requires.kept.0 c.requires.kept.1 _ _ c.args.given.now c.args.phase.now c.requires.kept.2 c.in-Deleting.is)
     c.deletion_at.ensures
 
 pub returns-in-Asking : goal.returns-in-Asking
 returns-in-Asking c =
-    ok_by c.call_asked.result (next_asking c.args.list.now c.args.command.now _ c.args.given.now c.args.phase.now c.in-Asking.is) c.call_asked.ensures
+    ok_by c.call_asked.result
+    (ap (λ (questions : List Question). option_map (λ question. question.call) (slice_get questions c.in-Asking.passed)) c.as_slice-in-Asking.ensures
+    ∙ next_asking c.args.list.now c.args.command.now _ _ c.args.given.now c.args.phase.now c.in-Asking.is)
+    c.call_asked.ensures
 
 pub returns-in_ok-copy-in-Changing : goal.returns-in_ok-copy-in-Changing
 returns-in_ok-copy-in-Changing c =
     ap Some c.in_ok-copy-in-Changing.ensures ∙ next_change c.args.list.now c.args.command.now _ c.args.given.now c.args.phase.now c.in-Changing.is
 
-pub returns-in-Denied : goal.returns-in-Denied
-returns-in-Denied c = next_over c.args.list.now c.args.command.now c.args.given.now c.args.phase.now c.in-Denied.is
+pub returns-in-Over : goal.returns-in-Over
+returns-in-Over c = next_over c.args.list.now c.args.command.now c.args.given.now c.args.phase.now _ c.in-Over.is
+
+pub unreachable-requires : goal.unreachable-requires
+unreachable-requires c = is-prepared c.args.phase.now c.requires.prepared c.in-Leased.is

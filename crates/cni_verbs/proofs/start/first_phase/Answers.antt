@@ -12,8 +12,3 @@ pub returns-in-Check : goal.returns-in-Check
 returns-in-Check c =
     at_state c.args.list.now c.args.command.now 0 [] c.first_of_check.result
     (sym (ap (λ verb. start_of c.args.list.now verb c.args.command.now) c.in-Check.is)) c.first_of_check.ensures
-
-pub returns-in-Status : goal.returns-in-Status
-returns-in-Status c =
-    at_state c.args.list.now c.args.command.now 0 [] c.first_of_status.result
-    (sym (ap (λ verb. start_of c.args.list.now verb c.args.command.now) c.in-Status.is)) (c.first_of_status.ensures c.args.command.now)

@@ -1,4 +1,5 @@
 use Rattle.std.proofs.Common.{◌∙◌, ap}
+use Rattle.cni_verbs.specs.Progress.{RunView}
 use Rattle.cni_verbs.specs.Script.{next_call}
 use Rattle.cni_verbs.proofs.NextCalls.{ok_by, outside_next}
 use Rattle.cni_verbs.proofs.run.Run.next.Goals as goal
@@ -7,5 +8,5 @@ pub returns-in-None : goal.returns-in-None
 returns-in-None c =
     ok_by c.next_outside.result
     (outside_next c.self.inside.list c.self.inside.command c.self.inside.given.items c.self.inside.phase c.in-None.is
-    ∙ ap (λ p. next_call p.command p.state) c.self.view_is)
+    ∙ ap (λ (v : RunView). next_call v.progress.command v.progress.state) c.self.view_is)
     c.next_outside.ensures

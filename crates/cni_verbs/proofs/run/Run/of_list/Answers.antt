@@ -1,5 +1,5 @@
-use Rattle.std.proofs.Common.{◌≡◌, ◌∙◌, [], Some, sym, ap, subst}
-use Rattle.cni_verbs.specs.Progress.{Progress, progress}
+use Rattle.std.proofs.Common.{◌∙◌, [], Some, sym, ap}
+use Rattle.cni_verbs.specs.Progress.{progress}
 use Rattle.cni_verbs.specs.Script.{before_of}
 use Rattle.cni_verbs.specs.Wanted.{kinds_of}
 use Rattle.cni_verbs.proofs.NextCalls.{starts_for}
@@ -21,8 +21,6 @@ begun-requires-clause-kinds c = c.in_ok-kinds.ensures ∙ ap kinds_of (sym c.in_
 
 pub returns : goal.returns
 returns c =
-    let P : Progress → Type 0 = λ p. c.begun.result ≡ p in
-    subst P
-    (ap (λ l. progress (Some l) c.in_ok-command_copy.command_copy []) c.in_ok-list_copy.ensures
-    ∙ ap (λ command. progress (Some c.args.list.now) command []) c.in_ok-command_copy.ensures)
     c.begun.ensures
+    ∙ ap (λ l. progress (Some l) c.in_ok-command_copy.command_copy []) c.in_ok-list_copy.ensures
+    ∙ ap (λ command. progress (Some c.args.list.now) command []) c.in_ok-command_copy.ensures

@@ -1,0 +1,16 @@
+use Rattle.std.proofs.Common.{◌≡◌, ◌∙◌, List, Some, get_or, sym, ap}
+use Rattle.std.specs.Prelude.{slice_get}
+use Rattle.std.proofs.lemmas.Option.{slice_get-get_or}
+use Rattle.cni_verbs.specs.declared.answer.Question.{Question}
+use Rattle.cni_verbs.proofs.PhaseSteps.{taken-at}
+use Rattle.cni_verbs.proofs.advance.denied.Goals as goal
+
+pub returns : goal.returns
+returns c = λ question there.
+    let place = c.args.place in
+    let taken = c.swap_remove-call.result in
+    let here : slice_get c.args.questions place ≡ Some taken =
+    slice_get-get_or c.args.questions place taken c.requires
+    ∙ ap (λ (questions : List Question). Some (get_or questions place taken)) (sym c.into_vec-questions.ensures)
+    ∙ ap Some (sym c.swap_remove-call.ensures.value) in
+    c.refused.ensures ∙ taken-at c.args.questions place taken question here there
