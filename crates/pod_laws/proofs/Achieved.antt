@@ -30,7 +30,7 @@ use Rattle.cni_verbs.specs.Script.{State, AtBegin, BeforeLeases, Leasing, AfterL
 use Rattle.cni_verbs.specs.Wanted.{sets_of, calls_before, kinds_of, wanted}
 use Rattle.cni_verbs.specs.declared.answer.Ending.{Ending}
 use Rattle.cni_verbs.specs.declared.answer.Ending.TheVariants.{Added, Yes, Skipped, Versions, Refused}
-use Rattle.pod_workers.specs.World.{entry_of, host_of, host_on, reply_to}
+use Rattle.pod_workers.specs.World.{entry_of, host_of, after_entry, reply_to}
 use Rattle.pod_workers.specs.declared.plan.Entry.{Entry}
 use Rattle.pod_workers.proofs.Planned.{LeftArePlanned}
 use Rattle.pod_workers.proofs.Replies.{by-cache, by-deletion}
@@ -182,18 +182,18 @@ achieved-next list c es number st r s h = achieved-aside list c es (advance list
 -- ---- what the call did
 
 -- the host after a call that was done, or that leased
-made_host : (k : Host) (n : ℕ) (call : Call) (faulty : Bool) (r : Reply) → (r ≡ Fault → ⊥) → reply_to k call faulty ≡ r → (host_on k (entry_of k n call faulty) ≡ (apply k call).0) × ((apply k call).1 ≡ r)
+made_host : (k : Host) (n : ℕ) (call : Call) (faulty : Bool) (r : Reply) → (r ≡ Fault → ⊥) → reply_to k call faulty ≡ r → (after_entry k (entry_of k n call faulty) ≡ (apply k call).0) × ((apply k call).1 ≡ r)
 made_host k n call true r not h = absurd (not (sym h))
 made_host k n call false r not h = (host-made k n call, h)
 
-pub own-made : (att : Att) (k : Host) (n : ℕ) (call : Call) (faulty : Bool) → is_plan_call_of att call ≡ true → reply_to k call faulty ≡ Done → share_of att (host_on k (entry_of k n call faulty)) ≡ share_after_call (share_of att k) call
+pub own-made : (att : Att) (k : Host) (n : ℕ) (call : Call) (faulty : Bool) → is_plan_call_of att call ≡ true → reply_to k call faulty ≡ Done → share_of att (after_entry k (entry_of k n call faulty)) ≡ share_after_call (share_of att k) call
 own-made att k n call faulty own h = let d = made_host k n call faulty Done (λ e. cc) h in ap (share_of att) d.0 ∙ share-own att k call own d.1
 
-pub begun-none : (att : Att) (netns : List ℕ) (k : Host) (n : ℕ) (faulty : Bool) → reply_to k (Begin att netns) faulty ≡ Done → share_of att (host_on k (entry_of k n (Begin att netns) faulty)) ≡ no_objects
+pub begun-none : (att : Att) (netns : List ℕ) (k : Host) (n : ℕ) (faulty : Bool) → reply_to k (Begin att netns) faulty ≡ Done → share_of att (after_entry k (entry_of k n (Begin att netns) faulty)) ≡ no_objects
 begun-none att netns k n faulty h = let d = made_host k n (Begin att netns) faulty Done (λ e. cc) h in ap (share_of att) d.0 ∙ share-begin att k netns d.1
 
 pub leases-one : (att : Att) (number : ℕ) (set : RangeSet) (k : Host) (n : ℕ) (faulty : Bool) (a : Addr) → reply_to k (LeaseNext att number set) faulty ≡ Leased a
-    → share_of att (host_on k (entry_of k n (LeaseNext att number set) faulty)) ≡ record (share_of att k) { leases = (share_of att k).leases ++ lease_of att a ∷ [] }
+    → share_of att (after_entry k (entry_of k n (LeaseNext att number set) faulty)) ≡ record (share_of att k) { leases = (share_of att k).leases ++ lease_of att a ∷ [] }
 leases-one att number set k n faulty a h = let d = made_host k n (LeaseNext att number set) faulty (Leased a) (λ e. cc) h in ap (share_of att) d.0 ∙ share-lease att k number set a d.1
 
 lease-fits : (k : Host) (att : Att) (place : ℕ) (set : RangeSet) (faulty : Bool) (a : Addr) → reply_to k (LeaseNext att place set) faulty ≡ Leased a → is_candidate set a ≡ true
@@ -222,7 +222,7 @@ achieved-own list c es (Deleting kind ks ending) k n faulty call left is was = m
 achieved-own list c es (Over ending given) k n faulty call left is was = cc
 achieved-own list c es st k n faulty call left is was =
     let e = entry_of k n call faulty in
-    achieved-next list c (es ++ e ∷ []) (length es + 1) st e.reply (share_of (att_of c) (host_on k e)) tt
+    achieved-next list c (es ++ e ∷ []) (length es + 1) st e.reply (share_of (att_of c) (after_entry k e)) tt
 
 pub achieved-start : StartsWith Achieved
 achieved-start list c s = by-start (λ st. Achieved list c [] st s) list c c.verb (λ st aside. achieved-aside list c [] st s aside) refl tt

@@ -16,7 +16,7 @@ use Rattle.cni_verbs.specs.Script.{State, Calls, Finishes, advance, next_call, s
 use Rattle.gc_sweep.specs.Trace.{IsRun, IsRunFrom}
 use Rattle.pod_workers.specs.Legal.{Legal}
 use Rattle.pod_workers.specs.Plans.{Placed, commands_of, list_for}
-use Rattle.pod_workers.specs.World.{World, IsReady, after, entry_of, host_of, host_on, made_in, replies_of, reply_to}
+use Rattle.pod_workers.specs.World.{World, IsReady, after, entry_of, host_of, after_entry, made_in, replies_of, reply_to}
 use Rattle.pod_workers.specs.declared.plan.Entry.{Entry}
 use Rattle.pod_workers.specs.declared.plan.Plan.{Plan}
 use Rattle.pod_workers.proofs.Histories.{replies_of-other}
@@ -67,11 +67,11 @@ next-turn c st call is = elim (calls_or_over c st) [
 run-push : (list : NetList) (c : Command) (made : ℕ) (st : State) (host : Host) (es : List Entry) (e : Entry) (faulty : Bool) → IsRunFrom list c made st host (made_in es) → turn c (state_from list c made st (replies_in es)) ≡ Calls e.call
     → e.reply ≡ reply_to (after host es) e.call faulty → IsRunFrom list c made st host (made_in (es ++ e ∷ []))
 run-push list c made st host [] e faulty run is reply = (next-turn c st e.call is, (faulty, reply), tt)
-run-push list c made st host (x ∷ xs) e faulty run is reply = (run.0, run.1, run-push list c (made + 1) (advance list c (made + 1) st x.reply) (host_on host x) xs e faulty run.2 is reply)
+run-push list c made st host (x ∷ xs) e faulty run is reply = (run.0, run.1, run-push list c (made + 1) (advance list c (made + 1) st x.reply) (after_entry host x) xs e faulty run.2 is reply)
 
 after-both : (host : Host) (xs ys : List Entry) → after host (xs ++ ys) ≡ after (after host xs) ys
 after-both host [] ys = refl
-after-both host (x ∷ xs) ys = after-both (host_on host x) xs ys
+after-both host (x ∷ xs) ys = after-both (after_entry host x) xs ys
 
 -- the run of a command with a list
 abbrev pub RunsFrom : Plan → ℕ → Placed → List Entry → List Entry → Type 0

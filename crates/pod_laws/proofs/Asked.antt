@@ -24,11 +24,12 @@ use Rattle.plan_words.proofs.CallLists.{share_after_calls-append}
 use Rattle.plan_words.proofs.OtherCalls.{share-other}
 use Rattle.plan_words.proofs.Refusals.{refused-same, refused-lease}
 use Rattle.pod_file.specs.declared.command.Command.{Command}
+use Rattle.cni_verbs.specs.AddCalls.{is_done}
 use Rattle.cni_verbs.specs.CommandWords.{att_of}
 use Rattle.cni_verbs.specs.Script.{State, AtBegin, BeforeLeases, Leasing, AfterLeases, ReadingCache, Deleting, FindingEntry, Asking, Changing, Collecting, Over, Calls, before_of, back_of, turn, leases_in}
 use Rattle.cni_verbs.specs.Wanted.{deletion}
 use Rattle.pod_workers.specs.Plans.{Placed}
-use Rattle.pod_workers.specs.World.{World, after, done, entry_of, host_of, host_on, replies_of, reply_to}
+use Rattle.pod_workers.specs.World.{World, after, done, entry_of, host_of, after_entry, replies_of, reply_to}
 use Rattle.pod_workers.specs.declared.plan.Entry.{Entry}
 use Rattle.pod_workers.specs.declared.plan.Plan.{Plan}
 use Rattle.pod_workers.proofs.Histories.{after-append, replies_of-own, replies_of-other}
@@ -36,7 +37,7 @@ use Rattle.pod_workers.proofs.Order.{other_number, ready_is}
 use Rattle.pod_workers.proofs.Planned.{LeftArePlanned}
 use Rattle.pod_workers.proofs.Sound.{sound_host}
 use Rattle.pod_workers.proofs.Deletable.{done_or_not, leased_or_not}
-use Rattle.pod_laws.specs.AskedFor.{begins, is_begin_of, is_done, AreAskedFor, HasNothingUnasked, IsAskedFor, NothingIsUnasked}
+use Rattle.pod_laws.specs.AskedFor.{begins, is_begin_of, AreAskedFor, HasNothingUnasked, IsAskedFor, NothingIsUnasked}
 use Rattle.pod_laws.specs.Moments.{objects_after, own_entries}
 use Rattle.pod_laws.proofs.Achieved.{Achieved, achieved-start, achieved-step, begun-none, leased-done, leased-push, leased-same, leased_in, leases-one, leases-push, own-made, with_leases}
 use Rattle.pod_laws.proofs.Begins.{all-last, begin-apart, deletion-no_begin, last_begun-same, not-begins, outside-no_begin, plan-no_begin, question-no_begin}
@@ -88,7 +89,7 @@ abbrev NextAsked : World → ℕ → Att → Bool → Call → Type 0
 NextAsked w n att faulty call = HasNothingUnasked w.plan (w.history ++ entry_of (host_of w) n call faulty ∷ []) att
 
 quiet-now : (w : World) (n : ℕ) (att : Att) (faulty : Bool) (call : Call) → begins att (entry_of (host_of w) n call faulty) ≡ false → leases_in (reply_to (host_of w) call faulty ∷ []) ≡ []
-    → OnlyRemoves (host_of w) (host_on (host_of w) (entry_of (host_of w) n call faulty)) → HasNothingUnasked w.plan w.history att → NextAsked w n att faulty call
+    → OnlyRemoves (host_of w) (after_entry (host_of w) (entry_of (host_of w) n call faulty)) → HasNothingUnasked w.plan w.history att → NextAsked w n att faulty call
 quiet-now w n att faulty call not no_lease d was =
     let e = entry_of (host_of w) n call faulty in
     asked-quiet w.plan w.history e att not no_lease (subst (OnlyRemoves (host_of w)) (sym (after-append w.plan.pods.opening w.history e)) d) was
@@ -133,7 +134,7 @@ aside-now w n c att call faulty sound (inr collected) was = subst (NextAsked w n
 -- ---- a call of an ADD that goes on
 
 making-now : (w : World) (n : ℕ) (c : Placed) (list : NetList) (call : Call) (faulty : Bool) → GoesOn w n c list call faulty → IsUnrefused c.command (own_entries n w.history) → is_begin_of (att_of c.command) call ≡ false → (given : List Addr)
-    → leased_in (own_entries n w.history ++ entry_of (host_of w) n call faulty ∷ []) ≡ given → AreAskedFor list c.command given (share_of (att_of c.command) (host_on (host_of w) (entry_of (host_of w) n call faulty)))
+    → leased_in (own_entries n w.history ++ entry_of (host_of w) n call faulty ∷ []) ≡ given → AreAskedFor list c.command given (share_of (att_of c.command) (after_entry (host_of w) (entry_of (host_of w) n call faulty)))
     → NextAsked w n (att_of c.command) faulty call
 making-now w n c list call faulty on un not given leased asked =
     let h = w.history in
@@ -154,12 +155,12 @@ making-now w n c list call faulty on un not given leased asked =
     })
 
 -- a plan's call that was not done, and a lease that found nothing, leave the share
-refused-entered : (att : Att) (k : Host) (n : ℕ) (call : Call) (faulty : Bool) → is_plan_call_of att call ≡ true → (reply_to k call faulty ≡ Done → ⊥) → share_of att (host_on k (entry_of k n call faulty)) ≡ share_of att k
+refused-entered : (att : Att) (k : Host) (n : ℕ) (call : Call) (faulty : Bool) → is_plan_call_of att call ≡ true → (reply_to k call faulty ≡ Done → ⊥) → share_of att (after_entry k (entry_of k n call faulty)) ≡ share_of att k
 refused-entered att k n call faulty own not =
     on-entry (λ j. share_of att j ≡ share_of att k) k n call faulty refl (λ f. ap (share_of att) (refused-same att k call own (λ d. not (ap (reply_to k call) f ∙ d))))
 
 unleased-entered : (att : Att) (k : Host) (n : ℕ) (place : ℕ) (set : RangeSet) (faulty : Bool) → ((a : Addr) → reply_to k (LeaseNext att place set) faulty ≡ Leased a → ⊥)
-    → share_of att (host_on k (entry_of k n (LeaseNext att place set) faulty)) ≡ share_of att k
+    → share_of att (after_entry k (entry_of k n (LeaseNext att place set) faulty)) ≡ share_of att k
 unleased-entered att k n place set faulty not =
     on-entry (λ j. share_of att j ≡ share_of att k) k n (LeaseNext att place set) faulty refl (λ f. ap (share_of att) (refused-lease k att place set (λ a d. not a (ap (reply_to k (LeaseNext att place set)) f ∙ d))))
 
@@ -242,7 +243,7 @@ other-asked : (w : World) (n : ℕ) (c : Placed) (list : NetList) (call : Call) 
 other-asked w n c list call faulty att on differ own was =
     let h = w.history in
     let e = entry_of (host_of w) n call faulty in
-    let kept : share_of att (host_on (host_of w) e) ≡ share_of att (host_of w) = on-entry (λ k. share_of att k ≡ share_of att (host_of w)) (host_of w) n call faulty refl
+    let kept : share_of att (after_entry (host_of w) e) ≡ share_of att (host_of w) = on-entry (λ k. share_of att k ≡ share_of att (host_of w)) (host_of w) n call faulty refl
     (λ f. share-other (att_of c.command) att (host_of w) call differ (sound_host w on.legal) (on.allowed f) own) in
     let same_share : objects_after w.plan att (h ++ e ∷ []) ≡ objects_after w.plan att h = ap (share_of att) (after-append w.plan.pods.opening h e) ∙ kept in
     elim was [

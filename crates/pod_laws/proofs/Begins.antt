@@ -23,6 +23,7 @@ use Rattle.kernel_types.specs.declared.call.Reply.TheVariants.{Done, Leased}
 use Rattle.plan_words.specs.PlanCalls.{is_plan_call_of, is_call_of}
 use Rattle.plan_words.specs.Share.{Share}
 use Rattle.plan_words.proofs.OtherCalls.{call-apart}
+use Rattle.cni_verbs.specs.AddCalls.{is_done}
 use Rattle.cni_verbs.specs.CommandWords.{att_of}
 use Rattle.cni_verbs.specs.Script.{State, AtBegin, BeforeLeases, Leasing, AfterLeases, ReadingCache, Deleting, Over, Calls, turn}
 use Rattle.cni_verbs.specs.Wanted.{deletion}
@@ -36,7 +37,7 @@ use Rattle.pod_workers.specs.declared.plan.Entry.{Entry}
 use Rattle.pod_workers.proofs.Order.{apart, ready_is}
 use Rattle.pod_workers.proofs.Planned.{LeftArePlanned}
 use Rattle.pod_workers.proofs.Splits.{none-or-some, split_nil}
-use Rattle.pod_laws.specs.AskedFor.{begins, is_begin_of, is_done, last_begun}
+use Rattle.pod_laws.specs.AskedFor.{begins, is_begin_of, last_begun}
 use Rattle.pod_laws.specs.Moments.{own_entries}
 use Rattle.pod_laws.specs.Refused.{is_granted, lets_go_on}
 use Rattle.pod_laws.proofs.Causes.{IsPlanReply, begin-may}

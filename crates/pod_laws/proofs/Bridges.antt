@@ -17,7 +17,7 @@ use Rattle.net_conf.specs.declared.list.NetList.{NetList}
 use Rattle.pod_file.specs.declared.command.Command.{Command}
 use Rattle.kernel_types.specs.Allowed.{IsAllowed}
 use Rattle.kernel_types.specs.Apply.{apply}
-use Rattle.kernel_types.specs.Apply.Calls.{bridge_or_new, new_bridge, has_bridge_as_master}
+use Rattle.kernel_types.specs.Apply.Calls.{bridge_or_new, new_bridge, master_is_bridge_or_none}
 use Rattle.kernel_types.specs.Isolation.{ensures_shared, is_from_outside}
 use Rattle.kernel_types.specs.Sound.{IsSound, link_fits_tag}
 use Rattle.kernel_types.specs.Words.{is_bridge, is_host_bridge, is_host_link, is_owned, has_host_bridge}
@@ -44,7 +44,7 @@ use Rattle.cni_verbs.specs.Wanted.{sets_of, calls_before, kinds_of, deletion}
 use Rattle.cni_verbs.specs.declared.answer.Ending.{Ending}
 use Rattle.pod_workers.specs.Legal.{Legal}
 use Rattle.pod_workers.specs.Plans.{Placed, commands_of, list_for}
-use Rattle.pod_workers.specs.World.{World, after, entry_of, host_of, host_on, replies_of, reply_to}
+use Rattle.pod_workers.specs.World.{World, after, entry_of, host_of, after_entry, replies_of, reply_to}
 use Rattle.pod_workers.specs.declared.plan.Entry.{Entry}
 use Rattle.pod_workers.specs.declared.plan.Plan.{Plan}
 use Rattle.pod_workers.proofs.Histories.{after-append, replies_of-other}
@@ -120,9 +120,9 @@ bridge_of (Macvlan conf) = None
 
 -- the bridge, if the list has one, is there
 abbrev pub BridgeIn : First → Host → Type 0
-BridgeIn first host = has_bridge_as_master host (bridge_of first) ≡ true
+BridgeIn first host = master_is_bridge_or_none host (bridge_of first) ≡ true
 
-bridge-in-stays : (o : Option (List ℕ)) (host : Host) (call : Call) → IsSound host → IsAllowed host call → is_from_outside call ≡ false → has_bridge_as_master host o ≡ true → has_bridge_as_master (apply host call).0 o ≡ true
+bridge-in-stays : (o : Option (List ℕ)) (host : Host) (call : Call) → IsSound host → IsAllowed host call → is_from_outside call ≡ false → master_is_bridge_or_none host o ≡ true → master_is_bridge_or_none (apply host call).0 o ≡ true
 bridge-in-stays None host call sound allowed inside there = refl
 bridge-in-stays (Some name) host call sound allowed inside there = bridge-stays (is_host_bridge name) (passes-host_bridges name) host call sound allowed inside there
 
@@ -145,7 +145,7 @@ turn-inside c call (inl own) = call-inside (att_of c) call own
 turn-inside c call (inr (inl asked)) = question-inside call asked
 turn-inside c call (inr (inr collected)) = ap is_from_outside (sym collected.deletes) ∙ deletion-inside collected.att collected.kind
 
-bridge-entered : (first : First) (w : World) (n : ℕ) (c : Placed) (list : NetList) (call : Call) (faulty : Bool) → GoesOn w n c list call faulty → BridgeIn first (host_of w) → BridgeIn first (host_on (host_of w) (entry_of (host_of w) n call faulty))
+bridge-entered : (first : First) (w : World) (n : ℕ) (c : Placed) (list : NetList) (call : Call) (faulty : Bool) → GoesOn w n c list call faulty → BridgeIn first (host_of w) → BridgeIn first (after_entry (host_of w) (entry_of (host_of w) n call faulty))
 bridge-entered first w n c list call faulty on there =
     on-entry (BridgeIn first) (host_of w) n call faulty there
     (λ f. bridge-in-stays (bridge_of first) (host_of w) call (sound_host w on.legal) (on.allowed f) (turn-inside c.command call (turn-of w n c list call faulty on)) there)
@@ -198,7 +198,7 @@ ensured-made (Bridge conf) host _ is done = cc
 ensured-made (Ptp conf) host call is done = cc
 ensured-made (Macvlan conf) host call is done = cc
 
-ensured-entered : (first : First) (k : Host) (n : ℕ) (call : Call) (faulty : Bool) → ensures_bridge first call ≡ true → reply_to k call faulty ≡ Done → BridgeIn first (host_on k (entry_of k n call faulty))
+ensured-entered : (first : First) (k : Host) (n : ℕ) (call : Call) (faulty : Bool) → ensures_bridge first call ≡ true → reply_to k call faulty ≡ Done → BridgeIn first (after_entry k (entry_of k n call faulty))
 ensured-entered first k n call true is done = cc
 ensured-entered first k n call false is done = subst (BridgeIn first) (sym (host-made k n call)) (ensured-made first k call is done)
 
@@ -231,8 +231,8 @@ bridge-before list c number left Done host h = to-before_leases list c left host
 bridge-before list c number left _ host h = tt
 
 -- a call before the leases that was done
-comes-done : (first : First) (k : Host) (n : ℕ) (x : Call) (xs : List Call) (faulty : Bool) → (BridgeIn first k → BridgeIn first (host_on k (entry_of k n x faulty))) → BridgeComes first (x ∷ xs) k → reply_to k x faulty ≡ Done
-    → BridgeComes first xs (host_on k (entry_of k n x faulty))
+comes-done : (first : First) (k : Host) (n : ℕ) (x : Call) (xs : List Call) (faulty : Bool) → (BridgeIn first k → BridgeIn first (after_entry k (entry_of k n x faulty))) → BridgeComes first (x ∷ xs) k → reply_to k x faulty ≡ Done
+    → BridgeComes first xs (after_entry k (entry_of k n x faulty))
 comes-done first k n x xs faulty stays (inr there) done = inr (stays there)
 comes-done first k n x xs faulty stays (inl left) done = elim (cases_Bool (ensures_bridge first x)) [
   | inl mine ↦ inr (ensured-entered first k n x faulty mine done)
@@ -242,31 +242,31 @@ comes-done first k n x xs faulty stays (inl left) done = elim (cases_Bool (ensur
 bridge-aside : (list : NetList) (st : State) (host : Host) → IsAside st → HasBridge list st host
 bridge-aside list st host = by-aside (λ x. HasBridge list x host) tt (λ next left. tt) (λ change. tt) (λ work faults. tt) (λ ending given none. tt) st
 
-bridge-advance : (list : NetList) (c : Command) (number : ℕ) (st : State) (k : Host) (n : ℕ) (call : Call) (faulty : Bool) → turn c st ≡ Calls call → (BridgeIn list.first k → BridgeIn list.first (host_on k (entry_of k n call faulty))) → HasBridge list st k
-    → HasBridge list (advance list c number st (reply_to k call faulty)) (host_on k (entry_of k n call faulty))
+bridge-advance : (list : NetList) (c : Command) (number : ℕ) (st : State) (k : Host) (n : ℕ) (call : Call) (faulty : Bool) → turn c st ≡ Calls call → (BridgeIn list.first k → BridgeIn list.first (after_entry k (entry_of k n call faulty))) → HasBridge list st k
+    → HasBridge list (advance list c number st (reply_to k call faulty)) (after_entry k (entry_of k n call faulty))
 unfolding turn advance
 bridge-advance list c number AtBegin k n call faulty is stays was =
-    let host = host_on k (entry_of k n call faulty) in
+    let host = after_entry k (entry_of k n call faulty) in
     by-begin (λ st. HasBridge list st host) list c number _ (λ cause. tt) (to-before_leases list c (before_of list c) host (comes-before list.first (att_of c) c.netns host))
 bridge-advance list c number (BeforeLeases x xs) k n call faulty is stays was =
-    bridge-before list c number xs _ (host_on k (entry_of k n call faulty))
+    bridge-before list c number xs _ (after_entry k (entry_of k n call faulty))
     (λ done. let e : call ≡ x = cc in comes-done list.first k n call xs faulty stays (subst (λ j. BridgeComes list.first (j ∷ xs) k) (sym e) was) done)
 bridge-advance list c number (Leasing set sets given) k n call faulty is stays was =
-    let host = host_on k (entry_of k n call faulty) in
+    let host = after_entry k (entry_of k n call faulty) in
     by-lease (λ st. HasBridge list st host) list c number sets given _ (λ cause. tt) (λ addr. to-leasing list c sets (given ++ addr ∷ []) host (stays was))
 bridge-advance list c number (AfterLeases x xs given) k n call faulty is stays was =
-    let host = host_on k (entry_of k n call faulty) in
+    let host = after_entry k (entry_of k n call faulty) in
     by-call_after (λ st. HasBridge list st host) number xs given _ (λ cause. tt) (to-after_leases list xs given host (stays was))
 bridge-advance list c number (ReadingCache ending) k n call faulty is stays was =
-    let host = host_on k (entry_of k n call faulty) in
+    let host = after_entry k (entry_of k n call faulty) in
     by-cache (λ st. HasBridge list st host) list number ending _ tt (to-deleting list (kinds_of list) ending host)
 bridge-advance list c number (Deleting kind ks ending) k n call faulty is stays was =
-    let host = host_on k (entry_of k n call faulty) in
+    let host = after_entry k (entry_of k n call faulty) in
     by-deletion (λ st. HasBridge list st host) number kind ks ending _ tt tt (to-deleting list ks ending host)
 bridge-advance list c number (Over ending given) k n call faulty is stays was = cc
 bridge-advance list c number st k n call faulty is stays was =
     let r = reply_to k call faulty in
-    bridge-aside list (advance list c number st r) (host_on k (entry_of k n call faulty)) (aside-advance list c number st r tt)
+    bridge-aside list (advance list c number st r) (after_entry k (entry_of k n call faulty)) (aside-advance list c number st r tt)
 
 -- ---- every history
 
@@ -299,8 +299,8 @@ bridge-own w n m c d list call faulty on here at was = λ other listed.
     let Q : ℕ → Placed → NetList → Type 0 = λ j x l. HasBridge l (state_by l x.command (own_entries j (h ++ e ∷ []))) (after w.plan.pods.opening (h ++ e ∷ [])) in
     let mine : Q n c list =
     subst (λ j. HasBridge list (state_by list c.command (own_entries n (h ++ e ∷ []))) j) (sym (after-append w.plan.pods.opening h e))
-    (subst (λ l. HasBridge list (state_by list c.command l) (host_on k e)) (sym (own_entries-own n h e (is_of-own n e refl)))
-    (subst (λ st. HasBridge list st (host_on k e)) (sym (state_by-append list c.command es e)) now)) in
+    (subst (λ l. HasBridge list (state_by list c.command l) (after_entry k e)) (sym (own_entries-own n h e (is_of-own n e refl)))
+    (subst (λ st. HasBridge list st (after_entry k e)) (sym (state_by-append list c.command es e)) now)) in
     at_its_place w n c list call faulty on Q m d other here at listed mine
 
 bridge-other : (w : World) (n m : ℕ) (c d : Placed) (list : NetList) (call : Call) (faulty : Bool) → GoesOn w n c list call faulty → m ≢ n → RunBridge w.plan w.history m d → RunBridge w.plan (w.history ++ entry_of (host_of w) n call faulty ∷ []) m d
@@ -311,7 +311,7 @@ bridge-other w n m c d list call faulty on differs was = λ other listed.
     let far : is_of m e ≡ false = apart-entry w n m call faulty differs in
     subst (λ l. HasBridge other (state_by other d.command l) (after w.plan.pods.opening (h ++ e ∷ []))) (sym (own_entries-other m h e far))
     (subst (HasBridge other (state_by other d.command (own_entries m h))) (sym (after-append w.plan.pods.opening h e))
-    (bridge-stands other (state_by other d.command (own_entries m h)) k (host_on k e) (bridge-entered other.first w n c list call faulty on) (was other listed)))
+    (bridge-stands other (state_by other d.command (own_entries m h)) k (after_entry k e) (bridge-entered other.first w n c list call faulty on) (was other listed)))
 
 -- the world outside makes no entry of a command with a list
 bridge-unlisted : (w : World) (n m : ℕ) (c d : Placed) (call : Call) (faulty : Bool) → Changes w n c call faulty → m ≡ n → slice_get (commands_of w.plan) m ≡ Some d → (h : List Entry) → RunBridge w.plan h m d

@@ -9,7 +9,7 @@ use Rattle.ip_pool.specs.Pool.{pick_of}
 use Rattle.kernel_types.specs.Equal.{rule_eq}
 use Rattle.kernel_types.specs.Words.{is_host_or_ns, is_host_link, is_bridge, is_own, has_named_ns, has_host_bridge, has_objects, link_at}
 use Rattle.kernel_types.specs.Apply.{apply}
-use Rattle.kernel_types.specs.Apply.Calls.{append_unless_taken, begin_of, bridge_or_new, has_bridge_as_master, has_master, has_link_of, is_own_at, is_same_addr, is_same_route, is_same_setting, lease_taken, leased_addresses, last_leased, new_bridge, new_gateway, new_forward}
+use Rattle.kernel_types.specs.Apply.Calls.{append_unless_taken, begin_of, bridge_or_new, master_is_bridge_or_none, has_master, has_link_of, is_own_at, is_same_addr, is_same_route, is_same_setting, lease_taken, leased_addresses, last_leased, new_bridge, new_gateway, new_forward}
 use Rattle.cni_addr.proofs.Cases.{by_test}
 use Rattle.kernel_types.specs.declared.object.Att.{Att}
 use Rattle.kernel_types.specs.declared.object.Host.{Host}
@@ -66,7 +66,7 @@ plan-reply att host (GatewayEnsure bridge cidr) is =
 plan-reply att host (ForwardEnsure family) is = by_test IsPlanStep (list_any (is_same_setting (new_forward family)) host.settings) _ _ (λ _. tt) (λ _. tt)
 plan-reply att host (VethAdd h i) is =
     by_test IsPlanStep (has_named_ns host i.ns) _ _
-    (λ _. by_test IsPlanStep (has_bridge_as_master host h.master) _ _
+    (λ _. by_test IsPlanStep (master_is_bridge_or_none host h.master) _ _
     (λ _. appended-reply (option_map (λ l. l.tag) (option_or (link_at host i.ns i.name) (link_at host h.ns h.name))) host _) (λ _. tt)) (λ _. tt)
 plan-reply att host (MacvlanAdd link) is =
     by_test IsPlanStep (has_named_ns host link.ns) _ _

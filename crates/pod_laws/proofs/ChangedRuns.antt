@@ -131,7 +131,7 @@ unlisted p c is = ap (λ b. if b then list_named p.lists c.network else None) is
 pub changes_are_answered : ChangesAreAnswered
 changes_are_answered verb outside w legal n c a at is_verb is = λ whole.
     let none = unlisted w.plan c.command (ap is_of_network is_verb ∙ outside) in
-    elim (answer_is_due w legal n a c is at) [
+    elim (answer_is_due w legal n c at a is) [
       | inl scripts ↦ changed-script w n c a none (makes-one w legal n c at none) scripts
       | inr (inl stopped) ↦ absurd (both_ways (is_cut_off a) whole (ap is_cut_off stopped.0.2))
       | inr (inr memory) ↦ absurd (both_ways (is_cut_off a) whole (ap is_cut_off memory))

@@ -38,7 +38,7 @@ use Rattle.pod_workers.specs.World.{World, after, entry_of, host_of}
 use Rattle.pod_workers.specs.declared.plan.Entry.{Entry}
 use Rattle.pod_workers.specs.declared.plan.Plan.{Plan}
 use Rattle.pod_workers.proofs.Histories.{after-append}
-use Rattle.pod_workers.proofs.Listed.{listed-network}
+use Rattle.pod_workers.proofs.Listed.{listed_network}
 use Rattle.pod_laws.specs.Checked.{ChecksHoldFromTheirStart, HoldAlike, are_in, has_bridge_by, has_bridge_named, has_bridge_of, has_objects_of}
 use Rattle.pod_laws.specs.Granted.{only_asks}
 use Rattle.pod_laws.specs.Moments.{host_at_end, host_at_start, is_of, own_entries, until_first, until_last}
@@ -230,5 +230,5 @@ hold-alike list c start last sound keeps = record {
 
 pub checks_hold_from_their_start : ChecksHoldFromTheirStart
 checks_hold_from_their_start w legal n c at verb some =
-    let found = listed-network w legal n c at (ap is_of_network verb) in
+    let found = listed_network w legal n c at (ap is_of_network verb) in
     (found.0, found.1, hold-alike found.0 c.command (host_at_start w n) (host_at_end w n) (sound-at_end w legal n) (from_start w legal n c found.0 at found.1 (ap only_asks verb) some))

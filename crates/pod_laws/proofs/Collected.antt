@@ -30,7 +30,7 @@ use Rattle.pod_file.specs.Commands.{is_of_network, is_exclusive_verb}
 use Rattle.pod_workers.specs.Plans.{Placed, list_for}
 use Rattle.pod_workers.specs.World.{World, after, made_in, made_of}
 use Rattle.pod_workers.specs.declared.plan.Entry.{Entry}
-use Rattle.pod_workers.proofs.Listed.{listed-network}
+use Rattle.pod_workers.proofs.Listed.{listed_network}
 use Rattle.pod_laws.specs.Collected.{CollectionsAreAnswered, CollectionsAreBounded, CollectionsAreShort, IsCleanCollection, IsCollectionAnswer, IsFaultyCollection}
 use Rattle.pod_laws.specs.Moments.{has_fault, host_at_end, host_at_start, own_entries}
 use Rattle.pod_laws.proofs.AloneRuns.{StandsTogether, alone-end, alone-start, stands_together}
@@ -177,7 +177,7 @@ collections_are_answered w legal n c a at gc is = λ list listed. elim (answer-d
 
 pub collections_are_bounded : CollectionsAreBounded
 collections_are_bounded w legal n c at gc some =
-    let found = listed-network w legal n c at (ap is_of_network gc) in
+    let found = listed_network w legal n c at (ap is_of_network gc) in
     let t = stands_together w legal n c at (ap is_exclusive_verb gc) in
     let es = own_entries n w.history in
     let start = after w.plan.pods.opening t.before in

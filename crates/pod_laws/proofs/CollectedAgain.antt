@@ -14,7 +14,7 @@ use Rattle.gc_sweep.proofs.Kept.{host_of_parts}
 use Rattle.gc_sweep.proofs.Lists.{count_drops, filter_every}
 use Rattle.pod_file.specs.Commands.{is_of_network, is_exclusive_verb}
 use Rattle.pod_workers.specs.declared.plan.Entry.{Entry}
-use Rattle.pod_workers.proofs.Listed.{listed-network}
+use Rattle.pod_workers.proofs.Listed.{listed_network}
 use Rattle.pod_workers.proofs.Splits.{none-or-some}
 use Rattle.pod_laws.specs.Answers.{OrCutOff}
 use Rattle.pod_laws.specs.Collected.{CollectionsInARowKeep, CollectionsFillTheirRounds, IsCleanCollection, IsCollectionAnswer}
@@ -88,7 +88,7 @@ collections_fill_their_rounds w legal n c at gc some = (start-round w legal n c 
 
 pub collections_in_a_row_keep : CollectionsInARowKeep
 collections_in_a_row_keep w legal m n d c at_m at_n row answered =
-    let found = listed-network w legal n c at_n (ap is_of_network row.second) in
+    let found = listed_network w legal n c at_n (ap is_of_network row.second) in
     let clean = clean-of found.0 c.command (own_entries n w.history) (host_at_start w n) (host_at_end w n) (collections_are_answered w legal n c answers.Yes at_n row.second answered found.0 found.1) in
     let P : List ℕ → List ValidAtt → Type 0 = λ network valid. host_at_end w n ≡ keep network valid (host_at_start w n) in
     let ended : P d.command.network d.command.valid = subst (λ x. P x d.command.valid) (sym row.network) (subst (P c.command.network) (sym row.valid) clean.leaves) in

@@ -16,7 +16,7 @@ use Rattle.kernel_types.specs.declared.object.Host.{Host}
 use Rattle.kernel_types.specs.declared.object.Lease.{Lease}
 use Rattle.plan_words.specs.Share.{share_of}
 use Rattle.pod_workers.specs.Legal.{Legal}
-use Rattle.pod_workers.specs.World.{World, after, entry_of, host_of, host_on}
+use Rattle.pod_workers.specs.World.{World, after, entry_of, host_of, after_entry}
 use Rattle.pod_workers.specs.declared.plan.Entry.{Entry}
 use Rattle.pod_workers.specs.declared.plan.Plan.{Plan}
 use Rattle.pod_workers.proofs.Histories.{after-append}
@@ -44,7 +44,7 @@ leases-distinct att host addrs sound is =
 abbrev AllSound : Plan → List Entry → Type 0
 AllSound p h = (m : ℕ) → IsSound (after p.pods.opening (until_last m h))
 
-sound-next : (w : World) (e : Entry) → IsSound (host_on (host_of w) e) → AllSound w.plan w.history → AllSound w.plan (w.history ++ e ∷ [])
+sound-next : (w : World) (e : Entry) → IsSound (after_entry (host_of w) e) → AllSound w.plan w.history → AllSound w.plan (w.history ++ e ∷ [])
 sound-next w e sound was = λ m.
     let opening = w.plan.pods.opening in
     elim (cases_Bool (is_of m e)) [

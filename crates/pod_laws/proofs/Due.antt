@@ -69,7 +69,7 @@ by-scripts w n c list a listed due =
 
 pub answer-due : (w : World) → Legal w → (n : ℕ) (c : Placed) (list : NetList) (a : Answer) → slice_get (commands_of w.plan) n ≡ Some c → list_for w.plan c.command ≡ Some list → slice_get w.answers n ≡ Some (Some a)
     → IsOver list c.command (state_by list c.command (own_entries n w.history)) a ⊎ (is_cut_off a ≡ true)
-answer-due w legal n c list a at listed is = elim (answer_is_due w legal n a c is at) [
+answer-due w legal n c list a at listed is = elim (answer_is_due w legal n c at a is) [
   | inl scripts ↦ inl (by-scripts w n c list a listed scripts)
   | inr (inl stopped) ↦ inr (ap is_cut_off stopped.0.2)
   | inr (inr memory) ↦ inr (ap is_cut_off memory)

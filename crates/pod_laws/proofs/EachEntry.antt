@@ -8,7 +8,7 @@ use Rattle.pod_file.specs.Commands.{is_of_network}
 use Rattle.pod_file.specs.declared.command.Command.{Command}
 use Rattle.pod_file.specs.declared.command.Verb.{Verb}
 use Rattle.pod_workers.specs.Plans.{Placed}
-use Rattle.pod_workers.specs.World.{World, after, entry_of, host_of, host_on}
+use Rattle.pod_workers.specs.World.{World, after, entry_of, host_of, after_entry}
 use Rattle.pod_workers.specs.declared.plan.Entry.{Entry}
 use Rattle.pod_workers.specs.declared.plan.Plan.{Plan}
 use Rattle.pod_workers.proofs.Histories.{after-append}
@@ -19,7 +19,7 @@ use Rattle.pod_laws.proofs.Steps.{Changes, GoesOn, by-entries}
 use Rattle.pod_laws.proofs.Turns.{change-of}
 
 -- one entry more
-do-next : (Does : Plan → Entry → Host → Host → Type 0) (w : World) (x : Entry) → Does w.plan x (host_of w) (host_on (host_of w) x) → AllDo Does w.plan w.history → AllDo Does w.plan (w.history ++ x ∷ [])
+do-next : (Does : Plan → Entry → Host → Host → Type 0) (w : World) (x : Entry) → Does w.plan x (host_of w) (after_entry (host_of w) x) → AllDo Does w.plan w.history → AllDo Does w.plan (w.history ++ x ∷ [])
 do-next Does w x now was = λ before later e is.
     let opening = w.plan.pods.opening in
     elim (split_snoc w.history before later x e is) [
@@ -33,12 +33,12 @@ do-next Does w x now was = λ before later e is.
 -- the entry of a command with a list does so
 abbrev pub DoesNow : (Plan → Entry → Host → Host → Type 0) → Type 0
 DoesNow Does = (w : World) (n : ℕ) (c : Placed) (list : NetList) (call : Call) (faulty : Bool) → GoesOn w n c list call faulty
-    → Does w.plan (entry_of (host_of w) n call faulty) (host_of w) (host_on (host_of w) (entry_of (host_of w) n call faulty))
+    → Does w.plan (entry_of (host_of w) n call faulty) (host_of w) (after_entry (host_of w) (entry_of (host_of w) n call faulty))
 
 -- so does a change of the world outside
 abbrev pub DoesOutside : (Plan → Entry → Host → Host → Type 0) → Type 0
 DoesOutside Does = (w : World) (n : ℕ) (c : Placed) (call : Call) (faulty : Bool) → Changes w n c call faulty
-    → Does w.plan (entry_of (host_of w) n call faulty) (host_of w) (host_on (host_of w) (entry_of (host_of w) n call faulty))
+    → Does w.plan (entry_of (host_of w) n call faulty) (host_of w) (after_entry (host_of w) (entry_of (host_of w) n call faulty))
 
 pub each-entry : (Does : Plan → Entry → Host → Host → Type 0) → DoesNow Does → DoesOutside Does → EachEntry Does
 each-entry Does now change w legal =
@@ -52,14 +52,14 @@ each-entry Does now change w legal =
 -- the entry of a command of such a verb does so
 abbrev pub DoesByVerb : (Verb → Type 0) → (Command → Host → Host → Type 0) → Type 0
 DoesByVerb IsOfVerb Does = (w : World) (n : ℕ) (c : Placed) (list : NetList) (call : Call) (faulty : Bool) → GoesOn w n c list call faulty → IsOfVerb c.command.verb
-    → Does c.command (host_of w) (host_on (host_of w) (entry_of (host_of w) n call faulty))
+    → Does c.command (host_of w) (after_entry (host_of w) (entry_of (host_of w) n call faulty))
 
 by-now : (IsOfVerb : Verb → Type 0) (Does : Command → Host → Host → Type 0) → DoesByVerb IsOfVerb Does → DoesNow (ByVerb IsOfVerb Does)
 by-now IsOfVerb Does now w n c list call faulty on = λ m d at number verb.
     let x = entry_of (host_of w) n call faulty in
     let place : m ≡ n = let a : n + 1 ≡ m + 1 = number in omega (arith, a) in
     let same : d ≡ c = ready_is w n m c d on.ready place at in
-    subst (λ (z : Placed). Does z.command (host_of w) (host_on (host_of w) x)) (sym same) (now w n c list call faulty on (subst (λ (z : Placed). IsOfVerb z.command.verb) same verb))
+    subst (λ (z : Placed). Does z.command (host_of w) (after_entry (host_of w) x)) (sym same) (now w n c list call faulty on (subst (λ (z : Placed). IsOfVerb z.command.verb) same verb))
 
 -- the world outside makes no entry of a command with a list
 pub by-outside : (IsOfVerb : Verb → Type 0) (Does : Command → Host → Host → Type 0) → ((v : Verb) → IsOfVerb v → is_of_network v ≡ true) → DoesOutside (ByVerb IsOfVerb Does)

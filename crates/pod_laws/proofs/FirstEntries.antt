@@ -8,6 +8,7 @@ use Rattle.pod_file.specs.declared.command.Verb.TheVariants as verbs
 use Rattle.kernel_types.specs.declared.call.Call.{Call}
 use Rattle.kernel_types.specs.declared.call.Call.TheVariants.{Begin}
 use Rattle.plan_words.specs.Share.{Share, share_of}
+use Rattle.cni_verbs.specs.AddCalls.{is_done}
 use Rattle.cni_verbs.specs.CommandWords.{att_of}
 use Rattle.cni_verbs.specs.Script.{State, AtBegin, BeforeLeases, Leasing, AfterLeases, ReadingCache, Deleting, Over, Calls, turn}
 use Rattle.cni_verbs.specs.declared.answer.Ending.{Ending}
@@ -17,9 +18,8 @@ use Rattle.pod_file.specs.Commands.{is_of_network}
 use Rattle.pod_workers.specs.Plans.{Placed, commands_of}
 use Rattle.pod_workers.specs.World.{World, entry_of, host_of, reply_to}
 use Rattle.pod_workers.specs.declared.plan.Entry.{Entry}
-use Rattle.pod_workers.proofs.Listed.{listed-network}
+use Rattle.pod_workers.proofs.Listed.{listed_network}
 use Rattle.pod_workers.proofs.Splits.{cons_parts}
-use Rattle.pod_laws.specs.AskedFor.{is_done}
 use Rattle.pod_laws.specs.Moments.{own_entries}
 use Rattle.pod_laws.specs.Refused.{lets_go_on}
 use Rattle.pod_laws.proofs.Begins.{first-call, granted-done}
@@ -79,5 +79,5 @@ begins-start list c s = λ verb. tt
 
 pub begins_first : (w : World) → Legal w → (n : ℕ) (c : Placed) → slice_get (commands_of w.plan) n ≡ Some c → c.command.verb ≡ verbs.Add → BeginsFirst c.command (own_entries n w.history)
 begins_first w legal n c at verb =
-    let found = listed-network w legal n c at (ap is_of_network verb) in
+    let found = listed_network w legal n c at (ap is_of_network verb) in
     every-run AddBegins begins-start begins-step w legal n c found.0 at found.1 verb

@@ -17,7 +17,7 @@ use Rattle.net_conf.specs.declared.chained.Chained.{Chained}
 use Rattle.net_conf.specs.declared.chained.Chained.TheVariants.{Portmap, Firewall, Tuning}
 use Rattle.net_conf.specs.declared.list.NetList.{NetList}
 use Rattle.kernel_types.specs.Apply.{apply}
-use Rattle.kernel_types.specs.Apply.Calls.{append_unless_taken, bridge_or_new, new_bridge, has_bridge_as_master, has_link_of, is_own_at, is_same_addr, is_same_route, is_same_setting, set_link, with_values, new_gateway, new_forward}
+use Rattle.kernel_types.specs.Apply.Calls.{append_unless_taken, bridge_or_new, new_bridge, master_is_bridge_or_none, has_link_of, is_own_at, is_same_addr, is_same_route, is_same_setting, set_link, with_values, new_gateway, new_forward}
 use Rattle.kernel_types.specs.Equal.{rule_eq}
 use Rattle.kernel_types.specs.Names.{host_name_of}
 use Rattle.kernel_types.specs.Words.{is_own, is_host_link, is_bridge, is_link_of, has_named_ns, has_host_bridge, link_at}
@@ -69,7 +69,7 @@ abbrev pub IsMacvlan : Call → Type 0
 IsMacvlan call = (link : Link) × (call ≡ MacvlanAdd link)
 
 -- a plan's call whose links and bridge are there gets NoLink only where it is `macvlan`'s
-pub no_link-macvlan : (att : Att) (host : Host) (call : Call) → is_plan_call_of att call ≡ true → lies_on host.links call ≡ true → has_bridge_as_master host (bridge_for call) ≡ true → (apply host call).1 ≡ NoLink → IsMacvlan call
+pub no_link-macvlan : (att : Att) (host : Host) (call : Call) → is_plan_call_of att call ≡ true → lies_on host.links call ≡ true → master_is_bridge_or_none host (bridge_for call) ≡ true → (apply host call).1 ≡ NoLink → IsMacvlan call
 no_link-macvlan att host (MacvlanAdd link) is lies bridge got = (link, refl)
 no_link-macvlan att host (BridgeEnsure name mtu promisc) is lies bridge got = absurd (bridge-found host (find (is_host_link name) host.links) (new_bridge name mtu promisc) got)
 no_link-macvlan att host (GatewayEnsure name cidr) is lies bridge got =
@@ -80,9 +80,9 @@ no_link-macvlan att host (ForwardEnsure family) is lies bridge got =
     absurd (by_test NeverNoLink (list_any (is_same_setting (new_forward family)) host.settings) _ _ (λ _ e. cc) (λ _ e. cc) got)
 no_link-macvlan att host (VethAdd h i) is lies bridge got =
     absurd (by_test NeverNoLink (has_named_ns host i.ns) _ _
-    (λ _. by_test NeverNoLink (has_bridge_as_master host h.master) _ _
+    (λ _. by_test NeverNoLink (master_is_bridge_or_none host h.master) _ _
     (λ _. appended-found (option_map (λ l. l.tag) (option_or (link_at host i.ns i.name) (link_at host h.ns h.name))) host _)
-    (λ not e. both_ways (has_bridge_as_master host h.master) not bridge))
+    (λ not e. both_ways (master_is_bridge_or_none host h.master) not bridge))
     (λ _ e. cc) got)
 no_link-macvlan att host (LinkSet own key mac mtu tx_qlen promisc allmulti) is lies bridge got =
     absurd (by_test NeverNoLink (list_any (is_own_at own key) host.links) _ _ (λ _ e. cc) (λ not e. both_ways (list_any (is_own_at own key) host.links) not lies) got)

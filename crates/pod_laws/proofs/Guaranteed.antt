@@ -14,7 +14,7 @@ use Rattle.pod_workers.specs.World.{World}
 use Rattle.pod_workers.specs.declared.plan.Entry.{Entry}
 use Rattle.pod_workers.specs.declared.plan.Plan.{Plan}
 use Rattle.pod_workers.proofs.Fronts.{each_front}
-use Rattle.pod_workers.proofs.Listed.{listed-network}
+use Rattle.pod_workers.proofs.Listed.{listed_network}
 use Rattle.pod_workers.proofs.Sound.{no_address_twice, sound_host}
 use Rattle.pod_laws.specs.Answers.{is_cut_off}
 use Rattle.pod_laws.specs.Guaranteed.{AreAnswers, EveryLegalHistoryIsGuaranteed, IsAnswerOfAdd, IsAnswerOfCheck, IsAnswerOfDel, IsAnswerOfGc, IsWellKept}
@@ -55,7 +55,7 @@ record IsAnswered (w : World) (verb : Verb) (n : ℕ) (c : Placed) (list : NetLi
 are_answers : (w : World) → Legal w → (verb : Verb) → is_of_network verb ≡ true → (Is : ℕ → Command → NetList → Answer → Type 0)
     → ((n : ℕ) (c : Placed) (list : NetList) (a : Answer) → IsAnswered w verb n c list a → Is n c.command list a) → AreAnswers w verb Is
 are_answers w legal verb network Is each n c a at of_verb is =
-    let found = listed-network w legal n c at (ap is_of_network of_verb ∙ network) in
+    let found = listed_network w legal n c at (ap is_of_network of_verb ∙ network) in
     (found.0, found.1, each n c found.0 a (record { there = at; listed = found.1; of_verb = of_verb; answer = is }))
 
 answer_of_add : (w : World) → Legal w → (n : ℕ) (c : Placed) (list : NetList) (a : Answer) → IsAnswered w verbs.Add n c list a → IsAnswerOfAdd w n c.command list a

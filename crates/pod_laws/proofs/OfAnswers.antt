@@ -35,7 +35,7 @@ use Rattle.pod_workers.specs.Plans.{Placed, commands_of, list_for}
 use Rattle.pod_workers.specs.World.{World, own_replies}
 use Rattle.pod_workers.specs.declared.plan.Entry.{Entry}
 use Rattle.host_local.specs.Laws.{AreCandidates}
-use Rattle.pod_workers.proofs.Listed.{listed-network}
+use Rattle.pod_workers.proofs.Listed.{listed_network}
 use Rattle.pod_laws.specs.Added.{WasAdded, HasMade}
 use Rattle.pod_laws.specs.Deleted.{WasDeleted, HasDeleted, IsUndeletedFor, IsYes, NothingFails, WasNotDeleted, AnswersOfDel, CalmIsDeleted}
 use Rattle.pod_laws.specs.Moments.{has_fault, host_at_end, own_entries}
@@ -111,7 +111,7 @@ each-answered : (verb : Verb) (Is : Answer → Type 0) → is_of_network verb �
 each-answered verb Is network by w legal n c a at is_verb is = elim (cases_Bool (is_cut_off a)) [
   | inl cut ↦ inl (inr cut)
   | inr whole ↦
-      let found = listed-network w legal n c at (ap is_of_network is_verb ∙ network) in
+      let found = listed_network w legal n c at (ap is_of_network is_verb ∙ network) in
       let e = ended w legal n c found.0 a at found.1 is whole in
       elim (by c.command found.0 (own_entries n w.history) (share_of (att_of c.command) (host_at_end w n)) a e.ending e.given is_verb e.says e.ends) [
         | inl so ↦ inl (inl so)
@@ -143,7 +143,7 @@ each-where verb AreGood Is IsFor network answered refused never w legal n c a at
     elim (answered w legal n c a at is_verb is) [
       | inl so ↦ so
       | inr r ↦
-          let found = listed-network w legal n c at (ap is_of_network is_verb ∙ network) in
+          let found = listed_network w legal n c at (ap is_of_network is_verb ∙ network) in
           let why = refused w legal n c a at is_verb is found.0 found.1 r.0 r.1 in
           absurd (never c.command (own_entries n w.history) (share_of (att_of c.command) (host_at_end w n)) why.0 good why.2)
     ]
@@ -207,7 +207,7 @@ deleted-by c list es s (Refused cause) given verb says ends = cc
 
 pub was_deleted : WasDeleted
 was_deleted w legal n c a at verb is = λ yes.
-    let found = listed-network w legal n c at (ap is_of_network verb) in
+    let found = listed_network w legal n c at (ap is_of_network verb) in
     let e = ended w legal n c found.0 a at found.1 is (ap is_cut_off yes) in
     deleted-by c.command found.0 (own_entries n w.history) (share_of (att_of c.command) (host_at_end w n)) e.ending e.given verb (subst (Says found.0 c.command e.given e.ending) yes e.says) e.ends
 

@@ -25,17 +25,18 @@ use Rattle.kernel_types.specs.declared.call.Kind.TheVariants as kinds
 use Rattle.plan_words.specs.PlanCalls.{is_call_of}
 use Rattle.plan_words.specs.Share.{Share, share_of, no_objects}
 use Rattle.plan_words.proofs.Refusals.{refused-same, refused-lease}
+use Rattle.cni_verbs.specs.AddCalls.{is_done}
 use Rattle.cni_verbs.specs.CommandWords.{att_of}
 use Rattle.cni_verbs.specs.Script.{State, AtBegin, BeforeLeases, Leasing, AfterLeases, ReadingCache, Deleting, FindingEntry, Asking, Changing, Collecting, Over, Calls, turn}
 use Rattle.cni_verbs.specs.Wanted.{deletion}
 use Rattle.cni_verbs.specs.declared.answer.Answer.TheVariants as answers
 use Rattle.pod_workers.specs.Legal.{Legal}
 use Rattle.pod_workers.specs.Plans.{Placed, commands_of}
-use Rattle.pod_workers.specs.World.{World, entry_of, host_of, host_on}
+use Rattle.pod_workers.specs.World.{World, entry_of, host_of, after_entry}
 use Rattle.pod_workers.specs.declared.plan.Entry.{Entry}
 use Rattle.pod_workers.specs.declared.plan.Plan.{Plan}
 use Rattle.pod_workers.proofs.Sound.{sound_host}
-use Rattle.pod_laws.specs.AskedFor.{begins, is_begin_of, is_done}
+use Rattle.pod_laws.specs.AskedFor.{begins, is_begin_of}
 use Rattle.pod_laws.specs.Moments.{IsGone, is_of, own_entries, until_last}
 use Rattle.pod_laws.specs.Single.{EachEntry}
 use Rattle.pod_laws.specs.Refused.{is_granted, lets_go_on}
@@ -81,7 +82,7 @@ turn-removes list c es (Changing change) s k call not sound fit is was = absurd 
 turn-removes list c es (Collecting work faults) s k call not sound fit is was = removes-aside c k call sound (work-turn c work.jobs work.sweeps faults call fit is)
 turn-removes list c es (Over ending given) s k call not sound fit is was = cc
 
-removes-entered : (w : World) (n : ℕ) (c : Placed) (list : NetList) (call : Call) (faulty : Bool) → GoesOn w n c list call faulty → c.command.verb ≢ verbs.Add → OnlyRemoves (host_of w) (host_on (host_of w) (entry_of (host_of w) n call faulty))
+removes-entered : (w : World) (n : ℕ) (c : Placed) (list : NetList) (call : Call) (faulty : Bool) → GoesOn w n c list call faulty → c.command.verb ≢ verbs.Add → OnlyRemoves (host_of w) (after_entry (host_of w) (entry_of (host_of w) n call faulty))
 removes-entered w n c list call faulty on not =
     let own = own-state w n c list call faulty on in
     on-entry (OnlyRemoves (host_of w)) (host_of w) n call faulty (removes-nothing (host_of w))
@@ -125,7 +126,7 @@ quiet-removes att c k n call sound turn quiet = elim (cases_Bool (is_begin_of at
 ]
 
 quiet-entered : (w : World) (n : ℕ) (c : Placed) (list : NetList) (call : Call) (faulty : Bool) (att : Att) → GoesOn w n c list call faulty → makes_nothing att (entry_of (host_of w) n call faulty) ≡ true
-    → OnlyRemoves (host_of w) (host_on (host_of w) (entry_of (host_of w) n call faulty))
+    → OnlyRemoves (host_of w) (after_entry (host_of w) (entry_of (host_of w) n call faulty))
 quiet-entered w n c list call faulty att on quiet =
     on-entry (OnlyRemoves (host_of w)) (host_of w) n call faulty (removes-nothing (host_of w))
     (λ f. quiet-removes att c.command (host_of w) n call (sound_host w on.legal) (turn-of w n c list call faulty on) (ap (λ b. makes_nothing att (entry_of (host_of w) n call b)) (sym f) ∙ quiet))
@@ -150,7 +151,7 @@ gone-now : DoesNow StaysGone
 gone-now w n c list call faulty on = λ att without gone.
     let k = host_of w in
     let x = entry_of k n call faulty in
-    let stays : OnlyRemoves k (host_on k x) → share_of att (host_on k x) ≡ no_objects = λ removes. share-removes_none att k (host_on k x) removes gone in
+    let stays : OnlyRemoves k (after_entry k x) → share_of att (after_entry k x) ≡ no_objects = λ removes. share-removes_none att k (after_entry k x) removes gone in
     elim (cases_Bool (att_eq (att_of c.command) att)) [
       | inl same ↦ elim (add-or-not c.command.verb) [
         | inl add ↦ stays (quiet-entered w n c list call faulty att on (own-passes (makes_nothing att) n x refl (without n c on.ready.there add (att_eq-same (att_of c.command) att same))))
@@ -163,7 +164,7 @@ gone-now w n c list call faulty on = λ att without gone.
     ]
 
 gone-outside : DoesOutside StaysGone
-gone-outside w n c call faulty on = λ att without gone. share-removes_none att (host_of w) (host_on (host_of w) (entry_of (host_of w) n call faulty)) (removes-changed w n c call faulty on) gone
+gone-outside w n c call faulty on = λ att without gone. share-removes_none att (host_of w) (after_entry (host_of w) (entry_of (host_of w) n call faulty)) (removes-changed w n c call faulty on) gone
 
 each-stays : EachEntry StaysGone
 each-stays = each-entry StaysGone gone-now gone-outside

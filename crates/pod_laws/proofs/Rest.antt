@@ -20,7 +20,7 @@ use Rattle.kernel_types.specs.declared.call.Call.{Call}
 use Rattle.kernel_types.specs.declared.call.Call.TheVariants.{BridgeEnsure, GatewayEnsure, ForwardEnsure, NsChange, Outside}
 use Rattle.plan_words.proofs.KeyLists.{filter-push_dropped, filter-push_kept, filter-within}
 use Rattle.pod_file.specs.Commands.{is_of_network}
-use Rattle.pod_workers.specs.World.{entry_of, host_of, host_on}
+use Rattle.pod_workers.specs.World.{entry_of, host_of, after_entry}
 use Rattle.pod_workers.proofs.Sound.{sound_host}
 use Rattle.pod_laws.specs.Apart.{is_outside, GrowsAtEnd, KeepsShared, KeepsTheRest, EachEntryKeepsTheRest}
 use Rattle.pod_laws.proofs.Bridges.{turn-inside}
@@ -153,7 +153,7 @@ shared-outside host _ sound allowed is = cc
 keep-now : DoesNow KeepsTheRest
 keep-now w n c list call faulty on =
     let x = entry_of (host_of w) n call faulty in
-    let both : KeepsBoth (host_of w) (host_on (host_of w) x) = on-entry (λ k. KeepsBoth (host_of w) k) (host_of w) n call faulty (rest-nothing (host_of w))
+    let both : KeepsBoth (host_of w) (after_entry (host_of w) x) = on-entry (λ k. KeepsBoth (host_of w) k) (host_of w) n call faulty (rest-nothing (host_of w))
     (λ f. rest-call (host_of w) call (sound_host w on.legal) (on.allowed f) (turn-inside c.command call (turn-of w n c list call faulty on))) in
     record { outside = λ m d at number verb. both.outside; shared = both.shared }
 

@@ -8,7 +8,7 @@ use Rattle.kernel_types.specs.declared.call.Call.{Call}
 use Rattle.cni_verbs.specs.Script.{State, advance, start_state, state_after}
 use Rattle.pod_workers.specs.Legal.{Legal}
 use Rattle.pod_workers.specs.Plans.{Placed}
-use Rattle.pod_workers.specs.World.{World, IsReady, after, host_on, host_of, replies_of, entry_of}
+use Rattle.pod_workers.specs.World.{World, IsReady, after, after_entry, host_of, replies_of, entry_of}
 use Rattle.pod_workers.specs.declared.plan.Entry.{Entry}
 use Rattle.pod_workers.specs.declared.plan.Plan.{Plan}
 use Rattle.pod_workers.proofs.Histories.{after-append}
@@ -49,7 +49,7 @@ abbrev pub IsHostFact : Keeping → HostFact → Type 0
 IsHostFact R F = (w : World) (n : ℕ) (c : Placed) (list : NetList) (call : Call) (faulty : Bool) (old : Host) → GoesOn w n c list call faulty → R c.command old (host_of w)
     → let e = entry_of (host_of w) n call faulty in
     let es = own_entries n w.history in
-    F list c.command es (state_by list c.command es) old → F list c.command (es ++ e ∷ []) (advance list c.command (length es + 1) (state_by list c.command es) e.reply) (host_on (host_of w) e)
+    F list c.command es (state_by list c.command es) old → F list c.command (es ++ e ∷ []) (advance list c.command (length es + 1) (state_by list c.command es) e.reply) (after_entry (host_of w) e)
 
 abbrev pub RunAt : HostFact → Plan → List Entry → ℕ → Placed → NetList → Type 0
 RunAt F p h m d list = F list d.command (own_entries m h) (state_by list d.command (own_entries m h)) (after p.pods.opening (until_last m h))
@@ -88,9 +88,9 @@ run-own R F kept start step w n c list call faulty on last =
     let es = own_entries n h in
     let before = run-now R F kept start w n c list on.legal on.ready last in
     let now = step w n c list call faulty before.old on before.keeps before.holds in
-    let at_state = subst (λ st. F list c.command (es ++ e ∷ []) st (host_on (host_of w) e)) (sym (state_by-append list c.command es e)) now in
-    let at_entries = subst (λ l. F list c.command l (state_by list c.command l) (host_on (host_of w) e)) (sym (own_entries-own n h e own)) at_state in
-    let at_end : host_on (host_of w) e ≡ after opening (until_last n (h ++ e ∷ [])) = sym (ap (after opening) (until_last-own n h e own) ∙ after-append opening h e) in
+    let at_state = subst (λ st. F list c.command (es ++ e ∷ []) st (after_entry (host_of w) e)) (sym (state_by-append list c.command es e)) now in
+    let at_entries = subst (λ l. F list c.command l (state_by list c.command l) (after_entry (host_of w) e)) (sym (own_entries-own n h e own)) at_state in
+    let at_end : after_entry (host_of w) e ≡ after opening (until_last n (h ++ e ∷ [])) = sym (ap (after opening) (until_last-own n h e own) ∙ after-append opening h e) in
     subst (F list c.command (own_entries n (h ++ e ∷ [])) (state_by list c.command (own_entries n (h ++ e ∷ [])))) at_end at_entries
 
 -- a fact that holds at the start of each run, and that each own entry keeps, holds of every run at its last entry

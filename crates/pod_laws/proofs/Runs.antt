@@ -12,7 +12,7 @@ use Rattle.cni_verbs.specs.Script.{State, Calls, turn, advance, start_state}
 use Rattle.pod_workers.specs.Legal.{Legal}
 use Rattle.pod_file.specs.Commands.{is_exclusive_verb}
 use Rattle.pod_workers.specs.Plans.{Placed, commands_of, list_for}
-use Rattle.pod_workers.specs.World.{World, after, host_on, host_of, replies_of, entry_of}
+use Rattle.pod_workers.specs.World.{World, after, after_entry, host_of, replies_of, entry_of}
 use Rattle.pod_workers.specs.declared.plan.Entry.{Entry}
 use Rattle.pod_workers.proofs.Histories.{replies_of-other, after-append}
 use Rattle.pod_workers.proofs.Order.{apart, alone_apart, other_number}
@@ -31,7 +31,7 @@ use Rattle.pod_laws.proofs.Turns.{alone-collecting, alone-outside, other-entered
 pub record IsKeptBeside (R : Keeping) : Type 0 where
   pub same : (c : Command) (host : Host) → R c host host
   pub beside : (w : World) (n : ℕ) (c : Placed) (list : NetList) (call : Call) (faulty : Bool) (d : Command) (old : Host) → GoesOn w n c list call faulty → is_exclusive_verb d.verb ≡ false
-      → share_of (att_of d) (host_on (host_of w) (entry_of (host_of w) n call faulty)) ≡ share_of (att_of d) (host_of w) → R d old (host_of w) → R d old (host_on (host_of w) (entry_of (host_of w) n call faulty))
+      → share_of (att_of d) (after_entry (host_of w) (entry_of (host_of w) n call faulty)) ≡ share_of (att_of d) (host_of w) → R d old (host_of w) → R d old (after_entry (host_of w) (entry_of (host_of w) n call faulty))
 
 -- where a command isn't answered, it is kept since its last entry
 abbrev Since : Keeping → OpenFact
@@ -60,7 +60,7 @@ since-other R kept w n m c d list call faulty on differs at is_open since =
           | inr was ↦ elim (other-entered w n c list call faulty (att_of d.command) on (other_att (att_of c.command) (att_of d.command) (λ q. other (sym q)))) [
             | inl gc ↦ inl (mine ∙ alone-collecting w n m c d list call faulty on gc differs at is_open)
             | inr share ↦
-                let now : R d.command last (host_on (host_of w) e) = kept.beside w n c list call faulty d.command last on beside share was in
+                let now : R d.command last (after_entry (host_of w) e) = kept.beside w n c list call faulty d.command last on beside share was in
                 inr (subst (λ l. R d.command (after opening l) (after opening (w.history ++ e ∷ []))) (sym (until_last-other m w.history e (is_of-other m e far)))
                 (subst (R d.command last) (sym (after-append opening w.history e)) now))
           ]
@@ -95,7 +95,7 @@ AtRun F w n c list host = F list c.command (own_entries n w.history) (state_by l
 abbrev pub AfterEntry : RunFact → NetList → Command → List Entry → State → Host → ℕ → Bool → Call → Type 0
 AfterEntry F list c es st k n faulty call =
     let e = entry_of k n call faulty in
-    F list c (es ++ e ∷ []) (advance list c (length es + 1) st e.reply) (share_of (att_of c) (host_on k e))
+    F list c (es ++ e ∷ []) (advance list c (length es + 1) st e.reply) (share_of (att_of c) (after_entry k e))
 
 abbrev pub IsRunFact : RunFact → Type 0
 IsRunFact F = (w : World) (n : ℕ) (c : Placed) (list : NetList) (call : Call) (faulty : Bool) → GoesOn w n c list call faulty → AtRun F w n c list (host_of w)

@@ -16,7 +16,7 @@ use Rattle.net_conf.specs.declared.chained.Chained.TheVariants.{Portmap, Firewal
 use Rattle.net_conf.specs.declared.list.NetList.{NetList}
 use Rattle.pod_file.specs.declared.command.Command.{Command}
 use Rattle.kernel_types.specs.Apply.{apply}
-use Rattle.kernel_types.specs.Apply.Calls.{has_bridge_as_master}
+use Rattle.kernel_types.specs.Apply.Calls.{master_is_bridge_or_none}
 use Rattle.kernel_types.specs.Words.{has_host_bridge}
 use Rattle.kernel_types.specs.declared.object.Att.{Att}
 use Rattle.kernel_types.specs.declared.object.Host.{Host}
@@ -58,7 +58,7 @@ names_bridge (Some name) (Some bridge) = bytes_eq name bridge
 abbrev is_bridged : First → Call → Bool
 is_bridged first call = names_bridge (bridge_for call) (bridge_of first)
 
-named : (host : Host) (o bridge : Option (List ℕ)) → names_bridge o bridge ≡ true → has_bridge_as_master host bridge ≡ true → has_bridge_as_master host o ≡ true
+named : (host : Host) (o bridge : Option (List ℕ)) → names_bridge o bridge ≡ true → master_is_bridge_or_none host bridge ≡ true → master_is_bridge_or_none host o ≡ true
 named host None bridge h there = refl
 named host (Some name) None h there = cc
 named host (Some name) (Some bridge) h there = ap (has_host_bridge host) ((bytes_eq-Decides name bridge).0 h) ∙ there
@@ -104,24 +104,24 @@ after-ensure : (conf : BridgeConf) (host : Host) (x v : Call) (xs : List Call) �
 after-ensure conf host x v xs is none not (inr there) = there
 after-ensure conf host x v xs is none not (inl left) = absurd (let e : true ≡ false = sym left ∙ no-ensure conf x v xs is none not in cc)
 
-bridge-first : (first : First) (att : Att) (netns : List ℕ) (host : Host) (made xs : List Call) (x : Call) → calls_before first att netns ≡ made ++ x ∷ xs → BridgeComes first (x ∷ xs) host → has_bridge_as_master host (bridge_for x) ≡ true
+bridge-first : (first : First) (att : Att) (netns : List ℕ) (host : Host) (made xs : List Call) (x : Call) → calls_before first att netns ≡ made ++ x ∷ xs → BridgeComes first (x ∷ xs) host → master_is_bridge_or_none host (bridge_for x) ≡ true
 bridge-first (Bridge conf) att netns host made xs x part comes =
     let ensure = BridgeEnsure conf.bridge conf.mtu (promisc conf.mode) in
     let veth = VethAdd (host_end att netns (Some conf.bridge) conf.mtu (hairpin conf.mode)) (inner_end att netns conf.mtu) in
     elim (one-or-none ensure veth x made xs part) [
-      | inl is ↦ ap (λ j. has_bridge_as_master host (bridge_for j)) is
-      | inr is ↦ ap (λ j. has_bridge_as_master host (bridge_for j)) is.0 ∙ after-ensure conf host x veth xs is.0 is.1 refl comes
+      | inl is ↦ ap (λ j. master_is_bridge_or_none host (bridge_for j)) is
+      | inr is ↦ ap (λ j. master_is_bridge_or_none host (bridge_for j)) is.0 ∙ after-ensure conf host x veth xs is.0 is.1 refl comes
     ]
 bridge-first (Ptp conf) att netns host made xs x part comes =
-    ap (λ j. has_bridge_as_master host (bridge_for j)) (only-one (VethAdd (host_end att netns None conf.mtu false) (inner_end att netns conf.mtu)) x made xs part)
+    ap (λ j. master_is_bridge_or_none host (bridge_for j)) (only-one (VethAdd (host_end att netns None conf.mtu false) (inner_end att netns conf.mtu)) x made xs part)
 bridge-first (Macvlan conf) att netns host made xs x part comes =
-    ap (λ j. has_bridge_as_master host (bridge_for j)) (only-one (MacvlanAdd (macvlan_link att netns conf.master conf.mode conf.mtu)) x made xs part)
+    ap (λ j. master_is_bridge_or_none host (bridge_for j)) (only-one (MacvlanAdd (macvlan_link att netns conf.master conf.mode conf.mtu)) x made xs part)
 
 -- ---- every call of a run
 
 pub record IsFooted (host : Host) (call : Call) : Type 0 where
   pub lies : lies_on host.links call ≡ true
-  pub bridge : has_bridge_as_master host (bridge_for call) ≡ true
+  pub bridge : master_is_bridge_or_none host (bridge_for call) ≡ true
 
 footed-before : (list : NetList) (c : Command) (es : List Entry) (x : Call) (xs : List Call) (host : Host) → Achieved list c es (BeforeLeases x xs) (share_of (att_of c) host) → BridgeComes list.first (x ∷ xs) host → IsFooted host x
 footed-before list c es x xs host ach comes = record {

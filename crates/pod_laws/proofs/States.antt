@@ -26,7 +26,8 @@ use Rattle.cni_verbs.specs.declared.answer.Ending.{Ending}
 use Rattle.cni_verbs.specs.declared.answer.Ending.TheVariants.{Added, Yes, Skipped, Versions, Refused}
 use Rattle.cni_verbs.specs.declared.answer.Question.{Question}
 use Rattle.cni_verbs.specs.declared.answer.Skip.TheVariants as skips
-use Rattle.pod_laws.proofs.OfKinds.{call_fits, fit-list_before, fit-list_back}
+use Rattle.pod_workers.specs.PlanCalls.{is_of_kinds}
+use Rattle.pod_workers.proofs.PlanCalls.{of_kinds-before, of_kinds-back}
 
 -- ---- questions
 
@@ -55,9 +56,9 @@ asked-is_question list _ h = absurd h
 
 abbrev pub LeftFit : NetList → Command → State → Type 0
 LeftFit list c AtBegin = Unit {0}
-LeftFit list c (BeforeLeases next left) = list_all (call_fits (kinds_of list)) (next ∷ left) ≡ true
+LeftFit list c (BeforeLeases next left) = list_all (is_of_kinds (kinds_of list)) (next ∷ left) ≡ true
 LeftFit list c (Leasing next left given) = Unit {0}
-LeftFit list c (AfterLeases next left given) = list_all (call_fits (kinds_of list)) (next ∷ left) ≡ true
+LeftFit list c (AfterLeases next left given) = list_all (is_of_kinds (kinds_of list)) (next ∷ left) ≡ true
 LeftFit list c (ReadingCache ending) = Unit {0}
 LeftFit list c (Deleting next left ending) = Unit {0}
 LeftFit list c FindingEntry = Unit {0}
@@ -66,15 +67,15 @@ LeftFit list c (Changing change) = ⊥
 LeftFit list c (Collecting work faults) = c.verb ≡ verbs.Gc
 LeftFit list c (Over ending given) = Unit {0}
 
-fit-after_leases : (list : NetList) (c : Command) (left : List Call) (given : List Addr) → list_all (call_fits (kinds_of list)) left ≡ true → LeftFit list c (after_leases left given)
+fit-after_leases : (list : NetList) (c : Command) (left : List Call) (given : List Addr) → list_all (is_of_kinds (kinds_of list)) left ≡ true → LeftFit list c (after_leases left given)
 fit-after_leases list c [] given h = tt
 fit-after_leases list c (x ∷ xs) given h = h
 
 fit-leasing : (list : NetList) (c : Command) (left : List RangeSet) (given : List Addr) → LeftFit list c (leasing list c left given)
-fit-leasing list c [] given = fit-after_leases list c (back_of list c given) given (fit-list_back list (att_of c) c.netns _ given)
+fit-leasing list c [] given = fit-after_leases list c (back_of list c given) given (of_kinds-back list (att_of c) c.netns _ given)
 fit-leasing list c (s ∷ ss) given = tt
 
-fit-before_leases : (list : NetList) (c : Command) (left : List Call) → list_all (call_fits (kinds_of list)) left ≡ true → LeftFit list c (before_leases list c left)
+fit-before_leases : (list : NetList) (c : Command) (left : List Call) → list_all (is_of_kinds (kinds_of list)) left ≡ true → LeftFit list c (before_leases list c left)
 fit-before_leases list c [] h = fit-leasing list c (sets_of list) []
 fit-before_leases list c (x ∷ xs) h = h
 
@@ -84,12 +85,12 @@ fit-asking list c (q ∷ qs) h = h
 
 fit-stays : (list : NetList) (c : Command) → StaysTrue list c (LeftFit list c)
 fit-stays list c =
-    let fits = call_fits (kinds_of list) in
+    let fits = is_of_kinds (kinds_of list) in
     record {
       over = λ ending given. tt;
       caches = λ ending. tt;
       deletes = λ kind left ending. tt;
-      begun = λ h. fit-before_leases list c (before_of list c) (fit-list_before list (att_of c) c.netns);
+      begun = λ h. fit-before_leases list c (before_of list c) (of_kinds-before list (att_of c) c.netns);
       before = λ next left h. fit-before_leases list c left (and_parts (fits next) (list_all fits left) h).1;
       leased = λ next left given addr h. fit-leasing list c left (given ++ addr ∷ []);
       after = λ next left given h. fit-after_leases list c left given (and_parts (fits next) (list_all fits left) h).1;

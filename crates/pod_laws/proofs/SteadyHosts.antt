@@ -19,7 +19,7 @@ use Rattle.kernel_types.specs.declared.call.Probe.TheVariants.{BridgeAt}
 use Rattle.plan_words.specs.Share.{share_of}
 use Rattle.cni_verbs.specs.CommandWords.{att_of}
 use Rattle.pod_workers.specs.Plans.{Placed}
-use Rattle.pod_workers.specs.World.{World, entry_of, host_of, host_on}
+use Rattle.pod_workers.specs.World.{World, entry_of, host_of, after_entry}
 use Rattle.pod_workers.proofs.Sound.{sound_host}
 use Rattle.pod_laws.proofs.Bridges.{bridge-stays, passes-host_bridges, turn-inside}
 use Rattle.pod_laws.proofs.RunFacts.{IsKeptBetween}
@@ -37,7 +37,7 @@ bridges-stay : (host : Host) (call : Call) → IsSound host → IsAllowed host c
 bridges-stay host call sound allowed inside = λ name mac.
     bridge-stays (is_bridge_with name mac) (λ l is. passes-host_bridges name l (and_parts (is_host_bridge name l) (mac_eq l.mac mac) is).0) host call sound allowed inside
 
-bridges-entered : (w : World) (n : ℕ) (c : Placed) (list : NetList) (call : Call) (faulty : Bool) → GoesOn w n c list call faulty → KeepsBridges (host_of w) (host_on (host_of w) (entry_of (host_of w) n call faulty))
+bridges-entered : (w : World) (n : ℕ) (c : Placed) (list : NetList) (call : Call) (faulty : Bool) → GoesOn w n c list call faulty → KeepsBridges (host_of w) (after_entry (host_of w) (entry_of (host_of w) n call faulty))
 bridges-entered w n c list call faulty on =
     on-entry (KeepsBridges (host_of w)) (host_of w) n call faulty (λ name mac there. there)
     (λ f. bridges-stay (host_of w) call (sound_host w on.legal) (on.allowed f) (turn-inside c.command call (turn-of w n c list call faulty on)))
@@ -54,7 +54,7 @@ keeps-same c host = record { share = refl; bridges = λ name mac there. there; a
 
 -- an entry of another command, where neither stands alone
 keeps-on : (w : World) (n : ℕ) (c : Placed) (list : NetList) (call : Call) (faulty : Bool) (d : Command) (old : Host) → GoesOn w n c list call faulty → is_exclusive_verb d.verb ≡ false
-    → share_of (att_of d) (host_on (host_of w) (entry_of (host_of w) n call faulty)) ≡ share_of (att_of d) (host_of w) → KeepsAsked d old (host_of w) → KeepsAsked d old (host_on (host_of w) (entry_of (host_of w) n call faulty))
+    → share_of (att_of d) (after_entry (host_of w) (entry_of (host_of w) n call faulty)) ≡ share_of (att_of d) (host_of w) → KeepsAsked d old (host_of w) → KeepsAsked d old (after_entry (host_of w) (entry_of (host_of w) n call faulty))
 keeps-on w n c list call faulty d old on beside kept was = record {
   share = kept ∙ was.share;
   bridges = λ name mac there. bridges-entered w n c list call faulty on name mac (was.bridges name mac there);

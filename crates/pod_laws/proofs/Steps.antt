@@ -17,7 +17,7 @@ use Rattle.cni_verbs.specs.declared.answer.Answer.{Answer}
 use Rattle.cni_verbs.specs.declared.answer.Answer.TheVariants.{OutOfMemory}
 use Rattle.pod_workers.specs.Legal.{Legal, starts, steps, refused_memory, turns}
 use Rattle.pod_workers.specs.Plans.{Placed, IsWellFormed, commands_of, list_for}
-use Rattle.pod_workers.specs.World.{World, IsReady, host_on, host_of, own_replies, entry_of, with_entry, answered, done, next_of}
+use Rattle.pod_workers.specs.World.{World, IsReady, after_entry, host_of, own_replies, entry_of, with_entry, answered, done, next_of}
 use Rattle.pod_workers.specs.declared.plan.Entry.{Entry}
 use Rattle.pod_workers.specs.declared.plan.Next.{Next}
 use Rattle.pod_workers.specs.declared.plan.Next.TheVariants as next
@@ -169,11 +169,11 @@ by-open Q start keep _ (turns v w legal less over is) = subst (AllOpen Q) (sym i
 -- ---- the host after an entry
 
 -- what holds of the host as it is and after the call holds after the entry
-pub on-entry : (P : Host → Type 0) (k : Host) (n : ℕ) (call : Call) (faulty : Bool) → P k → (faulty ≡ false → P (apply k call).0) → P (host_on k (entry_of k n call faulty))
+pub on-entry : (P : Host → Type 0) (k : Host) (n : ℕ) (call : Call) (faulty : Bool) → P k → (faulty ≡ false → P (apply k call).0) → P (after_entry k (entry_of k n call faulty))
 on-entry P k n call true h g = h
 on-entry P k n call false h g = subst P (sym (host-made k n call)) (g refl)
 
-pub sound-entered : (w : World) (n : ℕ) (call : Call) (faulty : Bool) → Legal w → (faulty ≡ false → IsAllowed (host_of w) call) → IsSound (host_on (host_of w) (entry_of (host_of w) n call faulty))
+pub sound-entered : (w : World) (n : ℕ) (call : Call) (faulty : Bool) → Legal w → (faulty ≡ false → IsAllowed (host_of w) call) → IsSound (after_entry (host_of w) (entry_of (host_of w) n call faulty))
 sound-entered w n call faulty legal allowed =
     let sound = sound_host w legal in
     on-entry IsSound (host_of w) n call faulty sound (λ f. IsSound-apply (host_of w) call sound (allowed f))

@@ -24,7 +24,7 @@ use Rattle.cni_verbs.specs.Sweep.{Job, Step, AskCached, Delete, Sweep, step_call
 use Rattle.cni_verbs.specs.Wanted.{deletion}
 use Rattle.pod_file.specs.Commands.{is_of_network, is_exclusive_verb}
 use Rattle.pod_workers.specs.Plans.{Placed, commands_of}
-use Rattle.pod_workers.specs.World.{World, host_on, host_of, own_replies, entry_of}
+use Rattle.pod_workers.specs.World.{World, after_entry, host_of, own_replies, entry_of}
 use Rattle.pod_workers.proofs.Order.{alone_apart}
 use Rattle.pod_workers.proofs.Planned.{IsOutside, LeftArePlanned, LeftIsOutside, left-are-planned, left-is-outside}
 use Rattle.pod_workers.proofs.Sound.{sound_host}
@@ -103,7 +103,7 @@ pub change-of : (w : World) (n : ℕ) (c : Placed) (call : Call) (faulty : Bool)
 change-of w n c call faulty on = outside-turn c.command _ call (left-is-outside c.command (own_replies w n)) on.turn_is
 
 -- it only removes
-pub removes-changed : (w : World) (n : ℕ) (c : Placed) (call : Call) (faulty : Bool) → Changes w n c call faulty → OnlyRemoves (host_of w) (host_on (host_of w) (entry_of (host_of w) n call faulty))
+pub removes-changed : (w : World) (n : ℕ) (c : Placed) (call : Call) (faulty : Bool) → Changes w n c call faulty → OnlyRemoves (host_of w) (after_entry (host_of w) (entry_of (host_of w) n call faulty))
 removes-changed w n c call faulty on =
     on-entry (OnlyRemoves (host_of w)) (host_of w) n call faulty (removes-nothing (host_of w)) (λ f. removes-outside (host_of w) call (sound_host w on.legal) (on.allowed f) (change-of w n c call faulty on).call_is)
 
@@ -139,7 +139,7 @@ other_att a b far = elim (cases_Bool (att_eq a b)) [
 
 -- an entry of one attachment leaves the share of every other, but for a garbage collection's
 pub other-entered : (w : World) (n : ℕ) (c : Placed) (list : NetList) (call : Call) (faulty : Bool) (other : Att) → GoesOn w n c list call faulty → att_eq (att_of c.command) other ≡ false
-    → (c.command.verb ≡ verbs.Gc) ⊎ (share_of other (host_on (host_of w) (entry_of (host_of w) n call faulty)) ≡ share_of other (host_of w))
+    → (c.command.verb ≡ verbs.Gc) ⊎ (share_of other (after_entry (host_of w) (entry_of (host_of w) n call faulty)) ≡ share_of other (host_of w))
 other-entered w n c list call faulty other on differ =
     let P : Host → Type 0 = λ k. share_of other k ≡ share_of other (host_of w) in
     elim (turn-of w n c list call faulty on) [

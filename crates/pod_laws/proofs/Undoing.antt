@@ -32,7 +32,7 @@ use Rattle.cni_verbs.specs.Wanted.{sets_of, kinds_of, deletion}
 use Rattle.cni_verbs.specs.declared.answer.Cause.{Cause}
 use Rattle.cni_verbs.specs.declared.answer.Ending.{Ending}
 use Rattle.cni_verbs.specs.declared.answer.Ending.TheVariants.{Added, Yes, Skipped, Versions, Refused}
-use Rattle.pod_workers.specs.World.{entry_of, host_of, host_on, reply_to}
+use Rattle.pod_workers.specs.World.{entry_of, host_of, after_entry, reply_to}
 use Rattle.pod_workers.specs.declared.plan.Entry.{Entry}
 use Rattle.pod_workers.proofs.Planned.{LeftArePlanned}
 use Rattle.pod_workers.proofs.Sound.{sound_host}
@@ -239,7 +239,7 @@ undo-deletion list c es e k ks ending _ t is h w less none = (leads-more c es e 
 
 -- ---- what a deletion leaves of the share
 
-within-deleted : (att : Att) (k : Host) (n : ℕ) (faulty : Bool) (ks : List Kind) (kind : Kind) → IsSound k → HasKindsAlone ks (share_of att k) → HasKindsAlone ks (share_of att (host_on k (entry_of k n (deletion att kind) faulty)))
+within-deleted : (att : Att) (k : Host) (n : ℕ) (faulty : Bool) (ks : List Kind) (kind : Kind) → IsSound k → HasKindsAlone ks (share_of att k) → HasKindsAlone ks (share_of att (after_entry k (entry_of k n (deletion att kind) faulty)))
 within-deleted att k n faulty ks kind sound w =
     on-entry (λ h. HasKindsAlone ks (share_of att h)) k n (deletion att kind) faulty w
     (λ f. HasKindsAlone-removes att ks k (apply k (deletion att kind)).0 (removes-deletion att k kind sound) w)
@@ -258,7 +258,7 @@ gone-kind att k kinds.Leases ks h w = let g = gone-none (λ r. is_own att r.tag)
 gone-kind att k kinds.Cached ks h w = let g = gone-none (λ r. is_own att r.tag) k.cached h in rw g.0 (record { links = w.links; rules = w.rules; settings = w.settings; leases = w.leases; cached = λ _. g.1 })
 
 gone-deleted : (att : Att) (k : Host) (n : ℕ) (faulty : Bool) (kind : Kind) (ks : List Kind) → reply_to k (deletion att kind) faulty ≡ Gone false → HasKindsAlone (kind ∷ ks) (share_of att k)
-    → HasKindsAlone ks (share_of att (host_on k (entry_of k n (deletion att kind) faulty)))
+    → HasKindsAlone ks (share_of att (after_entry k (entry_of k n (deletion att kind) faulty)))
 gone-deleted att k n true kind ks h w = cc
 gone-deleted att k n false kind ks h w = subst (λ j. HasKindsAlone ks (share_of att j)) (sym (host-made k n (deletion att kind))) (gone-kind att k kind ks h w)
 
@@ -286,15 +286,15 @@ undone-next list c es number st r s other h = undone-aside list c es (advance li
 
 -- what is known of the host after an entry
 pub record IsEntered (list : NetList) (c : Command) (k : Host) (n : ℕ) (faulty : Bool) (call : Call) : Type 0 where
-  pub within : HasKindsAlone (kinds_of list) (share_of (att_of c) (host_on k (entry_of k n call faulty)))
-  pub sound : IsSound (host_on k (entry_of k n call faulty))
+  pub within : HasKindsAlone (kinds_of list) (share_of (att_of c) (after_entry k (entry_of k n call faulty)))
+  pub sound : IsSound (after_entry k (entry_of k n call faulty))
   pub over : is_plan_call_of (att_of c) call ≡ true → (apply k call).1 ≡ NoLink → IsMacvlan call
 
 begin-first : (list : NetList) (c : Command) (es : List Entry) (k : Host) (n : ℕ) (faulty : Bool) → IsAtBegin c es → AfterEntry Undoing list c es AtBegin k n faulty (Begin (att_of c) c.netns)
 unfolding advance
 begin-first list c es k n faulty h =
     let e = entry_of k n (Begin (att_of c) c.netns) faulty in
-    let P : List Entry → Type 0 = λ l. Undoing list c (l ++ e ∷ []) (at_begin list c (length l + 1) e.reply) (share_of (att_of c) (host_on k e)) in
+    let P : List Entry → Type 0 = λ l. Undoing list c (l ++ e ∷ []) (at_begin list c (length l + 1) e.reply) (share_of (att_of c) (after_entry k e)) in
     subst P (sym h.none)
     (undo-at_begin list c e _ _ refl refl (record { verb = h.verb; words = h.words; none = refl }) (λ not. begin-refused (att_of c) c.netns k faulty 1 not))
 
@@ -315,16 +315,16 @@ undone-own list c es (AfterLeases x xs given) k n faulty call left is sound on w
     subst P (let e : x ≡ call = cc in e)
     (λ here. undo-after list c es (entry_of k n x faulty) xs given _ _ refl was (λ not. plan-refused (att_of c) k x faulty (length es + 1) left.0.0 (here.over left.0.0) not)) on
 undone-own list c es (ReadingCache ending) k n faulty call left is sound on was =
-    undo-cache list c es (entry_of k n call faulty) ending _ _ refl was on.within (none-left (att_of c) (host_on k (entry_of k n call faulty)) on.sound)
+    undo-cache list c es (entry_of k n call faulty) ending _ _ refl was on.within (none-left (att_of c) (after_entry k (entry_of k n call faulty)) on.sound)
 undone-own list c es (Deleting kind ks ending) k n faulty call left is sound on was =
     let P : Call → Type 0 = λ j. IsEntered list c k n faulty j → AfterEntry Undoing list c es (Deleting kind ks ending) k n faulty j in
     subst P (let e : deletion (att_of c) kind ≡ call = cc in e)
     (λ here. undo-deletion list c es (entry_of k n (deletion (att_of c) kind) faulty) kind ks ending _ _ refl was.0 (within-deleted (att_of c) k n faulty (kind ∷ ks) kind sound was.1)
-    (λ h. gone-deleted (att_of c) k n faulty kind ks h was.1) (none-left (att_of c) (host_on k (entry_of k n (deletion (att_of c) kind) faulty)) here.sound)) on
+    (λ h. gone-deleted (att_of c) k n faulty kind ks h was.1) (none-left (att_of c) (after_entry k (entry_of k n (deletion (att_of c) kind) faulty)) here.sound)) on
 undone-own list c es (Over ending given) k n faulty call left is sound on was = cc
 undone-own list c es st k n faulty call left is sound on was =
     let e = entry_of k n call faulty in
-    undone-next list c (es ++ e ∷ []) (length es + 1) st e.reply (share_of (att_of c) (host_on k e)) was tt
+    undone-next list c (es ++ e ∷ []) (length es + 1) st e.reply (share_of (att_of c) (after_entry k e)) was tt
 
 pub undone-step : IsRunFact Undoing
 undone-step w n c list call faulty on was =

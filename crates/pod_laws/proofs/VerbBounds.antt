@@ -13,7 +13,7 @@ use Rattle.pod_file.specs.Commands.{is_of_network}
 use Rattle.pod_file.specs.declared.command.Command.{Command}
 use Rattle.pod_file.specs.declared.command.Verb.{Verb}
 use Rattle.pod_file.specs.declared.command.Verb.TheVariants as verbs
-use Rattle.cni_verbs.proofs.CheckCounts.{length-pools, length-share}
+use Rattle.cni_verbs.proofs.QuestionCounts.{length-pools, length-share}
 use Rattle.kernel_types.specs.declared.call.Reply.{Reply}
 use Rattle.kernel_types.specs.declared.call.Reply.TheVariants.{Entry as Found}
 use Rattle.plan_words.specs.Share.{Share}

@@ -32,16 +32,18 @@ use Rattle.cni_verbs.specs.Wanted.{kinds_of, deletion}
 use Rattle.pod_file.specs.WellFormed.{IsOpening}
 use Rattle.pod_workers.specs.Legal.{Legal}
 use Rattle.pod_file.specs.Commands.{is_of_network}
+use Rattle.pod_workers.specs.PlanCalls.{has_kind, is_of_kinds}
 use Rattle.pod_workers.specs.Plans.{Placed, IsWellFormed, list_for, list_named}
-use Rattle.pod_workers.specs.World.{World, entry_of, host_of, host_on, own_replies}
+use Rattle.pod_workers.specs.World.{World, entry_of, host_of, after_entry, own_replies}
 use Rattle.pod_workers.specs.declared.plan.Entry.{Entry}
 use Rattle.pod_workers.specs.declared.plan.Plan.{Plan}
 use Rattle.pod_workers.proofs.Histories.{after-append}
+use Rattle.pod_workers.proofs.PlanCalls.{leases-kinds_of}
 use Rattle.pod_workers.proofs.Planned.{LeftArePlanned, left-are-planned}
 use Rattle.pod_workers.proofs.Sound.{sound_host, if-listed}
 use Rattle.pod_workers.proofs.Deletable.{done_or_not, leased_or_not}
 use Rattle.pod_laws.specs.Moments.{objects_after}
-use Rattle.pod_laws.proofs.OfKinds.{has, call_fits, HasKindsAlone, HasKindsAlone-nothing, HasKindsAlone-call, HasKindsAlone-removes, leases-kinds_of}
+use Rattle.pod_laws.proofs.OfKinds.{HasKindsAlone, HasKindsAlone-nothing, HasKindsAlone-call, HasKindsAlone-removes}
 use Rattle.pod_laws.proofs.Removes.{removes-deletion}
 use Rattle.pod_laws.proofs.States.{LeftFit, is_question, left-fit, question-leaves, asked-is_question}
 use Rattle.pod_laws.proofs.Steps.{Changes, GoesOn, by-entries, on-entry}
@@ -52,19 +54,19 @@ use Rattle.pod_laws.proofs.Turns.{AsksOrCollects, removes-changed, turn-of, work
 abbrev AfterCall : Att → Host → List Kind → Call → Type 0
 AfterCall att k ks call = HasKindsAlone ks (share_of att (apply k call).0)
 
-within-plan : (att : Att) (k : Host) (ks : List Kind) (call : Call) → is_plan_call_of att call ≡ true → call_fits ks call ≡ true → HasKindsAlone ks (share_of att k) → AfterCall att k ks call
+within-plan : (att : Att) (k : Host) (ks : List Kind) (call : Call) → is_plan_call_of att call ≡ true → is_of_kinds ks call ≡ true → HasKindsAlone ks (share_of att k) → AfterCall att k ks call
 within-plan att k ks call own fits w =
     elim (done_or_not (apply k call).1) [
       | inl done ↦ subst (HasKindsAlone ks) (sym (share-own att k call own done)) (HasKindsAlone-call ks (share_of att k) call fits w)
       | inr not ↦ subst (λ h. HasKindsAlone ks (share_of att h)) (sym (refused-same att k call own not)) w
     ]
 
-within-lease : (att : Att) (k : Host) (ks : List Kind) (number : ℕ) (set : RangeSet) → has kinds.Leases ks ≡ true → HasKindsAlone ks (share_of att k) → AfterCall att k ks (LeaseNext att number set)
+within-lease : (att : Att) (k : Host) (ks : List Kind) (number : ℕ) (set : RangeSet) → has_kind kinds.Leases ks ≡ true → HasKindsAlone ks (share_of att k) → AfterCall att k ks (LeaseNext att number set)
 within-lease att k ks number set there w =
     elim (leased_or_not (apply k (LeaseNext att number set)).1) [
       | inl leased ↦
           subst (HasKindsAlone ks) (sym (share-lease att k number set leased.0 leased.1))
-          (record { links = w.links; rules = w.rules; settings = w.settings; leases = λ g. absurd (both_ways (has kinds.Leases ks) g there); cached = w.cached })
+          (record { links = w.links; rules = w.rules; settings = w.settings; leases = λ g. absurd (both_ways (has_kind kinds.Leases ks) g there); cached = w.cached })
       | inr not ↦ subst (λ h. HasKindsAlone ks (share_of att h)) (sym (refused-lease k att number set not)) w
     ]
 
@@ -80,13 +82,13 @@ unfolding turn
 within-turn list c AtBegin k call left fit sound is w = subst (AfterCall (att_of c) k (kinds_of list)) (let e : Begin (att_of c) c.netns ≡ call = cc in e) w
 within-turn list c (BeforeLeases x xs) k call left fit sound is w =
     subst (AfterCall (att_of c) k (kinds_of list)) (let e : x ≡ call = cc in e)
-    (within-plan (att_of c) k (kinds_of list) x left.0.0.0 (and_parts (call_fits (kinds_of list) x) (list_all (call_fits (kinds_of list)) xs) fit).0 w)
+    (within-plan (att_of c) k (kinds_of list) x left.0.0.0 (and_parts (is_of_kinds (kinds_of list) x) (list_all (is_of_kinds (kinds_of list)) xs) fit).0 w)
 within-turn list c (Leasing set sets given) k call left fit sound is w =
     subst (AfterCall (att_of c) k (kinds_of list)) (let e : LeaseNext (att_of c) (length given) set ≡ call = cc in e)
     (within-lease (att_of c) k (kinds_of list) (length given) set (leases-kinds_of list left.0.0 sets set left.0.1) w)
 within-turn list c (AfterLeases x xs given) k call left fit sound is w =
     subst (AfterCall (att_of c) k (kinds_of list)) (let e : x ≡ call = cc in e)
-    (within-plan (att_of c) k (kinds_of list) x left.0.0 (and_parts (call_fits (kinds_of list) x) (list_all (call_fits (kinds_of list)) xs) fit).0 w)
+    (within-plan (att_of c) k (kinds_of list) x left.0.0 (and_parts (is_of_kinds (kinds_of list) x) (list_all (is_of_kinds (kinds_of list)) xs) fit).0 w)
 within-turn list c (ReadingCache ending) k call left fit sound is w = subst (AfterCall (att_of c) k (kinds_of list)) (let e : CacheGet (att_of c) ≡ call = cc in e) w
 within-turn list c (Deleting kind ks ending) k call left fit sound is w =
     subst (AfterCall (att_of c) k (kinds_of list)) (let e : deletion (att_of c) kind ≡ call = cc in e)
@@ -128,7 +130,7 @@ within-start : (p : Plan) → IsWellFormed p → AllWithin p []
 within-start p well = λ att list listed. subst (HasKindsAlone (kinds_of list)) (sym (opening-share att p.pods.opening well.pods.opening)) (HasKindsAlone-nothing (kinds_of list))
 
 within-mine : (w : World) (n : ℕ) (c : Placed) (list : NetList) (call : Call) (faulty : Bool) → GoesOn w n c list call faulty → HasKindsAlone (kinds_of list) (share_of (att_of c.command) (host_of w))
-    → HasKindsAlone (kinds_of list) (share_of (att_of c.command) (host_on (host_of w) (entry_of (host_of w) n call faulty)))
+    → HasKindsAlone (kinds_of list) (share_of (att_of c.command) (after_entry (host_of w) (entry_of (host_of w) n call faulty)))
 within-mine w n c list call faulty on was =
     let rs = own_replies w n in
     on-entry (λ k. HasKindsAlone (kinds_of list) (share_of (att_of c.command) k)) (host_of w) n call faulty was
@@ -136,7 +138,7 @@ within-mine w n c list call faulty on was =
 
 -- another attachment's share is the same, or a collection takes from it
 within-other : (w : World) (n : ℕ) (c : Placed) (list : NetList) (call : Call) (faulty : Bool) (att : Att) (ks : List Kind) → GoesOn w n c list call faulty → att_eq (att_of c.command) att ≡ false → HasKindsAlone ks (share_of att (host_of w))
-    → HasKindsAlone ks (share_of att (host_on (host_of w) (entry_of (host_of w) n call faulty)))
+    → HasKindsAlone ks (share_of att (after_entry (host_of w) (entry_of (host_of w) n call faulty)))
 within-other w n c list call faulty att ks on apart was =
     let sound = sound_host w on.legal in
     on-entry (λ k. HasKindsAlone ks (share_of att k)) (host_of w) n call faulty was
@@ -155,7 +157,7 @@ within-kept w n c list call faulty on was = λ att other listed.
           let atts : att_of c.command ≡ att = att_eq-same (att_of c.command) att same in
           let lists : list ≡ other = same_Some list other (sym found ∙ ap (λ (a : Att). list_named w.plan.lists a.network) atts ∙ listed) in
           let mine = within-mine w n c list call faulty on (was (att_of c.command) list found) in
-          subst (λ a. HasKindsAlone (kinds_of other) (share_of a (host_on (host_of w) e))) atts (subst (λ l. HasKindsAlone (kinds_of l) (share_of (att_of c.command) (host_on (host_of w) e))) lists mine)
+          subst (λ a. HasKindsAlone (kinds_of other) (share_of a (after_entry (host_of w) e))) atts (subst (λ l. HasKindsAlone (kinds_of l) (share_of (att_of c.command) (after_entry (host_of w) e))) lists mine)
       | inr apart ↦ within-other w n c list call faulty att (kinds_of other) on apart (was att other listed)
     ])
 
@@ -163,12 +165,12 @@ within-changed : (w : World) (n : ℕ) (c : Placed) (call : Call) (faulty : Bool
 within-changed w n c call faulty on was = λ att other listed.
     let e = entry_of (host_of w) n call faulty in
     subst (λ k. HasKindsAlone (kinds_of other) (share_of att k)) (sym (after-append w.plan.pods.opening w.history e))
-    (HasKindsAlone-removes att (kinds_of other) (host_of w) (host_on (host_of w) e) (removes-changed w n c call faulty on) (was att other listed))
+    (HasKindsAlone-removes att (kinds_of other) (host_of w) (after_entry (host_of w) e) (removes-changed w n c call faulty on) (was att other listed))
 
 pub all-within : (w : World) → Legal w → AllWithin w.plan w.history
 all-within w legal = by-entries AllWithin within-start within-kept within-changed w legal
 
 -- so it is after one entry more
 pub within-entered : (w : World) (n : ℕ) (c : Placed) (list : NetList) (call : Call) (faulty : Bool) → GoesOn w n c list call faulty
-    → HasKindsAlone (kinds_of list) (share_of (att_of c.command) (host_on (host_of w) (entry_of (host_of w) n call faulty)))
+    → HasKindsAlone (kinds_of list) (share_of (att_of c.command) (after_entry (host_of w) (entry_of (host_of w) n call faulty)))
 within-entered w n c list call faulty on = within-mine w n c list call faulty on (all-within w on.legal (att_of c.command) list (list_named-listed w.plan c.command list on.listed))

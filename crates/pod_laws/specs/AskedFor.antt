@@ -3,6 +3,7 @@ use Rattle.std.specs.Prelude.{◌≡◌, ℕ, ◌+◌, ◌⊎◌, Bool, true, fa
 use Rattle.std.specs.List.{list_any, AllByRecursion}
 use Rattle.std.specs.Option.{option_or}
 use Rattle.cni_addr.specs.declared.address.Addr.{Addr}
+use Rattle.cni_verbs.specs.AddCalls.{is_done}
 use Rattle.cni_verbs.specs.CommandWords.{att_of, mappings_of}
 use Rattle.cni_verbs.specs.Script.{leases_in}
 use Rattle.cni_verbs.specs.Wanted.{back_calls, untuned, wanted}
@@ -12,8 +13,6 @@ use Rattle.kernel_types.specs.declared.object.Att.{Att}
 use Rattle.kernel_types.specs.declared.object.Link.{Link}
 use Rattle.kernel_types.specs.declared.call.Call.{Call}
 use Rattle.kernel_types.specs.declared.call.Call.TheVariants.{Begin}
-use Rattle.kernel_types.specs.declared.call.Reply.{Reply}
-use Rattle.kernel_types.specs.declared.call.Reply.TheVariants.{Done}
 use Rattle.net_conf.specs.Plugins.{is_of_type}
 use Rattle.net_conf.specs.declared.list.NetList.{NetList}
 use Rattle.net_conf.specs.declared.plugin_type.PluginType.TheVariants.{Tuning}
@@ -38,10 +37,6 @@ AreAmong xs all = AllByRecursion (λ x. IsAmong x all) xs
 abbrev pub is_begin_of : Att → Call → Bool
 is_begin_of att (Begin a netns) = att_eq a att
 is_begin_of att call = false
-
-abbrev pub is_done : Reply → Bool
-is_done Done = true
-is_done reply = false
 
 -- a Begin for the attachment that was done
 abbrev pub begins : Att → Entry → Bool

@@ -20,7 +20,7 @@ use Rattle.kernel_types.specs.declared.call.Reply.TheVariants.{Done, NoNs, NoLin
 use Rattle.plan_words.specs.Share.{Share, no_objects}
 use Rattle.pod_file.specs.declared.command.Command.{Command}
 use Rattle.pod_file.specs.declared.command.Verb.TheVariants as verbs
-use Rattle.pod_workers.specs.World.{host_on}
+use Rattle.pod_workers.specs.World.{after_entry}
 use Rattle.pod_workers.specs.declared.plan.Entry.{Entry}
 use Rattle.pod_laws.specs.Moments.{has_fault}
 use Rattle.pod_laws.specs.Answers.{EachIsOrRefused, EachIsWhere, EachRefusal, IsFirstToFail, IsRefusedByWords}
@@ -76,7 +76,7 @@ WasRefused = EachRefusal verbs.Add IsRefusedFor
 
 -- Begin leaves the host as it is before it
 abbrev pub BeginLeavesTheHost : Type 0
-BeginLeavesTheHost = (host : Host) (att : Att) (netns : List ℕ) (n : ℕ) (reply : Reply) → host_on host (record { command = n; call = Begin att netns; reply = reply }) ≡ host
+BeginLeavesTheHost = (host : Host) (att : Att) (netns : List ℕ) (n : ℕ) (reply : Reply) → after_entry host (record { command = n; call = Begin att netns; reply = reply }) ≡ host
 
 -- ---- all answers
 

@@ -4,7 +4,7 @@ use Rattle.std.specs.Prelude.{ℕ, ◌+◌, Bool, true, List, [], ◌∷◌, ◌
 use Rattle.std.specs.List.{flat_map}
 use Rattle.serde_json.specs.Data.{Data, boolean, object, Members, no_members, put}
 use Rattle.cni_json.specs.Json.{line_of}
-use Rattle.cni_result.specs.Members.{text_data, number_data, list_data, ◌▷◌}
+use Rattle.cni_json.specs.Members.{text_data, number_data, list_data, ◌▷◌}
 use Rattle.cni_result.specs.Results.{version_data, result_data, error_data}
 use Rattle.cni_result.specs.declared.version.Version.{Version}
 use Rattle.cni_result.specs.declared.version.Version.TheVariants.{V1_0, V1_1}
@@ -19,7 +19,7 @@ use Rattle.net_conf.specs.List.{disable_check_key, disable_gc_key}
 use Rattle.pod_file.specs.Commands.{verb_text}
 use Rattle.pod_file.specs.declared.command.Command.{Command}
 use Rattle.pod_workers.specs.Plans.{commands_of}
-use Rattle.pod_workers.specs.World.{World, answer_at, host_of}
+use Rattle.pod_workers.specs.World.{World, answer_for, host_of}
 use Rattle.pod_workers.specs.declared.plan.Entry.{Entry}
 
 -- ---- one answer
@@ -61,7 +61,7 @@ answer_line command (Some answer) = line_of (answer_data command answer)
 
 -- the line of a command by the answer that it has in the world
 abbrev pub command_line : World → Command → List ℕ
-command_line w command = answer_line command (answer_at w command.number)
+command_line w command = answer_line command (answer_for w command.number)
 
 -- the lines of all commands, in file order
 abbrev pub command_lines : World → List ℕ

@@ -51,7 +51,8 @@ fn push_rounds<K: Kernel + Drop>(
     rounds: &[Items<Command>],
     lines: &mut Vec<u8>,
 ) -> Result<(), NoMemory>
-    ensures { OnOk result (lines.new.items ≡ lines.old.items ++ flat_map (flat_map (command_line book.now)) rounds.now) }
+    ensures { OnOk result
+        (lines.new.items ≡ lines.old.items ++ flat_map (flat_map (command_line book.now)) rounds.now) }
 {
     for commands in rounds {
         push_round(alloc, book, commands.as_slice(), lines)?;

@@ -1,4 +1,4 @@
-//! What lies under the lock.
+//! What lies under the lock, and what holds whenever the lock is free.
 
 ghost use Rattle.std.specs.Prelude.{◌≡◌, ◌+◌, ◌<◌, ◌^◌, length};
 ghost use Rattle.pod_workers.specs.Extends.{Extends};
@@ -26,8 +26,10 @@ impl Origin for Brand {
     ghost from = { nowhere };
 }
 
-/// The book, which goes on from the one that went in, and a ledger of the entries made since. Whoever takes the lock
-/// finds this true, and has to leave it so.
+/// The book and a ledger of the entries made since it went in. Its invariant is what holds whenever the lock is free,
+/// since whoever takes the lock finds it and has to leave it: the book is one that the one that went in comes to by
+/// allowed steps of commands of the round (`Extends`; that its history is legal is the book's own invariant), and the
+/// ledger's total is the number of entries that came to its history.
 #[derive(Drop)]
 pub(crate) struct Shared<J: Origin, L: Ledger, K: Kernel + Drop> {
     book: Book<K>,

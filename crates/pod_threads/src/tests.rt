@@ -1,4 +1,4 @@
-//! Rounds by one, two and four workers.
+//! Rounds by two workers and by four.
 
 ghost use Rattle.std.specs.Prelude.{◌<◌, ◌^◌, All, IfOk, length};
 ghost use Rattle.net_conf.specs.WellFormed.{IsWellFormedList};
@@ -25,9 +25,7 @@ const LIST: &str =
 
 const TWO_ADDED: &str = "{\"opening\":{\"namespaces\":[\"/ns/a\",\"/ns/b\"]},\"rounds\":[[\
 {\"verb\":\"ADD\",\"network\":\"pods\",\"container\":\"c1\",\"netns\":\"/ns/a\"},\
-{\"verb\":\"ADD\",\"network\":\"pods\",\"container\":\"c2\",\"netns\":\"/ns/b\"}],[\
-{\"verb\":\"DEL\",\"network\":\"pods\",\"container\":\"c2\"},\
-{\"verb\":\"DEL\",\"network\":\"pods\",\"container\":\"c1\"}]]}";
+{\"verb\":\"ADD\",\"network\":\"pods\",\"container\":\"c2\",\"netns\":\"/ns/b\"}]]}";
 
 const THREE_OF_TWO: &str = "{\"opening\":{\"namespaces\":[\"/ns/a\",\"/ns/b\"]},\"rounds\":[[\
 {\"verb\":\"ADD\",\"network\":\"pods\",\"container\":\"c1\",\"netns\":\"/ns/a\"},\
@@ -121,53 +119,18 @@ fn round<R: Threads + Wait + Sync, G: Gate>(
     }
 }
 
-/// What is looked at of a book after a round.
-#[derive(Drop)]
-struct Made {
-    /// The entries that each worker made.
-    counts: Items<u64>,
-    entries: u64,
-    round: u32,
-    has_ended: bool,
-}
-
-fn made_of(book: &Book<ListKernel>, counts: Items<u64>) -> Made {
-    Made {
-        counts,
-        entries: book.history().len() as u64,
-        round: book.round(),
-        has_ended: book.ended(),
-    }
-}
-
-/// What so many workers make of the first round of these pods.
-fn first_round<R: Threads + Wait + Sync>(
+/// How many entries each of so many workers makes in the first round of these pods.
+fn counts_of<R: Threads + Wait + Sync, G: Gate>(
     rt: &R,
     alloc: Global,
     text: &str,
     workers: u8,
-) -> Result<Made, Fail> {
+    gate: &G,
+) -> Result<Items<u64>, Fail> {
     let book = book_of(alloc, text)?;
-    let Rounded { book, counts } = round(rt, alloc, book, workers, &OpenGate)?;
-    let made = made_of(&book, counts);
+    let Rounded { book, counts } = round(rt, alloc, book, workers, gate)?;
     drop(book);
-    Ok(made)
-}
-
-/// What two workers make of both rounds, behind a gate each.
-fn both_rounds<R: Threads + Wait + Sync>(
-    rt: &R,
-    alloc: Global,
-    adding: &Turns,
-    deleting: &Turns,
-) -> Result<(Made, Made), Fail> {
-    let book = book_of(alloc, TWO_ADDED)?;
-    let Rounded { book, counts } = round(rt, alloc, book, 2, adding)?;
-    let added = made_of(&book, counts);
-    let Rounded { book, counts } = round(rt, alloc, book, 2, deleting)?;
-    let deleted = made_of(&book, counts);
-    drop(book);
-    Ok((added, deleted))
+    Ok(counts)
 }
 
 /// Holds the first command back before its first step until the second has made one. It counts who passes.
@@ -210,44 +173,27 @@ impl Turns {
     }
 }
 
-/// The gate is passed once for each call and once for each answer, and for commands of the current round alone.
+/// The gate is passed once for each call and once for each answer.
 #[test]
 fn two_workers_step_at_one_time(rt: HostRuntime) -> Result<(), Fail> {
-    let adding = nobody_passed();
-    let deleting = nobody_passed();
-    let (added, deleted) = both_rounds(&rt, rt.alloc(), &adding, &deleting)?;
-    assert!(rt; !adding.gave_up.load(Ordering::SeqCst));
-    assert_eq!(rt; adding.passed.load(Ordering::SeqCst), 14);
-    assert_eq!(rt; added.counts.as_slice(), [6, 6].as_slice());
-    assert_eq!(rt; added.round, 1);
-    assert!(rt; deleted.has_ended);
-    let made = deleted.entries.saturating_sub(12);
-    assert_eq!(rt; deleting.passed.load(Ordering::SeqCst), made + 2);
+    let gate = nobody_passed();
+    let counts = counts_of(&rt, rt.alloc(), TWO_ADDED, 2, &gate)?;
+    assert_eq!(rt; counts.as_slice(), [6, 6].as_slice());
+    assert_eq!(rt; gate.passed.load(Ordering::SeqCst), 14);
+    assert!(rt; !gate.gave_up.load(Ordering::SeqCst));
     Ok(())
 }
 
+/// A container goes to one worker with all its commands, and the next to the next worker: an ADD makes six entries, and
+/// the DEL behind it seven.
 #[test]
-fn one_worker_makes_every_entry(rt: HostRuntime) -> Result<(), Fail> {
-    let made = first_round(&rt, rt.alloc(), THREE_OF_TWO, 1)?;
-    assert_eq!(rt; made.counts.as_slice(), [made.entries].as_slice());
-    assert!(rt; made.has_ended);
-    Ok(())
-}
-
-/// A container goes to one worker with all its commands, and a worker without one makes no entry.
-#[test]
-fn each_container_has_its_worker(rt: HostRuntime) -> Result<(), Fail> {
-    let made = first_round(&rt, rt.alloc(), THREE_OF_TWO, 4)?;
-    let counts = made.counts.as_slice();
-    assert!(rt; counts.len() == 4 && 6 < made.entries);
-    assert_eq!(rt; counts, [made.entries - 6, 6, 0, 0].as_slice());
-    Ok(())
-}
-
-/// Containers go to workers in turn, so each of four makes the entries of two ADDs.
-#[test]
-fn each_of_four_makes_a_quarter(rt: HostRuntime) -> Result<(), Fail> {
-    let made = first_round(&rt, rt.alloc(), EIGHT_ADDED, 4)?;
-    assert_eq!(rt; made.counts.as_slice(), [12, 12, 12, 12].as_slice());
+fn containers_go_to_workers_in_turn(rt: HostRuntime) -> Result<(), Fail> {
+    for (pods, wanted) in [
+        (EIGHT_ADDED, [12, 12, 12, 12]),
+        (THREE_OF_TWO, [13, 6, 0, 0]),
+    ] {
+        let counts = counts_of(&rt, rt.alloc(), pods, 4, &OpenGate)?;
+        assert_eq!(rt; counts.as_slice(), wanted.as_slice());
+    }
     Ok(())
 }

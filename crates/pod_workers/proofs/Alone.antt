@@ -46,4 +46,4 @@ alone_from round (commands ∷ rounds) all m n d c at_m at_n same exclusive =
 
 pub are_alone : (p : Plan) → IsWellFormedPods p.pods → AreAlone p
 unfolding commands_of
-are_alone p formed m n d c at_m at_n same exclusive = alone_from 0 p.pods.rounds formed.rounds m n d c at_m at_n same exclusive
+are_alone p formed m n d c at_m at_n same exclusive = alone_from 0 p.pods.rounds formed.rounds.each m n d c at_m at_n same exclusive

@@ -97,13 +97,13 @@ pub at_own_stop : (o : Option ℕ) (made : ℕ) → o ≡ Some made → is_stop 
 at_own_stop o made is = ap (λ (s : Option ℕ). is_stop s made) is ∙ grind (arith, nat_tests)
 
 due_answered : (v : World) (n : ℕ) (c : Placed) (b : Answer) → AnswerIsDue v → IsReady v n c → IsDue v n c b → AnswerIsDue (answered v n b)
-due_answered v n c b due ready why = λ m a d at there. elim (eqb_tells m n) [
+due_answered v n c b due ready why = λ m d there a at. elim (eqb_tells m n) [
   | inl t ↦
       let within = slice_get_within v.answers n None ready.unanswered in
       let same_a : a ≡ b = same_Some a b (same_Some (Some a) (Some b) (sym at ∙ ap (slice_get (slice_set v.answers n (Some b))) t.1 ∙ slice_get-set_same v.answers n (Some b) within)) in
       let same_d : d ≡ c = same_Some d c (sym there ∙ ap (slice_get (commands_of v.plan)) t.1 ∙ ready.there) in
       rw (same_a, same_d, t.1) why
-  | inr f ↦ due m a d (sym (slice_get-set_other v.answers n m (Some b) f.1) ∙ at) there
+  | inr f ↦ due m d there a (sym (slice_get-set_other v.answers n m (Some b) f.1) ∙ at)
 ]
 
 -- an entry of another command leaves why an answer was due
@@ -116,16 +116,16 @@ due_stays v m d a e other (inr (inl stopped)) = inr (inl (
 ))
 
 due_entered : (v : World) (n : ℕ) (c : Placed) (e : Entry) → AnswerIsDue v → IsReady v n c → e.command ≡ n + 1 → AnswerIsDue (with_entry v e)
-due_entered v n c e due ready own = λ m a d at there.
+due_entered v n c e due ready own = λ m d there a at.
     let other : e.command ≢ m + 1 = λ same. none-some a (same_Some None (Some a) (sym ready.unanswered ∙ ap (slice_get v.answers) (let place : n ≡ m = omega arith in place) ∙ at)) in
-    due_stays v m d a e other (due m a d at there)
+    due_stays v m d a e other (due m d there a at)
 
 due_done : (v : World) (n : ℕ) (c : Placed) (x : Next) → Legal v → AnswerIsDue v → IsReady v n c → next_of v c.command (own_replies v n) ≡ x → AnswerIsDue (done v n x)
 due_done v n c (next.Answer b) legal due ready is = due_answered v n c b due ready (elim (due_now v n c b legal ready is) [ inl scripts ↦ inl scripts | inr stopped ↦ inr (inl stopped) ])
 due_done v n c (next.Call call faulty) legal due ready is = due_entered v n c (entry_of (host_of v) n call faulty) due ready refl
 
 pub answer_is_due : (w : World) → Legal w → AnswerIsDue w
-answer_is_due _ (starts w begun) = λ n a c at there. absurd (none-some a (sym (begun.unanswered n (Some a) at)))
+answer_is_due _ (starts w begun) = λ n c there a at. absurd (none-some a (sym (begun.unanswered n (Some a) at)))
 answer_is_due _ (steps v w n c legal ready is) = subst AnswerIsDue (sym is) (due_done v n c (next_of v c.command (own_replies v n)) legal (answer_is_due v legal) ready refl)
 answer_is_due _ (refused_memory v w n c legal ready is) = subst AnswerIsDue (sym is) (due_answered v n c OutOfMemory (answer_is_due v legal) ready (inr (inr refl)))
 answer_is_due _ (turns v w legal less over is) = subst AnswerIsDue (sym is) (answer_is_due v legal)

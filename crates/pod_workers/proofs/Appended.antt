@@ -30,8 +30,8 @@ done-own w n (next.Call call faulty) =
 step-own : (r : Result StepEnd NoMemory) (v w : World) (number : ℕ) → IsReadyNumber v number → IsStepped r v w number → AppendsOwn v w number
 step-own (Ok x) v w number ready is =
     subst (AppendsOwn v w) (sym ready.2)
-    (subst (λ (u : World). AppendsOwn v u (ready.0 + 1)) (sym (is.0 ready.0 ready.1 ready.2 ready.3.there)) (done-own v ready.0 (next_of v ready.1.command (own_replies v ready.0))))
-step-own (Err x) v w number ready is = subst (λ (u : World). AppendsOwn v u number) (sym (is.1 ready.0 ready.2)) (appends-none (IsEntryBy number) v.history)
+    (subst (λ (u : World). AppendsOwn v u (ready.0 + 1)) (sym (is.0 ready.0 ready.1 ready.2 ready.3.there).0) (done-own v ready.0 (next_of v ready.1.command (own_replies v ready.0))))
+step-own (Err x) v w number ready is = subst (λ (u : World). AppendsOwn v u number) (sym (is.1 ready.0 ready.1 ready.2 ready.3.there)) (appends-none (IsEntryBy number) v.history)
 
 pub own-more : (r : Result StepEnd NoMemory) (u v w : World) (number : ℕ) → AppendsOwn u v number → IsReadyNumber v number → IsStepped r v w number → AppendsOwn u w number
 own-more r u v w number own ready is =

@@ -37,7 +37,7 @@ use Rattle.plan_words.proofs.KeyLists.{list_all-append, list_all-each_key_once, 
 use Rattle.host_local.specs.Conf.{routes_of}
 use Rattle.host_local.specs.Results.{ip_of}
 use Rattle.bridge_ptp.specs.Bridge.{gateway_calls}
-use Rattle.bridge_ptp.specs.Kinds.{lease_kinds, rule_kinds}
+use Rattle.host_local.specs.Kinds.{lease_kinds, rule_kinds}
 use Rattle.bridge_ptp.specs.Gateways.{gateway_call, gateway_of, gateways_on, is_same_gateway}
 use Rattle.bridge_ptp.specs.declared.ptp.AddressOrRoute.{AddressOrRoute}
 use Rattle.bridge_ptp.specs.declared.ptp.AddressOrRoute.TheVariants.{Route}

@@ -50,7 +50,7 @@ pub done_now : (w : World) (m : ℕ) (d : Placed) → Legal w → is_cut w ≡ f
 done_now w m d legal no_cut round at a = (
   a.0,
   a.1,
-  elim (answer_is_due w legal m a.0 d a.1 at) [
+  elim (answer_is_due w legal m d at a.0 a.1) [
     | inl scripts ↦ inl scripts
     | inr (inl stopped) ↦ elim stopped.1 [
       | inl own ↦ inr (inl (stopped.0.2, own))

@@ -3,8 +3,6 @@ use Rattle.std.proofs.Common.{◌≡◌, ℕ, zero, suc, ◌+◌, ◌-◌, ◌<�
 use Rattle.std.specs.Prelude.{find, filter}
 use Rattle.std.proofs.lemmas.Bool.Decides.{eqb_tells}
 use Rattle.std.proofs.lemmas.Option.{same_Some, none-some}
-use Rattle.plan_words.proofs.RowLemmas.{slice_get-behind}
-pub use Rattle.plan_words.proofs.RowLemmas.{slice_get-before}
 use Rattle.pod_workers.specs.World.{at_number}
 
 pub at_number-is : {X : Type 0} (xs : List X) (number n : ℕ) → number ≡ n + 1 → at_number xs number ≡ slice_get xs n
@@ -19,6 +17,16 @@ numbered xs number x is = elim (eqb_tells number 0) [
   | inl t ↦ absurd (none-some x (sym (ap (λ (b : Bool). if b then None else slice_get xs (number - 1)) t.0) ∙ is))
   | inr f ↦ ((let ne = f.1 in omega arith), sym (ap (λ (b : Bool). if b then None else slice_get xs (number - 1)) f.0) ∙ is)
 ]
+
+pub slice_get-before : {X : Type 0} (xs ys : List X) (i : ℕ) → i < length xs → slice_get (xs ++ ys) i ≡ slice_get xs i
+slice_get-before [] ys i h = absurd (omega arith)
+slice_get-before (x ∷ xs) ys zero h = refl
+slice_get-before (x ∷ xs) ys (suc i) h = slice_get-before xs ys i (omega arith)
+
+slice_get-behind : {X : Type 0} (xs ys : List X) (n i j : ℕ) → length xs ≡ n → i ≡ n + j → slice_get (xs ++ ys) i ≡ slice_get ys j
+slice_get-behind [] ys n i j h e = let same : i ≡ j = omega arith in ap (slice_get ys) same
+slice_get-behind (x ∷ xs) ys n zero j h e = absurd (omega arith)
+slice_get-behind (x ∷ xs) ys n (suc i) j h e = slice_get-behind xs ys (length xs) i j refl (omega arith)
 
 pub slice_get-right : {X : Type 0} (xs ys : List X) (i : ℕ) → slice_get (xs ++ ys) (length xs + i) ≡ slice_get ys i
 slice_get-right xs ys i = slice_get-behind xs ys (length xs) (length xs + i) i refl refl

@@ -49,7 +49,7 @@ file_order_entered w n c e legal order ready earlier no_cut own = record {
   entries = each_two-grows w.plan w.history e n c AreInFileOrder (record { number = own; there = ready.there }) order.entries
       (λ before between f m d at of_f. none_later w before between f m n d c legal order ready at of_f);
   before = done_before_entered w n c e (λ d x. d.round ≡ x.round) legal order.before ready
-      (λ m d less at round. let here : d.round ≡ w.round = round ∙ ready.current in (here, earlier m d less at here)) no_cut own;
+      (λ m d less at round. let here : d.round ≡ w.round = round ∙ ready.current in (here, earlier m d at less here)) no_cut own;
 }
 
 -- ---- a step

@@ -9,7 +9,7 @@ use Rattle.kernel_types.specs.declared.call.Call.{Call}
 use Rattle.kernel_types.specs.declared.call.Reply.{Reply}
 use Rattle.plan_words.proofs.KeyLists.{filter-push_dropped, filter-push_kept}
 use Rattle.pod_workers.specs.declared.plan.Entry.{Entry}
-use Rattle.pod_workers.specs.World.{is_of, own_entries, replies_in, replies_of, after, host_on, last_entry}
+use Rattle.pod_workers.specs.World.{is_of, own_entries, replies_in, replies_of, after, after_entry, last_entry}
 use Rattle.pod_workers.proofs.Splits.{split_nil}
 use Rattle.std.proofs.lemmas.List.Sums.{count_by-le-length, length-filter}
 use Rattle.pod_workers.proofs.Elements.{slice_get-middle}
@@ -57,9 +57,9 @@ replies_of-other n h e not = ap replies_in (own_entries-other n h e (is_of-other
 pub length-replies_of : (n : ℕ) (h : List Entry) → length (replies_of n h) ≤ length h
 length-replies_of n h = rw (length-map (own_entries n h) (λ (e : Entry). e.reply), length-filter (is_of n) h) (count_by-le-length (is_of n) h)
 
-pub after-append : (host : Host) (es : List Entry) (e : Entry) → after host (es ++ e ∷ []) ≡ host_on (after host es) e
+pub after-append : (host : Host) (es : List Entry) (e : Entry) → after host (es ++ e ∷ []) ≡ after_entry (after host es) e
 after-append host [] e = refl
-after-append host (x ∷ xs) e = after-append (host_on host x) xs e
+after-append host (x ∷ xs) e = after-append (after_entry host x) xs e
 
 -- ---- parts of a history
 

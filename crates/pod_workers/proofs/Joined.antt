@@ -9,7 +9,7 @@ use Rattle.std.proofs.lemmas.List.{drop_more, take_more}
 use Rattle.std.proofs.lemmas.Option.{none-some}
 use Rattle.cni_addr.specs.Lists.{distinct}
 use Rattle.net_conf.specs.declared.list.NetList.{NetList}
-use Rattle.plan_words.proofs.CountLemmas.{list_any-find}
+use Rattle.ip_pool.proofs.Lists.{is_some-find}
 use Rattle.pod_workers.specs.Join.{joined, plan_unless, first_repeat_after, first_without_list}
 use Rattle.pod_workers.specs.Laws.{JoinedPlansAreWellFormed}
 use Rattle.pod_workers.specs.Plans.{Placed, placed_from, IsWellFormed, commands_of, has_list, lacks_list}
@@ -67,7 +67,7 @@ apart earlier place (l ∷ ls) none =
     elim (has_list earlier l.name)
     as (λ b. has_list earlier l.name ≡ b → cond b (Some place) (first_repeat_after (earlier ++ l ∷ []) (place + 1) ls) ≡ None → AreApart earlier (l ∷ ls)) [
       | true ↦ λ is h. absurd (none-some place (sym h))
-      | false ↦ λ is h. apart-more earlier l ls (list_any-find (λ e. bytes_eq e.name l.name) earlier ∙ is) (apart (earlier ++ l ∷ []) (place + 1) ls h)
+      | false ↦ λ is h. apart-more earlier l ls (sym (is_some-find (λ e. bytes_eq e.name l.name) earlier) ∙ is) (apart (earlier ++ l ∷ []) (place + 1) ls h)
     ] refl none
 
 -- ---- what was joined

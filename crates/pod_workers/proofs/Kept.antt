@@ -4,7 +4,7 @@ use Rattle.std.specs.Prelude.{IsSome}
 use Rattle.std.proofs.lemmas.List.{length-set, length_push}
 use Rattle.std.proofs.lemmas.Option.{same_Some, none-some, slice_get_within}
 use Rattle.std.proofs.lemmas.Bool.Decides.{eqb_tells}
-use Rattle.cni_verbs.specs.Progress.{progress, advanced, turn_by}
+use Rattle.cni_verbs.specs.Progress.{Progress, RunView, progress, advanced, turn_by}
 use Rattle.cni_verbs.specs.Script.{State, turn, state_from, start_state, advance, outside_advance, outside_from, outside_start}
 use Rattle.cni_verbs.proofs.AfterReplies.{after_replies-append}
 use Rattle.cni_verbs.specs.declared.answer.Answer.{Answer}
@@ -16,17 +16,16 @@ use Rattle.pod_file.specs.declared.command.Command.{Command}
 use Rattle.pod_workers.specs.Index.{command_at_place, is_cut_by}
 use Rattle.pod_workers.specs.Legal.{Legal, steps, refused_memory}
 use Rattle.pod_workers.specs.Plans.{Placed, commands_of, list_for}
-use Rattle.pod_workers.specs.Slots.{Fits, CarriesOn, IsKept, MayBeMade, MayCarryOn, next_in, opened, opened_by, slot_after}
-use Rattle.pod_workers.specs.World.{World, IsReady, IsReadyNumber, IsUpToStop, answered, done, end_of, entry_by, entry_of, host_of, host_on, is_cut, next_by, next_of, own_replies, stepped, with_entry}
+use Rattle.pod_workers.specs.Slots.{Fits, IsKept, MayBeMade, MayStepTask, DoesNext, begun_by, begun_with, next_in}
+use Rattle.pod_workers.specs.World.{World, IsReady, IsReadyNumber, IsUpToStop, RunsOut, StepsTo, after_entry, answered, done, end_of, end_of_step, entry_by, entry_of, host_of, is_cut, next_by, next_of, own_replies, stepped, with_entry}
 use Rattle.pod_workers.specs.declared.index.Place.{Place}
 use Rattle.pod_workers.specs.declared.plan.Entry.{Entry}
 use Rattle.pod_workers.specs.declared.plan.Next.{Next}
 use Rattle.pod_workers.specs.declared.plan.Next.TheVariants as next
 use Rattle.pod_workers.specs.declared.plan.StepEnd.{StepEnd}
 use Rattle.pod_workers.specs.declared.plan.StepEnd.TheVariants as ends
-use Rattle.pod_workers.specs.declared.slots.Slot.{Slot}
-use Rattle.pod_workers.specs.declared.slots.Advance.{Advance}
-use Rattle.pod_workers.specs.declared.slots.Advance.TheVariants as advance
+use Rattle.pod_workers.specs.declared.step.Stepped.{Stepped}
+use Rattle.pod_workers.specs.declared.step.Stepped.TheVariants as step
 use Rattle.pod_workers.proofs.Facts.{none-made, within-more}
 use Rattle.pod_workers.proofs.Histories.{slice_get-set_same, slice_get-set_other, replies_of-own, replies_of-other, after-append, length-replies_of}
 use Rattle.pod_workers.proofs.ReadyByIndex.{cut-is}
@@ -59,73 +58,68 @@ unfolding turn
 turn-of None c rs = refl
 turn-of (Some list) c rs = refl
 
--- the run that was given these replies
-abbrev pub slot_at : Option NetList → Command → List Reply → Slot
-slot_at list c rs = record { run = progress list c rs; made = length rs }
+pub begun-is : (list : Option NetList) (c : Command) (rs : List Reply) (s : Option RunView) → Fits list c rs s → begun_with list c s ≡ progress list c rs
+begun-is list c rs None fits = ap (progress list c) (sym fits)
+begun-is list c rs (Some s) fits = fits.0
 
-pub opened-is : (list : Option NetList) (c : Command) (rs : List Reply) (s : Option Slot) → Fits list c rs s → opened list c s ≡ slot_at list c rs
-opened-is list c rs None fits = ap (slot_at list c) (sym fits)
-opened-is list c rs (Some s) fits = ap (λ m. record { run = s.run; made = m }) fits.0 ∙ ap (λ r. record { run = r; made = length rs }) fits.1
-
-pub within-fits : (list : Option NetList) (c : Command) (rs : List Reply) (s : Option Slot) → Fits list c rs s → IsUpToStop c.stop (length rs)
+pub within-fits : (list : Option NetList) (c : Command) (rs : List Reply) (s : Option RunView) → Fits list c rs s → IsUpToStop c.stop (length rs)
 within-fits list c rs None fits = subst (λ (q : List Reply). IsUpToStop c.stop (length q)) (sym fits) (none-made c.stop)
-within-fits list c rs (Some s) fits = subst (IsUpToStop c.stop) fits.0 fits.2
+within-fits list c rs (Some s) fits = fits.1
 
 -- ---- one step
 
 -- a command of a book that may step, with its run
-pub record IsHere (host : Host) (slots : List (Option Slot)) (places : List Place) (before : ℕ) (w : World) (n : ℕ) (c : Placed) (s : Option Slot) : Type 0 where
+pub record IsHere (host : Host) (slots : List (Option RunView)) (places : List Place) (before : ℕ) (w : World) (n : ℕ) (c : Placed) (s : Option RunView) : Type 0 where
   pub kept : IsKept host slots places before w
   pub ready : IsReady w n c
-  pub run : opened_by w.plan.lists c.command s ≡ slot_at (list_for w.plan c.command) c.command (own_replies w n)
+  pub run : begun_by w.plan.lists c.command s ≡ progress (list_for w.plan c.command) c.command (own_replies w n)
   pub within : IsUpToStop c.command.stop (length (own_replies w n))
   pub number : c.command.number ≡ n + 1
 
-pub here : (host : Host) (slots : List (Option Slot)) (places : List Place) (before : ℕ) (w : World) (n : ℕ) (c : Placed) (s : Option Slot) → IsKept host slots places before w → IsReady w n c
+pub here : (host : Host) (slots : List (Option RunView)) (places : List Place) (before : ℕ) (w : World) (n : ℕ) (c : Placed) (s : Option RunView) → IsKept host slots places before w → IsReady w n c
     → slice_get slots n ≡ Some s → IsHere host slots places before w n c s
-unfolding opened_by
+unfolding begun_by
 here host slots places before w n c s kept ready slot =
-    let fits = kept.runs n c s ready.there slot ready.unanswered in
+    let fits = kept.tasks n c ready.there s slot ready.unanswered in
     record {
       kept = kept;
       ready = ready;
-      run = ap (λ l. opened l c.command s) (list_for-found w.plan c.command) ∙ opened-is (list_for w.plan c.command) c.command (own_replies w n) s fits;
+      run = ap (λ l. begun_with l c.command s) (list_for-found w.plan c.command) ∙ begun-is (list_for w.plan c.command) c.command (own_replies w n) s fits;
       within = within-fits (list_for w.plan c.command) c.command (own_replies w n) s fits;
       number = are_numbered w.plan (fine w kept.legal).plan.pods n c ready.there;
     }
 
 -- what the run does next is the world's next
-next-here : (w : World) (n : ℕ) (c : Command) (s : Slot) (cut : Bool) → s ≡ slot_at (list_for w.plan c) c (own_replies w n) → cut ≡ is_cut w → next_in c cut s ≡ next_of w c (own_replies w n)
+next-here : (w : World) (n : ℕ) (c : Command) (s : Progress) (cut : Bool) → s ≡ progress (list_for w.plan c) c (own_replies w n) → cut ≡ is_cut w → next_in c cut s ≡ next_of w c (own_replies w n)
 unfolding next_in
 next-here w n c s cut run cut_is =
     let list = list_for w.plan c in
     let rs = own_replies w n in
-    ap (next_in c cut) run ∙ ap (λ b. next_in c b (slot_at list c rs)) cut_is ∙ ap (next_by list c (length rs) (is_cut w)) (turn-of list c rs)
+    ap (next_in c cut) run ∙ ap (λ b. next_in c b (progress list c rs)) cut_is ∙ ap (next_by list c (length rs) (is_cut w)) (turn-of list c rs)
 
 may-be-made : (w : World) (n : ℕ) (c : Placed) (x : Next) → Legal w → IsReady w n c → next_of w c.command (own_replies w n) ≡ x → MayBeMade (host_of w) x
 may-be-made w n c (next.Answer a) legal ready is = tt
 may-be-made w n c (next.Call call faulty) legal ready is = λ real. allowed_next w n c call legal ready (is ∙ ap (next.Call call) real)
 
-pub may-carry-on : (host : Host) (slots : List (Option Slot)) (places : List Place) (before : ℕ) (w : World) (n : ℕ) (c : Placed) (s : Option Slot) (cut : Bool)
+pub may-step-task : (host : Host) (slots : List (Option RunView)) (places : List Place) (before : ℕ) (w : World) (n : ℕ) (c : Placed) (s : Option RunView) (cut : Bool)
     → IsHere host slots places before w n c s → cut ≡ is_cut w → (cut ≡ true → length w.history < 2 ^ 32)
-    → MayCarryOn host w.history c.command cut (opened_by w.plan.lists c.command s)
-may-carry-on host slots places before w n c s cut h cut_is small =
+    → MayStepTask host w.history c.command cut (begun_by w.plan.lists c.command s)
+may-step-task host slots places before w n c s cut h cut_is small =
     let rs = own_replies w n in
     let list = list_for w.plan c.command in
     let few = length-replies_of n w.history in
-    let P : Slot → Type 0 = MayCarryOn host w.history c.command cut in
-    let Q : Host → Type 0 = λ k. MayBeMade k (next_in c.command cut (slot_at list c.command rs)) in
-    let made = subst (MayBeMade (host_of w)) (sym (next-here w n c.command (slot_at list c.command rs) cut refl cut_is)) (may-be-made w n c (next_of w c.command rs) h.kept.legal h.ready refl) in
+    let P : Progress → Type 0 = MayStepTask host w.history c.command cut in
+    let Q : Host → Type 0 = λ k. MayBeMade k (next_in c.command cut (progress list c.command rs)) in
+    let made = subst (MayBeMade (host_of w)) (sym (next-here w n c.command (progress list c.command rs) cut refl cut_is)) (may-be-made w n c (next_of w c.command rs) h.kept.legal h.ready refl) in
     subst P (sym h.run) (record {
       of_command = refl;
-      counted = refl;
       few = few;
       countable = (h.within, λ is. let less = small is in omega arith);
       allowed = subst Q (sym h.kept.host_is) made;
     })
 
 -- an answer leaves the host and all other runs
-answer_keeps : (host : Host) (slots : List (Option Slot)) (places : List Place) (before : ℕ) (w : World) (n : ℕ) (c : Placed) (a : Answer) → IsKept host slots places before w → IsReady w n c → Legal (answered w n a)
+answer_keeps : (host : Host) (slots : List (Option RunView)) (places : List Place) (before : ℕ) (w : World) (n : ℕ) (c : Placed) (a : Answer) → IsKept host slots places before w → IsReady w n c → Legal (answered w n a)
     → IsKept host (slice_set slots n None) places before (answered w n a)
 answer_keeps host slots places before w n c a kept ready legal = record {
   legal = legal;
@@ -133,30 +127,30 @@ answer_keeps host slots places before w n c a kept ready legal = record {
   slots_long = length-set slots n None ∙ kept.slots_long;
   answers_long = length-set w.answers n (Some a) ∙ kept.answers_long;
   index = kept.index;
-  runs = λ m d o at_m slot_m open_m. elim (eqb_tells m n) [
+  tasks = λ m d at_m o slot_m open_m. elim (eqb_tells m n) [
     | inl t ↦
         let same = slice_get-set_same w.answers n (Some a) (slice_get_within w.answers n None ready.unanswered) in
         absurd (none-some a (same_Some None (Some a) (sym open_m ∙ ap (slice_get (slice_set w.answers n (Some a))) t.1 ∙ same)))
-    | inr f ↦ kept.runs m d o at_m (sym (slice_get-set_other slots n m None f.1) ∙ slot_m) (sym (slice_get-set_other w.answers n m (Some a) f.1) ∙ open_m)
+    | inr f ↦ kept.tasks m d at_m o (sym (slice_get-set_other slots n m None f.1) ∙ slot_m) (sym (slice_get-set_other w.answers n m (Some a) f.1) ∙ open_m)
   ];
   before_is = kept.before_is;
   round_within = kept.round_within;
 }
 
 -- a call moves the host, and its own run alone
-call_keeps : (host : Host) (slots : List (Option Slot)) (places : List Place) (before : ℕ) (w : World) (n : ℕ) (c : Placed) (e : Entry) (s : Slot)
+call_keeps : (host : Host) (slots : List (Option RunView)) (places : List Place) (before : ℕ) (w : World) (n : ℕ) (c : Placed) (e : Entry) (s : RunView)
     → IsKept host slots places before w → IsReady w n c → Legal (with_entry w e) → e.command ≡ n + 1
     → Fits (list_for w.plan c.command) c.command (own_replies w n ++ e.reply ∷ []) (Some s)
-    → IsKept (host_on host e) (slice_set slots n (Some s)) places before (with_entry w e)
+    → IsKept (after_entry host e) (slice_set slots n (Some s)) places before (with_entry w e)
 call_keeps host slots places before w n c e s kept ready legal own fits =
     let within : n < length slots = rw kept.slots_long (slice_get_within (commands_of w.plan) n c ready.there) in
     record {
       legal = legal;
-      host_is = ap (λ h. host_on h e) kept.host_is ∙ sym (after-append w.plan.pods.opening w.history e);
+      host_is = ap (λ h. after_entry h e) kept.host_is ∙ sym (after-append w.plan.pods.opening w.history e);
       slots_long = length-set slots n (Some s) ∙ kept.slots_long;
       answers_long = kept.answers_long;
       index = kept.index;
-      runs = λ m d o at_m slot_m open_m. elim (eqb_tells m n) [
+      tasks = λ m d at_m o slot_m open_m. elim (eqb_tells m n) [
         | inl t ↦
             let same_d : d ≡ c = same_Some d c (sym at_m ∙ ap (slice_get (commands_of w.plan)) t.1 ∙ ready.there) in
             let same_o : o ≡ Some s = same_Some o (Some s) (sym slot_m ∙ ap (slice_get (slice_set slots n (Some s))) t.1 ∙ slice_get-set_same slots n (Some s) within) in
@@ -164,7 +158,7 @@ call_keeps host slots places before w n c e s kept ready legal own fits =
         | inr f ↦
             let other = f.1 in
             subst (λ rs. Fits (list_for w.plan d.command) d.command rs o) (sym (replies_of-other m w.history e (λ k. other (omega arith))))
-            (kept.runs m d o at_m (sym (slice_get-set_other slots n m (Some s) other) ∙ slot_m) open_m)
+            (kept.tasks m d at_m o (sym (slice_get-set_other slots n m (Some s) other) ∙ slot_m) open_m)
       ];
       before_is = kept.before_is;
       round_within = kept.round_within;
@@ -173,19 +167,19 @@ call_keeps host slots places before w n c e s kept ready legal own fits =
 -- ---- a step as it was done
 
 -- what a step leaves, where the run goes on
-pub record IsLeft (host : Host) (slots : List (Option Slot)) (places : List Place) (before : ℕ) (w v : World) (n : ℕ) (c : Command) (end : StepEnd) : Type 0 where
+pub record IsLeft (host : Host) (slots : List (Option RunView)) (places : List Place) (before : ℕ) (w v : World) (n : ℕ) (c : Command) (end : StepEnd) : Type 0 where
   pub kept : IsKept host slots places before v
   pub made : v ≡ stepped w n c
-  pub end_is : end ≡ end_of (next_of w c (own_replies w n))
+  pub end_is : end ≡ end_of_step w n c
 
 abbrev pub world_with : World → List Entry → List (Option Answer) → World
 world_with w h answers = record { plan = w.plan; history = h; answers = answers; round = w.round }
 
-went-by : (host host' : Host) (slots : List (Option Slot)) (places : List Place) (before : ℕ) (w : World) (n : ℕ) (c : Placed) (h' : List Entry) (t : Slot) (x : Next)
+went-by : (host host' : Host) (slots : List (Option RunView)) (places : List Place) (before : ℕ) (w : World) (n : ℕ) (c : Placed) (h' : List Entry) (t : RunView) (x : Next)
     → IsKept host slots places before w → IsReady w n c → c.command.number ≡ n + 1 → next_of w c.command (own_replies w n) ≡ x
-    → CarriesOn host host' w.history h' c.command (slot_at (list_for w.plan c.command) c.command (own_replies w n)) x (advance.Went t)
+    → DoesNext host host' w.history h' c.command (progress (list_for w.plan c.command) c.command (own_replies w n)) x (step.Called t)
     → IsLeft host' (slice_set slots n (Some t)) places before w (world_with w h' w.answers) n c.command ends.Went
-unfolding CarriesOn
+unfolding DoesNext
 went-by host host' slots places before w n c h' t (next.Answer a) kept ready number is d = absurd d
 went-by host host' slots places before w n c h' t (next.Call call faulty) kept ready number is d =
     let rs = own_replies w n in
@@ -196,20 +190,20 @@ went-by host host' slots places before w n c h' t (next.Call call faulty) kept r
     let made : with_entry w e ≡ stepped w n c.command = ap (with_entry w) same_entry ∙ sym (ap (done w n) is) in
     let legal : Legal (with_entry w e) = steps w (with_entry w e) n c kept.legal ready made in
     let more = length_push rs e.reply in
-    let fits : Fits list c.command (rs ++ e.reply ∷ []) (Some (slot_after (slot_at list c.command rs) e.reply)) =
-    (sym more, sym (progress-append list c.command rs e.reply), within-more c.command.stop (length rs) (goes_in w n c.command call faulty is).no_stop) in
-    let still = call_keeps host slots places before w n c e (slot_after (slot_at list c.command rs) e.reply) kept ready legal number fits in
+    let fits : Fits list c.command (rs ++ e.reply ∷ []) (Some t) =
+    (d.0 ∙ sym (progress-append list c.command rs e.reply), subst (IsUpToStop c.command.stop) (sym more) (within-more c.command.stop (length rs) (goes_in w n c.command call faulty is).no_stop)) in
+    let still = call_keeps host slots places before w n c e t kept ready legal number fits in
     record {
-      kept = rw (d.0, d.1, d.2) still;
+      kept = rw (d.1, d.2) still;
       made = ap (λ h. world_with w h w.answers) d.2 ∙ made;
       end_is = sym (ap end_of is);
     }
 
-over-by : (host host' : Host) (slots : List (Option Slot)) (places : List Place) (before : ℕ) (w : World) (n : ℕ) (c : Placed) (h' : List Entry) (b : Answer) (x : Next)
+over-by : (host host' : Host) (slots : List (Option RunView)) (places : List Place) (before : ℕ) (w : World) (n : ℕ) (c : Placed) (h' : List Entry) (b : Answer) (x : Next)
     → IsKept host slots places before w → IsReady w n c → next_of w c.command (own_replies w n) ≡ x
-    → CarriesOn host host' w.history h' c.command (slot_at (list_for w.plan c.command) c.command (own_replies w n)) x (advance.Over b)
+    → DoesNext host host' w.history h' c.command (progress (list_for w.plan c.command) c.command (own_replies w n)) x (step.Answered b)
     → IsLeft host' (slice_set slots n None) places before w (world_with w h' (slice_set w.answers n (Some b))) n c.command ends.Over
-unfolding CarriesOn
+unfolding DoesNext
 over-by host host' slots places before w n c h' b (next.Call call faulty) kept ready is d = absurd d
 over-by host host' slots places before w n c h' b (next.Answer a) kept ready is d =
     let made : answered w n b ≡ stepped w n c.command = ap (answered w n) d.0 ∙ sym (ap (done w n) is) in
@@ -220,28 +214,28 @@ over-by host host' slots places before w n c h' b (next.Answer a) kept ready is 
       end_is = sym (ap end_of is);
     }
 
-done-at : (host host' : Host) (w : World) (n : ℕ) (c : Command) (s : Slot) (cut : Bool) (h' : List Entry) (o : Advance) → s ≡ slot_at (list_for w.plan c) c (own_replies w n) → cut ≡ is_cut w
-    → CarriesOn host host' w.history h' c s (next_in c cut s) o → CarriesOn host host' w.history h' c (slot_at (list_for w.plan c) c (own_replies w n)) (next_of w c (own_replies w n)) o
+done-at : (host host' : Host) (w : World) (n : ℕ) (c : Command) (s : Progress) (cut : Bool) (h' : List Entry) (o : Stepped) → s ≡ progress (list_for w.plan c) c (own_replies w n) → cut ≡ is_cut w
+    → DoesNext host host' w.history h' c s (next_in c cut s) o → DoesNext host host' w.history h' c (progress (list_for w.plan c) c (own_replies w n)) (next_of w c (own_replies w n)) o
 done-at host host' w n c s cut h' o run cut_is d =
-    subst (λ x. CarriesOn host host' w.history h' c (slot_at (list_for w.plan c) c (own_replies w n)) x o) (next-here w n c s cut run cut_is)
-    (subst (λ t. CarriesOn host host' w.history h' c t (next_in c cut s) o) run d)
+    subst (λ x. DoesNext host host' w.history h' c (progress (list_for w.plan c) c (own_replies w n)) x o) (next-here w n c s cut run cut_is)
+    (subst (λ t. DoesNext host host' w.history h' c t (next_in c cut s) o) run d)
 
-pub went-here : (host host' : Host) (slots : List (Option Slot)) (places : List Place) (before : ℕ) (w : World) (n : ℕ) (c : Placed) (s : Option Slot) (cut : Bool) (h' : List Entry) (t : Slot)
+pub went-here : (host host' : Host) (slots : List (Option RunView)) (places : List Place) (before : ℕ) (w : World) (n : ℕ) (c : Placed) (s : Option RunView) (cut : Bool) (h' : List Entry) (t : RunView)
     → IsHere host slots places before w n c s → cut ≡ is_cut w
-    → CarriesOn host host' w.history h' c.command (opened_by w.plan.lists c.command s) (next_in c.command cut (opened_by w.plan.lists c.command s)) (advance.Went t)
+    → DoesNext host host' w.history h' c.command (begun_by w.plan.lists c.command s) (next_in c.command cut (begun_by w.plan.lists c.command s)) (step.Called t)
     → IsLeft host' (slice_set slots n (Some t)) places before w (world_with w h' w.answers) n c.command ends.Went
 went-here host host' slots places before w n c s cut h' t h cut_is d =
-    went-by host host' slots places before w n c h' t _ h.kept h.ready h.number refl (done-at host host' w n c.command (opened_by w.plan.lists c.command s) cut h' (advance.Went t) h.run cut_is d)
+    went-by host host' slots places before w n c h' t _ h.kept h.ready h.number refl (done-at host host' w n c.command (begun_by w.plan.lists c.command s) cut h' (step.Called t) h.run cut_is d)
 
-pub over-here : (host host' : Host) (slots : List (Option Slot)) (places : List Place) (before : ℕ) (w : World) (n : ℕ) (c : Placed) (s : Option Slot) (cut : Bool) (h' : List Entry) (b : Answer)
+pub over-here : (host host' : Host) (slots : List (Option RunView)) (places : List Place) (before : ℕ) (w : World) (n : ℕ) (c : Placed) (s : Option RunView) (cut : Bool) (h' : List Entry) (b : Answer)
     → IsHere host slots places before w n c s → cut ≡ is_cut w
-    → CarriesOn host host' w.history h' c.command (opened_by w.plan.lists c.command s) (next_in c.command cut (opened_by w.plan.lists c.command s)) (advance.Over b)
+    → DoesNext host host' w.history h' c.command (begun_by w.plan.lists c.command s) (next_in c.command cut (begun_by w.plan.lists c.command s)) (step.Answered b)
     → IsLeft host' (slice_set slots n None) places before w (world_with w h' (slice_set w.answers n (Some b))) n c.command ends.Over
 over-here host host' slots places before w n c s cut h' b h cut_is d =
-    over-by host host' slots places before w n c h' b _ h.kept h.ready refl (done-at host host' w n c.command (opened_by w.plan.lists c.command s) cut h' (advance.Over b) h.run cut_is d)
+    over-by host host' slots places before w n c h' b _ h.kept h.ready refl (done-at host host' w n c.command (begun_by w.plan.lists c.command s) cut h' (step.Answered b) h.run cut_is d)
 
 -- want of memory answers, and leaves the host
-pub refused-here : (host host' : Host) (slots : List (Option Slot)) (places : List Place) (before : ℕ) (w : World) (n : ℕ) (c : Placed) (s : Option Slot) (h' : List Entry) → IsHere host slots places before w n c s
+pub refused-here : (host host' : Host) (slots : List (Option RunView)) (places : List Place) (before : ℕ) (w : World) (n : ℕ) (c : Placed) (s : Option RunView) (h' : List Entry) → IsHere host slots places before w n c s
     → host' ≡ host → h' ≡ w.history → IsKept host' (slice_set slots n None) places before (world_with w h' (slice_set w.answers n (Some OutOfMemory)))
 refused-here host host' slots places before w n c s h' h same_host same_history =
     let still = answer_keeps host slots places before w n c OutOfMemory h.kept h.ready (refused_memory w (answered w n OutOfMemory) n c h.kept.legal h.ready refl) in
@@ -250,14 +244,14 @@ refused-here host host' slots places before w n c s h' h same_host same_history 
 -- ---- the step of a book
 
 -- the command that a step found by the index is the ready one
-pub record IsFound (host : Host) (slots : List (Option Slot)) (places : List Place) (before : ℕ) (w : World) (number n : ℕ) (s : Option Slot) (of : Command) : Type 0 where
+pub record IsFound (host : Host) (slots : List (Option RunView)) (places : List Place) (before : ℕ) (w : World) (number n : ℕ) (s : Option RunView) (of : Command) : Type 0 where
   pub command : Placed
   pub here : IsHere host slots places before w n command s
   pub of_is : of ≡ command.command
   pub number_is : number ≡ n + 1
 
 -- by what the code reads: places and rounds that are the book's
-pub found : {host : Host} {slots : List (Option Slot)} {places seen : List Place} {before : ℕ} {w v : World} {number : ℕ} {p : Place} {s : Option Slot} {rounds : List (List Command)} {of : Command}
+pub found : {host : Host} {slots : List (Option RunView)} {places seen : List Place} {before : ℕ} {w v : World} {number : ℕ} {p : Place} {s : Option RunView} {rounds : List (List Command)} {of : Command}
     → IsKept host slots places before w → w ≡ v → IsReadyNumber v number → seen ≡ places → slice_get seen (number - 1) ≡ Some p → rounds ≡ w.plan.pods.rounds → command_at_place rounds p ≡ Some of → slice_get slots (number - 1) ≡ Some s
     → IsFound host slots places before w number (number - 1) s of
 found {host} {slots} {places} {seen} {before} {w} {v} {number} {p} {s} {rounds} {of} kept same ready seen_is at_n rounds_is command slot =
@@ -278,60 +272,52 @@ found {host} {slots} {places} {seen} {before} {w} {v} {number} {p} {s} {rounds} 
 pub cut-by : (stop : Option ℕ) (round : ℕ) {h k : List Entry} {places seen : List Place} {cut : Bool} → cut ≡ is_cut_by stop h seen round → h ≡ k → seen ≡ places → cut ≡ is_cut_by stop k places round
 cut-by stop round {h} {k} {places} {seen} {cut} is h_is seen_is = is ∙ ap (λ l. is_cut_by stop l seen round) h_is ∙ ap (λ ps. is_cut_by stop k ps round) seen_is
 
-pub found-may : (host : Host) (slots : List (Option Slot)) (places : List Place) (before : ℕ) (w : World) (number n : ℕ) (s : Option Slot) (of : Command) (cut : Bool) → IsFound host slots places before w number n s of
-    → cut ≡ is_cut_by w.plan.stop_at w.history places w.round → (cut ≡ true → length w.history < 2 ^ 32) → MayCarryOn host w.history of cut (opened_by w.plan.lists of s)
+pub found-may : (host : Host) (slots : List (Option RunView)) (places : List Place) (before : ℕ) (w : World) (number n : ℕ) (s : Option RunView) (of : Command) (cut : Bool) → IsFound host slots places before w number n s of
+    → cut ≡ is_cut_by w.plan.stop_at w.history places w.round → (cut ≡ true → length w.history < 2 ^ 32) → MayStepTask host w.history of cut (begun_by w.plan.lists of s)
 found-may host slots places before w number n s of cut f cut_is small =
-    subst (λ k. MayCarryOn host w.history k cut (opened_by w.plan.lists k s)) (sym f.of_is)
-    (may-carry-on host slots places before w n f.command s cut f.here (cut-is w places cut f.here.kept.index cut_is) small)
+    subst (λ k. MayStepTask host w.history k cut (begun_by w.plan.lists k s)) (sym f.of_is)
+    (may-step-task host slots places before w n f.command s cut f.here (cut-is w places cut f.here.kept.index cut_is) small)
 
-pub found-went : (host host' : Host) (slots : List (Option Slot)) (places : List Place) (before : ℕ) (w : World) (number n : ℕ) (s : Option Slot) (of : Command) (cut : Bool) (h' : List Entry) (o : Advance) (t : Slot)
+pub found-went : (host host' : Host) (slots : List (Option RunView)) (places : List Place) (before : ℕ) (w : World) (number n : ℕ) (s : Option RunView) (of : Command) (cut : Bool) (h' : List Entry) (o : Stepped) (t : RunView)
     → IsFound host slots places before w number n s of → cut ≡ is_cut_by w.plan.stop_at w.history places w.round
-    → CarriesOn host host' w.history h' of (opened_by w.plan.lists of s) (next_in of cut (opened_by w.plan.lists of s)) o → o ≡ advance.Went t
+    → DoesNext host host' w.history h' of (begun_by w.plan.lists of s) (next_in of cut (begun_by w.plan.lists of s)) o → o ≡ step.Called t
     → (c : Placed) × (slice_get (commands_of w.plan) n ≡ Some c) × IsLeft host' (slice_set slots n (Some t)) places before w (world_with w h' w.answers) n c.command ends.Went
 found-went host host' slots places before w number n s of cut h' o t f cut_is d o_is =
-    let e = subst (λ k. CarriesOn host host' w.history h' k (opened_by w.plan.lists k s) (next_in k cut (opened_by w.plan.lists k s)) o) f.of_is d in
-    let g = subst (CarriesOn host host' w.history h' f.command.command (opened_by w.plan.lists f.command.command s) (next_in f.command.command cut (opened_by w.plan.lists f.command.command s))) o_is e in
+    let e = subst (λ k. DoesNext host host' w.history h' k (begun_by w.plan.lists k s) (next_in k cut (begun_by w.plan.lists k s)) o) f.of_is d in
+    let g = subst (DoesNext host host' w.history h' f.command.command (begun_by w.plan.lists f.command.command s) (next_in f.command.command cut (begun_by w.plan.lists f.command.command s))) o_is e in
     (f.command, f.here.ready.there, went-here host host' slots places before w n f.command s cut h' t f.here (cut-is w places cut f.here.kept.index cut_is) g)
 
-pub found-over : (host host' : Host) (slots : List (Option Slot)) (places : List Place) (before : ℕ) (w : World) (number n : ℕ) (s : Option Slot) (of : Command) (cut : Bool) (h' : List Entry) (o : Advance) (b : Answer)
+pub found-over : (host host' : Host) (slots : List (Option RunView)) (places : List Place) (before : ℕ) (w : World) (number n : ℕ) (s : Option RunView) (of : Command) (cut : Bool) (h' : List Entry) (o : Stepped) (b : Answer)
     → IsFound host slots places before w number n s of → cut ≡ is_cut_by w.plan.stop_at w.history places w.round
-    → CarriesOn host host' w.history h' of (opened_by w.plan.lists of s) (next_in of cut (opened_by w.plan.lists of s)) o → o ≡ advance.Over b
+    → DoesNext host host' w.history h' of (begun_by w.plan.lists of s) (next_in of cut (begun_by w.plan.lists of s)) o → o ≡ step.Answered b
     → (c : Placed) × (slice_get (commands_of w.plan) n ≡ Some c) × IsLeft host' (slice_set slots n None) places before w (world_with w h' (slice_set w.answers n (Some b))) n c.command ends.Over
 found-over host host' slots places before w number n s of cut h' o b f cut_is d o_is =
-    let e = subst (λ k. CarriesOn host host' w.history h' k (opened_by w.plan.lists k s) (next_in k cut (opened_by w.plan.lists k s)) o) f.of_is d in
-    let g = subst (CarriesOn host host' w.history h' f.command.command (opened_by w.plan.lists f.command.command s) (next_in f.command.command cut (opened_by w.plan.lists f.command.command s))) o_is e in
+    let e = subst (λ k. DoesNext host host' w.history h' k (begun_by w.plan.lists k s) (next_in k cut (begun_by w.plan.lists k s)) o) f.of_is d in
+    let g = subst (DoesNext host host' w.history h' f.command.command (begun_by w.plan.lists f.command.command s) (next_in f.command.command cut (begun_by w.plan.lists f.command.command s))) o_is e in
     (f.command, f.here.ready.there, over-here host host' slots places before w n f.command s cut h' b f.here (cut-is w places cut f.here.kept.index cut_is) g)
 
-pub found-refused : (host host' : Host) (slots : List (Option Slot)) (places : List Place) (before : ℕ) (w : World) (number n : ℕ) (s : Option Slot) (of : Command) (h' : List Entry) → IsFound host slots places before w number n s of
+pub found-refused : (host host' : Host) (slots : List (Option RunView)) (places : List Place) (before : ℕ) (w : World) (number n : ℕ) (s : Option RunView) (of : Command) (h' : List Entry) → IsFound host slots places before w number n s of
     → (host' ≡ host) × (h' ≡ w.history) → IsKept host' (slice_set slots n None) places before (world_with w h' (slice_set w.answers n (Some OutOfMemory)))
 found-refused host host' slots places before w number n s of h' f same = refused-here host host' slots places before w n f.command s h' f.here same.0 same.1
 
 -- what a step left is what the contract of a step says
-pub left-stepped : (host : Host) (slots : List (Option Slot)) (places : List Place) (before : ℕ) (w v u : World) (number n : ℕ) (end : StepEnd)
-    → number ≡ n + 1 → w ≡ v → (c : Placed) × (slice_get (commands_of w.plan) n ≡ Some c) × IsLeft host slots places before w u n c.command end
-    → (m : ℕ) (d : Placed) → number ≡ m + 1 → slice_get (commands_of v.plan) m ≡ Some d → u ≡ stepped v m d.command
-left-stepped host slots places before w v u number n end number_is same left m d is at_m =
+pub left-steps : (host : Host) (slots : List (Option RunView)) (places : List Place) (before : ℕ) (w v u : World) (number n : ℕ) (end : StepEnd)
+    → number ≡ n + 1 → w ≡ v → (c : Placed) × (slice_get (commands_of w.plan) n ≡ Some c) × IsLeft host slots places before w u n c.command end → StepsTo v u number end
+left-steps host slots places before w v u number n end number_is same left = λ m d is at_m.
     let same_n : n ≡ m = omega arith in
-    let same_c : left.0 ≡ d = same_Some left.0 d (sym left.1 ∙ ap (λ k. slice_get (commands_of w.plan) k) same_n ∙ ap (λ (x : World). slice_get (commands_of x.plan) m) same ∙ at_m) in
-    left.2.made ∙ ap (λ (x : World). stepped x n left.0.command) same ∙ ap (λ k. stepped v k left.0.command) same_n ∙ ap (λ (x : Placed). stepped v m x.command) same_c
+    let same_c : left.0 ≡ d = same_Some left.0 d (sym left.1 ∙ ap (λ k. slice_get (commands_of w.plan) k) same_n ∙ ap (λ (x : World). slice_get (commands_of x.plan) m) same ∙ at_m) in (
+      left.2.made ∙ ap (λ (x : World). stepped x n left.0.command) same ∙ ap (λ k. stepped v k left.0.command) same_n ∙ ap (λ (x : Placed). stepped v m x.command) same_c,
+      left.2.end_is ∙ ap (λ (x : World). end_of_step x n left.0.command) same ∙ ap (λ k. end_of_step v k left.0.command) same_n ∙ ap (λ (x : Placed). end_of_step v m x.command) same_c,
+    )
 
-pub left-end : (host : Host) (slots : List (Option Slot)) (places : List Place) (before : ℕ) (w v u : World) (number n : ℕ) (end : StepEnd)
-    → number ≡ n + 1 → w ≡ v → (c : Placed) × (slice_get (commands_of w.plan) n ≡ Some c) × IsLeft host slots places before w u n c.command end
-    → (m : ℕ) (d : Placed) → number ≡ m + 1 → slice_get (commands_of v.plan) m ≡ Some d → end ≡ end_of (next_of v d.command (own_replies v m))
-left-end host slots places before w v u number n end number_is same left m d is at_m =
-    let same_n : n ≡ m = omega arith in
-    let same_c : left.0 ≡ d = same_Some left.0 d (sym left.1 ∙ ap (λ k. slice_get (commands_of w.plan) k) same_n ∙ ap (λ (x : World). slice_get (commands_of x.plan) m) same ∙ at_m) in
-    left.2.end_is ∙ ap (λ (x : World). end_of (next_of x left.0.command (own_replies x n))) same ∙ ap (λ k. end_of (next_of v left.0.command (own_replies v k))) same_n
-    ∙ ap (λ (x : Placed). end_of (next_of v x.command (own_replies v m))) same_c
-
-pub refused-answered : (w v : World) (number n : ℕ) (h' : List Entry) → number ≡ n + 1 → w ≡ v → h' ≡ w.history → (m : ℕ) → number ≡ m + 1 → world_with w h' (slice_set w.answers n (Some OutOfMemory)) ≡ answered v m OutOfMemory
-refused-answered w v number n h' number_is same history m is =
+pub refused-runs_out : (w v : World) (number n : ℕ) (h' : List Entry) → number ≡ n + 1 → w ≡ v → h' ≡ w.history → RunsOut v (world_with w h' (slice_set w.answers n (Some OutOfMemory))) number
+refused-runs_out w v number n h' number_is same history = λ m d is at_m.
     let same_n : n ≡ m = omega arith in
     ap (λ h. world_with w h (slice_set w.answers n (Some OutOfMemory))) history ∙ ap (λ k. answered w k OutOfMemory) same_n ∙ ap (λ (x : World). answered x m OutOfMemory) same
 
 -- ---- what a ready number gives the code
 
-pub number-within : (host : Host) (slots : List (Option Slot)) (places : List Place) (before : ℕ) (w v : World) (number : ℕ) → IsKept host slots places before w → w ≡ v → IsReadyNumber v number
+pub number-within : (host : Host) (slots : List (Option RunView)) (places : List Place) (before : ℕ) (w v : World) (number : ℕ) → IsKept host slots places before w → w ≡ v → IsReadyNumber v number
     → (1 ≤ number) × (number - 1 < length places) × (number - 1 < length slots) × (number - 1 < length w.answers)
 number-within host slots places before w v number kept same ready =
     let r = subst (λ u. IsReadyNumber u number) (sym same) ready in
@@ -342,7 +328,7 @@ number-within host slots places before w v number kept same ready =
     let d = kept.answers_long in
     (omega arith, omega arith, omega arith, omega arith)
 
-pub number-command : (host : Host) (slots : List (Option Slot)) (places : List Place) (before : ℕ) (w v : World) (number : ℕ) (p : Place) → IsKept host slots places before w → w ≡ v → IsReadyNumber v number
+pub number-command : (host : Host) (slots : List (Option RunView)) (places : List Place) (before : ℕ) (w v : World) (number : ℕ) (p : Place) → IsKept host slots places before w → w ≡ v → IsReadyNumber v number
     → slice_get places (number - 1) ≡ Some p → IsSome (command_at_place w.plan.pods.rounds p)
 number-command host slots places before w v number p kept same ready at_n =
     let r = subst (λ u. IsReadyNumber u number) (sym same) ready in

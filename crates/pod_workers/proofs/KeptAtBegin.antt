@@ -3,6 +3,7 @@ use Rattle.std.proofs.Common.{◌≡◌, ℕ, zero, suc, List, [], ◌∷◌, le
 use Rattle.std.specs.Prelude.{replicate}
 use Rattle.std.proofs.lemmas.List.{length-map, length-replicate}
 use Rattle.std.proofs.lemmas.Option.{same_Some, none-some}
+use Rattle.cni_verbs.specs.Progress.{RunView}
 use Rattle.cni_verbs.specs.declared.answer.Answer.{Answer}
 use Rattle.kernel_types.specs.declared.object.Host.{Host}
 use Rattle.net_conf.specs.declared.list.NetList.{NetList}
@@ -15,7 +16,6 @@ use Rattle.pod_workers.specs.World.{AllNone, begun}
 use Rattle.pod_workers.specs.declared.index.Place.{Place}
 use Rattle.pod_workers.specs.declared.plan.Entry.{Entry}
 use Rattle.pod_workers.specs.declared.plan.Plan.{Plan}
-use Rattle.pod_workers.specs.declared.slots.Slot.{Slot}
 
 replicate-none : {X : Type 0} (n : ℕ) (i : ℕ) (o : Option X) → slice_get (replicate n None) i ≡ Some o → o ≡ None
 replicate-none zero i o is = absurd (none-some o is)
@@ -35,7 +35,7 @@ is-begun p well = record { plan = well; empty = refl; long = length-map (command
 blank-answers : (xs : List Placed) (n : ℕ) → n ≡ length xs → replicate {A = Option Answer} n None ≡ map (λ (c : Placed). None) xs
 blank-answers xs n is = ap (λ k. replicate k None) is ∙ blanks-of xs
 
-fits-blank : (list : Option NetList) (c : Command) (s : Option Slot) → s ≡ None → Fits list c [] s
+fits-blank : (list : Option NetList) (c : Command) (s : Option RunView) → s ≡ None → Fits list c [] s
 fits-blank list c s is = rw is refl
 
 begun-kept : (p : Plan) (host : Host) (places : List Place) (count : ℕ) → IsWellFormed p → host ≡ p.pods.opening → IsIndex p.pods.rounds (commands_of p) places → count ≡ length places
@@ -46,7 +46,7 @@ begun-kept p host places count well host_is index count_is = record {
   slots_long = length-replicate count None ∙ count_is ∙ index.long;
   answers_long = length-map (commands_of p) _;
   index = index;
-  runs = λ n c s at_n slot_n open_n. fits-blank _ c.command s (replicate-none count n s slot_n);
+  tasks = λ n c at_n s slot_n open_n. fits-blank _ c.command s (replicate-none count n s slot_n);
   before_is = refl;
   round_within = omega arith;
 }
@@ -58,7 +58,7 @@ begun-is p count places history answers index count_is none blank =
     ap (λ h. record { plan = p; history = h; answers = answers; round = 0 }) none
     ∙ ap (λ a. record { plan = p; history = []; answers = a; round = 0 }) (blank ∙ blank-answers (placed_from 0 p.pods.rounds) count (count_is ∙ index.long))
 
-pub begun-here : (p : Plan) (host : Host) (count more : ℕ) (places : List Place) (history : List Entry) (answers : List (Option Answer)) (slots : List (Option Slot)) → IsWellFormed p → host ≡ p.pods.opening
+pub begun-here : (p : Plan) (host : Host) (count more : ℕ) (places : List Place) (history : List Entry) (answers : List (Option Answer)) (slots : List (Option RunView)) → IsWellFormed p → host ≡ p.pods.opening
     → IsIndex p.pods.rounds (placed_from 0 p.pods.rounds) places → count ≡ length places → more ≡ length places → history ≡ [] → answers ≡ replicate count None → slots ≡ replicate more None
     → IsKept host slots places 0 (record { plan = p; history = history; answers = answers; round = 0 })
 unfolding commands_of

@@ -2,19 +2,19 @@
 use Rattle.std.proofs.Common.{◌≡◌, ℕ, Bool, true, false, not, List, Option, Some, None, slice_get, refl, sym, ap, subst}
 use Rattle.std.specs.Prelude.{◌&&◌, is_some, if◌then◌else◌}
 use Rattle.std.proofs.lemmas.Bool.{false≢true}
-use Rattle.cni_verbs.specs.Progress.{is_gc}
+use Rattle.cni_verbs.specs.Progress.{RunView, is_gc}
 use Rattle.kernel_types.specs.declared.object.Host.{Host}
 use Rattle.net_conf.specs.declared.list.NetList.{NetList}
 use Rattle.pod_file.specs.declared.command.Command.{Command}
 use Rattle.pod_file.specs.declared.command.Verb.{Verb}
 use Rattle.pod_file.specs.declared.command.Verb.TheVariants as verbs
+use Rattle.pod_workers.specs.Laws.{EachNetworkCommandHasItsList}
 use Rattle.pod_workers.specs.Legal.{Legal}
 use Rattle.pod_file.specs.Commands.{is_of_network}
 use Rattle.pod_workers.specs.Plans.{Placed, commands_of, list_for, list_named, lacks_list}
 use Rattle.pod_workers.specs.Tasks.{IsListed}
 use Rattle.pod_workers.specs.World.{World}
 use Rattle.pod_workers.specs.declared.index.Place.{Place}
-use Rattle.pod_workers.specs.declared.slots.Slot.{Slot}
 use Rattle.pod_workers.proofs.Kept.{IsFound}
 use Rattle.pod_workers.proofs.Sound.{fine, list_all-at}
 
@@ -23,10 +23,9 @@ named-list true (Some list) network there = (list, refl)
 named-list true None network there = absurd (false≢true there)
 named-list false o network there = absurd (false≢true network)
 
--- the network of each command that speaks of one has a list
-pub listed-network : (w : World) → Legal w → (n : ℕ) (c : Placed) → slice_get (commands_of w.plan) n ≡ Some c → is_of_network c.command.verb ≡ true → (list : NetList) × (list_for w.plan c.command ≡ Some list)
+pub listed_network : EachNetworkCommandHasItsList
 unfolding list_for
-listed-network w legal n c at network =
+listed_network w legal n c at network =
     named-list (is_of_network c.command.verb) (list_named w.plan.lists c.command.network) network
     (list_all-at (λ (d : Placed). not (lacks_list w.plan.lists d.command)) (commands_of w.plan) n c (fine w legal).plan.networks at)
 
@@ -36,8 +35,8 @@ gc-of_network _ gc = cc
 
 command-listed : (w : World) → Legal w → (n : ℕ) (c : Placed) → slice_get (commands_of w.plan) n ≡ Some c → IsListed w.plan.lists c.command
 unfolding list_for
-command-listed w legal n c at gc = ap is_some (listed-network w legal n c at (gc-of_network c.command.verb gc)).1
+command-listed w legal n c at gc = ap is_some (listed_network w legal n c at (gc-of_network c.command.verb gc)).1
 
-pub found-listed : (host : Host) (slots : List (Option Slot)) (places : List Place) (before : ℕ) (w : World) (number n : ℕ) (s : Option Slot) (of : Command) → IsFound host slots places before w number n s of → IsListed w.plan.lists of
+pub found-listed : (host : Host) (slots : List (Option RunView)) (places : List Place) (before : ℕ) (w : World) (number n : ℕ) (s : Option RunView) (of : Command) → IsFound host slots places before w number n s of → IsListed w.plan.lists of
 found-listed host slots places before w number n s of f =
     subst (IsListed w.plan.lists) (sym f.of_is) (command-listed w f.here.kept.legal n f.command f.here.ready.there)

@@ -1,6 +1,7 @@
 -- An ADD makes no more calls than its list has room for, whatever addresses it is leased.
 use Rattle.std.proofs.Common.{◌≡◌, ℕ, ◌+◌, ◌*◌, ◌≤◌, Bool, true, false, List, [], ◌∷◌, ◌++◌, map, length, Option, Some, None, sym, ◌∙◌, ap, arith, mul-suc}
-use Rattle.std.specs.Prelude.{find, flat_map, sum_by, option_to_list, if◌then◌else◌}
+use Rattle.std.specs.List.{cons_option}
+use Rattle.std.specs.Prelude.{flat_map, sum_by, option_to_list, if◌then◌else◌}
 use Rattle.std.specs.Option.{option_map}
 use Rattle.std.proofs.lemmas.List.{length-append, length-map}
 use Rattle.std.proofs.lemmas.List.Sums.{sum_by-cons}
@@ -21,10 +22,8 @@ use Rattle.bridge_ptp.specs.Results.{added_default, bridge_routes}
 use Rattle.firewall_tuning.specs.Firewall.{forward_of}
 use Rattle.firewall_tuning.specs.Tuning.{link_set_calls, setting_of, sets_any, tuning_settings}
 use Rattle.host_local.specs.Conf.{ipam_of, routes_of}
-use Rattle.host_local.specs.Leases.{given_by, given_in, given_of, lease_calls_from, lease_calls_of}
-use Rattle.host_local.proofs.RowLemmas.{given_of-cons}
+use Rattle.host_local.specs.Leases.{given_by_set, given_of, lease_calls_from, lease_calls_of}
 use Rattle.host_local.specs.Results.{ip_of}
-use Rattle.ip_pool.specs.NextAddress.{is_between}
 use Rattle.kernel_types.specs.Apply.Calls.{is_same_addr, is_same_route, is_same_setting}
 use Rattle.kernel_types.specs.Equal.{rule_eq}
 use Rattle.kernel_types.specs.declared.object.Att.{Att}
@@ -42,7 +41,7 @@ use Rattle.plan_words.specs.Families.{has_family, first_of_family}
 use Rattle.plan_words.specs.Shapes.{address_on, addresses_on, forward_calls, forward_for, masquerade_of, masquerade_rules, route_on, routes_on}
 use Rattle.plan_words.proofs.KeyLists.{length-each_key_once}
 use Rattle.portmap.specs.Portmap.{dnat_of, from_host, host_ip_allows, mapping_rules, masquerades_of, portmap_rules, rules_for}
-use Rattle.cni_verbs.proofs.BackCounts.{chained-ips, first-addresses}
+use Rattle.cni_verbs.proofs.GivenAddresses.{chained-ips, first-addresses}
 use Rattle.cni_verbs.specs.CommandWords.{att_of, mappings_of}
 use Rattle.cni_verbs.specs.Script.{back_of, before_of}
 use Rattle.cni_verbs.specs.Wanted.{add_calls, all_chained_calls, back_calls, cached_of, calls_after, chained_calls, chained_result, first_plugin_result, given_by_list, sets_of}
@@ -69,6 +68,10 @@ length-one : {X Y : Type 0} (f : X → Y) (o : Option X) → length (option_to_l
 length-one f None = omega arith
 length-one f (Some x) = omega arith
 
+length-cons_option : {X : Type 0} (o : Option X) (xs : List X) → length (cons_option o xs) ≤ length xs + 1
+length-cons_option None xs = omega arith
+length-cons_option (Some x) xs = omega arith
+
 -- ---- leased addresses
 
 length-given : (sets : List RangeSet) (addrs : List Addr) → length (given_of sets addrs) ≤ length sets
@@ -76,8 +79,7 @@ length-given [] addrs = omega arith
 length-given (set ∷ sets) [] = omega arith
 length-given (set ∷ sets) (addr ∷ addrs) =
     let rest = length-given sets addrs in
-    let one = length-one (given_by addr) (find (is_between addr) set.ranges) in
-    let both = ap length (given_of-cons set sets addr addrs) ∙ length-append (given_in set addr) (given_of sets addrs) in
+    let one = length-cons_option (given_by_set set addr) (given_of sets addrs) in
     omega arith
 
 length-leases : (att : Att) (number : ℕ) (sets : List RangeSet) → length (lease_calls_from att number sets) ≡ length sets

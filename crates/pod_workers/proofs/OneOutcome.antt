@@ -123,7 +123,7 @@ replies_before w legal order before rest e n m c of_e less at =
 finished_at_end : (w : World) → IsDoneInFileOrder w → (n : ℕ) (c : Placed) → slice_get (commands_of w.plan) n ≡ Some c → IsFinished w.plan w.history n c
 finished_at_end w is n c at =
     let a = all_answered w (in_order w is.legal) is.ended n c at in
-    elim (answer_is_due w is.legal n a.0 c a.1 at) [
+    elim (answer_is_due w is.legal n c at a.0 a.1) [
       | inl scripts ↦ inl (scripts.0, scripts.1)
       | inr (inl stopped) ↦ elim stopped.1 [ inl own ↦ inr (inl (at_own_stop c.command.stop (length (own_replies w n)) own)) | inr cut ↦ inr (inr cut) ]
       | inr (inr lacking) ↦ absurd (is.had_memory n (a.1 ∙ ap (λ (x : Answer). Some (Some x)) lacking))
@@ -188,7 +188,7 @@ AnswersWith p h n c a =
     ⊎ ((call : Call) × (turn_at p h n c ≡ Calls call) × (a ≡ Stopped (length (replies_of n h))))
 
 answers_with : (w : World) → IsDoneInFileOrder w → (n : ℕ) (a : Answer) (c : Placed) → slice_get w.answers n ≡ Some (Some a) → slice_get (commands_of w.plan) n ≡ Some c → AnswersWith w.plan w.history n c a
-answers_with w is n a c at there = elim (answer_is_due w is.legal n a c at there) [
+answers_with w is n a c at there = elim (answer_is_due w is.legal n c there a at) [
   | inl scripts ↦ inl scripts
   | inr (inl stopped) ↦ inr stopped.0
   | inr (inr lacking) ↦ absurd (is.had_memory n (at ∙ ap (λ (x : Answer). Some (Some x)) lacking))

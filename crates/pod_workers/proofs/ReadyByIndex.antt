@@ -4,6 +4,7 @@ use Rattle.std.specs.Prelude.{MatchBool, ◌&&◌, is_some, if◌then◌else◌}
 use Rattle.std.proofs.lemmas.Bool.{false≢true, and_parts, cases_order, eqb-true, eq-eqb}
 use Rattle.std.specs.Option.{option_flatten}
 use Rattle.std.proofs.lemmas.Option.{same_Some, none-some, slice_get-get_or, slice_get_within}
+use Rattle.cni_verbs.specs.Progress.{RunView}
 use Rattle.cni_verbs.specs.declared.answer.Answer.{Answer}
 use Rattle.kernel_types.specs.declared.object.Host.{Host}
 use Rattle.pod_file.specs.declared.command.Command.{Command}
@@ -14,7 +15,6 @@ use Rattle.pod_workers.specs.Slots.{IsKept}
 use Rattle.pod_workers.specs.World.{World, Blocks, IsAnswered, IsReady, IsReadyNumber, at_number, cuts_round, is_cut, is_cut_at, is_entry_in, is_in_round, is_there_in, last_entry}
 use Rattle.pod_workers.specs.declared.index.Place.{Place}
 use Rattle.pod_workers.specs.declared.plan.Entry.{Entry}
-use Rattle.pod_workers.specs.declared.slots.Slot.{Slot}
 use Rattle.pod_workers.proofs.Elements.{at_number-is, numbered}
 use Rattle.pod_workers.proofs.Order.{IsInOrder, in_order, not_both}
 
@@ -99,7 +99,7 @@ placed-default [] n within = absurd (omega arith)
 placed-default (c ∷ cs) n within = c
 
 -- whether the command of this number may step
-pub ready-tells : (b : Bool) (host : Host) (slots : List (Option Slot)) (places : List Place) (before : ℕ) (w v : World) (p : Place) (number : ℕ) → IsKept host slots places before w → w ≡ v
+pub ready-tells : (b : Bool) (host : Host) (slots : List (Option RunView)) (places : List Place) (before : ℕ) (w v : World) (p : Place) (number : ℕ) → IsKept host slots places before w → w ≡ v
     → at_number places number ≡ Some p → b ≡ may_step_by p w.answers w.round (number - 1) → MatchBool b (IsReadyNumber v number) (IsReadyNumber v number → ⊥)
 ready-tells b host slots places before w v p number kept same found tells =
     let at = numbered places number p found in
@@ -112,7 +112,7 @@ ready-tells b host slots places before w v p number kept same found tells =
     (ready-by b w n c p number at.0 (in_order w kept.legal) short at_n (kept.index.each n c p at_n at.1) tells)
 
 -- a command that has a place has room for its answer
-pub place-answered : (host : Host) (slots : List (Option Slot)) (places : List Place) (before : ℕ) (w : World) (p : Place) (number : ℕ) → IsKept host slots places before w → at_number places number ≡ Some p → number - 1 < length w.answers
+pub place-answered : (host : Host) (slots : List (Option RunView)) (places : List Place) (before : ℕ) (w : World) (p : Place) (number : ℕ) → IsKept host slots places before w → at_number places number ≡ Some p → number - 1 < length w.answers
 place-answered host slots places before w p number kept found =
     let within = slice_get_within places (number - 1) p (numbered places number p found).1 in
     let a = kept.index.long in
@@ -120,7 +120,7 @@ place-answered host slots places before w p number kept found =
     omega arith
 
 -- a number with no place is no command's
-pub ready-nowhere : (host : Host) (slots : List (Option Slot)) (places : List Place) (before : ℕ) (w v : World) (number : ℕ) → IsKept host slots places before w → w ≡ v → at_number places number ≡ None → IsReadyNumber v number → ⊥
+pub ready-nowhere : (host : Host) (slots : List (Option RunView)) (places : List Place) (before : ℕ) (w v : World) (number : ℕ) → IsKept host slots places before w → w ≡ v → at_number places number ≡ None → IsReadyNumber v number → ⊥
 ready-nowhere host slots places before w v number kept same none ready =
     let r = subst (λ u. IsReadyNumber u number) (sym same) ready in
     let within = slice_get_within (commands_of w.plan) r.0 r.1 r.3.there in
@@ -149,7 +149,7 @@ entry-in-round rounds commands places round e index =
     (place-in-round rounds commands places round (e.command - 1) index (slice_get commands (e.command - 1)) refl (slice_get places (e.command - 1)) refl)
 
 -- whether an entry is of the current round
-pub round-tells : (b : Bool) (host : Host) (slots : List (Option Slot)) (places : List Place) (before : ℕ) (w v : World) (e : Entry) → IsKept host slots places before w → w ≡ v
+pub round-tells : (b : Bool) (host : Host) (slots : List (Option RunView)) (places : List Place) (before : ℕ) (w v : World) (e : Entry) → IsKept host slots places before w → w ≡ v
     → b ≡ is_entry_in (λ (p : Place). p.round) places w.round e → b ≡ is_of_round v.plan v.round e
 round-tells b host slots places before w v e kept same tells =
     subst (λ u. b ≡ is_of_round u.plan u.round e) same (tells ∙ entry-in-round w.plan.pods.rounds (commands_of w.plan) places w.round e kept.index)

@@ -1,5 +1,5 @@
 -- A round's commands are stepped to their answers one after another, and the next round is current.
-use Rattle.std.proofs.Common.{◌≡◌, ℕ, zero, suc, ◌+◌, ◌-◌, ◌<◌, ◌≤◌, true, List, [], ◌∷◌, ◌++◌, length, map, take, Option, Some, None, Result, Ok, Err, OnOk, OnErr, slice_get, refl, sym, ◌∙◌, ap, subst, arith, inl, inr}
+use Rattle.std.proofs.Common.{◌≡◌, ℕ, zero, suc, ◌+◌, ◌-◌, ◌<◌, ◌≤◌, true, List, [], ◌∷◌, ◌++◌, length, map, take, Option, Some, None, Result, Ok, Err, IfOk, OnErr, slice_get, refl, sym, ◌∙◌, ap, subst, arith, inl, inr}
 use Rattle.std.specs.List.{All}
 use Rattle.std.proofs.lemmas.List.{append-nil, append_assoc, length-append, length-map}
 use Rattle.std.proofs.lemmas.List.Elements.{All-append, All-cons, All-nil}
@@ -7,6 +7,7 @@ use Rattle.std.proofs.lemmas.Bool.{cases_lt}
 use Rattle.std.proofs.lemmas.Bool.Decides.{eqb_tells}
 use Rattle.std.proofs.lemmas.Option.{same_Some, none-some, slice_get_within}
 use Rattle.cni_addr.specs.declared.memory.NoMemory.{NoMemory}
+use Rattle.cni_verbs.specs.Progress.{RunView}
 use Rattle.cni_verbs.specs.declared.answer.Answer.{Answer}
 use Rattle.cni_verbs.specs.declared.answer.Answer.TheVariants.{OutOfMemory}
 use Rattle.kernel_types.specs.declared.object.Host.{Host}
@@ -17,14 +18,13 @@ use Rattle.pod_workers.specs.Legal.{Legal, turns}
 use Rattle.pod_workers.specs.Order.{EarlierAreAnswered, IsInFileOrder}
 use Rattle.pod_workers.specs.Plans.{Placed, commands_of, in_round, placed_from}
 use Rattle.pod_workers.specs.Slots.{AreNumbersOf, IsKept}
-use Rattle.pod_workers.specs.World.{World, IsAnswered, IsReady, IsReadyNumber, IsRoundOver, answered, done, entry_of, host_of, is_in_round, next_of, next_round, own_replies, stepped}
+use Rattle.pod_workers.specs.World.{World, IsAnswered, IsReady, IsReadyNumber, IsRoundOver, RunsOut, StepsTo, answered, done, entry_of, host_of, is_in_round, next_of, next_round, own_replies}
 use Rattle.pod_workers.specs.declared.index.Place.{Place}
 use Rattle.pod_workers.specs.declared.plan.Entry.{Entry}
 use Rattle.pod_workers.specs.declared.plan.Next.{Next}
 use Rattle.pod_workers.specs.declared.plan.Next.TheVariants as next
 use Rattle.pod_workers.specs.declared.plan.Plan.{Plan}
 use Rattle.pod_workers.specs.declared.plan.StepEnd.{StepEnd}
-use Rattle.pod_workers.specs.declared.slots.Slot.{Slot}
 use Rattle.pod_workers.proofs.FileOrder.{file_order_answered, file_order_next_round, file_order_stepped}
 use Rattle.pod_workers.proofs.Histories.{slice_get-set_other}
 use Rattle.pod_workers.proofs.Order.{in_order, not_both, open_or_answered, other_round}
@@ -99,14 +99,12 @@ done_extends w n c (next.Call call faulty) ready =
 
 -- whatever a step of a ready command gives
 abbrev pub IsStepped : Result StepEnd NoMemory → World → World → ℕ → Type 0
-IsStepped r v w number =
-    OnOk r ((n : ℕ) (c : Placed) → number ≡ n + 1 → slice_get (commands_of v.plan) n ≡ Some c → w ≡ stepped v n c.command)
-    × OnErr r ((n : ℕ) → number ≡ n + 1 → w ≡ answered v n OutOfMemory)
+IsStepped r v w number = IfOk r (StepsTo v w number) × OnErr r (RunsOut v w number)
 
 pub step_extends : (r : Result StepEnd NoMemory) (v w : World) (number : ℕ) → IsReadyNumber v number → IsStepped r v w number → Extends v w
 step_extends (Ok x) v w number ready is =
-    subst (Extends v) (sym (is.0 ready.0 ready.1 ready.2 ready.3.there)) (done_extends v ready.0 ready.1 (next_of v ready.1.command (own_replies v ready.0)) ready.3)
-step_extends (Err x) v w number ready is = subst (Extends v) (sym (is.1 ready.0 ready.2)) (answered_extends v ready.0 ready.1 OutOfMemory ready.3)
+    subst (Extends v) (sym (is.0 ready.0 ready.1 ready.2 ready.3.there).0) (done_extends v ready.0 ready.1 (next_of v ready.1.command (own_replies v ready.0)) ready.3)
+step_extends (Err x) v w number ready is = subst (Extends v) (sym (is.1 ready.0 ready.1 ready.2 ready.3.there)) (answered_extends v ready.0 ready.1 OutOfMemory ready.3)
 
 -- ---- the numbers of a round
 
@@ -145,7 +143,7 @@ later-round r (suc i) (x ∷ xs) cs is n c at_n past =
     let rest = later-round (r + 1) i xs cs is k c there (omega (arith, long)) in
     omega arith
 
-pub numbers-of : (host : Host) (slots : List (Option Slot)) (places : List Place) (before : ℕ) (w v : World) (cs : List Command) → IsKept host slots places before w → w ≡ v
+pub numbers-of : (host : Host) (slots : List (Option RunView)) (places : List Place) (before : ℕ) (w v : World) (cs : List Command) → IsKept host slots places before w → w ≡ v
     → slice_get w.plan.pods.rounds w.round ≡ Some cs → AreNumbersOf v (before + 1) (before + length cs + 1)
 numbers-of host slots places before w v cs kept same is = subst (λ u. AreNumbersOf u (before + 1) (before + length cs + 1)) same (record {
   ordered = omega arith;
@@ -168,8 +166,8 @@ abbrev pub AllBelow : World → ℕ → Type 0
 AllBelow w number = EarlierAreAnswered w (number - 1)
 
 earlier-stays : (v w : World) (n : ℕ) → Extends v w → EarlierAreAnswered v n → EarlierAreAnswered w n
-earlier-stays v w n e earlier m d less at_m current =
-    let a = earlier m d less (ap (λ p. slice_get (commands_of p) m) (sym e.plan_is) ∙ at_m) (current ∙ e.round_is) in
+earlier-stays v w n e earlier m d at_m less current =
+    let a = earlier m d (ap (λ p. slice_get (commands_of p) m) (sym e.plan_is) ∙ at_m) less (current ∙ e.round_is) in
     (a.0, e.answers_stand m a.0 a.1)
 
 -- a command of the round that may not step, though all before it are answered, has its answer
@@ -184,34 +182,34 @@ answered-then w number n c legal below not is at_n current = elim (open_or_answe
           there = at_n;
           current = current;
           unanswered = unanswered;
-          first = λ m d o less at_m answer blocks. not_both w m (below m d (omega arith) at_m blocks.0.0) (answer ∙ ap Some blocks.1);
+          first = λ m d o less at_m answer blocks. not_both w m (below m d at_m (omega arith) blocks.0.0) (answer ∙ ap Some blocks.1);
         },
       ))
   | inr a ↦ a
 ]
 
 pub below-more : (v w : World) (number : ℕ) → Extends v w → Legal w → AllBelow v number → (IsReadyNumber w number → ⊥) → AllBelow w (number + 1)
-below-more v w number e legal below not n c less at_n current =
+below-more v w number e legal below not n c at_n less current =
     let stays = earlier-stays v w (number - 1) e below in
     elim (eqb_tells (n + 1) number) [
       | inl t ↦ answered-then w number n c legal stays not (sym t.1) at_n current
-      | inr f ↦ (let other = f.1 in stays n c (omega arith) at_n current)
+      | inr f ↦ (let other = f.1 in stays n c at_n (omega arith) current)
     ]
 
 pub none-below : (w : World) (first end : ℕ) → AreNumbersOf w first end → AllBelow w first
-none-below w first end numbers n c less at_n current = absurd (let low = (numbers.all n c at_n current).0 in omega arith)
+none-below w first end numbers n c at_n less current = absurd (let low = (numbers.all n c at_n current).0 in omega arith)
 
 pub round-is-over : (v w : World) (first end number : ℕ) → AreNumbersOf v first end → Extends v w → end ≤ number → AllBelow w number → IsRoundOver w
 round-is-over v w first end number numbers e past below n c at_n current =
     let high = (numbers.all n c (ap (λ p. slice_get (commands_of p) n) (sym e.plan_is) ∙ at_n) (current ∙ e.round_is)).1 in
-    below n c (omega arith) at_n current
+    below n c at_n (omega arith) current
 
 pub rounds-from : (v w u : World) → Legal w → Extends v w → IsRoundOver w → u ≡ next_round w → Rounds v u
 rounds-from v w u legal e over is = record { last = w; legal = legal; extends = e; over = over; next_is = is }
 
 -- ---- the next round
 
-pub turned-keeps : (host : Host) (slots : List (Option Slot)) (places : List Place) (before : ℕ) (w : World) (cs : List Command) → IsKept host slots places before w → slice_get w.plan.pods.rounds w.round ≡ Some cs
+pub turned-keeps : (host : Host) (slots : List (Option RunView)) (places : List Place) (before : ℕ) (w : World) (cs : List Command) → IsKept host slots places before w → slice_get w.plan.pods.rounds w.round ≡ Some cs
     → IsRoundOver w → IsKept host slots places (before + length cs) (next_round w)
 turned-keeps host slots places before w cs kept is over =
     let within : w.round < length w.plan.pods.rounds = slice_get_within w.plan.pods.rounds w.round cs is in
@@ -225,7 +223,7 @@ turned-keeps host slots places before w cs kept is over =
       slots_long = kept.slots_long;
       answers_long = kept.answers_long;
       index = kept.index;
-      runs = kept.runs;
+      tasks = kept.tasks;
       before_is = ap (λ k. k + length cs) kept.before_is ∙ sym more ∙ ap (λ k. length (placed_from 0 (take k w.plan.pods.rounds))) next_is;
       round_within = omega arith;
     }
@@ -235,13 +233,13 @@ turned-keeps host slots places before w cs kept is over =
 pub round-there : {w v : World} {cs : List Command} → w ≡ v → slice_get v.plan.pods.rounds v.round ≡ Some cs → slice_get w.plan.pods.rounds w.round ≡ Some cs
 round-there {w} {v} {cs} same is = subst (λ u. slice_get u.plan.pods.rounds u.round ≡ Some cs) (sym same) is
 
-pub round-fits : (host : Host) (slots : List (Option Slot)) (places : List Place) (before : ℕ) (w : World) (cs : List Command) → IsKept host slots places before w → slice_get w.plan.pods.rounds w.round ≡ Some cs
+pub round-fits : (host : Host) (slots : List (Option RunView)) (places : List Place) (before : ℕ) (w : World) (cs : List Command) → IsKept host slots places before w → slice_get w.plan.pods.rounds w.round ≡ Some cs
     → (before + length cs ≤ file_limit) × (w.round < file_limit)
 round-fits host slots places before w cs kept is =
     let fits = placed-fits w.plan.pods.rounds w.round cs is in
     let all = ap length (placed-all w) in
     let bounds = few_commands w.plan (fine w kept.legal).plan.pods in
-    let rounds = (fine w kept.legal).plan.pods.few_rounds in
+    let rounds = (fine w kept.legal).plan.pods.rounds.few_rounds in
     let before_is = kept.before_is in
     let within = slice_get_within w.plan.pods.rounds w.round cs is in
     (omega (arith, fits, all, bounds, before_is), omega (arith, within, rounds))
@@ -257,8 +255,8 @@ still-left v w e less =
 step-in-order : (r : Result StepEnd NoMemory) (v w : World) (number : ℕ) → IsReadyNumber v number → IsStepped r v w number → Legal v → IsInFileOrder v
     → ((n : ℕ) → number ≡ n + 1 → EarlierAreAnswered v n) → IsInFileOrder w
 step-in-order (Ok x) v w number ready is legal order earlier =
-    subst IsInFileOrder (sym (is.0 ready.0 ready.1 ready.2 ready.3.there)) (file_order_stepped v ready.0 ready.1 legal order ready.3 (earlier ready.0 ready.2))
-step-in-order (Err x) v w number ready is legal order earlier = subst IsInFileOrder (sym (is.1 ready.0 ready.2)) (file_order_answered v ready.0 ready.1 OutOfMemory order ready.3)
+    subst IsInFileOrder (sym (is.0 ready.0 ready.1 ready.2 ready.3.there).0) (file_order_stepped v ready.0 ready.1 legal order ready.3 (earlier ready.0 ready.2))
+step-in-order (Err x) v w number ready is legal order earlier = subst IsInFileOrder (sym (is.1 ready.0 ready.1 ready.2 ready.3.there)) (file_order_answered v ready.0 ready.1 OutOfMemory order ready.3)
 
 -- one step more of the first open command keeps the file's order
 pub order-more : (r : Result StepEnd NoMemory) (u v w : World) (number : ℕ) → IsReadyNumber v number → IsStepped r v w number → Legal v → Extends u v → IsInFileOrder v
@@ -266,7 +264,7 @@ pub order-more : (r : Result StepEnd NoMemory) (u v w : World) (number : ℕ) �
 order-more r u v w number ready is legal e order earlier = step-in-order r v w number ready is legal order (λ n n_is. earlier-stays u v n e (earlier n n_is))
 
 pub below-earlier : (w : World) (number n : ℕ) → AllBelow w number → number ≡ n + 1 → EarlierAreAnswered w n
-below-earlier w number n below is m d less at_m current = below m d (omega arith) at_m current
+below-earlier w number n below is m d at_m less current = below m d at_m (omega arith) current
 
 pub turned-in-order : (w u : World) → IsInFileOrder w → u ≡ next_round w → IsInFileOrder u
 turned-in-order w u order is = subst IsInFileOrder (sym is) (file_order_next_round w order)

@@ -21,9 +21,7 @@ use Rattle.kernel_types.specs.Apply.Calls.{is_of_pool, last_leased, moved_last, 
 use Rattle.kernel_types.specs.Replies.{is_fault}
 use Rattle.kernel_types.specs.Sound.{IsSound, NoAddressTwice}
 use Rattle.kernel_types.specs.Touch.{Touches, TouchesTag}
-use Rattle.kernel_types.specs.Words.{is_own, is_owned}
 use Rattle.kernel_types.proofs.EveryCall.{IsSound-apply, Touches-apply}
-use Rattle.kernel_types.proofs.Isolation.{is_own-one}
 use Rattle.kernel_types.proofs.SoundHosts.{NoAddressTwice-sound}
 use Rattle.kernel_types.proofs.LeasedAddress.{leased-candidate}
 use Rattle.kernel_types.proofs.ListLemmas.{passes-find, passes-list_all}
@@ -38,6 +36,7 @@ use Rattle.kernel_types.specs.declared.call.Kind.{Kind}
 use Rattle.kernel_types.specs.declared.call.Kind.TheVariants as kinds
 use Rattle.kernel_types.specs.declared.call.Reply.{Reply}
 use Rattle.kernel_types.specs.declared.call.Reply.TheVariants.{Leased}
+use Rattle.plan_words.specs.PlanCalls.{is_plan_call_of}
 use Rattle.cni_verbs.specs.CommandWords.{att_of}
 use Rattle.cni_verbs.specs.declared.answer.Answer.{Answer}
 use Rattle.cni_verbs.specs.declared.answer.Answer.TheVariants.{Stopped}
@@ -48,6 +47,7 @@ use Rattle.cni_verbs.specs.Wanted.{sets_of, deletion}
 use Rattle.pod_workers.specs.Lasts.{AreLastsOfSets, IsLastOfSet}
 use Rattle.pod_workers.specs.Legal.{Legal, IsBegun, starts, steps, refused_memory, turns}
 use Rattle.pod_file.specs.Commands.{is_of_network}
+use Rattle.pod_workers.specs.PlanCalls.{IsWellFormedCall}
 use Rattle.pod_workers.specs.Plans.{Placed, IsWellFormed, list_for, list_in, list_named}
 use Rattle.pod_workers.specs.World.{World, IsReady, after, host_of, own_replies, next_by, next_of, is_cut, is_faulty, is_stop, entry_of, done}
 use Rattle.pod_workers.specs.declared.plan.Next.{Next}
@@ -154,9 +154,6 @@ lasts-touches (Outside a) old new n h = h.lasts
 
 -- ---- planned calls may be made
 
-owned : (att : Att) (t : Tag) → is_own att t ≡ true → is_owned t ≡ true
-owned att t h = ap is_owned (is_own-one att t h)
-
 -- the call may be made in this host, and after it each last is a candidate still
 abbrev pub GoesWell : Plan → Host → Call → Type 0
 GoesWell p host call = IsAllowed host call × AreLastsOfSets p (apply host call).0.lasts
@@ -165,31 +162,19 @@ stays-well : (p : Plan) (host : Host) (call : Call) → IsSound host → AreLast
 stays-well p host call sound lasts n allowed =
     (allowed, subst (AreLastsOfSets p) (sym (lasts-touches call host (apply host call).0 n (Touches-apply host call sound allowed))) lasts)
 
+-- a call that is no lease asks nothing of the host
+allowed-well_formed : (host : Host) (call : Call) → moves_last call ≡ false → IsWellFormedCall call → IsAllowed host call
+allowed-well_formed host (LeaseNext a b d) n h = absurd cc
+allowed-well_formed host _ n h = h
+
+plan-moves_none : (att : Att) (call : Call) → is_plan_call_of att call ≡ true → moves_last call ≡ false
+plan-moves_none att (LeaseNext a b d) own = cc
+plan-moves_none att _ own = refl
+
 planned-well : (p : Plan) (att : Att) (host : Host) (call : Call) → IsSound host → AreLastsOfSets p host.lasts → IsPlanned att call → GoesWell p host call
-planned-well p att host (BridgeEnsure a b d) sound lasts h = stays-well p host (BridgeEnsure a b d) sound lasts refl tt
-planned-well p att host (GatewayEnsure a b) sound lasts h = stays-well p host (GatewayEnsure a b) sound lasts refl tt
-planned-well p att host (ForwardEnsure a) sound lasts h = stays-well p host (ForwardEnsure a) sound lasts refl tt
-planned-well p att host (VethAdd a b) sound lasts h = stays-well p host (VethAdd a b) sound lasts refl h.1
-planned-well p att host (MacvlanAdd a) sound lasts h = stays-well p host (MacvlanAdd a) sound lasts refl h.1
-planned-well p att host (LinkSet a b d e f g i) sound lasts h = stays-well p host (LinkSet a b d e f g i) sound lasts refl tt
-planned-well p att host (AddrAdd a) sound lasts h = stays-well p host (AddrAdd a) sound lasts refl (owned att a.tag h.0)
-planned-well p att host (RouteAdd a) sound lasts h = stays-well p host (RouteAdd a) sound lasts refl (owned att a.tag h.0)
-planned-well p att host (RuleAppend a) sound lasts h = stays-well p host (RuleAppend a) sound lasts refl (owned att a.tag h.0)
-planned-well p att host (SettingSet a) sound lasts h = stays-well p host (SettingSet a) sound lasts refl (owned att a.tag h.0, h.1)
-planned-well p att host (CachePut a b) sound lasts h = stays-well p host (CachePut a b) sound lasts refl tt
-planned-well p att host (Begin a b) sound lasts h = absurd (let e = h.0 in cc)
-planned-well p att host (LeaseNext a b d) sound lasts h = absurd (let e = h.0 in cc)
-planned-well p att host (LinkDel a) sound lasts h = absurd (let e = h.0 in cc)
-planned-well p att host (RuleDel a) sound lasts h = absurd (let e = h.0 in cc)
-planned-well p att host (SettingDel a) sound lasts h = absurd (let e = h.0 in cc)
-planned-well p att host (LeaseDel a) sound lasts h = absurd (let e = h.0 in cc)
-planned-well p att host (CacheDel a) sound lasts h = absurd (let e = h.0 in cc)
-planned-well p att host (HasObj a) sound lasts h = absurd (let e = h.0 in cc)
-planned-well p att host (CacheGet a) sound lasts h = absurd (let e = h.0 in cc)
-planned-well p att host (OwnersOf a b) sound lasts h = absurd (let e = h.0 in cc)
-planned-well p att host (PoolFree a b) sound lasts h = absurd (let e = h.0 in cc)
-planned-well p att host (NsChange a b) sound lasts h = absurd (let e = h.0 in cc)
-planned-well p att host (Outside a) sound lasts h = absurd (let e = h.0 in cc)
+planned-well p att host call sound lasts h =
+    let none = plan-moves_none att call h.0 in
+    stays-well p host call sound lasts none (allowed-well_formed host call none h.1)
 
 deletion-well : (p : Plan) (att : Att) (host : Host) (kind : Kind) → IsSound host → AreLastsOfSets p host.lasts → GoesWell p host (deletion att kind)
 deletion-well p att host kinds.Links sound lasts = stays-well p host (LinkDel att) sound lasts refl tt

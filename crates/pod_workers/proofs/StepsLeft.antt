@@ -29,7 +29,7 @@ use Rattle.pod_workers.specs.CallCounts.{AddsInAtMost, most_calls}
 use Rattle.pod_workers.proofs.CallsLeft.{calls_left, collection_left}
 use Rattle.pod_workers.specs.Legal.{Legal}
 use Rattle.pod_workers.specs.Plans.{Placed, commands_of, list_for}
-use Rattle.pod_workers.specs.World.{World, IsReady, IsReadyNumber, answered, done, entry_of, host_of, host_on, next_of, own_replies, reply_to, with_entry}
+use Rattle.pod_workers.specs.World.{World, IsReady, IsReadyNumber, answered, done, entry_of, host_of, after_entry, next_of, own_replies, reply_to, with_entry}
 use Rattle.pod_workers.specs.declared.plan.Next.{Next}
 use Rattle.pod_workers.specs.declared.plan.Next.TheVariants as next
 use Rattle.pod_workers.specs.declared.plan.StepEnd.{StepEnd}
@@ -121,12 +121,12 @@ pub record MayGo (host : Host) (call : Call) (faulty : Bool) : Type 0 where
   pub sound : IsSound host
   pub allowed : faulty ≡ false → IsAllowed host call
 
-pub host-made : (host : Host) (n : ℕ) (call : Call) → host_on host (entry_of host n call false) ≡ (apply host call).0
+pub host-made : (host : Host) (n : ℕ) (call : Call) → after_entry host (entry_of host n call false) ≡ (apply host call).0
 host-made host n call = ap (λ b. if b then host else (apply host call).0) (IsReplyOf-apply host call).no_fault
 
 -- each entry of a run that is no collection lowers the calls that are left
 pub entry-falls : (most : ℕ) (list : NetList) (c : Command) (number n : ℕ) (s : State) (host : Host) (call : Call) (faulty : Bool) → AddsInAtMost list c most → MayGo host call faulty → LeftArePlanned list c s → IsNoCollection s → turn c s ≡ Calls call
-    → calls_left most list c (advance list c number s (reply_to host call faulty)) (share_of (att_of c) (host_on host (entry_of host n call faulty))) < calls_left most list c s (share_of (att_of c) host)
+    → calls_left most list c (advance list c number s (reply_to host call faulty)) (share_of (att_of c) (after_entry host (entry_of host n call faulty))) < calls_left most list c s (share_of (att_of c) host)
 entry-falls most list c number n s host call true in_most may planned none is =
     falls-advance most list c number s Fault (share_of (att_of c) host) (share_of (att_of c) host) in_most (fault-as list c s host call (own-next list c s planned none) is)
 entry-falls most list c number n s host call false in_most may planned none is =
@@ -144,13 +144,13 @@ work-calls network faults [] (s ∷ ss) call is = ap Some cc
 work-calls network faults (j ∷ js) ss call is = ap Some cc
 
 collecting-falls : (gc : Gc) (work : Work) (n : ℕ) (host : Host) (call : Call) (faulty : Bool) → call_of_work gc.network work.jobs work.sweeps ≡ Some call
-    → collection_left (work_after gc work.jobs work.sweeps (reply_to host call faulty)) (host_on host (entry_of host n call faulty)) < collection_left work host
+    → collection_left (work_after gc work.jobs work.sweeps (reply_to host call faulty)) (after_entry host (entry_of host n call faulty)) < collection_left work host
 collecting-falls gc work n host call true is = fault-falls gc work.jobs work.sweeps host call is
 collecting-falls gc work n host call false is =
     subst (λ k. collection_left (work_after gc work.jobs work.sweeps (apply host call).1) k < collection_left work host) (sym (host-made host n call)) (work-falls gc work.jobs work.sweeps host call is)
 
 state-falls : (list : NetList) (c : Command) (number n : ℕ) (s : State) (host : Host) (call : Call) (faulty : Bool) → MayGo host call faulty → LeftArePlanned list c s → turn c s ≡ Calls call
-    → in_state list c (advance list c number s (reply_to host call faulty)) (host_on host (entry_of host n call faulty)) < in_state list c s host
+    → in_state list c (advance list c number s (reply_to host call faulty)) (after_entry host (entry_of host n call faulty)) < in_state list c s host
 unfolding advance turn
 state-falls list c number n (Collecting work faults) host call faulty may planned is =
     let fall = collecting-falls (gc_of list c) work n host call faulty (work-calls c.network faults work.jobs work.sweeps call is) in
@@ -158,7 +158,7 @@ state-falls list c number n (Collecting work faults) host call faulty may planne
 state-falls list c number n s host call faulty may planned is =
     let r = reply_to host call faulty in
     let fall = entry-falls (most_calls list c) list c number n s host call faulty (adds_in_most_calls list c) may planned tt is in
-    let none = no-work (advance list c number s r) (host_on host (entry_of host n call faulty)) (true-advance IsNoCollection list c number s r (none-stays list c) tt) in
+    let none = no-work (advance list c number s r) (after_entry host (entry_of host n call faulty)) (true-advance IsNoCollection list c number s r (none-stays list c) tt) in
     omega arith
 
 outside-falls : (number : ℕ) (c : Command) (s : State) (r : Reply) (call : Call) → LeftIsOutside c s → turn c s ≡ Calls call → outside_left (outside_advance number s r) < outside_left s
@@ -168,14 +168,14 @@ outside-falls number c (Over ending given) r call left is = cc
 outside-falls number c _ r call left is = absurd left
 
 left-falls : (list : Option NetList) (c : Command) (rs : List Reply) (n : ℕ) (host : Host) (call : Call) (faulty : Bool) → MayGo host call faulty → turn_by list c rs ≡ Calls call
-    → left_of list c (rs ++ reply_to host call faulty ∷ []) (host_on host (entry_of host n call faulty)) < left_of list c rs host
+    → left_of list c (rs ++ reply_to host call faulty ∷ []) (after_entry host (entry_of host n call faulty)) < left_of list c rs host
 left-falls None c rs n host call faulty may is =
     let r = reply_to host call faulty in
     subst (λ s. outside_left s < outside_left (outside_after c rs)) (sym (outside_from-append 0 (outside_start c) rs r))
     (outside-falls (0 + length rs + 1) c (outside_after c rs) r call (left-is-outside c rs) is)
 left-falls (Some list) c rs n host call faulty may is =
     let r = reply_to host call faulty in
-    let k = host_on host (entry_of host n call faulty) in
+    let k = after_entry host (entry_of host n call faulty) in
     subst (λ s. in_state list c s k < in_state list c (state_after list c rs) host) (sym (state_from-append list c 0 (start_state list c) rs r))
     (state-falls list c (0 + length rs + 1) n (state_after list c rs) host call faulty may (left-are-planned list c rs) is)
 
@@ -214,7 +214,7 @@ call-takes w n number c call faulty legal ready is goes =
     let now = left-at (with_entry w e) n number (Some c) (Some None) is ready.there ready.unanswered in
     let falls = left-falls list c.command rs n (host_of w) call faulty may turn_is in
     let same : left_of list c.command (own_replies (with_entry w e) n) (host_of (with_entry w e))
-    ≡ left_of list c.command (rs ++ e.reply ∷ []) (host_on (host_of w) e) =
+    ≡ left_of list c.command (rs ++ e.reply ∷ []) (after_entry (host_of w) e) =
     ap (λ x. left_of list c.command x (host_of (with_entry w e))) (replies_of-own n w.history e refl)
     ∙ ap (left_of list c.command (rs ++ e.reply ∷ [])) (after-append w.plan.pods.opening w.history e) in
     omega arith
@@ -227,7 +227,7 @@ done-takes w n number c (next.Call call faulty) legal ready is goes = call-takes
 -- whatever a step of a ready command gives, fewer steps are left to it
 pub step_takes : (r : Result StepEnd NoMemory) (v w : World) (number : ℕ) → Legal v → IsReadyNumber v number → IsStepped r v w number → steps_left w number < steps_left v number
 step_takes (Ok x) v w number legal ready is =
-    subst (λ u. steps_left u number < steps_left v number) (sym (is.0 ready.0 ready.1 ready.2 ready.3.there))
+    subst (λ u. steps_left u number < steps_left v number) (sym (is.0 ready.0 ready.1 ready.2 ready.3.there).0)
     (done-takes v ready.0 number ready.1 (next_of v ready.1.command (own_replies v ready.0)) legal ready.3 ready.2 refl)
 step_takes (Err x) v w number legal ready is =
-    subst (λ u. steps_left u number < steps_left v number) (sym (is.1 ready.0 ready.2)) (answer-takes v ready.0 number ready.1 OutOfMemory ready.3 ready.2)
+    subst (λ u. steps_left u number < steps_left v number) (sym (is.1 ready.0 ready.1 ready.2 ready.3.there)) (answer-takes v ready.0 number ready.1 OutOfMemory ready.3 ready.2)

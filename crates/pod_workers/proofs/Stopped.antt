@@ -77,7 +77,7 @@ counted-stop w n made c stopped at is count = elim is.1 [
 ]
 
 pub each_stop_is_counted : EachStopIsCounted
-each_stop_is_counted w legal n made c at is = elim (answer_is_due w legal n (Stopped made) c is at) [
+each_stop_is_counted w legal n c at made is = elim (answer_is_due w legal n c at (Stopped made) is) [
   | inl scripts ↦ absurd (script-never (list_for w.plan c.command) c.command scripts.0 made (sym scripts.2))
   | inr (inl stopped) ↦
       let count : made ≡ length (own_replies w n) = let e = stopped.0.2 in cc in

@@ -76,9 +76,9 @@ clauses_before_answer v n c a k may = record {
     entries = k.containers.entries;
   };
   stops = record { own = k.stops.own; round = k.stops.round };
-  answers = λ m b d at there.
+  answers = λ m d there b at.
       let other : m ≢ n = λ same. none-some b (same_Some None (Some b) (sym may.is_open ∙ ap (slice_get v.answers) (sym same) ∙ at)) in
-      k.answers m b d (slice_get-set_other v.answers n m (Some a) other ∙ at) there;
+      k.answers m d there b (slice_get-set_other v.answers n m (Some a) other ∙ at);
 }
 
 ready_before_answer : (v : World) (n : ℕ) (c : Placed) (a : Answer) → IsLegalByClauses (answered v n a) → MayAnswer v n c → IsReady v n c
@@ -124,7 +124,7 @@ pub legal_answered : (v : World) (n : ℕ) (c : Placed) (a : Answer) → IsLegal
 legal_answered v n c a k may legal =
     let ready = ready_before_answer v n c a k may in
     let made = length (own_replies v n) in
-    elim (k.answers n a c (has_answer v n a may.is_open) may.there) [
+    elim (k.answers n c may.there a (has_answer v n a may.is_open)) [
       | inl scripts ↦ legal_by_step v n c a legal ready (ap (next_by (list_for v.plan c.command) c.command made (is_cut v)) scripts.1 ∙ ap next.Answer (sym scripts.2))
       | inr (inl stopped) ↦ legal_by_step v n c a legal ready
           (stops_now v n c a stopped.0 (elim stopped.1 [
@@ -226,9 +226,9 @@ clauses_before_entry v e n c k may = record {
     own = λ m d at. stop-back v e m d.command.stop (k.stops.own m d at);
     round = each_two-shrinks v.plan v.history e (IsAfterStop v.plan) k.stops.round;
   };
-  answers = λ m a d at there.
+  answers = λ m d there a at.
       let other : m ≢ n = λ same. not_both v n (a, ap (slice_get v.answers) (sym same) ∙ at) may.is_open in
-      due-back v e n m c d a may other there at (k.answers m a d at there);
+      due-back v e n m c d a may other there at (k.answers m d there a at);
 }
 
 pub legal_entered : (v : World) (e : Entry) (n : ℕ) (c : Placed) → IsLegalByClauses (with_entry v e) → MayEnter v e n c → Legal v → Legal (with_entry v e)

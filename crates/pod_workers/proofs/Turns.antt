@@ -5,7 +5,7 @@ use Rattle.std.proofs.lemmas.Bool.{false≢true}
 use Rattle.std.proofs.lemmas.Option.{same_Some, none-some}
 use Rattle.cni_addr.specs.declared.memory.NoMemory.{NoMemory}
 use Rattle.cni_verbs.proofs.CallsOrOver.{calls_or_over}
-use Rattle.cni_verbs.specs.Progress.{answer_by}
+use Rattle.cni_verbs.specs.Progress.{Progress, RunView, advanced, answer_by}
 use Rattle.cni_verbs.specs.Replies.{host_after, reply_to}
 use Rattle.cni_verbs.specs.Script.{IsOpen, State, Turn, Calls, Finishes, Finish, turn, next_call, finish_of}
 use Rattle.cni_verbs.specs.declared.answer.Answer.{Answer}
@@ -19,13 +19,12 @@ use Rattle.kernel_types.specs.declared.object.Host.{Host}
 use Rattle.kernel_types.proofs.Replies.{IsReplyOf-apply}
 use Rattle.net_conf.specs.declared.list.NetList.{NetList}
 use Rattle.pod_file.specs.declared.command.Command.{Command}
-use Rattle.pod_workers.specs.Slots.{CarriesOn, MayBeMade, next_in, slot_after}
-use Rattle.pod_workers.specs.World.{entry_by, host_on, is_faulty, is_stop, next_by}
+use Rattle.pod_workers.specs.Slots.{MayBeMade, DoesNext, next_in}
+use Rattle.pod_workers.specs.World.{after_entry, entry_by, is_faulty, is_stop, next_by}
 use Rattle.pod_workers.specs.declared.plan.Next.{Next}
 use Rattle.pod_workers.specs.declared.plan.Next.TheVariants as next
 use Rattle.pod_workers.specs.declared.plan.Entry.{Entry}
-use Rattle.pod_workers.specs.declared.slots.Slot.{Slot}
-use Rattle.pod_workers.specs.declared.slots.Advance.TheVariants as advance
+use Rattle.pod_workers.specs.declared.step.Stepped.TheVariants as step
 
 -- ---- by the state
 
@@ -49,15 +48,15 @@ open-where c s call is = elim (calls_or_over c s) [
 
 -- ---- a run that has a call to make
 
-look-by : (list : Option NetList) (c : Command) (made : ℕ) (call : Call) (b : Bool) → b ≡ false → (if b then next.Answer (Stopped made) else next.Call call (is_faulty c made)) ≡ next.Call call (is_faulty c made)
-look-by list c made call true below = absurd (false≢true (sym below))
-look-by list c made call false below = refl
+call-by : (list : Option NetList) (c : Command) (made : ℕ) (call : Call) (b : Bool) → b ≡ false → (if b then next.Answer (Stopped made) else next.Call call (is_faulty c made)) ≡ next.Call call (is_faulty c made)
+call-by list c made call true below = absurd (false≢true (sym below))
+call-by list c made call false below = refl
 
-pub look-call : (s : Slot) (c : Command) (cut stopped : Bool) (call : Call) → s.run.command ≡ c → stopped ≡ (is_stop c.stop s.made || cut) → stopped ≡ false → next_call s.run.command s.run.state ≡ Some call
+pub next-is-call : (s : Progress) (c : Command) (cut stopped : Bool) (call : Call) → s.command ≡ c → stopped ≡ (is_stop c.stop s.made || cut) → stopped ≡ false → next_call s.command s.state ≡ Some call
     → next.Call call (is_faulty c s.made) ≡ next_in c cut s
 unfolding next_in
-look-call s c cut stopped call of_command stop below is =
-    sym (ap (next_by s.run.list c s.made cut) (turn-calls c s.run.state call (ap (λ k. next_call k s.run.state) (sym of_command) ∙ is)) ∙ look-by s.run.list c s.made call _ (sym stop ∙ below))
+next-is-call s c cut stopped call of_command stop below is =
+    sym (ap (next_by s.list c s.made cut) (turn-calls c s.state call (ap (λ k. next_call k s.state) (sym of_command) ∙ is)) ∙ call-by s.list c s.made call _ (sym stop ∙ below))
 
 stop-by : (made : ℕ) (n : Next) (b : Bool) → b ≡ true → (if b then next.Answer (Stopped made) else n) ≡ next.Answer (Stopped made)
 stop-by made n true reached = refl
@@ -69,20 +68,20 @@ open-calls c s is_open = elim (calls_or_over c s) [
   | inr o ↦ absurd (o.not_open is_open)
 ]
 
-pub look-stop : (s : Slot) (c : Command) (cut stopped : Bool) → s.run.command ≡ c → stopped ≡ (is_stop c.stop s.made || cut) → stopped ≡ true → IsOpen s.run.state
+pub next-is-stop : (s : Progress) (c : Command) (cut stopped : Bool) → s.command ≡ c → stopped ≡ (is_stop c.stop s.made || cut) → stopped ≡ true → IsOpen s.state
     → next.Answer (Stopped s.made) ≡ next_in c cut s
 unfolding next_in
-look-stop s c cut stopped of_command stop reached is_open =
-    let u = open-calls c s.run.state is_open in
-    sym (ap (next_by s.run.list c s.made cut) (turn-calls c s.run.state u.0 u.1) ∙ stop-by s.made (next.Call u.0 (is_faulty c s.made)) _ (sym stop ∙ reached))
+next-is-stop s c cut stopped of_command stop reached is_open =
+    let u = open-calls c s.state is_open in
+    sym (ap (next_by s.list c s.made cut) (turn-calls c s.state u.0 u.1) ∙ stop-by s.made (next.Call u.0 (is_faulty c s.made)) _ (sym stop ∙ reached))
 
 call-open : (list : Option NetList) (c : Command) (made : ℕ) (cut : Bool) (s : State) (t : Turn) (call : Call) (faulty : Bool) → turn c s ≡ t → next_by list c made cut t ≡ next.Call call faulty → IsOpen s
 call-open list c made cut s (Finishes f) call faulty t_is is = absurd cc
 call-open list c made cut s (Calls k) call faulty t_is is = open-where c s k t_is
 
-pub next-open : (s : Slot) (c : Command) (cut : Bool) (call : Call) (faulty : Bool) → next_in c cut s ≡ next.Call call faulty → IsOpen s.run.state
+pub open-before-call : (s : Progress) (c : Command) (cut : Bool) (call : Call) (faulty : Bool) → next_in c cut s ≡ next.Call call faulty → IsOpen s.state
 unfolding next_in
-next-open s c cut call faulty is = call-open s.run.list c s.made cut s.run.state (turn c s.run.state) call faulty refl is
+open-before-call s c cut call faulty is = call-open s.list c s.made cut s.state (turn c s.state) call faulty refl is
 
 -- ---- a run that is over
 
@@ -90,33 +89,33 @@ answer-by : (list : Option NetList) (c : Command) (o : Option Finish) (s : State
 answer-by list c None s made cut a o_is is = absurd (none-some a is)
 answer-by list c (Some f) s made cut a o_is is = ap next.Answer (sym (same_Some _ a is)) ∙ sym (ap (next_by list c made cut) (turn-finishes c s f o_is))
 
-pub look-answer : (s : Slot) (c : Command) (cut : Bool) (a : Answer) → s.run.command ≡ c → option_map (answer_by s.run.list s.run.command) (finish_of s.run.state) ≡ Some a → next.Answer a ≡ next_in c cut s
+pub next-is-answer : (s : Progress) (c : Command) (cut : Bool) (a : Answer) → s.command ≡ c → option_map (answer_by s.list s.command) (finish_of s.state) ≡ Some a → next.Answer a ≡ next_in c cut s
 unfolding next_in
-look-answer s c cut a of_command is =
-    answer-by s.run.list c (finish_of s.run.state) s.run.state s.made cut a refl (ap (λ k. option_map (answer_by s.run.list k) (finish_of s.run.state)) (sym of_command) ∙ is)
+next-is-answer s c cut a of_command is =
+    answer-by s.list c (finish_of s.state) s.state s.made cut a refl (ap (λ k. option_map (answer_by s.list k) (finish_of s.state)) (sym of_command) ∙ is)
 
 -- a run that is over has an answer
-pub over-answers : (s : Slot) → (IsOpen s.run.state → ⊥) → option_map (answer_by s.run.list s.run.command) (finish_of s.run.state) ≡ None → ⊥
-over-answers s over no_answer = elim (calls_or_over s.run.command s.run.state) [
+pub over-answers : (s : Progress) → (IsOpen s.state → ⊥) → option_map (answer_by s.list s.command) (finish_of s.state) ≡ None → ⊥
+over-answers s over no_answer = elim (calls_or_over s.command s.state) [
   | inl k ↦ over k.is_open
-  | inr o ↦ none-some _ (sym no_answer ∙ ap (option_map (answer_by s.run.list s.run.command)) o.finish_is)
+  | inr o ↦ none-some _ (sym no_answer ∙ ap (option_map (answer_by s.list s.command)) o.finish_is)
 ]
 
 -- a run that isn't has a call
-pub open-has-next : (s : Slot) → IsOpen s.run.state → next_call s.run.command s.run.state ≡ None → ⊥
-open-has-next s is_open none = let u = open-calls s.run.command s.run.state is_open in none-some _ (sym none ∙ u.1)
+pub open-has-next : (s : Progress) → IsOpen s.state → next_call s.command s.state ≡ None → ⊥
+open-has-next s is_open none = let u = open-calls s.command s.state is_open in none-some _ (sym none ∙ u.1)
 
 -- ---- what was done
 
-pub done-over : (host host' : Host) (h h' : List Entry) (c : Command) (s : Slot) (x : Next) (a : Answer) → x ≡ next.Answer a → host' ≡ host → h' ≡ h → CarriesOn host host' h h' c s x (advance.Over a)
-unfolding CarriesOn
-done-over host host' h h' c s x a is same_host same_history = subst (λ y. CarriesOn host host' h h' c s y (advance.Over a)) (sym is) (refl, same_host, same_history)
+pub steps-answered : (host host' : Host) (h h' : List Entry) (c : Command) (s : Progress) (x : Next) (a : Answer) → x ≡ next.Answer a → host' ≡ host → h' ≡ h → DoesNext host host' h h' c s x (step.Answered a)
+unfolding DoesNext
+steps-answered host host' h h' c s x a is same_host same_history = subst (λ y. DoesNext host host' h h' c s y (step.Answered a)) (sym is) (refl, same_host, same_history)
 
-pub done-went : (host host' : Host) (h h' : List Entry) (c : Command) (s t : Slot) (x : Next) (call : Call) (faulty : Bool) (reply : Reply) → x ≡ next.Call call faulty → reply ≡ reply_to host call faulty
-    → host' ≡ host_on host (entry_by host c.number call faulty) → h' ≡ h ++ entry_by host c.number call faulty ∷ [] → t ≡ slot_after s reply → CarriesOn host host' h h' c s x (advance.Went t)
-unfolding CarriesOn
-done-went host host' h h' c s t x call faulty reply is replied host_is history_is after =
-    subst (λ y. CarriesOn host host' h h' c s y (advance.Went t)) (sym is) (after ∙ ap (slot_after s) replied, host_is, history_is)
+pub steps-called : (host host' : Host) (h h' : List Entry) (c : Command) (s : Progress) (t : RunView) (x : Next) (call : Call) (faulty : Bool) (reply : Reply) → x ≡ next.Call call faulty → reply ≡ reply_to host call faulty
+    → host' ≡ after_entry host (entry_by host c.number call faulty) → h' ≡ h ++ entry_by host c.number call faulty ∷ [] → t.progress ≡ advanced s reply → DoesNext host host' h h' c s x (step.Called t)
+unfolding DoesNext
+steps-called host host' h h' c s t x call faulty reply is replied host_is history_is after =
+    subst (λ y. DoesNext host host' h h' c s y (step.Called t)) (sym is) (after ∙ ap (advanced s) replied, host_is, history_is)
 
 pub may-call : (host : Host) (x : Next) (call : Call) (faulty : Bool) → MayBeMade host x → x ≡ next.Call call faulty → faulty ≡ false → IsAllowed host call
 may-call host x call faulty may is = let P : Next → Type 0 = MayBeMade host in subst P is may
@@ -128,13 +127,13 @@ left-by true left = refl
 left-by false left = left
 
 -- a reply that can't be copied, or be taken by a run, for want of memory left the host
-refused-hand : (host host' : Host) (call : Call) (faulty : Bool) (reply : Reply) → host' ≡ host_after host call reply → reply ≡ reply_to host call faulty
+refused-take : (host host' : Host) (call : Call) (faulty : Bool) (reply : Reply) → host' ≡ host_after host call reply → reply ≡ reply_to host call faulty
     → (holds_text_or_list reply ≡ true) ⊎ (is_fault reply ≡ true) → host' ≡ host
-refused-hand host host' call faulty reply is replied (inr fault) = is ∙ ap (λ b. if b then host else (apply host call).0) fault
-refused-hand host host' call true reply is replied (inl holds) = is ∙ ap (host_after host call) replied
-refused-hand host host' call false reply is replied (inl holds) = is ∙ left-by (is_fault reply) ((IsReplyOf-apply host call).leaves (ap holds_text_or_list (sym replied) ∙ holds))
+refused-take host host' call faulty reply is replied (inr fault) = is ∙ ap (λ b. if b then host else (apply host call).0) fault
+refused-take host host' call true reply is replied (inl holds) = is ∙ ap (host_after host call) replied
+refused-take host host' call false reply is replied (inl holds) = is ∙ left-by (is_fault reply) ((IsReplyOf-apply host call).leaves (ap holds_text_or_list (sym replied) ∙ holds))
 
-pub refused-ask : (r : Result Reply NoMemory) (host host' : Host) (call : Call) (faulty : Bool) (reply : Reply) → host' ≡ host_after host call reply → reply ≡ reply_to host call faulty
+pub refused-reply : (r : Result Reply NoMemory) (host host' : Host) (call : Call) (faulty : Bool) (reply : Reply) → host' ≡ host_after host call reply → reply ≡ reply_to host call faulty
     → OnErr r ((holds_text_or_list reply ≡ true) ⊎ (is_fault reply ≡ true)) → OnErr r (host' ≡ host)
-refused-ask (Ok kept) host host' call faulty reply is replied why = tt
-refused-ask (Err e) host host' call faulty reply is replied why = refused-hand host host' call faulty reply is replied why
+refused-reply (Ok kept) host host' call faulty reply is replied why = tt
+refused-reply (Err e) host host' call faulty reply is replied why = refused-take host host' call faulty reply is replied why

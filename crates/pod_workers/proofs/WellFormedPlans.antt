@@ -15,7 +15,7 @@ use Rattle.net_conf.specs.declared.first.First.TheVariants as first
 use Rattle.net_conf.specs.declared.first.HostLocalConf.{HostLocalConf}
 use Rattle.net_conf.specs.declared.list.NetList.{NetList}
 use Rattle.pod_file.specs.Rounds.{file_limit, in_file_order}
-use Rattle.pod_file.specs.WellFormed.{IsWellFormedPods}
+use Rattle.pod_file.specs.WellFormed.{AreWellFormedRounds, IsWellFormedPods}
 use Rattle.pod_file.specs.declared.command.Command.{Command}
 use Rattle.pod_workers.specs.Plans.{IsWellFormed, Placed, commands_of, in_round, placed_from}
 use Rattle.pod_workers.specs.declared.plan.Plan.{Plan}
@@ -41,7 +41,7 @@ ipam_apart : (ipam : Option HostLocalConf) → IsWellFormedIpam ipam → list_al
 ipam_apart None formed = refl
 ipam_apart (Some conf) formed = each_apart conf.sets formed.sets
 
-first_apart : (plugin : First) → IsWellFormedFirst plugin → list_all (λ set. are_apart set.ranges) (range_sets_of (ipam_of plugin)) ≡ true
+pub first_apart : (plugin : First) → IsWellFormedFirst plugin → list_all (λ set. are_apart set.ranges) (range_sets_of (ipam_of plugin)) ≡ true
 first_apart (first.Bridge conf) formed = ipam_apart conf.ipam formed.ipam
 first_apart (first.Ptp conf) formed = each_apart conf.ipam.sets formed.ipam.sets
 first_apart (first.Macvlan conf) formed = ipam_apart conf.ipam formed.ipam
@@ -63,14 +63,18 @@ file_order : (p : Plan) → map (λ (c : Placed). c.command) (commands_of p) ≡
 unfolding commands_of
 file_order p = all_placed 0 p.pods.rounds
 
-pub few_commands : (p : Plan) → IsWellFormedPods p.pods → length (commands_of p) ≤ file_limit
-few_commands p formed =
-    let same : length (commands_of p) ≡ length (in_file_order p.pods.rounds) = sym (length-map (commands_of p) (λ (c : Placed). c.command)) ∙ ap length (file_order p) in
+pub few_placed : (rounds : List (List Command)) → AreWellFormedRounds rounds → length (placed_from 0 rounds) ≤ file_limit
+few_placed rounds formed =
+    let same : length (placed_from 0 rounds) ≡ length (in_file_order rounds) = sym (length-map (placed_from 0 rounds) (λ (c : Placed). c.command)) ∙ ap length (all_placed 0 rounds) in
     rw same formed.few_commands
+
+pub few_commands : (p : Plan) → IsWellFormedPods p.pods → length (commands_of p) ≤ file_limit
+unfolding commands_of
+few_commands p formed = few_placed p.pods.rounds formed.rounds
 
 pub are_numbered : (p : Plan) → IsWellFormedPods p.pods → AreNumbered p
 are_numbered p formed n c at =
-    formed.numbers n c.command
+    formed.rounds.numbers n c.command
     (ap (λ xs. slice_get xs n) (sym (file_order p)) ∙ slice_get-map (λ (d : Placed). d.command) (commands_of p) n ∙ ap (option_map (λ (d : Placed). d.command)) at)
 
 -- ---- the plan

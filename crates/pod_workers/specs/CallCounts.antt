@@ -12,9 +12,10 @@ use Rattle.net_conf.specs.declared.first.First.TheVariants.{Bridge, Ptp, Macvlan
 use Rattle.net_conf.specs.declared.list.NetList.{NetList}
 use Rattle.pod_file.specs.declared.command.Command.{Command}
 use Rattle.plan_words.specs.Share.{Share}
-use Rattle.cni_verbs.specs.CommandWords.{att_of, mappings_of}
+use Rattle.cni_verbs.specs.AddCalls.{calls_of_add}
+use Rattle.cni_verbs.specs.CommandWords.{mappings_of}
 use Rattle.cni_verbs.specs.Script.{before_of}
-use Rattle.cni_verbs.specs.Wanted.{add_calls, sets_of}
+use Rattle.cni_verbs.specs.Wanted.{sets_of}
 
 -- ---- deletions
 
@@ -30,7 +31,7 @@ deletions_of s = length (inner_links s.links) + length s.rules + length s.settin
 
 -- whatever addresses it is leased, an ADD makes no more calls than so many
 abbrev pub AddsInAtMost : NetList → Command → ℕ → Type 0
-AddsInAtMost list c most = (given : List Addr) → length (add_calls list (att_of c) c.netns (mappings_of list c) given) ≤ most
+AddsInAtMost list c most = (given : List Addr) → length (calls_of_add list c given) ≤ most
 
 -- those of the first plugin for so many leased addresses: addresses, routes with two default routes, gateways with a
 -- switch a family, and two rules an address. On both ends of `ptp` lie two addresses and three routes a leased address

@@ -4,7 +4,7 @@ use Rattle.std.specs.List.{All}
 use Rattle.cni_verbs.specs.declared.answer.Answer.{Answer}
 use Rattle.pod_workers.specs.Legal.{Legal}
 use Rattle.pod_workers.specs.Plans.{Placed, commands_of}
-use Rattle.pod_workers.specs.World.{World, IsRoundOver, is_entry_in, next_round}
+use Rattle.pod_workers.specs.World.{World, EachCommand, IsRoundOver, is_entry_in, next_round}
 use Rattle.pod_workers.specs.declared.plan.Entry.{Entry}
 use Rattle.pod_workers.specs.declared.plan.Plan.{Plan}
 
@@ -29,7 +29,7 @@ KeepsAnswers old new = (n : ℕ) (a : Answer) → slice_get old n ≡ Some (Some
 
 -- commands of other rounds are answered as they were
 abbrev pub KeepsOtherRounds : World → World → Type 0
-KeepsOtherRounds from w = (n : ℕ) (c : Placed) → slice_get (commands_of from.plan) n ≡ Some c → (c.round ≡ from.round → ⊥) → slice_get w.answers n ≡ slice_get from.answers n
+KeepsOtherRounds from w = EachCommand from.plan (λ n c. (c.round ≡ from.round → ⊥) → slice_get w.answers n ≡ slice_get from.answers n)
 
 -- in the same round, whose commands alone go on
 pub record Extends (from w : World) : Type 0 where

@@ -9,7 +9,7 @@ use Rattle.pod_workers.specs.Extends.{KeepsAnswers}
 use Rattle.pod_workers.specs.Legal.{Legal}
 use Rattle.pod_workers.specs.Plans.{Placed, IsWellFormed, commands_of, list_for, IsOf}
 use Rattle.cni_verbs.specs.Progress.{turn_by, answer_by}
-use Rattle.pod_workers.specs.World.{World, after, replies_of, own_replies, reply_to, is_faulty, is_stop, next_of, stepped, with_entry, IsAnswered, IsReady, IsUpToStop}
+use Rattle.pod_workers.specs.World.{World, EachCommand, EachTwoCommands, after, replies_of, own_replies, reply_to, is_faulty, is_stop, next_of, stepped, with_entry, IsAnswered, IsReady, IsUpToStop}
 use Rattle.pod_workers.specs.declared.plan.Plan.{Plan}
 use Rattle.pod_workers.specs.declared.plan.Entry.{Entry}
 use Rattle.pod_workers.specs.declared.plan.Next.TheVariants as next
@@ -84,9 +84,7 @@ IsDone w n c =
 
 -- where a command made a call, each earlier one that it fits is done, so that none is left half done for it
 abbrev pub EachIsDoneBefore : World → (Placed → Placed → Type 0) → Type 0
-EachIsDoneBefore w Fit =
-    (m n : ℕ) (d c : Placed) → m < n → slice_get (commands_of w.plan) m ≡ Some d → slice_get (commands_of w.plan) n ≡ Some c → Fit d c
-    → (own_replies w n ≡ []) ⊎ IsDone w m d
+EachIsDoneBefore w Fit = EachTwoCommands w.plan (λ m d n c. Fit d c → (own_replies w n ≡ []) ⊎ IsDone w m d)
 
 -- ---- rounds
 
@@ -97,11 +95,11 @@ pub record IsUntouched (w : World) (n : ℕ) : Type 0 where
 
 -- commands of past rounds are answered
 abbrev pub PastAreAnswered : World → Type 0
-PastAreAnswered w = (n : ℕ) (c : Placed) → slice_get (commands_of w.plan) n ≡ Some c → c.round < w.round → IsAnswered w n
+PastAreAnswered w = EachCommand w.plan (λ n c. c.round < w.round → IsAnswered w n)
 
 -- commands of later rounds are untouched
 abbrev pub LaterAreUntouched : World → Type 0
-LaterAreUntouched w = (n : ℕ) (c : Placed) → slice_get (commands_of w.plan) n ≡ Some c → w.round < c.round → IsUntouched w n
+LaterAreUntouched w = EachCommand w.plan (λ n c. w.round < c.round → IsUntouched w n)
 
 -- an earlier entry is of no later round
 abbrev pub AreInRoundOrder : (number m : ℕ) → Placed → ℕ → Placed → Type 0
@@ -119,9 +117,7 @@ AreOfOneContainer d c = IsOf d c.round c.command.container
 
 -- a command that has a call or an answer finds each earlier one of its container in the round answered
 abbrev pub EachWaits : World → Type 0
-EachWaits w =
-    (m n : ℕ) (d c : Placed) → m < n → slice_get (commands_of w.plan) m ≡ Some d → slice_get (commands_of w.plan) n ≡ Some c → AreOfOneContainer d c
-    → IsUntouched w n ⊎ IsAnswered w m
+EachWaits w = EachTwoCommands w.plan (λ m d n c. AreOfOneContainer d c → IsUntouched w n ⊎ IsAnswered w m)
 
 -- of one container in a round, an earlier entry is of no later command
 abbrev pub AreInContainerOrder : (number m : ℕ) → Placed → ℕ → Placed → Type 0
@@ -138,7 +134,7 @@ pub record GoesOneByOne (w : World) : Type 0 where
 
 -- no command makes more calls than its `stop`
 abbrev pub KeepsStop : World → Type 0
-KeepsStop w = (n : ℕ) (c : Placed) → slice_get (commands_of w.plan) n ≡ Some c → IsUpToStop c.command.stop (length (own_replies w n))
+KeepsStop w = EachCommand w.plan (λ n c. IsUpToStop c.command.stop (length (own_replies w n)))
 
 -- an entry after the one that `stop_at` names is of a later round
 abbrev pub IsAfterStop : Plan → (number m : ℕ) → Placed → ℕ → Placed → Type 0
@@ -156,7 +152,7 @@ abbrev pub IsDue : World → ℕ → Placed → Answer → Type 0
 IsDue w n c a = IsScripts w n c a ⊎ (IsStopped w n c a ⊎ (a ≡ OutOfMemory))
 
 abbrev pub AnswerIsDue : World → Type 0
-AnswerIsDue w = (n : ℕ) (a : Answer) (c : Placed) → slice_get w.answers n ≡ Some (Some a) → slice_get (commands_of w.plan) n ≡ Some c → IsDue w n c a
+AnswerIsDue w = EachCommand w.plan (λ n c. (a : Answer) → slice_get w.answers n ≡ Some (Some a) → IsDue w n c a)
 
 abbrev pub EveryAnswerIsDue : Type 0
 EveryAnswerIsDue = (w : World) → Legal w → AnswerIsDue w
@@ -167,8 +163,8 @@ IsWithinStop p made = (number : ℕ) × (p.stop_at ≡ Some number) × (made ≤
 
 -- a stopped command is answered how many calls it made: its own `stop`, or no more than that number
 abbrev pub EachStopIsCounted : Type 0
-EachStopIsCounted = (w : World) → Legal w → (n made : ℕ) (c : Placed) → slice_get (commands_of w.plan) n ≡ Some c → slice_get w.answers n ≡ Some (Some (Stopped made))
-    → (made ≡ length (own_replies w n)) × ((c.command.stop ≡ Some made) ⊎ IsWithinStop w.plan made)
+EachStopIsCounted = (w : World) → Legal w → EachCommand w.plan (λ n c. (made : ℕ) → slice_get w.answers n ≡ Some (Some (Stopped made))
+    → (made ≡ length (own_replies w n)) × ((c.command.stop ≡ Some made) ⊎ IsWithinStop w.plan made))
 
 -- ---- moments
 

@@ -1,14 +1,16 @@
 -- Laws over every legal world, whatever was interleaved, stopped or refused memory.
-use Rattle.std.specs.Prelude.{◌≡◌, ℕ, false, List, Ok}
+use Rattle.std.specs.Prelude.{◌≡◌, ℕ, true, false, List, Ok, Some, slice_get}
 use Rattle.std.specs.List.{All}
 use Rattle.kernel_types.specs.Allowed.{IsAllowed}
 use Rattle.kernel_types.specs.Sound.{IsSound, NoAddressTwice}
 use Rattle.kernel_types.specs.declared.call.Call.{Call}
 use Rattle.net_conf.specs.WellFormed.{IsWellFormedList}
+use Rattle.net_conf.specs.declared.list.NetList.{NetList}
+use Rattle.pod_file.specs.Commands.{is_of_network}
 use Rattle.pod_file.specs.WellFormed.{IsWellFormedPods}
 use Rattle.pod_workers.specs.Join.{joined}
 use Rattle.pod_workers.specs.Legal.{Legal}
-use Rattle.pod_workers.specs.Plans.{Placed, IsWellFormed}
+use Rattle.pod_workers.specs.Plans.{Placed, IsWellFormed, commands_of, list_for}
 use Rattle.pod_workers.specs.World.{World, IsReady, host_of, own_replies, next_of}
 use Rattle.pod_workers.specs.declared.plan.Next.TheVariants as next
 use Rattle.pod_workers.specs.declared.plan.Plan.{Plan}
@@ -25,6 +27,11 @@ NoAddressIsLeasedTwice = (w : World) → Legal w → (network : List ℕ) → No
 abbrev pub EveryCallMayBeMade : Type 0
 EveryCallMayBeMade =
     (w : World) (n : ℕ) (c : Placed) (call : Call) → Legal w → IsReady w n c → next_of w c.command (own_replies w n) ≡ next.Call call false → IsAllowed (host_of w) call
+
+-- the network of each command whose verb speaks of one has its list
+abbrev pub EachNetworkCommandHasItsList : Type 0
+EachNetworkCommandHasItsList =
+    (w : World) → Legal w → (n : ℕ) (c : Placed) → slice_get (commands_of w.plan) n ≡ Some c → is_of_network c.command.verb ≡ true → (list : NetList) × (list_for w.plan c.command ≡ Some list)
 
 -- a plan that was joined is well formed, where its lists and its pods are
 abbrev pub JoinedPlansAreWellFormed : Type 0

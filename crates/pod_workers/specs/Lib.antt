@@ -7,6 +7,7 @@ pub mod Lasts
 pub mod Laws
 pub mod Legal
 pub mod Order
+pub mod PlanCalls
 pub mod Plans
 pub mod Slots
 pub mod Tasks

@@ -4,8 +4,8 @@ use Rattle.cni_verbs.specs.declared.answer.Answer.TheVariants.{OutOfMemory}
 use Rattle.pod_workers.specs.Extends.{Appends}
 use Rattle.pod_workers.specs.Facts.{EachTwo, EachIsDoneBefore}
 use Rattle.pod_workers.specs.Legal.{Legal}
-use Rattle.pod_workers.specs.Plans.{Placed, commands_of}
-use Rattle.pod_workers.specs.World.{World, IsAnswered, IsReady, stepped}
+use Rattle.pod_workers.specs.Plans.{Placed}
+use Rattle.pod_workers.specs.World.{World, EachCommand, IsAnswered, IsReady, stepped}
 use Rattle.pod_workers.specs.declared.plan.Entry.{Entry}
 use Rattle.pod_workers.specs.declared.plan.Plan.{Plan}
 
@@ -33,7 +33,7 @@ IsEntryBy number e = e.command ≡ number
 
 -- each command of the current round that stands before this place has its answer
 abbrev pub EarlierAreAnswered : World → ℕ → Type 0
-EarlierAreAnswered w n = (m : ℕ) (d : Placed) → m < n → slice_get (commands_of w.plan) m ≡ Some d → d.round ≡ w.round → IsAnswered w m
+EarlierAreAnswered w n = EachCommand w.plan (λ m d. m < n → d.round ≡ w.round → IsAnswered w m)
 
 -- a step of the first open command of a round keeps the file's order
 abbrev pub FileOrderIsKept : Type 0

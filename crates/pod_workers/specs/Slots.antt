@@ -1,6 +1,6 @@
--- What the runs of a book stand for, and what a book keeps.
+-- What the tasks of a book stand for, and what a book keeps. Only this crate's private clauses cite it.
 use Rattle.std.specs.Prelude.{◌≡◌, ℕ, ◌+◌, ◌<◌, ◌≤◌, ◌^◌, Bool, true, false, List, [], ◌∷◌, ◌++◌, length, take, Option, Some, None, slice_get}
-use Rattle.cni_verbs.specs.Progress.{progress, advanced}
+use Rattle.cni_verbs.specs.Progress.{Progress, RunView, progress, advanced}
 use Rattle.cni_verbs.specs.Script.{turn}
 use Rattle.kernel_types.specs.Allowed.{IsAllowed}
 use Rattle.kernel_types.specs.declared.call.Reply.{Reply}
@@ -9,41 +9,37 @@ use Rattle.net_conf.specs.declared.list.NetList.{NetList}
 use Rattle.pod_file.specs.declared.command.Command.{Command}
 use Rattle.pod_workers.specs.Index.{IsIndex}
 use Rattle.pod_workers.specs.Legal.{Legal}
-use Rattle.pod_workers.specs.Plans.{Placed, commands_of, list_for, list_in, placed_from}
-use Rattle.pod_workers.specs.World.{World, IsUpToStop, entry_by, host_of, host_on, next_by, own_replies, reply_to}
+use Rattle.pod_workers.specs.Plans.{commands_of, list_for, list_in, placed_from}
+use Rattle.pod_workers.specs.World.{World, EachCommand, IsUpToStop, after_entry, entry_by, host_of, next_by, own_replies, reply_to}
 use Rattle.pod_workers.specs.declared.index.Place.{Place}
 use Rattle.pod_workers.specs.declared.plan.Entry.{Entry}
 use Rattle.pod_workers.specs.declared.plan.Next.{Next}
 use Rattle.pod_workers.specs.declared.plan.Next.TheVariants as next
-use Rattle.pod_workers.specs.declared.slots.Slot.{Slot}
-use Rattle.pod_workers.specs.declared.slots.Advance.{Advance}
-use Rattle.pod_workers.specs.declared.slots.Advance.TheVariants as advance
+use Rattle.pod_workers.specs.declared.step.Stepped.{Stepped}
+use Rattle.pod_workers.specs.declared.step.Stepped.TheVariants as step
 
--- ---- one run
+-- ---- one task
 
--- the run, begun where it isn't
-abbrev pub opened : Option NetList → Command → Option Slot → Slot
-opened list c None = record { run = progress list c []; made = 0 }
-opened list c (Some s) = s
+-- how far the task has come, begun where it isn't
+abbrev pub begun_with : Option NetList → Command → Option RunView → Progress
+begun_with list c None = progress list c []
+begun_with list c (Some task) = task.progress
 
-unfoldable pub opened_by : List NetList → Command → Option Slot → Slot
-opened_by lists c s = opened (list_in lists c) c s
+unfoldable pub begun_by : List NetList → Command → Option RunView → Progress
+begun_by lists c task = begun_with (list_in lists c) c task
 
--- what the command whose run this is does next
-unfoldable pub next_in : Command → Bool → Slot → Next
-next_in c cut s = next_by s.run.list c s.made cut (turn c s.run.state)
-
-abbrev pub slot_after : Slot → Reply → Slot
-slot_after s r = record { run = advanced s.run r; made = s.made + 1 }
+-- what the command whose task has come so far does next
+unfoldable pub next_in : Command → Bool → Progress → Next
+next_in c cut task = next_by task.list c task.made cut (turn c task.state)
 
 -- where the command is stopped, its number of calls fits the answer
 abbrev pub IsCountable : Command → Bool → ℕ → Type 0
 IsCountable c cut made = IsUpToStop c.stop made × (cut ≡ true → made < 2 ^ 32)
 
--- a run that has not begun has no replies
-abbrev pub Fits : Option NetList → Command → List Reply → Option Slot → Type 0
+-- a task that has not begun has no replies; whether one is prepared is no matter of the book
+abbrev pub Fits : Option NetList → Command → List Reply → Option RunView → Type 0
 Fits list c rs None = rs ≡ []
-Fits list c rs (Some s) = (s.made ≡ length rs) × (s.run ≡ progress list c rs) × IsUpToStop c.stop s.made
+Fits list c rs (Some task) = (task.progress ≡ progress list c rs) × IsUpToStop c.stop (length rs)
 
 -- ---- one step
 
@@ -52,36 +48,41 @@ abbrev pub MayBeMade : Host → Next → Type 0
 MayBeMade host (next.Answer a) = Unit {0}
 MayBeMade host (next.Call call faulty) = faulty ≡ false → IsAllowed host call
 
--- what a step needs to know of the run
-pub record MayCarryOn (host : Host) (h : List Entry) (c : Command) (cut : Bool) (s : Slot) : Type 0 where
-  pub of_command : s.run.command ≡ c
-  pub counted : s.made ≡ s.run.made
-  pub few : s.made ≤ length h
-  pub countable : IsCountable c cut s.made
-  pub allowed : MayBeMade host (next_in c cut s)
+-- what a step needs to know of the task
+pub record MayStepTask (host : Host) (h : List Entry) (c : Command) (cut : Bool) (task : Progress) : Type 0 where
+  pub of_command : task.command ≡ c
+  pub few : task.made ≤ length h
+  pub countable : IsCountable c cut task.made
+  pub allowed : MayBeMade host (next_in c cut task)
 
--- from the first host and history to the second this was done, for this run
-unfoldable pub CarriesOn : Host → Host → List Entry → List Entry → Command → Slot → Next → Advance → Type 0
-CarriesOn host host' h h' c s (next.Answer a) (advance.Over b) = (b ≡ a) × (host' ≡ host) × (h' ≡ h)
-CarriesOn host host' h h' c s (next.Answer a) (advance.Went t) = ⊥
-CarriesOn host host' h h' c s (next.Call call faulty) (advance.Over b) = ⊥
-CarriesOn host host' h h' c s (next.Call call faulty) (advance.Went t) =
-    (t ≡ slot_after s (reply_to host call faulty)) × (host' ≡ host_on host (entry_by host c.number call faulty)) × (h' ≡ h ++ entry_by host c.number call faulty ∷ [])
+-- from the first host and history to the second this was done for the task, which is what it does next
+unfoldable pub DoesNext : Host → Host → List Entry → List Entry → Command → Progress → Next → Stepped → Type 0
+DoesNext host host' h h' c task (next.Answer a) (step.Answered b) = (b ≡ a) × (host' ≡ host) × (h' ≡ h)
+DoesNext host host' h h' c task (next.Answer a) (step.Called task') = ⊥
+DoesNext host host' h h' c task (next.Call call faulty) (step.Answered b) = ⊥
+DoesNext host host' h h' c task (next.Call call faulty) (step.Called task') =
+    (task'.progress ≡ advanced task (reply_to host call faulty))
+    × (host' ≡ after_entry host (entry_by host c.number call faulty))
+    × (h' ≡ h ++ entry_by host c.number call faulty ∷ [])
+
+abbrev pub StepsTask : Host → Host → List Entry → List Entry → Command → Bool → Progress → Stepped → Type 0
+StepsTask host host' h h' c cut task stepped = DoesNext host host' h h' c task (next_in c cut task) stepped
 
 -- ---- a book
 
-pub record IsKept (host : Host) (slots : List (Option Slot)) (places : List Place) (before : ℕ) (w : World) : Type 0 where
+pub record IsKept (host : Host) (slots : List (Option RunView)) (places : List Place) (before : ℕ) (w : World) : Type 0 where
   pub legal : Legal w
   pub host_is : host ≡ host_of w
   pub slots_long : length slots ≡ length (commands_of w.plan)
   pub answers_long : length w.answers ≡ length (commands_of w.plan)
   pub index : IsIndex w.plan.pods.rounds (commands_of w.plan) places
-  pub runs : (n : ℕ) (c : Placed) (s : Option Slot) → slice_get (commands_of w.plan) n ≡ Some c → slice_get slots n ≡ Some s → slice_get w.answers n ≡ Some None
-      → Fits (list_for w.plan c.command) c.command (own_replies w n) s
+  pub tasks : EachCommand w.plan (λ n c. (task : Option RunView)
+      → slice_get slots n ≡ Some task → slice_get w.answers n ≡ Some None
+      → Fits (list_for w.plan c.command) c.command (own_replies w n) task)
   pub before_is : before ≡ length (placed_from 0 (take w.round w.plan.pods.rounds))
   pub round_within : w.round ≤ length w.plan.pods.rounds
 
 -- the commands of the current round have the numbers from the first on, and before the end
 pub record AreNumbersOf (w : World) (first end : ℕ) : Type 0 where
   pub ordered : first ≤ end
-  pub all : (n : ℕ) (c : Placed) → slice_get (commands_of w.plan) n ≡ Some c → c.round ≡ w.round → (first ≤ n + 1) × (n + 1 < end)
+  pub all : EachCommand w.plan (λ n c. c.round ≡ w.round → (first ≤ n + 1) × (n + 1 < end))

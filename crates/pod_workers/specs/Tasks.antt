@@ -1,15 +1,16 @@
--- What the run of a command stands for, whichever crate carries it.
+-- What the task of a command stands for, whichever crate's run carries it. Only this crate's private clauses cite it.
 use Rattle.std.specs.Prelude.{◌≡◌, true, List, is_some}
-use Rattle.cni_verbs.specs.Progress.{Progress, is_gc}
+use Rattle.cni_verbs.specs.Progress.{RunView, is_gc}
 use Rattle.net_conf.specs.declared.list.NetList.{NetList}
 use Rattle.pod_file.specs.declared.command.Command.{Command}
 use Rattle.pod_workers.specs.Plans.{list_in}
 use Rattle.pod_workers.specs.declared.task.Carried.{Carried}
 use Rattle.pod_workers.specs.declared.task.Carried.TheVariants.{Verb, Collection}
 
-abbrev pub progress_in : Carried → Progress
-progress_in (Verb run) = run
-progress_in (Collection run) = run
+-- a collection has nothing to prepare
+abbrev pub view_of : Carried → RunView
+view_of (Verb run) = run
+view_of (Collection run) = record { progress = run; prepared = true }
 
 -- a collection has the list of its network
 abbrev pub IsListed : List NetList → Command → Type 0

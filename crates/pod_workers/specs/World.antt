@@ -6,9 +6,8 @@ use Rattle.cni_verbs.specs.Progress.{turn_by, answer_by}
 pub use Rattle.cni_verbs.specs.Replies.{reply_to}
 use Rattle.cni_verbs.specs.Script.{Turn, Calls, Finishes}
 use Rattle.cni_verbs.specs.declared.answer.Answer.{Answer}
-use Rattle.cni_verbs.specs.declared.answer.Answer.TheVariants.{Stopped}
-use Rattle.gc_sweep.specs.Trace.{Made, host_from}
-use Rattle.gc_sweep.specs.Trace as trace
+use Rattle.cni_verbs.specs.declared.answer.Answer.TheVariants.{OutOfMemory, Stopped}
+use Rattle.gc_sweep.specs.Trace.{Made, host_from, host_on}
 use Rattle.kernel_types.specs.declared.object.Host.{Host}
 use Rattle.kernel_types.specs.declared.call.Call.{Call}
 use Rattle.kernel_types.specs.declared.call.Reply.{Reply}
@@ -54,8 +53,8 @@ abbrev pub made_in : List Entry → List Made
 made_in es = map made_of es
 
 -- the host after an entry, and after these entries
-abbrev pub host_on : Host → Entry → Host
-host_on host e = trace.host_on host (made_of e)
+abbrev pub after_entry : Host → Entry → Host
+after_entry host e = host_on host (made_of e)
 
 abbrev pub after : Host → List Entry → Host
 after host es = host_from host (made_in es)
@@ -65,6 +64,21 @@ host_of w = after w.plan.pods.opening w.history
 
 abbrev pub own_replies : World → ℕ → List Reply
 own_replies w n = replies_of n w.history
+
+-- ---- the commands
+
+-- so it is for each command of the plan, at its place
+abbrev pub EachCommand : Plan → (ℕ → Placed → Type 0) → Type 0
+EachCommand p Fit = (n : ℕ) (c : Placed) → slice_get (commands_of p) n ≡ Some c → Fit n c
+
+-- so it is for each two commands of the plan, the earlier one first
+abbrev pub EachTwoCommands : Plan → (ℕ → Placed → ℕ → Placed → Type 0) → Type 0
+EachTwoCommands p Fit =
+    (m n : ℕ) (d c : Placed) → m < n → slice_get (commands_of p) m ≡ Some d → slice_get (commands_of p) n ≡ Some c → Fit m d n c
+
+-- so it is for the command of this number, from 1
+abbrev pub AtCommand : World → ℕ → (ℕ → Placed → Type 0) → Type 0
+AtCommand w number Fit = (n : ℕ) (c : Placed) → number ≡ n + 1 → slice_get (commands_of w.plan) n ≡ Some c → Fit n c
 
 -- ---- a step
 
@@ -144,6 +158,18 @@ abbrev pub end_of : Next → StepEnd
 end_of (next.Answer a) = Over
 end_of (next.Call call faulty) = Went
 
+-- how the step of the command at place n ends
+abbrev pub end_of_step : World → ℕ → Command → StepEnd
+end_of_step w n c = end_of (next_of w c (own_replies w n))
+
+-- the command of this number, from 1, made its step, which ended so
+abbrev pub StepsTo : World → World → ℕ → StepEnd → Type 0
+StepsTo old new number end = AtCommand old number (λ n c. (new ≡ stepped old n c.command) × (end ≡ end_of_step old n c.command))
+
+-- it was refused memory for its step, and is answered so
+abbrev pub RunsOut : World → World → ℕ → Type 0
+RunsOut old new number = AtCommand old number (λ n c. new ≡ answered old n OutOfMemory)
+
 abbrev pub next_round : World → World
 next_round w = record { plan = w.plan; history = w.history; answers = w.answers; round = w.round + 1 }
 
@@ -171,7 +197,7 @@ abbrev pub IsReady : World → ℕ → Placed → Type 0
 IsReady w n c = MayStep (commands_of w.plan) w.answers w.round n c
 
 abbrev pub IsRoundOver : World → Type 0
-IsRoundOver w = (n : ℕ) (c : Placed) → slice_get (commands_of w.plan) n ≡ Some c → c.round ≡ w.round → IsAnswered w n
+IsRoundOver w = EachCommand w.plan (λ n c. c.round ≡ w.round → IsAnswered w n)
 
 -- the command of this number, from 1, may step
 abbrev pub IsReadyNumber : World → ℕ → Type 0
@@ -183,9 +209,6 @@ IsReadyNumber w number = (n : ℕ) × (c : Placed) × (number ≡ n + 1) × IsRe
 abbrev pub begun : Plan → World
 begun p = record { plan = p; history = []; answers = map (λ (c : Placed). None) (commands_of p); round = 0 }
 
-abbrev pub answer_in : List (Option Answer) → ℕ → Option Answer
-answer_in answers number = option_flatten (at_number answers number)
-
--- the answer of the command of this number, from 1
-abbrev pub answer_at : World → ℕ → Option Answer
-answer_at w number = answer_in w.answers number
+-- the answer of the command of this number, from 1, where it has one
+abbrev pub answer_for : World → ℕ → Option Answer
+answer_for w number = option_flatten (at_number w.answers number)

@@ -1,20 +1,21 @@
 //! The book: a plan, the kernel that it is carried out on, what was done, and who is answered.
 
-ghost use Rattle.std.specs.Prelude.{◌≡◌, ◌+◌, ◌<◌, ◌^◌, ℕ, ◌-◌, Some, slice_get, length, nat_le, All, IfOk, IsTrue, OnOk, OnErr, MatchBool};
+ghost use Rattle.std.specs.Prelude.{◌≡◌, ◌+◌, ◌<◌, ◌^◌, ℕ, Some, slice_get, length, nat_le, All, IfOk, IsTrue, OnErr, MatchBool};
 ghost use Rattle.std.specs.Option.{option_copied};
-ghost use Rattle.cni_verbs.specs.declared.answer.Answer.TheVariants.{OutOfMemory};
 ghost use Rattle.pod_workers.specs.Extends.{Appends, Extends, Rounds, is_of_round};
 ghost use Rattle.pod_workers.specs.Index.{is_cut_by};
 ghost use Rattle.pod_workers.specs.Legal.{Legal};
 ghost use Rattle.pod_workers.specs.Order.{AppendsInFileOrder, EarlierAreAnswered, IsEntryBy, IsInFileOrder};
-ghost use Rattle.pod_workers.specs.Plans.{IsWellFormed, Placed, commands_of};
+ghost use Rattle.pod_workers.specs.Plans.{IsWellFormed};
 ghost use Rattle.pod_workers.specs.Slots.{AreNumbersOf};
-ghost use Rattle.pod_workers.specs.World.{IsReadyNumber, IsRoundOver, answer_at, answer_in, answered, at_number, begun, end_of, host_of, is_entry_in, next_of, next_round, own_replies, stepped};
+ghost use Rattle.pod_workers.specs.World.{IsReadyNumber, IsRoundOver, RunsOut, StepsTo, answer_for, at_number, begun, host_of, is_entry_in, next_round};
 ghost use Rattle.pod_workers.specs.declared.index.Place.{Place};
 
 use crate::index::{Place, command_at, index_of, may_step, place_at, round_at};
 use crate::plan::{Entry, Plan, StepEnd};
-use crate::slots::{Advance, Slot, blanks, carry_on, put_at, take_at};
+use crate::slots::{blanks, put_at, take_at};
+use crate::step::{Stepped, step_command};
+use crate::task::Task;
 use cni_addr::NoMemory;
 use cni_verbs::Answer;
 use kernel_model::Kernel;
@@ -30,7 +31,8 @@ pub struct Book<K: Kernel> {
     kernel: K,
     history: Vec<Entry>,
     answers: Vec<Option<Answer>>,
-    slots: Vec<Option<Slot>>,
+    // The task of each command that has begun and has no answer.
+    slots: Vec<Option<Task>>,
     places: Vec<Place>,
     // How many commands the rounds before the current one have.
     before: usize,
@@ -96,9 +98,12 @@ impl<K: Kernel + Drop> Book<K> {
 
     /// The answer of the command of this number, from 1, where it has one.
     pub fn answer(&self, command: u32) -> Option<&Answer>
-        ensures { option_copied result ≡ answer_at self.now command }
+        ensures { option_copied result ≡ answer_for self.now command }
     {
-        answer_in(self.answers.as_slice(), command)
+        match at_number(self.answers.as_slice(), command) {
+            None => None,
+            Some(answer) => answer.as_ref(),
+        }
     }
 
     /// The answers of all commands, in file order.
@@ -154,9 +159,8 @@ impl<K: Kernel + Drop> Book<K> {
     /// they were, and the command is answered so.
     pub fn step(&mut self, command: u32) -> Result<StepEnd, NoMemory>
         requires { IsReadyNumber self.old command }
-        ensures ok { OnOk result ((n : ℕ) (c : Placed) → command ≡ n + 1 → slice_get (commands_of self.old.plan) n ≡ Some c → self.new ≡ stepped self.old n c.command) }
-        ensures end { IfOk result (λ end. (n : ℕ) (c : Placed) → command ≡ n + 1 → slice_get (commands_of self.old.plan) n ≡ Some c → end ≡ end_of (next_of self.old c.command (own_replies self.old n))) }
-        ensures err { OnErr result ((n : ℕ) → command ≡ n + 1 → self.new ≡ answered self.old n OutOfMemory) }
+        ensures ok { IfOk result (StepsTo self.old self.new command) }
+        ensures err { OnErr result (RunsOut self.old self.new command) }
     {
         let n = (command - 1) as usize;
         let place = place_at(self.places.as_slice(), n);
@@ -166,26 +170,26 @@ impl<K: Kernel + Drop> Book<K> {
             self.places.as_slice(),
             self.round,
         );
-        let slot = take_at(&mut self.slots, n);
+        let task = take_at(&mut self.slots, n);
         let wanted = command_at(self.plan.pods.rounds.as_slice(), place);
-        match carry_on(
+        match step_command(
             &mut self.kernel,
             &mut self.history,
             self.plan.lists.as_slice(),
             wanted,
             cut,
-            slot,
+            task,
         ) {
             Err(NoMemory) => {
                 put_at(&mut self.answers, n, Answer::OutOfMemory);
                 Err(NoMemory)
             }
-            Ok(advance) => match advance {
-                Advance::Went(slot) => {
-                    put_at(&mut self.slots, n, slot);
+            Ok(stepped) => match stepped {
+                Stepped::Called(task) => {
+                    put_at(&mut self.slots, n, task);
                     Ok(StepEnd::Went)
                 }
-                Advance::Over(answer) => {
+                Stepped::Answered(answer) => {
                     put_at(&mut self.answers, n, answer);
                     Ok(StepEnd::Over)
                 }
@@ -208,7 +212,7 @@ impl<K: Kernel + Drop> Book<K> {
             self.is_legal();
         }
         self.is_legal();
-        self.turn();
+        self.next_round();
     }
 
     /// Steps a command until it may step no more.
@@ -235,7 +239,7 @@ impl<K: Kernel + Drop> Book<K> {
     }
 
     /// Makes the next round current.
-    fn turn(&mut self)
+    fn next_round(&mut self)
         requires left { self.old.round < length self.old.plan.pods.rounds }
         requires over { IsRoundOver self.old }
         ensures { self.new ≡ next_round self.old }
@@ -249,15 +253,6 @@ impl<K: Kernel + Drop> Book<K> {
         ensures { Legal self.now }
     {
         let _legal = &self.plan;
-    }
-}
-
-fn answer_in(answers: &[Option<Answer>], command: u32) -> Option<&Answer>
-    ensures { option_copied result ≡ answer_in answers.now command }
-{
-    match at_number(answers, command) {
-        None => None,
-        Some(answer) => answer.as_ref(),
     }
 }
 

@@ -6,7 +6,7 @@ ghost use Rattle.pod_workers.specs.Join.{first_repeat_after, first_without_list,
 ghost use Rattle.pod_workers.specs.Laws.{JoinedPlansAreWellFormed};
 ghost use Rattle.pod_workers.specs.declared.plan.Plan.{Plan};
 ghost use Rattle.pod_file.specs.Rounds.{file_limit};
-ghost use Rattle.pod_workers.specs.Plans.{commands_of, has_list, lacks_list, list_in, list_named, placed_from};
+ghost use Rattle.pod_workers.specs.Plans.{has_list, lacks_list, list_in, list_named, placed_from};
 
 use crate::plan::{Plan, PlanError};
 use cni_addr::{Items, Text};
@@ -18,10 +18,10 @@ impl Plan {
     /// earlier one, and the first command of a network that no list has.
     #[tactic(auto, unfolding(crate::specs::Join::joined))]
     pub fn join(lists: Items<NetList>, pods: Pods, stop_at: Option<u32>) -> Result<Plan, PlanError>
-        requires few_lists { length lists < 2 ^ 32 }
-        requires few_commands { length (commands_of (record { lists = lists; pods = pods; stop_at = stop_at })) ≤ file_limit }
+        requires { length lists < 2 ^ 32 }
         ensures { result ≡ joined (record { lists = lists; pods = pods; stop_at = stop_at }) }
     {
+        pods.rounds.laws();
         match refusal(lists.as_slice(), pods.rounds.as_slice()) {
             Some(error) => Err(error),
             None => Ok(Plan {

@@ -1,8 +1,9 @@
 //! Laws over every legal history, each carried by a function that does nothing.
 
 ghost use Rattle.pod_workers.specs.Facts.{EachAnswerIsGiven, EachCommandIsOpenAfterItsEntry, EachEntryIsMade, EachFront, EachStopIsCounted, EachWorldOfTheClausesIsLegal, EveryAnswerIsDue, EveryEntryFollows, LegalWorldsMeetEachClause};
-ghost use Rattle.pod_workers.specs.Laws.{EveryCallMayBeMade, EveryHostIsSound, NoAddressIsLeasedTwice};
+ghost use Rattle.pod_workers.specs.Laws.{EachNetworkCommandHasItsList, EveryCallMayBeMade, EveryHostIsSound, NoAddressIsLeasedTwice};
 ghost use Rattle.pod_workers.specs.Order.{FileOrderIsKept, OneOutcome};
+ghost use Rattle.pod_workers.specs.PlanCalls.{AddCallsArePlanned};
 
 /// Every host that a well-formed plan comes to is sound, whichever commands stepped in which order, were stopped, met
 /// faults or were refused memory.
@@ -21,6 +22,19 @@ pub fn no_address_is_leased_twice()
 #[tactic(auto, using(crate::proofs::Sound::allowed_next))]
 pub fn every_call_may_be_made()
     ensures { EveryCallMayBeMade }
+{}
+
+/// The network of each command whose verb speaks of one has its list in the plan.
+#[tactic(auto, using(crate::proofs::Listed::listed_network))]
+pub fn each_network_command_has_its_list()
+    ensures { EachNetworkCommandHasItsList }
+{}
+
+/// Whichever addresses an ADD is leased, its calls are its attachment's own or ensure what all attachments share, are
+/// well formed, make objects of the kinds alone that a DEL of its list takes back, and make just the wanted objects.
+#[tactic(auto, using(crate::proofs::PlanCalls::are_planned))]
+pub fn the_calls_of_an_add_are_planned()
+    ensures { AddCallsArePlanned }
 {}
 
 /// Each entry has the call of its command's script and the kernel's reply in the host there, or a fault that the

@@ -43,5 +43,5 @@ pub enum StepEnd {
 #[derive(Drop)]
 pub enum Next {
     Answer(Answer),
-    Call(Call, bool),
+    Call { call: Call, faulty: bool },
 }

@@ -23,26 +23,26 @@ enum Carried {
     Collection(GcRun),
 }
 
-/// The run of a command, of whichever verb.
+/// The run of a command, of whichever verb: how far its script has come, and whether it is prepared for what is next.
 #[derive(Drop)]
 pub struct Task {
     run: Carried,
 }
 
 impl Model for Task {
-    ghost use Rattle.cni_verbs.specs.Progress.{Progress};
-    ghost use Rattle.pod_workers.specs.Tasks.{progress_in};
+    ghost use Rattle.cni_verbs.specs.Progress.{RunView};
+    ghost use Rattle.pod_workers.specs.Tasks.{view_of};
 
-    ghost Value = { Progress };
+    ghost Value = { RunView };
 
-    ghost view = { λ t. progress_in t.run };
+    ghost view = { λ t. view_of t.run };
 }
 
 impl Task {
     /// The run of a command before its first call. A collection has a list.
     pub fn start(alloc: Global, list: Option<&NetList>, command: &Command) -> Result<Task, NoMemory>
         requires { is_gc command.now.verb ≡ true → is_some list ≡ true }
-        ensures { IfOk result (λ task. task ≡ progress (option_copied list.entry) command.now []) }
+        ensures { IfOk result (λ task. task.progress ≡ progress (option_copied list.entry) command.now []) }
     {
         if is_gc(command.verb) {
             match list {
@@ -58,16 +58,17 @@ impl Task {
 
     fn of_collection(alloc: Global, list: &NetList, command: &Command) -> Result<Task, NoMemory>
         requires { is_gc command.now.verb ≡ true }
-        ensures { IfOk result (λ task. task ≡ progress (Some list.now) command.now []) }
+        ensures { IfOk result (λ task. task.progress ≡ progress (Some list.now) command.now []) }
     {
         Ok(Task {
             run: Carried::Collection(GcRun::start(alloc, list, command)?),
         })
     }
 
-    /// Makes what a later call is read from, so that it isn't made anew at each. It changes nothing that is seen.
+    /// Makes what the next call is looked up in. How far the run has come stays the same, whether memory lacks or not.
     pub fn prepare(&mut self) -> Result<(), NoMemory>
-        ensures { self.new ≡ self.old }
+        ensures same { self.new.progress ≡ self.old.progress }
+        ensures ready { OnOk result (self.new.prepared ≡ true) }
     {
         match &mut self.run {
             Carried::Verb(run) => run.prepare(),
@@ -75,9 +76,19 @@ impl Task {
         }
     }
 
+    /// How many calls it has made.
+    pub fn made(&self) -> u64
+        ensures { result ≡ self.now.progress.made }
+    {
+        match &self.run {
+            Carried::Verb(run) => run.made(),
+            Carried::Collection(run) => run.made(),
+        }
+    }
+
     /// Whether no call is left to make. Takes no memory.
     pub fn over(&self) -> bool
-        ensures { FalseIff result (IsOpen self.now.state) }
+        ensures { FalseIff result (IsOpen self.now.progress.state) }
     {
         match &self.run {
             Carried::Verb(run) => run.over(),
@@ -87,7 +98,8 @@ impl Task {
 
     /// The call to make next, or none where the run is over.
     pub fn next(&self) -> Result<Option<Call>, NoMemory>
-        ensures { IfOk result (λ call. call ≡ next_call self.now.command self.now.state) }
+        requires prepared { self.now.prepared ≡ true }
+        ensures { IfOk result (λ call. call ≡ next_call self.now.progress.command self.now.progress.state) }
     {
         match &self.run {
             Carried::Verb(run) => run.next(),
@@ -98,9 +110,10 @@ impl Task {
     /// Takes the reply to the call that [`Task::next`] gave. Memory can be wanting only where the reply is a fault, and
     /// then the run is as it was.
     pub fn take(&mut self, reply: Reply) -> Result<(), NoMemory>
-        requires open { IsOpen self.old.state }
-        requires numbered { self.old.made + 1 < 2 ^ 64 }
-        ensures ok { OnOk result (self.new ≡ advanced self.old reply) }
+        requires prepared { self.old.prepared ≡ true }
+        requires open { IsOpen self.old.progress.state }
+        requires numbered { self.old.progress.made + 1 < 2 ^ 64 }
+        ensures ok { OnOk result (self.new.progress ≡ advanced self.old.progress reply) }
         ensures err { OnErr result (self.new ≡ self.old) }
         ensures frees { is_fault reply ≡ false → IsOk result }
     {
@@ -115,7 +128,7 @@ impl Task {
 
     /// What the command is answered, where the run is over.
     pub fn answer(&self) -> Result<Option<Answer>, NoMemory>
-        ensures { IfOk result (λ answer. answer ≡ answer_at self.now) }
+        ensures { IfOk result (λ answer. answer ≡ answer_at self.now.progress) }
     {
         match &self.run {
             Carried::Verb(run) => run.answer(),

@@ -6,7 +6,7 @@ use Rattle.pod_workers.proofs.book.Book.begin.Goals as goal
 
 pub index_of-requires : goal.index_of-requires
 unfolding commands_of
-index_of-requires g c = record { few_rounds = rw c.as_slice.ensures c.requires.well_formed.pods.few_rounds; few_commands = rw c.as_slice.ensures (few_commands c.args.plan c.requires.well_formed.pods) }
+index_of-requires g c = record { few_rounds = rw c.as_slice.ensures c.requires.well_formed.pods.rounds.few_rounds; few_commands = rw c.as_slice.ensures (few_commands c.args.plan c.requires.well_formed.pods) }
 
 pub invariant_of-result : goal.invariant_of-result
 invariant_of-result g c =

@@ -18,8 +18,8 @@ loop-number-preserved g c = record {
   order = λ order. c.finish.ensures.order (λ n is. below-earlier c.loop-number.self c.loop-number.number n c.loop-number.invariant.below is) (c.loop-number.invariant.order order);
 }
 
-pub turn-requires : goal.turn-requires
-turn-requires g c = record {
+pub next_round-requires : goal.next_round-requires
+next_round-requires g c = record {
   left = still-left _ _ c.loop-number.invariant.extends c.requires;
   over = round-is-over _ _ _ _ c.loop-number.number c.numbers-first.ensures c.loop-number.invariant.extends c.loop-number-test.false c.loop-number.invariant.below;
 }
@@ -27,10 +27,10 @@ turn-requires g c = record {
 pub returns-clause-rounds : goal.returns-clause-rounds
 returns-clause-rounds g c =
     rounds-from _ _ _ c.is_legal-2.ensures c.loop-number.invariant.extends
-    (round-is-over _ _ _ _ c.loop-number.number c.numbers-first.ensures c.loop-number.invariant.extends c.loop-number-test.false c.loop-number.invariant.below) c.turn.ensures
+    (round-is-over _ _ _ _ c.loop-number.number c.numbers-first.ensures c.loop-number.invariant.extends c.loop-number-test.false c.loop-number.invariant.below) c.next_round.ensures
 
 pub returns-clause-appends : goal.returns-clause-appends
-returns-clause-appends g c = turned-appends c.args.self.now c.loop-number.self c.turn.new.self c.loop-number.number c.loop-number.invariant.appends c.turn.ensures
+returns-clause-appends g c = turned-appends c.args.self.now c.loop-number.self c.next_round.new.self c.loop-number.number c.loop-number.invariant.appends c.next_round.ensures
 
 pub returns-clause-order : goal.returns-clause-order
-returns-clause-order g c = λ order. turned-in-order _ _ (c.loop-number.invariant.order order) c.turn.ensures
+returns-clause-order g c = λ order. turned-in-order _ _ (c.loop-number.invariant.order order) c.next_round.ensures

@@ -1,7 +1,7 @@
 use Rattle.std.proofs.Common.{sym, subst, arith}
 use Rattle.pod_workers.specs.World.{IsRoundOver}
 use Rattle.pod_workers.proofs.RoundDone.{round-fits, round-there, turned-keeps}
-use Rattle.pod_workers.proofs.book.Book.turn.Goals as goal
+use Rattle.pod_workers.proofs.book.Book.next_round.Goals as goal
 
 pub overflow_add-self : goal.overflow_add-self
 overflow_add-self g c =

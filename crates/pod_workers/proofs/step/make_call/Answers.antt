@@ -1,10 +1,10 @@
 use Rattle.std.proofs.Common.{[], ◌∷◌, ◌++◌, ◌∙◌, ap}
+use Rattle.cni_verbs.specs.Progress.{advanced}
 use Rattle.cni_verbs.specs.Replies.{host_after}
-use Rattle.pod_workers.specs.Slots.{slot_after}
-use Rattle.pod_workers.proofs.slots.make.Goals as goal
+use Rattle.pod_workers.proofs.step.make_call.Goals as goal
 
-pub returns-in-Ok-clause-slot : goal.returns-in-Ok-clause-slot
-returns-in-Ok-clause-slot g c = c.in-Ok.ensures.slot ∙ ap (slot_after c.args.slot.now) c.in-Ok.ensures.reply
+pub returns-in-Ok-clause-task : goal.returns-in-Ok-clause-task
+returns-in-Ok-clause-task g c = c.in-Ok.ensures.task ∙ ap (advanced c.args.task.now.progress) c.in-Ok.ensures.reply
 
 pub returns-in-Ok-clause-host : goal.returns-in-Ok-clause-host
 returns-in-Ok-clause-host g c = c.in-Ok.ensures.host ∙ ap (host_after (g.K.Kernel.host c.args.kernel.now) c.args.call) c.in-Ok.ensures.reply

@@ -1,0 +1,200 @@
+-- What the calls of an ADD are: its attachment's, well formed, of the kinds that its list's plugins name, and together
+-- what makes the wanted objects.
+use Rattle.std.proofs.Common.{◌≡◌, ℕ, ◌+◌, Bool, true, false, not, List, [], ◌∷◌, ◌++◌, Option, Some, None, refl, arith}
+use Rattle.std.specs.List.{AllByRecursion, list_all}
+use Rattle.std.proofs.lemmas.Bool.{and_from, and_parts}
+use Rattle.cni_addr.specs.declared.address.Addr.{Addr}
+use Rattle.cni_addr.specs.declared.range.RangeSet.{RangeSet}
+use Rattle.cni_result.specs.declared.cached.PortMapping.{PortMapping}
+use Rattle.ip_pool.specs.Pool.{are_apart}
+use Rattle.net_conf.specs.declared.first.First.{First}
+use Rattle.net_conf.specs.declared.first.First.TheVariants.{Bridge, Ptp, Macvlan}
+use Rattle.net_conf.specs.declared.first.HostLocalConf.{HostLocalConf}
+use Rattle.net_conf.specs.declared.chained.Chained.{Chained}
+use Rattle.net_conf.specs.declared.chained.Chained.TheVariants.{Portmap, Firewall, Tuning}
+use Rattle.net_conf.specs.declared.list.NetList.{NetList}
+use Rattle.kernel_types.proofs.Cases.{att_eq-refl}
+use Rattle.kernel_types.proofs.ListLemmas.{list_any-append_left, list_any-append_right}
+use Rattle.kernel_types.specs.Codes.{kind_eq}
+use Rattle.kernel_types.specs.declared.object.Att.{Att}
+use Rattle.kernel_types.specs.declared.call.Kind.{Kind}
+use Rattle.kernel_types.specs.declared.call.Kind.TheVariants as kinds
+use Rattle.kernel_types.specs.declared.call.Call.{Call}
+use Rattle.plan_words.specs.PlanCalls.{is_beside_plans, is_call_of, is_plan_call_of}
+use Rattle.plan_words.specs.Share.{Share, no_objects, share_after_calls}
+use Rattle.plan_words.proofs.CallLists.{share_after_calls-then}
+use Rattle.plan_words.proofs.KeyLists.{list_all-append}
+use Rattle.host_local.specs.Conf.{ipam_of, range_sets_of}
+use Rattle.host_local.specs.Leases.{lease_calls_from, lease_calls_of}
+use Rattle.host_local.specs.Kinds.{rule_kinds, lease_kinds}
+use Rattle.cni_verbs.specs.Wanted.{back_calls, calls_before, chained_kinds, chained_kinds_reversed, first_kinds, kinds_of, sets_of, wanted}
+use Rattle.cni_verbs.proofs.OwnCalls.{own-back, own-before}
+use Rattle.cni_verbs.proofs.WantedShare.{makes-wanted, share_with_leases}
+use Rattle.pod_workers.specs.PlanCalls.{AddCallsArePlanned, IsWellFormedCall, has_kind, is_of_kinds, only_leases}
+use Rattle.pod_workers.proofs.BackCalls.{PassesChained, PassesFirst, passes-back}
+use Rattle.pod_workers.proofs.Each.{each-append}
+use Rattle.pod_workers.proofs.PlannedCalls.{AllPlanned, planned-back, planned-before}
+use Rattle.pod_workers.proofs.Splits.{split_nil}
+use Rattle.pod_workers.proofs.WellFormedPlans.{first_apart}
+
+-- ---- whose they are
+
+own-plan : (att : Att) (calls : List Call) → list_all (is_plan_call_of att) calls ≡ true → list_all (is_call_of att) calls ≡ true
+own-plan att [] own = refl
+own-plan att (x ∷ xs) own =
+    let both = and_parts (is_plan_call_of att x) (list_all (is_plan_call_of att) xs) own in
+    and_from (is_call_of att x) (list_all (is_call_of att) xs) (and_parts (not (is_beside_plans x)) (is_call_of att x) both.0).1 (own-plan att xs both.1)
+
+own-leases : (att : Att) (number : ℕ) (sets : List RangeSet) → list_all (is_call_of att) (lease_calls_from att number sets) ≡ true
+own-leases att number [] = refl
+own-leases att number (s ∷ ss) = and_from _ _ (att_eq-refl att) (own-leases att (number + 1) ss)
+
+-- ---- they are well formed
+
+well_formed-planned : (att : Att) (calls : List Call) → AllPlanned att calls → AllByRecursion IsWellFormedCall calls
+well_formed-planned att [] h = tt
+well_formed-planned att (x ∷ xs) h = (h.0.1, well_formed-planned att xs h.1)
+
+well_formed-leases : (att : Att) (number : ℕ) (sets : List RangeSet) → list_all (λ set. are_apart set.ranges) sets ≡ true → AllByRecursion IsWellFormedCall (lease_calls_from att number sets)
+well_formed-leases att number [] apart = tt
+well_formed-leases att number (s ∷ ss) apart =
+    let both = and_parts (are_apart s.ranges) (list_all (λ set. are_apart set.ranges) ss) apart in
+    (both.0, well_formed-leases att (number + 1) ss both.1)
+
+-- ---- they are of their list's kinds
+
+-- each kind of the one list is in the other
+abbrev Among : List Kind → List Kind → Type 0
+Among some all = (k : Kind) → has_kind k some ≡ true → has_kind k all ≡ true
+
+has-left : (k : Kind) (xs ys : List Kind) → has_kind k xs ≡ true → has_kind k (xs ++ ys) ≡ true
+has-left k xs ys h = list_any-append_left (kind_eq k) xs ys h
+
+has-right : (k : Kind) (xs ys : List Kind) → has_kind k ys ≡ true → has_kind k (xs ++ ys) ≡ true
+has-right k xs ys h = list_any-append_right (kind_eq k) xs ys h
+
+first-among : (list : NetList) → Among (first_kinds list.first) (kinds_of list)
+first-among list = λ k h. has-right k (chained_kinds_reversed list.chained) (first_kinds list.first ++ kinds.Cached ∷ []) (has-left k (first_kinds list.first) (kinds.Cached ∷ []) h)
+
+chained-among : (list : NetList) → Among (chained_kinds_reversed list.chained) (kinds_of list)
+chained-among list = λ k h. has-left k (chained_kinds_reversed list.chained) (first_kinds list.first ++ kinds.Cached ∷ []) h
+
+cached-among : (list : NetList) → has_kind kinds.Cached (kinds_of list) ≡ true
+cached-among list = has-right kinds.Cached (chained_kinds_reversed list.chained) (first_kinds list.first ++ kinds.Cached ∷ []) (has-right kinds.Cached (first_kinds list.first) (kinds.Cached ∷ []) refl)
+
+first-links : (first : First) → has_kind kinds.Links (first_kinds first) ≡ true
+first-links (Bridge conf) = refl
+first-links (Ptp conf) = refl
+first-links (Macvlan conf) = refl
+
+kinds-before : (ks : List Kind) (first : First) (att : Att) (netns : List ℕ) → has_kind kinds.Links ks ≡ true → list_all (is_of_kinds ks) (calls_before first att netns) ≡ true
+kinds-before ks (Bridge conf) att netns links = grind (arith, links)
+kinds-before ks (Ptp conf) att netns links = grind (arith, links)
+kinds-before ks (Macvlan conf) att netns links = grind (arith, links)
+
+kinds-first : (ks : List Kind) (first : First) (att : Att) (netns : List ℕ) → Among (first_kinds first) ks → PassesFirst (is_of_kinds ks) first att netns
+kinds-first ks first att netns among =
+    let links : has_kind kinds.Links ks ≡ true = among kinds.Links (first-links first) in
+    record {
+      address = λ g. links;
+      route = λ dst gw. links;
+      host_address = λ conf is gateway. links;
+      host_route = λ conf is addr. links;
+      gateway = λ conf is cidr. refl;
+      forward = λ family. refl;
+      rule = λ there rule. among kinds.Rules there;
+    }
+
+kinds-chained : (ks : List Kind) (c : Chained) (att : Att) (netns : List ℕ) → Among (chained_kinds c) ks → PassesChained (is_of_kinds ks) att netns c
+kinds-chained ks (Portmap conf) att netns among = λ rule. among kinds.Rules refl
+kinds-chained ks (Firewall conf) att netns among = λ rule. among kinds.Rules refl
+kinds-chained ks (Tuning conf) att netns among = (λ s. among kinds.Settings refl, refl)
+
+kinds-all_chained : (ks : List Kind) (cs : List Chained) (att : Att) (netns : List ℕ) → Among (chained_kinds_reversed cs) ks → AllByRecursion (PassesChained (is_of_kinds ks) att netns) cs
+kinds-all_chained ks [] att netns among = tt
+kinds-all_chained ks (c ∷ cs) att netns among = (
+  kinds-chained ks c att netns (λ k h. among k (has-right k (chained_kinds_reversed cs) (chained_kinds c) h)),
+  kinds-all_chained ks cs att netns (λ k h. among k (has-left k (chained_kinds_reversed cs) (chained_kinds c) h)),
+)
+
+pub of_kinds-before : (list : NetList) (att : Att) (netns : List ℕ) → list_all (is_of_kinds (kinds_of list)) (calls_before list.first att netns) ≡ true
+of_kinds-before list att netns = kinds-before (kinds_of list) list.first att netns (first-among list kinds.Links (first-links list.first))
+
+pub of_kinds-back : (list : NetList) (att : Att) (netns : List ℕ) (mappings : List PortMapping) (addrs : List Addr) → list_all (is_of_kinds (kinds_of list)) (back_calls list att netns mappings addrs) ≡ true
+of_kinds-back list att netns mappings addrs =
+    passes-back (is_of_kinds (kinds_of list)) list att netns mappings addrs (kinds-first (kinds_of list) list.first att netns (first-among list)) (kinds-all_chained (kinds_of list) list.chained att netns (chained-among list))
+    (λ cached. cached-among list)
+
+-- a list that leases names the kind of leases
+
+leases-lease_kinds : (o : Option HostLocalConf) (past left : List RangeSet) (next : RangeSet) → range_sets_of o ≡ past ++ next ∷ left → has_kind kinds.Leases (lease_kinds o) ≡ true
+leases-lease_kinds None past left next e = absurd (split_nil past left next e)
+leases-lease_kinds (Some ipam) past left next e = refl
+
+behind-rules : (b : Bool) (rest : List Kind) → has_kind kinds.Leases rest ≡ true → has_kind kinds.Leases (kinds.Links ∷ (rule_kinds b ++ rest)) ≡ true
+behind-rules true rest h = h
+behind-rules false rest h = h
+
+leases-first_kinds : (first : First) (past left : List RangeSet) (next : RangeSet) → range_sets_of (ipam_of first) ≡ past ++ next ∷ left → has_kind kinds.Leases (first_kinds first) ≡ true
+leases-first_kinds (Bridge conf) past left next e = behind-rules conf.ip_masq (lease_kinds conf.ipam) (leases-lease_kinds conf.ipam past left next e)
+leases-first_kinds (Ptp conf) past left next e = behind-rules conf.ip_masq (kinds.Leases ∷ []) refl
+leases-first_kinds (Macvlan conf) past left next e = leases-lease_kinds conf.ipam past left next e
+
+pub leases-kinds_of : (list : NetList) (past left : List RangeSet) (next : RangeSet) → sets_of list ≡ past ++ next ∷ left → has_kind kinds.Leases (kinds_of list) ≡ true
+leases-kinds_of list past left next e = first-among list kinds.Leases (leases-first_kinds list.first past left next e)
+
+kinds-leases : (ks : List Kind) (att : Att) (number : ℕ) (sets : List RangeSet) → has_kind kinds.Leases ks ≡ true → list_all (is_of_kinds ks) (lease_calls_from att number sets) ≡ true
+kinds-leases ks att number [] there = refl
+kinds-leases ks att number (s ∷ ss) there = and_from _ _ there (kinds-leases ks att (number + 1) ss there)
+
+of_kinds-leases : (list : NetList) (att : Att) (sets : List RangeSet) → sets_of list ≡ sets → list_all (is_of_kinds (kinds_of list)) (lease_calls_of sets att) ≡ true
+of_kinds-leases list att [] is = refl
+of_kinds-leases list att (s ∷ ss) is = kinds-leases (kinds_of list) att 0 (s ∷ ss) (leases-kinds_of list [] ss s is)
+
+-- ---- what they add
+
+leases-add_none : (s : Share) (att : Att) (number : ℕ) (sets : List RangeSet) → share_after_calls s (lease_calls_from att number sets) ≡ s
+leases-add_none s att number [] = refl
+leases-add_none s att number (set ∷ sets) = leases-add_none s att (number + 1) sets
+
+adds-before : (first : First) (att : Att) (netns : List ℕ) (given : List Addr) → share_after_calls (only_leases att given) (calls_before first att netns) ≡ record (share_after_calls no_objects (calls_before first att netns)) { leases = (only_leases att given).leases }
+adds-before (Bridge conf) att netns given = refl
+adds-before (Ptp conf) att netns given = refl
+adds-before (Macvlan conf) att netns given = refl
+
+adds-all : (list : NetList) (att : Att) (netns : List ℕ) (mappings : List PortMapping) (given : List Addr)
+    → share_after_calls (only_leases att given) (calls_before list.first att netns ++ (lease_calls_of (sets_of list) att ++ back_calls list att netns mappings given)) ≡ wanted list att netns mappings given
+adds-all list att netns mappings given =
+    let on = share_with_leases list att netns given in
+    let back = back_calls list att netns mappings given in
+    share_after_calls-then (only_leases att given) on (wanted list att netns mappings given) (calls_before list.first att netns) (lease_calls_of (sets_of list) att ++ back) (adds-before list.first att netns given)
+    (share_after_calls-then on on (wanted list att netns mappings given) (lease_calls_of (sets_of list) att) back (leases-add_none on att 0 (sets_of list)) (makes-wanted list att netns mappings given))
+
+-- ---- all
+
+-- the calls after a Begin pass a test where those of each part do
+in-parts : (p : Call → Bool) (list : NetList) (att : Att) (netns : List ℕ) (mappings : List PortMapping) (given : List Addr) → list_all p (calls_before list.first att netns) ≡ true
+    → list_all p (lease_calls_of (sets_of list) att) ≡ true → list_all p (back_calls list att netns mappings given) ≡ true
+    → list_all p (calls_before list.first att netns ++ (lease_calls_of (sets_of list) att ++ back_calls list att netns mappings given)) ≡ true
+in-parts p list att netns mappings given before leases back =
+    let rest = back_calls list att netns mappings given in
+    list_all-append p (calls_before list.first att netns) (lease_calls_of (sets_of list) att ++ rest) before (list_all-append p (lease_calls_of (sets_of list) att) rest leases back)
+
+pub are_planned : AddCallsArePlanned
+are_planned list att netns mappings given =
+    let before = calls_before list.first att netns in
+    let leases = lease_calls_of (sets_of list) att in
+    let back = back_calls list att netns mappings given in
+    let plan_before = own-before list.first att netns in
+    let plan_back = (own-back list att netns mappings given).all in
+    record {
+      own = and_from _ _ (att_eq-refl att) (in-parts (is_call_of att) list att netns mappings given (own-plan att before plan_before) (own-leases att 0 (sets_of list)) (own-plan att back plan_back));
+      planned = list_all-append (is_plan_call_of att) before back plan_before plan_back;
+      well_formed = λ formed place. (
+        tt,
+        each-append IsWellFormedCall before (leases ++ back) (well_formed-planned att before (planned-before list.first att netns place))
+            (each-append IsWellFormedCall leases back (well_formed-leases att 0 (sets_of list) (first_apart list.first formed.first)) (well_formed-planned att back (planned-back list att netns mappings given place))),
+      );
+      of_kinds = in-parts (is_of_kinds (kinds_of list)) list att netns mappings given (of_kinds-before list att netns) (of_kinds-leases list att (sets_of list) refl) (of_kinds-back list att netns mappings given);
+      adds = adds-all list att netns mappings given;
+    }
