@@ -1,4 +1,5 @@
-pub mod Ended
+pub mod Dues
+pub mod Endings
 pub mod Joined
 pub mod Lists
 pub mod Stopping

@@ -8,17 +8,17 @@ use Rattle.pod_file.specs.declared.pods.Pods.{Pods}
 use Rattle.pod_workers.specs.declared.plan.Plan.{Plan}
 use Rattle.tool_words.specs.declared.words.Words.{Words}
 use Rattle.tool_run.specs.Causes.{Steps, WhereTold}
-use Rattle.tool_run.specs.Verdict.{Told, stored_list, stored_lists, plan_of, stored_pods, told_plan}
-use Rattle.tool_run.specs.declared.plan.Stop.{Stop}
-use Rattle.tool_run.specs.declared.plan.Stop.TheVariants.{Usage, Line, Unread, NoMemory}
+use Rattle.tool_run.specs.Verdict.{Judged, stored_list, stored_lists, plan_of, stored_pods, judged_plan}
+use Rattle.tool_run.specs.declared.plan.NoPlan.{NoPlan}
+use Rattle.tool_run.specs.declared.plan.NoPlan.TheVariants.{Usage, Line, Unread, NoMemory}
 use Rattle.cni_io.proofs.Counts.{Rose-from_start}
 use Rattle.cni_verbs.proofs.Asked.{left_from}
 
 -- what is read of the rest stands behind what was read
-abbrev pub behind : List NetList → Told (List NetList) → Told (List NetList)
+abbrev pub behind : List NetList → Judged (List NetList) → Judged (List NetList)
 behind front rest = rest >>= (λ (lists : List NetList). Ok (front ++ lists))
 
-behind-cons : (front : List NetList) (list : NetList) (rest : Told (List NetList))
+behind-cons : (front : List NetList) (list : NetList) (rest : Judged (List NetList))
     → behind front (rest >>= (λ (lists : List NetList). Ok (list ∷ lists))) ≡ behind (front ++ list ∷ []) rest
 behind-cons front list (Ok lists) = ap (λ (xs : List NetList). Ok xs) (sym (append_assoc front (list ∷ []) lists))
 behind-cons front list (Err line) = refl
@@ -27,7 +27,7 @@ behind-cons front list (Err line) = refl
 pub lists-one_more : (files : StoredFiles) (front : List NetList) (name : List ℕ) (names : List (List ℕ)) (list : NetList) → stored_list files name ≡ Ok list
     → behind front (stored_lists files (name ∷ names)) ≡ behind (front ++ list ∷ []) (stored_lists files names)
 lists-one_more files front name names list is =
-    ap (λ (t : Told NetList). behind front (t >>= (λ (l : NetList). stored_lists files names >>= (λ (ls : List NetList). Ok (l ∷ ls))))) is
+    ap (λ (t : Judged NetList). behind front (t >>= (λ (l : NetList). stored_lists files names >>= (λ (ls : List NetList). Ok (l ∷ ls))))) is
     ∙ behind-cons front list (stored_lists files names)
 
 -- ---- one step of the loop over the names
@@ -44,15 +44,15 @@ rest-next files names front i name list lt at rest read = λ stored told.
 -- ---- the plan
 
 -- the lists stop the plan, behind the pod file
-pub plan-stops : (files later : Option StoredFiles) (start before now : ℕ) (words : Words) (pods : Pods) (stop : Stop) → later ≡ files
+pub plan-stops : (files later : Option StoredFiles) (start before now : ℕ) (words : Words) (pods : Pods) (none : NoPlan) → later ≡ files
     → WhereTold files (λ stored. stored_pods stored words.pods ≡ Ok pods) → start ≤ before
-    → Steps {X = List NetList} (λ lists. lists) later before now words.lists (λ stored. stored_lists stored words.lists) (Err stop)
-    → Steps {X = Plan} (λ plan. plan) files start now (words.pods ∷ words.lists) (λ stored. plan_of stored words) (Err stop)
+    → Steps {X = List NetList} (λ lists. lists) later before now words.lists (λ stored. stored_lists stored words.lists) (Err none)
+    → Steps {X = Plan} (λ plan. plan) files start now (words.pods ∷ words.lists) (λ stored. plan_of stored words) (Err none)
 unfolding plan_of
 plan-stops files later start before now words pods Usage same first up steps = absurd steps
 plan-stops files later start before now words pods (Line line) same first up steps = λ stored told.
-    ap (λ (t : Told Pods). t >>= (λ (p : Pods). stored_lists stored words.lists >>= told_plan words p)) (first stored told)
-    ∙ ap (λ (t : Told (List NetList)). t >>= told_plan words pods) (steps stored (same ∙ told))
+    ap (λ (t : Judged Pods). t >>= (λ (p : Pods). stored_lists stored words.lists >>= judged_plan words p)) (first stored told)
+    ∙ ap (λ (t : Judged (List NetList)). t >>= judged_plan words pods) (steps stored (same ∙ told))
 plan-stops files later start before now words pods (Unread line) same first up steps = record {
   file = steps.file;
   named = (suc steps.named.0, omega arith, steps.named.2);
@@ -62,10 +62,10 @@ plan-stops files later start before now words pods (Unread line) same first up s
 plan-stops files later start before now words pods NoMemory same first up steps = tt
 
 -- the same of names that are equal to those of the words
-pub plan-stops-at : (files later : Option StoredFiles) (start before now : ℕ) (words : Words) (name : List ℕ) (names : List (List ℕ)) (pods : Pods) (stop : Stop)
+pub plan-stops-at : (files later : Option StoredFiles) (start before now : ℕ) (words : Words) (name : List ℕ) (names : List (List ℕ)) (pods : Pods) (none : NoPlan)
     → name ≡ words.pods → names ≡ words.lists → later ≡ files → WhereTold files (λ stored. stored_pods stored name ≡ Ok pods) → start ≤ before
-    → Steps {X = List NetList} (λ lists. lists) later before now names (λ stored. stored_lists stored names) (Err stop)
-    → Steps {X = Plan} (λ plan. plan) files start now (words.pods ∷ words.lists) (λ stored. plan_of stored words) (Err stop)
-plan-stops-at files later start before now words name names pods stop name_is names_are same first up steps =
-    plan-stops files later start before now words pods stop same (subst (λ (n : List ℕ). WhereTold files (λ stored. stored_pods stored n ≡ Ok pods)) name_is first) up
-    (subst (λ (ns : List (List ℕ)). Steps {X = List NetList} (λ lists. lists) later before now ns (λ stored. stored_lists stored ns) (Err stop)) names_are steps)
+    → Steps {X = List NetList} (λ lists. lists) later before now names (λ stored. stored_lists stored names) (Err none)
+    → Steps {X = Plan} (λ plan. plan) files start now (words.pods ∷ words.lists) (λ stored. plan_of stored words) (Err none)
+plan-stops-at files later start before now words name names pods none name_is names_are same first up steps =
+    plan-stops files later start before now words pods none same (subst (λ (n : List ℕ). WhereTold files (λ stored. stored_pods stored n ≡ Ok pods)) name_is first) up
+    (subst (λ (ns : List (List ℕ)). Steps {X = List NetList} (λ lists. lists) later before now ns (λ stored. stored_lists stored ns) (Err none)) names_are steps)

@@ -7,9 +7,9 @@ use Rattle.net_conf.specs.declared.list.NetList.{NetList}
 use Rattle.pod_file.specs.PodFile.{pods_of}
 use Rattle.pod_file.specs.declared.pods.Pods.{Pods}
 use Rattle.tool_run.specs.Lines.{unread_line}
-use Rattle.tool_run.specs.Verdict.{Told}
-use Rattle.tool_run.specs.declared.plan.Stop.{Stop}
-use Rattle.tool_run.specs.declared.plan.Stop.TheVariants.{Usage, Line, Unread, NoMemory}
+use Rattle.tool_run.specs.Verdict.{Judged}
+use Rattle.tool_run.specs.declared.plan.NoPlan.{NoPlan}
+use Rattle.tool_run.specs.declared.plan.NoPlan.TheVariants.{Usage, Line, Unread, NoMemory}
 
 -- of the files, where they are told
 abbrev pub WhereTold : Option StoredFiles → (StoredFiles → Type 0) → Type 0
@@ -23,7 +23,8 @@ pub record IsUnread (names : List (List ℕ)) (before now : ℕ) (line : List �
   pub says : line ≡ unread_line file
 
 -- A step gives what told files want; or the line that they want; or a read of a named file failed; or memory ran out.
-abbrev pub Steps : {X Y : Type 0} → (X → Y) → Option StoredFiles → ℕ → ℕ → List (List ℕ) → (StoredFiles → Told Y) → Result X Stop → Type 0
+abbrev pub Steps : {X Y : Type 0} → (X → Y) → Option StoredFiles → ℕ → ℕ → List (List ℕ) → (StoredFiles → Judged Y)
+    → Result X NoPlan → Type 0
 Steps view files before now names wanted (Ok x) = WhereTold files (λ stored. wanted stored ≡ Ok (view x))
 Steps view files before now names wanted (Err Usage) = ⊥
 Steps view files before now names wanted (Err (Line line)) = WhereTold files (λ stored. wanted stored ≡ Err line.items)
@@ -31,12 +32,12 @@ Steps view files before now names wanted (Err (Unread line)) = IsUnread names be
 Steps view files before now names wanted (Err NoMemory) = ⊤
 
 -- a step that reads no file
-abbrev pub GivesTold : {X : Type 0} → Result X Stop → Told X → Type 0
-GivesTold (Ok x) wanted = wanted ≡ Ok x
-GivesTold (Err Usage) wanted = ⊥
-GivesTold (Err (Line line)) wanted = wanted ≡ Err line.items
-GivesTold (Err (Unread line)) wanted = ⊥
-GivesTold (Err NoMemory) wanted = ⊤
+abbrev pub GivesJudged : {X : Type 0} → Result X NoPlan → Judged X → Type 0
+GivesJudged (Ok x) wanted = wanted ≡ Ok x
+GivesJudged (Err Usage) wanted = ⊥
+GivesJudged (Err (Line line)) wanted = wanted ≡ Err line.items
+GivesJudged (Err (Unread line)) wanted = ⊥
+GivesJudged (Err NoMemory) wanted = ⊤
 
 -- the list was read, whether its file is told or not
 abbrev pub IsReadList : NetList → Type 0

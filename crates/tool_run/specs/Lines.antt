@@ -2,7 +2,7 @@
 use Rattle.std.specs.Prelude.{ℕ, List, codes}
 use Rattle.serde_json.specs.Data.{Data, object, no_members, put}
 use Rattle.cni_json.specs.Json.{line_of}
-use Rattle.cni_result.specs.Members.{text_data, ◌▷◌}
+use Rattle.cni_json.specs.Members.{text_data, ◌▷◌}
 use Rattle.cni_result.specs.Results.{error_data}
 use Rattle.cni_result.specs.declared.error.CniError.{CniError}
 

@@ -1,5 +1,6 @@
 -- What a run sees of its files and of its sink.
 use Rattle.std.specs.Prelude.{ℕ, List, Option}
+use Rattle.cni_io.specs.Faults.{Rose}
 use Rattle.cni_io.specs.Files.{StoredFiles}
 
 -- the files, where they are told, and the count of their faults before the run and now
@@ -25,3 +26,10 @@ sink_seen written faults old new = record {
   faults_before = faults old;
   faults_now = faults new;
 }
+
+-- a read failed, and a write
+abbrev pub HasReadFault : FilesSeen → Type 0
+HasReadFault files = Rose files.faults_before files.faults_now
+
+abbrev pub HasWriteFault : SinkSeen → Type 0
+HasWriteFault sink = Rose sink.faults_before sink.faults_now

@@ -17,13 +17,14 @@ use Rattle.tool_run.specs.Lines.{word_line, unread_line, error_line}
 use Rattle.tool_run.specs.Refusals.{list_error, pods_error, plan_error, file_at_fault}
 
 -- a value, or the line that tells why there is none
-abbrev pub Told : Type 0 → Type 0
-Told A = Result A (List ℕ)
+abbrev pub Judged : Type 0 → Type 0
+Judged A = Result A (List ℕ)
 
 -- the most bytes of a file
 abbrev pub limit : ℕ
 limit = 16777216
 
+-- What is printed of a file that isn't given. (`file_of` never answers want of memory: that line is printed of no file.)
 abbrev pub fault_line : FileFault → List ℕ → List ℕ
 fault_line fault.Missing file = word_line (codes "missing") file
 fault_line (fault.TooLarge most) file = word_line (codes "too large") file
@@ -31,31 +32,31 @@ fault_line fault.Failed file = unread_line file
 fault_line fault.NoMemory file = word_line (codes "out of memory") file
 
 -- a value, or what is printed of the error
-abbrev pub told : {A E : Type 0} → (E → List ℕ) → Result A E → Told A
-told line (Ok x) = Ok x
-told line (Err e) = Err (line e)
+abbrev pub judged : {A E : Type 0} → (E → List ℕ) → Result A E → Judged A
+judged line (Ok x) = Ok x
+judged line (Err e) = Err (line e)
 
-abbrev pub stored_bytes : StoredFiles → List ℕ → Told (List ℕ)
-stored_bytes files file = told (λ e. fault_line e file) (file_of files limit file)
+abbrev pub stored_bytes : StoredFiles → List ℕ → Judged (List ℕ)
+stored_bytes files file = judged (λ e. fault_line e file) (file_of files limit file)
 
 -- what the bytes of a file are read as, or the line of the error
-abbrev pub told_by : {A E : Type 0} → (List ℕ → Result A E) → (E → CniError) → List ℕ → List ℕ → Told A
-told_by of_bytes error_of file bytes = told (λ e. error_line (error_of e) file) (of_bytes bytes)
+abbrev pub judged_by : {A E : Type 0} → (List ℕ → Result A E) → (E → CniError) → List ℕ → List ℕ → Judged A
+judged_by of_bytes error_of file bytes = judged (λ e. error_line (error_of e) file) (of_bytes bytes)
 
-abbrev pub told_pods : List ℕ → List ℕ → Told Pods
-told_pods file bytes = told_by pods_of pods_error file bytes
+abbrev pub judged_pods : List ℕ → List ℕ → Judged Pods
+judged_pods file bytes = judged_by pods_of pods_error file bytes
 
-abbrev pub told_list : List ℕ → List ℕ → Told NetList
-told_list file bytes = told_by list_of list_error file bytes
+abbrev pub judged_list : List ℕ → List ℕ → Judged NetList
+judged_list file bytes = judged_by list_of list_error file bytes
 
-unfoldable pub stored_pods : StoredFiles → List ℕ → Told Pods
-stored_pods files file = stored_bytes files file >>= told_pods file
+unfoldable pub stored_pods : StoredFiles → List ℕ → Judged Pods
+stored_pods files file = stored_bytes files file >>= judged_pods file
 
-unfoldable pub stored_list : StoredFiles → List ℕ → Told NetList
-stored_list files file = stored_bytes files file >>= told_list file
+unfoldable pub stored_list : StoredFiles → List ℕ → Judged NetList
+stored_list files file = stored_bytes files file >>= judged_list file
 
 -- each list in order, up to the first that is refused
-abbrev pub stored_lists : StoredFiles → List (List ℕ) → Told (List NetList)
+abbrev pub stored_lists : StoredFiles → List (List ℕ) → Judged (List NetList)
 stored_lists files [] = Ok []
 stored_lists files (name ∷ names) = do
   list ← stored_list files name
@@ -65,15 +66,16 @@ stored_lists files (name ∷ names) = do
 abbrev pub plan_from : Words → Pods → List NetList → Plan
 plan_from words pods lists = record { lists = lists; pods = pods; stop_at = words.stop_at }
 
-unfoldable pub told_plan : Words → Pods → List NetList → Told Plan
-told_plan words pods lists = told (λ e. error_line (plan_error e) (file_at_fault words e)) (joined (plan_from words pods lists))
+unfoldable pub judged_plan : Words → Pods → List NetList → Judged Plan
+judged_plan words pods lists = judged (λ e. error_line (plan_error e) (file_at_fault words e))
+    (joined (plan_from words pods lists))
 
 -- the pod file, then each list, then the plan
-unfoldable pub plan_of : StoredFiles → Words → Told Plan
+unfoldable pub plan_of : StoredFiles → Words → Judged Plan
 plan_of files words = do
   pods ← stored_pods files words.pods
   lists ← stored_lists files words.lists
-  told_plan words pods lists
+  judged_plan words pods lists
 
 -- the words aren't taken; a line tells what is refused; or a plan is carried out, and printed with its trace and dump
 -- where asked
@@ -82,7 +84,7 @@ pub data Verdict : Type 0 where
   line : List ℕ → Verdict
   carry : Plan → (trace dump : Bool) → Verdict
 
-abbrev pub verdict_on : Words → Told Plan → Verdict
+abbrev pub verdict_on : Words → Judged Plan → Verdict
 verdict_on words (Ok plan) = carry plan words.trace words.dump
 verdict_on words (Err text) = line text
 

@@ -1,51 +1,74 @@
-//! A plan that is carried out, a round after another.
+//! A plan that is carried out, a round after another, and printed.
 
-ghost use Rattle.std.specs.Prelude.{◌≡◌, ◌≤◌, IfOk, length};
+ghost use Rattle.std.specs.Prelude.{◌≡◌, ◌≤◌, IfOk};
+ghost use Rattle.pod_text.specs.Lines.{text_of};
 ghost use Rattle.pod_workers.specs.Legal.{Legal};
 ghost use Rattle.pod_workers.specs.Order.{IsInFileOrder};
 ghost use Rattle.pod_workers.specs.Plans.{IsWellFormed};
-ghost use Rattle.tool_run.specs.Rounds.{KeepsFileOrder, MakesRounds};
+ghost use Rattle.tool_run.specs.Reports.{CarriesOut};
 
+use crate::due::Due;
+use crate::rounds::make_round;
 use cni_addr::NoMemory;
 use kernel_model::ListKernel;
-use pod_workers::{Book, Plan, begin_on_lists};
+use pod_text::text;
+use pod_threads::Gate;
+use pod_workers::{Book, begin_on_lists};
 use std::alloc::Global;
+use std::sync::Wait;
+use std::thread::Threads;
+use tool_words::Words;
 
-/// The plan's book over the kernel of lists, with every round made by a function that is handed in.
-pub(crate) fn carry_out<M: Fn(Book<ListKernel>, u8) -> Book<ListKernel>>(
-    make: &M,
-    alloc: Global,
-    plan: Plan,
-    threads: u8,
-) -> Result<Book<ListKernel>, NoMemory>
-    requires well_formed { IsWellFormed plan }
-    requires some { 1 ≤ threads }
-    requires makes { MakesRounds M.Fn make.now }
-    ensures plan { IfOk result (λ book. book.plan ≡ plan) }
-    ensures over { IfOk result (λ book. length plan.pods.rounds ≤ book.round) }
-    ensures legal { IfOk result Legal }
-    ensures order { IfOk result (λ book. KeepsFileOrder M.Fn make.now threads → IsInFileOrder book) }
-{
-    let book = begin_on_lists(alloc, plan)?;
-    let book = make_rounds(make, book, threads);
-    book.is_legal();
-    Ok(book)
+/// A plan that was carried out: its book, and the whole text of it.
+#[derive(Drop)]
+pub(crate) struct CarriedOut {
+    pub(crate) book: Book<ListKernel>,
+    pub(crate) text: Vec<u8>,
 }
 
-/// Makes every round that is left.
-fn make_rounds<M: Fn(Book<ListKernel>, u8) -> Book<ListKernel>>(
-    make: &M,
-    mut book: Book<ListKernel>,
-    threads: u8,
-) -> Book<ListKernel>
-    requires some { 1 ≤ threads }
-    requires makes { MakesRounds M.Fn make.now }
-    ensures plan { result.plan ≡ book.plan }
-    ensures over { length book.plan.pods.rounds ≤ result.round }
-    ensures order { KeepsFileOrder M.Fn make.now threads → IsInFileOrder book → IsInFileOrder result }
+/// Carries out the plan, each round by as many threads as the words ask for.
+#[tactic(auto, using(crate::proofs::Dues::carries_out, crate::proofs::Dues::in_order))]
+pub(crate) fn carry_out<R: Threads + Wait + Sync, G: Gate>(
+    rt: &R,
+    alloc: Global,
+    due: Due,
+    gate: &G,
+) -> Result<CarriedOut, NoMemory>
+    requires well_formed { IsWellFormed due.plan }
+    requires some { 1 ≤ due.words.threads }
+    ensures made { IfOk result (CarriesOut due) }
+    ensures order { due.words.threads ≡ 1 → IfOk result (λ made. IsInFileOrder made.book) }
 {
+    let Due { words, plan } = due;
+    let mut book = begin_on_lists(alloc, plan)?;
     while !book.ended() {
-        book = make(book, threads);
+        book = make_round(rt, alloc, book, words.threads, gate);
     }
-    book
+    print(alloc, book, &words)
+}
+
+/// Carries out the plan on the calling thread.
+#[tactic(auto, using(crate::proofs::Dues::carries_out, crate::proofs::Dues::in_order))]
+pub(crate) fn carry_out_alone(alloc: Global, due: Due) -> Result<CarriedOut, NoMemory>
+    requires well_formed { IsWellFormed due.plan }
+    ensures made { IfOk result (CarriesOut due) }
+    ensures order { IfOk result (λ made. IsInFileOrder made.book) }
+{
+    let Due { words, plan } = due;
+    let mut book = begin_on_lists(alloc, plan)?;
+    while !book.ended() {
+        book.round_alone();
+    }
+    print(alloc, book, &words)
+}
+
+/// The book with its text, as the words ask for it.
+fn print(alloc: Global, book: Book<ListKernel>, words: &Words) -> Result<CarriedOut, NoMemory>
+    ensures book { IfOk result (λ made. made.book ≡ book) }
+    ensures legal { Legal book }
+    ensures text { IfOk result (λ made. made.text.items ≡ text_of book words.now.trace words.now.dump) }
+{
+    book.is_legal();
+    let text = text(alloc, &book, words.trace, words.dump)?;
+    Ok(CarriedOut { book, text })
 }

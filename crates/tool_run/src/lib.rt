@@ -1,13 +1,14 @@
 //! The top call of the program `cnitool`: words, files, a plan that is carried out on the modelled kernel, and the
 //! text.
 //!
-//! What it promises above: [`run`] by several threads, if it returns, and [`run_alone`] by one end in one of the ways
-//! that `Ends` lists (`specs/Statuses.antt`), and the book that they carried out has the guarantee (`IsGuaranteed`,
-//! `pod_laws/specs/Guaranteed.antt`). Where files and sink tell their bytes, what is written is the text of a legal book
-//! of exactly the plan that the definition `verdict_of` (`specs/Verdict.antt`) makes of the words and the files, or the
-//! one line that it gives in place of a plan; out of memory nothing was written. Where no read and no write failed,
-//! nothing but that takes the place of it. Where one thread makes the rounds, the book's commands go in the order of the
-//! file, and words and files alone determine what is written and the status.
+//! What it promises above: [`run`] by several threads, if it returns, and [`run_alone`] by one end in one of the ways of
+//! `Ends` (`specs/Statuses.antt`): what was to be reported was written, with its status; or the sink gave up, behind a
+//! front of it; or memory ran out outside the commands, and nothing was written. What is reported is the text of a
+//! book, or one line: that the words aren't taken, what is refused, or which read failed. Where the files are told, the
+//! book is of the plan that the definition `verdict_of` (`specs/Verdict.antt`) makes of words and files. The book has
+//! the guarantee `IsGuaranteed` of `pod_laws`, whatever the threads. Where one thread makes the rounds, the book's
+//! commands go in the order of the file, and words and files determine what is written and the status, want of memory
+//! and faults aside (`IsDetermined`).
 //!
 //! ```text
 //! // words: --threads 4 pods.json net.json
@@ -21,10 +22,12 @@
 #[cfg(test)]
 mod alone_tests;
 mod carry;
+mod due;
 pub mod laws;
 mod lines;
 mod plan;
 mod refusals;
+mod report;
 mod rounds;
 mod settle;
 #[cfg(test)]

@@ -7,8 +7,8 @@ ghost use Rattle.tool_run.specs.Lines.{error_line, file_data, word_line};
 ghost use Rattle.cni_json.specs.Json.{line_of};
 
 use cni_addr::NoMemory;
-use cni_json::line;
-use cni_result::{CniError, JsonObject, error_value};
+use cni_json::{JsonObject, line};
+use cni_result::{CniError, error_value};
 use serde_json::Value;
 use std::alloc::Global;
 

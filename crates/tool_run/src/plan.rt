@@ -3,8 +3,8 @@
 ghost use Rattle.std.specs.Prelude.{◌≡◌, ◌≤◌, ◌<◌, ◌^◌, ◌∷◌, [], IfOk, All, length};
 ghost use Rattle.pod_workers.specs.Plans.{IsWellFormed};
 ghost use Rattle.tool_words.specs.Command.{most_lists};
-ghost use Rattle.tool_run.specs.Causes.{GivesTold, IsReadList, IsReadPods, Steps};
-ghost use Rattle.tool_run.specs.Verdict.{stored_bytes, stored_list, stored_lists, plan_of, stored_pods, told_list, told_plan, told_pods};
+ghost use Rattle.tool_run.specs.Causes.{GivesJudged, IsReadList, IsReadPods, Steps};
+ghost use Rattle.tool_run.specs.Verdict.{stored_bytes, stored_list, stored_lists, plan_of, stored_pods, judged_list, judged_plan, judged_pods};
 
 use crate::laws::read_plans_are_well_formed;
 use crate::lines::{error_line, word_line};
@@ -22,7 +22,7 @@ const LIMIT: u64 = 16_777_216;
 
 /// Why there is nothing to carry out.
 #[derive(Drop)]
-pub(crate) enum Stop {
+pub(crate) enum NoPlan {
     /// The words aren't taken.
     Usage,
     /// A file or the plan is refused, and this line says why.
@@ -33,19 +33,23 @@ pub(crate) enum Stop {
     NoMemory,
 }
 
-impl From<NoMemory> for Stop {
-    ghost use Rattle.tool_run.specs.declared.plan.Stop.TheVariants as stops;
+impl From<NoMemory> for NoPlan {
+    ghost use Rattle.tool_run.specs.declared.plan.NoPlan.TheVariants as no_plan;
 
-    ghost from_gives = { λ _ stop. stop ≡ stops.NoMemory };
+    ghost from_gives = { λ _ end. end ≡ no_plan.NoMemory };
 
-    fn from(_refused: NoMemory) -> Stop {
-        Stop::NoMemory
+    fn from(_refused: NoMemory) -> NoPlan {
+        NoPlan::NoMemory
     }
 }
 
 /// Reads the pod file, then each network list in order, and joins them.
 #[tactic(auto, using(crate::proofs::Stopping::stopping), unfolding(crate::specs::Verdict::plan_of))]
-pub(crate) fn read_plan<F: Files>(alloc: Global, files: &mut F, words: &Words) -> Result<Plan, Stop>
+pub(crate) fn read_plan<F: Files>(
+    alloc: Global,
+    files: &mut F,
+    words: &Words,
+) -> Result<Plan, NoPlan>
     requires { length words.now.lists ≤ most_lists }
     ensures gives { Steps (λ plan. plan) (F.files files.old) (F.faults files.old) (F.faults files.new)
         (words.now.pods ∷ words.now.lists) (λ stored. plan_of stored words.now) result }
@@ -59,12 +63,12 @@ pub(crate) fn read_plan<F: Files>(alloc: Global, files: &mut F, words: &Words) -
     join(alloc, words, pods, lists)
 }
 
-#[tactic(auto, using(crate::proofs::Stopping::stopping), unfolding(crate::specs::Verdict::told_plan))]
-fn join(alloc: Global, words: &Words, pods: Pods, lists: Items<NetList>) -> Result<Plan, Stop>
+#[tactic(auto, using(crate::proofs::Stopping::stopping), unfolding(crate::specs::Verdict::judged_plan))]
+fn join(alloc: Global, words: &Words, pods: Pods, lists: Items<NetList>) -> Result<Plan, NoPlan>
     requires few { length lists ≤ most_lists }
     requires pods_read { IsReadPods pods }
     requires lists_read { All IsReadList lists }
-    ensures gives { GivesTold result (told_plan words.now pods lists) }
+    ensures gives { GivesJudged result (judged_plan words.now pods lists) }
     ensures well_formed { IfOk result IsWellFormed }
 {
     read_plans_are_well_formed();
@@ -72,13 +76,13 @@ fn join(alloc: Global, words: &Words, pods: Pods, lists: Items<NetList>) -> Resu
         Ok(plan) => Ok(plan),
         Err(end) => {
             let file = file_at_fault(words, end);
-            Err(Stop::Line(error_line(alloc, &plan_error(alloc, end)?, file)?))
+            Err(NoPlan::Line(error_line(alloc, &plan_error(alloc, end)?, file)?))
         }
     }
 }
 
 #[tactic(auto, using(crate::proofs::Stopping::stopping), unfolding(crate::specs::Verdict::stored_pods))]
-fn read_pods<F: Files>(alloc: Global, files: &mut F, file: &str) -> Result<Pods, Stop>
+fn read_pods<F: Files>(alloc: Global, files: &mut F, file: &str) -> Result<Pods, NoPlan>
     ensures gives { Steps (λ pods. pods) (F.files files.old) (F.faults files.old) (F.faults files.new)
         (file.now ∷ []) (λ stored. stored_pods stored file.now) result }
     ensures read { IfOk result IsReadPods }
@@ -91,14 +95,14 @@ fn read_pods<F: Files>(alloc: Global, files: &mut F, file: &str) -> Result<Pods,
 }
 
 #[tactic(auto, using(crate::proofs::Stopping::stopping))]
-fn pods_of_bytes(alloc: Global, bytes: &[u8], file: &str) -> Result<Pods, Stop>
-    ensures gives { GivesTold result (told_pods file.now bytes.now) }
+fn pods_of_bytes(alloc: Global, bytes: &[u8], file: &str) -> Result<Pods, NoPlan>
+    ensures gives { GivesJudged result (judged_pods file.now bytes.now) }
     ensures read { IfOk result IsReadPods }
 {
     match pod_file::read_pods(alloc, bytes) {
         Ok(pods) => Ok(pods),
-        Err(PodError::NoMemory) => Err(Stop::NoMemory),
-        Err(end) => Err(Stop::Line(error_line(alloc, &pods_error(alloc, &end)?, file)?)),
+        Err(PodError::NoMemory) => Err(NoPlan::NoMemory),
+        Err(end) => Err(NoPlan::Line(error_line(alloc, &pods_error(alloc, &end)?, file)?)),
     }
 }
 
@@ -106,7 +110,7 @@ fn read_lists<F: Files>(
     alloc: Global,
     files: &mut F,
     names: &[Text],
-) -> Result<Items<NetList>, Stop>
+) -> Result<Items<NetList>, NoPlan>
     ensures gives { Steps (λ lists. lists) (F.files files.old) (F.faults files.old) (F.faults files.new)
         names.now (λ stored. stored_lists stored names.now) result }
     ensures read { IfOk result (All IsReadList) }
@@ -124,7 +128,7 @@ fn read_lists<F: Files>(
 }
 
 #[tactic(auto, using(crate::proofs::Stopping::stopping), unfolding(crate::specs::Verdict::stored_list))]
-fn read_list<F: Files>(alloc: Global, files: &mut F, file: &str) -> Result<NetList, Stop>
+fn read_list<F: Files>(alloc: Global, files: &mut F, file: &str) -> Result<NetList, NoPlan>
     ensures gives { Steps (λ list. list) (F.files files.old) (F.faults files.old) (F.faults files.new)
         (file.now ∷ []) (λ stored. stored_list stored file.now) result }
     ensures read { IfOk result IsReadList }
@@ -137,19 +141,19 @@ fn read_list<F: Files>(alloc: Global, files: &mut F, file: &str) -> Result<NetLi
 }
 
 #[tactic(auto, using(crate::proofs::Stopping::stopping))]
-fn list_of_bytes(alloc: Global, bytes: &[u8], file: &str) -> Result<NetList, Stop>
-    ensures gives { GivesTold result (told_list file.now bytes.now) }
+fn list_of_bytes(alloc: Global, bytes: &[u8], file: &str) -> Result<NetList, NoPlan>
+    ensures gives { GivesJudged result (judged_list file.now bytes.now) }
     ensures read { IfOk result IsReadList }
 {
     match net_conf::read_list(alloc, bytes) {
         Ok(list) => Ok(list),
-        Err(ConfError::NoMemory) => Err(Stop::NoMemory),
-        Err(end) => Err(Stop::Line(error_line(alloc, &list_error(alloc, &end)?, file)?)),
+        Err(ConfError::NoMemory) => Err(NoPlan::NoMemory),
+        Err(end) => Err(NoPlan::Line(error_line(alloc, &list_error(alloc, &end)?, file)?)),
     }
 }
 
 #[tactic(auto, using(crate::proofs::Stopping::stopping))]
-fn read_bytes<F: Files>(alloc: Global, files: &mut F, file: &str) -> Result<Vec<u8>, Stop>
+fn read_bytes<F: Files>(alloc: Global, files: &mut F, file: &str) -> Result<Vec<u8>, NoPlan>
     ensures gives { Steps (λ bytes. bytes.items) (F.files files.old) (F.faults files.old) (F.faults files.new)
         (file.now ∷ []) (λ stored. stored_bytes stored file.now) result }
     ensures keeps { F.files files.new ≡ F.files files.old }
@@ -158,9 +162,9 @@ fn read_bytes<F: Files>(alloc: Global, files: &mut F, file: &str) -> Result<Vec<
 {
     match files.read(alloc, file, LIMIT) {
         Ok(bytes) => Ok(bytes),
-        Err(FileFault::Missing) => Err(Stop::Line(word_line(alloc, "missing", file)?)),
-        Err(FileFault::TooLarge { .. }) => Err(Stop::Line(word_line(alloc, "too large", file)?)),
-        Err(FileFault::Failed) => Err(Stop::Unread(word_line(alloc, "read", file)?)),
-        Err(FileFault::NoMemory) => Err(Stop::NoMemory),
+        Err(FileFault::Missing) => Err(NoPlan::Line(word_line(alloc, "missing", file)?)),
+        Err(FileFault::TooLarge { .. }) => Err(NoPlan::Line(word_line(alloc, "too large", file)?)),
+        Err(FileFault::Failed) => Err(NoPlan::Unread(word_line(alloc, "read", file)?)),
+        Err(FileFault::NoMemory) => Err(NoPlan::NoMemory),
     }
 }

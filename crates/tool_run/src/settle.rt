@@ -1,60 +1,49 @@
-//! What the words and the files come to, before anything is written.
+//! What a run is to report.
 
-ghost use Rattle.std.specs.Prelude.{◌≡◌};
-ghost use Rattle.tool_words.specs.Words.{IsWithinLimits};
-ghost use Rattle.tool_run.specs.Ends.{Settles, SettlesFor};
-ghost use Rattle.tool_run.specs.Rounds.{KeepsFileOrder, MakesRounds};
+ghost use Rattle.std.specs.Prelude.{◌≡◌, IfOk};
+ghost use Rattle.pod_workers.specs.Order.{IsInFileOrder};
+ghost use Rattle.tool_run.specs.Reports.{Settles};
+ghost use Rattle.tool_run.specs.Seen.{files_seen};
+ghost use Rattle.tool_run.specs.Statuses.{AskForOneThread};
 
-use crate::carry::carry_out;
-use crate::plan::{Stop, read_plan};
+use crate::carry::{CarriedOut, carry_out, carry_out_alone};
+use crate::due::read_due;
+use crate::plan::NoPlan;
 use cni_addr::Text;
 use cni_io::Files;
-use kernel_model::ListKernel;
-use pod_text::text;
-use pod_workers::Book;
+use pod_threads::Gate;
 use std::alloc::Global;
-use tool_words::{Words, WordsEnd, read_words};
+use std::sync::Wait;
+use std::thread::Threads;
 
-/// A plan that was carried out: its book, and the whole text of it.
-#[derive(Drop)]
-pub(crate) struct CarriedOut {
-    pub(crate) book: Book<ListKernel>,
-    pub(crate) text: Vec<u8>,
-}
-
-/// What the words and the files come to, carried out.
-pub(crate) fn settle<M: Fn(Book<ListKernel>, u8) -> Book<ListKernel>, F: Files>(
-    make: &M,
+/// What the words and the files come to, carried out by as many threads as the words ask for.
+pub(crate) fn settle<R: Threads + Wait + Sync, F: Files, G: Gate>(
+    rt: &R,
     alloc: Global,
     words: &[Text],
     files: &mut F,
-) -> Result<CarriedOut, Stop>
-    requires { MakesRounds M.Fn make.now }
-    ensures settles { Settles (KeepsFileOrder M.Fn make.now) words.now
-        (F.files files.old) (F.faults files.old) (F.faults files.new) result }
+    gate: &G,
+) -> Result<CarriedOut, NoPlan>
+    ensures settles { Settles words.now (files_seen F.files F.faults files.old files.new) result }
+    ensures order { AskForOneThread words.now → IfOk result (λ made. IsInFileOrder made.book) }
     ensures keeps { F.files files.new ≡ F.files files.old }
 {
-    match read_words(alloc, words) {
-        Ok(words) => settle_words(make, alloc, &words, files),
-        Err(WordsEnd::Usage) => Err(Stop::Usage),
-        Err(WordsEnd::NoMemory) => Err(Stop::NoMemory),
-    }
+    let due = read_due(alloc, words, files)?;
+    let made = carry_out(rt, alloc, due, gate)?;
+    Ok(made)
 }
 
-fn settle_words<M: Fn(Book<ListKernel>, u8) -> Book<ListKernel>, F: Files>(
-    make: &M,
+/// The same on the calling thread.
+pub(crate) fn settle_alone<F: Files>(
     alloc: Global,
-    words: &Words,
+    words: &[Text],
     files: &mut F,
-) -> Result<CarriedOut, Stop>
-    requires makes { MakesRounds M.Fn make.now }
-    requires limits { IsWithinLimits words.now }
-    ensures settles { SettlesFor (KeepsFileOrder M.Fn make.now) words.now
-        (F.files files.old) (F.faults files.old) (F.faults files.new) result }
+) -> Result<CarriedOut, NoPlan>
+    ensures settles { Settles words.now (files_seen F.files F.faults files.old files.new) result }
+    ensures order { IfOk result (λ made. IsInFileOrder made.book) }
     ensures keeps { F.files files.new ≡ F.files files.old }
 {
-    let plan = read_plan(alloc, files, words)?;
-    let book = carry_out(make, alloc, plan, words.threads)?;
-    let text = text(alloc, &book, words.trace, words.dump)?;
-    Ok(CarriedOut { book, text })
+    let due = read_due(alloc, words, files)?;
+    let made = carry_out_alone(alloc, due)?;
+    Ok(made)
 }

@@ -1,5 +1,4 @@
-//! Two ADDs of one round, stepped in turn by hand, the room that an entry of the history takes, and the codes of
-//! errors; and the words, the files and the sink of the other tests.
+//! Two ADDs of one round, stepped in turn by hand; and the words, the files and the sink of the other tests.
 
 ghost use Rattle.std.specs.Prelude.{◌≤◌, IfOk, length};
 ghost use Rattle.tool_words.specs.Command.{most_lists};
@@ -7,12 +6,11 @@ ghost use Rattle.tool_words.specs.Command.{most_lists};
 use crate::plan::read_plan;
 use cni_addr::{Items, NoMemory, Text};
 use cni_io::{MemFiles, MemSink};
-use cni_verbs::{Answer, ErrorKind};
+use cni_verbs::Answer;
 use kernel_model::ListKernel;
 use kernel_text::reply_text;
 use pod_workers::{Book, Entry, begin_on_lists};
 use std::alloc::Global;
-use std::mem::size_of;
 use std::test::Fail;
 use tool_words::Words;
 
@@ -117,60 +115,36 @@ fn lines(alloc: Global, history: &[Entry]) -> Result<String, Fail> {
     Ok(lines)
 }
 
-fn is_added(answer: Option<&Answer>) -> bool {
-    matches!(answer, Some(Answer::Added(_)))
-}
-
-fn code(answer: Option<&Answer>) -> u32 {
+/// The code that a command is refused with, 0 where it has a result.
+fn code(answer: Option<&Answer>) -> Option<u32> {
     match answer {
-        Some(Answer::Refused(error)) => error.code,
-        _ => 0,
+        Some(Answer::Added(_)) => Some(0),
+        Some(Answer::Refused(error)) => Some(error.code),
+        _ => None,
     }
 }
 
+/// In two namespaces both are added; in one the second finds the name taken, and takes back what it made.
 #[test]
 fn two_adds_take_turns(rt: HostRuntime) -> Result<(), Fail> {
     let alloc = rt.alloc();
-    let mut book = book_of(alloc, APART)?;
-    step_in_turn(&mut book);
-    let found = lines(alloc, book.history())?;
-    let wanted =
-        "1 Done\n2 Done\n1 Done\n2 Done\n1 Done\n2 Done\n1 Leased 10.88.0.2\n2 Leased 10.88.0.3\n1 Done\n2 Done\n1 Done\n2 Done\n";
-    assert_eq!(rt; found.as_str(), wanted);
-    assert!(rt; is_added(book.answer(1)) && is_added(book.answer(2)));
-    Ok(())
-}
-
-#[test]
-fn the_second_finds_the_name_taken(rt: HostRuntime) -> Result<(), Fail> {
-    let alloc = rt.alloc();
-    let mut book = book_of(alloc, TOGETHER)?;
-    step_in_turn(&mut book);
-    let found = lines(alloc, book.history())?;
-    let wanted =
-        "1 Done\n2 Done\n1 Done\n2 Done\n1 Done\n2 Taken pods/c1/eth0\n1 Leased 10.88.0.2\n2 Entry none\n1 Done\n2 Gone false\n1 Done\n2 Gone false\n2 Gone false\n";
-    assert_eq!(rt; found.as_str(), wanted);
-    assert!(rt; is_added(book.answer(1)));
-    assert_eq!(rt; code(book.answer(2)), 101);
-    Ok(())
-}
-
-/// So that a change of the types that entries are made of is seen.
-#[test]
-fn an_entry_takes_so_many_bytes(rt: HostRuntime) -> Result<(), Fail> {
-    assert_eq!(rt; size_of::<Entry>(), 528);
-    Ok(())
-}
-
-/// The codes that the CNI specification names (section 5, "Error").
-#[test]
-fn codes_are_those_of_the_specification(rt: HostRuntime) -> Result<(), Fail> {
-    assert_eq!(rt; ErrorKind::IncompatibleVersion.code(), 1);
-    assert_eq!(rt; ErrorKind::UnsupportedField.code(), 2);
-    assert_eq!(rt; ErrorKind::ContainerUnknown.code(), 3);
-    assert_eq!(rt; ErrorKind::InvalidVariables.code(), 4);
-    assert_eq!(rt; ErrorKind::DecodingFailed.code(), 6);
-    assert_eq!(rt; ErrorKind::InvalidList.code(), 7);
-    assert_eq!(rt; ErrorKind::NotAvailable.code(), 50);
+    for (pods, wanted, second) in [
+        (
+            APART,
+            "1 Done\n2 Done\n1 Done\n2 Done\n1 Done\n2 Done\n1 Leased 10.88.0.2\n2 Leased 10.88.0.3\n1 Done\n2 Done\n1 Done\n2 Done\n",
+            0,
+        ),
+        (
+            TOGETHER,
+            "1 Done\n2 Done\n1 Done\n2 Done\n1 Done\n2 Taken pods/c1/eth0\n1 Leased 10.88.0.2\n2 Entry none\n1 Done\n2 Gone false\n1 Done\n2 Gone false\n2 Gone false\n",
+            101,
+        ),
+    ] {
+        let mut book = book_of(alloc, pods)?;
+        step_in_turn(&mut book);
+        let found = lines(alloc, book.history())?;
+        assert_eq!(rt; found.as_str(), wanted);
+        assert!(rt; code(book.answer(1)) == Some(0) && code(book.answer(2)) == Some(second));
+    }
     Ok(())
 }

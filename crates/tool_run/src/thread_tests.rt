@@ -1,11 +1,10 @@
 //! Runs by several threads, with gates that show that two of them are at work at one time.
 
+use crate::run;
 use crate::tests::{files_of, sink_of, texts_of};
-use crate::{Outcome, run};
 use cni_addr::Text;
 use cni_io::{Files, Sink};
-use cni_verbs::Answer;
-use pod_threads::{Gate, OpenGate};
+use pod_threads::Gate;
 use std::alloc::Global;
 use std::sync::Wait;
 use std::sync::atomic::{AtomicBool, Ordering};
@@ -15,116 +14,67 @@ use std::thread::Threads;
 /// The most turns that a worker is held.
 const TURNS: u64 = 1_000_000_000;
 
-/// The first address of the list, 10.88.0.2.
-const FIRST: u128 = 0x0a58_0002;
+/// The beginning of a pod file, up to its first round.
+const OPENING: &str = "\
+{\"opening\":{\"namespaces\":[\"/ns/1\",\"/ns/2\",\"/ns/3\",\"/ns/4\",\"/ns/5\",\"/ns/6\",\"/ns/7\",\"/ns/8\"]},\"rounds\":[";
 
-/// The line of the last command, when all eight are deleted.
-const LAST_LINE: &str = "{\"n\":16,\"ok\":true,\"verb\":\"DEL\"}\n";
+/// A round that adds eight containers, each in a namespace of its own.
+const ADDED: &str = "\
+[\
+{\"verb\":\"ADD\",\"network\":\"pods\",\"container\":\"c1\",\"netns\":\"/ns/1\"},\
+{\"verb\":\"ADD\",\"network\":\"pods\",\"container\":\"c2\",\"netns\":\"/ns/2\"},\
+{\"verb\":\"ADD\",\"network\":\"pods\",\"container\":\"c3\",\"netns\":\"/ns/3\"},\
+{\"verb\":\"ADD\",\"network\":\"pods\",\"container\":\"c4\",\"netns\":\"/ns/4\"},\
+{\"verb\":\"ADD\",\"network\":\"pods\",\"container\":\"c5\",\"netns\":\"/ns/5\"},\
+{\"verb\":\"ADD\",\"network\":\"pods\",\"container\":\"c6\",\"netns\":\"/ns/6\"},\
+{\"verb\":\"ADD\",\"network\":\"pods\",\"container\":\"c7\",\"netns\":\"/ns/7\"},\
+{\"verb\":\"ADD\",\"network\":\"pods\",\"container\":\"c8\",\"netns\":\"/ns/8\"}]";
 
-/// What is looked at of a run.
-#[derive(Drop)]
-struct Seen {
-    status: u8,
-    entries: usize,
-    /// The addresses that ADDs were given, in order, as numbers.
-    given: Vec<u128>,
-    ends_well: bool,
-}
+/// A round behind it, which deletes them.
+const DELETED: &str = "\
+,[\
+{\"verb\":\"DEL\",\"network\":\"pods\",\"container\":\"c1\",\"netns\":\"/ns/1\"},\
+{\"verb\":\"DEL\",\"network\":\"pods\",\"container\":\"c2\",\"netns\":\"/ns/2\"},\
+{\"verb\":\"DEL\",\"network\":\"pods\",\"container\":\"c3\",\"netns\":\"/ns/3\"},\
+{\"verb\":\"DEL\",\"network\":\"pods\",\"container\":\"c4\",\"netns\":\"/ns/4\"},\
+{\"verb\":\"DEL\",\"network\":\"pods\",\"container\":\"c5\",\"netns\":\"/ns/5\"},\
+{\"verb\":\"DEL\",\"network\":\"pods\",\"container\":\"c6\",\"netns\":\"/ns/6\"},\
+{\"verb\":\"DEL\",\"network\":\"pods\",\"container\":\"c7\",\"netns\":\"/ns/7\"},\
+{\"verb\":\"DEL\",\"network\":\"pods\",\"container\":\"c8\",\"netns\":\"/ns/8\"}]";
 
-/// A round of one verb for the containers c1 to c8, each in a namespace of its own.
-fn round_of(alloc: Global, verb: &str) -> Result<String, Fail> {
-    let mut round = String::new(alloc);
-    for n in 1..9u8 {
-        let end = if n < 8 { "," } else { "" };
-        let command = format!(in alloc;
-            "{{\"verb\":\"{verb}\",\"network\":\"pods\",\"container\":\"c{n}\",\"netns\":\"/ns/{n}\"}}{end}"
-        )?;
-        round.push_str(command.as_str())?;
+/// A pod file of its parts.
+fn joined(alloc: Global, parts: &[&str]) -> Result<String, Fail> {
+    let mut text = String::new(alloc);
+    for part in parts {
+        text.push_str(part)?;
     }
-    Ok(round)
+    Ok(text)
 }
 
-/// A pod file of these rounds, behind the eight namespaces.
-fn pods_of(alloc: Global, rounds: &str) -> Result<String, Fail> {
-    let mut names = String::new(alloc);
-    for n in 1..9u8 {
-        let end = if n < 8 { "," } else { "" };
-        let name = format!(in alloc; "\"/ns/{n}\"{end}")?;
-        names.push_str(name.as_str())?;
-    }
-    let names = names.as_str();
-    Ok(format!(in alloc; "{{\"opening\":{{\"namespaces\":[{names}]}},\"rounds\":[{rounds}]}}")?)
-}
-
-/// Eight containers are added in one round.
-fn eight_added(alloc: Global) -> Result<String, Fail> {
-    let added = round_of(alloc, "ADD")?;
-    let added = added.as_str();
-    let rounds = format!(in alloc; "[{added}]")?;
-    pods_of(alloc, rounds.as_str())
-}
-
-/// Eight containers are added in one round, and deleted in the next.
-fn added_and_deleted(alloc: Global) -> Result<String, Fail> {
-    let added = round_of(alloc, "ADD")?;
-    let added = added.as_str();
-    let deleted = round_of(alloc, "DEL")?;
-    let deleted = deleted.as_str();
-    let rounds = format!(in alloc; "[{added}],[{deleted}]")?;
-    pods_of(alloc, rounds.as_str())
-}
-
-/// A run over any files and any sink.
-fn run_over<R: Threads + Wait + Sync, F: Files, S: Sink, G: Gate>(
+/// The status of a run over any files and any sink.
+fn status_over<R: Threads + Wait + Sync, F: Files, S: Sink, G: Gate>(
     rt: &R,
     alloc: Global,
     words: &[Text],
     files: &mut F,
     sink: &mut S,
     gate: &G,
-) -> Outcome {
-    run(rt, alloc, words, files, sink, gate)
+) -> u8 {
+    run(rt, alloc, words, files, sink, gate).status
 }
 
-fn run_with<R: Threads + Wait + Sync, G: Gate>(
+/// The status of a run by so many threads.
+fn status_by<R: Threads + Wait + Sync, G: Gate>(
     rt: &R,
     alloc: Global,
     threads: &str,
     pods: &str,
     gate: &G,
-) -> Result<Seen, Fail> {
+) -> Result<u8, Fail> {
     let words = texts_of(alloc, &["--threads", threads, "pods.json", "net.json"])?;
     let mut files = files_of(alloc, pods)?;
     let mut sink = sink_of(alloc)?;
-    let outcome = run_over(rt, alloc, words.as_slice(), &mut files, &mut sink, gate);
-    let ends_well = sink.written().ends_with(LAST_LINE.as_bytes());
-    seen_of(alloc, &outcome, ends_well)
-}
-
-fn seen_of(alloc: Global, outcome: &Outcome, ends_well: bool) -> Result<Seen, Fail> {
-    match &outcome.book {
-        Some(book) => Ok(Seen {
-            status: outcome.status,
-            entries: book.history().len(),
-            given: given(alloc, book.answers())?,
-            ends_well,
-        }),
-        None => Err("there is no book".into()),
-    }
-}
-
-/// The addresses that ADDs were given, in order, as numbers.
-fn given(alloc: Global, answers: &[Option<Answer>]) -> Result<Vec<u128>, Fail> {
-    let mut given = Vec::new(alloc);
-    for answer in answers {
-        if let Some(Answer::Added(result)) = answer {
-            for entry in result.ips.as_slice() {
-                given.push(entry.address.addr.bits)?;
-            }
-        }
-    }
-    given.sort()?;
-    Ok(given)
+    Ok(status_over(rt, alloc, words.as_slice(), &mut files, &mut sink, gate))
 }
 
 /// A point that a worker comes to: a command's number, and how many steps were made for it.
@@ -211,58 +161,30 @@ fn before_first(command: u32) -> Point {
     Point { command, calls: 0 }
 }
 
-/// Whether these are the eight addresses from 10.88.0.2 on.
-fn are_first_eight(given: &[u128]) -> bool {
-    let mut next = FIRST;
-    for bits in given {
-        if *bits != next {
-            return false;
-        }
-        next = next.saturating_add(1);
-    }
-    given.len() == 8
-}
-
 /// The first command waits for a step of the second, which waits then for the first.
 #[test]
 fn two_threads_step_in_turn(rt: HostRuntime) -> Result<(), Fail> {
     let alloc = rt.alloc();
-    let pods = eight_added(alloc)?;
+    let pods = joined(alloc, &[OPENING, ADDED, "]}"])?;
     let second_step = Point {
         command: 2,
         calls: 1,
     };
     let gate = meeting_of(before_first(1), second_step);
-    let seen = run_with(&rt, alloc, "4", pods.as_str(), &gate)?;
-    assert!(rt; gate.was_held());
-    assert_eq!(rt; seen.status, 0);
-    assert!(rt; are_first_eight(seen.given.as_slice()));
-    assert_eq!(rt; seen.entries, 48);
+    let status = status_by(&rt, alloc, "4", pods.as_str(), &gate)?;
+    assert!(rt; status == 0 && gate.was_held());
     Ok(())
 }
 
 #[test]
 fn two_threads_are_at_work_in_each_round(rt: HostRuntime) -> Result<(), Fail> {
     let alloc = rt.alloc();
-    let pods = added_and_deleted(alloc)?;
+    let pods = joined(alloc, &[OPENING, ADDED, DELETED, "]}"])?;
     let gate = Meetings {
         added: meeting_of(before_first(1), before_first(2)),
         deleted: meeting_of(before_first(9), before_first(10)),
     };
-    let seen = run_with(&rt, alloc, "2", pods.as_str(), &gate)?;
-    assert!(rt; gate.added.was_held() && gate.deleted.was_held());
-    assert_eq!(rt; seen.status, 0);
-    assert!(rt; are_first_eight(seen.given.as_slice()));
-    Ok(())
-}
-
-#[test]
-fn three_threads_write_the_text(rt: HostRuntime) -> Result<(), Fail> {
-    let alloc = rt.alloc();
-    let pods = added_and_deleted(alloc)?;
-    let seen = run_with(&rt, alloc, "3", pods.as_str(), &OpenGate)?;
-    assert_eq!(rt; seen.status, 0);
-    assert!(rt; seen.ends_well);
-    assert!(rt; are_first_eight(seen.given.as_slice()));
+    let status = status_by(&rt, alloc, "2", pods.as_str(), &gate)?;
+    assert!(rt; status == 0 && gate.added.was_held() && gate.deleted.was_held());
     Ok(())
 }

@@ -1,8 +1,23 @@
+use Rattle.std.specs.Prelude.{IfSome}
+use Rattle.pod_workers.specs.Order.{IsInFileOrder}
+use Rattle.tool_run.specs.Seen.{files_seen, sink_seen}
+use Rattle.tool_run.specs.Statuses.{AskForOneThread}
+use Rattle.tool_run.proofs.Endings.{determined, ends, guaranteed, ordered}
 use Rattle.tool_run.proofs.top.run.Goals as goal
 
-pub returns-clause-order : goal.returns-clause-order
-returns-clause-order g c = λ asked. c.run_by.ensures.order asked.0 asked.1 (record { keeps = λ book made how. how.1.1 asked.2 })
-
-pub returns-clause-determined : goal.returns-clause-determined
-returns-clause-determined g c = λ asked.
-    c.run_by.ensures.determined (c.run_by.ensures.order asked.0 asked.1 (record { keeps = λ book made how. how.1.1 asked.2 }))
+pub returns : goal.returns
+returns g c =
+    let words = c.args.words.now in
+    let files = files_seen g.F.Files.files g.F.Files.faults c.args.files.now c.settle-settled.new.files in
+    let sink = sink_seen g.S.Sink.written g.S.Sink.faults c.args.sink.now c.report.new.sink in
+    let settled = c.settle-settled in
+    let outcome = c.report.result in
+    let how = ends words files sink settled.result outcome settled.ensures.settles c.report.ensures in
+    let order : AskForOneThread words → IfSome outcome.book IsInFileOrder = λ asked. ordered sink settled.result outcome c.report.ensures (settled.ensures.order asked) in
+    record {
+      ends = how;
+      guaranteed = guaranteed words files sink outcome.status outcome.book c.every_legal_history_is_guaranteed.ensures how;
+      order = order;
+      determined = λ asked. determined words files sink outcome.status outcome.book c.one_outcome.ensures (order asked) how;
+      keeps = settled.ensures.keeps;
+    }

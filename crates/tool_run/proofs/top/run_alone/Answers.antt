@@ -1,9 +1,20 @@
-use Rattle.tool_run.proofs.Ended.{ordered_always}
+use Rattle.tool_run.specs.Seen.{files_seen, sink_seen}
+use Rattle.tool_run.proofs.Endings.{determined, ends, guaranteed, ordered}
 use Rattle.tool_run.proofs.top.run_alone.Goals as goal
 
-pub returns-clause-order : goal.returns-clause-order
-returns-clause-order g c = ordered_always _ _ _ c.run_by.ensures.ends (λ by is. c.run_by.ensures.order by is (record { keeps = λ book made how. how.1.1 }))
-
-pub returns-clause-determined : goal.returns-clause-determined
-returns-clause-determined g c =
-    c.run_by.ensures.determined (ordered_always _ _ _ c.run_by.ensures.ends (λ by is. c.run_by.ensures.order by is (record { keeps = λ book made how. how.1.1 })))
+pub returns : goal.returns
+returns g c =
+    let words = c.args.words.now in
+    let files = files_seen g.F.Files.files g.F.Files.faults c.args.files.now c.settle_alone-settled.new.files in
+    let sink = sink_seen g.S.Sink.written g.S.Sink.faults c.args.sink.now c.report.new.sink in
+    let settled = c.settle_alone-settled in
+    let outcome = c.report.result in
+    let how = ends words files sink settled.result outcome settled.ensures.settles c.report.ensures in
+    let order = ordered sink settled.result outcome c.report.ensures settled.ensures.order in
+    record {
+      ends = how;
+      guaranteed = guaranteed words files sink outcome.status outcome.book c.every_legal_history_is_guaranteed.ensures how;
+      order = order;
+      determined = determined words files sink outcome.status outcome.book c.one_outcome.ensures order how;
+      keeps = settled.ensures.keeps;
+    }

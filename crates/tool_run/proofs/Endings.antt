@@ -1,0 +1,159 @@
+-- How a run ends, from what it was to report, and what follows of it.
+use Rattle.std.proofs.Common.{◌≡◌, ◌≢◌, ◌∙◌, ℕ, zero, suc, List, [], ◌∷◌, refl, sym, ap, subst, arith, inl, inr, Bool, true, false, cond, Option, Some, None, Result, Ok, Err, IfOk, IfSome, slice_get}
+use Rattle.std.specs.List.{list_any}
+use Rattle.std.proofs.lemmas.Option.{none-some, same_Some}
+use Rattle.cni_addr.specs.Lists.{IsAmong}
+use Rattle.cni_io.specs.Files.{StoredFiles}
+use Rattle.cni_verbs.specs.declared.answer.Answer.{Answer}
+use Rattle.cni_verbs.specs.declared.answer.Answer.TheVariants.{OutOfMemory}
+use Rattle.pod_laws.specs.Guaranteed.{EveryLegalHistoryIsGuaranteed, IsGuaranteed}
+use Rattle.pod_text.specs.Lines.{text_of}
+use Rattle.pod_text.specs.Statuses.{is_failure, is_out_of_memory, status_of}
+use Rattle.pod_workers.specs.Order.{IsDoneInFileOrder, IsInFileOrder, OneOutcome}
+use Rattle.pod_workers.specs.World.{World}
+use Rattle.pod_workers.specs.declared.plan.Entry.{Entry}
+use Rattle.pod_workers.specs.declared.plan.Plan.{Plan}
+use Rattle.tool_words.specs.Words.{words_given}
+use Rattle.tool_words.specs.declared.words.Words.{Words}
+use Rattle.tool_run.specs.Lines.{usage_line}
+use Rattle.tool_run.specs.Reports.{Reported, Reports, Settles}
+use Rattle.tool_run.specs.Seen.{FilesSeen, HasReadFault, SinkSeen}
+use Rattle.tool_run.specs.Statuses.{EachStatusIsOfItsVerdict, Ends, IsCarriedOut, IsDetermined, IsReport, IsStatusOf, IsTextOf, IsUndisturbed, RefusedWordsAreTold, ReportsWorld, Wrote, cut_short, of_book, of_failed_read, of_refusal, of_usage, out_of_memory, reported}
+use Rattle.tool_run.specs.Verdict.{Verdict, carry, verdict_if, verdict_of}
+use Rattle.tool_run.specs.declared.carry.CarriedOut.{CarriedOut}
+use Rattle.tool_run.specs.declared.plan.NoPlan.{NoPlan}
+use Rattle.tool_run.specs.declared.plan.NoPlan.TheVariants as no_plan
+use Rattle.tool_run.specs.declared.top.Outcome.{Outcome}
+
+-- ---- from what was to be reported to how it ends
+
+-- the report was written, or the sink gave up
+written : (words : List (List ℕ)) (files : FilesSeen) (sink : SinkSeen) (status meant : ℕ) (book : Option World) (bytes : List ℕ)
+    → ((s : ℕ) → s ≡ meant → IsReport words files s book bytes) → Reports sink bytes meant status → Ends words files sink status book
+written words files sink status meant book bytes report how = elim how [
+  | inl w ↦ reported bytes (report status w.0) w.1
+  | inr g ↦ cut_short bytes meant (report meant refl) g.0 g.1 g.2
+]
+
+pub ends : (words : List (List ℕ)) (files : FilesSeen) (sink : SinkSeen) (settled : Result CarriedOut NoPlan) (o : Outcome) → Settles words files settled → Reported sink settled o → Ends words files sink o.status o.book
+ends words files sink (Ok made) o settles rep = written words files sink o.status (status_of made.book.answers) o.book made.text.items (λ s is. of_book made.book is rep.0 settles.0 settles.1) rep.1
+ends words files sink (Err no_plan.Usage) o settles rep = written words files sink o.status 2 o.book usage_line (λ s is. of_usage is rep.0 (record { not_taken = settles; says = refl })) rep.1
+ends words files sink (Err (no_plan.Line text)) o settles rep = written words files sink o.status 3 o.book text.items (λ s is. of_refusal is rep.0 settles) rep.1
+ends words files sink (Err (no_plan.Unread text)) o settles rep = written words files sink o.status 4 o.book text.items (λ s is. of_failed_read is rep.0 settles) rep.1
+ends words files sink (Err no_plan.NoMemory) o settles rep = out_of_memory rep.1.0 rep.0 rep.1.1
+
+pub ordered : (sink : SinkSeen) (settled : Result CarriedOut NoPlan) (o : Outcome) → Reported sink settled o → IfOk settled (λ (made : CarriedOut). IsInFileOrder made.book) → IfSome o.book IsInFileOrder
+ordered sink (Ok made) o rep kept = subst (λ (b : Option World). IfSome b IsInFileOrder) (sym rep.0) kept
+ordered sink (Err none) o rep kept = subst (λ (b : Option World). IfSome b IsInFileOrder) (sym rep.0) tt
+
+-- ---- the book
+
+if_book : (words : List (List ℕ)) (files : FilesSeen) (status : ℕ) (book : Option World) (bytes : List ℕ) → IsReport words files status book bytes → IfSome book (IsCarriedOut words files)
+if_book words files status book bytes (of_usage st none given) = subst (λ (b : Option World). IfSome b (IsCarriedOut words files)) (sym none) tt
+if_book words files status book bytes (of_refusal st none refusal) = subst (λ (b : Option World). IfSome b (IsCarriedOut words files)) (sym none) tt
+if_book words files status book bytes (of_failed_read st none unread) = subst (λ (b : Option World). IfSome b (IsCarriedOut words files)) (sym none) tt
+if_book words files status book bytes (of_book b st some carried text) = subst (λ (x : Option World). IfSome x (IsCarriedOut words files)) (sym some) carried
+
+pub if_carried : (words : List (List ℕ)) (files : FilesSeen) (sink : SinkSeen) (status : ℕ) (book : Option World) → Ends words files sink status book → IfSome book (IsCarriedOut words files)
+if_carried words files sink status book (reported bytes report wrote) = if_book words files status book bytes report
+if_carried words files sink status book (cut_short bytes meant report st fault front) = if_book words files meant book bytes report
+if_carried words files sink status book (out_of_memory st none nothing) = subst (λ (b : Option World). IfSome b (IsCarriedOut words files)) (sym none) tt
+
+pub guaranteed : (words : List (List ℕ)) (files : FilesSeen) (sink : SinkSeen) (status : ℕ) (book : Option World) → EveryLegalHistoryIsGuaranteed → Ends words files sink status book → IfSome book IsGuaranteed
+guaranteed words files sink status None law how = tt
+guaranteed words files sink status (Some b) law how = law b (if_carried words files sink status (Some b) how).legal
+
+-- ---- one outcome
+
+any-at : {X : Type 0} (p : X → Bool) (xs : List X) (i : ℕ) (x : X) → slice_get xs i ≡ Some x → p x ≡ true → list_any p xs ≡ true
+any-at p [] i x at h = absurd (none-some x at)
+any-at p (y ∷ ys) zero x at h = let here : p y ≡ true = ap p (same_Some y x at) ∙ h in grind (arith, here)
+any-at p (y ∷ ys) (suc i) x at h = let later : list_any p ys ≡ true = any-at p ys i x at h in grind (arith, later)
+
+had_memory : (answers : List (Option Answer)) → status_of answers ≢ 8 → (n : ℕ) → slice_get answers n ≢ Some (Some OutOfMemory)
+had_memory answers not_eight n at =
+    not_eight (ap (λ (b : Bool). cond b 8 (cond (list_any is_failure answers) 1 0)) (any-at is_out_of_memory answers n (Some OutOfMemory) at refl))
+
+-- a text is of the plan, the history and the answers
+text-same : (v w : World) (trace dump : Bool) → v.plan ≡ w.plan → v.history ≡ w.history → v.answers ≡ w.answers → text_of v trace dump ≡ text_of w trace dump
+unfolding text_of
+text-same v w trace dump plan history answers =
+    let T : Plan → List Entry → List (Option Answer) → List ℕ = λ p h a. text_of (record { plan = p; history = h; answers = a; round = v.round }) trace dump in
+    ap (λ (p : Plan). T p v.history v.answers) plan ∙ ap (λ (h : List Entry). T w.plan h v.answers) history ∙ ap (λ (a : List (Option Answer)). T w.plan w.history a) answers
+
+plan_or : Plan → Verdict → Plan
+plan_or p (carry q trace dump) = q
+plan_or p v = p
+
+one_plan : (p q : Plan) (a b c d : Bool) (v : Verdict) → v ≡ carry p a b → v ≡ carry q c d → p ≡ q
+unfolding plan_or
+one_plan p q a b c d v is also = ap (plan_or p) (sym is ∙ also)
+
+-- the text of the world is the one that was written
+same_text : (words : List (List ℕ)) (v w : World) (bytes other : List ℕ) → v.plan ≡ w.plan → v.history ≡ w.history → v.answers ≡ w.answers → IsTextOf words v bytes → IsTextOf words w other → bytes ≡ other
+same_text words v w bytes other plan history answers one two =
+    let by = same_Some one.by two.by (sym one.words_are ∙ two.words_are) in
+    one.text ∙ ap (λ (b : Words). text_of v b.trace b.dump) by ∙ text-same v w two.by.trace two.by.dump plan history answers ∙ sym two.text
+
+of-world : OneOutcome → (words : List (List ℕ)) (files : FilesSeen) (sink : SinkSeen) (status : ℕ) (stored : StoredFiles) → files.stored ≡ Some stored → IsUndisturbed files sink status
+    → (b w : World) (bytes : List ℕ) → status ≡ status_of b.answers → IsCarriedOut words files b → IsInFileOrder b → IsTextOf words b bytes → Wrote sink bytes
+    → IsCarriedOut words files w → IsDoneInFileOrder w → ReportsWorld words sink status w
+of-world law words files sink status stored told calm b w bytes st carried order text wrote comes done =
+    let plan = one_plan b.plan w.plan _ _ _ _ (verdict_of words stored) (carried.plan stored told) (comes.plan stored told) in
+    let mine : IsDoneInFileOrder b = record {
+      legal = carried.legal;
+      in_file_order = order;
+      ended = carried.over;
+      had_memory = had_memory b.answers (λ eight. calm.memory_of_commands (st ∙ eight));
+    } in
+    let same = law b w plan mine done in
+    record {
+      status_is = st ∙ ap status_of same.1;
+      text = λ other is. subst (Wrote sink) (same_text words b w bytes other plan same.0 same.1 text is) wrote;
+    }
+
+of-report : OneOutcome → (words : List (List ℕ)) (files : FilesSeen) (sink : SinkSeen) (status : ℕ) (book : Option World) (bytes : List ℕ) (stored : StoredFiles) → files.stored ≡ Some stored → IsUndisturbed files sink status
+    → IfSome book IsInFileOrder → IsReport words files status book bytes → Wrote sink bytes → (w : World) → IsCarriedOut words files w → IsDoneInFileOrder w → ReportsWorld words sink status w
+of-report law words files sink status book bytes stored told calm order (of_usage st none given) wrote w comes done = absurd (none-some comes.by (sym given.not_taken ∙ comes.words_are))
+of-report law words files sink status book bytes stored told calm order (of_refusal st none refusal) wrote w comes done = let is = sym (refusal.comes stored told) ∙ comes.plan stored told in cc
+of-report law words files sink status book bytes stored told calm order (of_failed_read st none unread) wrote w comes done = absurd (calm.reads unread.unread.rose)
+of-report law words files sink status book bytes stored told calm order (of_book b st some carried text) wrote w comes done =
+    of-world law words files sink status stored told calm b w bytes st carried (subst (λ (x : Option World). IfSome x IsInFileOrder) some order) text wrote comes done
+
+pub determined : (words : List (List ℕ)) (files : FilesSeen) (sink : SinkSeen) (status : ℕ) (book : Option World) → OneOutcome → IfSome book IsInFileOrder → Ends words files sink status book → IsDetermined words files sink status
+determined words files sink status book law order (reported bytes report wrote) = λ stored told calm. of-report law words files sink status book bytes stored told calm order report wrote
+determined words files sink status book law order (cut_short bytes meant report st fault front) = λ stored told calm. absurd (calm.writes fault)
+determined words files sink status book law order (out_of_memory st none nothing) = λ stored told calm. absurd (calm.memory st)
+
+-- ---- laws
+
+status_is : (answers : List (Option Answer)) → IsAmong {X = ℕ} (status_of answers) (0 ∷ 1 ∷ 8 ∷ [])
+status_is answers = go (list_any is_out_of_memory answers) (list_any is_failure answers)
+  where
+    go : (m f : Bool) → IsAmong {X = ℕ} (cond m 8 (cond f 1 0)) (0 ∷ 1 ∷ 8 ∷ [])
+    go true f = inr (inr (inl refl))
+    go false true = inr (inl refl)
+    go false false = inl refl
+
+report_status : (words : List (List ℕ)) (files : FilesSeen) (status : ℕ) (book : Option World) (bytes : List ℕ) (stored : StoredFiles) → files.stored ≡ Some stored → (HasReadFault files → ⊥) → IsReport words files status book bytes → IsStatusOf (verdict_of words stored) status
+report_status words files status book bytes stored told reads (of_usage st none given) = subst (λ (v : Verdict). IsStatusOf v status) (sym (ap (λ (o : Option Words). verdict_if o stored) given.not_taken)) st
+report_status words files status book bytes stored told reads (of_refusal st none refusal) = subst (λ (v : Verdict). IsStatusOf v status) (sym (refusal.comes stored told)) st
+report_status words files status book bytes stored told reads (of_failed_read st none unread) = absurd (reads unread.unread.rose)
+report_status words files status book bytes stored told reads (of_book b st some carried text) =
+    subst (λ (v : Verdict). IsStatusOf v status) (sym (carried.plan stored told)) (subst (λ (s : ℕ). IsAmong s (0 ∷ 1 ∷ 8 ∷ [])) (sym st) (status_is b.answers))
+
+pub each_status_is_of_its_verdict : EachStatusIsOfItsVerdict
+each_status_is_of_its_verdict words files sink status book (reported bytes report wrote) stored told reads writes = inl (report_status words files status book bytes stored told reads report)
+each_status_is_of_its_verdict words files sink status book (cut_short bytes meant report st fault front) stored told reads writes = absurd (writes fault)
+each_status_is_of_its_verdict words files sink status book (out_of_memory st none nothing) stored told reads writes = inr st
+
+taken : (words : List (List ℕ)) (by : Words) → words_given words ≡ Some by → words_given words ≡ None → ⊥
+taken words by is none = none-some by (sym none ∙ is)
+
+pub refused_words_are_told : RefusedWordsAreTold
+refused_words_are_told words files sink status book (reported bytes (of_usage st none given) wrote) refused = inl st
+refused_words_are_told words files sink status book (reported bytes (of_refusal st none refusal) wrote) refused = absurd (taken words refusal.by refusal.words_are refused)
+refused_words_are_told words files sink status book (reported bytes (of_failed_read st none unread) wrote) refused = absurd (taken words unread.by unread.words_are refused)
+refused_words_are_told words files sink status book (reported bytes (of_book b st some carried text) wrote) refused = absurd (taken words carried.by carried.words_are refused)
+refused_words_are_told words files sink status book (cut_short bytes meant report st fault front) refused = inr (inl st)
+refused_words_are_told words files sink status book (out_of_memory st none nothing) refused = inr (inr (inl st))

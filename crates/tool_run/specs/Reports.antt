@@ -1,0 +1,67 @@
+-- What stands to be reported, and how a report ends.
+use Rattle.std.specs.Prelude.{◌≡◌, ◌≤◌, ◌⊎◌, ℕ, List, length, Some, None, Result, Ok, Err, ⊤}
+use Rattle.pod_text.specs.Lines.{text_of}
+use Rattle.pod_text.specs.Statuses.{status_of}
+use Rattle.pod_workers.specs.Legal.{Legal}
+use Rattle.pod_workers.specs.Plans.{IsWellFormed}
+use Rattle.tool_words.specs.Words.{IsWithinLimits, words_given}
+use Rattle.tool_run.specs.Lines.{usage_line}
+use Rattle.tool_run.specs.Seen.{FilesSeen, HasWriteFault, SinkSeen}
+use Rattle.tool_run.specs.Statuses.{ComesTo, IsCarriedOut, IsRefusal, IsTextOf, IsUnreadOf, Wrote, WrotePrefix, WroteNothing}
+use Rattle.tool_run.specs.Verdict.{carry}
+use Rattle.tool_run.specs.declared.carry.CarriedOut.{CarriedOut}
+use Rattle.tool_run.specs.declared.due.Due.{Due}
+use Rattle.tool_run.specs.declared.plan.NoPlan.{NoPlan}
+use Rattle.tool_run.specs.declared.plan.NoPlan.TheVariants.{Usage, Line, Unread, NoMemory}
+use Rattle.tool_run.specs.declared.top.Outcome.{Outcome}
+
+-- ---- before it is reported
+
+-- words and files come to this, if the files are told
+pub record IsDueOf (words : List (List ℕ)) (files : FilesSeen) (due : Due) : Type 0 where
+  pub words_are : words_given words ≡ Some due.words
+  pub comes : ComesTo words files (carry due.plan due.words.trace due.words.dump)
+  pub well_formed : IsWellFormed due.plan
+  pub limits : IsWithinLimits due.words
+
+-- or to no plan, for this cause
+abbrev pub ComesToNoPlan : List (List ℕ) → FilesSeen → NoPlan → Type 0
+ComesToNoPlan words files Usage = words_given words ≡ None
+ComesToNoPlan words files (Line text) = IsRefusal words files text.items
+ComesToNoPlan words files (Unread text) = IsUnreadOf words files text.items
+ComesToNoPlan words files NoMemory = ⊤
+
+abbrev pub ComesToDue : List (List ℕ) → FilesSeen → Result Due NoPlan → Type 0
+ComesToDue words files (Ok due) = IsDueOf words files due
+ComesToDue words files (Err none) = ComesToNoPlan words files none
+
+-- the plan that is due was carried out, and this is its text
+pub record CarriesOut (due : Due) (made : CarriedOut) : Type 0 where
+  pub plan : made.book.plan ≡ due.plan
+  pub over : length made.book.plan.pods.rounds ≤ made.book.round
+  pub legal : Legal made.book
+  pub text : made.text.items ≡ text_of made.book due.words.trace due.words.dump
+
+-- what a run is to report, or why there is no plan
+abbrev pub Settles : List (List ℕ) → FilesSeen → Result CarriedOut NoPlan → Type 0
+Settles words files (Ok made) = IsCarriedOut words files made.book × IsTextOf words made.book made.text.items
+Settles words files (Err none) = ComesToNoPlan words files none
+
+-- ---- once it is reported
+
+-- the bytes were written and this is the status; or it is 5, and the sink gave up behind a prefix of them
+abbrev pub Reports : SinkSeen → List ℕ → ℕ → ℕ → Type 0
+Reports sink bytes status result = ((result ≡ status) × Wrote sink bytes) ⊎
+    ((result ≡ 5) × HasWriteFault sink × WrotePrefix sink bytes)
+
+-- why there is no plan was written with this status; want of memory writes nothing
+abbrev pub ReportsNoPlan : SinkSeen → NoPlan → ℕ → Type 0
+ReportsNoPlan sink Usage result = Reports sink usage_line 2 result
+ReportsNoPlan sink (Line text) result = Reports sink text.items 3 result
+ReportsNoPlan sink (Unread text) result = Reports sink text.items 4 result
+ReportsNoPlan sink NoMemory result = (result ≡ 6) × WroteNothing sink
+
+abbrev pub Reported : SinkSeen → Result CarriedOut NoPlan → Outcome → Type 0
+Reported sink (Ok made) outcome = (outcome.book ≡ Some made.book)
+    × Reports sink made.text.items (status_of made.book.answers) outcome.status
+Reported sink (Err none) outcome = (outcome.book ≡ None) × ReportsNoPlan sink none outcome.status

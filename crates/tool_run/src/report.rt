@@ -1,0 +1,49 @@
+//! What a run writes, and the status that it answers.
+
+ghost use Rattle.tool_run.specs.Reports.{Reported, Reports, ReportsNoPlan};
+ghost use Rattle.tool_run.specs.Seen.{sink_seen};
+
+use crate::carry::CarriedOut;
+use crate::lines::USAGE;
+use crate::plan::NoPlan;
+use crate::top::Outcome;
+use cni_io::{Sink, write_whole};
+use pod_text::{MEMORY_STATUS, READ_STATUS, REFUSED_STATUS, USAGE_STATUS, WRITE_STATUS, status};
+
+/// Writes the text of the book, or why there is no plan.
+pub(crate) fn report<S: Sink>(sink: &mut S, settled: Result<CarriedOut, NoPlan>) -> Outcome
+    ensures { Reported (sink_seen S.written S.faults sink.old sink.new) settled result }
+{
+    match settled {
+        Ok(CarriedOut { book, text }) => Outcome {
+            status: write(sink, text.as_slice(), status(&book)),
+            book: Some(book),
+        },
+        Err(none) => Outcome {
+            status: report_no_plan(sink, none),
+            book: None,
+        },
+    }
+}
+
+/// Writes why there is no plan, and answers the status.
+fn report_no_plan<S: Sink>(sink: &mut S, none: NoPlan) -> u8
+    ensures { ReportsNoPlan (sink_seen S.written S.faults sink.old sink.new) none result }
+{
+    match none {
+        NoPlan::Usage => write(sink, USAGE, USAGE_STATUS),
+        NoPlan::Line(line) => write(sink, line.as_slice(), REFUSED_STATUS),
+        NoPlan::Unread(line) => write(sink, line.as_slice(), READ_STATUS),
+        NoPlan::NoMemory => MEMORY_STATUS,
+    }
+}
+
+/// Writes the bytes, and answers the status, or [`WRITE_STATUS`] where the sink gave up.
+fn write<S: Sink>(sink: &mut S, bytes: &[u8], status: u8) -> u8
+    ensures { Reports (sink_seen S.written S.faults sink.old sink.new) bytes.now status result }
+{
+    match write_whole(sink, bytes) {
+        Ok(()) => status,
+        Err(_) => WRITE_STATUS,
+    }
+}
