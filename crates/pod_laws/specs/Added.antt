@@ -26,9 +26,11 @@ pub record HasMade (w : World) (n : ℕ) (c : Command) (list : NetList) (r : Add
   pub leased : AreCandidates (sets_of list) (leases_in (own_replies w n))
   pub apart : distinct addr_eq (leases_in (own_replies w n)) ≡ true
   pub result : r ≡ result_of_add list (att_of c) c.netns (leases_in (own_replies w n))
-  pub objects : share_of (att_of c) (host_at_end w n) ≡ wanted list (att_of c) c.netns (mappings_of list c) (leases_in (own_replies w n))
+  pub objects : share_of (att_of c) (host_at_end w n)
+      ≡ wanted list (att_of c) c.netns (mappings_of list c) (leases_in (own_replies w n))
 
 -- whatever was interleaved, stopped, faulted or refused memory
 abbrev pub WasAdded : Type 0
 WasAdded = (w : World) → Legal w → (n : ℕ) (c : Placed) (list : NetList) (r : AddResult)
-    → slice_get (commands_of w.plan) n ≡ Some c → list_for w.plan c.command ≡ Some list → slice_get w.answers n ≡ Some (Some (answers.Added r)) → HasMade w n c.command list r
+    → slice_get (commands_of w.plan) n ≡ Some c → list_for w.plan c.command ≡ Some list
+    → slice_get w.answers n ≡ Some (Some (answers.Added r)) → HasMade w n c.command list r

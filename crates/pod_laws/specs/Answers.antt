@@ -45,7 +45,8 @@ OrCutOff Is a = Is a ⊎ (is_cut_off a ≡ true)
 -- in this world this holds of it and of its command, at place n
 abbrev pub EachAnswerIn : World → Verb → (ℕ → Command → Answer → Type 0) → Type 0
 EachAnswerIn w verb Holds = (n : ℕ) (c : Placed) (a : Answer)
-    → slice_get (commands_of w.plan) n ≡ Some c → c.command.verb ≡ verb → slice_get w.answers n ≡ Some (Some a) → Holds n c.command a
+    → slice_get (commands_of w.plan) n ≡ Some c → c.command.verb ≡ verb → slice_get w.answers n ≡ Some (Some a)
+    → Holds n c.command a
 
 -- in every legal world
 abbrev pub EachAnswer : Verb → (World → ℕ → Command → Answer → Type 0) → Type 0
@@ -53,7 +54,8 @@ EachAnswer verb Holds = (w : World) → Legal w → EachAnswerIn w verb (Holds w
 
 -- and of the list of its network
 abbrev pub EachListAnswer : Verb → (World → ℕ → Command → NetList → Answer → Type 0) → Type 0
-EachListAnswer verb Holds = EachAnswer verb (λ w n c a. (list : NetList) → list_for w.plan c ≡ Some list → Holds w n c list a)
+EachListAnswer verb Holds = EachAnswer verb
+    (λ w n c a. (list : NetList) → list_for w.plan c ≡ Some list → Holds w n c list a)
 
 -- it is so or a refusal, unless it was cut off
 abbrev pub EachIsOrRefused : Verb → (Answer → Type 0) → Type 0
@@ -66,12 +68,14 @@ EachIsWhere verb AreGood Is = EachAnswer verb (λ w n c a. AreGood c (own_entrie
 -- a refusal names a cause, which is so of its command, its entries and what its attachment has at the last of them
 abbrev pub EachRefusal : Verb → (Command → List Entry → Share → Cause → Type 0) → Type 0
 EachRefusal verb IsFor = EachListAnswer verb (λ w n c list a. (error : CniError) → a ≡ answers.Refused error
-    → (cause : Cause) × (error ≡ error_of list.version c cause) × IsFor c (own_entries n w.history) (share_of (att_of c) (host_at_end w n)) cause)
+    → (cause : Cause) × (error ≡ error_of list.version c cause)
+    × IsFor c (own_entries n w.history) (share_of (att_of c) (host_at_end w n)) cause)
 
 -- it is by an ending, unless it was cut off, which is so of its command's entries and of the host at the last of them
 abbrev pub EachEnding : Verb → (NetList → Command → List Entry → Host → Ending → Type 0) → Type 0
 EachEnding verb EndsSo = EachListAnswer verb (λ w n c list a. is_cut_off a ≡ false
-    → (ending : Ending) × (a ≡ answer_of_ending list c ending []) × EndsSo list c (own_entries n w.history) (host_at_end w n) ending)
+    → (ending : Ending) × (a ≡ answer_of_ending list c ending [])
+    × EndsSo list c (own_entries n w.history) (host_at_end w n) ending)
 
 -- ---- with its list
 

@@ -52,7 +52,8 @@ last_begun att (e ∷ es) = option_or (last_begun att es) (if begins att e then 
 -- the links of an ADD as a first part of its calls after the leases leaves them: as they were made, or with the values
 -- of `tuning`
 abbrev pub links_after_part : NetList → Command → List Call → List Link
-links_after_part list c made = (share_after_calls (record no_objects { links = untuned list (att_of c) c.netns }) made).links
+links_after_part list c made =
+    (share_after_calls (record no_objects { links = untuned list (att_of c) c.netns }) made).links
 
 pub record AreLinksOf (list : NetList) (c : Command) (given : List Addr) (links : List Link) : Type 0 where
   pub made : List Call
@@ -98,11 +99,14 @@ at_most_one test (x ∷ xs) = if test x then not (list_any test xs) else at_most
 
 -- all are as they were made, or all are as they are wanted: with the values of `tuning`
 abbrev pub AreMadeOrWanted : NetList → Command → List Addr → List Link → Type 0
-AreMadeOrWanted list c given links = AreAmong links (untuned list (att_of c) c.netns) ⊎ AreAmong links (wanted list (att_of c) c.netns (mappings_of list c) given).links
+AreMadeOrWanted list c given links = AreAmong links (untuned list (att_of c) c.netns) ⊎ AreAmong links
+    (wanted list (att_of c) c.netns (mappings_of list c) given).links
 
 -- so it is with the links of an ADD where `tuning` comes at most once in its list
 abbrev pub EachLinkIsWanted : Type 0
-EachLinkIsWanted = (list : NetList) (c : Command) (given : List Addr) (links : List Link) → at_most_one (is_of_type Tuning) list.chained ≡ true → AreLinksOf list c given links → AreMadeOrWanted list c given links
+EachLinkIsWanted = (list : NetList) (c : Command) (given : List Addr) (links : List Link)
+    → at_most_one (is_of_type Tuning) list.chained ≡ true → AreLinksOf list c given links
+    → AreMadeOrWanted list c given links
 
 -- and with those of every attachment after these entries
 abbrev pub EachHasLinksMadeOrWanted : Plan → List Entry → Type 0

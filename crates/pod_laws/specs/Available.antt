@@ -32,7 +32,8 @@ has_master_of host (firsts.Macvlan conf) = has_object host (Master conf.master)
 
 -- the network can serve an ADD: each range set has a free address, and the master is there
 abbrev pub is_available : NetList → Command → Host → Bool
-is_available list c host = list_all (λ set. has_free_of set (leased_addresses host c.network)) (sets_of list) && has_master_of host list.first
+is_available list c host = list_all (λ set. has_free_of set (leased_addresses host c.network))
+    (sets_of list) && has_master_of host list.first
 
 abbrev pub IsUnavailable : Cause → Type 0
 IsUnavailable cause = code_of cause ≡ 50
@@ -45,7 +46,8 @@ LacksService list c host ending = EndsByDenied host (status_questions list c) Is
 -- to give
 abbrev pub EndsStatus : NetList → Command → List Entry → Host → Version → Ending → Type 0
 EndsStatus list c entries host V1_0 ending = (entries ≡ []) × (ending ≡ Refused (causes.TooOld V1_0))
-EndsStatus list c entries host V1_1 ending = EndsByFault entries (has_fault entries) ending (EndsByTest (is_available list c host) ending (LacksService list c host ending))
+EndsStatus list c entries host V1_1 ending = EndsByFault entries (has_fault entries) ending
+    (EndsByTest (is_available list c host) ending (LacksService list c host ending))
 
 -- with the host at its last entry
 abbrev pub WasAvailable : Type 0

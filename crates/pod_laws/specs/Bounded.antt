@@ -30,18 +30,23 @@ asked_of s = length s.links + length s.addresses + length s.routes + length s.ru
 
 -- the calls that a command has made, by its verb
 pub record IsBounded (w : World) (n : ℕ) (c : Placed) (list : NetList) : Type 0 where
-  pub add : c.command.verb ≡ verbs.Add → (most : ℕ) → AddsInAtMost list c.command most → length (own_replies w n) ≤ 2 * most + length (kinds_of list) + 1
+  pub add : c.command.verb ≡ verbs.Add → (most : ℕ) → AddsInAtMost list c.command most
+      → length (own_replies w n) ≤ 2 * most + length (kinds_of list) + 1
   pub del : c.command.verb ≡ verbs.Del → (before : List Entry) (first : Entry) → IsFirst w n before first
-      → length (own_replies w n) ≤ length (kinds_of list) + 1 + deletions_of (objects_after w.plan (att_of c.command) before)
-  pub check : c.command.verb ≡ verbs.Check → (before : List Entry) (first : Entry) (cached : Cached) → IsFirst w n before first → first.reply ≡ Found (Some cached)
+      → length (own_replies w n)
+      ≤ length (kinds_of list) + 1 + deletions_of (objects_after w.plan (att_of c.command) before)
+  pub check : c.command.verb ≡ verbs.Check → (before : List Entry) (first : Entry) (cached : Cached)
+      → IsFirst w n before first → first.reply ≡ Found (Some cached)
       → length (own_replies w n) ≤ 2 + asked_of (cached_share list c.command cached)
-  pub unknown : c.command.verb ≡ verbs.Check → (before : List Entry) (first : Entry) → IsFirst w n before first → ((cached : Cached) → first.reply ≢ Found (Some cached)) → length (own_replies w n) ≤ 1
+  pub unknown : c.command.verb ≡ verbs.Check → (before : List Entry) (first : Entry) → IsFirst w n before first
+      → ((cached : Cached) → first.reply ≢ Found (Some cached)) → length (own_replies w n) ≤ 1
   pub status : c.command.verb ≡ verbs.Status → length (own_replies w n) ≤ length (sets_of list) + 1
   pub version : c.command.verb ≡ verbs.Version → own_replies w n ≡ []
 
 -- each command of a list is bounded by its verb, stopped or not, and whatever others do meanwhile
 abbrev pub EachRunIsBounded : Type 0
-EachRunIsBounded = (w : World) → Legal w → (n : ℕ) (c : Placed) (list : NetList) → slice_get (commands_of w.plan) n ≡ Some c → list_for w.plan c.command ≡ Some list → IsBounded w n c list
+EachRunIsBounded = (w : World) → Legal w → (n : ℕ) (c : Placed) (list : NetList)
+    → slice_get (commands_of w.plan) n ≡ Some c → list_for w.plan c.command ≡ Some list → IsBounded w n c list
 
 -- and an ADD has so many calls at most, whatever addresses it is leased
 abbrev pub EachAddHasMost : Type 0
@@ -49,4 +54,5 @@ EachAddHasMost = (list : NetList) (c : Command) → AddsInAtMost list c (most_ca
 
 -- a change from outside is one call
 abbrev pub EachChangeIsOneCall : Type 0
-EachChangeIsOneCall = (w : World) → Legal w → (n : ℕ) (c : Placed) → slice_get (commands_of w.plan) n ≡ Some c → is_of_network c.command.verb ≡ false → length (own_replies w n) ≤ 1
+EachChangeIsOneCall = (w : World) → Legal w → (n : ℕ) (c : Placed) → slice_get (commands_of w.plan) n ≡ Some c
+    → is_of_network c.command.verb ≡ false → length (own_replies w n) ≤ 1

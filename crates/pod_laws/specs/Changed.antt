@@ -27,4 +27,5 @@ IsChangedBy c (Changing change) (e ∷ []) a = (e.call ≡ change) × (a ≡ out
 IsChangedBy c start entries a = ⊥
 
 abbrev pub ChangesAreAnswered : Type 0
-ChangesAreAnswered = (verb : Verb) → is_of_network verb ≡ false → EachAnswer verb (λ w n c a. is_cut_off a ≡ false → IsChangedBy c (outside_start c) (own_entries n w.history) a)
+ChangesAreAnswered = (verb : Verb) → is_of_network verb ≡ false
+    → EachAnswer verb (λ w n c a. is_cut_off a ≡ false → IsChangedBy c (outside_start c) (own_entries n w.history) a)

@@ -55,11 +55,15 @@ has_bridge_of host (firsts.Macvlan conf) interfaces = true
 abbrev pub has_objects_of : Host → Share → Bool
 has_objects_of host s =
     are_in link_eq s.links host.links
-    && (are_in addr_obj_eq s.addresses host.addresses && (are_in route_eq s.routes host.routes && (are_in rule_eq s.rules host.rules && (are_in setting_eq s.settings host.settings && are_in lease_eq s.leases host.leases))))
+    && (are_in addr_obj_eq s.addresses host.addresses &&
+    (are_in route_eq s.routes host.routes &&
+    (are_in rule_eq s.rules host.rules &&
+    (are_in setting_eq s.settings host.settings && are_in lease_eq s.leases host.leases))))
 
 -- the host holds all that the cached result says that there is
 abbrev pub holds_cached : NetList → Command → Cached → Host → Bool
-holds_cached list c cached host = has_bridge_of host list.first cached.result.interfaces && has_objects_of host (cached_share list c cached)
+holds_cached list c cached host = has_bridge_of host list.first cached.result.interfaces && has_objects_of host
+    (cached_share list c cached)
 
 -- ---- the ending
 
@@ -74,12 +78,14 @@ LacksObject list c cached host ending = EndsByDenied host (check_questions list 
 -- with no cached entry the attachment is unknown (code 3)
 abbrev pub EndsByEntry : NetList → Command → Host → Option Cached → Ending → Type 0
 EndsByEntry list c host None ending = ending ≡ Refused causes.Unknown
-EndsByEntry list c host (Some cached) ending = EndsByTest (holds_cached list c cached host) ending (LacksObject list c cached host ending)
+EndsByEntry list c host (Some cached) ending = EndsByTest (holds_cached list c cached host) ending
+    (LacksObject list c cached host ending)
 
 -- the list may disable it (`disableCheck`)
 abbrev pub EndsByList : NetList → Command → List Entry → Host → Bool → Ending → Type 0
 EndsByList list c entries host true ending = (entries ≡ []) × (ending ≡ Skipped skips.Check)
-EndsByList list c entries host false ending = EndsByFault entries (has_fault entries) ending (EndsByEntry list c host (cached_in host (att_of c)) ending)
+EndsByList list c entries host false ending = EndsByFault entries (has_fault entries) ending
+    (EndsByEntry list c host (cached_in host (att_of c)) ending)
 
 -- how a CHECK ends: by its words, by the list, by a fault, and else by what the host holds
 abbrev pub EndsCheck : NetList → Command → List Entry → Host → Option Cause → Ending → Type 0
@@ -102,11 +108,13 @@ has_bridge_named host first interfaces = true
 -- command brings it between the two, one of its name is to be in the first.
 pub record HoldAlike (list : NetList) (c : Command) (start last : Host) : Type 0 where
   pub entry : cached_in start (att_of c) ≡ cached_in last (att_of c)
-  pub objects : (cached : Cached) → has_bridge_named start list.first cached.result.interfaces ≡ true → holds_cached list c cached start ≡ holds_cached list c cached last
+  pub objects : (cached : Cached) → has_bridge_named start list.first cached.result.interfaces ≡ true
+      → holds_cached list c cached start ≡ holds_cached list c cached last
 
 -- the hosts right before the first entry of the command at place n and right after its last
 abbrev pub HoldsFromItsStart : World → ℕ → Placed → Type 0
-HoldsFromItsStart w n c = HoldsOfItsList w c.command (λ list. HoldAlike list c.command (host_at_start w n) (host_at_end w n))
+HoldsFromItsStart w n c = HoldsOfItsList w c.command
+    (λ list. HoldAlike list c.command (host_at_start w n) (host_at_end w n))
 
 -- so what a CHECK found at its last entry was so at its first, whatever other commands did meanwhile, and also where it
 -- was stopped

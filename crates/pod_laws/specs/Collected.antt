@@ -37,7 +37,8 @@ pub record IsDisabled (list : NetList) (entries : List Entry) (a : Answer) : Typ
   pub answer : a ≡ answers.Skipped skips.Gc
 
 -- it met no fault, and what it leaves is what is to be kept
-pub record IsCleanCollection (list : NetList) (c : Command) (entries : List Entry) (old new : Host) (a : Answer) : Type 0 where
+pub record IsCleanCollection (list : NetList) (c : Command) (entries : List Entry) (old new : Host)
+    (a : Answer) : Type 0 where
   pub collected : IsCollected list
   pub called : entries ≢ []
   pub calm : has_fault entries ≡ false
@@ -45,19 +46,22 @@ pub record IsCleanCollection (list : NetList) (c : Command) (entries : List Entr
   pub answer : a ≡ answers.Yes
 
 -- it met faults, which its error names, and what it leaves over had a faulty call
-pub record IsFaultyCollection (list : NetList) (c : Command) (entries : List Entry) (new : Host) (a : Answer) : Type 0 where
+pub record IsFaultyCollection (list : NetList) (c : Command) (entries : List Entry) (new : Host)
+    (a : Answer) : Type 0 where
   pub collected : IsCollected list
   pub faulty : has_fault entries ≡ true
   pub excused : AreExcused c.network c.valid (made_in entries) new
   pub answer : a ≡ answers.Refused (error_of list.version c (causes.Faults (fault_numbers 0 (made_in entries))))
 
 abbrev pub IsCollectionAnswer : NetList → Command → List Entry → Host → Host → Answer → Type 0
-IsCollectionAnswer list c entries old new a = IsTooOld list c entries a ⊎ (IsDisabled list entries a ⊎ (IsCleanCollection list c entries old new a ⊎ IsFaultyCollection list c entries new a))
+IsCollectionAnswer list c entries old new a = IsTooOld list c entries a ⊎
+    (IsDisabled list entries a ⊎ (IsCleanCollection list c entries old new a ⊎ IsFaultyCollection list c entries new a))
 
 -- each answer of a collection is of one of these kinds, from the host right before its first entry to the one right
 -- after its last, unless it was cut off
 abbrev pub CollectionsAreAnswered : Type 0
-CollectionsAreAnswered = EachListAnswer verbs.Gc (λ w n c list. OrCutOff (IsCollectionAnswer list c (own_entries n w.history) (host_at_start w n) (host_at_end w n)))
+CollectionsAreAnswered = EachListAnswer verbs.Gc
+    (λ w n c list. OrCutOff (IsCollectionAnswer list c (own_entries n w.history) (host_at_start w n) (host_at_end w n)))
 
 -- ---- whatever it is answered
 
@@ -75,11 +79,14 @@ CollectionsAreBounded = EachCallingCollection IsBoundedCollection
 -- and it made at most six calls; for each stale attachment that owned an object at its start six more than the kinds of
 -- a DEL; and one for each object that is not kept
 abbrev pub CollectionsAreShort : Type 0
-CollectionsAreShort = EachCallingCollection (λ w n c. (list : NetList) → list_for w.plan c.command ≡ Some list → length (own_entries n w.history) ≤ most_of_collection list c.command (host_at_start w n))
+CollectionsAreShort = EachCallingCollection
+    (λ w n c. (list : NetList) → list_for w.plan c.command ≡ Some list
+    → length (own_entries n w.history) ≤ most_of_collection list c.command (host_at_start w n))
 
 -- it starts from the host at the start of its round, and ends in the one at the start of the next round
 abbrev pub CollectionsFillTheirRounds : Type 0
-CollectionsFillTheirRounds = EachCallingCollection (λ w n c. (host_at_start w n ≡ host_at_round w c.round) × (host_at_end w n ≡ host_at_round w (c.round + 1)))
+CollectionsFillTheirRounds = EachCallingCollection
+    (λ w n c. (host_at_start w n ≡ host_at_round w c.round) × (host_at_end w n ≡ host_at_round w (c.round + 1)))
 
 -- ---- one after another
 
@@ -95,5 +102,6 @@ pub record AreInARow (d c : Placed) : Type 0 where
 -- whatever the first came to, also where it made no call
 abbrev pub CollectionsInARowKeep : Type 0
 CollectionsInARowKeep = (w : World) → Legal w → (m n : ℕ) (d c : Placed)
-    → slice_get (commands_of w.plan) m ≡ Some d → slice_get (commands_of w.plan) n ≡ Some c → AreInARow d c → slice_get w.answers n ≡ Some (Some answers.Yes)
+    → slice_get (commands_of w.plan) m ≡ Some d → slice_get (commands_of w.plan) n ≡ Some c → AreInARow d c
+    → slice_get w.answers n ≡ Some (Some answers.Yes)
     → host_at_end w n ≡ keep d.command.network d.command.valid (host_at_round w d.round)

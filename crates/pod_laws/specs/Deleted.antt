@@ -30,7 +30,8 @@ abbrev pub IsYes : Answer → Type 0
 IsYes a = a ≡ answers.Yes
 
 abbrev pub WasDeleted : Type 0
-WasDeleted = EachAnswer verbs.Del (λ w n c a. IsYes a → HasDeleted c (own_entries n w.history) (share_of (att_of c) (host_at_end w n)))
+WasDeleted = EachAnswer verbs.Del
+    (λ w n c a. IsYes a → HasDeleted c (own_entries n w.history) (share_of (att_of c) (host_at_end w n)))
 
 -- ---- refusals
 

@@ -27,7 +27,8 @@ abbrev pub IsFirstDenied : Host → List Question → Question → Type 0
 IsFirstDenied host questions question = IsFirstToFail (grants host) questions question
 
 -- it is refused for the first that is denied, which lacks something of this kind
-pub record EndsByDenied (host : Host) (questions : List Question) (IsLack : Cause → Type 0) (ending : Ending) : Type 0 where
+pub record EndsByDenied (host : Host) (questions : List Question) (IsLack : Cause → Type 0)
+    (ending : Ending) : Type 0 where
   pub question : Question
   pub first : IsFirstDenied host questions question
   pub lack : IsLack question.lack

@@ -25,7 +25,8 @@ host_at_end w n = after w.plan.pods.opening (until_last n w.history)
 
 -- this holds of each command of the verb that made a call, stopped or not, at place n
 abbrev pub EachCalling : World → Verb → (ℕ → Placed → Type 0) → Type 0
-EachCalling w verb Holds = (n : ℕ) (c : Placed) → slice_get (commands_of w.plan) n ≡ Some c → c.command.verb ≡ verb → own_entries n w.history ≢ [] → Holds n c
+EachCalling w verb Holds = (n : ℕ) (c : Placed) → slice_get (commands_of w.plan) n ≡ Some c → c.command.verb ≡ verb
+    → own_entries n w.history ≢ [] → Holds n c
 
 -- some entry is a fault
 abbrev pub has_fault : List Entry → Bool
@@ -47,7 +48,8 @@ is_before round c = option_map_or (λ (c : Placed). nat_lt c.round round) c fals
 -- the history before the first entry of this round or of a later one
 abbrev pub until_round : Plan → ℕ → List Entry → List Entry
 until_round p round [] = []
-until_round p round (e ∷ es) = if is_before round (at_number (commands_of p) e.command) then e ∷ until_round p round es else []
+until_round p round (e ∷ es) = if is_before round (at_number (commands_of p) e.command)
+    then e ∷ until_round p round es else []
 
 -- the host at the start of this round: right before that entry
 abbrev pub host_at_round : World → ℕ → Host

@@ -40,7 +40,8 @@ lets_go_on e = is_granted e.reply
 pub data IsCause : ℕ → Call → Reply → Cause → Type 0 where
   no_namespace : (number : ℕ) (call : Call) → IsCause number call NoNs causes.NoNamespace
   name_taken : (number : ℕ) (call : Call) (tag : Tag) → IsCause number call (Taken tag) (causes.NameTaken tag)
-  pool_empty : (number : ℕ) (att : Att) (set : ℕ) (ranges : RangeSet) → IsCause number (LeaseNext att set ranges) Empty (causes.PoolEmpty set)
+  pool_empty : (number : ℕ) (att : Att) (set : ℕ) (ranges : RangeSet)
+      → IsCause number (LeaseNext att set ranges) Empty (causes.PoolEmpty set)
   no_master : (number : ℕ) (link : Link) → IsCause number (MacvlanAdd link) NoLink causes.NoMaster
   fault : (number : ℕ) (call : Call) → IsCause number call Fault (causes.Fault number)
 
@@ -68,7 +69,8 @@ pub record IsRefusedLater (c : Command) (entries : List Entry) (objects : Share)
   pub undone : (objects ≡ no_objects) ⊎ (has_fault first.refuses.later ≡ true)
 
 abbrev pub IsRefusedFor : Command → List Entry → Share → Cause → Type 0
-IsRefusedFor c entries objects cause = IsRefusedByWords (add_refusal c) entries cause ⊎ (IsRefusedAtBegin c entries cause ⊎ IsRefusedLater c entries objects cause)
+IsRefusedFor c entries objects cause = IsRefusedByWords (add_refusal c) entries cause ⊎
+    (IsRefusedAtBegin c entries cause ⊎ IsRefusedLater c entries objects cause)
 
 -- an ADD is refused in no other way
 abbrev pub WasRefused : Type 0
@@ -76,7 +78,8 @@ WasRefused = EachRefusal verbs.Add IsRefusedFor
 
 -- Begin leaves the host as it is before it
 abbrev pub BeginLeavesTheHost : Type 0
-BeginLeavesTheHost = (host : Host) (att : Att) (netns : List ℕ) (n : ℕ) (reply : Reply) → after_entry host (record { command = n; call = Begin att netns; reply = reply }) ≡ host
+BeginLeavesTheHost = (host : Host) (att : Att) (netns : List ℕ) (n : ℕ) (reply : Reply)
+    → after_entry host (record { command = n; call = Begin att netns; reply = reply }) ≡ host
 
 -- ---- all answers
 
