@@ -31,7 +31,8 @@ prefix_of_text text = whole_value (read_octet text)
 
 -- the address with this prefix, if its family has prefixes of this length
 abbrev pub with_prefix : AddrValue → ℕ → Option CidrValue
-with_prefix a prefix = if nat_le prefix (longest_prefix a.family) then Some (record { addr = a; prefix = prefix }) else None
+with_prefix a prefix =
+    if nat_le prefix (longest_prefix a.family) then Some (record { addr = a; prefix = prefix }) else None
 
 -- the network of an address and a prefix, where both were read
 abbrev pub cidr_of_parts : Option AddrValue → Option ℕ → Option CidrValue
@@ -39,7 +40,8 @@ cidr_of_parts addr prefix = option_and_then (λ a. option_and_then (with_prefix 
 
 -- the network that the whole text spells: the address before the first slash, and the prefix after it
 unfoldable pub cidr_of_text : List ℕ → Option CidrValue
-cidr_of_text text = cidr_of_parts (addr_of_text (before_first is_slash text)) (prefix_of_text (after_first is_slash text))
+cidr_of_text text =
+    cidr_of_parts (addr_of_text (before_first is_slash text)) (prefix_of_text (after_first is_slash text))
 
 -- the text that is written of a network
 unfoldable pub cidr_text : CidrValue → List ℕ

@@ -3,7 +3,7 @@
 use std::marker::Model;
 
 /// The family of an address: RFC 791 or RFC 4291.
-#[derive(Clone, Copy, Debug)]
+#[derive(Clone, Copy, Debug, Hash)]
 pub enum Family {
     V4,
     V6,
@@ -30,7 +30,7 @@ impl Eq for Family {
 }
 
 /// An address as a number, its first byte the highest. IPv4 alone is built: the invariant says so.
-#[derive(Clone, Copy, Debug, PartialEq, Eq)]
+#[derive(Clone, Copy, Debug, PartialEq, Eq, Hash)]
 pub struct Addr {
     pub family: Family,
     pub bits: u128,
@@ -49,7 +49,7 @@ impl Model for Addr {
 }
 
 /// An address with the length of its network's prefix (RFC 4632). Host bits are kept.
-#[derive(Clone, Copy, Debug, PartialEq, Eq)]
+#[derive(Clone, Copy, Debug, PartialEq, Eq, Hash)]
 pub struct Cidr {
     pub addr: Addr,
     pub prefix: u8,

@@ -1,5 +1,5 @@
--- What a call answers that may run out of memory, beside what is wanted of it. `is_want_of_memory` says which errors are want
--- of memory.
+-- What a call answers that may run out of memory, beside what is wanted of it. `is_want_of_memory` says which errors
+-- are want of memory.
 use Rattle.std.specs.Prelude.{◌≡◌, Bool, MatchBool, Result, Ok, Err, ⊤}
 
 -- the wanted outcome is the error e, or e is want of memory

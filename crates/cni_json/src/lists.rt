@@ -82,7 +82,8 @@ pub fn read_list_or<T: Drop, E: Refusal, W: FnOnce() -> E, R: Fn(&Value) -> Resu
     requires reads { R.IsAlwaysCallable read }
     ensures { (wrong : E) → IsRefusal E.is_want_of_memory W.FnOnce refusal wrong
         → (wanted : Data → Result T E) → IsReader E.is_want_of_memory R.Fn read wanted
-        → GivesAs E.is_want_of_memory (λ xs. xs) result (list_or (Err wrong) wanted (list_field key.now (view object.now))) }
+        → GivesAs E.is_want_of_memory (λ xs. xs) result
+        (list_or (Err wrong) wanted (list_field key.now (view object.now))) }
 {
     match field_list(object, key) {
         Field::Absent => Ok(Items::new(alloc)),

@@ -159,7 +159,8 @@ impl JsonObject {
 
     /// Puts a text.
     pub fn put_text(&mut self, key: &str, text: &str) -> Result<(), NoMemory>
-        ensures put { OnOk result (members_of self.new ≡ with_member key.now (text_data text.now) (members_of self.old)) }
+        ensures put { OnOk result
+            (members_of self.new ≡ with_member key.now (text_data text.now) (members_of self.old)) }
         ensures unchanged { OnErr result (members_of self.new ≡ members_of self.old) }
     {
         let value = Value::try_from_str(self.alloc, text)?;
@@ -179,7 +180,8 @@ impl JsonObject {
 
     /// Puts a list.
     pub fn put_list<T: ToJson>(&mut self, key: &str, items: &[T]) -> Result<(), NoMemory>
-        ensures put { OnOk result (members_of self.new ≡ with_member key.now (list_data T.json items.now) (members_of self.old)) }
+        ensures put { OnOk result
+            (members_of self.new ≡ with_member key.now (list_data T.json items.now) (members_of self.old)) }
         ensures unchanged { OnErr result (members_of self.new ≡ members_of self.old) }
     {
         let value = list_value(self.alloc, items)?;
@@ -192,7 +194,8 @@ impl JsonObject {
         key: &str,
         items: &[T],
     ) -> Result<(), NoMemory>
-        ensures put { OnOk result (members_of self.new ≡ put_list_unless_empty T.json key.now items.now (members_of self.old)) }
+        ensures put { OnOk result
+            (members_of self.new ≡ put_list_unless_empty T.json key.now items.now (members_of self.old)) }
         ensures unchanged { OnErr result (members_of self.new ≡ members_of self.old) }
     {
         if items.is_empty() {
@@ -204,7 +207,8 @@ impl JsonObject {
     /// Puts an object that has a member.
     #[tactic(auto, using(crate::proofs::ObjectLemmas::put_object_with_entry))]
     pub fn put_object_unless_empty(&mut self, key: &str, inner: JsonObject) -> Result<(), NoMemory>
-        ensures put { OnOk result (members_of self.new ≡ put_object_unless_empty key.now (members_of inner) (members_of self.old)) }
+        ensures put { OnOk result
+            (members_of self.new ≡ put_object_unless_empty key.now (members_of inner) (members_of self.old)) }
         ensures unchanged { OnErr result (members_of self.new ≡ members_of self.old) }
     {
         if inner.members.is_empty() {

@@ -8,7 +8,7 @@ use crate::result::AddResult;
 use cni_addr::{Addr, Duplicate, Items, NoMemory, Text};
 
 /// A transport protocol of a published port.
-#[derive(Clone, Copy, Debug)]
+#[derive(Clone, Copy, Debug, Hash)]
 pub enum Proto {
     Tcp,
     Udp,
