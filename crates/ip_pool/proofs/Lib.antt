@@ -6,5 +6,10 @@ pub mod Lists
 pub mod Membership
 pub mod Passing
 pub mod Places
+pub mod RunEdits
+pub mod RunMembers
+pub mod RunPlaces
+pub mod RunSearch
 pub mod Stretches
+pub mod TakenAlone
 pub mod WayRound

@@ -21,6 +21,18 @@ pub find-four : {X : Type 0} (p : X → Bool) (xs ys zs ws : List X) → find p 
 find-four p xs ys zs ws =
     find-append p xs (ys ++ (zs ++ ws)) ∙ ap (option_or (find p xs)) (find-append p ys (zs ++ ws) ∙ ap (option_or (find p ys)) (find-append p zs ws)) ∙ option_or-assoc (find p xs) (find p ys) (option_or (find p zs) (find p ws)) ∙ option_or-assoc (option_or (find p xs) (find p ys)) (find p zs) (find p ws)
 
+pub first-of_four : {X : Type 0} (p : X → Bool) (xs ys zs ws : List X) (x : X) → find p xs ≡ Some x → find p (xs ++ (ys ++ (zs ++ ws))) ≡ Some x
+first-of_four p xs ys zs ws x one = rw (find-four p xs ys zs ws, one) refl
+
+pub second-of_four : {X : Type 0} (p : X → Bool) (xs ys zs ws : List X) (y : X) → find p xs ≡ None → find p ys ≡ Some y → find p (xs ++ (ys ++ (zs ++ ws))) ≡ Some y
+second-of_four p xs ys zs ws y one two = rw (find-four p xs ys zs ws, one, two) refl
+
+pub third-of_four : {X : Type 0} (p : X → Bool) (xs ys zs ws : List X) (z : X) → find p xs ≡ None → find p ys ≡ None → find p zs ≡ Some z → find p (xs ++ (ys ++ (zs ++ ws))) ≡ Some z
+third-of_four p xs ys zs ws z one two three = rw (find-four p xs ys zs ws, one, two, three) refl
+
+pub fourth-of_four : {X : Type 0} (p : X → Bool) (xs ys zs ws : List X) → find p xs ≡ None → find p ys ≡ None → find p zs ≡ None → find p (xs ++ (ys ++ (zs ++ ws))) ≡ find p ws
+fourth-of_four p xs ys zs ws one two three = rw (find-four p xs ys zs ws, one, two, three) refl
+
 -- ---- the place of the first that passes
 
 position_or_len-absent : {X : Type 0} (p : X → Bool) (xs : List X) → list_any p xs ≡ false → position_or_len p xs ≡ length xs

@@ -34,7 +34,7 @@ find-stretch_miss P r low high a below is miss =
 
 -- ---- stretches in a row
 
-run_of-append : (f : Family) (low m n : ℕ) → run_of f low (m + n) ≡ run_of f low m ++ run_of f (low + m) n
+pub run_of-append : (f : Family) (low m n : ℕ) → run_of f low (m + n) ≡ run_of f low m ++ run_of f (low + m) n
 run_of-append f low zero n =
     let e : zero + n ≡ n = omega arith in
     let d : low + zero ≡ low = omega arith in
@@ -62,3 +62,9 @@ pub candidates_between-empty : (r : Range) (low : ℕ) → candidates_between r 
 candidates_between-empty r low =
     let none : low - low ≡ 0 = omega arith in
     rw none refl
+
+-- a stretch that begins with the gateway
+pub candidates_between-skip : (r : Range) (low high : ℕ) → low < high → addr_eq (address_at r low) r.gateway ≡ true → candidates_between r low high ≡ candidates_between r (low + 1) high
+candidates_between-skip r low high below same =
+    let more : high - low ≡ suc (high - (low + 1)) = omega arith in
+    rw (more, same) refl

@@ -36,3 +36,10 @@ PickIsFreeCandidate = (set : RangeSet) (last : Option Addr) (taken : List Addr) 
 -- none is picked exactly where every candidate is taken, and exactly there none is free
 abbrev pub NoneWhereExhausted : Type 0
 NoneWhereExhausted = (set : RangeSet) (last : Option Addr) (taken : List Addr) → ((pick_of set last taken ≡ None) ↔ IsExhausted set taken) × ((has_free_of set taken ≡ false) ↔ IsExhausted set taken)
+
+-- the choice depends on which addresses are taken, and not on their order, nor on how often each is there
+abbrev pub ChoiceDependsOnTakenAlone : Type 0
+ChoiceDependsOnTakenAlone =
+    (set : RangeSet) (last : Option Addr) (taken other : List Addr)
+    → ((a : Addr) → is_taken taken a ≡ is_taken other a)
+    → (pick_of set last taken ≡ pick_of set last other) × (has_free_of set taken ≡ has_free_of set other)

@@ -1,4 +1,7 @@
+pub mod AddrSets
 pub mod Laws
 pub mod NextAddress
 pub mod Pool
+pub mod RunEdits
+pub mod Runs
 pub mod WayRound

@@ -11,7 +11,7 @@ use crate::candidates::place_of;
 use cni_addr::{Addr, Range};
 
 /// The range's address with that number.
-fn address_at(range: &Range, bits: u128) -> Addr
+pub(crate) fn address_at(range: &Range, bits: u128) -> Addr
     requires { bits ≤ range.now.end.bits }
     ensures { result ≡ record { family = range.now.start.family; bits = bits } }
 {

@@ -1,8 +1,12 @@
-//! Laws of the candidates and of the choice, as functions without a body: a caller learns the law by the call.
+//! Laws of the candidates and of the choice, as functions without a body.
+//!
+//! A crate above uses a law by calling its function where the law is needed: after the call the proof knows what the
+//! function ensures. A proof file may instead import the lemma that the answer to the law names, as
+//! `Rattle.ip_pool.proofs.Choice.{next-one}` for [`next_address_is_one`].
 
 ghost use Rattle.ip_pool.specs.Laws.{CandidatesAreListed, CandidatesAreDistinct, ApartSharesNone};
 ghost use Rattle.ip_pool.specs.Laws.{PickIsNextAddress, PickIsFreeCandidate, NoneWhereExhausted};
-ghost use Rattle.ip_pool.specs.Laws.{NextAddressIsOne};
+ghost use Rattle.ip_pool.specs.Laws.{NextAddressIsOne, ChoiceDependsOnTakenAlone};
 
 /// An address is listed among the candidates exactly where it is one.
 pub fn candidates_are_listed()
@@ -39,4 +43,9 @@ pub fn pick_is_a_free_candidate()
 /// None is picked, and none is free, exactly where every candidate is taken.
 pub fn none_where_exhausted()
     ensures { NoneWhereExhausted }
+{}
+
+/// The choice depends on which addresses are taken alone: two lists of the same addresses give the same answers.
+pub fn choice_depends_on_taken_alone()
+    ensures { ChoiceDependsOnTakenAlone }
 {}

@@ -1,18 +1,29 @@
 //! The address that is leased next: the choice of the `host-local` plugin, round robin over a set of ranges.
 //!
 //! The candidates of a set are its ranges in order, each from its start to its end, without that range's gateway.
-//! What the crate promises above: [`pick`] gives the first free candidate after the last one that was leased, going
-//! round at the end, and none exactly where every candidate is taken; [`has_free`] says whether one is left. Neither
-//! takes memory or changes anything. Contracts say the choice twice: by a search over the list of candidates
-//! (`pick_of`), which other definitions build on, and by the relation that a reader believes (`IsPick`): a free
-//! candidate such that every candidate on the way to it is taken. [`laws`] has what follows for all sets.
+//! What the crate promises above:
 //!
-//! An example, with `set` the one range of 10.1.0.0/29 from 10.1.0.2 to 10.1.0.6, whose gateway is 10.1.0.1, and with
-//! 10.1.0.3 to 10.1.0.6 in the list `taken`. The last lease was 10.1.0.6, so the way round begins at the start:
+//! - [`pick`] gives the first free candidate after the last one that was leased, going round at the end, and none
+//!   exactly where every candidate is taken. [`has_free`] says whether one is left. Neither takes memory or changes
+//!   anything, and both ask about one address after the other.
+//! - [`AddrRuns`] is a set of addresses that is kept as runs of neighbours. Once there is room for an address, it is
+//!   added without memory, and no removal needs memory.
+//! - [`pick_runs`] and [`has_free_runs`] give the same answers from such a set, in two steps for each range and two
+//!   more at most, however many addresses are taken. [`Steps`] counts the steps, at no cost.
+//! - The choice depends on which addresses are taken, and not on how they are kept. [`laws`] has this law and others,
+//!   which hold for all sets.
+//!
+//! Contracts say the choice twice: by a search over the list of candidates (`pick_of`), which other definitions build
+//! on, and by the relation that a reader believes (`IsPick`): a free candidate such that every candidate on the way to
+//! it is taken.
+//!
+//! An example, with `set` the one range of 10.1.0.0/29 from 10.1.0.2 to 10.1.0.6, whose gateway is 10.1.0.1. The last
+//! lease was 10.1.0.5. With 10.1.0.3 to 10.1.0.6 in `runs`, which is one run, the way goes round to the start:
 //!
 //! ```text
-//! let next = pick(&set, Some(last), &taken);
-//! assert_eq!(rt; next, Some(Addr { family: Family::V4, bits: 0x0a01_0002 }));
+//! pick_runs(&set, Some(last), &runs, &mut steps)  // 10.1.0.2, after two steps: 10.1.0.6 is in a run, 10.1.0.2 in none
+//! runs.remove(&sixth)                             // true: 10.1.0.6 is free again
+//! pick_runs(&set, Some(last), &runs, &mut steps)  // 10.1.0.6, after one step more
 //! ```
 #![tactic(auto)]
 
@@ -21,15 +32,22 @@ ghost use Rattle.cni_addr.specs.declared.address.Addr.{Addr};
 ghost use Rattle.ip_pool.specs.NextAddress.{is_candidate_or_none, is_taken, HasFree, IsExhausted, IsPick};
 ghost use Rattle.ip_pool.specs.Pool.{pick_of, has_free_of, are_apart};
 
+mod addr_runs;
+mod by_runs;
 mod candidates;
 mod free;
 pub mod laws;
+mod runs;
+mod step_count;
 #[cfg(test)]
 mod tests;
 
+pub use addr_runs::AddrRuns;
+pub use by_runs::{has_free_runs, pick_runs};
 pub use candidates::{are_apart, contains_candidate, is_apart, is_between, is_in_range};
 use cni_addr::{Addr, Items, RangeSet};
 use free::{first_free, first_free_after};
+pub use step_count::Steps;
 
 /// Addresses that are taken. Contracts see them as a list, in any order.
 pub trait Taken {

@@ -1,16 +1,23 @@
 //! Rows of the real allocator's tests, and runs of the real one.
 
-ghost use Rattle.std.specs.Prelude.{◌≡◌};
+ghost use Rattle.std.specs.Prelude.{◌≡◌, ◌<◌};
 
 mod rows;
+mod runs;
 mod sequences;
 
-use crate::{Taken, are_apart, contains_candidate, has_free, is_apart, is_in_range, laws, pick};
+use crate::{
+    AddrRuns, Steps, Taken, are_apart, contains_candidate, has_free, is_apart, is_in_range, laws,
+    pick,
+};
 use cni_addr::{Addr, Cidr, Family, Items, NoMemory, Range, RangeSet};
 use rows::ROWS;
+use runs::{add_new, pick_runs_in};
 use sequences::SEQUENCES;
 use std::alloc::Global;
+use std::marker::Brand;
 use std::process::Abort;
+use std::sync::ledger::{Blank, Ledger};
 use std::test::Fail;
 
 /// What happened to a set next. An address is its offset from the start of the set's first range.
@@ -39,13 +46,15 @@ struct Recording {
     steps: &'static str,
 }
 
-/// The set as it is during a replay.
+/// The set as it is during a replay, with the taken addresses as a list and as runs.
 #[derive(Drop)]
-struct Replay {
+struct Replay<L: Ledger> {
     set: RangeSet,
     base: u32,
     last: Option<Addr>,
     taken: Items<Addr>,
+    runs: AddrRuns,
+    steps: Steps<L>,
 }
 
 fn addr(bits: u32) -> Addr
@@ -135,28 +144,47 @@ fn step_of(word: &str) -> Result<Step, Fail> {
     }
 }
 
-impl Replay {
-    fn new(alloc: Global, recording: &Recording) -> Result<Replay, Fail> {
+impl<L: Ledger> Replay<L> {
+    /// The replay begins with no address taken.
+    fn begin(&mut self, alloc: Global, recording: &Recording) -> Result<(), Fail> {
         let [(base, _, _), ..] = recording.ranges else {
             return Err("a recording without a range")?;
         };
-        Ok(Replay {
-            set: set_of(alloc, recording.ranges)?,
-            base: *base,
-            last: None,
-            taken: Items::new(alloc),
-        })
+        self.set = set_of(alloc, recording.ranges)?;
+        self.base = *base;
+        self.last = None;
+        self.taken = Items::new(alloc);
+        self.runs = AddrRuns::new(alloc);
+        Ok(())
     }
 
-    fn pick(&self, rt: &impl Abort) -> Option<Addr> {
-        pick_in(rt, &self.set, self.last, &self.taken)
+    /// The choice, which is the same from the list and from the runs.
+    fn pick(&mut self, rt: &impl Abort) -> Option<Addr> {
+        let picked = pick_in(rt, &self.set, self.last, &self.taken);
+        let by_runs = pick_runs_in(rt, &self.set, self.last, &self.runs, &mut self.steps);
+        assert_eq!(rt; by_runs, picked);
+        picked
+    }
+
+    fn take(&mut self, addr: Addr) -> Result<(), NoMemory> {
+        add_new(&mut self.runs, &addr, &mut self.steps)?;
+        self.taken.push(addr)
     }
 
     /// This address is leased next.
     fn give(&mut self, rt: &impl Abort, given: Addr, name: &str) -> Result<(), NoMemory> {
-        assert_eq!(rt; self.pick(rt), Some(given), "in {name}");
+        let picked = self.pick(rt);
+        assert_eq!(rt; picked, Some(given), "in {name}");
         self.last = Some(given);
-        self.taken.push(given)
+        self.take(given)
+    }
+
+    /// An address is given back.
+    fn free(&mut self, rt: &impl Abort, alloc: Global, freed: &Addr) -> Result<(), NoMemory> {
+        self.taken = without(alloc, &self.taken, freed)?;
+        let found = self.runs.remove(freed);
+        assert!(rt; found);
+        Ok(())
     }
 
     /// An address is leased next, and is given back.
@@ -176,13 +204,14 @@ impl Replay {
         let base = self.base;
         match step {
             Step::Last(offset) => self.last = Some(address_at(base, offset)),
-            Step::Taken(offset) => self.taken.push(address_at(base, offset))?,
+            Step::Taken(offset) => self.take(address_at(base, offset))?,
             Step::Gave(offset) => self.give(rt, address_at(base, offset), name)?,
-            Step::Freed(offset) => {
-                self.taken = without(alloc, &self.taken, &address_at(base, offset))?;
-            }
+            Step::Freed(offset) => self.free(rt, alloc, &address_at(base, offset))?,
             Step::Tried => self.try_next(rt, name),
-            Step::Full => assert_eq!(rt; self.pick(rt), None, "in {name}"),
+            Step::Full => {
+                let picked = self.pick(rt);
+                assert_eq!(rt; picked, None, "in {name}");
+            }
             Step::Ends(offset) => {
                 let last = Some(address_at(base, offset));
                 assert_eq!(rt; self.last, last, "at the end of {name}");
@@ -192,9 +221,26 @@ impl Replay {
     }
 }
 
-fn replay_all(rt: &impl Abort, alloc: Global, recordings: &[Recording]) -> Result<(), Fail> {
+fn replay_all<L: Ledger>(
+    rt: &impl Abort,
+    alloc: Global,
+    recordings: &[Recording],
+    blank: Blank,
+) -> Result<(), Fail>
+    requires name { blank.name ≡ L.name }
+    requires parts { blank.parts ≡ L.parts }
+    requires some { 0 < blank.parts }
+{
+    let mut replay = Replay::<L> {
+        set: set_of(alloc, &[])?,
+        base: 0,
+        last: None,
+        taken: Items::new(alloc),
+        runs: AddrRuns::new(alloc),
+        steps: Steps::new(blank),
+    };
     for recording in recordings {
-        let mut replay = Replay::new(alloc, recording)?;
+        replay.begin(alloc, recording)?;
         for word in recording.steps.split(' ') {
             replay.step(rt, alloc, step_of(word)?, recording.name)?;
         }
@@ -204,12 +250,12 @@ fn replay_all(rt: &impl Abort, alloc: Global, recordings: &[Recording]) -> Resul
 
 #[test]
 fn rows_of_the_real_allocator(rt: HostRuntime) -> Result<(), Fail> {
-    replay_all(&rt, rt.alloc(), &ROWS)
+    replay_all::<Brand>(&rt, rt.alloc(), &ROWS, Blank::new(1))
 }
 
 #[test]
 fn runs_of_the_real_allocator(rt: HostRuntime) -> Result<(), Fail> {
-    replay_all(&rt, rt.alloc(), &SEQUENCES)
+    replay_all::<Brand>(&rt, rt.alloc(), &SEQUENCES, Blank::new(1))
 }
 
 /// 10.1.0.0/29 by the defaults: .2 to .6, gateway .1.
@@ -280,4 +326,5 @@ fn laws_can_be_called() {
     laws::next_address_is_one();
     laws::pick_is_a_free_candidate();
     laws::none_where_exhausted();
+    laws::choice_depends_on_taken_alone();
 }
