@@ -42,7 +42,8 @@ fn owner_in<'a>(network: &Text, tag: &'a Tag) -> Option<&'a Att>
 
 /// Adds the attachment that the tag names, if it is of the network.
 fn add_owner_in(owners: &mut Vec<Att>, network: &Text, tag: &Tag) -> Result<(), NoMemory>
-    ensures { OnOk result ((tags : List Tag) → owners.old.items ≡ each_key_once att_eq (filter_map (owner_in network.now) tags)
+    ensures { OnOk result ((tags : List Tag)
+        → owners.old.items ≡ each_key_once att_eq (filter_map (owner_in network.now) tags)
         → owners.new.items ≡ each_key_once att_eq (filter_map (owner_in network.now) (tags ++ tag.now ∷ []))) }
 {
     if let Some(att) = owner_in(network, tag) {
@@ -58,7 +59,8 @@ pub(crate) fn owners_among<T: Tagged>(
     objects: &[T],
     network: &Text,
 ) -> Result<Items<Att>, NoMemory>
-    ensures { IfOk result (λ owners. owners ≡ each_key_once att_eq (filter_map (owner_in network.now) (map (λ x. T.tag_of x) objects.now))) }
+    ensures { IfOk result (λ owners. owners
+        ≡ each_key_once att_eq (filter_map (owner_in network.now) (map (λ x. T.tag_of x) objects.now))) }
 {
     let mut owners = Vec::new(alloc);
     for object in objects {

@@ -37,6 +37,8 @@ fn key_value(alloc: Global, key: &LinkKey) -> Result<Value, NoMemory>
     Ok(object.into_value())
 }
 
+// Each of these puts several members. Where memory is refused those before stay, and the callers drop the object.
+
 #[tactic(auto, unfolding(crate::specs::Dump::put_identity))]
 fn put_identity(object: &mut JsonObject, alloc: Global, link: &Link) -> Result<(), NoMemory>
     ensures { OnOk result (members_of object.new ≡ put_identity link.now (members_of object.old)) }

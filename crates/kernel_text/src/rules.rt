@@ -13,6 +13,8 @@ use kernel_types::{Rule, Setting, table_text};
 use serde_json::Value;
 use std::alloc::Global;
 
+// Each of these puts several members. Where memory is refused those before stay, and the callers drop the object.
+
 #[tactic(auto, unfolding(crate::specs::Dump::put_match))]
 fn put_match(object: &mut JsonObject, rule: &Rule) -> Result<(), NoMemory>
     ensures { OnOk result (members_of object.new ≡ put_match rule.now (members_of object.old)) }

@@ -1,6 +1,6 @@
 //! Owners as texts.
 
-ghost use Rattle.std.specs.Prelude.{◌≡◌, IfOk, OnOk};
+ghost use Rattle.std.specs.Prelude.{◌≡◌, IfOk, OnErr, OnOk};
 ghost use Rattle.cni_json.specs.Members.{members_of};
 ghost use Rattle.kernel_text.specs.Dump.{put_tag};
 ghost use Rattle.kernel_text.specs.Words.{attachment_text, tag_text};
@@ -36,7 +36,8 @@ pub fn tag_text(alloc: Global, tag: &Tag) -> Result<Text, NoMemory>
 
 /// Puts the owner of an object.
 pub fn put_tag(object: &mut JsonObject, alloc: Global, tag: &Tag) -> Result<(), NoMemory>
-    ensures { OnOk result (members_of object.new ≡ put_tag tag.now (members_of object.old)) }
+    ensures put { OnOk result (members_of object.new ≡ put_tag tag.now (members_of object.old)) }
+    ensures unchanged { OnErr result (members_of object.new ≡ members_of object.old) }
 {
     object.put("tag", &tag_text(alloc, tag)?)
 }

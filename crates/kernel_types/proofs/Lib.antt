@@ -8,10 +8,10 @@ pub mod Isolation
 pub mod LeasedAddress
 pub mod ListLemmas
 pub mod Namespaces
-pub mod Opening
 pub mod Removal
 pub mod Replies
 pub mod SoundHosts
+pub mod SoundOpening
 pub mod TouchRemoval
 -- of this crate's own proofs
 pub mod Adds

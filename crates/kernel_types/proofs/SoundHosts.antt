@@ -1,18 +1,20 @@
 -- What follows of a sound host.
 use Rattle.std.proofs.Common.{◌≡◌, ℕ, zero, suc, ◌<◌, Bool, true, false, List, [], ◌∷◌, inl, inr, Option, Some, None, length, refl, sym, ◌∙◌, ap, arith}
-use Rattle.std.specs.Prelude.{filter, map, ◌&&◌, ◌||◌, if◌then◌else◌}
+use Rattle.std.specs.Prelude.{not, filter, map, ◌&&◌, ◌||◌, if◌then◌else◌}
 use Rattle.std.specs.List.{list_any, list_all, Contains, slice_index_or}
 use Rattle.std.specs.Str.{bytes_eq}
 use Rattle.std.specs.Cmp.{both_ways}
 use Rattle.std.specs.Cmp.Lexicographic.{nat_list_eq_equiv}
+use Rattle.std.proofs.lemmas.Bool.{and_parts}
 use Rattle.std.proofs.lemmas.Slice.Eq.{bytes_eq-Decides}
 use Rattle.cni_addr.specs.Lists.{distinct, IsAmong}
 use Rattle.kernel_types.specs.Equal.{addr_eq, tag_eq}
-use Rattle.kernel_types.specs.Words.{is_host_or_ns, is_owned, is_at, is_peer_at, is_link_of}
+use Rattle.kernel_types.specs.Words.{is_host_ns, is_host_or_ns, is_host_bridge, is_owned, is_at, is_peer_at, is_link_of, has_bridge_in, has_link_in}
 use Rattle.kernel_types.specs.Apply.Calls.{goes_with, goes_with_ns, has_peer_in}
-use Rattle.kernel_types.specs.Sound.{IsSound, AreInPlaces, NoNamespaceOwned, NoAddressTwice, is_link_or_peer, is_in_ns_or_peer, address_fits_tag, peer_fits, peers_back, setting_fits_tag}
+use Rattle.kernel_types.specs.Sound.{IsSound, AreInPlaces, HasTagsOn, NoNamespaceOwned, may_be_on, NoAddressTwice, is_link_or_peer, is_in_ns_or_peer, address_fits_tag, peer_fits, peers_back, setting_fits_tag}
+use Rattle.kernel_types.proofs.Cases.{host_bridge-at}
 use Rattle.kernel_types.proofs.ListLemmas.{list_all-weaker, list_any-weaker, list_any-none, list_any-map_filter}
-use Rattle.kernel_types.proofs.TouchRemoval.{is_at-symm}
+use Rattle.kernel_types.proofs.TouchRemoval.{is_at-symm, keeps_or_owns, one_place}
 use Rattle.kernel_types.specs.declared.object.LinkKey.{LinkKey}
 use Rattle.kernel_types.specs.declared.object.Tag.{Tag}
 use Rattle.kernel_types.specs.declared.object.Tag.TheVariants.{Outside, Base, Own}
@@ -153,6 +155,42 @@ goes_with-sound host link other sound link_there other_there =
     (both_ways (is_peer_at link.ns link.name other.peer) (is_peer_at other.ns other.name link.peer)
     (peer_names_back host.links other link other.peer sound.links.keys at_link fits_other)
     (peer_names_back host.links link other link.peer sound.links.keys at_other fits_link))
+
+-- ---- what is on a link
+
+-- what some link at a place passes, the link at that place passes
+passes_at : (p : Link → Bool) (ns name : List ℕ) (link : Link) (links : List Link) → ((l : Link) → p l ≡ true → is_at ns name l ≡ true) → is_at ns name link ≡ true → distinct (λ a b. is_at b.ns b.name a) links ≡ true → IsAmong link links → list_any p links ≡ true → p link ≡ true
+passes_at p ns name link links at here keys among some =
+    from_among p (p link) links
+    (λ x there passes.
+    let same : is_at link.ns link.name x ≡ true = one_place ns name x link (at x passes) here in
+    let one : x ≡ link = one_among (λ a b. is_at b.ns b.name a) is_at-symm x link links keys there among same in
+    ap p (sym one) ∙ passes)
+    some
+
+tag_on : (links : List Link) (link : Link) (ns name : List ℕ) (t : Tag) → distinct (λ a b. is_at b.ns b.name a) links ≡ true → IsAmong link links → is_at ns name link ≡ true → has_link_in links ns name t ≡ true → tag_eq link.tag t ≡ true
+tag_on links link ns name t keys among at lies =
+    let passes : is_link_of ns name t link ≡ true = passes_at (is_link_of ns name t) ns name link links (λ l h. grind (arith, h)) at keys among lies in
+    grind (arith, passes)
+
+address_on : (links : List Link) (link : Link) (a : AddrObj) (t : Tag) → distinct (λ a b. is_at b.ns b.name a) links ≡ true → IsAmong link links → is_at a.ns a.link link ≡ true → address_fits_tag links a t ≡ true → may_be_on link t ≡ true
+address_on links link a Outside keys among at fits = cc
+address_on links link a Base keys among at fits =
+    let on = and_parts (is_host_ns a.ns) (has_bridge_in links a.link) fits in
+    let bridge : is_host_bridge a.link link ≡ true = passes_at (is_host_bridge a.link) a.ns a.link link links (λ l b. host_bridge-at a.ns a.link l on.0 b) at keys among on.1 in
+    grind (arith, bridge)
+address_on links link a (Own att) keys among at fits = grind (arith, tag_on links link a.ns a.link (Own att) keys among at fits)
+
+-- in a sound host what is on a link has its tag, or is shared and on a bridge of the host
+pub HasTagsOn-sound : (host : Host) (link : Link) → IsSound host → Contains host.links link → HasTagsOn link host
+HasTagsOn-sound host link sound there =
+    let among : IsAmong link host.links = IsAmong-Contains link host.links there in
+    record {
+      addresses = list_all-weaker (λ a. address_fits_tag host.links a a.tag) (λ a. not (is_at a.ns a.link link) || may_be_on link a.tag)
+          (λ a h. keeps_or_owns (is_at a.ns a.link link) (may_be_on link a.tag) (λ at. address_on host.links link a a.tag sound.links.keys among at h)) host.addresses sound.addresses.on_links;
+      routes = list_all-weaker (λ r. has_link_in host.links r.ns r.link r.tag) (λ r. not (is_at r.ns r.link link) || tag_eq link.tag r.tag)
+          (λ r h. keeps_or_owns (is_at r.ns r.link link) (tag_eq link.tag r.tag) (λ at. tag_on host.links link r.ns r.link r.tag sound.links.keys among at h)) host.routes sound.routes.on_links;
+    }
 
 -- ---- what goes with a namespace
 

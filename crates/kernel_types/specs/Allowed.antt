@@ -50,7 +50,8 @@ IsAllowed host (AddrAdd obj) = is_owned obj.tag ≡ true
 IsAllowed host (RouteAdd obj) = is_owned obj.tag ≡ true
 IsAllowed host (RuleAppend rule) = is_owned rule.tag ≡ true
 IsAllowed host (SettingSet setting) = (is_owned setting.tag ≡ true) × (is_host_ns setting.ns ≡ false)
-IsAllowed host (LeaseNext att number set) = HasRangesApart set × (is_candidate_or_none set (last_leased host att.network number) ≡ true)
+IsAllowed host (LeaseNext att number set) =
+    HasRangesApart set × (is_candidate_or_none set (last_leased host att.network number) ≡ true)
 IsAllowed host (CachePut att cached) = Unit {0}
 IsAllowed host (LinkDel att) = Unit {0}
 IsAllowed host (RuleDel att) = Unit {0}

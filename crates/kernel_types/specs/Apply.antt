@@ -16,7 +16,8 @@ apply host (GatewayEnsure bridge cidr) = calls.gateway_ensure_of host bridge cid
 apply host (ForwardEnsure family) = calls.forward_ensure_of host family
 apply host (VethAdd host_end inner_end) = calls.veth_add_of host host_end inner_end
 apply host (MacvlanAdd link) = calls.macvlan_add_of host link
-apply host (LinkSet att key mac mtu tx_qlen promisc allmulti) = calls.link_set_of host att key mac mtu tx_qlen promisc allmulti
+apply host (LinkSet att key mac mtu tx_qlen promisc allmulti) =
+    calls.link_set_of host att key mac mtu tx_qlen promisc allmulti
 apply host (AddrAdd obj) = calls.addr_add_of host obj
 apply host (RouteAdd obj) = calls.route_add_of host obj
 apply host (RuleAppend rule) = calls.rule_append_of host rule

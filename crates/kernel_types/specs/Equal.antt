@@ -49,17 +49,42 @@ target_eq _ _ = false
 
 abbrev pub link_eq : Link → Link → Bool
 link_eq a b =
-    bytes_eq a.ns b.ns && (bytes_eq a.name b.name && (link_kind_eq a.kind b.kind && (option_eq bytes_eq a.master b.master && (option_eq key_eq a.peer b.peer && (mac_eq a.mac b.mac && (a.mtu == b.mtu && (beq a.hairpin b.hairpin && (beq a.promisc b.promisc && (beq a.allmulti b.allmulti && (a.tx_qlen == b.tx_qlen && tag_eq a.tag b.tag))))))))))
+    bytes_eq a.ns b.ns
+    && (bytes_eq a.name b.name
+    && (link_kind_eq a.kind b.kind
+    && (option_eq bytes_eq a.master b.master
+    && (option_eq key_eq a.peer b.peer
+    && (mac_eq a.mac b.mac
+    && (a.mtu == b.mtu
+    && (beq a.hairpin b.hairpin
+    && (beq a.promisc b.promisc
+    && (beq a.allmulti b.allmulti
+    && (a.tx_qlen == b.tx_qlen
+    && tag_eq a.tag b.tag))))))))))
 
 abbrev pub addr_obj_eq : AddrObj → AddrObj → Bool
 addr_obj_eq a b = bytes_eq a.ns b.ns && bytes_eq a.link b.link && cidr_eq a.cidr b.cidr && tag_eq a.tag b.tag
 
 abbrev pub route_eq : RouteObj → RouteObj → Bool
-route_eq a b = bytes_eq a.ns b.ns && cidr_eq a.dst b.dst && bytes_eq a.link b.link && option_eq addr_eq a.gw b.gw && tag_eq a.tag b.tag
+route_eq a b =
+    bytes_eq a.ns b.ns
+    && cidr_eq a.dst b.dst
+    && bytes_eq a.link b.link
+    && option_eq addr_eq a.gw b.gw
+    && tag_eq a.tag b.tag
 
 abbrev pub rule_eq : Rule → Rule → Bool
 rule_eq a b =
-    table_eq a.table b.table && (chain_eq a.chain b.chain && (option_eq cidr_eq a.src b.src && (option_eq cidr_eq a.dst b.dst && (beq a.not_dst b.not_dst && (option_eq proto_eq a.protocol b.protocol && (option_eq (λ p q. p == q) a.dport b.dport && (beq a.established b.established && (target_eq a.target b.target && tag_eq a.tag b.tag))))))))
+    table_eq a.table b.table
+    && (chain_eq a.chain b.chain
+    && (option_eq cidr_eq a.src b.src
+    && (option_eq cidr_eq a.dst b.dst
+    && (beq a.not_dst b.not_dst
+    && (option_eq proto_eq a.protocol b.protocol
+    && (option_eq (λ p q. p == q) a.dport b.dport
+    && (beq a.established b.established
+    && (target_eq a.target b.target
+    && tag_eq a.tag b.tag))))))))
 
 abbrev pub setting_eq : Setting → Setting → Bool
 setting_eq a b = bytes_eq a.ns b.ns && bytes_eq a.key b.key && bytes_eq a.value b.value && tag_eq a.tag b.tag

@@ -5,7 +5,7 @@ use Rattle.std.specs.Str.{bytes_eq}
 use Rattle.cni_addr.specs.Lists.{distinct}
 use Rattle.kernel_types.specs.Equal.{addr_eq, tag_eq}
 use Rattle.kernel_types.specs.Keys.{is_same_addr, is_same_cached, is_same_last, is_same_lease, is_same_link, is_same_namespace, is_same_route, is_same_rule, is_same_setting}
-use Rattle.kernel_types.specs.Words.{is_host_ns, is_host_or_ns, is_owned, has_bridge_in, is_veth, is_at, is_peer_at, has_link_in, leased_addresses, owner_in}
+use Rattle.kernel_types.specs.Words.{is_host_ns, is_host_or_ns, is_owned, is_bridge, has_bridge_in, is_veth, is_at, is_peer_at, has_link_in, leased_addresses, owner_in}
 use Rattle.kernel_types.specs.declared.object.LinkKey.{LinkKey}
 use Rattle.kernel_types.specs.declared.object.Tag.{Tag}
 use Rattle.kernel_types.specs.declared.object.Tag.TheVariants.{Outside, Base, Own}
@@ -63,13 +63,17 @@ link_fits_tag link (Own att) = is_owned_kind link.ns link.kind
 
 -- the link at the peer's place names this one as its peer and has its tag
 abbrev pub peers_back : Link → LinkKey → Link → Bool
-peers_back link key peer = is_at key.ns key.name peer && is_peer_at link.ns link.name peer.peer && tag_eq peer.tag link.tag
+peers_back link key peer =
+    is_at key.ns key.name peer && is_peer_at link.ns link.name peer.peer && tag_eq peer.tag link.tag
 
 -- exactly a veth end has a peer, and it is there, names this one as its peer and has its tag; one end is in the host
 abbrev pub peer_fits : List Link → Link → Option LinkKey → Bool
 peer_fits links link None = not (is_veth link.kind)
 peer_fits links link (Some key) =
-    is_veth link.kind && list_any (peers_back link key) links && not (is_host_ns link.ns && is_host_ns key.ns) && (is_host_ns link.ns || is_host_ns key.ns)
+    is_veth link.kind
+    && list_any (peers_back link key) links
+    && not (is_host_ns link.ns && is_host_ns key.ns)
+    && (is_host_ns link.ns || is_host_ns key.ns)
 
 pub record AreLinks (namespaces : List NsObj) (links : List Link) : Type 0 where
   pub keys : HasDistinctKeys is_same_link links
@@ -137,6 +141,16 @@ pub record AreInPlaces (host : Host) : Type 0 where
   pub addresses : AllPassTest (λ a. is_host_or_ns host.namespaces a.ns) host.addresses
   pub routes : AllPassTest (λ r. is_host_or_ns host.namespaces r.ns) host.routes
   pub settings : AllPassTest (λ s. is_host_or_ns host.namespaces s.ns) host.settings
+
+-- what has this tag may be an address on the link: the tag is the link's, or shared where the link is a bridge of the
+-- host
+abbrev pub may_be_on : Link → Tag → Bool
+may_be_on link tag = tag_eq link.tag tag || (tag_eq Base tag && is_host_ns link.ns && is_bridge link.kind)
+
+-- each address on the link may be on it by its tag, and each route on it has its tag
+pub record HasTagsOn (link : Link) (host : Host) : Type 0 where
+  pub addresses : AllPassTest (λ a. not (is_at a.ns a.link link) || may_be_on link a.tag) host.addresses
+  pub routes : AllPassTest (λ r. not (is_at r.ns r.link link) || tag_eq link.tag r.tag) host.routes
 
 -- no attachment owns a namespace
 abbrev pub NoNamespaceOwned : Host → Type 0

@@ -21,13 +21,16 @@ abbrev pub ChangesOnly : {X : Type 0} → (X → Bool) → List X → List X →
 ChangesOnly own [] new = list_all own new ≡ true
 ChangesOnly own (x ∷ old) [] = (own x ≡ true) × ChangesOnly own old []
 ChangesOnly own (x ∷ old) (y ∷ new) =
-    ((x ≡ y) × ChangesOnly own old new) ⊎ (((own x ≡ true) × (own y ≡ true) × ChangesOnly own old new) ⊎ ((own x ≡ true) × ChangesOnly own old (y ∷ new)))
+    ((x ≡ y) × ChangesOnly own old new)
+    ⊎ (((own x ≡ true) × (own y ≡ true) × ChangesOnly own old new)
+    ⊎ ((own x ≡ true) × ChangesOnly own old (y ∷ new)))
 
 -- objects that pass are dropped; all else stands as it stood
 abbrev pub DropsOnly : {X : Type 0} → (X → Bool) → List X → List X → Type 0
 DropsOnly gone [] new = new ≡ []
 DropsOnly gone (x ∷ old) [] = (gone x ≡ true) × DropsOnly gone old []
-DropsOnly gone (x ∷ old) (y ∷ new) = ((x ≡ y) × DropsOnly gone old new) ⊎ ((gone x ≡ true) × DropsOnly gone old (y ∷ new))
+DropsOnly gone (x ∷ old) (y ∷ new) =
+    ((x ≡ y) × DropsOnly gone old new) ⊎ ((gone x ≡ true) × DropsOnly gone old (y ∷ new))
 
 -- ---- a host
 
@@ -67,14 +70,17 @@ abbrev pub AddsBridge : Host → Host → Type 0
 AddsBridge old new = AddsOne (λ (x : Link). x.tag) tags.Base (λ x. record old { links = old.links ++ x ∷ [] }) old new
 
 abbrev pub AddsAddress : Host → Host → Type 0
-AddsAddress old new = AddsOne (λ (x : AddrObj). x.tag) tags.Base (λ x. record old { addresses = old.addresses ++ x ∷ [] }) old new
+AddsAddress old new =
+    AddsOne (λ (x : AddrObj). x.tag) tags.Base (λ x. record old { addresses = old.addresses ++ x ∷ [] }) old new
 
 abbrev pub AddsSetting : Host → Host → Type 0
-AddsSetting old new = AddsOne (λ (x : Setting). x.tag) tags.Base (λ x. record old { settings = old.settings ++ x ∷ [] }) old new
+AddsSetting old new =
+    AddsOne (λ (x : Setting). x.tag) tags.Base (λ x. record old { settings = old.settings ++ x ∷ [] }) old new
 
 -- at most one namespace is appended
 abbrev pub AddsNamespace : Host → Host → Type 0
-AddsNamespace old new = AddsOne (λ (x : NsObj). x.tag) tags.Outside (λ x. record old { namespaces = old.namespaces ++ x ∷ [] }) old new
+AddsNamespace old new =
+    AddsOne (λ (x : NsObj). x.tag) tags.Outside (λ x. record old { namespaces = old.namespaces ++ x ∷ [] }) old new
 
 abbrev pub is_base : Tag → Bool
 is_base tags.Outside = false

@@ -1,8 +1,8 @@
 //! Laws of the modelled kernel, each carried by a function that does nothing.
 //!
 //! A caller that has a sound host, and a call that may be made in it, calls the function where its proof wants the law,
-//! or a lemma above this crate cites the lemma that its answer names. These stand in `proofs/`: `EveryCall` has the laws
-//! over all calls, `Isolation`, `SoundHosts` and `LeasedAddress` what follows.
+//! or a lemma above this crate cites the lemma that its answer names. These stand in `proofs/`: `EveryCall` has the
+//! laws over all calls, `Isolation`, `SoundHosts` and `LeasedAddress` what follows.
 
 ghost use Rattle.std.specs.Prelude.{◌≡◌, true, false, Contains, Some};
 ghost use Rattle.ip_pool.specs.NextAddress.{is_candidate, is_taken, IsExhausted, IsNextAddress};
@@ -12,7 +12,7 @@ ghost use Rattle.kernel_types.specs.Apply.Calls.{goes_with, goes_with_ns, lease_
 ghost use Rattle.kernel_types.specs.Isolation.{deletes_for, ensures_shared, is_from_outside, KeepsPart, KeepsUnowned, names_att, RemovesOwn};
 ghost use Rattle.kernel_types.specs.Opening.{opening_with, AreNamespaceNames, AreOutsideLinks};
 ghost use Rattle.kernel_types.specs.Replies.{is_fault, holds_text_or_list};
-ghost use Rattle.kernel_types.specs.Sound.{AreInPlaces, IsSound, is_in_ns_or_peer, is_link_or_peer, NoAddressTwice, NoNamespaceOwned};
+ghost use Rattle.kernel_types.specs.Sound.{AreInPlaces, HasTagsOn, IsSound, is_in_ns_or_peer, is_link_or_peer, NoAddressTwice, NoNamespaceOwned};
 ghost use Rattle.kernel_types.specs.Touch.{Touches};
 ghost use Rattle.kernel_types.specs.Words.{last_leased, leased_addresses};
 
@@ -81,6 +81,14 @@ pub fn every_object_is_in_its_place(host: &Host)
     ensures { AreInPlaces host.now }
 {}
 
+/// In a sound host a route has the tag of the link that it is on. So has an address, or it is shared and on a bridge of
+/// the host.
+pub fn what_is_on_a_link_has_its_tag(host: &Host, link: &Link)
+    requires sound { IsSound host.now }
+    requires link { Contains host.now.links link.now }
+    ensures { HasTagsOn link.now host.now }
+{}
+
 /// In a sound host no attachment owns a namespace.
 pub fn no_namespace_is_owned(host: &Host)
     requires { IsSound host.now }
@@ -119,7 +127,8 @@ pub fn a_leased_address_was_free(
     requires { (lease_next_of host.now att.now number set.now).1 ≡ Reply.Leased address.now }
     ensures candidate { is_candidate set.now address.now ≡ true }
     ensures free { is_taken (leased_addresses host.now att.now.network) address.now ≡ false }
-    ensures last { last_leased (lease_next_of host.now att.now number set.now).0 att.now.network number ≡ Some address.now }
+    ensures last { last_leased (lease_next_of host.now att.now number set.now).0 att.now.network number
+        ≡ Some address.now }
 {}
 
 /// The address that LeaseNext replies is the next after the pool's last one: every candidate on the way to it is
@@ -133,7 +142,8 @@ pub fn a_leased_address_is_the_next(
 )
     requires allowed { IsAllowed host.now (Call.LeaseNext att.now number set.now) }
     requires leased { (lease_next_of host.now att.now number set.now).1 ≡ Reply.Leased address.now }
-    ensures { IsNextAddress set.now (last_leased host.now att.now.network number) (leased_addresses host.now att.now.network) address.now }
+    ensures { IsNextAddress set.now (last_leased host.now att.now.network number)
+        (leased_addresses host.now att.now.network) address.now }
 {}
 
 /// Where LeaseNext replies that none is left, every candidate of the set is leased.

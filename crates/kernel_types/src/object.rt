@@ -8,7 +8,7 @@ use cni_addr::{Addr, Cidr, Duplicate, Items, Mac, MacvlanMode, NoMemory, Text};
 use cni_result::Cached;
 
 /// Whose an object is.
-#[derive(PartialEq, Eq, Drop)]
+#[derive(PartialEq, Eq, Hash, Drop)]
 pub enum Tag {
     /// It was there before, or the world outside made it: nobody here takes it away.
     Outside,
@@ -55,7 +55,7 @@ pub enum LinkKind {
 
 /// An attachment of a container to a network (CNI specification, section 2: what the runtime names by `CNI_CONTAINERID`
 /// and `CNI_IFNAME`, with the name of the network).
-#[derive(PartialEq, Eq, Drop)]
+#[derive(PartialEq, Eq, Hash, Drop)]
 pub struct Att {
     pub network: Text,
     pub container: Text,
@@ -74,7 +74,7 @@ impl Duplicate for Att {
 }
 
 /// The place of a link; the host is the namespace with the empty name.
-#[derive(PartialEq, Eq, Drop)]
+#[derive(PartialEq, Eq, Hash, Drop)]
 pub struct LinkKey {
     pub ns: Text,
     pub name: Text,
@@ -161,7 +161,7 @@ impl Duplicate for Link {
 }
 
 /// An address on a link.
-#[derive(PartialEq, Eq, Drop)]
+#[derive(PartialEq, Eq, Hash, Drop)]
 pub struct AddrObj {
     pub ns: Text,
     /// The name of the link, which stands in the same namespace.
@@ -183,7 +183,7 @@ impl Duplicate for AddrObj {
 }
 
 /// A route.
-#[derive(PartialEq, Eq, Drop)]
+#[derive(PartialEq, Eq, Hash, Drop)]
 pub struct RouteObj {
     pub ns: Text,
     /// The network that it leads to; that of all addresses makes it a default route.
@@ -208,7 +208,7 @@ impl Duplicate for RouteObj {
 }
 
 /// A value of a namespace, as `sysctl` sets it.
-#[derive(PartialEq, Eq, Drop)]
+#[derive(PartialEq, Eq, Hash, Drop)]
 pub struct Setting {
     pub ns: Text,
     /// The name with points, as `net.core.somaxconn`.
@@ -229,7 +229,7 @@ impl Duplicate for Setting {
 }
 
 /// An address that is leased. No network has one twice in a sound host.
-#[derive(PartialEq, Eq, Drop)]
+#[derive(PartialEq, Eq, Hash, Drop)]
 pub struct Lease {
     pub network: Text,
     pub addr: Addr,

@@ -5,7 +5,7 @@ use cni_addr::{Addr, Cidr, Duplicate, NoMemory};
 use cni_result::Proto;
 
 /// A table of packet rules.
-#[derive(Clone, Copy)]
+#[derive(Clone, Copy, Hash)]
 pub enum Table {
     /// Address translation.
     Nat,
@@ -34,7 +34,7 @@ impl Eq for Table {
 }
 
 /// A chain of packet rules. The plugins' chains of one purpose are one here.
-#[derive(Clone, Copy)]
+#[derive(Clone, Copy, Hash)]
 pub enum Chain {
     /// Where a packet for a mapped port of the host gets the container's address.
     Dnat,
@@ -67,7 +67,7 @@ impl Eq for Chain {
 }
 
 /// What becomes of a packet that a rule fits.
-#[derive(Clone, Copy, PartialEq, Eq)]
+#[derive(Clone, Copy, PartialEq, Eq, Hash)]
 pub enum Target {
     /// It passes.
     Accept,
@@ -78,7 +78,7 @@ pub enum Target {
 }
 
 /// A rule of a chain.
-#[derive(PartialEq, Eq, Drop)]
+#[derive(PartialEq, Eq, Hash, Drop)]
 pub struct Rule {
     pub table: Table,
     pub chain: Chain,

@@ -1,13 +1,15 @@
-//! What the crates above ask of single objects: their place, kind, owner and key; and the last address of a pool. None
-//! takes memory.
+//! What the crates above ask of single objects: their place, kind, owner and key; the last address of a pool; and
+//! whether a call may be refused memory. None takes memory.
 
 ghost use Rattle.std.specs.Prelude.{◌≡◌, find};
 ghost use Rattle.std.specs.Option.{option_copied};
 ghost use Rattle.kernel_types.specs.Keys.{is_same_addr, is_same_route, is_same_setting};
+ghost use Rattle.kernel_types.specs.Replies.{needs_no_memory};
 ghost use Rattle.kernel_types.specs.Words.{is_at, is_bridge, is_host_ns, is_macvlan, is_owned, is_peer_at, is_veth, is_of_pool, last_in};
 
+use crate::call::Call;
 use crate::object::{AddrObj, Last, Link, LinkKey, LinkKind, RouteObj, Setting, Tag};
-use cni_addr::{Addr, Text};
+use cni_addr::Addr;
 
 /// Whether a namespace of this name is the host's own, whose name is empty.
 pub fn is_host_ns(ns: &str) -> bool
@@ -24,11 +26,11 @@ pub fn is_at(ns: &str, name: &str, link: &Link) -> bool
 }
 
 /// Whether a link's peer stands at this place.
-pub fn is_peer_at(ns: &Text, name: &Text, peer: &Option<LinkKey>) -> bool
+pub fn is_peer_at(ns: &str, name: &str, peer: &Option<LinkKey>) -> bool
     ensures { result ≡ is_peer_at ns.now name.now peer.now }
 {
     match peer {
-        Some(key) => key.ns == *ns && key.name == *name,
+        Some(key) => key.ns.as_str() == ns && key.name.as_str() == name,
         None => false,
     }
 }
@@ -67,24 +69,45 @@ impl Tag {
 
 impl Last {
     /// Whether it is the address that was leased last of the set of this number in the network.
-    pub fn is_of_pool(&self, network: &Text, number: u32) -> bool
+    pub fn is_of_pool(&self, network: &str, number: u32) -> bool
         ensures { result ≡ is_of_pool network.now number self.now }
     {
-        self.network == *network && self.set == number
+        self.network.as_str() == network && self.set == number
     }
 }
 
-fn last_of_pool<'a>(lasts: &'a [Last], network: &Text, number: u32) -> Option<&'a Last>
+fn last_of_pool<'a>(lasts: &'a [Last], network: &str, number: u32) -> Option<&'a Last>
     ensures { option_copied result ≡ find (is_of_pool network.now number) lasts.now }
 {
     lasts.iter().find(|l| l.is_of_pool(network, number))
 }
 
 /// The address that was leased last of the set of this number in the network. Linear in the list.
-pub fn last_in(lasts: &[Last], network: &Text, number: u32) -> Option<Addr>
+pub fn last_in(lasts: &[Last], network: &str, number: u32) -> Option<Addr>
     ensures { result ≡ last_in lasts.now network.now number }
 {
     last_of_pool(lasts, network, number).map(|last| last.addr)
+}
+
+impl Call {
+    /// Whether the call is never refused memory: it only removes, changes numbers in place or asks for a truth value.
+    pub fn needs_no_memory(&self) -> bool
+        ensures { result ≡ needs_no_memory self.now }
+    {
+        matches!(
+            self,
+            Call::LinkSet { .. }
+                | Call::LinkDel { .. }
+                | Call::RuleDel { .. }
+                | Call::SettingDel { .. }
+                | Call::LeaseDel { .. }
+                | Call::CacheDel { .. }
+                | Call::HasObj { .. }
+                | Call::PoolFree { .. }
+                | Call::NsChange { add: false, .. }
+                | Call::Outside { .. }
+        )
+    }
 }
 
 // ---- the keys of objects that a call adds unless their key is taken

@@ -37,7 +37,7 @@ impl Leaving for AtPlace<'_> {
 
     fn is_leaving(&self, link: &Link) -> bool {
         is_at(self.ns.as_str(), self.name.as_str(), link)
-            || is_peer_at(self.ns, self.name, &link.peer)
+            || is_peer_at(self.ns.as_str(), self.name.as_str(), &link.peer)
     }
 }
 
@@ -110,7 +110,8 @@ fn drop_objects_on_leaving<T: OnLink + Drop, L: Leaving>(
     links: &[Link],
     leaving: &L,
 )
-    ensures { objects.new.items ≡ filter (λ x. not (list_any (λ l. L.leaving leaving.now l && T.on_link x l) links.now)) objects.old.items }
+    ensures { objects.new.items
+        ≡ filter (λ x. not (list_any (λ l. L.leaving leaving.now l && T.on_link x l) links.now)) objects.old.items }
 {
     for link in links {
         if leaving.is_leaving(link) {

@@ -42,13 +42,13 @@ fn is_leased(leases: &[Lease], network: &Text, addr: &Addr) -> bool
 fn has_last(lasts: &[Last], network: &Text, number: u32) -> bool
     ensures { result ≡ list_any (is_of_pool network.now number) lasts.now }
 {
-    lasts.iter().any(|l| l.is_of_pool(network, number))
+    lasts.iter().any(|l| l.is_of_pool(network.as_str(), number))
 }
 
 fn move_last(last: &mut Last, network: &Text, number: u32, addr: Addr)
     ensures { last.new ≡ moved_last network.now number addr last.old }
 {
-    if last.is_of_pool(network, number) {
+    if last.is_of_pool(network.as_str(), number) {
         last.addr = addr;
     }
 }
@@ -65,7 +65,9 @@ fn move_lasts(lasts: &mut Vec<Last>, network: &Text, number: u32, addr: Addr)
 impl HostLists {
     /// Leases the address, which becomes the last of its pool.
     fn lease(&mut self, att: &Att, number: u32, addr: Addr) -> Result<(), NoMemory>
-        ensures ok { OnOk result (self.new ≡ with_last (record self.old { leases = self.old.leases ++ lease_of att.now addr ∷ [] }) att.now.network number addr) }
+        ensures ok { OnOk result (self.new
+            ≡ with_last (record self.old { leases = self.old.leases ++ lease_of att.now addr ∷ [] })
+            att.now.network number addr) }
         ensures err { OnErr result (self.new ≡ self.old) }
     {
         let lease = Lease::of(att, addr)?;
@@ -89,13 +91,14 @@ impl HostLists {
     fn next_address(&self, network: &Text, number: u32, set: &RangeSet) -> Option<Addr>
         requires pool { HasRangesApart set.now }
         requires last { is_candidate_or_none set.now (last_leased self.now network.now number) ≡ true }
-        ensures { result ≡ pick_of set.now (last_leased self.now network.now number) (leased_addresses self.now network.now) }
+        ensures { result
+            ≡ pick_of set.now (last_leased self.now network.now number) (leased_addresses self.now network.now) }
     {
         let taken = NetworkLeases {
             leases: &self.leases,
             network,
         };
-        pick(set, last_in(&self.lasts, network, number), &taken)
+        pick(set, last_in(&self.lasts, network.as_str(), number), &taken)
     }
 
     /// Linear in the leases for each address that is tried.

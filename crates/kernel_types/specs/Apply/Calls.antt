@@ -1,5 +1,5 @@
 -- One equation a call: the host after it and the reply, on whole lists.
-use Rattle.std.specs.Prelude.{ℕ, Bool, true, false, not, ◌&&◌, ◌||◌, ◌==◌, List, [], ◌∷◌, ◌++◌, map, filter, find, Option, Some, None, unwrap_or, if◌then◌else◌, codes}
+use Rattle.std.specs.Prelude.{ℕ, Bool, true, false, not, ◌&&◌, ◌||◌, List, [], ◌∷◌, ◌++◌, map, filter, find, Option, Some, None, unwrap_or, if◌then◌else◌, codes}
 use Rattle.std.specs.List.{list_any, filter_map}
 use Rattle.std.specs.Option.{option_map, option_or}
 use Rattle.std.specs.Str.{bytes_eq}
@@ -16,7 +16,7 @@ use Rattle.ip_pool.specs.Pool.{pick_of, has_free_of}
 pub use Rattle.kernel_types.specs.Keys.{is_same_addr, is_same_route, is_same_rule, is_same_setting}
 use Rattle.kernel_types.specs.Names.{link_mac_of}
 pub use Rattle.kernel_types.specs.Words.{has_link_in, addresses_in, is_of_pool, last_in, last_leased, leased_addresses, owner_in}
-use Rattle.kernel_types.specs.Words.{is_host_or_ns, is_own, is_owned, is_bridge, is_at, is_peer_at, has_named_ns, link_at, is_host_link, is_bridge_with, has_host_bridge, has_objects, is_link_of, new_link, lease_of, cached_in, outside_namespace}
+use Rattle.kernel_types.specs.Words.{is_host_or_ns, is_own, is_owned, is_bridge, is_at, is_peer_at, has_named_ns, link_at, is_host_link, is_bridge_with, has_host_bridge, has_objects, new_link, lease_of, cached_in, outside_namespace}
 use Rattle.kernel_types.specs.declared.object.Att.{Att}
 use Rattle.kernel_types.specs.declared.object.LinkKey.{LinkKey}
 use Rattle.kernel_types.specs.declared.object.Tag.{Tag}
@@ -52,20 +52,24 @@ unless_there there reply host next = if there then (host, reply) else (next, Don
 -- ---- before an attachment
 
 abbrev pub begin_of : Host → Att → List ℕ → Host × Reply
-begin_of host att netns =
-    (host, if is_host_or_ns host.namespaces netns then (if has_objects host att then Taken (Own att) else Done) else NoNs)
+begin_of host att netns = (
+  host,
+  if is_host_or_ns host.namespaces netns then (if has_objects host att then Taken (Own att) else Done) else NoNs,
+)
 
 -- ---- what the attachments of a host share
 
 abbrev pub new_bridge : List ℕ → ℕ → Bool → Link
-new_bridge name mtu promisc = record (new_link (record { ns = []; name = name }) Bridge (link_mac_of name) mtu Base) { promisc = promisc }
+new_bridge name mtu promisc =
+    record (new_link (record { ns = []; name = name }) Bridge (link_mac_of name) mtu Base) { promisc = promisc }
 
 abbrev pub bridge_or_new : Host → Option Link → Link → Host × Reply
 bridge_or_new host (Some link) bridge = (host, if is_bridge link.kind then Done else Taken link.tag)
 bridge_or_new host None bridge = (record host { links = host.links ++ bridge ∷ [] }, Done)
 
 abbrev pub bridge_ensure_of : Host → List ℕ → ℕ → Bool → Host × Reply
-bridge_ensure_of host name mtu promisc = bridge_or_new host (find (is_host_link name) host.links) (new_bridge name mtu promisc)
+bridge_ensure_of host name mtu promisc =
+    bridge_or_new host (find (is_host_link name) host.links) (new_bridge name mtu promisc)
 
 abbrev pub new_gateway : List ℕ → Cidr → AddrObj
 new_gateway bridge cidr = record { ns = []; link = bridge; cidr = cidr; tag = Base }
@@ -73,7 +77,8 @@ new_gateway bridge cidr = record { ns = []; link = bridge; cidr = cidr; tag = Ba
 abbrev pub gateway_ensure_of : Host → List ℕ → Cidr → Host × Reply
 gateway_ensure_of host bridge cidr =
     if has_host_bridge host bridge
-    then unless_there (list_any (is_same_addr (new_gateway bridge cidr)) host.addresses) Done host (record host { addresses = host.addresses ++ new_gateway bridge cidr ∷ [] })
+    then unless_there (list_any (is_same_addr (new_gateway bridge cidr)) host.addresses) Done host
+    (record host { addresses = host.addresses ++ new_gateway bridge cidr ∷ [] })
     else (host, NoLink)
 
 -- the switch that lets the host forward between its links (Linux `ip-sysctl`)
@@ -86,7 +91,8 @@ new_forward family = record { ns = []; key = forward_key family; value = codes "
 
 abbrev pub forward_ensure_of : Host → Family → Host × Reply
 forward_ensure_of host family =
-    unless_there (list_any (is_same_setting (new_forward family)) host.settings) Done host (record host { settings = host.settings ++ new_forward family ∷ [] })
+    unless_there (list_any (is_same_setting (new_forward family)) host.settings) Done host
+    (record host { settings = host.settings ++ new_forward family ∷ [] })
 
 -- ---- the objects of one attachment
 
@@ -100,7 +106,8 @@ veth_add_of host host_end inner_end =
     if has_named_ns host inner_end.ns
     then (if master_is_bridge_or_none host host_end.master
     then append_unless_taken
-    (option_map (λ l. l.tag) (option_or (link_at host inner_end.ns inner_end.name) (link_at host host_end.ns host_end.name)))
+    (option_map (λ l. l.tag)
+    (option_or (link_at host inner_end.ns inner_end.name) (link_at host host_end.ns host_end.name)))
     host (record host { links = host.links ++ host_end ∷ inner_end ∷ [] })
     else (host, NoLink))
     else (host, NoNs)
@@ -120,7 +127,8 @@ abbrev pub macvlan_add_of : Host → Link → Host × Reply
 macvlan_add_of host link =
     if has_named_ns host link.ns
     then (if has_master host link.master
-    then append_unless_taken (option_map (λ l. l.tag) (link_at host link.ns link.name)) host (record host { links = host.links ++ link ∷ [] })
+    then append_unless_taken (option_map (λ l. l.tag) (link_at host link.ns link.name)) host
+    (record host { links = host.links ++ link ∷ [] })
     else (host, NoLink))
     else (host, NoNs)
 
@@ -138,7 +146,8 @@ is_own_at att key link = is_at key.ns key.name link && is_own att link.tag
 
 -- the attachment's link at that place gets the values
 abbrev pub set_link : Att → LinkKey → Option Mac → Option ℕ → Option ℕ → Bool → Bool → Link → Link
-set_link att key mac mtu tx_qlen promisc allmulti link = if is_own_at att key link then with_values mac mtu tx_qlen promisc allmulti link else link
+set_link att key mac mtu tx_qlen promisc allmulti link =
+    if is_own_at att key link then with_values mac mtu tx_qlen promisc allmulti link else link
 
 abbrev pub link_set_of : Host → Att → LinkKey → Option Mac → Option ℕ → Option ℕ → Bool → Bool → Host × Reply
 link_set_of host att key mac mtu tx_qlen promisc allmulti =
@@ -153,23 +162,27 @@ has_link_of host ns name tag = has_link_in host.links ns name tag
 abbrev pub addr_add_of : Host → AddrObj → Host × Reply
 addr_add_of host obj =
     if has_link_of host obj.ns obj.link obj.tag
-    then append_unless_taken (option_map (λ a. a.tag) (find (is_same_addr obj) host.addresses)) host (record host { addresses = host.addresses ++ obj ∷ [] })
+    then append_unless_taken (option_map (λ a. a.tag) (find (is_same_addr obj) host.addresses)) host
+    (record host { addresses = host.addresses ++ obj ∷ [] })
     else (host, NoLink)
 
 abbrev pub route_add_of : Host → RouteObj → Host × Reply
 route_add_of host obj =
     if has_link_of host obj.ns obj.link obj.tag
-    then append_unless_taken (option_map (λ r. r.tag) (find (is_same_route obj) host.routes)) host (record host { routes = host.routes ++ obj ∷ [] })
+    then append_unless_taken (option_map (λ r. r.tag) (find (is_same_route obj) host.routes)) host
+    (record host { routes = host.routes ++ obj ∷ [] })
     else (host, NoLink)
 
 abbrev pub rule_append_of : Host → Rule → Host × Reply
 rule_append_of host rule =
-    unless_there (list_any (is_same_rule rule) host.rules) (Taken rule.tag) host (record host { rules = host.rules ++ rule ∷ [] })
+    unless_there (list_any (is_same_rule rule) host.rules) (Taken rule.tag) host
+    (record host { rules = host.rules ++ rule ∷ [] })
 
 abbrev pub setting_set_of : Host → Setting → Host × Reply
 setting_set_of host setting =
     if has_named_ns host setting.ns
-    then append_unless_taken (option_map (λ s. s.tag) (find (is_same_setting setting) host.settings)) host (record host { settings = host.settings ++ setting ∷ [] })
+    then append_unless_taken (option_map (λ s. s.tag) (find (is_same_setting setting) host.settings)) host
+    (record host { settings = host.settings ++ setting ∷ [] })
     else (host, NoNs)
 
 -- ---- addresses of a pool
@@ -200,7 +213,8 @@ pool_free_of host network set = (host, Has (has_free_of set (leased_addresses ho
 
 abbrev pub cache_put_of : Host → Att → Cached → Host × Reply
 cache_put_of host att cached =
-    unless_there (list_any (λ c. is_own att c.tag) host.cached) (Taken (Own att)) host (record host { cached = host.cached ++ record { cached = cached; tag = Own att } ∷ [] })
+    unless_there (list_any (λ c. is_own att c.tag) host.cached) (Taken (Own att)) host
+    (record host { cached = host.cached ++ record { cached = cached; tag = Own att } ∷ [] })
 
 abbrev pub cache_get_of : Host → Att → Host × Reply
 cache_get_of host att = (host, Entry (cached_in host att))
@@ -228,19 +242,22 @@ link_del_of host att = without_link host (find (λ l. is_own att l.tag) host.lin
 
 -- the list without its first object of the attachment, put into the host, and whether there was one
 abbrev pub without_own : {X : Type 0} → (X → Tag) → Att → List X → (List X → Host) → Host × Reply
-without_own tag_of att xs put = (put (without_first (λ x. is_own att (tag_of x)) xs), Gone (list_any (λ x. is_own att (tag_of x)) xs))
+without_own tag_of att xs put =
+    (put (without_first (λ x. is_own att (tag_of x)) xs), Gone (list_any (λ x. is_own att (tag_of x)) xs))
 
 abbrev pub rule_del_of : Host → Att → Host × Reply
 rule_del_of host att = without_own (λ (r : Rule). r.tag) att host.rules (λ rules. record host { rules = rules })
 
 abbrev pub setting_del_of : Host → Att → Host × Reply
-setting_del_of host att = without_own (λ (s : Setting). s.tag) att host.settings (λ settings. record host { settings = settings })
+setting_del_of host att =
+    without_own (λ (s : Setting). s.tag) att host.settings (λ settings. record host { settings = settings })
 
 abbrev pub lease_del_of : Host → Att → Host × Reply
 lease_del_of host att = without_own (λ (l : Lease). l.tag) att host.leases (λ leases. record host { leases = leases })
 
 abbrev pub cache_del_of : Host → Att → Host × Reply
-cache_del_of host att = without_own (λ (c : CachedObj). c.tag) att host.cached (λ cached. record host { cached = cached })
+cache_del_of host att =
+    without_own (λ (c : CachedObj). c.tag) att host.cached (λ cached. record host { cached = cached })
 
 -- ---- questions
 
@@ -271,7 +288,8 @@ owners_of host network kind = (host, Owners (each_key_once att_eq (filter_map (o
 
 abbrev pub ns_add_of : Host → List ℕ → Host × Reply
 ns_add_of host name =
-    unless_there (has_named_ns host name) (Taken Outside) host (record host { namespaces = host.namespaces ++ outside_namespace name ∷ [] })
+    unless_there (has_named_ns host name) (Taken Outside) host
+    (record host { namespaces = host.namespaces ++ outside_namespace name ∷ [] })
 
 -- the peer stands in the namespace of this name
 abbrev pub has_peer_in : List ℕ → Option LinkKey → Bool
@@ -289,10 +307,12 @@ without_ns name host = record host {
 }
 
 abbrev pub ns_del_of : Host → List ℕ → Host × Reply
-ns_del_of host name = if has_named_ns host name then (without_ns name (without_links (goes_with_ns name) host), Done) else (host, NoNs)
+ns_del_of host name =
+    if has_named_ns host name then (without_ns name (without_links (goes_with_ns name) host), Done) else (host, NoNs)
 
 abbrev pub drop_link_of : Host → LinkKey → Host × Reply
-drop_link_of host key = if has_named_ns host key.ns then without_link host (link_at host key.ns key.name) else (host, NoNs)
+drop_link_of host key =
+    if has_named_ns host key.ns then without_link host (link_at host key.ns key.name) else (host, NoNs)
 
 abbrev pub flush_of : Host → Table → Host × Reply
 flush_of host table = (record host { rules = filter (λ r. not (table_eq r.table table)) host.rules }, Done)

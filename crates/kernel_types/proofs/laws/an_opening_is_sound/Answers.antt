@@ -1,4 +1,4 @@
-use Rattle.kernel_types.proofs.Opening.{IsSound-opening_with}
+use Rattle.kernel_types.proofs.SoundOpening.{IsSound-opening_with}
 use Rattle.kernel_types.proofs.laws.an_opening_is_sound.Goals as goal
 
 pub returns : goal.returns

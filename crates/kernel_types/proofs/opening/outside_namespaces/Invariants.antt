@@ -1,6 +1,6 @@
 use Rattle.std.proofs.Common.{◌≡◌, map, take}
 use Rattle.kernel_types.specs.Words.{outside_namespace}
-use Rattle.kernel_types.proofs.found_host.outside_namespaces.Given as goal
+use Rattle.kernel_types.proofs.opening.outside_namespaces.Given as goal
 
 -- the namespaces so far
 abbrev pub invariant-loop-name : goal.invariant-loop-name
