@@ -26,8 +26,15 @@ fn is_veth_pair(host_end: &Link, inner_end: &Link) -> bool
 {
     let kinds = host_end.kind.is_veth() & inner_end.kind.is_veth();
     let tags = host_end.tag.is_owned() & is_same_tag(&inner_end.tag, &host_end.tag);
-    let peers = is_peer_at(&inner_end.ns, &inner_end.name, &host_end.peer)
-        & is_peer_at(&host_end.ns, &host_end.name, &inner_end.peer);
+    let peers = is_peer_at(
+        inner_end.ns.as_str(),
+        inner_end.name.as_str(),
+        &host_end.peer,
+    ) & is_peer_at(
+        host_end.ns.as_str(),
+        host_end.name.as_str(),
+        &inner_end.peer,
+    );
     let places = is_host_ns(host_end.ns.as_str()) & !is_host_ns(inner_end.ns.as_str());
     kinds & tags & peers & places
 }
@@ -68,9 +75,14 @@ fn is_pool(set: &RangeSet) -> bool
 fn may_lease(host: &Host, network: &Text, number: u32, set: &RangeSet) -> bool
     ensures pool { result ≡ true → HasRangesApart set.now }
     ensures last { result ≡ true → is_candidate_or_none set.now (last_leased host.now network.now number) ≡ true }
-    ensures told { HasRangesApart set.now → is_candidate_or_none set.now (last_leased host.now network.now number) ≡ true → result ≡ true }
+    ensures told { HasRangesApart set.now
+        → is_candidate_or_none set.now (last_leased host.now network.now number) ≡ true → result ≡ true }
 {
-    is_pool(set) & is_candidate_or_none(set, last_in(host.lasts.as_slice(), network, number))
+    is_pool(set)
+        & is_candidate_or_none(
+            set,
+            last_in(host.lasts.as_slice(), network.as_str(), number),
+        )
 }
 
 fn is_allowed_change(change: &Change) -> bool

@@ -1,4 +1,4 @@
-//! The rows, one after another on one host.
+//! The rows, one after another on one host, as a kernel carries them out and as the plain one does.
 
 ghost use Rattle.std.specs.Prelude.{◌≡◌, true, IfOk};
 ghost use Rattle.kernel_types.specs.Allowed.{IsAllowed};
@@ -14,6 +14,7 @@ use kernel_model::{Kernel, ListKernel};
 use kernel_text::reply_text;
 use kernel_types::{Call, Host, Reply, opening_with};
 use std::alloc::Global;
+use std::process::Abort;
 use std::test::Fail;
 
 /// A host with the device `ens1` alone.
@@ -34,50 +35,112 @@ fn parts_of(row: &str) -> Option<(&str, &str)> {
     }
 }
 
-fn may_be_made(kernel: &ListKernel, alloc: Global, call: &Call) -> Result<bool, NoMemory>
-    ensures { IfOk result (λ may. may ≡ true → IsAllowed kernel.now call.now) }
+fn may_be_made<K: Kernel>(kernel: &K, alloc: Global, call: &Call) -> Result<bool, NoMemory>
+    ensures { IfOk result (λ may. may ≡ true → IsAllowed (K.host kernel.now) call.now) }
 {
     let host = kernel.host(alloc)?;
     Ok(is_allowed(&host, call))
 }
 
-// by value, so that no caller lets go of a reply whose variant it knows
-fn told(alloc: Global, reply: Reply) -> Result<Text, NoMemory> {
-    reply_text(alloc, &reply)
-}
-
-fn asked(kernel: &mut ListKernel, alloc: Global, call: &Call) -> Result<Text, RowError> {
+fn reply_of<K: Kernel>(kernel: &mut K, alloc: Global, call: &Call) -> Result<Reply, RowError> {
     if !may_be_made(kernel, alloc, call)? {
         return Err(RowError::NotAllowed);
     }
-    let reply = kernel.call(alloc, call)?;
-    Ok(told(alloc, reply)?)
+    Ok(kernel.call(alloc, call)?)
 }
 
+/// The reply in words, and whether it is the plain kernel's too.
+// by value, so that no caller lets go of a reply whose variant it knows
+fn told(alloc: Global, reply: Reply, plain: Reply) -> Result<(Text, bool), NoMemory> {
+    let words = reply_text(alloc, &reply)?;
+    Ok((words, reply == plain))
+}
+
+fn asked<K: Kernel>(
+    kernel: &mut K,
+    plain: &mut ListKernel,
+    alloc: Global,
+    call: &Call,
+) -> Result<(Text, bool), RowError> {
+    let reply = reply_of(kernel, alloc, call)?;
+    let plain_reply = reply_of(plain, alloc, call)?;
+    Ok(told(alloc, reply, plain_reply)?)
+}
+
+/// The reply to the words of a call, and whether the plain kernel replies so too.
 // `drop` is called, since the proof of a drop at the end of the scope goes through all variants and takes many minutes
-fn made(kernel: &mut ListKernel, alloc: Global, call: Call) -> Result<Text, RowError> {
-    let given = asked(kernel, alloc, &call);
+fn answer<K: Kernel>(
+    kernel: &mut K,
+    plain: &mut ListKernel,
+    alloc: Global,
+    words: &str,
+) -> Result<(Text, bool), RowError> {
+    let call = call_of(alloc, words)?;
+    let given = asked(kernel, plain, alloc, &call);
     drop(call);
     given
 }
 
-/// The reply to the words of a call.
-fn answer(kernel: &mut ListKernel, alloc: Global, words: &str) -> Result<Text, RowError> {
-    let call = call_of(alloc, words)?;
-    made(kernel, alloc, call)
+fn mean_one_host<K: Kernel>(
+    kernel: &K,
+    plain: &ListKernel,
+    alloc: Global,
+) -> Result<bool, NoMemory> {
+    Ok(kernel.host(alloc)? == plain.host(alloc)?)
+}
+
+/// Carries out each row on the kernel, which means the opening, and holds it against the table and the plain kernel.
+fn try_each_row<K: Kernel + Drop>(
+    rt: &impl Abort,
+    alloc: Global,
+    mut kernel: K,
+) -> Result<(), Fail> {
+    let mut plain = ListKernel::of_host(opening(alloc)?);
+    for row in ROWS.lines() {
+        if let Some((call, reply)) = parts_of(row) {
+            let (given, is_plain) = answer(&mut kernel, &mut plain, alloc, call)?;
+            assert_eq!(rt; given.as_str(), reply, "{row}");
+            assert!(rt; is_plain, "the plain kernel replies otherwise: {row}");
+            let is_one = mean_one_host(&kernel, &plain, alloc)?;
+            assert!(rt; is_one, "the plain kernel has another host: {row}");
+        } else {
+            assert!(rt; row.starts_with('#'), "a row without an arrow: {row}");
+        }
+    }
+    Ok(())
 }
 
 #[test]
 fn each_call_and_each_refusal(rt: HostRuntime) -> Result<(), Fail> {
     let alloc = rt.alloc();
-    let mut kernel = ListKernel::of_host(opening(alloc)?);
-    for row in ROWS.lines() {
-        if let Some((call, reply)) = parts_of(row) {
-            let given = answer(&mut kernel, alloc, call)?;
-            assert_eq!(rt; given.as_str(), reply, "{row}");
-        } else {
-            assert!(rt; row.starts_with('#'), "a row without an arrow: {row}");
-        }
+    try_each_row(&rt, alloc, ListKernel::of_host(opening(alloc)?))
+}
+
+fn needs_no_memory(alloc: Global, words: &str) -> Result<bool, RowError> {
+    let call = call_of(alloc, words)?;
+    let needs_none = call.needs_no_memory();
+    drop(call);
+    Ok(needs_none)
+}
+
+#[test]
+fn calls_that_need_no_memory(rt: HostRuntime) -> Result<(), Fail> {
+    for words in [
+        "LinkSet c1 /ns/a eth0",
+        "LinkDel c1",
+        "RuleDel c1",
+        "SettingDel c1",
+        "LeaseDel c1",
+        "CacheDel c1",
+        "Master ens1",
+        "PoolFree wide",
+        "NsDel /ns/a",
+        "Flush nat",
+    ] {
+        assert!(rt; needs_no_memory(rt.alloc(), words)?, "{words}");
+    }
+    for words in ["NsAdd /ns/a", "RuleAppend c1 80", "OwnersOf pods links"] {
+        assert!(rt; !needs_no_memory(rt.alloc(), words)?, "{words}");
     }
     Ok(())
 }
