@@ -14,10 +14,11 @@ use host_local::{interface_kinds, ips_of, routes_of};
 use kernel_types::{Att, Call, Given, Kind};
 use net_conf::BridgeConf;
 use plan_words::{
-    Asked, addresses_on, ask_all, ask_forward, completed, default_route, first_of_family,
-    masquerade_rules, push_unless_there, routes_on,
+    Asked, EachKeyOnce, addresses_on, ask_all, ask_forward, completed, default_route,
+    first_of_family, masquerade_rules, routes_on,
 };
 use std::alloc::Global;
+use std::hash::{Hash, Hasher};
 
 // ---- before the addresses
 
@@ -153,14 +154,26 @@ pub struct Gateway {
 }
 
 impl Asked for Gateway {
+    ghost use Rattle.plan_words.specs.KeyWrites.{addr_writes};
     ghost use Rattle.bridge_ptp.specs.Gateways as gateways;
+    ghost use Rattle.bridge_ptp.specs.KeyLaws.{gateway_key-laws, gateway_key-alike};
 
     ghost same_key = { gateways.is_same_gateway };
+
+    ghost key_writes = { λ gateway. addr_writes gateway.cidr.addr };
+
+    ghost key_laws = { gateway_key-laws };
+
+    ghost respects_key = { gateway_key-alike.fed };
 
     ghost call_for = { gateways.gateway_call };
 
     fn has_key(&self, other: &Gateway) -> bool {
         self.cidr.addr == other.cidr.addr
+    }
+
+    fn hash_key<H: Hasher>(&self, state: &mut H) {
+        self.cidr.addr.bits.hash(state);
     }
 
     fn ask(self) -> Call {
@@ -183,12 +196,16 @@ fn gateway_of(bridge: &Text, given: &Given) -> Result<Gateway, NoMemory>
     })
 }
 
-fn gateways_on(alloc: Global, bridge: &Text, given: &[Given]) -> Result<Vec<Gateway>, NoMemory>
-    ensures { IfOk result (λ all. all.items ≡ gateways.gateways_on bridge.now given.now) }
+fn gateways_on(
+    alloc: Global,
+    bridge: &Text,
+    given: &[Given],
+) -> Result<EachKeyOnce<Gateway>, NoMemory>
+    ensures { IfOk result (λ all. all ≡ gateways.gateways_on bridge.now given.now) }
 {
-    let mut all = Vec::new(alloc);
+    let mut all = EachKeyOnce::new(alloc);
     for g in given {
-        push_unless_there(&mut all, gateway_of(bridge, g)?)?;
+        all.push(gateway_of(bridge, g)?)?;
     }
     Ok(all)
 }
@@ -212,7 +229,7 @@ fn ask_gateways(
 // ---- after the addresses
 
 /// The calls for the given addresses: addresses and routes of the container, with `isGateway` the gateways on the
-/// bridge and forwarding, with `ipMasq` the masquerade rules.
+/// bridge and forwarding, with `ipMasq` the masquerade rules. Linear in the given addresses and the configured routes.
 pub fn bridge_after(
     alloc: Global,
     conf: &BridgeConf,
@@ -237,6 +254,7 @@ pub fn bridge_after(
 // ---- the result
 
 /// The result of the address plugin with the bridge's interfaces, the index of the container's end, and the routes.
+/// Linear in its addresses and routes.
 pub fn bridge_result(
     alloc: Global,
     conf: &BridgeConf,

@@ -11,13 +11,14 @@ use crate::veth::veth_pair;
 use cni_addr::{Addr, Duplicate, Items, NoMemory, Text, whole};
 use cni_result::{AddResult, RouteEntry};
 use host_local::interface_kinds;
-use kernel_types::{AddrObj, Att, Call, Given, Kind, RouteObj};
+use kernel_types::{AddrObj, Att, Call, Given, Kind, LinkKey, RouteObj};
 use net_conf::PtpConf;
 use plan_words::{
-    Asked, address_at, address_on, ask_all, ask_forward, completed, host_key, masquerade_rules,
-    push_unless_there, route_at, route_by, route_on,
+    Asked, EachKeyOnce, address_at, address_on, ask_all, ask_forward, completed, host_key,
+    masquerade_rules, route_at, route_by, route_on,
 };
 use std::alloc::Global;
+use std::hash::Hasher;
 
 /// An address or a route: the plan asks for both in one order.
 #[derive(Drop)]
@@ -28,8 +29,15 @@ pub enum AddressOrRoute {
 
 impl Asked for AddressOrRoute {
     ghost use Rattle.bridge_ptp.specs.Ptp as plan;
+    ghost use Rattle.bridge_ptp.specs.KeyLaws as keys;
 
     ghost same_key = { plan.same_key };
+
+    ghost key_writes = { keys.key_writes };
+
+    ghost key_laws = { keys.same_key-laws };
+
+    ghost respects_key = { keys.same_key-alike.fed };
 
     ghost call_for = { plan.call_for };
 
@@ -38,6 +46,13 @@ impl Asked for AddressOrRoute {
             (AddressOrRoute::Address(a), AddressOrRoute::Address(b)) => a.has_key(b),
             (AddressOrRoute::Route(a), AddressOrRoute::Route(b)) => a.has_key(b),
             _ => false,
+        }
+    }
+
+    fn hash_key<H: Hasher>(&self, state: &mut H) {
+        match self {
+            AddressOrRoute::Address(obj) => obj.hash_key(state),
+            AddressOrRoute::Route(obj) => obj.hash_key(state),
         }
     }
 
@@ -68,42 +83,45 @@ pub fn ptp_before(
 // ---- what lies on both ends
 
 /// The gateway is an address of the host's end.
-fn gateway_on_host(alloc: Global, att: &Att, gateway: &Addr) -> Result<AddrObj, NoMemory>
+fn gateway_on_host(att: &Att, host: &LinkKey, gateway: &Addr) -> Result<AddrObj, NoMemory>
+    requires { host.now ≡ shapes.host_key att.now }
     ensures { IfOk result (λ obj. obj ≡ plan.gateway_on_host att.now gateway.now) }
 {
-    address_at(att, host_key(alloc, att)?, whole(gateway))
+    address_at(att, host.copy()?, whole(gateway))
 }
 
 /// The host reaches the address by its own end.
-fn route_on_host(alloc: Global, att: &Att, addr: &Addr) -> Result<RouteObj, NoMemory>
+fn route_on_host(att: &Att, host: &LinkKey, addr: &Addr) -> Result<RouteObj, NoMemory>
+    requires { host.now ≡ shapes.host_key att.now }
     ensures { IfOk result (λ obj. obj ≡ plan.route_on_host att.now addr.now) }
 {
-    route_at(att, host_key(alloc, att)?, whole(addr), None)
+    route_at(att, host.copy()?, whole(addr), None)
 }
 
-fn push_address(objects: &mut Vec<AddressOrRoute>, obj: AddrObj) -> Result<(), NoMemory>
-    ensures { OnOk result (objects.new.items ≡ push_unless_there plan.same_key objects.old.items (plan.Address obj)) }
+fn push_address(objects: &mut EachKeyOnce<AddressOrRoute>, obj: AddrObj) -> Result<(), NoMemory>
+    ensures { OnOk result (objects.new ≡ push_unless_there plan.same_key objects.old (plan.Address obj)) }
 {
-    push_unless_there(objects, AddressOrRoute::Address(obj))
+    objects.push(AddressOrRoute::Address(obj))
 }
 
-fn push_route(objects: &mut Vec<AddressOrRoute>, obj: RouteObj) -> Result<(), NoMemory>
-    ensures { OnOk result (objects.new.items ≡ push_unless_there plan.same_key objects.old.items (plan.Route obj)) }
+fn push_route(objects: &mut EachKeyOnce<AddressOrRoute>, obj: RouteObj) -> Result<(), NoMemory>
+    ensures { OnOk result (objects.new ≡ push_unless_there plan.same_key objects.old (plan.Route obj)) }
 {
-    push_unless_there(objects, AddressOrRoute::Route(obj))
+    objects.push(AddressOrRoute::Route(obj))
 }
 
 /// What lies on both ends for one address. Inside, the gateway is reached without a gateway and the subnet by it.
 fn push_objects_for(
-    alloc: Global,
-    objects: &mut Vec<AddressOrRoute>,
+    objects: &mut EachKeyOnce<AddressOrRoute>,
     att: &Att,
+    host: &LinkKey,
     netns: &Text,
     given: &Given,
 ) -> Result<(), NoMemory>
+    requires { host.now ≡ shapes.host_key att.now }
     ensures { OnOk result
-        (objects.new.items
-        ≡ fold (push_unless_there plan.same_key) objects.old.items (plan.ptp_objects_for att.now netns.now given.now)) }
+        (objects.new
+        ≡ fold (push_unless_there plan.same_key) objects.old (plan.ptp_objects_for att.now netns.now given.now)) }
 {
     push_address(objects, address_on(att, netns, given)?)?;
     push_route(objects, route_by(att, netns, whole(&given.gateway), None)?)?;
@@ -111,8 +129,8 @@ fn push_objects_for(
         objects,
         route_by(att, netns, given.subnet, Some(given.gateway))?,
     )?;
-    push_address(objects, gateway_on_host(alloc, att, &given.gateway)?)?;
-    push_route(objects, route_on_host(alloc, att, &given.address.addr)?)
+    push_address(objects, gateway_on_host(att, host, &given.gateway)?)?;
+    push_route(objects, route_on_host(att, host, &given.address.addr)?)
 }
 
 fn objects_for_each(
@@ -120,28 +138,29 @@ fn objects_for_each(
     att: &Att,
     netns: &Text,
     given: &[Given],
-) -> Result<Vec<AddressOrRoute>, NoMemory>
+) -> Result<EachKeyOnce<AddressOrRoute>, NoMemory>
     ensures { IfOk result
-        (λ objects. objects.items
+        (λ objects. objects
         ≡ each_key_once plan.same_key (flat_map (plan.ptp_objects_for att.now netns.now) given.now)) }
 {
-    let mut objects = Vec::new(alloc);
+    let host = host_key(alloc, att)?;
+    let mut objects = EachKeyOnce::new(alloc);
     for g in given {
-        push_objects_for(alloc, &mut objects, att, netns, g)?;
+        push_objects_for(&mut objects, att, &host, netns, g)?;
     }
     Ok(objects)
 }
 
 fn push_routes(
-    objects: &mut Vec<AddressOrRoute>,
+    objects: &mut EachKeyOnce<AddressOrRoute>,
     att: &Att,
     netns: &Text,
     given: &[Given],
     entries: &[RouteEntry],
 ) -> Result<(), NoMemory>
     ensures { OnOk result
-        (objects.new.items
-        ≡ fold (push_unless_there plan.same_key) objects.old.items
+        (objects.new
+        ≡ fold (push_unless_there plan.same_key) objects.old
         (map (λ r. plan.Route (shapes.route_on att.now netns.now given.now r)) entries.now)) }
 {
     for entry in entries {
@@ -156,8 +175,8 @@ fn ptp_objects(
     att: &Att,
     netns: &Text,
     given: &[Given],
-) -> Result<Vec<AddressOrRoute>, NoMemory>
-    ensures { IfOk result (λ objects. objects.items ≡ plan.ptp_objects conf.now att.now netns.now given.now) }
+) -> Result<EachKeyOnce<AddressOrRoute>, NoMemory>
+    ensures { IfOk result (λ objects. objects ≡ plan.ptp_objects conf.now att.now netns.now given.now) }
 {
     let mut objects = objects_for_each(alloc, att, netns, given)?;
     push_routes(&mut objects, att, netns, given, conf.ipam.routes.as_slice())?;
@@ -165,7 +184,7 @@ fn ptp_objects(
 }
 
 /// The calls for the given addresses: addresses and routes on both ends, forwarding, and with `ipMasq` the masquerade
-/// rules.
+/// rules. Linear in the given addresses and the configured routes.
 pub fn ptp_after(
     alloc: Global,
     conf: &PtpConf,
@@ -186,7 +205,8 @@ pub fn ptp_after(
 
 // ---- the result
 
-/// The result of the address plugin with both ends and the index of the container's.
+/// The result of the address plugin with both ends and the index of the container's. Linear in its addresses and
+/// routes.
 pub fn ptp_result(
     alloc: Global,
     conf: &PtpConf,

@@ -6,7 +6,7 @@ ghost use Rattle.firewall_tuning.specs.Firewall as plan;
 use cni_addr::{Addr, Duplicate, Items, NoMemory, whole};
 use cni_result::{AddResult, IpEntry};
 use kernel_types::{Att, Call, Chain, Kind, Rule, Table, Target};
-use plan_words::{ask_all, push_unless_there, rule_for_all};
+use plan_words::{EachKeyOnce, ask_all, rule_for_all};
 use std::alloc::Global;
 
 /// What answers the address is let through.
@@ -30,18 +30,19 @@ fn accept_from(att: &Att, addr: &Addr) -> Result<Rule, NoMemory>
     })
 }
 
-fn firewall_rules(alloc: Global, att: &Att, ips: &[IpEntry]) -> Result<Vec<Rule>, NoMemory>
-    ensures { IfOk result (λ rules. rules.items ≡ plan.firewall_rules att.now ips.now) }
+fn firewall_rules(alloc: Global, att: &Att, ips: &[IpEntry]) -> Result<EachKeyOnce<Rule>, NoMemory>
+    ensures { IfOk result (λ rules. rules ≡ plan.firewall_rules att.now ips.now) }
 {
-    let mut rules = Vec::new(alloc);
+    let mut rules = EachKeyOnce::new(alloc);
     for ip in ips {
-        push_unless_there(&mut rules, accept_replies_to(att, &ip.address.addr)?)?;
-        push_unless_there(&mut rules, accept_from(att, &ip.address.addr)?)?;
+        rules.push(accept_replies_to(att, &ip.address.addr)?)?;
+        rules.push(accept_from(att, &ip.address.addr)?)?;
     }
     Ok(rules)
 }
 
-/// The rules of each address of the result before: replies to it and everything from it are forwarded.
+/// The rules of each address of the result before: replies to it and everything from it are forwarded. Linear in the
+/// addresses.
 pub fn firewall_calls(alloc: Global, att: &Att, prev: &AddResult) -> Result<Items<Call>, NoMemory>
     ensures { IfOk result (λ calls. calls ≡ plan.firewall_calls_of att.now prev.now.ips) }
 {
@@ -51,7 +52,7 @@ pub fn firewall_calls(alloc: Global, att: &Att, prev: &AddResult) -> Result<Item
     Ok(Items::of_vec(calls))
 }
 
-/// The result before, unchanged.
+/// The result before, unchanged. A copy, linear in its lists.
 pub fn firewall_result(prev: &AddResult) -> Result<AddResult, NoMemory>
     ensures { IfOk result (λ r. r ≡ prev.now) }
 {

@@ -9,7 +9,7 @@ use cni_addr::{Duplicate, Items, NoMemory, Text};
 use cni_result::{AddResult, Interface, Version, mtu_since_1_1};
 use kernel_types::{Att, Call, Kind, Setting, Tag};
 use net_conf::{Sysctl, TuningConf};
-use plan_words::{ask_all, inner_key, push_unless_there};
+use plan_words::{EachKeyOnce, ask_all, inner_key};
 use std::alloc::Global;
 
 // ---- settings
@@ -30,14 +30,14 @@ fn settings_of(
     att: &Att,
     netns: &Text,
     sysctls: &[Sysctl],
-) -> Result<Vec<Setting>, NoMemory>
+) -> Result<EachKeyOnce<Setting>, NoMemory>
     ensures { IfOk result
-        (λ settings. settings.items
+        (λ settings. settings
         ≡ each_key_once is_same_setting (map (plan.setting_of att.now netns.now) sysctls.now)) }
 {
-    let mut settings = Vec::new(alloc);
+    let mut settings = EachKeyOnce::new(alloc);
     for sysctl in sysctls {
-        push_unless_there(&mut settings, setting_of(att, netns, sysctl)?)?;
+        settings.push(setting_of(att, netns, sysctl)?)?;
     }
     Ok(settings)
 }
@@ -75,7 +75,8 @@ fn ask_link_values(
     Ok(())
 }
 
-/// The settings of the namespace, and the values of the container's link where any is configured.
+/// The settings of the namespace, and the values of the container's link where any is configured. Linear in the
+/// settings.
 pub fn tuning_calls(
     alloc: Global,
     conf: &TuningConf,
@@ -126,7 +127,7 @@ fn tuned_interfaces(
     Ok(Items::of_vec(all))
 }
 
-/// The result before, with the configured hardware address and MTU of the container's end.
+/// The result before, with the configured hardware address and MTU of the container's end. Linear in its lists.
 pub fn tuning_result(
     alloc: Global,
     conf: &TuningConf,

@@ -21,7 +21,11 @@ lease_calls_of sets att = lease_calls_from att 0 sets
 
 -- the address with its subnet's prefix, and its range's gateway and subnet
 abbrev pub given_by : Addr → Range → Given
-given_by addr r = record { address = record { addr = addr; prefix = r.subnet.prefix }; gateway = r.gateway; subnet = r.subnet }
+given_by addr r = record {
+  address = record { addr = addr; prefix = r.subnet.prefix };
+  gateway = r.gateway;
+  subnet = r.subnet;
+}
 
 -- by the first range of the set that holds it; there is one where the address is a candidate
 abbrev pub given_by_set : RangeSet → Addr → Option Given

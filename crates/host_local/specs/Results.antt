@@ -14,7 +14,8 @@ abbrev pub ip_of : Given → IpEntry
 ip_of g = record { address = g.address; gateway = Some g.gateway; interface = None }
 
 abbrev pub result_with : List Given → List RouteEntry → Version → AddResult
-result_with given routes version = record { version = version; interfaces = []; ips = map ip_of given; routes = routes; dns = no_dns }
+result_with given routes version =
+    record { version = version; interfaces = []; ips = map ip_of given; routes = routes; dns = no_dns }
 
 abbrev pub ipam_result_of : Option HostLocalConf → List Given → Version → AddResult
 ipam_result_of ipam given version = result_with given (routes_of ipam) version

@@ -12,7 +12,7 @@ use kernel_types::{Att, Call, Given, Kind};
 use net_conf::HostLocalConf;
 use std::alloc::Global;
 
-/// The lease from the set at this place, if there is one.
+/// The lease from the set at this place, if there is one. Linear in the ranges of that set, which it copies.
 pub fn lease_at(sets: &[RangeSet], att: Att, place: u32) -> Result<Option<Call>, NoMemory>
     ensures { IfOk result (λ next. next ≡ option_map (LeaseNext att place) (slice_get sets.now place)) }
 {
@@ -36,7 +36,7 @@ fn lease_from(att: &Att, number: u32, set: &RangeSet) -> Result<Call, NoMemory>
     })
 }
 
-/// One lease of each range set, in order.
+/// One lease of each range set, in order. Linear in the ranges.
 pub fn lease_calls(alloc: Global, conf: &HostLocalConf, att: &Att) -> Result<Items<Call>, NoMemory>
     ensures { IfOk result (λ calls. calls ≡ leases.lease_calls_of conf.now.sets att.now) }
 {
@@ -78,7 +78,7 @@ fn find_given(set: &RangeSet, addr: &Addr) -> Option<Given>
 }
 
 /// The k-th address by the k-th set. An address that no range of its set holds is passed over, which no candidate is:
-/// see [`candidates_are_given`](crate::laws::candidates_are_given).
+/// see [`candidates_are_given`](crate::laws::candidates_are_given). Linear in the ranges of the sets.
 pub fn given_of(alloc: Global, sets: &[RangeSet], addrs: &[Addr]) -> Result<Vec<Given>, NoMemory>
     ensures { IfOk result (λ given. given.items ≡ leases.given_of sets.now addrs.now) }
 {
@@ -101,7 +101,7 @@ fn given_by_set(set: &RangeSet, addr: &Addr) -> Given
 }
 
 /// What a candidate of the set of this number means: its subnet's prefix, and its range's gateway and subnet. Takes no
-/// memory.
+/// memory. Linear in the ranges of the set.
 pub fn given(conf: &HostLocalConf, set: u32, addr: &Addr) -> Given
     requires { leases.IsCandidateOf conf.now.sets set addr.now }
     ensures { leases.given_at conf.now.sets set addr.now ≡ Some result }

@@ -10,7 +10,7 @@ use kernel_types::Given;
 use net_conf::HostLocalConf;
 use std::alloc::Global;
 
-/// The given addresses with their gateways, of no interface yet.
+/// The given addresses with their gateways, of no interface yet. Linear in them.
 pub fn ips_of(alloc: Global, given: &[Given]) -> Result<Items<IpEntry>, NoMemory>
     ensures { IfOk result (λ ips. ips ≡ map results.ip_of given.now) }
 {
@@ -43,7 +43,7 @@ fn result_with(
 }
 
 /// The given addresses with their gateways, and the configured routes: what the plugin that makes the interface
-/// completes (CNI specification, section 4, "IPAM").
+/// completes (CNI specification, section 4, "IPAM"). Linear in both.
 pub fn ipam_result(
     alloc: Global,
     conf: &HostLocalConf,
@@ -55,7 +55,7 @@ pub fn ipam_result(
     result_with(alloc, given, conf.routes.as_slice(), version)
 }
 
-/// The result of a configuration that may give no addresses, and then has no routes.
+/// The result of a configuration that may give no addresses, and then has no routes. Linear in both.
 pub fn ipam_result_of(
     alloc: Global,
     ipam: Option<&HostLocalConf>,

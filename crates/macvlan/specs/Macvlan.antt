@@ -14,7 +14,8 @@ use Rattle.host_local.specs.Conf.{routes_of}
 use Rattle.host_local.specs.Kinds.{interface_kinds}
 
 abbrev pub macvlan_share_before : MacvlanConf → Att → List ℕ → Share
-macvlan_share_before conf att netns = record no_objects { links = macvlan_link att netns conf.master conf.mode conf.mtu ∷ [] }
+macvlan_share_before conf att netns =
+    record no_objects { links = macvlan_link att netns conf.master conf.mode conf.mtu ∷ [] }
 
 abbrev pub macvlan_share_after : MacvlanConf → Att → List ℕ → List Given → Share
 macvlan_share_after conf att netns given =

@@ -37,7 +37,8 @@ pub fn before(
     Ok(calls)
 }
 
-/// The calls for the given addresses: addresses and routes of the container.
+/// The calls for the given addresses: addresses and routes of the container. Linear in the given addresses and the
+/// configured routes.
 pub fn after(
     alloc: Global,
     conf: &MacvlanConf,
@@ -55,7 +56,7 @@ pub fn after(
     Ok(Items::of_vec(calls))
 }
 
-/// The result of the address plugin with the link and its index.
+/// The result of the address plugin with the link and its index. Linear in its addresses and routes.
 pub fn result(
     alloc: Global,
     conf: &MacvlanConf,

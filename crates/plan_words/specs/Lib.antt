@@ -1,4 +1,6 @@
 pub mod Families
+pub mod KeyLaws
+pub mod KeyWrites
 pub mod PlanCalls
 pub mod Results
 pub mod Shapes

@@ -37,4 +37,5 @@ applied host calls = fold (λ h call. (apply h call).0) host calls
 
 -- in every sound host in which they are all done, the calls append this share of the attachment's objects
 abbrev pub AppendsShare : Att → List Call → Share → Type 0
-AppendsShare att calls share = (host : Host) → IsSound host → AllDone host calls → share_of att (applied host calls) ≡ share_plus (share_of att host) share
+AppendsShare att calls share = (host : Host) → IsSound host → AllDone host calls
+    → share_of att (applied host calls) ≡ share_plus (share_of att host) share

@@ -54,14 +54,19 @@ abbrev pub inner_key : Att → List ℕ → LinkKey
 inner_key att netns = record { ns = netns; name = att.ifname }
 
 abbrev pub host_end : Att → List ℕ → Option (List ℕ) → ℕ → Bool → Link
-host_end att netns master mtu hairpin =
-    record (new_link (host_key att) Veth (host_mac_of att) mtu (Own att)) { master = master; peer = Some (inner_key att netns); hairpin = hairpin }
+host_end att netns master mtu hairpin = record (new_link (host_key att) Veth (host_mac_of att) mtu (Own att)) {
+  master = master;
+  peer = Some (inner_key att netns);
+  hairpin = hairpin;
+}
 
 abbrev pub inner_end : Att → List ℕ → ℕ → Link
-inner_end att netns mtu = record (new_link (inner_key att netns) Veth (inner_mac_of att) mtu (Own att)) { peer = Some (host_key att) }
+inner_end att netns mtu =
+    record (new_link (inner_key att netns) Veth (inner_mac_of att) mtu (Own att)) { peer = Some (host_key att) }
 
 abbrev pub macvlan_link : Att → List ℕ → List ℕ → MacvlanMode → ℕ → Link
-macvlan_link att netns master mode mtu = record (new_link (inner_key att netns) (Macvlan mode) (inner_mac_of att) mtu (Own att)) { master = Some master }
+macvlan_link att netns master mode mtu =
+    record (new_link (inner_key att netns) (Macvlan mode) (inner_mac_of att) mtu (Own att)) { master = Some master }
 
 -- ---- on an end
 
@@ -105,12 +110,16 @@ rule_for_all att table chain target = record {
 
 -- from the address into its subnet: as it is
 abbrev pub no_masquerade_in_subnet : Att → Given → Rule
-no_masquerade_in_subnet att g = record (rule_for_all att Nat Masq Accept) { src = Some (whole g.address.addr); dst = Some g.subnet }
+no_masquerade_in_subnet att g =
+    record (rule_for_all att Nat Masq Accept) { src = Some (whole g.address.addr); dst = Some g.subnet }
 
 -- from the address to anywhere but multicast: masqueraded
 abbrev pub masquerade_out : Att → Given → Rule
-masquerade_out att g =
-    record (rule_for_all att Nat Masq Masquerade) { src = Some (whole g.address.addr); dst = Some (multicast g.address.addr.family); not_dst = true }
+masquerade_out att g = record (rule_for_all att Nat Masq Masquerade) {
+  src = Some (whole g.address.addr);
+  dst = Some (multicast g.address.addr.family);
+  not_dst = true;
+}
 
 abbrev pub masquerade_of : Att → Given → List Rule
 masquerade_of att g = no_masquerade_in_subnet att g ∷ masquerade_out att g ∷ []

@@ -56,12 +56,14 @@ share_plus s t = record {
 abbrev pub share_after_call : Share → Call → Share
 share_after_call s (VethAdd host_end inner_end) = record s { links = s.links ++ host_end ∷ inner_end ∷ [] }
 share_after_call s (MacvlanAdd link) = record s { links = s.links ++ link ∷ [] }
-share_after_call s (LinkSet att key mac mtu tx_qlen promisc allmulti) = record s { links = map (set_link att key mac mtu tx_qlen promisc allmulti) s.links }
+share_after_call s (LinkSet att key mac mtu tx_qlen promisc allmulti) =
+    record s { links = map (set_link att key mac mtu tx_qlen promisc allmulti) s.links }
 share_after_call s (AddrAdd obj) = record s { addresses = s.addresses ++ obj ∷ [] }
 share_after_call s (RouteAdd obj) = record s { routes = s.routes ++ obj ∷ [] }
 share_after_call s (RuleAppend rule) = record s { rules = s.rules ++ rule ∷ [] }
 share_after_call s (SettingSet setting) = record s { settings = s.settings ++ setting ∷ [] }
-share_after_call s (CachePut att cached) = record s { cached = s.cached ++ record { cached = cached; tag = Own att } ∷ [] }
+share_after_call s (CachePut att cached) =
+    record s { cached = s.cached ++ record { cached = cached; tag = Own att } ∷ [] }
 share_after_call s call = s
 
 abbrev pub share_after_calls : Share → List Call → Share

@@ -11,11 +11,14 @@
 #![tactic(auto)]
 
 pub mod asked;
+pub mod each_key_once;
 pub mod families;
+mod key_writes;
 pub mod results;
 pub mod shapes;
 
-pub use asked::{Asked, ask_all, push_unless_there};
+pub use asked::Asked;
+pub use each_key_once::{EachKeyOnce, ask_all};
 pub use families::{first_given, first_of_family, has_family};
 pub use results::{completed, inner_interface};
 pub use shapes::{

@@ -42,6 +42,7 @@ fn ips_at(alloc: Global, index: u32, ips: &[IpEntry]) -> Result<Items<IpEntry>, 
 
 /// The result of the address plugin with what the plugin that makes the interfaces adds: these interfaces, the index of
 /// the one that the addresses are on, and its routes and name servers (CNI specification, section 4, "IPAM plugins").
+/// Linear in the addresses.
 pub fn completed(
     alloc: Global,
     ipam: &AddResult,

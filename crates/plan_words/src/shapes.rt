@@ -1,13 +1,13 @@
-//! The objects of an attachment, as the plugins make them.
+//! The objects of an attachment, as the plugins make them. What makes one object takes the time of a digest at most.
 
-ghost use Rattle.std.specs.Prelude.{◌≡◌, ◌++◌, option_map, flat_map, IfOk, OnOk};
+ghost use Rattle.std.specs.Prelude.{◌≡◌, ◌++◌, option_map, flat_map, IfOk, OnErr, OnOk};
 ghost use Rattle.cni_addr.specs.declared.address.Family.TheVariants.{V4};
 ghost use Rattle.kernel_types.specs.Equal.{rule_eq};
 ghost use Rattle.cni_addr.specs.Lists.{each_key_once};
 ghost use Rattle.plan_words.specs.Families as families;
 ghost use Rattle.plan_words.specs.Shapes as shapes;
 
-use crate::asked::push_unless_there;
+use crate::each_key_once::EachKeyOnce;
 use crate::families::{first_given, has_family};
 use cni_addr::{Addr, Cidr, Duplicate, Family, MacvlanMode, NoMemory, Text, whole};
 use cni_result::RouteEntry;
@@ -157,18 +157,18 @@ pub fn address_on(att: &Att, netns: &Text, given: &Given) -> Result<AddrObj, NoM
     address_at(att, inner_key(att, netns)?, given.address)
 }
 
-/// The given addresses on the container's end, each once.
+/// The given addresses on the container's end, each once. Linear in them.
 pub fn addresses_on(
     alloc: Global,
     att: &Att,
     netns: &Text,
     given: &[Given],
-) -> Result<Vec<AddrObj>, NoMemory>
-    ensures { IfOk result (λ objects. objects.items ≡ shapes.addresses_on att.now netns.now given.now) }
+) -> Result<EachKeyOnce<AddrObj>, NoMemory>
+    ensures { IfOk result (λ objects. objects ≡ shapes.addresses_on att.now netns.now given.now) }
 {
-    let mut objects = Vec::new(alloc);
+    let mut objects = EachKeyOnce::new(alloc);
     for g in given {
-        push_unless_there(&mut objects, address_on(att, netns, g)?)?;
+        objects.push(address_on(att, netns, g)?)?;
     }
     Ok(objects)
 }
@@ -206,19 +206,20 @@ pub fn route_on(
     route_by(att, netns, route.dst, gateway_for(given, route))
 }
 
-/// The routes from the container's end, each destination once.
+/// The routes from the container's end, each destination once. Linear in the entries, where the first given address is
+/// of their family: a route without a gateway looks for the first of its own.
 pub fn routes_on(
     alloc: Global,
     att: &Att,
     netns: &Text,
     given: &[Given],
     entries: &[RouteEntry],
-) -> Result<Vec<RouteObj>, NoMemory>
-    ensures { IfOk result (λ objects. objects.items ≡ shapes.routes_on att.now netns.now given.now entries.now) }
+) -> Result<EachKeyOnce<RouteObj>, NoMemory>
+    ensures { IfOk result (λ objects. objects ≡ shapes.routes_on att.now netns.now given.now entries.now) }
 {
-    let mut objects = Vec::new(alloc);
+    let mut objects = EachKeyOnce::new(alloc);
     for entry in entries {
-        push_unless_there(&mut objects, route_on(att, netns, given, entry)?)?;
+        objects.push(route_on(att, netns, given, entry)?)?;
     }
     Ok(objects)
 }
@@ -267,30 +268,36 @@ fn masquerade_out(att: &Att, given: &Given) -> Result<Rule, NoMemory>
     })
 }
 
-fn all_masquerade_rules(alloc: Global, att: &Att, given: &[Given]) -> Result<Vec<Rule>, NoMemory>
-    ensures { IfOk result (λ rules. rules.items ≡ each_key_once rule_eq (flat_map (shapes.masquerade_of att.now) given.now)) }
+fn all_masquerade_rules(
+    alloc: Global,
+    att: &Att,
+    given: &[Given],
+) -> Result<EachKeyOnce<Rule>, NoMemory>
+    ensures { IfOk result
+        (λ rules. rules ≡ each_key_once rule_eq (flat_map (shapes.masquerade_of att.now) given.now)) }
 {
-    let mut rules = Vec::new(alloc);
+    let mut rules = EachKeyOnce::new(alloc);
     for g in given {
-        push_unless_there(&mut rules, no_masquerade_in_subnet(att, g)?)?;
-        push_unless_there(&mut rules, masquerade_out(att, g)?)?;
+        rules.push(no_masquerade_in_subnet(att, g)?)?;
+        rules.push(masquerade_out(att, g)?)?;
     }
     Ok(rules)
 }
 
 /// With `ipMasq`, two rules for each given address: none is masqueraded inside its subnet, all else but multicast is.
+/// Linear in the given addresses.
 pub fn masquerade_rules(
     alloc: Global,
     ip_masq: bool,
     att: &Att,
     given: &[Given],
-) -> Result<Vec<Rule>, NoMemory>
-    ensures { IfOk result (λ rules. rules.items ≡ shapes.masquerade_rules ip_masq att.now given.now) }
+) -> Result<EachKeyOnce<Rule>, NoMemory>
+    ensures { IfOk result (λ rules. rules ≡ shapes.masquerade_rules ip_masq att.now given.now) }
 {
     if ip_masq {
         all_masquerade_rules(alloc, att, given)
     } else {
-        Ok(Vec::new(alloc))
+        Ok(EachKeyOnce::new(alloc))
     }
 }
 
@@ -303,11 +310,15 @@ fn ask_forward_for(calls: &mut Vec<Call>, family: Family, given: &[Given]) -> Re
     Ok(())
 }
 
-/// Puts the calls at the end that make the host forward for the families of the given addresses.
+/// Puts the calls at the end that make the host forward for the families of the given addresses, or leaves the calls as
+/// they were. Linear in the given addresses.
 pub fn ask_forward(calls: &mut Vec<Call>, given: &[Given]) -> Result<(), NoMemory>
-    ensures { OnOk result (calls.new.items ≡ calls.old.items ++ shapes.forward_calls given.now) }
+    ensures ok { OnOk result (calls.new.items ≡ calls.old.items ++ shapes.forward_calls given.now) }
+    ensures err { OnErr result (calls.new.items ≡ calls.old.items) }
 {
-    ask_forward_for(calls, Family::V4, given)?;
-    ask_forward_for(calls, Family::V6, given)?;
+    let mut asked = Vec::new(*calls.allocator());
+    ask_forward_for(&mut asked, Family::V4, given)?;
+    ask_forward_for(&mut asked, Family::V6, given)?;
+    calls.append(&mut asked)?;
     Ok(())
 }

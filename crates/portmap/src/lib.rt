@@ -11,17 +11,17 @@
 pub mod laws;
 
 ghost use Rattle.std.specs.Prelude.{◌≡◌, fold, option_map, IfOk, OnOk};
+ghost use Rattle.std.specs.Option.{option_copied};
 ghost use Rattle.cni_addr.specs.Network as network;
 ghost use Rattle.kernel_types.specs.Equal.{rule_eq};
 ghost use Rattle.cni_addr.specs.Lists.{push_unless_there};
-ghost use Rattle.plan_words.specs.Families as families;
 ghost use Rattle.portmap.specs.Portmap as plan;
 
 use cni_addr::{Addr, Cidr, Duplicate, Family, Items, NoMemory, network_of, whole};
 use cni_result::{AddResult, IpEntry, PortMapping};
 use kernel_types::{Att, Call, Chain, Kind, Rule, Table, Target};
 use net_conf::PortmapConf;
-use plan_words::{ask_all, first_of_family, push_unless_there, rule_for_all};
+use plan_words::{EachKeyOnce, ask_all, first_of_family, rule_for_all};
 use std::alloc::Global;
 
 /// `127.0.0.1/32`
@@ -89,42 +89,37 @@ fn hostport_masquerade(
 
 /// From the host itself. IPv6 has no route from the loopback address to another link.
 fn push_from_host(
-    rules: &mut Vec<Rule>,
+    rules: &mut EachKeyOnce<Rule>,
     att: &Att,
     mapping: &PortMapping,
     addr: &Addr,
 ) -> Result<(), NoMemory>
     ensures { OnOk result
-        (rules.new.items
-        ≡ fold (push_unless_there rule_eq) rules.old.items
+        (rules.new
+        ≡ fold (push_unless_there rule_eq) rules.old
         (plan.from_host att.now mapping.now addr.now addr.now.family)) }
 {
     match addr.family {
-        Family::V4 => {
-            push_unless_there(rules, hostport_masquerade(att, mapping, addr, loopback())?)
-        }
+        Family::V4 => rules.push(hostport_masquerade(att, mapping, addr, loopback())?),
         Family::V6 => Ok(()),
     }
 }
 
 fn push_masquerades(
-    rules: &mut Vec<Rule>,
+    rules: &mut EachKeyOnce<Rule>,
     snat: bool,
     att: &Att,
     ip: &IpEntry,
     mapping: &PortMapping,
 ) -> Result<(), NoMemory>
     ensures { OnOk result
-        (rules.new.items
-        ≡ fold (push_unless_there rule_eq) rules.old.items (plan.masquerades_of snat att.now ip.now mapping.now)) }
+        (rules.new
+        ≡ fold (push_unless_there rule_eq) rules.old (plan.masquerades_of snat att.now ip.now mapping.now)) }
 {
     if snat {
         let addr = ip.address.addr;
         let own_network = network_of(&ip.address);
-        push_unless_there(
-            rules,
-            hostport_masquerade(att, mapping, &addr, own_network)?,
-        )?;
+        rules.push(hostport_masquerade(att, mapping, &addr, own_network)?)?;
         push_from_host(rules, att, mapping, &addr)?;
     }
     Ok(())
@@ -132,76 +127,63 @@ fn push_masquerades(
 
 /// The rules of a mapping to one address, unless the mapping asks for a host address of the other family.
 fn push_rules_to(
-    rules: &mut Vec<Rule>,
+    rules: &mut EachKeyOnce<Rule>,
     snat: bool,
     att: &Att,
     mapping: &PortMapping,
     ip: &IpEntry,
 ) -> Result<(), NoMemory>
     ensures { OnOk result
-        (rules.new.items
-        ≡ fold (push_unless_there rule_eq) rules.old.items (plan.rules_for snat att.now mapping.now (Some ip.now))) }
+        (rules.new
+        ≡ fold (push_unless_there rule_eq) rules.old (plan.rules_for snat att.now mapping.now (Some ip.now))) }
 {
     if host_ip_allows(mapping, &ip.address.addr) {
-        push_unless_there(rules, dnat_of(att, mapping, &ip.address.addr)?)?;
+        rules.push(dnat_of(att, mapping, &ip.address.addr)?)?;
         push_masquerades(rules, snat, att, ip, mapping)?;
     }
     Ok(())
 }
 
 fn push_rules_for(
-    rules: &mut Vec<Rule>,
+    rules: &mut EachKeyOnce<Rule>,
     snat: bool,
     att: &Att,
-    ips: &[IpEntry],
     mapping: &PortMapping,
-    family: Family,
+    first: Option<&IpEntry>,
 ) -> Result<(), NoMemory>
     ensures { OnOk result
-        (rules.new.items
-        ≡ fold (push_unless_there rule_eq) rules.old.items
-        (plan.rules_for snat att.now mapping.now (families.first_of_family family ips.now))) }
+        (rules.new
+        ≡ fold (push_unless_there rule_eq) rules.old
+        (plan.rules_for snat att.now mapping.now (option_copied first.entry))) }
 {
-    match first_of_family(ips, family) {
+    match first {
         Some(ip) => push_rules_to(rules, snat, att, mapping, ip),
         None => Ok(()),
     }
 }
 
-/// The rules of a mapping, for the first address of each family, IPv4 first.
-fn push_mapping_rules(
-    rules: &mut Vec<Rule>,
-    snat: bool,
-    att: &Att,
-    ips: &[IpEntry],
-    mapping: &PortMapping,
-) -> Result<(), NoMemory>
-    ensures { OnOk result
-        (rules.new.items
-        ≡ fold (push_unless_there rule_eq) rules.old.items (plan.mapping_rules snat att.now ips.now mapping.now)) }
-{
-    push_rules_for(rules, snat, att, ips, mapping, Family::V4)?;
-    push_rules_for(rules, snat, att, ips, mapping, Family::V6)
-}
-
+/// The rules of the mappings, for the first address of each family, IPv4 first.
 fn portmap_rules(
     alloc: Global,
     conf: &PortmapConf,
     att: &Att,
     mappings: &[PortMapping],
     ips: &[IpEntry],
-) -> Result<Vec<Rule>, NoMemory>
-    ensures { IfOk result (λ rules. rules.items ≡ plan.portmap_rules conf.now att.now mappings.now ips.now) }
+) -> Result<EachKeyOnce<Rule>, NoMemory>
+    ensures { IfOk result (λ rules. rules ≡ plan.portmap_rules conf.now att.now mappings.now ips.now) }
 {
-    let mut rules = Vec::new(alloc);
+    let first_v4 = first_of_family(ips, Family::V4);
+    let first_v6 = first_of_family(ips, Family::V6);
+    let mut rules = EachKeyOnce::new(alloc);
     for mapping in mappings {
-        push_mapping_rules(&mut rules, conf.snat, att, ips, mapping)?;
+        push_rules_for(&mut rules, conf.snat, att, mapping, first_v4)?;
+        push_rules_for(&mut rules, conf.snat, att, mapping, first_v6)?;
     }
     Ok(rules)
 }
 
 /// The rules of each mapping, for the first address of each family that the attachment was given. None without an
-/// address.
+/// address. Linear in the mappings and the addresses.
 pub fn calls(
     alloc: Global,
     conf: &PortmapConf,
@@ -217,7 +199,7 @@ pub fn calls(
     Ok(Items::of_vec(all))
 }
 
-/// The result before, unchanged.
+/// The result before, unchanged. A copy, linear in its lists.
 pub fn result(prev: &AddResult) -> Result<AddResult, NoMemory>
     ensures { IfOk result (λ r. r ≡ prev.now) }
 {

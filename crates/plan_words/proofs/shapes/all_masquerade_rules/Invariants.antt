@@ -6,4 +6,4 @@ use Rattle.plan_words.specs.Shapes.{masquerade_of}
 use Rattle.plan_words.proofs.shapes.all_masquerade_rules.Given as goal
 
 abbrev pub invariant-loop-g : goal.invariant-loop-g
-invariant-loop-g l = l.rules.items ≡ each_key_once rule_eq (flat_map (masquerade_of l.att) (take l.g-index l.given))
+invariant-loop-g l = l.rules ≡ each_key_once rule_eq (flat_map (masquerade_of l.att) (take l.g-index l.given))
