@@ -1,22 +1,26 @@
 -- Which phases are over, and how they end.
-use Rattle.std.proofs.Common.{◌≡◌, ℕ, ◌<◌, ◌≤◌, List, [], ◌∷◌, ◌++◌, length, drop, refl, sym, ap, subst, arith, not, Option, Some, None, inl, inr}
+use Rattle.std.proofs.Common.{◌≡◌, ℕ, lit<, ◌<◌, ◌≤◌, List, [], ◌∷◌, ◌++◌, length, drop, refl, sym, ap, subst, arith, not, Option, Some, None, inl, inr}
 use Rattle.std.proofs.lemmas.List.{length-append}
 use Rattle.std.specs.Prelude.{◌⊎◌, Bool, true, false, option_map, MatchBool}
 use Rattle.std.specs.Bool.{FalseIff}
 use Rattle.cni_addr.specs.declared.address.Addr.{Addr}
 use Rattle.cni_result.specs.declared.cached.Cached.{Cached}
+use Rattle.cni_result.specs.declared.result.AddResult.{AddResult}
+use Rattle.net_conf.specs.declared.first.First.{First}
+use Rattle.net_conf.specs.declared.first.First.TheVariants as firsts
 use Rattle.net_conf.specs.declared.list.NetList.{NetList}
 use Rattle.pod_file.specs.declared.command.Command.{Command}
+use Rattle.kernel_types.specs.declared.object.Att.{Att}
 use Rattle.kernel_types.specs.declared.call.Kind.{Kind}
 use Rattle.kernel_types.specs.declared.call.Call.{Call}
 use Rattle.kernel_types.specs.declared.call.Call.TheVariants.{CachePut}
 use Rattle.kernel_types.specs.declared.call.Reply.{Reply}
 use Rattle.cni_verbs.specs.Questions.{check_questions}
 use Rattle.cni_verbs.specs.CommandWords.{att_of, mappings_of}
-use Rattle.cni_verbs.specs.Wanted.{sets_of, kinds_of, calls_after, all_chained_calls, first_plugin_result, given_by_list, cached_of}
+use Rattle.cni_verbs.specs.Wanted.{sets_of, kinds_of, calls_after, calls_before, result_of_add, all_chained_calls, first_plugin_result, given_by_list, cached_of}
 use Rattle.cni_verbs.specs.Script.{State, Finish, IsOpen, before_of, back_of, finish_of}
 use Rattle.cni_verbs.specs.Script as script
-use Rattle.cni_verbs.specs.Phases.{KeepsPlan, state_in, state_outside, state_by_phase}
+use Rattle.cni_verbs.specs.Phases.{KeepsPlan, KeepsResult, state_in, state_outside, state_by_phase}
 use Rattle.cni_verbs.specs.declared.answer.Ending.{Ending}
 use Rattle.cni_verbs.specs.declared.answer.Ending.TheVariants.{Added, Yes}
 use Rattle.cni_verbs.specs.declared.answer.Question.{Question}
@@ -34,12 +38,25 @@ starts-after : (calls : List Call) (addrs : List Addr) → 0 < length calls → 
 starts-after [] addrs h = absurd (omega arith)
 starts-after (call ∷ calls) addrs h = tt
 
+starts-before : (list : NetList) (c : Command) (calls : List Call) → 0 < length calls → IsOpen (script.before_leases list c calls)
+starts-before list c [] h = absurd (omega arith)
+starts-before list c (call ∷ calls) h = tt
+
 starts-asking : (questions : List Question) → 0 < length questions → IsOpen (script.asking questions)
 starts-asking [] h = absurd (omega arith)
 starts-asking (question ∷ questions) h = tt
 
 ends-with : {X : Type 0} (xs ys : List X) (z : X) → 0 < length (xs ++ (ys ++ z ∷ []))
 ends-with xs ys z = omega (arith, length-append xs (ys ++ z ∷ []), length-append ys (z ∷ []))
+
+some-before : (first : First) (att : Att) (netns : List ℕ) → 0 < length (calls_before first att netns)
+some-before (firsts.Bridge conf) att netns = lit< tt
+some-before (firsts.Ptp conf) att netns = lit< tt
+some-before (firsts.Macvlan conf) att netns = lit< tt
+
+-- a link is made before the leases
+pub before-some : (list : NetList) (c : Command) → 0 < length (before_of list c)
+before-some list c = some-before list.first (att_of c) c.netns
 
 -- the cached entry comes last
 calls-left : (list : NetList) (c : Command) (addrs : List Addr) → 0 < length (back_of list c addrs)
@@ -53,7 +70,7 @@ calls-left list c addrs =
 
 -- a phase whose work isn't done, or isn't made yet
 abbrev is_early : Phase → Bool
-is_early (phases.AfterLeases calls passed) = false
+is_early (phases.AfterLeases calls passed added) = false
 is_early (phases.Deleting passed ending) = false
 is_early (phases.Asking questions passed) = false
 is_early (phases.Over ending) = false
@@ -63,54 +80,54 @@ is_early phase = true
 abbrev pub IsEarly : Phase → Type 0
 IsEarly phase =
     (phase ≡ phases.AtBegin)
-    ⊎ (((passed : ℕ) × (phase ≡ phases.BeforeLeases passed))
+    ⊎ ((phase ≡ phases.Begun)
+    ⊎ (((calls : List Call) × (passed : ℕ) × (phase ≡ phases.BeforeLeases calls passed))
     ⊎ ((phase ≡ phases.Leasing)
     ⊎ ((phase ≡ phases.Leased)
     ⊎ (((ending : Ending) × (phase ≡ phases.ReadingCache ending))
-    ⊎ ((phase ≡ phases.FindingEntry) ⊎ (((cached : Cached) × (phase ≡ phases.Found cached)) ⊎ ((change : Call) × (phase ≡ phases.Changing change))))))))
+    ⊎ ((phase ≡ phases.FindingEntry) ⊎ (((cached : Cached) × (phase ≡ phases.Found cached)) ⊎ ((change : Call) × (phase ≡ phases.Changing change)))))))))
 
 told-early : (phase : Phase) → IsEarly phase → is_early phase ≡ true
 told-early phase (inl is) = ap is_early is
-told-early phase (inr (inl w)) = ap is_early w.1
-told-early phase (inr (inr (inl is))) = ap is_early is
+told-early phase (inr (inl is)) = ap is_early is
+told-early phase (inr (inr (inl w))) = ap is_early w.2
 told-early phase (inr (inr (inr (inl is)))) = ap is_early is
-told-early phase (inr (inr (inr (inr (inl w))))) = ap is_early w.1
-told-early phase (inr (inr (inr (inr (inr (inl is)))))) = ap is_early is
-told-early phase (inr (inr (inr (inr (inr (inr (inl w))))))) = ap is_early w.1
-told-early phase (inr (inr (inr (inr (inr (inr (inr w))))))) = ap is_early w.1
+told-early phase (inr (inr (inr (inr (inl is))))) = ap is_early is
+told-early phase (inr (inr (inr (inr (inr (inl w)))))) = ap is_early w.1
+told-early phase (inr (inr (inr (inr (inr (inr (inl is))))))) = ap is_early is
+told-early phase (inr (inr (inr (inr (inr (inr (inr (inl w)))))))) = ap is_early w.1
+told-early phase (inr (inr (inr (inr (inr (inr (inr (inr w)))))))) = ap is_early w.1
 
-open-where : (list : NetList) (c : Command) (before : List Call) (kinds : List Kind) (room made : ℕ) (addrs : List Addr) (phase : Phase)
-    → KeepsPlan list c before kinds room made addrs phase → is_early phase ≡ true → IsOpen (state_in list c addrs phase)
-open-where list c before kinds room made addrs phases.AtBegin kept early = tt
-open-where list c before kinds room made addrs (phases.BeforeLeases passed) kept early =
-    let same = ap length kept.before_is in
-    let below : passed < length before = kept.stands.0 in
-    let lt : passed < length (before_of list c) = omega arith in
-    subst (λ calls. IsOpen (script.before_leases list c calls)) (sym (left_of (before_of list c) passed lt).1.1) tt
-open-where list c before kinds room made addrs phases.Leasing kept early =
+open-where : (list : NetList) (c : Command) (kinds : List Kind) (room made : ℕ) (addrs : List Addr) (phase : Phase)
+    → KeepsPlan list c kinds room made addrs phase → is_early phase ≡ true → IsOpen (state_in list c addrs phase)
+open-where list c kinds room made addrs phases.AtBegin kept early = tt
+open-where list c kinds room made addrs phases.Begun kept early = starts-before list c (before_of list c) (before-some list c)
+open-where list c kinds room made addrs (phases.BeforeLeases calls passed) kept early =
+    subst (λ calls. IsOpen (script.before_leases list c calls)) (sym (left_of calls passed kept.stands.0).1.1) tt
+open-where list c kinds room made addrs phases.Leasing kept early =
     subst (λ sets. IsOpen (script.leasing list c sets addrs)) (sym (left_of (sets_of list) (length addrs) kept.stands).1.1) tt
-open-where list c before kinds room made addrs phases.Leased kept early = starts-after (back_of list c addrs) addrs (calls-left list c addrs)
-open-where list c before kinds room made addrs (phases.AfterLeases calls passed) kept early = absurd cc
-open-where list c before kinds room made addrs (phases.ReadingCache ending) kept early = tt
-open-where list c before kinds room made addrs (phases.Deleting passed ending) kept early = absurd cc
-open-where list c before kinds room made addrs phases.FindingEntry kept early = tt
-open-where list c before kinds room made addrs (phases.Found cached) kept early = starts-asking (check_questions list c cached) (questions-left list c cached)
-open-where list c before kinds room made addrs (phases.Asking questions passed) kept early = absurd cc
-open-where list c before kinds room made addrs (phases.Changing change) kept early = tt
-open-where list c before kinds room made addrs (phases.Over ending) kept early = absurd cc
+open-where list c kinds room made addrs phases.Leased kept early = starts-after (back_of list c addrs) addrs (calls-left list c addrs)
+open-where list c kinds room made addrs (phases.AfterLeases calls passed added) kept early = absurd cc
+open-where list c kinds room made addrs (phases.ReadingCache ending) kept early = tt
+open-where list c kinds room made addrs (phases.Deleting passed ending) kept early = absurd cc
+open-where list c kinds room made addrs phases.FindingEntry kept early = tt
+open-where list c kinds room made addrs (phases.Found cached) kept early = starts-asking (check_questions list c cached) (questions-left list c cached)
+open-where list c kinds room made addrs (phases.Asking questions passed) kept early = absurd cc
+open-where list c kinds room made addrs (phases.Changing change) kept early = tt
+open-where list c kinds room made addrs (phases.Over ending) kept early = absurd cc
 
-pub early-open : (list : NetList) (c : Command) (before : List Call) (kinds : List Kind) (room made : ℕ) (addrs : List Addr) (phase : Phase)
-    → KeepsPlan list c before kinds room made addrs phase → IsEarly phase → IsOpen (state_in list c addrs phase)
-early-open list c before kinds room made addrs phase kept early = open-where list c before kinds room made addrs phase kept (told-early phase early)
+pub early-open : (list : NetList) (c : Command) (kinds : List Kind) (room made : ℕ) (addrs : List Addr) (phase : Phase)
+    → KeepsPlan list c kinds room made addrs phase → IsEarly phase → IsOpen (state_in list c addrs phase)
+early-open list c kinds room made addrs phase kept early = open-where list c kinds room made addrs phase kept (told-early phase early)
 
 over-listed : {X : Type 0} (state : List X → State) (items : List X) (passed : ℕ) (over : Bool) → (IsOpen (state []) → ⊥) → ((item : X) (left : List X) → IsOpen (state (item ∷ left)))
     → MatchBool over (length items ≤ passed) (passed < length items) → IsOverIf over (state (drop passed items))
 over-listed state items passed true ends starts h = λ opened. let lt = opens state items passed ends opened in omega arith
 over-listed state items passed false ends starts h = subst (λ left. IsOpen (state left)) (sym (left_of items passed h).1.1) (starts _ _)
 
-pub after-leases-over : (list : NetList) (c : Command) (passed : ℕ) (calls read : List Call) (addrs : List Addr) (phase : Phase) (over : Bool) → phase ≡ phases.AfterLeases calls passed
+pub after-leases-over : (list : NetList) (c : Command) (passed : ℕ) (calls read : List Call) (added : AddResult) (addrs : List Addr) (phase : Phase) (over : Bool) → phase ≡ phases.AfterLeases calls passed added
     → read ≡ calls → MatchBool over (length read ≤ passed) (passed < length read) → IsOverIf over (state_in list c addrs phase)
-after-leases-over list c passed calls read addrs phase over is same h =
+after-leases-over list c passed calls read added addrs phase over is same h =
     subst (λ p. IsOverIf over (state_in list c addrs p)) (sym is)
     (subst (λ cs. IsOverIf over (script.after_leases (drop passed cs) addrs)) same
     (over-listed (λ left. script.after_leases left addrs) read passed over (λ opened. opened) (λ call left. tt) h))
@@ -154,10 +171,10 @@ finish-listed : {A X : Type 0} (state : List X → State) (items : List X) (fini
 finish-listed state [] finish f ends starts over = sym (ap (option_map f) ends)
 finish-listed state (item ∷ left) finish f ends starts over = absurd (over (starts item left))
 
-pub after-finish : {A : Type 0} (list : NetList) (c : Command) (passed : ℕ) (calls : List Call) (addrs : List Addr) (phase : Phase) (f : Finish → A) → phase ≡ phases.AfterLeases calls passed
+pub after-finish : {A : Type 0} (list : NetList) (c : Command) (passed : ℕ) (calls : List Call) (added : AddResult) (addrs : List Addr) (phase : Phase) (f : Finish → A) → phase ≡ phases.AfterLeases calls passed added
     → (IsOpen (state_in list c addrs phase) → ⊥) → Some (f (record { ending = Added; given = addrs })) ≡ option_map f (finish_of (state_in list c addrs phase))
 unfolding finish_of
-after-finish list c passed calls addrs phase f is over =
+after-finish list c passed calls added addrs phase f is over =
     subst (λ p. Some (f (record { ending = Added; given = addrs })) ≡ option_map f (finish_of (state_in list c addrs p))) (sym is)
     (finish-listed (λ left. script.after_leases left addrs) (drop passed calls) (record { ending = Added; given = addrs }) f refl (λ call left. tt)
     (subst (λ p. IsOpen (state_in list c addrs p) → ⊥) is over))
@@ -182,3 +199,10 @@ pub over-finish : {A : Type 0} (list : NetList) (c : Command) (ending : Ending) 
     → Some (f (record { ending = ending; given = [] })) ≡ option_map f (finish_of (state_in list c addrs phase))
 unfolding finish_of
 over-finish list c ending addrs phase f is = sym (ap (λ p. option_map f (finish_of (state_in list c addrs p))) is)
+
+-- the result that is kept is the answer of an ADD that is over
+pub added-answer : (list : NetList) (c : Command) (calls : List Call) (passed : ℕ) (added : AddResult) (addrs : List Addr) (phase : Phase) → phase ≡ phases.AfterLeases calls passed added
+    → KeepsResult list c addrs phase → added ≡ result_of_add list (att_of c) c.netns addrs
+added-answer list c calls passed added addrs phase is keeps =
+    let K : Phase → Type 0 = λ p. KeepsResult list c addrs p in
+    subst K is keeps

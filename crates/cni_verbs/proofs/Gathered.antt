@@ -17,14 +17,14 @@ use Rattle.cni_verbs.specs.Wanted.{calls_before, back_calls}
 use Rattle.cni_verbs.specs.declared.answer.Question.{Question}
 use Rattle.cni_verbs.proofs.WantedShare.{makes-wanted}
 
-pub gathered : (list : NetList) (c : Command) (cached : Cached) (att : Att) (addrs leased given : List Addr) (mappings : List PortMapping) (before first back second : List Call) (none made with_leases all : Share)
+pub gathered : (list : NetList) (c : Command) (cached : Cached) (att : Att) (addrs leased given : List Addr) (mappings : List PortMapping) (before back : List Call) (none made with_leases all : Share)
     → att ≡ att_of c → addrs ≡ addresses_of_result cached.result → mappings ≡ cached.mappings
-    → none ≡ no_objects → before ≡ calls_before list.first att cached.netns → first ≡ before → made ≡ share_after_calls none first
+    → none ≡ no_objects → before ≡ calls_before list.first att cached.netns → made ≡ share_after_calls none before
     → leased ≡ addrs → with_leases ≡ record made { leases = map (lease_of att) leased }
-    → given ≡ addrs → back ≡ back_calls list att cached.netns mappings given → second ≡ back → all ≡ share_after_calls with_leases second
+    → given ≡ addrs → back ≡ back_calls list att cached.netns mappings given → all ≡ share_after_calls with_leases back
     → all ≡ cached_share list c cached
-gathered list c cached att addrs leased given mappings before first back second none made with_leases all is_att is_addrs is_mappings is_none is_before is_first is_made is_leased is_leases is_given is_back is_second is_all =
-    rw (is_all, is_second, is_back, is_leases, is_made, is_first, is_before, is_none, is_leased, is_given, is_mappings, is_addrs, is_att)
+gathered list c cached att addrs leased given mappings before back none made with_leases all is_att is_addrs is_mappings is_none is_before is_made is_leased is_leases is_given is_back is_all =
+    rw (is_all, is_back, is_leases, is_made, is_before, is_none, is_leased, is_given, is_mappings, is_addrs, is_att)
     (makes-wanted list (att_of c) cached.netns cached.mappings (addresses_of_result cached.result))
 
 -- the questions of the bridge and of what was gathered are all that a check asks

@@ -1,8 +1,9 @@
 -- What a phase calls next, and how it ends.
-use Rattle.std.proofs.Common.{◌≡◌, ℕ, ◌+◌, ◌<◌, ◌≤◌, List, [], ◌∷◌, length, drop, refl, sym, ap, ◌∙◌, subst, arith, true, Option, Some, None, Result, inl, inr}
+use Rattle.std.proofs.Common.{◌≡◌, ℕ, ◌+◌, ◌<◌, ◌≤◌, List, [], ◌∷◌, length, drop, refl, sym, ap, ◌∙◌, subst, true, Option, Some, None, Result, inl, inr}
 use Rattle.std.specs.Prelude.{◌⊎◌, slice_get, option_map, IfOk, Ok, Err}
 use Rattle.cni_addr.specs.declared.address.Addr.{Addr}
 use Rattle.cni_result.specs.declared.cached.Cached.{Cached}
+use Rattle.cni_result.specs.declared.result.AddResult.{AddResult}
 use Rattle.net_conf.specs.declared.list.NetList.{NetList}
 use Rattle.pod_file.specs.declared.command.Command.{Command}
 use Rattle.kernel_types.specs.declared.call.Kind.{Kind}
@@ -11,8 +12,8 @@ use Rattle.kernel_types.specs.declared.call.Call.TheVariants.{Begin, LeaseNext, 
 use Rattle.cni_verbs.specs.CommandWords.{att_of}
 use Rattle.cni_verbs.specs.Wanted.{sets_of, kinds_of, deletion}
 use Rattle.cni_verbs.specs.Script as script
-use Rattle.cni_verbs.specs.Script.{State, before_of, next_call}
-use Rattle.cni_verbs.specs.Phases.{Stands, KeepsPlan, KeepsPlanBy, IsPhaseOf, IsSameButPrepared, is_prepared, state_in, state_outside, state_by_phase}
+use Rattle.cni_verbs.specs.Script.{State, next_call}
+use Rattle.cni_verbs.specs.Phases.{Stands, KeepsPlan, KeepsPlanBy, KeepsResult, IsPhaseOf, IsSameButPrepared, is_prepared, state_in, state_outside, state_by_phase}
 use Rattle.cni_verbs.specs.Progress.{answer_in}
 use Rattle.cni_verbs.specs.declared.answer.Ending.{Ending}
 use Rattle.cni_verbs.specs.declared.answer.Question.{Question}
@@ -34,22 +35,18 @@ pub next_begin : (list : NetList) (c : Command) (addrs : List Addr) (phase : Pha
 unfolding next_call
 next_begin list c addrs phase is = sym (ap (λ p. next_call c (state_in list c addrs p)) is)
 
-at_before : (list : NetList) (c : Command) (passed : ℕ) → passed < length (before_of list c) → slice_get (before_of list c) passed ≡ next_call c (script.before_leases list c (drop passed (before_of list c)))
+at_before : (list : NetList) (c : Command) (passed : ℕ) (calls : List Call) → passed < length calls → slice_get calls passed ≡ next_call c (script.before_leases list c (drop passed calls))
 unfolding next_call
-at_before list c passed h =
-    let left = left_of (before_of list c) passed h in
+at_before list c passed calls h =
+    let left = left_of calls passed h in
     left.1.0 ∙ sym (ap (λ calls. next_call c (script.before_leases list c calls)) left.1.1)
 
-pub next_before : (list : NetList) (c : Command) (before : List Call) (kinds : List Kind) (room made passed : ℕ) (addrs : List Addr) (phase : Phase)
-    → KeepsPlan list c before kinds room made addrs phase → phase ≡ phases.BeforeLeases passed → slice_get before passed ≡ next_call c (state_in list c addrs phase)
-next_before list c before kinds room made passed addrs phase kept is =
-    let S : Phase → Type 0 = λ p. Stands (length before) (length (sets_of list)) made addrs p in
-    let here : (passed < length before) × (addrs ≡ []) = subst S is kept.stands in
-    let same = ap length kept.before_is in
-    let lt : passed < length (before_of list c) = let below = here.0 in omega arith in
-    ap (λ calls. slice_get calls passed) kept.before_is
-    ∙ at_before list c passed lt
-    ∙ sym (ap (λ p. next_call c (state_in list c addrs p)) is)
+pub next_before : (list : NetList) (c : Command) (kinds : List Kind) (room made passed : ℕ) (calls : List Call) (addrs : List Addr) (phase : Phase)
+    → KeepsPlan list c kinds room made addrs phase → phase ≡ phases.BeforeLeases calls passed → slice_get calls passed ≡ next_call c (state_in list c addrs phase)
+next_before list c kinds room made passed calls addrs phase kept is =
+    let S : Phase → Type 0 = λ p. Stands (length (sets_of list)) made addrs p in
+    let here : (passed < length calls) × (addrs ≡ []) = subst S is kept.stands in
+    at_before list c passed calls here.0 ∙ sym (ap (λ p. next_call c (state_in list c addrs p)) is)
 
 at_lease : (list : NetList) (c : Command) (addrs : List Addr) → length addrs < length (sets_of list)
     → option_map (LeaseNext (att_of c) (length addrs)) (slice_get (sets_of list) (length addrs)) ≡ next_call c (script.leasing list c (drop (length addrs) (sets_of list)) addrs)
@@ -59,11 +56,11 @@ at_lease list c addrs h =
     ap (option_map (LeaseNext (att_of c) (length addrs))) left.1.0
     ∙ sym (ap (λ sets. next_call c (script.leasing list c sets addrs)) left.1.1)
 
-pub next_lease : (list : NetList) (c : Command) (before : List Call) (kinds : List Kind) (room made : ℕ) (addrs : List Addr) (phase : Phase)
-    → KeepsPlan list c before kinds room made addrs phase → phase ≡ phases.Leasing
+pub next_lease : (list : NetList) (c : Command) (kinds : List Kind) (room made : ℕ) (addrs : List Addr) (phase : Phase)
+    → KeepsPlan list c kinds room made addrs phase → phase ≡ phases.Leasing
     → option_map (LeaseNext (att_of c) (length addrs)) (slice_get (sets_of list) (length addrs)) ≡ next_call c (state_in list c addrs phase)
-next_lease list c before kinds room made addrs phase kept is =
-    let S : Phase → Type 0 = λ p. Stands (length before) (length (sets_of list)) made addrs p in
+next_lease list c kinds room made addrs phase kept is =
+    let S : Phase → Type 0 = λ p. Stands (length (sets_of list)) made addrs p in
     at_lease list c addrs (subst S is kept.stands) ∙ sym (ap (λ p. next_call c (state_in list c addrs p)) is)
 
 -- what is next of a list that is left, by what its first item calls
@@ -76,10 +73,10 @@ next_listed c state call_of items passed over calls =
       | inr w ↦ ap call_of w.0 ∙ over ∙ sym (ap (λ left. next_call c (state left)) w.1)
     ]
 
-pub next_after : (list : NetList) (c : Command) (passed : ℕ) (calls : List Call) (addrs : List Addr) (phase : Phase) → phase ≡ phases.AfterLeases calls passed
+pub next_after : (list : NetList) (c : Command) (passed : ℕ) (calls : List Call) (added : AddResult) (addrs : List Addr) (phase : Phase) → phase ≡ phases.AfterLeases calls passed added
     → slice_get calls passed ≡ next_call c (state_in list c addrs phase)
 unfolding next_call
-next_after list c passed calls addrs phase is =
+next_after list c passed calls added addrs phase is =
     next_listed c (λ left. script.after_leases left addrs) (λ call. call) calls passed refl (λ call left. refl)
     ∙ sym (ap (λ p. next_call c (state_in list c addrs p)) is)
 
@@ -89,11 +86,11 @@ unfolding next_call
 next_cache list c addrs phase (inl w) = sym (ap (λ p. next_call c (state_in list c addrs p)) w.1)
 next_cache list c addrs phase (inr is) = sym (ap (λ p. next_call c (state_in list c addrs p)) is)
 
-pub next_deletion : (list : NetList) (c : Command) (before : List Call) (kinds : List Kind) (room made passed : ℕ) (ending : Ending) (addrs : List Addr) (phase : Phase)
-    → KeepsPlan list c before kinds room made addrs phase → phase ≡ phases.Deleting passed ending
+pub next_deletion : (list : NetList) (c : Command) (kinds : List Kind) (room made passed : ℕ) (ending : Ending) (addrs : List Addr) (phase : Phase)
+    → KeepsPlan list c kinds room made addrs phase → phase ≡ phases.Deleting passed ending
     → option_map (deletion (att_of c)) (slice_get kinds passed) ≡ next_call c (state_in list c addrs phase)
 unfolding next_call
-next_deletion list c before kinds room made passed ending addrs phase kept is =
+next_deletion list c kinds room made passed ending addrs phase kept is =
     next_listed c (λ kinds. script.deleting kinds ending) (option_map (deletion (att_of c))) kinds passed refl (λ kind kinds. refl)
     ∙ ap (λ ks. next_call c (script.deleting (drop passed ks) ending)) kept.kinds_is
     ∙ sym (ap (λ p. next_call c (state_in list c addrs p)) is)
@@ -113,23 +110,24 @@ pub next_over : (list : NetList) (c : Command) (addrs : List Addr) (phase : Phas
 unfolding next_call
 next_over list c addrs phase ending is = sym (ap (λ p. next_call c (state_in list c addrs p)) is)
 
-pub is-prepared : (phase : Phase) → is_prepared phase ≡ true → (phase ≡ phases.Leased) ⊎ ((cached : Cached) × (phase ≡ phases.Found cached)) → ⊥
+pub is-prepared : (phase : Phase) → is_prepared phase ≡ true → (phase ≡ phases.Begun) ⊎ ((phase ≡ phases.Leased) ⊎ ((cached : Cached) × (phase ≡ phases.Found cached))) → ⊥
 is-prepared phase h (inl is) = let e = ap is_prepared is in cc
-is-prepared phase h (inr w) = let e = ap is_prepared w.1 in cc
+is-prepared phase h (inr (inl is)) = let e = ap is_prepared is in cc
+is-prepared phase h (inr (inr w)) = let e = ap is_prepared w.1 in cc
 
 -- ---- the start
 
-pub kept_at_start : (list : NetList) (c : Command) (before : List Call) (kinds : List Kind) (room : ℕ) (given : List Addr) (phase : Phase)
-    → IsPhaseOf list c 0 [] phase (script.start_state list c) → before ≡ before_of list c → kinds ≡ kinds_of list
-    → length (sets_of list) ≤ room → given ≡ [] → KeepsPlan list c before kinds room 0 given phase
-kept_at_start list c before kinds room given phase starts before_is kinds_is room_is none =
-    let B : List Call → Type 0 = λ calls. Stands (length calls) (length (sets_of list)) 0 [] phase in
-    let G : List Addr → Type 0 = λ addrs. Stands (length before) (length (sets_of list)) 0 addrs phase in
+pub kept_at_start : (list : NetList) (c : Command) (kinds : List Kind) (room : ℕ) (given : List Addr) (phase : Phase)
+    → IsPhaseOf list c 0 [] phase (script.start_state list c) → kinds ≡ kinds_of list
+    → length (sets_of list) ≤ room → given ≡ [] → KeepsPlan list c kinds room 0 given phase
+kept_at_start list c kinds room given phase starts kinds_is room_is none =
+    let G : List Addr → Type 0 = λ addrs. Stands (length (sets_of list)) 0 addrs phase in
+    let K : List Addr → Type 0 = λ addrs. KeepsResult list c addrs phase in
     record {
-      before_is = before_is;
       kinds_is = kinds_is;
       room_is = room_is;
-      stands = subst G (sym none) (subst B (sym before_is) starts.stands);
+      stands = subst G (sym none) starts.stands;
+      keeps = subst K (sym none) starts.keeps;
     }
 
 pub seen_at_start : (list : NetList) (c : Command) (given : List Addr) (phase : Phase) → IsPhaseOf list c 0 [] phase (script.start_state list c) → given ≡ []
@@ -146,20 +144,20 @@ starts_for l k c d phase same_list same h =
 -- ---- what is prepared
 
 -- the invariant holds on where the phase means the same
-pub kept_prepared : (list : Option NetList) (l : NetList) (c : Command) (before : List Call) (kinds : List Kind) (room made : ℕ) (given addrs : List Addr) (old new : Phase)
+pub kept_prepared : (list : Option NetList) (l : NetList) (c : Command) (kinds : List Kind) (room made : ℕ) (given addrs : List Addr) (old new : Phase)
     → list ≡ Some l → addrs ≡ given → IsSameButPrepared l c addrs old new
-    → KeepsPlanBy list c before kinds room made given old → KeepsPlanBy list c before kinds room made given new
-kept_prepared list l c before kinds room made given addrs old new is seen same kept =
-    let O : Option NetList → Type 0 = λ o. KeepsPlanBy o c before kinds room made given old in
-    let N : Option NetList → Type 0 = λ o. KeepsPlanBy o c before kinds room made given new in
+    → KeepsPlanBy list c kinds room made given old → KeepsPlanBy list c kinds room made given new
+kept_prepared list l c kinds room made given addrs old new is seen same kept =
+    let O : Option NetList → Type 0 = λ o. KeepsPlanBy o c kinds room made given old in
+    let N : Option NetList → Type 0 = λ o. KeepsPlanBy o c kinds room made given new in
     let A : List Addr → Type 0 = λ a. IsSameButPrepared l c a old new in
-    let before_that : KeepsPlan l c before kinds room made given old = subst O is kept in
+    let before_that : KeepsPlan l c kinds room made given old = subst O is kept in
     let goes_on : IsSameButPrepared l c given old new = subst A seen same in
     subst N (sym is) (record {
-      before_is = before_that.before_is;
       kinds_is = before_that.kinds_is;
       room_is = before_that.room_is;
-      stands = goes_on.stands (length before) (length (sets_of l)) made before_that.stands;
+      stands = goes_on.stands (length (sets_of l)) made before_that.stands;
+      keeps = goes_on.keeps before_that.keeps;
     })
 
 -- ---- a change from outside

@@ -6,16 +6,18 @@ use Rattle.std.proofs.lemmas.List.{drop_all}
 use Rattle.std.proofs.lemmas.Option.{slice_get_cases}
 use Rattle.std.proofs.lemmas.Bool.{cases_lt}
 use Rattle.cni_addr.specs.declared.address.Addr.{Addr}
+use Rattle.cni_result.specs.declared.result.AddResult.{AddResult}
 use Rattle.net_conf.specs.declared.list.NetList.{NetList}
 use Rattle.pod_file.specs.declared.command.Command.{Command}
 use Rattle.kernel_types.specs.declared.call.Kind.{Kind}
 use Rattle.kernel_types.specs.declared.call.Call.{Call}
 use Rattle.kernel_types.specs.declared.call.Reply.{Reply}
 use Rattle.kernel_types.specs.declared.call.Reply.TheVariants.{Leased}
-use Rattle.cni_verbs.specs.Wanted.{sets_of, kinds_of}
+use Rattle.cni_verbs.specs.CommandWords.{att_of}
+use Rattle.cni_verbs.specs.Wanted.{sets_of, kinds_of, result_of_add}
 use Rattle.cni_verbs.specs.Script as script
-use Rattle.cni_verbs.specs.Script.{State, before_of, advance, IsOpen}
-use Rattle.cni_verbs.specs.Phases.{Awaits, Stands, IsPhaseOf, is_prepared, state_in}
+use Rattle.cni_verbs.specs.Script.{State, advance, IsOpen}
+use Rattle.cni_verbs.specs.Phases.{Awaits, KeepsResult, Stands, IsPhaseOf, is_prepared, state_in}
 use Rattle.cni_verbs.specs.declared.answer.Ending.{Ending}
 use Rattle.cni_verbs.specs.declared.answer.Ending.TheVariants.{Refused}
 use Rattle.cni_verbs.specs.declared.answer.Question.{Question}
@@ -47,21 +49,20 @@ left_or_none {X} xs n =
 
 -- ---- where work is left
 
-pub calls_over : (list : NetList) (c : Command) (made passed calls : ℕ) (phase : Phase) → length (before_of list c) ≡ calls → calls ≤ passed
+pub calls_over : (list : NetList) (c : Command) (made passed : ℕ) (calls : List Call) (phase : Phase) → length calls ≤ passed
     → IsPhaseOf list c made [] phase (script.leasing list c (drop 0 (sets_of list)) [])
-    → IsPhaseOf list c made [] phase (script.before_leases list c (drop passed (before_of list c)))
-calls_over list c made passed calls phase all h goes =
-    let over : length (before_of list c) ≤ passed = omega arith in
+    → IsPhaseOf list c made [] phase (script.before_leases list c (drop passed calls))
+calls_over list c made passed calls phase over goes =
     let P : State → Type 0 = λ state. IsPhaseOf list c made [] phase state in
-    subst P (sym (ap (script.before_leases list c) (drop_all passed (before_of list c) over))) goes
+    subst P (sym (ap (script.before_leases list c) (drop_all passed calls over))) goes
 
 -- ---- the script's step, by the phase
 
-pub steps_before : (list : NetList) (c : Command) (number passed : ℕ) (r : Reply) → passed < length (before_of list c)
-    → script.at_call_before list c number (drop (passed + 1) (before_of list c)) r ≡ advance list c number (script.before_leases list c (drop passed (before_of list c))) r
+pub steps_before : (list : NetList) (c : Command) (number passed : ℕ) (calls : List Call) (r : Reply) → passed < length calls
+    → script.at_call_before list c number (drop (passed + 1) calls) r ≡ advance list c number (script.before_leases list c (drop passed calls)) r
 unfolding advance
-steps_before list c number passed r h =
-    let left = left_of (before_of list c) passed h in
+steps_before list c number passed calls r h =
+    let left = left_of calls passed h in
     sym (ap (λ calls. advance list c number (script.before_leases list c calls) r) left.1.1)
 
 pub steps_lease : (list : NetList) (c : Command) (number : ℕ) (addrs : List Addr) (r : Reply) → length addrs < length (sets_of list)
@@ -142,43 +143,43 @@ leased_goes list c number len old addrs addr r phase items len_is is h =
 abbrev pub Goes : NetList → Command → ℕ → List Addr → List Addr → Phase → Reply → Phase → Type 0
 Goes list c made old new phase r next = IsPhaseOf list c (made + 1) new next (advance list c (made + 1) (state_in list c old phase) r)
 
-pub goes_begin : (list : NetList) (c : Command) (calls sets made : ℕ) (addrs : List Addr) (phase : Phase) (r : Reply) (next : Phase) → phase ≡ phases.AtBegin
-    → Stands calls sets made addrs phase → IsPhaseOf list c (made + 1) [] next (script.at_begin list c (made + 1) r) → Goes list c made addrs addrs phase r next
-goes_begin list c calls sets made addrs phase r next is stands h =
-    let S : Phase → Type 0 = λ p. Stands calls sets made addrs p in
+pub goes_begin : (list : NetList) (c : Command) (sets made : ℕ) (addrs : List Addr) (phase : Phase) (r : Reply) (next : Phase) → phase ≡ phases.AtBegin
+    → Stands sets made addrs phase → IsPhaseOf list c (made + 1) [] next (script.at_begin list c (made + 1) r) → Goes list c made addrs addrs phase r next
+goes_begin list c sets made addrs phase r next is stands h =
+    let S : Phase → Type 0 = λ p. Stands sets made addrs p in
     let none : addrs ≡ [] = subst S is stands in
     let G : List Addr → Type 0 = λ a. Goes list c made a a phases.AtBegin r next in
     let F : Phase → Type 0 = λ p. Goes list c made addrs addrs p r next in
     subst F (sym is) (subst G (sym none) (at_state list c (made + 1) [] next (steps_begin list c (made + 1) r) h))
 
-pub goes_before : (list : NetList) (c : Command) (calls sets made passed : ℕ) (addrs : List Addr) (phase : Phase) (r : Reply) (next : Phase) → phase ≡ phases.BeforeLeases passed
-    → Stands calls sets made addrs phase → length (before_of list c) ≡ calls
-    → IsPhaseOf list c (made + 1) [] next (script.at_call_before list c (made + 1) (drop (passed + 1) (before_of list c)) r) → Goes list c made addrs addrs phase r next
-goes_before list c calls sets made passed addrs phase r next is stands all h =
-    let S : Phase → Type 0 = λ p. Stands calls sets made addrs p in
-    let here : (passed < calls) × (addrs ≡ []) = subst S is stands in
-    let lt : passed < length (before_of list c) = let below : passed < calls = here.0 in omega arith in
-    let G : List Addr → Type 0 = λ a. Goes list c made a a (phases.BeforeLeases passed) r next in
+pub goes_before : (list : NetList) (c : Command) (sets made passed : ℕ) (calls : List Call) (addrs : List Addr) (phase : Phase) (r : Reply) (next : Phase)
+    → phase ≡ phases.BeforeLeases calls passed → Stands sets made addrs phase
+    → IsPhaseOf list c (made + 1) [] next (script.at_call_before list c (made + 1) (drop (passed + 1) calls) r) → Goes list c made addrs addrs phase r next
+goes_before list c sets made passed calls addrs phase r next is stands h =
+    let S : Phase → Type 0 = λ p. Stands sets made addrs p in
+    let here : (passed < length calls) × (addrs ≡ []) = subst S is stands in
+    let G : List Addr → Type 0 = λ a. Goes list c made a a (phases.BeforeLeases calls passed) r next in
     let F : Phase → Type 0 = λ p. Goes list c made addrs addrs p r next in
-    subst F (sym is) (subst G (sym here.1) (at_state list c (made + 1) [] next (steps_before list c (made + 1) passed r lt) h))
+    subst F (sym is) (subst G (sym here.1) (at_state list c (made + 1) [] next (steps_before list c (made + 1) passed calls r here.0) h))
 
-pub goes_lease : (list : NetList) (c : Command) (calls sets made : ℕ) (old new : List Addr) (phase : Phase) (r : Reply) (next : Phase) → phase ≡ phases.Leasing
-    → Stands calls sets made old phase → length (sets_of list) ≡ sets
+pub goes_lease : (list : NetList) (c : Command) (sets made : ℕ) (old new : List Addr) (phase : Phase) (r : Reply) (next : Phase) → phase ≡ phases.Leasing
+    → Stands sets made old phase → length (sets_of list) ≡ sets
     → IsPhaseOf list c (made + 1) new next (script.at_lease list c (made + 1) (drop (length old + 1) (sets_of list)) old r) → Goes list c made old new phase r next
-goes_lease list c calls sets made old new phase r next is stands all h =
-    let S : Phase → Type 0 = λ p. Stands calls sets made old p in
+goes_lease list c sets made old new phase r next is stands all h =
+    let S : Phase → Type 0 = λ p. Stands sets made old p in
     let lt : length old < length (sets_of list) = let below : length old < sets = subst S is stands in omega arith in
     let F : Phase → Type 0 = λ p. Goes list c made old new p r next in
     subst F (sym is) (at_state list c (made + 1) new next (steps_lease list c (made + 1) old r lt) h)
 
-pub goes_after : (list : NetList) (c : Command) (made passed : ℕ) (calls : List Call) (addrs : List Addr) (phase : Phase) (r : Reply) (next : Phase) → phase ≡ phases.AfterLeases calls passed
-    → IsOpen (state_in list c addrs phase)
-    → IsPhaseOf list c (made + 1) addrs next (script.at_call_after (made + 1) (drop (passed + 1) calls) addrs r)
+pub goes_after : (list : NetList) (c : Command) (made passed : ℕ) (calls : List Call) (added : AddResult) (addrs : List Addr) (phase : Phase) (r : Reply) (next : Phase)
+    → phase ≡ phases.AfterLeases calls passed added → KeepsResult list c addrs phase → IsOpen (state_in list c addrs phase)
+    → (added ≡ result_of_add list (att_of c) c.netns addrs → IsPhaseOf list c (made + 1) addrs next (script.at_call_after (made + 1) (drop (passed + 1) calls) addrs r))
     → Goes list c made addrs addrs phase r next
-goes_after list c made passed calls addrs phase r next is opens h =
+goes_after list c made passed calls added addrs phase r next is keeps opens h =
+    let K : Phase → Type 0 = λ p. KeepsResult list c addrs p in
     let O : Phase → Type 0 = λ p. IsOpen (state_in list c addrs p) in
     let F : Phase → Type 0 = λ p. Goes list c made addrs addrs p r next in
-    subst F (sym is) (at_state list c (made + 1) addrs next (steps_after list c (made + 1) passed calls addrs r (subst O is opens)) h)
+    subst F (sym is) (at_state list c (made + 1) addrs next (steps_after list c (made + 1) passed calls addrs r (subst O is opens)) (h (subst K is keeps)))
 
 pub goes_cache : (list : NetList) (c : Command) (made : ℕ) (ending : Ending) (addrs : List Addr) (phase : Phase) (r : Reply) (next : Phase) → phase ≡ phases.ReadingCache ending
     → IsPhaseOf list c (made + 1) addrs next (script.at_cache list (made + 1) ending r) → Goes list c made addrs addrs phase r next
@@ -222,16 +223,17 @@ goes_changing list c made change addrs phase r next is h =
 
 pub over_goes : (list : NetList) (c : Command) (made : ℕ) (addrs : List Addr) (ending changed : Ending) → ending ≡ changed
     → IsPhaseOf list c made addrs (phases.Over ending) (script.Over changed [])
-over_goes list c made addrs ending changed same = record { is = ap (λ e. script.Over e []) same; stands = tt }
+over_goes list c made addrs ending changed same = record { is = ap (λ e. script.Over e []) same; stands = tt; keeps = tt }
 
 -- ---- which phases a reply may come to
 
 pub awaits : (list : NetList) (c : Command) (addrs : List Addr) (phase : Phase) → IsOpen (state_in list c addrs phase) → is_prepared phase ≡ true → Awaits phase
 awaits list c addrs phases.AtBegin h is = tt
-awaits list c addrs (phases.BeforeLeases passed) h is = tt
+awaits list c addrs phases.Begun h is = cc
+awaits list c addrs (phases.BeforeLeases calls passed) h is = tt
 awaits list c addrs phases.Leasing h is = tt
 awaits list c addrs phases.Leased h is = cc
-awaits list c addrs (phases.AfterLeases calls passed) h is = opens (λ left. script.after_leases left addrs) calls passed (λ h. h) h
+awaits list c addrs (phases.AfterLeases calls passed added) h is = opens (λ left. script.after_leases left addrs) calls passed (λ h. h) h
 awaits list c addrs (phases.ReadingCache ending) h is = tt
 awaits list c addrs (phases.Deleting passed ending) h is = tt
 awaits list c addrs phases.FindingEntry h is = tt

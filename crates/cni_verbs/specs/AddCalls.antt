@@ -44,13 +44,15 @@ added given = record { ending = Added; given = given }
 
 -- the command's script makes these calls and no others, each after the replies to those before it, and is then added
 pub record MakesInTurn (list : NetList) (c : Command) (calls : List Call) (replies : List Reply) : Type 0 where
-  pub each : (made : ℕ) (call : Call) → slice_get calls made ≡ Some call → turn_by (Some list) c (take made replies) ≡ Calls call
+  pub each : (made : ℕ) (call : Call) → slice_get calls made ≡ Some call
+      → turn_by (Some list) c (take made replies) ≡ Calls call
   pub ends : turn_by (Some list) c replies ≡ Finishes (added (leases_in replies))
 
 -- an ADD that its words don't refuse makes just its calls, where each of them is granted
 abbrev pub AddMakesItsCalls : Type 0
 AddMakesItsCalls = (list : NetList) (c : Command) (replies : List Reply) → c.verb ≡ verbs.Add → add_refusal c ≡ None
-    → AreGranted (calls_of_add list c (leases_in replies)) replies → MakesInTurn list c (calls_of_add list c (leases_in replies)) replies
+    → AreGranted (calls_of_add list c (leases_in replies)) replies
+    → MakesInTurn list c (calls_of_add list c (leases_in replies)) replies
 
 -- replies that grant all calls of an ADD with these addresses
 pub record Granting (list : NetList) (c : Command) (given : List Addr) : Type 0 where
@@ -60,4 +62,5 @@ pub record Granting (list : NetList) (c : Command) (given : List Addr) : Type 0 
 
 -- there are such replies for any addresses, one a range set
 abbrev pub AddMayBeGranted : Type 0
-AddMayBeGranted = (list : NetList) (c : Command) (given : List Addr) → length given ≡ length (sets_of list) → Granting list c given
+AddMayBeGranted = (list : NetList) (c : Command) (given : List Addr) → length given ≡ length (sets_of list)
+    → Granting list c given

@@ -109,7 +109,8 @@ missed_text (missed.Bridge name) = spaced (codes "bridge") name
 missed_text (missed.Link ns name) = named_text (codes "link") ns name
 missed_text (missed.Address ns link cidr) = on_link_text (codes "address") ns link cidr
 missed_text (missed.Route ns link dst) = on_link_text (codes "route") ns link dst
-missed_text (missed.Rule table chain number) = codes "rule " ++ table_text table ++ codes " " ++ chain_text chain ++ codes " " ++ decimal number
+missed_text (missed.Rule table chain number) =
+    codes "rule " ++ table_text table ++ codes " " ++ chain_text chain ++ codes " " ++ decimal number
 missed_text (missed.Setting ns key) = named_text (codes "setting") ns key
 missed_text (missed.Lease addr) = spaced (codes "lease") (addr_text addr)
 
@@ -131,7 +132,8 @@ details_of c NothingThere = c.ifname
 details_of c (Missing what) = missed_text what
 
 unfoldable pub error_of : Version → Command → Cause → CniError
-error_of version c cause = record { version = version; code = code_of cause; msg = message_of cause; details = details_of c cause }
+error_of version c cause =
+    record { version = version; code = code_of cause; msg = message_of cause; details = details_of c cause }
 
 -- ---- answers
 

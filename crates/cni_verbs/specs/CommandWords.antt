@@ -45,12 +45,14 @@ unfoldable pub argument_of : List ℕ → Option (List ℕ × List ℕ)
 argument_of piece = pair_of (slice_split (λ b. b == equals_sign) piece)
 
 unfoldable pub are_arguments : List ℕ → Bool
-are_arguments text = length text == 0 || list_all (λ piece. is_some (argument_of piece)) (slice_split (λ b. b == semicolon) text)
+are_arguments text =
+    length text == 0 || list_all (λ piece. is_some (argument_of piece)) (slice_split (λ b. b == semicolon) text)
 
 -- the value of the first argument of this key
 unfoldable pub value_of_argument : List ℕ → List ℕ → Option (List ℕ)
 value_of_argument key text =
-    option_map (λ pair. pair.1) (find (λ pair. bytes_eq pair.0 key) (filter_map argument_of (slice_split (λ b. b == semicolon) text)))
+    option_map (λ pair. pair.1)
+    (find (λ pair. bytes_eq pair.0 key) (filter_map argument_of (slice_split (λ b. b == semicolon) text)))
 
 -- ---- port mappings (the `portMappings` capability)
 
@@ -73,7 +75,8 @@ mapping_by host_port container_port None host_ip = None
 mapping_by host_port container_port (Some protocol) None = None
 mapping_by host_port container_port (Some protocol) (Some host_ip) =
     if is_port host_port && is_port container_port
-    then Some (record { host_port = host_port; container_port = container_port; protocol = protocol; host_ip = host_ip })
+    then Some
+    (record { host_port = host_port; container_port = container_port; protocol = protocol; host_ip = host_ip })
     else None
 
 -- the mapping, where it can be taken
@@ -99,7 +102,8 @@ abbrev pub no_faults : WordFaults
 no_faults = record { container = false; netns = false; ifname = false; args = false }
 
 abbrev pub del_faults : Command → WordFaults
-del_faults c = record no_faults { container = not (is_container_id c.container); ifname = not (is_interface_name c.ifname) }
+del_faults c =
+    record no_faults { container = not (is_container_id c.container); ifname = not (is_interface_name c.ifname) }
 
 -- an ADD needs a namespace and arguments besides
 abbrev pub add_faults : Command → WordFaults

@@ -1,6 +1,5 @@
 pub mod AddCalls
 pub mod Answers
-pub mod Codes
 pub mod CommandWords
 pub mod ErrorKinds
 pub mod Laws

@@ -3,9 +3,9 @@ use Rattle.std.specs.Prelude.{◌≡◌, ℕ, ◌<◌, ◌≤◌, Bool, true, fa
 use Rattle.cni_addr.specs.declared.address.Addr.{Addr}
 use Rattle.net_conf.specs.declared.list.NetList.{NetList}
 use Rattle.pod_file.specs.declared.command.Command.{Command}
-use Rattle.kernel_types.specs.declared.call.Call.{Call}
 use Rattle.kernel_types.specs.declared.call.Kind.{Kind}
-use Rattle.cni_verbs.specs.Wanted.{sets_of, kinds_of}
+use Rattle.cni_verbs.specs.CommandWords.{att_of}
+use Rattle.cni_verbs.specs.Wanted.{sets_of, kinds_of, result_of_add}
 use Rattle.cni_verbs.specs.Questions.{check_questions}
 use Rattle.cni_verbs.specs.Script.{State, Over, before_of, back_of, after_leases, leasing, before_leases, deleting, asking}
 use Rattle.cni_verbs.specs.Script as states
@@ -18,10 +18,11 @@ use Rattle.cni_verbs.specs.declared.phase.Phase.TheVariants as phases
 -- the state of a run in this phase that was given these addresses
 abbrev pub state_in : NetList → Command → List Addr → Phase → State
 state_in list c given phases.AtBegin = states.AtBegin
-state_in list c given (phases.BeforeLeases passed) = before_leases list c (drop passed (before_of list c))
+state_in list c given phases.Begun = before_leases list c (before_of list c)
+state_in list c given (phases.BeforeLeases calls passed) = before_leases list c (drop passed calls)
 state_in list c given phases.Leasing = leasing list c (drop (length given) (sets_of list)) given
 state_in list c given phases.Leased = after_leases (back_of list c given) given
-state_in list c given (phases.AfterLeases calls passed) = after_leases (drop passed calls) given
+state_in list c given (phases.AfterLeases calls passed added) = after_leases (drop passed calls) given
 state_in list c given (phases.ReadingCache ending) = states.ReadingCache ending
 state_in list c given (phases.Deleting passed ending) = deleting (drop passed (kinds_of list)) ending
 state_in list c given phases.FindingEntry = states.FindingEntry
@@ -42,19 +43,25 @@ state_by_phase (Some list) c given phase = state_in list c given phase
 
 -- ---- what is kept
 
--- a phase has work left in its own list, of so many calls before the leases and so many sets, and has passed no more
--- than the calls that were made
-abbrev pub Stands : (calls sets made : ℕ) → List Addr → Phase → Type 0
-Stands calls sets made given phases.AtBegin = given ≡ []
-Stands calls sets made given (phases.BeforeLeases passed) = (passed < calls) × (given ≡ [])
-Stands calls sets made given phases.Leasing = length given < sets
-Stands calls sets made given (phases.AfterLeases planned passed) = passed ≤ made
-Stands calls sets made given (phases.Deleting passed ending) = passed ≤ made
-Stands calls sets made given (phases.Asking questions passed) = passed ≤ made
-Stands calls sets made given phase = ⊤
+-- a phase has work left in its own list, of so many sets, and has passed no more than the calls that were made
+abbrev pub Stands : (sets made : ℕ) → List Addr → Phase → Type 0
+Stands sets made given phases.AtBegin = given ≡ []
+Stands sets made given phases.Begun = given ≡ []
+Stands sets made given (phases.BeforeLeases calls passed) = (passed < length calls) × (given ≡ [])
+Stands sets made given phases.Leasing = length given < sets
+Stands sets made given (phases.AfterLeases calls passed added) = passed ≤ made
+Stands sets made given (phases.Deleting passed ending) = passed ≤ made
+Stands sets made given (phases.Asking questions passed) = passed ≤ made
+Stands sets made given phase = ⊤
 
--- what the next call is looked up in is made: the calls after the leases, the questions of a CHECK
+-- the result that is kept is that of the ADD
+abbrev pub KeepsResult : NetList → Command → List Addr → Phase → Type 0
+KeepsResult list c given (phases.AfterLeases calls passed added) = added ≡ result_of_add list (att_of c) c.netns given
+KeepsResult list c given phase = ⊤
+
+-- what the next call is looked up in is made: the calls before the leases and after them, the questions of a CHECK
 abbrev pub is_prepared : Phase → Bool
+is_prepared phases.Begun = false
 is_prepared phases.Leased = false
 is_prepared (phases.Found cached) = false
 is_prepared phase = true
@@ -65,30 +72,36 @@ is_prepared_by (Some list) phase = is_prepared phase
 
 -- a reply may come: one of the calls or questions that are made is left
 abbrev pub Awaits : Phase → Type 0
+Awaits phases.Begun = ⊥
 Awaits phases.Leased = ⊥
-Awaits (phases.AfterLeases calls passed) = passed < length calls
+Awaits (phases.AfterLeases calls passed added) = passed < length calls
 Awaits (phases.Found cached) = ⊥
 Awaits (phases.Asking questions passed) = passed < length questions
 Awaits (phases.Over ending) = ⊥
 Awaits phase = ⊤
 
--- a run of this list keeps the parts of its plan, and has room for an address of each set
-pub record KeepsPlan (list : NetList) (c : Command) (before : List Call) (kinds : List Kind) (room : ℕ) (made : ℕ) (given : List Addr) (phase : Phase) : Type 0 where
-  pub before_is : before ≡ before_of list c
+-- a run of this list keeps the kinds of a DEL and the result of an ADD, and has room for an address of each set
+pub record KeepsPlan
+    (list : NetList) (c : Command) (kinds : List Kind) (room made : ℕ) (given : List Addr) (phase : Phase)
+    : Type 0 where
   pub kinds_is : kinds ≡ kinds_of list
   pub room_is : length (sets_of list) ≤ room
-  pub stands : Stands (length before) (length (sets_of list)) made given phase
+  pub stands : Stands (length (sets_of list)) made given phase
+  pub keeps : KeepsResult list c given phase
 
-abbrev pub KeepsPlanBy : Option NetList → Command → List Call → List Kind → ℕ → ℕ → List Addr → Phase → Type 0
-KeepsPlanBy None c before kinds room made given phase = ⊤
-KeepsPlanBy (Some list) c before kinds room made given phase = KeepsPlan list c before kinds room made given phase
+abbrev pub KeepsPlanBy : Option NetList → Command → List Kind → ℕ → ℕ → List Addr → Phase → Type 0
+KeepsPlanBy None c kinds room made given phase = ⊤
+KeepsPlanBy (Some list) c kinds room made given phase = KeepsPlan list c kinds room made given phase
 
 -- the phase stands for this state
-pub record IsPhaseOf (list : NetList) (c : Command) (made : ℕ) (given : List Addr) (phase : Phase) (state : State) : Type 0 where
+pub record IsPhaseOf
+    (list : NetList) (c : Command) (made : ℕ) (given : List Addr) (phase : Phase) (state : State) : Type 0 where
   pub is : state_in list c given phase ≡ state
-  pub stands : Stands (length (before_of list c)) (length (sets_of list)) made given phase
+  pub stands : Stands (length (sets_of list)) made given phase
+  pub keeps : KeepsResult list c given phase
 
 -- the phase means the same, and its list may be made
 pub record IsSameButPrepared (list : NetList) (c : Command) (given : List Addr) (old new : Phase) : Type 0 where
   pub state : state_in list c given new ≡ state_in list c given old
-  pub stands : (calls sets made : ℕ) → Stands calls sets made given old → Stands calls sets made given new
+  pub stands : (sets made : ℕ) → Stands sets made given old → Stands sets made given new
+  pub keeps : KeepsResult list c given old → KeepsResult list c given new

@@ -59,7 +59,9 @@ lease_question l = asks_for (objects.Lease l) (missed.Lease l.addr)
 abbrev pub share_questions : Share → List Question
 share_questions s =
     map link_question s.links
-    ++ (map address_question s.addresses ++ (map route_question s.routes ++ (rule_questions 1 s.rules ++ (map setting_question s.settings ++ map lease_question s.leases))))
+    ++ (map address_question s.addresses
+    ++ (map route_question s.routes
+    ++ (rule_questions 1 s.rules ++ (map setting_question s.settings ++ map lease_question s.leases))))
 
 abbrev pub bridge_by_mac : List ℕ → Option Mac → List Question
 bridge_by_mac name None = []
@@ -84,7 +86,8 @@ abbrev pub cached_share : NetList → Command → Cached → Share
 cached_share list c cached = wanted list (att_of c) cached.netns cached.mappings (addresses_of_result cached.result)
 
 unfoldable pub check_questions : NetList → Command → Cached → List Question
-check_questions list c cached = bridge_questions list.first cached.result.interfaces ++ share_questions (cached_share list c cached)
+check_questions list c cached =
+    bridge_questions list.first cached.result.interfaces ++ share_questions (cached_share list c cached)
 
 -- ---- STATUS: a free address in each range set, and the master
 
@@ -97,7 +100,8 @@ pool_questions network number sets = scan (λ n set. n + 1) (pool_question netwo
 abbrev pub master_questions : First → List Question
 master_questions (firsts.Bridge conf) = []
 master_questions (firsts.Ptp conf) = []
-master_questions (firsts.Macvlan conf) = record { call = HasObj (Master conf.master); lack = MasterAbsent conf.master } ∷ []
+master_questions (firsts.Macvlan conf) =
+    record { call = HasObj (Master conf.master); lack = MasterAbsent conf.master } ∷ []
 
 unfoldable pub status_questions : NetList → Command → List Question
 status_questions list c = pool_questions c.network 0 (sets_of list) ++ master_questions list.first

@@ -166,7 +166,8 @@ advance list c number (Deleting next left ending) r = at_deletion number next le
 advance list c number FindingEntry r = at_entry list c number r
 advance list c number (Asking next left) r = at_question number next left r
 advance list c number (Changing change) r = Over (changed number r) []
-advance list c number (Collecting work faults) r = Collecting (work_after (gc_of list c) work.jobs work.sweeps r) (faults_after number faults (is_fault r))
+advance list c number (Collecting work faults) r =
+    Collecting (work_after (gc_of list c) work.jobs work.sweeps r) (faults_after number faults (is_fault r))
 advance list c number (Over ending given) r = Over ending given
 
 -- ---- the start
@@ -195,7 +196,8 @@ collecting version disabled work faults = unless_ended (early_ending version dis
 abbrev pub start_of : NetList → Verb → Command → State
 start_of list verbs.Add c = unless_refused (add_refusal c) AtBegin
 start_of list verbs.Del c = unless_refused (del_refusal c) (ReadingCache Yes)
-start_of list verbs.Check c = unless_refused (del_refusal c) (if list.disable_check then Over (Skipped skips.Check) [] else FindingEntry)
+start_of list verbs.Check c =
+    unless_refused (del_refusal c) (if list.disable_check then Over (Skipped skips.Check) [] else FindingEntry)
 start_of list verbs.Gc c = collecting list.version list.disable_gc (start_work (gc_of list c)) []
 start_of list verbs.Status c = unless_ended (old_ending list.version) (asking (status_questions list c))
 start_of list verbs.Version c = Over Versions []
@@ -226,7 +228,8 @@ flush_by (Some table) = Changing (Outside (Flush table))
 abbrev pub outside_of : Verb → Command → State
 outside_of verbs.NsAdd c = unless_refused (netns_refusal c) (Changing (NsChange c.netns true))
 outside_of verbs.NsDel c = unless_refused (netns_refusal c) (Changing (NsChange c.netns false))
-outside_of verbs.Drop c = unless_refused (drop_refusal c) (Changing (Outside (DropLink (record { ns = c.netns; name = c.ifname }))))
+outside_of verbs.Drop c =
+    unless_refused (drop_refusal c) (Changing (Outside (DropLink (record { ns = c.netns; name = c.ifname }))))
 outside_of verbs.Flush c = flush_by c.table
 outside_of verb c = Over Yes []
 
@@ -316,7 +319,8 @@ pub data Turn : Type 0 where
   Finishes : (finish : Finish) → Turn
 
 abbrev pub turn_of_work : List ℕ → List Job → List Sweep → List ℕ → Turn
-turn_of_work network jobs sweeps faults = option_map_or Calls (call_of_work network jobs sweeps) (Finishes (swept_finish faults))
+turn_of_work network jobs sweeps faults =
+    option_map_or Calls (call_of_work network jobs sweeps) (Finishes (swept_finish faults))
 
 abbrev pub turn_by_act : Command → Act → Turn
 turn_by_act c (Makes call_of) = Calls (call_of c)

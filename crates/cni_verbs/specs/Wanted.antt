@@ -131,7 +131,8 @@ result_of_add list att netns addrs = all_chained_results list.chained (first_plu
 -- ---- the wanted objects
 
 abbrev pub cached_of : NetList → Att → List ℕ → List PortMapping → List Addr → Cached
-cached_of list att netns mappings addrs = record { netns = netns; mappings = mappings; result = result_of_add list att netns addrs }
+cached_of list att netns mappings addrs =
+    record { netns = netns; mappings = mappings; result = result_of_add list att netns addrs }
 
 -- the links as they are before `tuning` sets its values
 abbrev pub untuned : NetList → Att → List ℕ → List Link
@@ -158,12 +159,15 @@ wanted list att netns mappings addrs =
 abbrev pub back_calls : NetList → Att → List ℕ → List PortMapping → List Addr → List Call
 back_calls list att netns mappings addrs =
     calls_after list.first att netns (given_by_list list addrs)
-    ++ (all_chained_calls list.chained att netns mappings (first_plugin_result list att netns addrs) ++ CachePut att (cached_of list att netns mappings addrs) ∷ [])
+    ++ (all_chained_calls list.chained att netns mappings (first_plugin_result list att netns addrs)
+    ++ CachePut att (cached_of list att netns mappings addrs) ∷ [])
 
 -- all of them, where none is refused: what a run makes one by one
 abbrev pub add_calls : NetList → Att → List ℕ → List PortMapping → List Addr → List Call
 add_calls list att netns mappings addrs =
-    Begin att netns ∷ (calls_before list.first att netns ++ (lease_calls_of (sets_of list) att ++ back_calls list att netns mappings addrs))
+    Begin att netns
+    ∷ (calls_before list.first att netns
+    ++ (lease_calls_of (sets_of list) att ++ back_calls list att netns mappings addrs))
 
 -- ---- deletions (CNI specification, section 3, "Deleting an attachment")
 

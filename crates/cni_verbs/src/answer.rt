@@ -5,30 +5,10 @@ use cni_result::{AddResult, CniError, Version};
 use kernel_types::{Call, Chain, Table, Tag};
 
 /// A verb that a list disables (`disableCheck`, `disableGC`).
-#[derive(Clone, Copy)]
+#[derive(Clone, Copy, PartialEq, Eq)]
 pub enum Skip {
     Check,
     Gc,
-}
-
-impl PartialEq for Skip {
-    ghost use Rattle.std.specs.Cmp.{partial_equiv_from_equiv, on_equiv, nat_eq_equiv};
-    ghost use Rattle.cni_verbs.specs.Codes.{skip_eq, skip_code};
-
-    ghost eq = { skip_eq };
-
-    ghost laws = { partial_equiv_from_equiv (on_equiv skip_code nat_eq_equiv) };
-
-    fn eq(&self, other: &Skip) -> bool {
-        *self as u8 == *other as u8
-    }
-}
-
-impl Eq for Skip {
-    ghost use Rattle.std.specs.Cmp.{on_equiv, nat_eq_equiv};
-    ghost use Rattle.cni_verbs.specs.Codes.{skip_code};
-
-    ghost laws = { on_equiv skip_code nat_eq_equiv };
 }
 
 /// What a command is answered. `OutOfMemory` and `Stopped` are given by the book, all else by the command's run.

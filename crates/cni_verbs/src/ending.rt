@@ -1,7 +1,6 @@
 //! What a run answers at its end.
 
 ghost use Rattle.std.specs.Prelude.{◌≡◌, ℕ, List, Some, None, IfOk};
-ghost use Rattle.kernel_types.specs.declared.call.Call.{Call};
 ghost use Rattle.kernel_types.specs.declared.call.Kind.{Kind};
 ghost use Rattle.cni_verbs.specs.Script.{IsOpen};
 ghost use Rattle.cni_verbs.specs.Answers.{answer_of_ending, plain_answer};
@@ -14,14 +13,15 @@ use crate::over::{is_over, is_over_outside};
 use crate::phase::Phase;
 use crate::wanted::result_of_add;
 use crate::words::att_of;
-use cni_addr::{Addr, NoMemory};
+use cni_addr::{Addr, Duplicate, NoMemory};
 use cni_result::Version;
 use kernel_types::Kind;
 use net_conf::NetList;
 use pod_file::Command;
 use std::alloc::Global;
 
-/// The answer to an ending without a result of its own, in this version.
+/// The answer to an ending without a result of its own, in this version. `Added` has one, and is Yes here: a run of no
+/// network and a collection, which are answered by this alone, never end so.
 pub fn plain_answer(
     alloc: Global,
     version: Version,
@@ -77,17 +77,20 @@ fn answer_at_end(
     given: &[Addr],
     phase: &Phase,
 ) -> Result<Answer, NoMemory>
-    requires kept { (before : List Call) × (kinds : List Kind) × (room : ℕ) × (made : ℕ) × KeepsPlan list.now command.now before kinds room made given.now phase.now }
+    requires kept { (kinds : List Kind) × (room : ℕ) × (made : ℕ)
+        × KeepsPlan list.now command.now kinds room made given.now phase.now }
     requires over { IsOpen (state_in list.now command.now given.now phase.now) → ⊥ }
-    ensures { IfOk result (λ answer. Some answer ≡ answer_in (Some list.now) command.now (state_in list.now command.now given.now phase.now)) }
+    ensures { IfOk result (λ answer.
+        Some answer ≡ answer_in (Some list.now) command.now (state_in list.now command.now given.now phase.now)) }
 {
     match phase {
-        Phase::AfterLeases { .. } => ended(alloc, list, command, &Ending::Added, given),
+        Phase::AfterLeases { added, .. } => Ok(Answer::Added(added.copy()?)),
         Phase::Deleting(_, ending) => ended(alloc, list, command, ending, &[]),
         Phase::Asking { .. } => ended(alloc, list, command, &Ending::Yes, &[]),
         Phase::Over(ending) => ended(alloc, list, command, ending, &[]),
         Phase::AtBegin
-        | Phase::BeforeLeases(_)
+        | Phase::Begun
+        | Phase::BeforeLeases { .. }
         | Phase::Leasing
         | Phase::Leased
         | Phase::ReadingCache(_)
@@ -106,8 +109,10 @@ pub(crate) fn answer_in(
     given: &[Addr],
     phase: &Phase,
 ) -> Result<Option<Answer>, NoMemory>
-    requires { (before : List Call) × (room : ℕ) × (made : ℕ) × KeepsPlan list.now command.now before kinds.now room made given.now phase.now }
-    ensures { IfOk result (λ answer. answer ≡ answer_in (Some list.now) command.now (state_in list.now command.now given.now phase.now)) }
+    requires { (room : ℕ) × (made : ℕ)
+        × KeepsPlan list.now command.now kinds.now room made given.now phase.now }
+    ensures { IfOk result (λ answer.
+        answer ≡ answer_in (Some list.now) command.now (state_in list.now command.now given.now phase.now)) }
 {
     if is_over(kinds, given, phase) {
         Ok(Some(answer_at_end(alloc, list, command, given, phase)?))

@@ -3,13 +3,13 @@
 ghost use Rattle.std.specs.Prelude.{◌≡◌, ℕ, ◌<◌, true, Some, length, slice_get, option_map, IfOk};
 ghost use Rattle.kernel_types.specs.declared.call.Call.TheVariants as call;
 ghost use Rattle.cni_verbs.specs.CommandWords.{att_of};
-ghost use Rattle.cni_verbs.specs.Wanted.{deletion, sets_of};
+ghost use Rattle.cni_verbs.specs.Wanted.{deletion, result_of_add, sets_of};
 ghost use Rattle.cni_verbs.specs.Script.{before_of, back_of, next_call};
 ghost use Rattle.cni_verbs.specs.Phases.{KeepsPlan, is_prepared, state_in, state_outside};
 
 use crate::answer::Question;
 use crate::phase::Phase;
-use crate::wanted::{back_calls, calls_before, deletion, sets_of};
+use crate::wanted::{Back, back_calls, calls_before, deletion, sets_of};
 use crate::words::{att_of, mappings_of};
 use cni_addr::{Addr, Duplicate, Items, NoMemory};
 use host_local::lease_at;
@@ -26,20 +26,23 @@ pub(crate) fn before_of(
     list: &NetList,
     command: &Command,
 ) -> Result<Items<Call>, NoMemory>
-    ensures { IfOk result (λ calls. calls ≡ before_of list.now command.now) }
+    ensures calls { IfOk result (λ calls. calls ≡ before_of list.now command.now) }
+    ensures some { IfOk result (λ calls. 0 < length calls) }
 {
     let att = att_of(command)?;
     calls_before(alloc, &list.first, &att, &command.netns)
 }
 
-/// The calls of an ADD after its last lease.
+/// The calls of an ADD after its last lease, and its result.
 pub(crate) fn back_of(
     alloc: Global,
     list: &NetList,
     command: &Command,
     given: &[Addr],
-) -> Result<Items<Call>, NoMemory>
-    ensures { IfOk result (λ calls. calls ≡ back_of list.now command.now given.now) }
+) -> Result<Back, NoMemory>
+    ensures calls { IfOk result (λ back. back.calls ≡ back_of list.now command.now given.now) }
+    ensures added { IfOk result (λ back.
+        back.added ≡ result_of_add list.now (att_of command.now) command.now.netns given.now) }
 {
     let att = att_of(command)?;
     let mappings = mappings_of(alloc, list, command)?;
@@ -68,7 +71,8 @@ fn call_at(calls: &[Call], place: usize) -> Result<Option<Call>, NoMemory>
 
 fn lease_next(list: &NetList, command: &Command, place: usize) -> Result<Option<Call>, NoMemory>
     requires { place < length (sets_of list.now) }
-    ensures { IfOk result (λ next. next ≡ option_map (call.LeaseNext (att_of command.now) place) (slice_get (sets_of list.now) place)) }
+    ensures { IfOk result (λ next.
+        next ≡ option_map (call.LeaseNext (att_of command.now) place) (slice_get (sets_of list.now) place)) }
 {
     let sets = sets_of(list);
     lease_at(sets, att_of(command)?, place as u32)
@@ -104,26 +108,26 @@ fn deletion_at(command: &Command, kinds: &[Kind], place: usize) -> Result<Option
 pub(crate) fn next_of(
     list: &NetList,
     command: &Command,
-    before: &[Call],
     kinds: &[Kind],
     given: &[Addr],
     phase: &Phase,
 ) -> Result<Option<Call>, NoMemory>
-    requires kept { (room : ℕ) × (made : ℕ) × KeepsPlan list.now command.now before.now kinds.now room made given.now phase.now }
+    requires kept { (room : ℕ) × (made : ℕ)
+        × KeepsPlan list.now command.now kinds.now room made given.now phase.now }
     requires prepared { is_prepared phase.now ≡ true }
     ensures { IfOk result (λ next. next ≡ next_call command.now (state_in list.now command.now given.now phase.now)) }
 {
     match phase {
         Phase::AtBegin => begin(command),
-        Phase::BeforeLeases(passed) => call_at(before, *passed),
+        Phase::BeforeLeases { calls, passed } => call_at(calls.as_slice(), *passed),
         Phase::Leasing => lease_next(list, command, given.len()),
-        Phase::AfterLeases { calls, passed } => call_at(calls.as_slice(), *passed),
+        Phase::AfterLeases { calls, passed, .. } => call_at(calls.as_slice(), *passed),
         Phase::ReadingCache(_) | Phase::FindingEntry => cache_get(command),
         Phase::Deleting(passed, _) => deletion_at(command, kinds, *passed),
         Phase::Asking { questions, passed } => call_asked(questions.as_slice(), *passed),
         Phase::Changing(change) => Ok(Some(change.copy()?)),
         Phase::Over(_) => Ok(None),
-        Phase::Leased | Phase::Found(_) => unreachable!(),
+        Phase::Begun | Phase::Leased | Phase::Found(_) => unreachable!(),
     }
 }
 

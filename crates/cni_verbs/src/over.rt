@@ -19,22 +19,24 @@ fn passed_all<T>(items: &[T], passed: usize) -> bool
     passed >= items.len()
 }
 
-/// Whether the run of a list is over. One whose calls after the leases or whose questions aren't made yet isn't: an ADD
-/// ends with its cached entry, and a CHECK asks for a link at least.
+/// Whether the run of a list is over. One whose calls before or after the leases or whose questions aren't made yet
+/// isn't: an ADD makes a link and ends with its cached entry, and a CHECK asks for a link at least.
 pub(crate) fn is_over(kinds: &[Kind], given: &[Addr], phase: &Phase) -> bool
-    ensures { (list : NetList) (c : Command) (before : List Call) (room made : ℕ) → KeepsPlan list c before kinds.now room made given.now phase.now
+    ensures { (list : NetList) (c : Command) (room made : ℕ)
+        → KeepsPlan list c kinds.now room made given.now phase.now
         → FalseIff result (IsOpen (state_in list c given.now phase.now)) }
 {
     match phase {
         Phase::AtBegin
-        | Phase::BeforeLeases(_)
+        | Phase::Begun
+        | Phase::BeforeLeases { .. }
         | Phase::Leasing
         | Phase::Leased
         | Phase::ReadingCache(_)
         | Phase::FindingEntry
         | Phase::Found(_)
         | Phase::Changing(_) => false,
-        Phase::AfterLeases { calls, passed } => passed_all(calls.as_slice(), *passed),
+        Phase::AfterLeases { calls, passed, .. } => passed_all(calls.as_slice(), *passed),
         Phase::Deleting(passed, _) => passed_all(kinds, *passed),
         Phase::Asking { questions, passed } => passed_all(questions.as_slice(), *passed),
         Phase::Over(_) => true,
@@ -45,7 +47,8 @@ pub(crate) fn is_over(kinds: &[Kind], given: &[Addr], phase: &Phase) -> bool
 pub(crate) fn is_changing(phase: &Phase) -> bool
     ensures { MatchBool result
         ((change : Call) × (phase.now ≡ Phase.Changing change))
-        (((number : ℕ) (reply : Reply) → outside_advance number (state_outside phase.now) reply ≡ state_outside phase.now)
+        (((number : ℕ) (reply : Reply)
+        → outside_advance number (state_outside phase.now) reply ≡ state_outside phase.now)
         × (IsOpen (state_outside phase.now) → ⊥)) }
 {
     match phase {

@@ -4,7 +4,7 @@ ghost use Rattle.std.specs.Prelude.{◌≡◌};
 
 use crate::answer::{Cause, Ending, Question};
 use cni_addr::Items;
-use cni_result::Cached;
+use cni_result::{AddResult, Cached};
 use kernel_types::Call;
 
 /// What a run does next. The numbers say how much of a list of its plan is behind it.
@@ -12,16 +12,22 @@ use kernel_types::Call;
 pub(crate) enum Phase {
     /// Nothing was called.
     AtBegin,
+    /// Begin was done, and the calls before the leases aren't made yet.
+    Begun,
     /// So many calls of the first plugin were made, and some are left before the leases.
-    BeforeLeases(usize),
+    BeforeLeases {
+        calls: Items<Call>,
+        passed: usize,
+    },
     /// Sets are left to lease from.
     Leasing,
     /// No set is left to lease from, and the calls after the leases aren't made yet.
     Leased,
-    /// So many of the calls after the leases are behind it.
+    /// So many of the calls after the leases are behind it, and this is the result at their end.
     AfterLeases {
         calls: Items<Call>,
         passed: usize,
+        added: AddResult,
     },
     /// The cached entry is read ahead of the deletions.
     ReadingCache(Ending),

@@ -19,15 +19,15 @@ use std::alloc::Global;
 // ---- the objects of an attachment
 
 /// An object that a check asks for by itself.
-trait Checked {
+trait Checked: Drop {
     ghost use Rattle.std.specs.Prelude.{◌≡◌, IfOk};
     ghost use Rattle.cni_verbs.specs.declared.answer.Question.{Question};
 
     ghost question: { Self → Question };
 
     /// Whether it is there as it is, and what is missed otherwise.
-    fn ask(&self) -> Result<Question, NoMemory>
-        ensures { IfOk result (λ q. q ≡ question self.now) };
+    fn ask(self) -> Result<Question, NoMemory>
+        ensures { IfOk result (λ q. q ≡ question self) };
 }
 
 fn asks_for(object: Object, missed: Missed) -> Question
@@ -46,12 +46,12 @@ impl Checked for Link {
 
     ghost question = { link_question };
 
-    fn ask(&self) -> Result<Question, NoMemory> {
+    fn ask(self) -> Result<Question, NoMemory> {
         let missed = Missed::Link {
             ns: self.ns.copy()?,
             name: self.name.copy()?,
         };
-        Ok(asks_for(Object::Link(self.copy()?), missed))
+        Ok(asks_for(Object::Link(self), missed))
     }
 }
 
@@ -60,13 +60,13 @@ impl Checked for AddrObj {
 
     ghost question = { address_question };
 
-    fn ask(&self) -> Result<Question, NoMemory> {
+    fn ask(self) -> Result<Question, NoMemory> {
         let missed = Missed::Address {
             ns: self.ns.copy()?,
             link: self.link.copy()?,
             cidr: self.cidr,
         };
-        Ok(asks_for(Object::Address(self.copy()?), missed))
+        Ok(asks_for(Object::Address(self), missed))
     }
 }
 
@@ -75,13 +75,13 @@ impl Checked for RouteObj {
 
     ghost question = { route_question };
 
-    fn ask(&self) -> Result<Question, NoMemory> {
+    fn ask(self) -> Result<Question, NoMemory> {
         let missed = Missed::Route {
             ns: self.ns.copy()?,
             link: self.link.copy()?,
             dst: self.dst,
         };
-        Ok(asks_for(Object::Route(self.copy()?), missed))
+        Ok(asks_for(Object::Route(self), missed))
     }
 }
 
@@ -90,12 +90,12 @@ impl Checked for Setting {
 
     ghost question = { setting_question };
 
-    fn ask(&self) -> Result<Question, NoMemory> {
+    fn ask(self) -> Result<Question, NoMemory> {
         let missed = Missed::Setting {
             ns: self.ns.copy()?,
             key: self.key.copy()?,
         };
-        Ok(asks_for(Object::Setting(self.copy()?), missed))
+        Ok(asks_for(Object::Setting(self), missed))
     }
 }
 
@@ -104,14 +104,14 @@ impl Checked for Lease {
 
     ghost question = { lease_question };
 
-    fn ask(&self) -> Result<Question, NoMemory> {
+    fn ask(self) -> Result<Question, NoMemory> {
         let missed = Missed::Lease(self.addr);
-        Ok(asks_for(Object::Lease(self.copy()?), missed))
+        Ok(asks_for(Object::Lease(self), missed))
     }
 }
 
-fn ask_each<T: Checked>(questions: &mut Vec<Question>, objects: &[T]) -> Result<(), NoMemory>
-    ensures { OnOk result (questions.new.items ≡ questions.old.items ++ map T.question objects.now) }
+fn ask_each<T: Checked>(questions: &mut Vec<Question>, objects: Vec<T>) -> Result<(), NoMemory>
+    ensures { OnOk result (questions.new.items ≡ questions.old.items ++ map T.question objects.items) }
 {
     for object in objects {
         let question = object.ask()?;
@@ -141,22 +141,25 @@ fn ask_rules(questions: &mut Vec<Question>, rules: &[Rule]) -> Result<(), NoMemo
     Ok(())
 }
 
-fn ask_share(questions: &mut Vec<Question>, share: &Objects) -> Result<(), NoMemory>
-    ensures { OnOk result (questions.new.items ≡ questions.old.items ++ asked.share_questions share.now) }
+fn ask_share(questions: &mut Vec<Question>, share: Objects) -> Result<(), NoMemory>
+    ensures { OnOk result (questions.new.items ≡ questions.old.items ++ asked.share_questions share) }
 {
-    ask_each(questions, share.links.as_slice())?;
-    ask_each(questions, share.addresses.as_slice())?;
-    ask_each(questions, share.routes.as_slice())?;
+    ask_each(questions, share.links)?;
+    ask_each(questions, share.addresses)?;
+    ask_each(questions, share.routes)?;
     ask_rules(questions, share.rules.as_slice())?;
-    ask_each(questions, share.settings.as_slice())?;
-    ask_each(questions, share.leases.as_slice())?;
+    ask_each(questions, share.settings)?;
+    ask_each(questions, share.leases)?;
     Ok(())
 }
 
 // ---- the bridge
 
 fn bridge_question(name: &Text, mac: Mac) -> Result<Question, NoMemory>
-    ensures { IfOk result (λ q. q ≡ record { call = calls.HasObj (Probe.BridgeAt name.now mac); lack = Cause.Missing (Missed.Bridge name.now) }) }
+    ensures { IfOk result (λ q. q ≡ record {
+      call = calls.HasObj (Probe.BridgeAt name.now mac);
+      lack = Cause.Missing (Missed.Bridge name.now);
+    }) }
 {
     let bridge = name.copy()?;
     let missed = name.copy()?;
@@ -202,7 +205,8 @@ fn ask_bridge(
     first: &First,
     interfaces: &[Interface],
 ) -> Result<(), NoMemory>
-    ensures { OnOk result (questions.new.items ≡ questions.old.items ++ asked.bridge_questions first.now interfaces.now) }
+    ensures { OnOk result
+        (questions.new.items ≡ questions.old.items ++ asked.bridge_questions first.now interfaces.now) }
 {
     match first {
         First::Bridge(_) => ask_first_interface(questions, interfaces),
@@ -238,10 +242,10 @@ fn cached_share(
     let mappings = cached.mappings.copy()?;
     let mut share = no_objects(alloc);
     let before = calls_before(alloc, &list.first, &att, &cached.netns)?;
-    share.take_calls(before.as_slice())?;
+    share.take_calls(before)?;
     share.take_leases(alloc, &att, addrs.as_slice())?;
     let back = back_calls(alloc, list, &att, &cached.netns, mappings, addrs.as_slice())?;
-    share.take_calls(back.as_slice())?;
+    share.take_calls(back.calls)?;
     Ok(share)
 }
 
@@ -262,7 +266,7 @@ pub(crate) fn check_questions(
         cached.result.interfaces.as_slice(),
     )?;
     let share = cached_share(alloc, list, command, cached)?;
-    ask_share(&mut questions, &share)?;
+    ask_share(&mut questions, share)?;
     Ok(Items::of_vec(questions))
 }
 
@@ -295,7 +299,10 @@ fn ask_pools(
 }
 
 fn master_question(name: &Text) -> Result<Question, NoMemory>
-    ensures { IfOk result (λ q. q ≡ record { call = calls.HasObj (Probe.Master name.now); lack = Cause.MasterAbsent name.now }) }
+    ensures { IfOk result (λ q. q ≡ record {
+      call = calls.HasObj (Probe.Master name.now);
+      lack = Cause.MasterAbsent name.now;
+    }) }
 {
     let master = name.copy()?;
     let absent = name.copy()?;

@@ -1,17 +1,17 @@
 //! One command's run, a call at a time.
 
-ghost use Rattle.std.specs.Prelude.{◌≡◌, ◌+◌, ◌<◌, ◌≤◌, ◌^◌, is_some, false, true, [], None, Some, IfOk, OnOk, length, vec_capacity};
+ghost use Rattle.std.specs.Prelude.{◌≡◌, ◌+◌, ◌<◌, ◌≤◌, ◌^◌, is_some, false, true, [], None, Some, IfOk, OnErr, OnOk, length, vec_capacity};
 ghost use Rattle.std.specs.Bool.{FalseIff};
 ghost use Rattle.std.specs.Option.{option_copied};
 ghost use Rattle.cni_verbs.specs.Progress.{is_gc, progress, advanced, answer_at};
 ghost use Rattle.cni_verbs.specs.Phases.{IsPhaseOf, state_outside};
-ghost use Rattle.cni_verbs.specs.Script.{IsOpen, before_of, start_state, outside_start, next_call};
+ghost use Rattle.cni_verbs.specs.Script.{IsOpen, start_state, outside_start, next_call};
 ghost use Rattle.cni_verbs.specs.Wanted.{sets_of, kinds_of};
 
 use crate::advance::{after, after_outside};
 use crate::answer::Answer;
 use crate::ending::{answer_in, answer_outside};
-use crate::next::{before_of, next_of, next_outside};
+use crate::next::{next_of, next_outside};
 use crate::over::{is_over, is_over_outside};
 use crate::phase::Phase;
 use crate::prepare::prepare_phase;
@@ -32,7 +32,6 @@ pub struct Run {
     command: Command,
     made: u64,
     phase: Phase,
-    before: Items<Call>,
     kinds: Items<Kind>,
     // With room for one address of each set, so that a reply takes no memory.
     given: Vec<Addr>,
@@ -46,11 +45,17 @@ impl Model for Run {
     ghost Value = { RunView };
 
     ghost view = { λ r. record {
-      progress = record { list = r.list; command = r.command; made = r.made; state = state_by_phase r.list r.command r.given.items r.phase };
+      progress = record {
+        list = r.list;
+        command = r.command;
+        made = r.made;
+        state = state_by_phase r.list r.command r.given.items r.phase;
+      };
       prepared = is_prepared_by r.list r.phase;
     } };
 
-    ghost invariant = { λ r. KeepsPlanBy r.list r.command r.before r.kinds (vec_capacity r.given) r.made r.given.items r.phase };
+    ghost invariant = { λ r.
+        KeepsPlanBy r.list r.command r.kinds (vec_capacity r.given) r.made r.given.items r.phase };
 }
 
 impl Run {
@@ -59,8 +64,8 @@ impl Run {
     ///
     /// It copies the list and the command, and keeps the copies until it is dropped. Texts are shared, so that takes
     /// time and memory in proportion to the ranges, routes and settings of the list, and to the mappings and valid
-    /// attachments of the command. Whatever the verb, it makes besides the calls before the first lease and the kinds
-    /// of a DEL, both in proportion to the list, and room for an address of each range set.
+    /// attachments of the command. Whatever the verb, it makes besides the kinds of a DEL and room for an address of
+    /// each range set, both in proportion to the list.
     pub fn start(alloc: Global, list: Option<&NetList>, command: &Command) -> Result<Run, NoMemory>
         requires { is_gc command.now.verb ≡ false }
         ensures { IfOk result (λ run. run.progress ≡ progress (option_copied list.entry) command.now []) }
@@ -75,25 +80,22 @@ impl Run {
         requires { is_gc command.now.verb ≡ false }
         ensures { IfOk result (λ run. run.progress ≡ progress (Some list.now) command.now []) }
     {
-        let before = before_of(alloc, list, command)?;
         let kinds = kinds_of(alloc, list)?;
         let given = Vec::with_capacity(alloc, sets_of(list).len())?;
         let list_copy = list.copy()?;
         let command_copy = command.copy()?;
         let phase = first_phase(alloc, list, command)?;
-        Ok(Run::begun(list_copy, command_copy, phase, before, kinds, given))
+        Ok(Run::begun(list_copy, command_copy, phase, kinds, given))
     }
 
     fn begun(
         list: NetList,
         command: Command,
         phase: Phase,
-        before: Items<Call>,
         kinds: Items<Kind>,
         given: Vec<Addr>,
     ) -> Run
         requires phase { IsPhaseOf list command 0 [] phase (start_state list command) }
-        requires before { before ≡ before_of list command }
         requires kinds { kinds ≡ kinds_of list }
         requires room { length (sets_of list) ≤ vec_capacity given }
         requires empty { given.items ≡ [] }
@@ -104,7 +106,6 @@ impl Run {
             command,
             made: 0,
             phase,
-            before,
             kinds,
             given,
         };
@@ -128,7 +129,6 @@ impl Run {
             command,
             made: 0,
             phase,
-            before: Items::new(alloc),
             kinds: Items::new(alloc),
             given: Vec::new(alloc),
         };
@@ -136,10 +136,12 @@ impl Run {
     }
 
     /// Makes what the next call is looked up in, where it isn't made yet: [`Run::next`] and [`Run::take`] ask for it
-    /// after each reply. How far the run has come stays the same, whether memory lacks or not.
+    /// after each reply. How far the run has come stays the same, and where memory lacks the run is as it was: it may
+    /// be prepared again. Linear in the list, the mappings and the leased addresses, once a run.
     pub fn prepare(&mut self) -> Result<(), NoMemory>
         ensures same { self.new.progress ≡ self.old.progress }
         ensures ready { OnOk result (self.new.prepared ≡ true) }
+        ensures left { OnErr result (self.new.prepared ≡ self.old.prepared) }
     {
         let alloc = *self.given.allocator();
         if let Some(list) = &self.list {
@@ -149,7 +151,7 @@ impl Run {
         Ok(())
     }
 
-    /// The call to make next, or none where the run is over.
+    /// The call to make next, or none where the run is over. A copy, linear in that call alone.
     pub fn next(&self) -> Result<Option<Call>, NoMemory>
         requires prepared { self.now.prepared ≡ true }
         ensures { IfOk result (λ call. call ≡ next_call self.now.progress.command self.now.progress.state) }
@@ -158,7 +160,6 @@ impl Run {
             Some(list) => next_of(
                 list,
                 &self.command,
-                self.before.as_slice(),
                 self.kinds.as_slice(),
                 self.given.as_slice(),
                 &self.phase,
@@ -192,9 +193,8 @@ impl Run {
             Some(list) => sets_of(list).len(),
             None => unreachable!(),
         };
-        let calls = self.before.as_slice().len();
         let phase = replace(&mut self.phase, Phase::Leasing);
-        let next = after(phase, calls, &mut self.given, sets, self.made, reply);
+        let next = after(phase, &mut self.given, sets, self.made, reply);
         drop(replace(&mut self.phase, next));
         self.made += 1;
     }
@@ -229,7 +229,7 @@ impl Run {
         }
     }
 
-    /// What the command is answered, where the run is over.
+    /// What the command is answered, where the run is over. Linear in the answer: the result of an ADD is kept.
     pub fn answer(&self) -> Result<Option<Answer>, NoMemory>
         ensures { IfOk result (λ answer. answer ≡ answer_at self.now.progress) }
     {

@@ -4,7 +4,7 @@ ghost use Rattle.std.specs.Prelude.{◌≡◌, ◌++◌, ◌∷◌, [], map, OnO
 ghost use Rattle.plan_words.specs.Share.{no_objects, share_after_call, share_after_calls};
 ghost use Rattle.kernel_types.specs.Words.{lease_of};
 
-use cni_addr::{Addr, Duplicate, NoMemory};
+use cni_addr::{Addr, Items, NoMemory};
 use cni_result::Cached;
 use kernel_types::{
     AddrObj, Att, CachedObj, Call, Lease, Link, LinkValues, RouteObj, Rule, Setting, Tag, set_links,
@@ -29,7 +29,15 @@ impl Model for Objects {
 
     ghost Value = { Share };
 
-    ghost view = { λ o. record { links = o.links.items; addresses = o.addresses.items; routes = o.routes.items; rules = o.rules.items; settings = o.settings.items; leases = o.leases.items; cached = o.cached.items } };
+    ghost view = { λ o. record {
+      links = o.links.items;
+      addresses = o.addresses.items;
+      routes = o.routes.items;
+      rules = o.rules.items;
+      settings = o.settings.items;
+      leases = o.leases.items;
+      cached = o.cached.items;
+    } };
 }
 
 /// None of any kind. Takes no memory.
@@ -49,35 +57,32 @@ pub(crate) fn no_objects(alloc: Global) -> Objects
 
 // ---- calls
 
-/// Puts an equal item at the end.
-fn push<T: Duplicate + Drop>(list: &mut Vec<T>, item: &T) -> Result<(), NoMemory>
-    ensures { OnOk result (list.new.items ≡ list.old.items ++ item.now ∷ []) }
+fn push<T: Drop>(list: &mut Vec<T>, item: T) -> Result<(), NoMemory>
+    ensures { OnOk result (list.new.items ≡ list.old.items ++ item ∷ []) }
 {
-    let twin = item.copy()?;
-    list.push(twin)?;
+    list.push(item)?;
     Ok(())
 }
 
-fn push_both(links: &mut Vec<Link>, first: &Link, second: &Link) -> Result<(), NoMemory>
-    ensures { OnOk result (links.new.items ≡ links.old.items ++ first.now ∷ second.now ∷ []) }
+fn push_both(links: &mut Vec<Link>, first: Link, second: Link) -> Result<(), NoMemory>
+    ensures { OnOk result (links.new.items ≡ links.old.items ++ first ∷ second ∷ []) }
 {
     push(links, first)?;
     push(links, second)
 }
 
-fn push_cached(list: &mut Vec<CachedObj>, att: &Att, cached: &Cached) -> Result<(), NoMemory>
-    ensures { OnOk result (list.new.items ≡ list.old.items ++ record { cached = cached.now; tag = Tag.Own att.now } ∷ []) }
+fn push_cached(list: &mut Vec<CachedObj>, att: Att, cached: Cached) -> Result<(), NoMemory>
+    ensures { OnOk result
+        (list.new.items ≡ list.old.items ++ record { cached = cached; tag = Tag.Own att } ∷ []) }
 {
-    let cached = cached.copy()?;
-    let tag = Tag::Own(att.copy()?);
-    list.push(CachedObj { cached, tag })?;
-    Ok(())
+    let tag = Tag::Own(att);
+    push(list, CachedObj { cached, tag })
 }
 
 impl Objects {
     /// Takes what the call makes of its attachment's objects. What a lease gives is in its reply, and not taken here.
-    fn take_call(&mut self, call: &Call) -> Result<(), NoMemory>
-        ensures { OnOk result (self.new ≡ share_after_call self.old call.now) }
+    fn take_call(&mut self, call: Call) -> Result<(), NoMemory>
+        ensures { OnOk result (self.new ≡ share_after_call self.old call) }
     {
         match call {
             Call::VethAdd {
@@ -95,13 +100,13 @@ impl Objects {
                 allmulti,
             } => {
                 let values = LinkValues {
-                    mac: *mac,
-                    mtu: *mtu,
-                    tx_qlen: *tx_qlen,
-                    promisc: *promisc,
-                    allmulti: *allmulti,
+                    mac,
+                    mtu,
+                    tx_qlen,
+                    promisc,
+                    allmulti,
                 };
-                set_links(&mut self.links, att, key, values);
+                set_links(&mut self.links, &att, &key, values);
                 Ok(())
             }
             Call::AddrAdd { obj } => push(&mut self.addresses, obj),
@@ -109,15 +114,18 @@ impl Objects {
             Call::RuleAppend { rule } => push(&mut self.rules, rule),
             Call::SettingSet { setting } => push(&mut self.settings, setting),
             Call::CachePut { att, cached } => push_cached(&mut self.cached, att, cached),
-            _ => Ok(()),
+            other => {
+                drop(other);
+                Ok(())
+            }
         }
     }
 
-    /// Takes what the calls make, one after another.
-    pub(crate) fn take_calls(&mut self, calls: &[Call]) -> Result<(), NoMemory>
-        ensures { OnOk result (self.new ≡ share_after_calls self.old calls.now) }
+    /// Takes what the calls make, one after another. Linear in the calls, where few of them set a link.
+    pub(crate) fn take_calls(&mut self, calls: Items<Call>) -> Result<(), NoMemory>
+        ensures { OnOk result (self.new ≡ share_after_calls self.old calls) }
     {
-        for call in calls {
+        for call in calls.into_vec() {
             self.take_call(call)?;
         }
         Ok(())

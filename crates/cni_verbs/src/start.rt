@@ -26,7 +26,8 @@ use std::alloc::Global;
 // ---- verbs of a network
 
 fn first_of_add(alloc: Global, command: &Command) -> Result<Phase, NoMemory>
-    ensures { IfOk result (λ phase. (list : NetList) → IsPhaseOf list command.now 0 [] phase (unless_refused (add_refusal command.now) AtBegin)) }
+    ensures { IfOk result (λ phase. (list : NetList)
+        → IsPhaseOf list command.now 0 [] phase (unless_refused (add_refusal command.now) AtBegin)) }
 {
     match add_refusal(alloc, command)? {
         Some(cause) => Ok(Phase::refused(cause)),
@@ -35,7 +36,9 @@ fn first_of_add(alloc: Global, command: &Command) -> Result<Phase, NoMemory>
 }
 
 fn first_of_del(command: &Command) -> Phase
-    ensures { (list : NetList) → IsPhaseOf list command.now 0 [] result (unless_refused (del_refusal command.now) (ReadingCache ending.Yes)) }
+    ensures { (list : NetList)
+        → IsPhaseOf list command.now 0 [] result
+        (unless_refused (del_refusal command.now) (ReadingCache ending.Yes)) }
 {
     match del_refusal(command) {
         Some(cause) => Phase::refused(cause),
@@ -113,7 +116,8 @@ pub(crate) fn first_phase(
 // ---- changes from outside
 
 fn change_of_namespace(command: &Command, add: bool) -> Result<Phase, NoMemory>
-    ensures { IfOk result (λ phase. state_outside phase ≡ unless_refused (netns_refusal command.now) (Changing (call.NsChange command.now.netns add))) }
+    ensures { IfOk result (λ phase. state_outside phase
+        ≡ unless_refused (netns_refusal command.now) (Changing (call.NsChange command.now.netns add))) }
 {
     match netns_refusal(command) {
         Some(cause) => Ok(Phase::refused(cause)),
@@ -125,7 +129,10 @@ fn change_of_namespace(command: &Command, add: bool) -> Result<Phase, NoMemory>
 }
 
 fn loss_of_link(command: &Command) -> Result<Phase, NoMemory>
-    ensures { IfOk result (λ phase. state_outside phase ≡ unless_refused (drop_refusal command.now) (Changing (call.Outside (change.DropLink (record { ns = command.now.netns; name = command.now.ifname }))))) }
+    ensures { IfOk result (λ phase. state_outside phase
+        ≡ unless_refused (drop_refusal command.now)
+        (Changing (call.Outside
+        (change.DropLink (record { ns = command.now.netns; name = command.now.ifname }))))) }
 {
     match drop_refusal(command) {
         Some(cause) => Ok(Phase::refused(cause)),

@@ -1,7 +1,7 @@
 //! The calls of an ADD, its result, and the kinds of objects that a DEL takes back, each as the plugins of a list make
 //! it one after another.
 
-ghost use Rattle.std.specs.Prelude.{◌≡◌, ◌++◌, ◌≤◌, [], length, IfOk, OnOk};
+ghost use Rattle.std.specs.Prelude.{◌≡◌, ◌++◌, ◌<◌, ◌≤◌, [], length, IfOk, OnOk};
 ghost use Rattle.host_local.specs.Conf.{ipam_of};
 ghost use Rattle.host_local.specs.Results.{ipam_result_of};
 ghost use Rattle.kernel_types.specs.declared.call.Call.TheVariants as call;
@@ -32,14 +32,15 @@ fn push_all<T: Drop>(list: &mut Vec<T>, more: Items<T>) -> Result<(), NoMemory>
 
 // ---- the first plugin
 
-/// The calls of the first plugin before an address is leased.
+/// The calls of the first plugin before an address is leased: at least the one that makes its link.
 pub fn calls_before(
     alloc: Global,
     first: &First,
     att: &Att,
     netns: &Text,
 ) -> Result<Items<Call>, NoMemory>
-    ensures { IfOk result (λ calls. calls ≡ wanted.calls_before first.now att.now netns.now) }
+    ensures calls { IfOk result (λ calls. calls ≡ wanted.calls_before first.now att.now netns.now) }
+    ensures some { IfOk result (λ calls. 0 < length calls) }
 {
     match first {
         First::Bridge(conf) => bridge_before(alloc, conf, att, netns),
@@ -127,7 +128,8 @@ fn chained_calls(
     mappings: &[PortMapping],
     prev: &AddResult,
 ) -> Result<Items<Call>, NoMemory>
-    ensures { IfOk result (λ calls. calls ≡ wanted.chained_calls chained.now att.now netns.now mappings.now prev.now.ips) }
+    ensures { IfOk result (λ calls.
+        calls ≡ wanted.chained_calls chained.now att.now netns.now mappings.now prev.now.ips) }
 {
     match chained {
         Chained::Portmap(conf) => portmap::calls(alloc, conf, att, mappings, prev),
@@ -180,7 +182,8 @@ fn push_chained(
     mappings: &[PortMapping],
     first: AddResult,
 ) -> Result<AddResult, NoMemory>
-    ensures calls { OnOk result (calls.new.items ≡ calls.old.items ++ wanted.all_chained_calls chained.now att.now netns.now mappings.now first) }
+    ensures calls { OnOk result (calls.new.items
+        ≡ calls.old.items ++ wanted.all_chained_calls chained.now att.now netns.now mappings.now first) }
     ensures last { IfOk result (λ last. last ≡ wanted.all_chained_results chained.now first) }
 {
     let mut last = first;
@@ -220,7 +223,8 @@ fn cache_put(
     mappings: Items<PortMapping>,
     last: AddResult,
 ) -> Result<Call, NoMemory>
-    ensures { IfOk result (λ put. put ≡ call.CachePut att.now (record { netns = netns.now; mappings = mappings; result = last })) }
+    ensures { IfOk result (λ put.
+        put ≡ call.CachePut att.now (record { netns = netns.now; mappings = mappings; result = last })) }
 {
     Ok(Call::CachePut {
         att: att.copy()?,
@@ -232,8 +236,17 @@ fn cache_put(
     })
 }
 
-/// The calls of an ADD after its last lease, where it was leased these addresses: those of the first plugin, those of
-/// each chained one, and the cached entry.
+/// What an ADD makes after its last lease.
+#[derive(Drop)]
+pub struct Back {
+    /// The calls of the first plugin, those of each chained one, and the cached entry.
+    pub calls: Items<Call>,
+    /// The result of the last plugin.
+    pub added: AddResult,
+}
+
+/// The calls of an ADD after its last lease, where it was leased these addresses, and its result. Linear in the
+/// addresses, the routes, settings and plugins of the list, and the mappings.
 #[tactic(auto, unfolding(crate::specs::Wanted::result_of_add))]
 pub fn back_calls(
     alloc: Global,
@@ -242,14 +255,16 @@ pub fn back_calls(
     netns: &Text,
     mappings: Items<PortMapping>,
     addrs: &[Addr],
-) -> Result<Items<Call>, NoMemory>
-    ensures { IfOk result (λ calls. calls ≡ wanted.back_calls list.now att.now netns.now mappings addrs.now) }
+) -> Result<Back, NoMemory>
+    ensures calls { IfOk result (λ back.
+        back.calls ≡ wanted.back_calls list.now att.now netns.now mappings addrs.now) }
+    ensures added { IfOk result (λ back. back.added ≡ wanted.result_of_add list.now att.now netns.now addrs.now) }
 {
     let given = given_of(alloc, sets_of(list), addrs)?;
     let first = first_plugin_result(alloc, list, att, netns, given.as_slice())?;
     let after = calls_after(alloc, &list.first, att, netns, given.as_slice())?;
     let mut calls = after.into_vec();
-    let last = push_chained(
+    let added = push_chained(
         alloc,
         &mut calls,
         list.chained.as_slice(),
@@ -258,8 +273,12 @@ pub fn back_calls(
         mappings.as_slice(),
         first,
     )?;
-    calls.push(cache_put(att, netns, mappings, last)?)?;
-    Ok(Items::of_vec(calls))
+    let cached = added.copy()?;
+    calls.push(cache_put(att, netns, mappings, cached)?)?;
+    Ok(Back {
+        calls: Items::of_vec(calls),
+        added,
+    })
 }
 
 // ---- deletions
@@ -278,7 +297,7 @@ fn chained_kinds_reversed(alloc: Global, chained: &[Chained]) -> Result<Vec<Kind
 }
 
 /// The kinds of objects that are taken back, the last plugin's first, and the cached entry at the end. A kind may come
-/// twice.
+/// twice. Linear in the plugins.
 pub fn kinds_of(alloc: Global, list: &NetList) -> Result<Items<Kind>, NoMemory>
     ensures { IfOk result (λ kinds. kinds ≡ wanted.kinds_of list.now) }
 {

@@ -62,7 +62,8 @@ fn is_argument(piece: &str) -> bool
 }
 
 fn all_arguments(text: &str) -> bool
-    ensures { result ≡ list_all (λ piece. is_some (words.argument_of piece)) (slice_split (λ b. b == words.semicolon) text.now) }
+    ensures { result
+        ≡ list_all (λ piece. is_some (words.argument_of piece)) (slice_split (λ b. b == words.semicolon) text.now) }
 {
     text.split(';').all(|piece| is_argument(piece))
 }
@@ -77,7 +78,9 @@ pub fn are_arguments(text: &str) -> bool
 }
 
 fn value_if<'a>(key: &str, piece: &'a str) -> Option<&'a str>
-    ensures { option_copied result ≡ option_map (λ pair. pair.1) (find (λ pair. bytes_eq pair.0 key.now) (option_to_list (words.argument_of piece.now))) }
+    ensures { option_copied result
+        ≡ option_map (λ pair. pair.1)
+        (find (λ pair. bytes_eq pair.0 key.now) (option_to_list (words.argument_of piece.now))) }
 {
     match argument_of(piece) {
         Some((own, value)) => { if own == key { Some(value) } else { None } }

@@ -1,23 +1,24 @@
-use Rattle.std.proofs.Common.{Some}
+use Rattle.std.proofs.Common.{◌∙◌, Some, ap}
 use Rattle.cni_verbs.specs.Answers.{answer_of}
 use Rattle.cni_verbs.specs.Progress as progress
-use Rattle.cni_verbs.proofs.Ends.{early-open, after-finish, deleting-finish, asking-finish, over-finish}
+use Rattle.cni_verbs.specs.declared.answer.Answer.TheVariants as answers
+use Rattle.cni_verbs.proofs.Ends.{added-answer, early-open, after-finish, deleting-finish, asking-finish, over-finish}
 use Rattle.cni_verbs.proofs.NextCalls.{ok_some_by}
 use Rattle.cni_verbs.proofs.ending.answer_at_end.Goals as goal
 
-pub returns-in-AfterLeases : goal.returns-in-AfterLeases
+pub returns-in_ok-copy-in-AfterLeases : goal.returns-in_ok-copy-in-AfterLeases
 unfolding answer_of
-returns-in-AfterLeases c =
-    ok_some_by c.ended.result
-    (after-finish c.args.list.now c.args.command.now _ _ c.args.given.now c.args.phase.now (progress.answer_by (Some c.args.list.now) c.args.command.now) c.in-AfterLeases.is c.requires.over)
-    c.ended.ensures
+returns-in_ok-copy-in-AfterLeases c =
+    ap (λ added. Some (answers.Added added))
+    (c.in_ok-copy-in-AfterLeases.ensures ∙ added-answer c.args.list.now c.args.command.now _ _ _ c.args.given.now c.args.phase.now c.in-AfterLeases.is c.requires.kept.3.keeps)
+    ∙ (after-finish c.args.list.now c.args.command.now _ _ _ c.args.given.now c.args.phase.now (progress.answer_by (Some c.args.list.now) c.args.command.now) c.in-AfterLeases.is c.requires.over)
 
 pub returns-in-Deleting : goal.returns-in-Deleting
 unfolding answer_of
 returns-in-Deleting c =
-    ok_some_by c.ended-in-Deleting.result
+    ok_some_by c.ended.result
     (deleting-finish c.args.list.now c.args.command.now _ _ c.args.given.now c.args.phase.now (progress.answer_by (Some c.args.list.now) c.args.command.now) c.in-Deleting.is c.requires.over)
-    c.ended-in-Deleting.ensures
+    c.ended.ensures
 
 pub returns-in-Asking : goal.returns-in-Asking
 unfolding answer_of
@@ -36,4 +37,4 @@ returns-in-Over c =
 pub unreachable-requires : goal.unreachable-requires
 unreachable-requires c =
     c.requires.over
-    (early-open c.args.list.now c.args.command.now c.requires.kept.0 c.requires.kept.1 c.requires.kept.2 c.requires.kept.3 c.args.given.now c.args.phase.now c.requires.kept.4 c.in-AtBegin.is)
+    (early-open c.args.list.now c.args.command.now c.requires.kept.0 c.requires.kept.1 c.requires.kept.2 c.args.given.now c.args.phase.now c.requires.kept.3 c.in-AtBegin.is)

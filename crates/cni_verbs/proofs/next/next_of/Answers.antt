@@ -11,19 +11,20 @@ returns-in-AtBegin c =
 pub returns-in-BeforeLeases : goal.returns-in-BeforeLeases
 returns-in-BeforeLeases c =
     ok_by c.call_at.result
-    (next_before c.args.list.now c.args.command.now c.args.before.now c.args.kinds.now c.requires.kept.0 c.requires.kept.1 _ c.args.given.now c.args.phase.now c.requires.kept.2 c.in-BeforeLeases.is)
+    (ap (λ calls. slice_get calls c.in-BeforeLeases.passed) c.as_slice.ensures
+    ∙ next_before c.args.list.now c.args.command.now c.args.kinds.now c.requires.kept.0 c.requires.kept.1 _ _ c.args.given.now c.args.phase.now c.requires.kept.2 c.in-BeforeLeases.is)
     c.call_at.ensures
 
 pub returns-in-Leasing : goal.returns-in-Leasing
 returns-in-Leasing c =
     ok_by c.lease_next.result
-    (next_lease c.args.list.now c.args.command.now c.args.before.now c.args.kinds.now c.requires.kept.0 c.requires.kept.1 c.args.given.now c.args.phase.now c.requires.kept.2 c.in-Leasing.is)
+    (next_lease c.args.list.now c.args.command.now c.args.kinds.now c.requires.kept.0 c.requires.kept.1 c.args.given.now c.args.phase.now c.requires.kept.2 c.in-Leasing.is)
     c.lease_next.ensures
 
 pub returns-in-AfterLeases : goal.returns-in-AfterLeases
 returns-in-AfterLeases c =
     ok_by c.call_at-in-AfterLeases.result
-    (ap (λ calls. slice_get calls c.in-AfterLeases.passed) c.as_slice.ensures ∙ next_after c.args.list.now c.args.command.now _ _ c.args.given.now c.args.phase.now c.in-AfterLeases.is)
+    (ap (λ calls. slice_get calls c.in-AfterLeases.passed) c.as_slice-in-AfterLeases.ensures ∙ next_after c.args.list.now c.args.command.now _ _ _ c.args.given.now c.args.phase.now c.in-AfterLeases.is)
     c.call_at-in-AfterLeases.ensures
 
 pub returns-in-ReadingCache : goal.returns-in-ReadingCache
@@ -33,7 +34,7 @@ returns-in-ReadingCache c =
 pub returns-in-Deleting : goal.returns-in-Deleting
 returns-in-Deleting c =
     ok_by c.deletion_at.result
-    (next_deletion c.args.list.now c.args.command.now c.args.before.now c.args.kinds.now c.requires.kept.0 c.requires.kept.1 _ _ c.args.given.now c.args.phase.now c.requires.kept.2 c.in-Deleting.is)
+    (next_deletion c.args.list.now c.args.command.now c.args.kinds.now c.requires.kept.0 c.requires.kept.1 _ _ c.args.given.now c.args.phase.now c.requires.kept.2 c.in-Deleting.is)
     c.deletion_at.ensures
 
 pub returns-in-Asking : goal.returns-in-Asking
@@ -51,4 +52,4 @@ pub returns-in-Over : goal.returns-in-Over
 returns-in-Over c = next_over c.args.list.now c.args.command.now c.args.given.now c.args.phase.now _ c.in-Over.is
 
 pub unreachable-requires : goal.unreachable-requires
-unreachable-requires c = is-prepared c.args.phase.now c.requires.prepared c.in-Leased.is
+unreachable-requires c = is-prepared c.args.phase.now c.requires.prepared c.in-Begun.is

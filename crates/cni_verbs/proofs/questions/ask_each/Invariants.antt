@@ -1,6 +1,6 @@
-use Rattle.std.proofs.Common.{◌≡◌, ◌++◌, map, take}
+use Rattle.std.proofs.Common.{◌≡◌, ◌++◌, map}
 use Rattle.cni_verbs.proofs.questions.ask_each.Given as goal
 
 -- the questions of the objects so far
 abbrev pub invariant-loop-object : goal.invariant-loop-object
-invariant-loop-object g l = l.questions.items ≡ l.initial.questions.items ++ map g.T.Checked.question (take l.object-index l.objects)
+invariant-loop-object g l = l.questions.items ≡ l.initial.questions.items ++ map g.T.Checked.question l.yielded

@@ -6,8 +6,8 @@ use Rattle.cni_verbs.proofs.run.Run.begun.Goals as goal
 
 pub invariant_of-run : goal.invariant_of-run
 invariant_of-run c =
-    kept_at_start c.args.list c.args.command c.args.before c.args.kinds _ c.args.given.items c.args.phase
-    c.requires.phase c.requires.before c.requires.kinds c.requires.room c.requires.empty
+    kept_at_start c.args.list c.args.command c.args.kinds _ c.args.given.items c.args.phase
+    c.requires.phase c.requires.kinds c.requires.room c.requires.empty
 
 pub returns : goal.returns
 returns c =

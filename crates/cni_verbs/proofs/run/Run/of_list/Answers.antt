@@ -1,6 +1,5 @@
 use Rattle.std.proofs.Common.{◌∙◌, [], Some, sym, ap}
 use Rattle.cni_verbs.specs.Progress.{progress}
-use Rattle.cni_verbs.specs.Script.{before_of}
 use Rattle.cni_verbs.specs.Wanted.{kinds_of}
 use Rattle.cni_verbs.proofs.NextCalls.{starts_for}
 use Rattle.cni_verbs.proofs.run.Run.of_list.Goals as goal
@@ -9,12 +8,6 @@ pub begun-requires-clause-phase : goal.begun-requires-clause-phase
 begun-requires-clause-phase c =
     starts_for c.args.list.now c.in_ok-list_copy.list_copy c.args.command.now c.in_ok-command_copy.command_copy c.in_ok-phase.phase
     c.in_ok-list_copy.ensures c.in_ok-command_copy.ensures c.in_ok-phase.ensures
-
-pub begun-requires-clause-before : goal.begun-requires-clause-before
-begun-requires-clause-before c =
-    c.in_ok-before.ensures
-    ∙ ap (λ l. before_of l c.args.command.now) (sym c.in_ok-list_copy.ensures)
-    ∙ ap (λ command. before_of c.in_ok-list_copy.list_copy command) (sym c.in_ok-command_copy.ensures)
 
 pub begun-requires-clause-kinds : goal.begun-requires-clause-kinds
 begun-requires-clause-kinds c = c.in_ok-kinds.ensures ∙ ap kinds_of (sym c.in_ok-list_copy.ensures)
