@@ -1,6 +1,7 @@
 pub mod Calls
 pub mod Covered
 pub mod Deletions
+pub mod Indexed
 pub mod Kept
 pub mod Leaves
 pub mod Lists

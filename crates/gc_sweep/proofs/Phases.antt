@@ -21,7 +21,6 @@ use Rattle.cni_verbs.specs.Wanted.{kinds_of}
 use Rattle.cni_verbs.specs.declared.answer.Cause.TheVariants as causes
 use Rattle.cni_verbs.specs.declared.answer.Ending.{Ending}
 use Rattle.cni_verbs.specs.declared.answer.Ending.TheVariants as endings
-use Rattle.pod_file.specs.declared.command.ValidAtt.{ValidAtt}
 use Rattle.gc_sweep.specs.Sweep.{is_early}
 use Rattle.gc_sweep.specs.View.{HasTaken, IsInRange, IsPlace, ending_in, progress_of, work_of, jobs_left, sweeps_after}
 use Rattle.gc_sweep.specs.declared.place.SweepPlace.{SweepPlace}
@@ -99,11 +98,11 @@ advances list c made w v faults more r opened work note =
     ap s now
 
 -- the progress after a reply, by what its steps ensure
-pub taken : (list : NetList) (c : Command) (made : ℕ) (ks ls : List Kind) (valid : List ValidAtt) (p q : SweepPlace) (faults more : List ℕ) (r : Reply)
-    → IsOpen (collecting list.version list.disable_gc (work_of (kinds_of list) p) faults) → ks ≡ kinds_of list → ls ≡ ks → valid ≡ c.valid → HasTaken ls valid r p q → more ≡ faults_after (made + 1) faults (is_fault r)
+pub taken : (list : NetList) (c : Command) (made : ℕ) (ks ls : List Kind) (p q : SweepPlace) (faults more : List ℕ) (r : Reply)
+    → IsOpen (collecting list.version list.disable_gc (work_of (kinds_of list) p) faults) → ks ≡ kinds_of list → ls ≡ ks → HasTaken ls c.valid r p q → more ≡ faults_after (made + 1) faults (is_fault r)
     → progress_of list c (made + 1) q more ≡ advanced (progress_of list c made p faults) r
-taken list c made ks ls valid p q faults more r opened ks_is ls_is valid_is work note =
-    let goes : HasTaken (kinds_of list) c.valid r p q = subst (λ v. HasTaken (kinds_of list) v r p q) valid_is (subst (λ k. HasTaken k valid r p q) (ls_is ∙ ks_is) work) in
+taken list c made ks ls p q faults more r opened ks_is ls_is work note =
+    let goes : HasTaken (kinds_of list) c.valid r p q = subst (λ k. HasTaken k c.valid r p q) (ls_is ∙ ks_is) work in
     advances list c made (work_of (kinds_of list) p) (work_of (kinds_of list) q) faults more r opened (goes c.network) note
 
 -- ---- the answer

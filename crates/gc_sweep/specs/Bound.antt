@@ -18,7 +18,8 @@ use Rattle.cni_verbs.specs.Progress.{is_gc}
 
 -- the attachments of the network outside the valid list that these tags name, each once
 abbrev pub stale_owners : List ℕ → List ValidAtt → List Tag → List Att
-stale_owners network valid tags = filter (λ a. not (is_valid valid a)) (each_key_once att_eq (filter_map (owner_in network) tags))
+stale_owners network valid tags =
+    filter (λ a. not (is_valid valid a)) (each_key_once att_eq (filter_map (owner_in network) tags))
 
 abbrev pub all_tags : Host → List Tag
 all_tags host =
@@ -36,7 +37,10 @@ objects_by test host = length (filter test (all_tags host))
 
 -- six; for each stale attachment six more than the kinds of a DEL; and one for each object that is not kept
 abbrev pub most_of_collection : NetList → Command → Host → ℕ
-most_of_collection list c host = 6 + length (stale_owners c.network c.valid (all_tags host)) * (length (kinds_of list) + 6) + objects_by (goes c.network c.valid) host
+most_of_collection list c host =
+    6 + length (stale_owners c.network c.valid (all_tags host)) * (length (kinds_of list) + 6)
+    + objects_by (goes c.network c.valid) host
 
 abbrev pub GcBound : Type 0
-GcBound = (list : NetList) (c : Command) (host : Host) (es : List Made) → is_gc c.verb ≡ true → IsSound host → IsRun list c host es → length es ≤ most_of_collection list c host
+GcBound = (list : NetList) (c : Command) (host : Host) (es : List Made) → is_gc c.verb ≡ true → IsSound host
+    → IsRun list c host es → length es ≤ most_of_collection list c host

@@ -29,8 +29,8 @@ IsCollected list = is_early list.version list.disable_gc ≡ false
 
 -- a collection that is answered Yes leaves exactly what is kept
 abbrev pub YesKeeps : Type 0
-YesKeeps = (list : NetList) (c : Command) (host : Host) (es : List Made) → is_gc c.verb ≡ true → IsSound host → IsRun list c host es → Ends list c es Yes
-    → host_from host es ≡ keep c.network c.valid host
+YesKeeps = (list : NetList) (c : Command) (host : Host) (es : List Made) → is_gc c.verb ≡ true → IsSound host
+    → IsRun list c host es → Ends list c es Yes → host_from host es ≡ keep c.network c.valid host
 
 -- it loses nothing that is kept, and adds nothing
 pub record Bounds (c : Command) (old new : Host) : Type 0 where
@@ -39,7 +39,8 @@ pub record Bounds (c : Command) (old new : Host) : Type 0 where
 
 -- so does one that was stopped anywhere
 abbrev pub AlwaysBounded : Type 0
-AlwaysBounded = (list : NetList) (c : Command) (host : Host) (es : List Made) → is_gc c.verb ≡ true → IsSound host → IsRun list c host es → Bounds c host (host_from host es)
+AlwaysBounded = (list : NetList) (c : Command) (host : Host) (es : List Made) → is_gc c.verb ≡ true → IsSound host
+    → IsRun list c host es → Bounds c host (host_from host es)
 
 -- an object is kept, or a call about its kind and tag was faulty
 abbrev pub is_excused : List ℕ → List ValidAtt → List Made → Kind → Tag → Bool
@@ -53,14 +54,16 @@ pub record AreExcused (network : List ℕ) (valid : List ValidAtt) (es : List Ma
 
 -- what one that came to its end leaves over is excused
 abbrev pub OverExcused : Type 0
-OverExcused = (list : NetList) (c : Command) (host : Host) (es : List Made) (ending : Ending) → is_gc c.verb ≡ true → IsCollected list → IsSound host → IsRun list c host es → Ends list c es ending
-    → AreExcused c.network c.valid es (host_from host es)
+OverExcused = (list : NetList) (c : Command) (host : Host) (es : List Made) (ending : Ending) → is_gc c.verb ≡ true
+    → IsCollected list → IsSound host → IsRun list c host es → Ends list c es ending → AreExcused c.network c.valid es (host_from host es)
 
 -- the numbers of the faulty calls, counted from the one after `made`
 abbrev pub fault_numbers : ℕ → List Made → List ℕ
 fault_numbers made [] = []
-fault_numbers made (e ∷ es) = if is_fault e.reply then (made + 1) ∷ fault_numbers (made + 1) es else fault_numbers (made + 1) es
+fault_numbers made (e ∷ es) =
+    if is_fault e.reply then (made + 1) ∷ fault_numbers (made + 1) es else fault_numbers (made + 1) es
 
 -- without a fault it ends with Yes, and else with a refusal that names all calls that were faulty
 abbrev pub FaultsNamed : Type 0
-FaultsNamed = (list : NetList) (c : Command) (es : List Made) (ending : Ending) → is_gc c.verb ≡ true → IsCollected list → Ends list c es ending → ending ≡ swept (fault_numbers 0 es)
+FaultsNamed = (list : NetList) (c : Command) (es : List Made) (ending : Ending) → is_gc c.verb ≡ true → IsCollected list
+    → Ends list c es ending → ending ≡ swept (fault_numbers 0 es)

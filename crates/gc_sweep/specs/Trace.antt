@@ -17,7 +17,7 @@ use Rattle.cni_verbs.specs.Replies.{host_after, reply_to}
 use Rattle.cni_verbs.specs.Script.{State, start_state, advance, next_call, state_after, finish_of}
 use Rattle.cni_verbs.specs.declared.answer.Ending.{Ending}
 
--- a call and its reply
+-- a call that the collection made, and its reply
 pub record Made : Type 0 where
   pub call : Call
   pub reply : Reply
@@ -33,7 +33,8 @@ host_from host es = fold host_on host es
 abbrev pub IsRunFrom : NetList → Command → ℕ → State → Host → List Made → Type 0
 IsRunFrom list c made s host [] = Unit {0}
 IsRunFrom list c made s host (e ∷ es) =
-    (next_call c s ≡ Some e.call) × ((faulty : Bool) × (e.reply ≡ reply_to host e.call faulty)) × IsRunFrom list c (made + 1) (advance list c (made + 1) s e.reply) (host_on host e) es
+    (next_call c s ≡ Some e.call) × ((faulty : Bool) × (e.reply ≡ reply_to host e.call faulty))
+    × IsRunFrom list c (made + 1) (advance list c (made + 1) s e.reply) (host_on host e) es
 
 abbrev pub IsRun : NetList → Command → Host → List Made → Type 0
 IsRun list c host es = IsRunFrom list c 0 (start_state list c) host es

@@ -62,8 +62,12 @@ work_of ks p = record { jobs = jobs_left ks p; sweeps = sweeps_after ks p.stage 
 -- ---- the run
 
 abbrev pub progress_of : NetList → Command → ℕ → SweepPlace → List ℕ → Progress
-progress_of list c made place faults =
-    record { list = Some list; command = c; made = made; state = collecting list.version list.disable_gc (work_of (kinds_of list) place) faults }
+progress_of list c made place faults = record {
+  list = Some list;
+  command = c;
+  made = made;
+  state = collecting list.version list.disable_gc (work_of (kinds_of list) place) faults;
+}
 
 abbrev pub IsInRange : NetList → List Kind → SweepPlace → Type 0
 IsInRange list ks place = (ks ≡ kinds_of list) × IsPlace ks place
@@ -77,4 +81,6 @@ ending_in s = option_map (λ (f : Finish). f.ending) (finish_of s)
 -- the second place has the work of the first after this reply
 abbrev pub HasTaken : List Kind → List ValidAtt → Reply → SweepPlace → SweepPlace → Type 0
 HasTaken ks valid r old new =
-    (network : List ℕ) → work_of ks new ≡ work_after (record { network = network; valid = valid; kinds = ks }) (jobs_left ks old) (sweeps_after ks old.stage) r
+    (network : List ℕ) → work_of ks new
+    ≡ work_after (record { network = network; valid = valid; kinds = ks }) (jobs_left ks old)
+    (sweeps_after ks old.stage) r

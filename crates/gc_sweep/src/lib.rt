@@ -24,5 +24,6 @@
 pub mod laws;
 mod place;
 pub mod run;
+mod valid;
 
 pub use run::GcRun;

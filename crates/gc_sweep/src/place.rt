@@ -5,12 +5,13 @@ ghost use Rattle.kernel_types.specs.declared.call.Kind.{Kind};
 ghost use Rattle.pod_file.specs.declared.command.ValidAtt.{ValidAtt};
 ghost use Rattle.cni_verbs.specs.Script.{call_of_work, has_no_work};
 ghost use Rattle.cni_verbs.specs.Sweep.{first_sweep, all_sweeps, is_valid, step_call};
+ghost use Rattle.gc_sweep.specs.Valid.{IsIndexOf};
 ghost use Rattle.gc_sweep.specs.View.{HasTaken, IsPlace, jobs_left, step_of, steps_of, sweep_of, sweeps_after, sweeps_from, work_of};
 
+use crate::valid::ValidIndex;
 use cni_addr::{Duplicate, Items, NoMemory, Text};
 use cni_verbs::wanted::deletion;
 use kernel_types::{Att, Call, Kind, Reply};
-use pod_file::ValidAtt;
 use std::alloc::Global;
 
 /// The sweep at hand: none yet, that of the cached entries, or that of a kind.
@@ -21,7 +22,8 @@ pub(crate) enum Stage {
     Of(Kind),
 }
 
-/// What is done about one owner: its cached entry is read, or a kind is deleted until nothing of it is left.
+/// What is done about one owner (the script's `Step`): its cached entry is read, or a kind is deleted until nothing of
+/// it is left.
 #[derive(Clone, Copy, Drop)]
 pub(crate) enum OwnerStep {
     AskCached,
@@ -59,7 +61,8 @@ impl SweepPlace {
 
     /// Whether nothing is left to do.
     pub fn is_done(&self) -> bool
-        ensures { (kinds : List Kind) → IsPlace kinds self.now → result ≡ has_no_work (jobs_left kinds self.now) (sweeps_after kinds self.now.stage) }
+        ensures { (kinds : List Kind) → IsPlace kinds self.now
+            → result ≡ has_no_work (jobs_left kinds self.now) (sweeps_after kinds self.now.stage) }
     {
         !self.has_owner() && next_stage(self.stage).is_none()
     }
@@ -138,7 +141,8 @@ pub(crate) fn next_call(
     place: &SweepPlace,
 ) -> Result<Option<Call>, NoMemory>
     requires { IsPlace kinds.now place.now }
-    ensures { IfOk result (λ call. call ≡ call_of_work network.now (jobs_left kinds.now place.now) (sweeps_after kinds.now place.now.stage)) }
+    ensures { IfOk result (λ call. call
+        ≡ call_of_work network.now (jobs_left kinds.now place.now) (sweeps_after kinds.now place.now.stage)) }
 {
     if place.has_owner() {
         let step = owner_step_at(kinds, place.stage, place.step);
@@ -156,18 +160,11 @@ pub(crate) fn next_call(
 
 // ---- one reply
 
-fn is_valid(valid: &[ValidAtt], att: &Att) -> bool
-    ensures { result ≡ is_valid valid.now att.now }
+fn drop_valid(owners: &mut Vec<Att>, valid: &ValidIndex)
+    ensures { (list : List ValidAtt) → IsIndexOf list valid.now
+        → owners.new.items ≡ filter (λ a. not (is_valid list a)) owners.old.items }
 {
-    valid
-        .iter()
-        .any(|v| v.container == att.container && v.ifname == att.ifname)
-}
-
-fn drop_valid(owners: &mut Vec<Att>, valid: &[ValidAtt])
-    ensures { owners.new.items ≡ filter (λ a. not (is_valid valid.now a)) owners.old.items }
-{
-    owners.retain(|a| !is_valid(valid, a));
+    owners.retain(|att| !valid.has(att));
 }
 
 fn is_last(kinds: &[Kind], stage: Stage, step: usize) -> bool
@@ -206,9 +203,10 @@ fn owner_done(kinds: &[Kind], place: &mut SweepPlace)
 }
 
 /// Goes on to the next sweep, with these owners.
-fn next_sweep(kinds: &[Kind], valid: &[ValidAtt], place: &mut SweepPlace, owners: Items<Att>)
+fn next_sweep(kinds: &[Kind], valid: &ValidIndex, place: &mut SweepPlace, owners: Items<Att>)
     requires past { length place.old.owners.items ≤ place.old.at }
-    ensures work { HasTaken kinds.now valid.now (Reply.Owners owners) place.old place.new }
+    ensures work { (list : List ValidAtt) → IsIndexOf list valid.now
+        → HasTaken kinds.now list (Reply.Owners owners) place.old place.new }
     ensures range { IsPlace kinds.now place.new }
 {
     let mut owners = owners.into_vec();
@@ -225,9 +223,10 @@ fn next_sweep(kinds: &[Kind], valid: &[ValidAtt], place: &mut SweepPlace, owners
 }
 
 /// Goes on as a reply to the next call says.
-pub(crate) fn take(kinds: &[Kind], valid: &[ValidAtt], place: &mut SweepPlace, reply: Reply)
+pub(crate) fn take(kinds: &[Kind], valid: &ValidIndex, place: &mut SweepPlace, reply: Reply)
     requires { IsPlace kinds.now place.old }
-    ensures work { HasTaken kinds.now valid.now reply place.old place.new }
+    ensures work { (list : List ValidAtt) → IsIndexOf list valid.now
+        → HasTaken kinds.now list reply place.old place.new }
     ensures range { IsPlace kinds.now place.new }
 {
     if place.has_owner() {

@@ -9,6 +9,7 @@ ghost use Rattle.gc_sweep.specs.Sweep.{is_early};
 ghost use Rattle.gc_sweep.specs.View.{ending_in};
 
 use crate::place::{SweepPlace, next_call, take};
+use crate::valid::ValidIndex;
 use cni_addr::{Duplicate, Items, NoMemory};
 use cni_verbs::wanted::kinds_of;
 use cni_verbs::{Answer, Cause, Ending, early_ending, plain_answer};
@@ -25,19 +26,21 @@ pub struct GcRun {
     command: Command,
     made: u64,
     kinds: Items<Kind>,
+    valid: ValidIndex,
     place: SweepPlace,
     faults: Items<u64>,
 }
 
 impl Model for GcRun {
     ghost use Rattle.cni_verbs.specs.Progress.{Progress};
+    ghost use Rattle.gc_sweep.specs.Valid.{IsIndexOf};
     ghost use Rattle.gc_sweep.specs.View.{progress_of, IsInRange};
 
     ghost Value = { Progress };
 
     ghost view = { λ r. progress_of r.list r.command r.made r.place r.faults };
 
-    ghost invariant = { λ r. IsInRange r.list r.kinds r.place };
+    ghost invariant = { λ r. IsInRange r.list r.kinds r.place × IsIndexOf r.command.valid r.valid };
 }
 
 impl GcRun {
@@ -45,7 +48,8 @@ impl GcRun {
     ///
     /// It copies the list and the command, and keeps the copies until it is dropped. Texts are shared, so that takes
     /// time and memory in proportion to the ranges, routes and settings of the list, and to the valid attachments of
-    /// the command. Besides it makes the kinds of a DEL, of which each plugin of the list has three at most.
+    /// the command. Besides it indexes those, and makes the kinds of a DEL, of which each plugin of the list has three
+    /// at most.
     pub fn start(alloc: Global, list: &NetList, command: &Command) -> Result<GcRun, NoMemory>
         requires { is_gc command.now.verb ≡ true }
         ensures { IfOk result (λ run. run ≡ progress (Some list.now) command.now []) }
@@ -53,11 +57,13 @@ impl GcRun {
         let list_copy = list.copy()?;
         let command_copy = command.copy()?;
         let kinds = kinds_of(alloc, list)?;
+        let valid = ValidIndex::of(alloc, command.valid.as_slice())?;
         Ok(GcRun {
             list: list_copy,
             command: command_copy,
             made: 0,
             kinds,
+            valid,
             place: SweepPlace::start(alloc),
             faults: Items::new(alloc),
         })
@@ -83,14 +89,9 @@ impl GcRun {
         ensures frees { is_fault reply ≡ false → IsOk result }
     {
         let faulty = is_fault(&reply);
-        note(&mut self.faults, self.made + 1, faulty)?;
+        note_fault(&mut self.faults, self.made + 1, faulty)?;
         self.made += 1;
-        take(
-            self.kinds.as_slice(),
-            self.command.valid.as_slice(),
-            &mut self.place,
-            reply,
-        );
+        take(self.kinds.as_slice(), &self.valid, &mut self.place, reply);
         Ok(())
     }
 
@@ -169,8 +170,8 @@ fn is_fault(reply: &Reply) -> bool
     }
 }
 
-/// Adds the number of a faulty call.
-fn note(faults: &mut Items<u64>, number: u64, faulty: bool) -> Result<(), NoMemory>
+/// Adds the number of a call, if it was faulty.
+fn note_fault(faults: &mut Items<u64>, number: u64, faulty: bool) -> Result<(), NoMemory>
     ensures ok { OnOk result (faults.new ≡ faults_after number faults.old faulty) }
     ensures err { OnErr result (faults.new ≡ faults.old) }
     ensures frees { faulty ≡ false → IsOk result }

@@ -5,24 +5,24 @@ use Rattle.gc_sweep.proofs.Places.{ends_step, has_job_left, leaves_owner, no_job
 use Rattle.gc_sweep.proofs.place.take.Goals as goal
 
 pub returns-in-Gone-false-clause-work : goal.returns-in-Gone-false-clause-work
-returns-in-Gone-false-clause-work c = λ network.
+returns-in-Gone-false-clause-work c = λ list index network.
     let ks = c.args.kinds.now in
     let p = c.args.place.now in
     let ends : ends_step c.args.reply ≡ true = search rules in
-    c.step_done.ensures.work c.args.valid.now network ∙ step_ends (record { network = network; valid = c.args.valid.now; kinds = ks }) (jobs_left ks p) (sweeps_after ks p.stage) c.args.reply ends
+    c.step_done.ensures.work list network ∙ step_ends (record { network = network; valid = list; kinds = ks }) (jobs_left ks p) (sweeps_after ks p.stage) c.args.reply ends
 
 pub returns-then-has_owner-clause-work : goal.returns-then-has_owner-clause-work
-returns-then-has_owner-clause-work c = λ network.
+returns-then-has_owner-clause-work c = λ list index network.
     let ks = c.args.kinds.now in
     let p = c.args.place.now in
     let leaves : leaves_owner c.args.reply ≡ true = search rules in
-    owner_stays (record { network = network; valid = c.args.valid.now; kinds = ks }) (jobs_left ks p) (sweeps_after ks p.stage) c.args.reply
+    owner_stays (record { network = network; valid = list; kinds = ks }) (jobs_left ks p) (sweeps_after ks p.stage) c.args.reply
     (has_job_left (sweep_of ks p.stage) p.step p.at p.owners.items c.requires ∙ sym c.has_owner.ensures ∙ c.if-has_owner.true) leaves
 
 pub returns-in-Fault-reply-clause-work : goal.returns-in-Fault-reply-clause-work
-returns-in-Fault-reply-clause-work c = λ network.
+returns-in-Fault-reply-clause-work c = λ list index network.
     let ks = c.args.kinds.now in
     let p = c.args.place.now in
     let past : length p.owners.items ≤ p.at = grind (arith, nat_tests, c.has_owner.ensures, c.if-has_owner.false) in
-    c.next_sweep-in-Fault-reply.ensures.work network
-    ∙ skipped (record { network = network; valid = c.args.valid.now; kinds = ks }) (jobs_left ks p) (sweeps_after ks p.stage) c.new.result c.args.reply (no_jobs (sweep_of ks p.stage) p.step p.at p.owners.items past) c.new.ensures c.in-Fault-reply.is
+    c.next_sweep-in-Fault-reply.ensures.work list index network
+    ∙ skipped (record { network = network; valid = list; kinds = ks }) (jobs_left ks p) (sweeps_after ks p.stage) c.new.result c.args.reply (no_jobs (sweep_of ks p.stage) p.step p.at p.owners.items past) c.new.ensures c.in-Fault-reply.is

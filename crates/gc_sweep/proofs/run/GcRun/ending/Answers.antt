@@ -15,10 +15,10 @@ returns-in_ok-swept-in-None c =
     let r = c.self.inside in
     rw (← c.self.view_is)
     (ap Some c.in_ok-swept-in-None.ensures
-    ∙ ends_late r.list r.place r.faults r.kinds true c.self.invariant (λ ks in_ks. sym c.if-is_done.true ∙ c.is_done.ensures ks in_ks) (ap is_some (sym c.early_ending.ensures ∙ c.in-None.is)))
+    ∙ ends_late r.list r.place r.faults r.kinds true c.self.invariant.0 (λ ks in_ks. sym c.if-is_done.true ∙ c.is_done.ensures ks in_ks) (ap is_some (sym c.early_ending.ensures ∙ c.in-None.is)))
 
 pub returns-else-is_done : goal.returns-else-is_done
 returns-else-is_done c =
     let r = c.self.inside in
     rw (← c.self.view_is)
-    (ends_late r.list r.place r.faults r.kinds false c.self.invariant (λ ks in_ks. sym c.if-is_done.false ∙ c.is_done.ensures ks in_ks) (ap is_some (sym c.early_ending.ensures ∙ c.in-None.is)))
+    (ends_late r.list r.place r.faults r.kinds false c.self.invariant.0 (λ ks in_ks. sym c.if-is_done.false ∙ c.is_done.ensures ks in_ks) (ap is_some (sym c.early_ending.ensures ∙ c.in-None.is)))

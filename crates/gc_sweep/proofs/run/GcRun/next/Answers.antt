@@ -14,4 +14,4 @@ pub returns-else-is_early : goal.returns-else-is_early
 returns-else-is_early c =
     let r = c.self.inside in
     rw (← c.self.view_is)
-    (ok_by c.next_call.result (next_late r.list r.command r.place r.faults c.as_slice.result.now (c.as_slice.ensures ∙ c.self.invariant.0) (sym c.is_early.ensures ∙ c.if-is_early.false)) c.next_call.ensures)
+    (ok_by c.next_call.result (next_late r.list r.command r.place r.faults c.as_slice.result.now (c.as_slice.ensures ∙ c.self.invariant.0.0) (sym c.is_early.ensures ∙ c.if-is_early.false)) c.next_call.ensures)

@@ -8,7 +8,7 @@ pub returns-clause-ok : goal.returns-clause-ok
 returns-clause-ok c =
     let r = c.self.inside in
     let opened = subst (λ (p : Progress). IsOpen p.state) (sym c.self.view_is) c.requires.open in
-    let note = c.in_ok-note.ensures.ok ∙ ap (faults_after (r.made + 1) r.faults) c.is_fault-faulty.ensures in
+    let note = c.in_ok-note_fault.ensures.ok ∙ ap (faults_after (r.made + 1) r.faults) c.is_fault-faulty.ensures in
     rw (← c.self.view_is)
-    (taken r.list r.command r.made r.kinds c.as_slice.result.now c.as_slice-2.result.now r.place c.take.new.place r.faults c.note.new.faults c.args.reply opened c.self.invariant.0
-    c.as_slice.ensures c.as_slice-2.ensures c.take.ensures.work note)
+    (taken r.list r.command r.made r.kinds c.as_slice.result.now r.place c.take.new.place r.faults c.note_fault.new.faults c.args.reply opened c.self.invariant.0.0
+    c.as_slice.ensures (c.take.ensures.work r.command.valid c.self.invariant.1) note)
