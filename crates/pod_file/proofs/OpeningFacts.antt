@@ -1,17 +1,16 @@
 -- What the opening of a pod file keeps that is read.
-use Rattle.std.proofs.Common.{◌≡◌, ℕ, Bool, true, false, not, List, [], ◌∷◌, ◌++◌, length, codes, Some, None, Result, Ok, refl, sym, ◌∙◌, subst}
+use Rattle.std.proofs.Common.{◌≡◌, ℕ, Bool, true, false, not, List, [], ◌∷◌, ◌++◌, length, codes, Some, None, Result, Ok, refl, ◌∙◌, subst}
 use Rattle.std.specs.Prelude.{◌&&◌, if◌then◌else◌, ok_or, map, is_none}
 use Rattle.std.specs.List.{list_any}
 use Rattle.std.specs.Str.{bytes_eq}
 use Rattle.std.proofs.lemmas.Bool.{or_parts}
-use Rattle.std.proofs.lemmas.Slice.Eq.{bytes_eq-Decides}
 use Rattle.serde_json.specs.Data.{Data, null, boolean, number, string, array, object, Items}
 use Rattle.cni_json.specs.Fields.{text_field, list_field, object_field, object_or}
 use Rattle.cni_json.specs.declared.fields.Field.{Field}
 use Rattle.cni_json.specs.declared.fields.Field.TheVariants.{Absent, WrongKind, Here}
 use Rattle.kernel_types.proofs.ListLemmas.{list_all-push, list_all-weaker, list_any-map, list_any-none, list_any-weaker, distinct-push}
 use Rattle.kernel_types.proofs.Namespaces.{by_place}
-use Rattle.kernel_types.proofs.Opening.{IsSound-opening_with}
+use Rattle.kernel_types.proofs.SoundOpening.{IsSound-opening_with}
 use Rattle.kernel_types.specs.Equal.{tag_eq}
 use Rattle.kernel_types.specs.Opening.{opening_with, AreNamespaceNames, AreOutsideLinks, is_outside_link}
 use Rattle.kernel_types.specs.Sound.{is_unowned_kind}
@@ -22,13 +21,11 @@ use Rattle.kernel_types.specs.declared.object.LinkKind.{LinkKind}
 use Rattle.kernel_types.specs.declared.object.LinkKind.TheVariants.{Device, Bridge}
 use Rattle.kernel_types.specs.declared.object.Tag.TheVariants.{Outside}
 use Rattle.cni_json.proofs.Endings.{goes, ok_same, passed, not_refused, each_after_keeps}
+use Rattle.pod_file.proofs.IndexFacts.{bytes_eq-swap}
 use Rattle.pod_file.specs.Links.{name_at, kind_of, kind_at, is_place, ns_of, ns_at, mtu_at, outside_link, not_taken, link_at, next_link, listed_of, listed_at, links_at, wrong_link}
-use Rattle.pod_file.specs.Opening.{namespace_at, next_namespace, namespaces_at, opening_members_at, opening_or_empty, opening_at}
+use Rattle.pod_file.specs.Opening.{is_refused_name, namespace_at, next_namespace, namespaces_at, opening_members_at, opening_or_empty, opening_at}
 use Rattle.pod_file.specs.WellFormed.{IsOpening}
 use Rattle.pod_file.specs.declared.error.PodError.{PodError}
-
-bytes_eq-swap : (s t : List ℕ) → bytes_eq s t ≡ true → bytes_eq t s ≡ true
-bytes_eq-swap s t same = (bytes_eq-Decides t s).1 (sym ((bytes_eq-Decides s t).0 same))
 
 -- what the empty list keeps, and each list with one more that is read, is kept by the whole
 listed_of-ok : {A : Type 0} (P : List A → Type 0) (path : List ℕ) (read : List A → Data → Result A PodError) → P [] → ((before : List A) (d : Data) (x : A) → P before → read before d ≡ Ok x → P (before ++ x ∷ []))
@@ -39,20 +36,20 @@ listed_of-ok P path read none step (Here ds) xs is = each_after_keeps read (λ b
 
 -- ---- namespaces
 
-namespace_at-ok : (before : List (List ℕ)) (index : ℕ) (d : Data) (name : List ℕ) → namespace_at before index d ≡ Ok name → is_place before name ≡ false
+namespace_at-ok : (before : List (List ℕ)) (index : ℕ) (d : Data) (name : List ℕ) → namespace_at before index d ≡ Ok name → is_refused_name before name ≡ false
 namespace_at-ok before index null name is = cc
 namespace_at-ok before index (boolean b) name is = cc
 namespace_at-ok before index (number n) name is = cc
 namespace_at-ok before index (string s) name is =
-    let test = not_refused (is_place before s) s name _ is in
-    subst (λ text. is_place before text ≡ false) test.1 test.0
+    let test = not_refused (is_refused_name before s) s name _ is in
+    subst (λ text. is_refused_name before text ≡ false) test.1 test.0
 namespace_at-ok before index (array ds) name is = cc
 namespace_at-ok before index (object ms) name is = cc
 
 no_host : AreNamespaceNames []
 no_host = record { named = refl; distinct = refl }
 
-names-push : (before : List (List ℕ)) (name : List ℕ) → AreNamespaceNames before → is_place before name ≡ false → AreNamespaceNames (before ++ name ∷ [])
+names-push : (before : List (List ℕ)) (name : List ℕ) → AreNamespaceNames before → is_refused_name before name ≡ false → AreNamespaceNames (before ++ name ∷ [])
 names-push before name good can =
     let parts = or_parts (is_host_ns name) (list_any (bytes_eq name) before) can in
     let inner : not (is_host_ns name) ≡ true = rw parts.0 refl in
@@ -130,7 +127,7 @@ link_at-ok names before index d link is =
       new = (not_refused (list_any (is_at ns.value name.value) before) _ _ _ free.first).0;
     })
 
-no_links : (names : List (List ℕ)) → AreOutsideLinks names []
+pub no_links : (names : List (List ℕ)) → AreOutsideLinks names []
 no_links names = record { outside = refl; places = refl; keys = refl }
 
 links-push : (names : List (List ℕ)) (before : List Link) (link : Link) → AreOutsideLinks names before → IsNewLink names before link → AreOutsideLinks names (before ++ link ∷ [])
@@ -153,7 +150,7 @@ outside-tag true true false is = cc
 outside-tag true false outside is = cc
 outside-tag false alone outside is = cc
 
-opening_with-ok : (names : List (List ℕ)) (links : List Link) → AreNamespaceNames names → AreOutsideLinks names links → IsOpening (opening_with names links)
+pub opening_with-ok : (names : List (List ℕ)) (links : List Link) → AreNamespaceNames names → AreOutsideLinks names links → IsOpening (opening_with names links)
 opening_with-ok names links good outside = record {
   sound = IsSound-opening_with names links good outside;
   links = list_all-weaker is_outside_link (λ l. tag_eq l.tag Outside) (λ l h. outside-tag (is_unowned_kind l.kind) (is_none l.peer) (tag_eq l.tag Outside) h) links outside.outside;

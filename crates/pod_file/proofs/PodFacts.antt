@@ -5,7 +5,8 @@ use Rattle.std.proofs.lemmas.Bool.Decides.{nat_tests}
 use Rattle.serde_json.specs.Data.{Data}
 use Rattle.cni_json.specs.Fields.{object_or}
 use Rattle.cni_json.specs.Json.{json_of}
-use Rattle.pod_file.proofs.CommandFacts.{rounds_at-ok, all_numbered-ok, length-all_numbered, count-all_numbered, all-from}
+use Rattle.std.specs.Prelude.{All}
+use Rattle.pod_file.proofs.CommandFacts.{AreCommands, rounds_at-ok, all_numbered-ok, length-all_numbered, count-all_numbered, all-from}
 use Rattle.cni_json.proofs.Endings.{goes, ok_same, passed}
 use Rattle.pod_file.proofs.OpeningFacts.{opening_at-ok}
 use Rattle.pod_file.specs.Opening.{opening_at}
@@ -16,19 +17,22 @@ use Rattle.pod_file.specs.WellFormed.{AreWellFormedRounds, IsWellFormedPods}
 use Rattle.pod_file.specs.declared.command.Command.{Command}
 use Rattle.pod_file.specs.declared.pods.Pods.{Pods}
 
--- rounds that are read and pass each test are well formed once they are numbered
-pub numbered-ok : (d : Data) (rounds : List (List Command)) → rounds_at d ≡ Ok rounds → are_few rounds ≡ true → each_alone 0 rounds ≡ Ok tt → AreWellFormedRounds (all_numbered 1 rounds)
+-- rounds of well-formed commands that pass each test are well formed once they are numbered
+pub numbered_by-ok : (rounds : List (List Command)) → All AreCommands rounds → are_few rounds ≡ true → each_alone 0 rounds ≡ Ok tt → AreWellFormedRounds (all_numbered 1 rounds)
 unfolding are_few
-numbered-ok d rounds read are_few alone =
+numbered_by-ok rounds commands are_few alone =
     let both = and_parts (nat_le (length rounds) file_limit) (nat_le (length (in_file_order rounds)) file_limit) are_few in
     let few_rounds : length rounds ≤ file_limit = grind (arith, nat_tests, both.0) in
     let few_commands : length (in_file_order rounds) ≤ file_limit = grind (arith, nat_tests, both.1) in
     record {
-      each = all_numbered-ok 1 0 rounds (rounds_at-ok d rounds read) alone;
+      each = all_numbered-ok 1 0 rounds commands alone;
       few_rounds = omega (arith, length-all_numbered 1 rounds, few_rounds);
       few_commands = omega (arith, count-all_numbered 1 rounds, few_commands);
       numbers = λ n command at. let number = all-from 1 rounds n command at in omega arith;
     }
+
+pub numbered-ok : (d : Data) (rounds : List (List Command)) → rounds_at d ≡ Ok rounds → are_few rounds ≡ true → each_alone 0 rounds ≡ Ok tt → AreWellFormedRounds (all_numbered 1 rounds)
+numbered-ok d rounds read are_few alone = numbered_by-ok rounds (rounds_at-ok d rounds read) are_few alone
 
 pods_at-ok : (d : Data) (pods : Pods) → pods_at d ≡ Ok pods → IsWellFormedPods pods
 unfolding pods_at

@@ -1,12 +1,15 @@
 -- The host as it is found.
-use Rattle.std.specs.Prelude.{ℕ, List, [], length, codes, if◌then◌else◌, Result, Ok}
+use Rattle.std.specs.Prelude.{ℕ, ◌||◌, Bool, List, [], length, codes, if◌then◌else◌, Result, Ok}
+use Rattle.std.specs.List.{list_any}
+use Rattle.std.specs.Str.{bytes_eq}
 use Rattle.serde_json.specs.Data.{Data, string}
 use Rattle.cni_json.specs.Fields.{object_field, member_or}
 use Rattle.cni_json.specs.Outcome.{◌>>=◌}
 use Rattle.cni_json.specs.declared.fields.Field.{Field}
 use Rattle.kernel_types.specs.Opening.{opening_with}
+use Rattle.kernel_types.specs.Words.{is_host_ns}
 use Rattle.kernel_types.specs.declared.object.Host.{Host}
-use Rattle.pod_file.specs.Links.{is_place, links_at, listed_at}
+use Rattle.pod_file.specs.Links.{links_at, listed_at}
 use Rattle.pod_file.specs.Refusals.{wrong, member_path}
 use Rattle.pod_file.specs.declared.error.PodError.{PodError}
 
@@ -15,8 +18,11 @@ abbrev pub wrong_namespace : {A : Type 0} → ℕ → Result A PodError
 wrong_namespace index = wrong (member_path (codes "opening.namespaces") index)
 
 -- the empty name is the host's, and no two namespaces have one name
+abbrev pub is_refused_name : List (List ℕ) → List ℕ → Bool
+is_refused_name before name = is_host_ns name || list_any (bytes_eq name) before
+
 abbrev pub name_or_refused : List (List ℕ) → ℕ → List ℕ → Result (List ℕ) PodError
-name_or_refused before index name = if is_place before name then wrong_namespace index else Ok name
+name_or_refused before index name = if is_refused_name before name then wrong_namespace index else Ok name
 
 -- the name of a namespace after these
 abbrev pub namespace_at : List (List ℕ) → ℕ → Data → Result (List ℕ) PodError

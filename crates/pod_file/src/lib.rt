@@ -17,6 +17,9 @@ pub mod command;
 mod commands;
 mod copies;
 mod error;
+mod generated_list;
+pub mod generator;
+mod indexed;
 pub mod laws;
 mod links;
 mod members;
@@ -28,6 +31,7 @@ mod rounds;
 
 pub use command::{Command, RawMapping, ValidAtt, Verb, verb_named, verb_text};
 pub use error::PodError;
-pub use laws::pod_file_laws;
+pub use generator::{Generated, MOST_CONTAINERS, generate};
+pub use laws::{generator_laws, pod_file_laws};
 pub use pods::{Pods, Rounds};
 pub use read::read_pods;

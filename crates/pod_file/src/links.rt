@@ -1,22 +1,18 @@
 //! The reader of the opening's links.
 
-ghost use Rattle.std.specs.Prelude.{◌≡◌, List, Result, codes};
-ghost use Rattle.std.specs.List.{list_any};
-ghost use Rattle.std.specs.Str.{bytes_eq};
-ghost use Rattle.serde_json.specs.Data.{Data};
-ghost use Rattle.serde_json.specs.View.{view};
+ghost use Rattle.std.specs.Prelude.{◌≡◌, [], codes};
+ghost use Rattle.serde_json.specs.View.{view, items_view};
+ghost use Rattle.cni_json.specs.Each.{each_after};
 ghost use Rattle.cni_json.specs.Outcome.{GivesAs, TellsAs};
-ghost use Rattle.cni_json.specs.Readers.{IsReaderAfter};
-ghost use Rattle.kernel_types.specs.Words as words;
 ghost use Rattle.pod_file.specs.Links as wanted;
 ghost use Rattle.pod_file.specs.Refusals.{is_want_of_memory, member_path};
-ghost use Rattle.pod_file.specs.declared.error.PodError.{PodError};
 ghost use Rattle.pod_file.specs.declared.error.PodError.TheVariants as refusal;
 
 use crate::error::{PodError, wrong, wrong_member};
+use crate::indexed::{Names, PlacedLinks};
 use cni_addr::{Items, Text};
-use cni_json::{Field, Value, field_list, field_str, field_u64, need_object, read_each_after};
-use kernel_types::words::{is_at, is_host_ns};
+use cni_json::{Field, Value, field_list, field_str, field_u64, need_object};
+use kernel_types::words::is_host_ns;
 use kernel_types::{Link, LinkKey, LinkKind, Tag, link_kind_text, link_mac};
 use net_conf::{DEFAULT_MTU, is_interface_name, is_mtu};
 use std::alloc::Global;
@@ -25,56 +21,46 @@ use std::alloc::Global;
 const KINDS: [LinkKind; 2] = [LinkKind::Device, LinkKind::Bridge];
 
 /// The links, none where there is no list of them.
-#[tactic(auto, using(cni_json::proofs::Steps::steps), unfolding(crate::specs::Links::links_at))]
-pub(crate) fn links(alloc: Global, names: &[Text], opening: &Value) -> Result<Items<Link>, PodError>
+#[tactic(auto, using(cni_json::proofs::Steps::steps), unfolding(crate::specs::Links::listed_at, crate::specs::Links::links_at))]
+pub(crate) fn links(alloc: Global, names: &Names, opening: &Value) -> Result<Items<Link>, PodError>
     ensures { GivesAs is_want_of_memory (λ links. links) result (wanted.links_at names.now (view opening.now)) }
 {
-    listed(
-        alloc,
-        opening,
-        "links",
-        "opening.links",
-        |before, member| next_link(alloc, names, before, member),
-    )
+    match field_list(opening, "links") {
+        Field::Absent => Ok(Items::new(alloc)),
+        Field::WrongKind => Err(wrong(alloc, "opening.links")),
+        Field::Here(list) => all_links(alloc, names, list),
+    }
 }
 
-/// The list under the key, whose place is the path, each member as the function reads it after those before it; it is
-/// empty where it is absent.
-#[tactic(auto, using(cni_json::proofs::Steps::steps), unfolding(crate::specs::Links::listed_at))]
-pub(crate) fn listed<T: Drop, R: Fn(&[T], &Value) -> Result<T, PodError>>(
-    alloc: Global,
-    opening: &Value,
-    key: &str,
-    path: &str,
-    read: R,
-) -> Result<Items<T>, PodError>
-    requires { R.IsAlwaysCallable read }
-    ensures { (read_as : List T → Data → Result T PodError) → IsReaderAfter is_want_of_memory R.Fn read read_as
-        → GivesAs is_want_of_memory (λ xs. xs) result (wanted.listed_at path.now key.now read_as (view opening.now)) }
+#[tactic(auto, using(cni_json::proofs::Steps::steps))]
+fn all_links(alloc: Global, names: &Names, list: &[Value]) -> Result<Items<Link>, PodError>
+    ensures { GivesAs is_want_of_memory (λ links. links) result
+        (each_after (wanted.next_link names.now) [] (items_view list.now)) }
 {
-    match field_list(opening, key) {
-        Field::Absent => Ok(Items::new(alloc)),
-        Field::WrongKind => Err(wrong(alloc, path)),
-        Field::Here(list) => read_each_after(Items::new(alloc), list, read),
+    let mut links = PlacedLinks::new(alloc);
+    for member in list {
+        let link = next_link(alloc, names, &links, member)?;
+        links = links.with(link)?;
     }
+    Ok(links.into_items())
 }
 
 fn next_link(
     alloc: Global,
-    names: &[Text],
-    before: &[Link],
+    names: &Names,
+    before: &PlacedLinks,
     member: &Value,
 ) -> Result<Link, PodError>
     ensures { GivesAs is_want_of_memory (λ link. link) result (wanted.next_link names.now before.now (view member.now)) }
 {
-    link(alloc, names, before, before.len(), member)
+    link(alloc, names, before, before.as_slice().len(), member)
 }
 
 #[tactic(auto, using(cni_json::proofs::Steps::steps), unfolding(crate::specs::Links::link_at))]
 fn link(
     alloc: Global,
-    names: &[Text],
-    before: &[Link],
+    names: &Names,
+    before: &PlacedLinks,
     index: usize,
     member: &Value,
 ) -> Result<Link, PodError>
@@ -85,7 +71,9 @@ fn link(
     let kind = kind(alloc, index, member)?;
     let ns = ns(alloc, names, index, member)?;
     let mtu = mtu(alloc, index, member)?;
-    not_taken(alloc, before, index, ns.as_str(), name.as_str())?;
+    let place = (ns, name);
+    not_taken(alloc, before, index, &place)?;
+    let (ns, name) = place;
     Ok(outside_link(ns, name, kind, mtu))
 }
 
@@ -127,27 +115,33 @@ fn kind_named(text: &str) -> Option<LinkKind>
 }
 
 #[tactic(auto, using(cni_json::proofs::Steps::steps), unfolding(crate::specs::Links::ns_at))]
-fn ns(alloc: Global, names: &[Text], index: usize, member: &Value) -> Result<Text, PodError>
+fn ns(alloc: Global, names: &Names, index: usize, member: &Value) -> Result<Text, PodError>
     ensures { GivesAs is_want_of_memory (λ ns. ns) result (wanted.ns_at names.now index (view member.now)) }
 {
     match field_str(member, "ns") {
         Field::Absent => Ok(Text::of(alloc, "")?),
-        Field::Here(ns) if is_place(names, ns) => Ok(Text::of(alloc, ns)?),
-        Field::Here(_) | Field::WrongKind => Err(wrong_link(alloc, index)),
+        Field::WrongKind => Err(wrong_link(alloc, index)),
+        Field::Here(ns) => place_named(alloc, names, index, ns),
+    }
+}
+
+#[tactic(auto, using(cni_json::proofs::Steps::steps))]
+fn place_named(alloc: Global, names: &Names, index: usize, ns: &str) -> Result<Text, PodError>
+    ensures { GivesAs is_want_of_memory (λ ns. ns) result (wanted.place_named names.now index ns.now) }
+{
+    let ns = Text::of(alloc, ns)?;
+    if is_place(names, &ns) {
+        Ok(ns)
+    } else {
+        Err(wrong_link(alloc, index))
     }
 }
 
 /// Whether the text is the host's, or the name of one of the namespaces.
-pub(crate) fn is_place(names: &[Text], ns: &str) -> bool
+fn is_place(names: &Names, ns: &Text) -> bool
     ensures { result ≡ wanted.is_place names.now ns.now }
 {
-    is_host_ns(ns) || is_named(names, ns)
-}
-
-fn is_named(names: &[Text], name: &str) -> bool
-    ensures { result ≡ list_any (bytes_eq name.now) names.now }
-{
-    names.iter().any(|other| name == other.as_str())
+    is_host_ns(ns.as_str()) || names.contains(ns)
 }
 
 #[tactic(auto, using(cni_json::proofs::Steps::steps), unfolding(crate::specs::Links::mtu_at))]
@@ -164,22 +158,15 @@ fn mtu(alloc: Global, index: usize, member: &Value) -> Result<u32, PodError>
 #[tactic(auto, using(cni_json::proofs::Steps::steps), unfolding(crate::specs::Links::not_taken))]
 fn not_taken(
     alloc: Global,
-    before: &[Link],
+    before: &PlacedLinks,
     index: usize,
-    ns: &str,
-    name: &str,
+    place: &(Text, Text),
 ) -> Result<(), PodError>
-    ensures { GivesAs is_want_of_memory (λ t. t) result (wanted.not_taken before.now index ns.now name.now) }
+    ensures { GivesAs is_want_of_memory (λ t. t) result (wanted.not_taken before.now index place.now.0 place.now.1) }
 {
-    (!is_taken(before, ns, name))
+    (!before.has_at(place))
         .then_some(())
         .ok_or_else(|| wrong_link(alloc, index))
-}
-
-fn is_taken(links: &[Link], ns: &str, name: &str) -> bool
-    ensures { result ≡ list_any (words.is_at ns.now name.now) links.now }
-{
-    links.iter().any(|link| is_at(ns, name, link))
 }
 
 fn wrong_link(alloc: Global, index: usize) -> PodError

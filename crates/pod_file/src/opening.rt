@@ -1,16 +1,19 @@
 //! The reader of the opening.
 
-ghost use Rattle.std.specs.Prelude.{codes};
-ghost use Rattle.serde_json.specs.View.{view};
+ghost use Rattle.std.specs.Prelude.{◌≡◌, [], codes};
+ghost use Rattle.serde_json.specs.View.{view, items_view};
+ghost use Rattle.cni_json.specs.Each.{each_after};
 ghost use Rattle.cni_json.specs.Outcome.{GivesAs, TellsAs};
 ghost use Rattle.pod_file.specs.Opening as wanted;
 ghost use Rattle.pod_file.specs.Refusals.{is_want_of_memory, member_path};
 ghost use Rattle.pod_file.specs.declared.error.PodError.TheVariants as refusal;
 
 use crate::error::{PodError, wrong, wrong_member};
-use crate::links::{is_place, links, listed};
+use crate::indexed::Names;
+use crate::links::links;
 use cni_addr::{Items, Text};
-use cni_json::{Field, Value, field_object};
+use cni_json::{Field, Value, field_list, field_object};
+use kernel_types::words::is_host_ns;
 use kernel_types::{Host, opening_with};
 use std::alloc::Global;
 
@@ -31,32 +34,42 @@ fn opening_members(alloc: Global, members: &Value) -> Result<Host, PodError>
     ensures { GivesAs is_want_of_memory (λ host. host) result (wanted.opening_members_at (view members.now)) }
 {
     let names = namespaces(alloc, members)?;
-    let links = links(alloc, names.as_slice(), members)?;
+    let links = links(alloc, &names, members)?;
     Ok(opening_with(alloc, names.as_slice(), links)?)
 }
 
 /// The names of the namespaces, none where there is no list of them.
-#[tactic(auto, using(cni_json::proofs::Steps::steps), unfolding(crate::specs::Opening::namespaces_at))]
-fn namespaces(alloc: Global, members: &Value) -> Result<Items<Text>, PodError>
+#[tactic(auto, using(cni_json::proofs::Steps::steps), unfolding(crate::specs::Links::listed_at, crate::specs::Opening::namespaces_at))]
+fn namespaces(alloc: Global, members: &Value) -> Result<Names, PodError>
     ensures { GivesAs is_want_of_memory (λ names. names) result (wanted.namespaces_at (view members.now)) }
 {
-    listed(
-        alloc,
-        members,
-        "namespaces",
-        "opening.namespaces",
-        |before, member| next_namespace(alloc, before, member),
-    )
-}
-
-fn next_namespace(alloc: Global, before: &[Text], member: &Value) -> Result<Text, PodError>
-    ensures { GivesAs is_want_of_memory (λ name. name) result (wanted.next_namespace before.now (view member.now)) }
-{
-    namespace(alloc, before, before.len(), member)
+    match field_list(members, "namespaces") {
+        Field::Absent => Ok(Names::new(alloc)),
+        Field::WrongKind => Err(wrong(alloc, "opening.namespaces")),
+        Field::Here(list) => all_namespaces(alloc, list),
+    }
 }
 
 #[tactic(auto, using(cni_json::proofs::Steps::steps))]
-fn namespace(alloc: Global, before: &[Text], index: usize, member: &Value) -> Result<Text, PodError>
+fn all_namespaces(alloc: Global, list: &[Value]) -> Result<Names, PodError>
+    ensures { GivesAs is_want_of_memory (λ names. names) result (each_after wanted.next_namespace [] (items_view list.now)) }
+{
+    let mut names = Names::new(alloc);
+    for member in list {
+        let name = next_namespace(alloc, &names, member)?;
+        names = names.with(name)?;
+    }
+    Ok(names)
+}
+
+fn next_namespace(alloc: Global, before: &Names, member: &Value) -> Result<Text, PodError>
+    ensures { GivesAs is_want_of_memory (λ name. name) result (wanted.next_namespace before.now (view member.now)) }
+{
+    namespace(alloc, before, before.as_slice().len(), member)
+}
+
+#[tactic(auto, using(cni_json::proofs::Steps::steps))]
+fn namespace(alloc: Global, before: &Names, index: usize, member: &Value) -> Result<Text, PodError>
     ensures { GivesAs is_want_of_memory (λ name. name) result (wanted.namespace_at before.now index (view member.now)) }
 {
     match member {
@@ -68,17 +81,25 @@ fn namespace(alloc: Global, before: &[Text], index: usize, member: &Value) -> Re
 #[tactic(auto, using(cni_json::proofs::Steps::steps))]
 fn name_or_refused(
     alloc: Global,
-    before: &[Text],
+    before: &Names,
     index: usize,
     name: &str,
 ) -> Result<Text, PodError>
     ensures { GivesAs is_want_of_memory (λ name. name) result (wanted.name_or_refused before.now index name.now) }
 {
-    if is_place(before, name) {
+    let name = Text::of(alloc, name)?;
+    if is_refused_name(before, &name) {
         Err(wrong_namespace(alloc, index))
     } else {
-        Ok(Text::of(alloc, name)?)
+        Ok(name)
     }
+}
+
+/// Whether the name is the host's, or one that another namespace has.
+fn is_refused_name(before: &Names, name: &Text) -> bool
+    ensures { result ≡ wanted.is_refused_name before.now name.now }
+{
+    is_host_ns(name.as_str()) || before.contains(name)
 }
 
 fn wrong_namespace(alloc: Global, index: usize) -> PodError
