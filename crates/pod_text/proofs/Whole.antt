@@ -1,4 +1,4 @@
--- Each line that is printed of a command has no number outside u64 and i64.
+-- Each line that is printed of a command, and that of the numbers, has no number outside u64 and i64.
 use Rattle.std.proofs.Common.{◌≡◌, false, refl}
 use Rattle.serde_json.specs.Data.{Members}
 use Rattle.serde_json.specs.Written.{has_float, members_have_float}
@@ -11,6 +11,8 @@ use Rattle.cni_verbs.specs.declared.answer.Answer.TheVariants.{Added, Yes, Skipp
 use Rattle.pod_file.specs.declared.command.Command.{Command}
 use Rattle.cni_verbs.specs.ErrorKinds.{memory_error}
 use Rattle.pod_text.specs.Lines.{versions_data, put_answer, answer_data}
+use Rattle.pod_text.specs.Summary.{summary_data}
+use Rattle.pod_workers.specs.World.{World}
 
 versions_are_whole : (version : Version) → has_float (versions_data version) ≡ false
 unfolding versions_data
@@ -28,3 +30,7 @@ put_answer_is_whole (Stopped calls) ms rest = members_have_float-put _ _ ms refl
 pub answer_is_whole : (command : Command) (answer : Answer) → has_float (answer_data command answer) ≡ false
 unfolding answer_data
 answer_is_whole command answer = search (puts_are_whole, put_answer_is_whole) depth 6
+
+pub summary_is_whole : (w : World) → has_float (summary_data w) ≡ false
+unfolding summary_data
+summary_is_whole w = search (puts_are_whole) depth 6

@@ -1,5 +1,5 @@
--- What is printed of a world: one JSON object a line, for the commands in file order, for the history, and for the
--- host.
+-- What is printed of a world: one JSON object a line, for the commands in file order or for their numbers, for the
+-- history, and for the host.
 use Rattle.std.specs.Prelude.{ℕ, ◌+◌, Bool, true, List, [], ◌∷◌, ◌++◌, codes, Option, Some, None, if◌then◌else◌}
 use Rattle.std.specs.List.{flat_map}
 use Rattle.serde_json.specs.Data.{Data, boolean, object, Members, no_members, put}
@@ -18,6 +18,10 @@ use Rattle.kernel_text.specs.Replies.{trace_data}
 use Rattle.net_conf.specs.List.{disable_check_key, disable_gc_key}
 use Rattle.pod_file.specs.Commands.{verb_text}
 use Rattle.pod_file.specs.declared.command.Command.{Command}
+use Rattle.pod_text.specs.Summary.{summary_line}
+use Rattle.pod_text.specs.declared.asked.Asked.{Asked}
+use Rattle.pod_text.specs.declared.asked.CommandPart.{CommandPart}
+use Rattle.pod_text.specs.declared.asked.CommandPart.TheVariants.{Lines, Summary}
 use Rattle.pod_workers.specs.Plans.{commands_of}
 use Rattle.pod_workers.specs.World.{World, answer_for, host_of}
 use Rattle.pod_workers.specs.declared.plan.Entry.{Entry}
@@ -86,6 +90,12 @@ where_asked asked lines = if asked then lines else []
 
 -- ---- the text
 
--- the commands' lines, then the history's and the host's where they are asked for
-unfoldable pub text_of : World → Bool → Bool → List ℕ
-text_of w trace dump = command_lines w ++ where_asked trace (trace_lines w) ++ where_asked dump (dump_of (host_of w))
+-- what stands of the commands
+abbrev pub command_part : CommandPart → World → List ℕ
+command_part Lines w = command_lines w
+command_part Summary w = summary_line w
+
+-- the part on the commands, then the history's lines and the host's where they are asked for
+unfoldable pub text_of : World → Asked → List ℕ
+text_of w asked =
+    command_part asked.commands w ++ where_asked asked.trace (trace_lines w) ++ where_asked asked.dump (dump_of (host_of w))

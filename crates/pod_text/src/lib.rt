@@ -1,22 +1,27 @@
 //! What a program prints of a book, and the status that it ends with.
 //!
-//! What it promises above: [`text`] is `text_of` of the book (`specs/Lines.antt`): a line for each command that has
-//! an answer, in file order, then the history and the host's objects where they are asked for. [`status`] is
-//! `status_of` of the answers (`specs/Statuses.antt`). Each line is one JSON object with its keys in byte order,
-//! ended by a line feed.
+//! What it promises above: [`text`] is `text_of` of the book and of what is asked for (`specs/Lines.antt`): a line for
+//! each command that has an answer, in file order, or one line of numbers in their place (`specs/Summary.antt`); then
+//! the history and the host's objects where they are asked for. [`status`] is `status_of` of the answers
+//! (`specs/Statuses.antt`). Each line is one JSON object with its keys in byte order, ended by a line feed.
 //!
 //! ```text
-//! text(alloc, &book, true, false)? // {"n":1,"ok":true,"verb":"DEL"}
+//! let asked = Asked { commands: CommandPart::Lines, trace: true, dump: false };
+//! text(alloc, &book, asked)?       // {"n":1,"ok":true,"verb":"DEL"}
 //!                                  // {"call":"CacheGet","i":1,"n":1,"reply":"Entry none"} ..
 //! status(&book)                    // 0
+//! // with `CommandPart::Summary`   {"calls":1,"commands":1,"leases":0,"ok":1} ..
 //! ```
 #![tactic(auto)]
 
 pub mod answers;
+pub mod asked;
 pub mod parts;
 pub mod statuses;
+mod summary;
 
 pub use answers::{answer_value, skip_text};
+pub use asked::{Asked, CommandPart};
 pub use parts::text;
 pub use statuses::{
     COMMAND_MEMORY_STATUS, FAILURE_STATUS, MEMORY_STATUS, NO_WORDS_STATUS, READ_STATUS,

@@ -4,9 +4,11 @@ ghost use Rattle.std.specs.Prelude.{◌≡◌, ◌++◌, OnOk, IfOk};
 ghost use Rattle.std.specs.List.{flat_map};
 ghost use Rattle.kernel_text.specs.Dump.{dump_of};
 ghost use Rattle.pod_workers.specs.World.{host_of};
-ghost use Rattle.pod_text.specs.Lines.{command_line, command_lines, entry_line, trace_from, trace_lines, where_asked, text_of};
+ghost use Rattle.pod_text.specs.Lines.{command_line, command_lines, command_part, entry_line, trace_from, trace_lines, where_asked, text_of};
 
 use crate::answers::answer_value;
+use crate::asked::{Asked, CommandPart};
+use crate::summary::push_summary;
 use cni_addr::{Items, NoMemory};
 use kernel_model::Kernel;
 use kernel_text::{push_dump, push_line, trace_value};
@@ -70,6 +72,20 @@ fn push_commands<K: Kernel + Drop>(
     push_rounds(alloc, book, book.plan().pods.rounds.as_slice(), lines)
 }
 
+fn push_command_part<K: Kernel + Drop>(
+    alloc: Global,
+    part: CommandPart,
+    book: &Book<K>,
+    lines: &mut Vec<u8>,
+) -> Result<(), NoMemory>
+    ensures { OnOk result (lines.new.items ≡ lines.old.items ++ command_part part book.now) }
+{
+    match part {
+        CommandPart::Lines => push_commands(alloc, book, lines),
+        CommandPart::Summary => push_summary(alloc, book, lines),
+    }
+}
+
 fn push_entry(
     alloc: Global,
     number: u64,
@@ -120,21 +136,20 @@ fn push_host<K: Kernel + Drop>(
     push_dump(alloc, &host, lines)
 }
 
-/// The text of the book: a line for each command that has an answer, in file order; with `trace` a line for each call
-/// of the history; with `dump` a line for each object of the host. Memory that is refused leaves nothing. It takes time
-/// and memory in proportion to the text and the plan, and with `dump` a copy of the host besides.
+/// The text of the book: of the commands what is asked for; with `trace` a line for each call of the history; with `dump`
+/// a line for each object of the host. Memory that is refused leaves nothing. It takes time and memory in proportion to
+/// the text and the plan, and with the summary and with `dump` a copy of the host besides.
 #[tactic(auto, unfolding(crate::specs::Lines::text_of))]
 pub fn text<K: Kernel + Drop>(
     alloc: Global,
     book: &Book<K>,
-    trace: bool,
-    dump: bool,
+    asked: Asked,
 ) -> Result<Vec<u8>, NoMemory>
-    ensures { IfOk result (λ bytes. bytes.items ≡ text_of book.now trace dump) }
+    ensures { IfOk result (λ bytes. bytes.items ≡ text_of book.now asked) }
 {
     let mut lines = Vec::new(alloc);
-    push_commands(alloc, book, &mut lines)?;
-    push_trace(alloc, trace, book, &mut lines)?;
-    push_host(alloc, dump, book, &mut lines)?;
+    push_command_part(alloc, asked.commands, book, &mut lines)?;
+    push_trace(alloc, asked.trace, book, &mut lines)?;
+    push_host(alloc, asked.dump, book, &mut lines)?;
     Ok(lines)
 }
