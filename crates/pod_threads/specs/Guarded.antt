@@ -1,4 +1,4 @@
--- What is known of the value under the lock. Only this crate's private clauses cite it.
+-- What is known of the value under the lock. It serves proofs of private functions.
 use Rattle.std.specs.Prelude.{◌≡◌, ℕ, ◌⊎◌}
 use Rattle.pod_workers.specs.World.{World, RunsOut, StepsTo}
 use Rattle.pod_workers.specs.declared.plan.StepEnd.{StepEnd}

@@ -1,4 +1,4 @@
--- A world that no round begins in. Only this crate's private clauses cite it.
+-- A world that no round begins in. It serves proofs of private functions.
 use Rattle.std.specs.Prelude.{[], None}
 use Rattle.kernel_types.specs.Opening.{opening_with}
 use Rattle.pod_workers.specs.World.{World, begun}

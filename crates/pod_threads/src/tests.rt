@@ -6,11 +6,11 @@ ghost use Rattle.pod_file.specs.WellFormed.{IsWellFormedPods};
 ghost use Rattle.pod_workers.specs.Plans.{IsWellFormed};
 
 use crate::{Gate, OpenGate, Rounded, round_threads};
-use cni_addr::Items;
-use kernel_model::ListKernel;
+use cni_addr::{Duplicate, Items};
+use kernel_model::{Kernel, ListKernel};
 use net_conf::{NetList, network_list_laws, read_list};
 use pod_file::{Pods, pod_file_laws, read_pods};
-use pod_workers::{Book, Plan, begin_on_lists, joined_plans_are_well_formed};
+use pod_workers::{Book, Plan, joined_plans_are_well_formed};
 use std::alloc::Global;
 use std::sync::Wait;
 use std::sync::atomic::{AtomicBool, AtomicU64, Ordering};
@@ -99,17 +99,18 @@ fn plan_of(alloc: Global, text: &str) -> Result<Plan, Fail>
 /// The book of these pods as it is begun.
 fn book_of(alloc: Global, text: &str) -> Result<Book<ListKernel>, Fail> {
     let plan = plan_of(alloc, text)?;
-    Ok(begin_on_lists(alloc, plan)?)
+    let kernel = ListKernel::of_host(plan.pods.opening.copy()?);
+    Ok(Book::begin(alloc, plan, kernel)?)
 }
 
 /// The book after its round, and the workers' counts.
-fn round<R: Threads + Wait + Sync, G: Gate>(
+fn round<R: Threads + Wait + Sync, K: Kernel + Send + Drop, G: Gate>(
     rt: &R,
     alloc: Global,
-    book: Book<ListKernel>,
+    book: Book<K>,
     workers: u8,
     gate: &G,
-) -> Result<Rounded<ListKernel>, Fail> {
+) -> Result<Rounded<K>, Fail> {
     if book.ended() || workers == 0 {
         return Err("there is no such round".into());
     }

@@ -1,5 +1,5 @@
--- Where each command stands, and the command before it of its container in its round. Only this crate's private clauses
--- cite it.
+-- Where each command stands, and the command before it of its container in its round. It serves proofs of private
+-- functions.
 use Rattle.std.specs.Prelude.{◌≡◌, ℕ, ◌+◌, ◌<◌, ◌≤◌, ◌==◌, ◌&&◌, Bool, true, false, List, Option, Some, None, is_some, length, option_and_then, slice_get}
 use Rattle.std.specs.Option.{option_flatten, option_map_or}
 use Rattle.cni_verbs.specs.declared.answer.Answer.{Answer}

@@ -1,4 +1,4 @@
--- What the tasks of a book stand for, and what a book keeps. Only this crate's private clauses cite it.
+-- What the tasks of a book stand for, and what a book keeps. It serves proofs of private functions.
 use Rattle.std.specs.Prelude.{◌≡◌, ℕ, ◌+◌, ◌<◌, ◌≤◌, ◌^◌, Bool, true, false, List, [], ◌∷◌, ◌++◌, length, take, Option, Some, None, slice_get}
 use Rattle.cni_verbs.specs.Progress.{Progress, RunView, progress, advanced}
 use Rattle.cni_verbs.specs.Script.{turn}

@@ -1,4 +1,4 @@
--- What the task of a command stands for, whichever crate's run carries it. Only this crate's private clauses cite it.
+-- What the task of a command stands for, whichever crate's run carries it. It serves proofs of private functions.
 use Rattle.std.specs.Prelude.{◌≡◌, true, List, is_some}
 use Rattle.cni_verbs.specs.Progress.{RunView, is_gc}
 use Rattle.net_conf.specs.declared.list.NetList.{NetList}

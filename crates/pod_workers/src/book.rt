@@ -57,7 +57,8 @@ impl<K: Kernel + Drop> Book<K> {
     pub fn begin(alloc: Global, plan: Plan, kernel: K) -> Result<Book<K>, NoMemory>
         requires well_formed { IsWellFormed plan }
         requires opening { K.host kernel ≡ plan.pods.opening }
-        ensures { IfOk result (λ book. book ≡ begun plan) }
+        ensures begun { IfOk result (λ book. book ≡ begun plan) }
+        ensures order { IfOk result IsInFileOrder }
     {
         let places = index_of(alloc, plan.pods.rounds.as_slice())?;
         let answers = blanks(alloc, places.len())?;

@@ -17,7 +17,6 @@
 //! ```
 #![tactic(auto)]
 
-pub mod begun;
 pub mod book;
 mod index;
 mod join;
@@ -27,7 +26,6 @@ mod slots;
 mod step;
 mod task;
 
-pub use begun::begin_on_lists;
 pub use book::Book;
 pub use join::joined_plans_are_well_formed;
 pub use laws::{

@@ -1,5 +1,6 @@
 use Rattle.std.proofs.Common.{◌≡◌, length, arith}
 use Rattle.pod_workers.specs.Plans.{commands_of}
+use Rattle.pod_workers.proofs.FileOrder.{file_order_begun}
 use Rattle.pod_workers.proofs.KeptAtBegin.{begun-here, begun-is}
 use Rattle.pod_workers.proofs.WellFormedPlans.{few_commands}
 use Rattle.pod_workers.proofs.book.Book.begin.Goals as goal
@@ -14,7 +15,10 @@ invariant_of-result g c =
     let more : c.len-2.result ≡ length c.in_ok-places.places.items = omega (arith, c.len-2.ensures, c.in_ok-places.places.ok.0) in
     begun-here c.args.plan _ c.len.result c.len-2.result c.in_ok-places.places.items _ _ _ c.requires.well_formed c.requires.opening (rw c.as_slice.ensures at c.in_ok-places.ensures) count more c.new.ensures.items c.in_ok-answers.ensures c.in_ok-slots.ensures
 
-pub returns : goal.returns
-returns g c =
+pub returns-clause-begun : goal.returns-clause-begun
+returns-clause-begun g c =
     let count : c.len.result ≡ length c.in_ok-places.places.items = omega (arith, c.len.ensures, c.in_ok-places.places.ok.0) in
     begun-is c.args.plan c.len.result c.in_ok-places.places.items _ _ (rw c.as_slice.ensures at c.in_ok-places.ensures) count c.new.ensures.items c.in_ok-answers.ensures
+
+pub returns-clause-order : goal.returns-clause-order
+returns-clause-order g c = file_order_begun _ c.new.ensures.items
