@@ -1,37 +1,63 @@
 -- What words and files come to, and what a run is then to report.
-use Rattle.std.proofs.Common.{◌≡◌, ◌∙◌, ◌≤◌, ℕ, List, ◌∷◌, length, sym, ap, subst, Option, Some, Ok, Err, Result, IfOk}
+use Rattle.std.proofs.Common.{◌≡◌, ◌∙◌, ◌≤◌, ℕ, List, ◌∷◌, inl, inr, length, sym, ap, subst, Option, Some, Ok, Err, Result, IfOk}
 use Rattle.std.proofs.lemmas.Option.{same_Some}
+use Rattle.cni_io.specs.Files.{StoredFiles}
 use Rattle.pod_text.specs.Lines.{text_of}
 use Rattle.pod_workers.specs.Legal.{Legal}
 use Rattle.pod_workers.specs.Order.{IsInFileOrder}
 use Rattle.pod_workers.specs.World.{World}
 use Rattle.pod_workers.specs.declared.plan.Plan.{Plan}
 use Rattle.tool_words.specs.Words.{words_given}
+use Rattle.tool_words.specs.declared.source.Source.{Source}
+use Rattle.tool_words.specs.declared.source.Source.TheVariants.{PodFile, Generator}
 use Rattle.tool_words.specs.declared.words.Words.{Words}
-use Rattle.tool_run.specs.Causes.{Steps, WhereTold}
+use Rattle.tool_run.specs.Causes.{AreFilesFor, GivesPlan, IsUnread, Steps, files_named, files_of}
 use Rattle.tool_run.specs.Reports.{CarriesOut, ComesToNoPlan, IsDueOf, Settles}
 use Rattle.tool_run.specs.Seen.{FilesSeen}
-use Rattle.tool_run.specs.Statuses.{AskForOneThread, ComesTo}
-use Rattle.tool_run.specs.Verdict.{carry, plan_of, verdict_if, verdict_on}
+use Rattle.tool_run.specs.Statuses.{AreFiles, AskForOneThread, ComesTo}
+use Rattle.tool_run.specs.Verdict.{asked_by, carry, generated_plan, plan_from_source, plan_of_files, verdict_if, verdict_on}
 use Rattle.tool_run.specs.declared.carry.CarriedOut.{CarriedOut}
 use Rattle.tool_run.specs.declared.due.Due.{Due}
 use Rattle.tool_run.specs.declared.plan.NoPlan.{NoPlan}
 use Rattle.tool_run.specs.declared.plan.NoPlan.TheVariants.{Usage, Line, Unread, NoMemory}
 
+-- the files of the run are those of the words that it was given
+files_for : (given : List (List ℕ)) (by : Words) (files : FilesSeen) (stored : StoredFiles) → words_given given ≡ Some by → AreFiles given files stored → AreFilesFor by files stored
+files_for given by files stored is (inl told) = inl told
+files_for given by files stored is (inr none) = inr (ap files_named (same_Some by none.0 (sym is ∙ none.1)) ∙ none.2)
+
+-- where a pod file is named, the files are told
+told : (by : Words) (file : List ℕ) (files : FilesSeen) (stored : StoredFiles) → by.source ≡ PodFile file → AreFilesFor by files stored → files.stored ≡ Some stored
+told by file files stored is (inl at) = at
+told by file files stored is (inr none) = absurd (let named = ap (λ (s : Source). files_of s by.lists) (sym is) ∙ none in cc)
+
+-- what the steps over a pod file and its lists give
+pub of_files : (by : Words) (file : List ℕ) (files : FilesSeen) (r : Result Plan NoPlan) → by.source ≡ PodFile file
+    → Steps {X = Plan} (λ plan. plan) files.stored files.faults_before files.faults_now (file ∷ by.lists) (λ stored. plan_of_files stored by file) r → GivesPlan by files r
+of_files by file files (Ok plan) is steps = λ stored at. ap (plan_from_source stored by) is ∙ steps stored (told by file files stored is at)
+of_files by file files (Err Usage) is steps = steps
+of_files by file files (Err (Line text)) is steps = λ stored at. ap (plan_from_source stored by) is ∙ steps stored (told by file files stored is at)
+of_files by file files (Err (Unread text)) is steps = subst (λ (s : Source). IsUnread (files_of s by.lists) files.faults_before files.faults_now text.items) (sym is) steps
+of_files by file files (Err NoMemory) is steps = tt
+
+-- what the generator gives, whatever the files
+pub of_generator : (by : Words) (count : ℕ) (files : FilesSeen) (plan : Plan) → by.source ≡ Generator count → plan ≡ generated_plan by.stop_at count → GivesPlan by files (Ok plan)
+of_generator by count files plan is made = λ stored at. ap (plan_from_source stored by) is ∙ ap (λ (p : Plan). Ok p) (sym made)
+
 pub comes_to_plan : (given : List (List ℕ)) (by : Words) (files : FilesSeen) (plan : Plan) → words_given given ≡ Some by
-    → WhereTold files.stored (λ stored. plan_of stored by ≡ Ok plan) → ComesTo given files (carry plan by.trace by.dump)
-comes_to_plan given by files plan is told = λ stored at. ap (λ (o : Option Words). verdict_if o stored) is ∙ ap (verdict_on by) (told stored at)
+    → GivesPlan by files (Ok plan) → ComesTo given files (carry plan (asked_by by))
+comes_to_plan given by files plan is gives = λ stored at. ap (λ (o : Option Words). verdict_if o stored) is ∙ ap (verdict_on by) (gives stored (files_for given by files stored is at))
 
 pub comes_to_no_plan : (given : List (List ℕ)) (by : Words) (files : FilesSeen) (none : NoPlan) → words_given given ≡ Some by
-    → Steps {X = Plan} (λ plan. plan) files.stored files.faults_before files.faults_now (by.pods ∷ by.lists) (λ stored. plan_of stored by) (Err none) → ComesToNoPlan given files none
-comes_to_no_plan given by files Usage is steps = absurd steps
-comes_to_no_plan given by files (Line text) is steps = record {
+    → GivesPlan by files (Err none) → ComesToNoPlan given files none
+comes_to_no_plan given by files Usage is gives = absurd gives
+comes_to_no_plan given by files (Line text) is gives = record {
   by = by;
   words_are = is;
-  comes = λ stored at. ap (λ (o : Option Words). verdict_if o stored) is ∙ ap (verdict_on by) (steps stored at);
+  comes = λ stored at. ap (λ (o : Option Words). verdict_if o stored) is ∙ ap (verdict_on by) (gives stored (files_for given by files stored is at));
 }
-comes_to_no_plan given by files (Unread text) is steps = record { by = by; words_are = is; unread = steps }
-comes_to_no_plan given by files NoMemory is steps = tt
+comes_to_no_plan given by files (Unread text) is gives = record { by = by; words_are = is; unread = gives }
+comes_to_no_plan given by files NoMemory is gives = tt
 
 -- the book and the text of what was due
 pub settles_made : (words : List (List ℕ)) (files : FilesSeen) (due : Due) (made : CarriedOut) → IsDueOf words files due → CarriesOut due made → Settles words files (Ok made)
@@ -39,7 +65,7 @@ settles_made words files due made is carries = (
   record {
     by = due.words;
     words_are = is.words_are;
-    plan = λ stored at. is.comes stored at ∙ ap (λ (p : Plan). carry p due.words.trace due.words.dump) (sym carries.plan);
+    plan = λ stored at. is.comes stored at ∙ ap (λ (p : Plan). carry p (asked_by due.words)) (sym carries.plan);
     over = carries.over;
     legal = carries.legal;
   },
@@ -52,12 +78,12 @@ one_thread words files due is asked = ap (λ (w : Words). w.threads) (same_Some 
 -- ---- the text of a book
 
 pub carries_out : {E : Type 0} (due : Due) (book : World) (r : Result CarriedOut E) → book.plan ≡ due.plan → length book.plan.pods.rounds ≤ book.round → Legal book
-    → IfOk r (λ (made : CarriedOut). made.book ≡ book) → IfOk r (λ (made : CarriedOut). made.text.items ≡ text_of book due.words.trace due.words.dump) → IfOk r (CarriesOut due)
+    → IfOk r (λ (made : CarriedOut). made.book ≡ book) → IfOk r (λ (made : CarriedOut). made.text.items ≡ text_of book (asked_by due.words)) → IfOk r (CarriesOut due)
 carries_out due book (Ok made) plan over legal is text = record {
   plan = ap (λ (b : World). b.plan) is ∙ plan;
   over = subst (λ (b : World). length b.plan.pods.rounds ≤ b.round) (sym is) over;
   legal = subst Legal (sym is) legal;
-  text = text ∙ ap (λ (b : World). text_of b due.words.trace due.words.dump) (sym is);
+  text = text ∙ ap (λ (b : World). text_of b (asked_by due.words)) (sym is);
 }
 carries_out due book (Err none) plan over legal is text = tt
 

@@ -1,5 +1,5 @@
 -- How a run ends, from what it was to report, and what follows of it.
-use Rattle.std.proofs.Common.{◌≡◌, ◌≢◌, ◌∙◌, ℕ, zero, suc, List, [], ◌∷◌, refl, sym, ap, subst, arith, inl, inr, Bool, true, false, cond, Option, Some, None, Result, Ok, Err, IfOk, IfSome, slice_get}
+use Rattle.std.proofs.Common.{◌≡◌, ◌≢◌, ◌∙◌, ℕ, zero, suc, List, [], ◌∷◌, ◌++◌, refl, sym, ap, subst, arith, inl, inr, Bool, true, false, cond, Option, Some, None, Result, Ok, Err, IfOk, IfSome, slice_get}
 use Rattle.std.specs.List.{list_any}
 use Rattle.std.proofs.lemmas.Option.{none-some, same_Some}
 use Rattle.cni_addr.specs.Lists.{IsAmong}
@@ -7,10 +7,15 @@ use Rattle.cni_io.specs.Files.{StoredFiles}
 use Rattle.cni_verbs.specs.declared.answer.Answer.{Answer}
 use Rattle.cni_verbs.specs.declared.answer.Answer.TheVariants.{OutOfMemory}
 use Rattle.pod_laws.specs.Guaranteed.{EveryLegalHistoryIsGuaranteed, IsGuaranteed}
-use Rattle.pod_text.specs.Lines.{text_of}
+use Rattle.kernel_text.specs.Dump.{dump_of}
+use Rattle.pod_text.specs.Lines.{command_part, text_of, trace_lines, where_asked}
+use Rattle.pod_text.specs.Summary.{summary_data}
+use Rattle.pod_text.specs.declared.asked.Asked.{Asked}
+use Rattle.pod_text.specs.declared.asked.CommandPart.{CommandPart}
+use Rattle.pod_text.specs.declared.asked.CommandPart.TheVariants.{Lines, Summary}
 use Rattle.pod_text.specs.Statuses.{is_failure, is_out_of_memory, status_of}
 use Rattle.pod_workers.specs.Order.{IsDoneInFileOrder, IsInFileOrder, OneOutcome}
-use Rattle.pod_workers.specs.World.{World}
+use Rattle.pod_workers.specs.World.{World, host_of}
 use Rattle.pod_workers.specs.declared.plan.Entry.{Entry}
 use Rattle.pod_workers.specs.declared.plan.Plan.{Plan}
 use Rattle.tool_words.specs.Words.{words_given}
@@ -18,8 +23,8 @@ use Rattle.tool_words.specs.declared.words.Words.{Words}
 use Rattle.tool_run.specs.Lines.{usage_line}
 use Rattle.tool_run.specs.Reports.{Reported, Reports, Settles}
 use Rattle.tool_run.specs.Seen.{FilesSeen, HasReadFault, SinkSeen}
-use Rattle.tool_run.specs.Statuses.{EachStatusIsOfItsVerdict, Ends, IsCarriedOut, IsDetermined, IsReport, IsStatusOf, IsTextOf, IsUndisturbed, RefusedWordsAreTold, ReportsWorld, Wrote, cut_short, of_book, of_failed_read, of_refusal, of_usage, out_of_memory, reported}
-use Rattle.tool_run.specs.Verdict.{Verdict, carry, verdict_if, verdict_of}
+use Rattle.tool_run.specs.Statuses.{AreFiles, EachStatusIsOfItsVerdict, Ends, IsCarriedOut, IsDetermined, IsReport, IsStatusOf, IsTextOf, IsUndisturbed, RefusedWordsAreTold, ReportsWorld, Wrote, cut_short, of_book, of_failed_read, of_refusal, of_usage, out_of_memory, reported}
+use Rattle.tool_run.specs.Verdict.{Verdict, asked_by, carry, verdict_if, verdict_of}
 use Rattle.tool_run.specs.declared.carry.CarriedOut.{CarriedOut}
 use Rattle.tool_run.specs.declared.plan.NoPlan.{NoPlan}
 use Rattle.tool_run.specs.declared.plan.NoPlan.TheVariants as no_plan
@@ -74,32 +79,41 @@ had_memory : (answers : List (Option Answer)) → status_of answers ≢ 8 → (n
 had_memory answers not_eight n at =
     not_eight (ap (λ (b : Bool). cond b 8 (cond (list_any is_failure answers) 1 0)) (any-at is_out_of_memory answers n (Some OutOfMemory) at refl))
 
--- a text is of the plan, the history and the answers
-text-same : (v w : World) (trace dump : Bool) → v.plan ≡ w.plan → v.history ≡ w.history → v.answers ≡ w.answers → text_of v trace dump ≡ text_of w trace dump
+-- what is printed is of the plan, the history and the answers, and not of the round
+part-any_round : (w : World) (round : ℕ) (part : CommandPart) → command_part part (record w { round = round }) ≡ command_part part w
+unfolding summary_data
+part-any_round w round Lines = refl
+part-any_round w round Summary = refl
+
+text-any_round : (w : World) (round : ℕ) (asked : Asked) → text_of (record w { round = round }) asked ≡ text_of w asked
 unfolding text_of
-text-same v w trace dump plan history answers =
-    let T : Plan → List Entry → List (Option Answer) → List ℕ = λ p h a. text_of (record { plan = p; history = h; answers = a; round = v.round }) trace dump in
-    ap (λ (p : Plan). T p v.history v.answers) plan ∙ ap (λ (h : List Entry). T w.plan h v.answers) history ∙ ap (λ (a : List (Option Answer)). T w.plan w.history a) answers
+text-any_round w round asked =
+    ap (λ (part : List ℕ). part ++ where_asked asked.trace (trace_lines w) ++ where_asked asked.dump (dump_of (host_of w))) (part-any_round w round asked.commands)
+
+text-same : (v w : World) (asked : Asked) → v.plan ≡ w.plan → v.history ≡ w.history → v.answers ≡ w.answers → text_of v asked ≡ text_of w asked
+text-same v w asked plan history answers =
+    let T : Plan → List Entry → List (Option Answer) → List ℕ = λ p h a. text_of (record { plan = p; history = h; answers = a; round = v.round }) asked in
+    ap (λ (p : Plan). T p v.history v.answers) plan ∙ ap (λ (h : List Entry). T w.plan h v.answers) history ∙ ap (λ (a : List (Option Answer)). T w.plan w.history a) answers ∙ text-any_round w v.round asked
 
 plan_or : Plan → Verdict → Plan
-plan_or p (carry q trace dump) = q
+plan_or p (carry q asked) = q
 plan_or p v = p
 
-one_plan : (p q : Plan) (a b c d : Bool) (v : Verdict) → v ≡ carry p a b → v ≡ carry q c d → p ≡ q
+one_plan : (p q : Plan) (a b : Asked) (v : Verdict) → v ≡ carry p a → v ≡ carry q b → p ≡ q
 unfolding plan_or
-one_plan p q a b c d v is also = ap (plan_or p) (sym is ∙ also)
+one_plan p q a b v is also = ap (plan_or p) (sym is ∙ also)
 
 -- the text of the world is the one that was written
 same_text : (words : List (List ℕ)) (v w : World) (bytes other : List ℕ) → v.plan ≡ w.plan → v.history ≡ w.history → v.answers ≡ w.answers → IsTextOf words v bytes → IsTextOf words w other → bytes ≡ other
 same_text words v w bytes other plan history answers one two =
     let by = same_Some one.by two.by (sym one.words_are ∙ two.words_are) in
-    one.text ∙ ap (λ (b : Words). text_of v b.trace b.dump) by ∙ text-same v w two.by.trace two.by.dump plan history answers ∙ sym two.text
+    one.text ∙ ap (λ (b : Words). text_of v (asked_by b)) by ∙ text-same v w (asked_by two.by) plan history answers ∙ sym two.text
 
-of-world : OneOutcome → (words : List (List ℕ)) (files : FilesSeen) (sink : SinkSeen) (status : ℕ) (stored : StoredFiles) → files.stored ≡ Some stored → IsUndisturbed files sink status
+of-world : OneOutcome → (words : List (List ℕ)) (files : FilesSeen) (sink : SinkSeen) (status : ℕ) (stored : StoredFiles) → AreFiles words files stored → IsUndisturbed files sink status
     → (b w : World) (bytes : List ℕ) → status ≡ status_of b.answers → IsCarriedOut words files b → IsInFileOrder b → IsTextOf words b bytes → Wrote sink bytes
     → IsCarriedOut words files w → IsDoneInFileOrder w → ReportsWorld words sink status w
 of-world law words files sink status stored told calm b w bytes st carried order text wrote comes done =
-    let plan = one_plan b.plan w.plan _ _ _ _ (verdict_of words stored) (carried.plan stored told) (comes.plan stored told) in
+    let plan = one_plan b.plan w.plan _ _ (verdict_of words stored) (carried.plan stored told) (comes.plan stored told) in
     let mine : IsDoneInFileOrder b = record {
       legal = carried.legal;
       in_file_order = order;
@@ -112,7 +126,7 @@ of-world law words files sink status stored told calm b w bytes st carried order
       text = λ other is. subst (Wrote sink) (same_text words b w bytes other plan same.0 same.1 text is) wrote;
     }
 
-of-report : OneOutcome → (words : List (List ℕ)) (files : FilesSeen) (sink : SinkSeen) (status : ℕ) (book : Option World) (bytes : List ℕ) (stored : StoredFiles) → files.stored ≡ Some stored → IsUndisturbed files sink status
+of-report : OneOutcome → (words : List (List ℕ)) (files : FilesSeen) (sink : SinkSeen) (status : ℕ) (book : Option World) (bytes : List ℕ) (stored : StoredFiles) → AreFiles words files stored → IsUndisturbed files sink status
     → IfSome book IsInFileOrder → IsReport words files status book bytes → Wrote sink bytes → (w : World) → IsCarriedOut words files w → IsDoneInFileOrder w → ReportsWorld words sink status w
 of-report law words files sink status book bytes stored told calm order (of_usage st none given) wrote w comes done = absurd (none-some comes.by (sym given.not_taken ∙ comes.words_are))
 of-report law words files sink status book bytes stored told calm order (of_refusal st none refusal) wrote w comes done = let is = sym (refusal.comes stored told) ∙ comes.plan stored told in cc
@@ -135,7 +149,7 @@ status_is answers = go (list_any is_out_of_memory answers) (list_any is_failure 
     go false true = inr (inl refl)
     go false false = inl refl
 
-report_status : (words : List (List ℕ)) (files : FilesSeen) (status : ℕ) (book : Option World) (bytes : List ℕ) (stored : StoredFiles) → files.stored ≡ Some stored → (HasReadFault files → ⊥) → IsReport words files status book bytes → IsStatusOf (verdict_of words stored) status
+report_status : (words : List (List ℕ)) (files : FilesSeen) (status : ℕ) (book : Option World) (bytes : List ℕ) (stored : StoredFiles) → AreFiles words files stored → (HasReadFault files → ⊥) → IsReport words files status book bytes → IsStatusOf (verdict_of words stored) status
 report_status words files status book bytes stored told reads (of_usage st none given) = subst (λ (v : Verdict). IsStatusOf v status) (sym (ap (λ (o : Option Words). verdict_if o stored) given.not_taken)) st
 report_status words files status book bytes stored told reads (of_refusal st none refusal) = subst (λ (v : Verdict). IsStatusOf v status) (sym (refusal.comes stored told)) st
 report_status words files status book bytes stored told reads (of_failed_read st none unread) = absurd (reads unread.unread.rose)

@@ -8,7 +8,7 @@ use Rattle.pod_file.specs.declared.pods.Pods.{Pods}
 use Rattle.pod_workers.specs.declared.plan.Plan.{Plan}
 use Rattle.tool_words.specs.declared.words.Words.{Words}
 use Rattle.tool_run.specs.Causes.{Steps, WhereTold}
-use Rattle.tool_run.specs.Verdict.{Judged, stored_list, stored_lists, plan_of, stored_pods, judged_plan}
+use Rattle.tool_run.specs.Verdict.{Judged, stored_list, stored_lists, plan_of_files, stored_pods, judged_plan}
 use Rattle.tool_run.specs.declared.plan.NoPlan.{NoPlan}
 use Rattle.tool_run.specs.declared.plan.NoPlan.TheVariants.{Usage, Line, Unread, NoMemory}
 use Rattle.cni_io.proofs.Counts.{Rose-from_start}
@@ -44,28 +44,28 @@ rest-next files names front i name list lt at rest read = λ stored told.
 -- ---- the plan
 
 -- the lists stop the plan, behind the pod file
-pub plan-stops : (files later : Option StoredFiles) (start before now : ℕ) (words : Words) (pods : Pods) (none : NoPlan) → later ≡ files
-    → WhereTold files (λ stored. stored_pods stored words.pods ≡ Ok pods) → start ≤ before
+pub plan-stops : (files later : Option StoredFiles) (start before now : ℕ) (words : Words) (file : List ℕ) (pods : Pods) (none : NoPlan) → later ≡ files
+    → WhereTold files (λ stored. stored_pods stored file ≡ Ok pods) → start ≤ before
     → Steps {X = List NetList} (λ lists. lists) later before now words.lists (λ stored. stored_lists stored words.lists) (Err none)
-    → Steps {X = Plan} (λ plan. plan) files start now (words.pods ∷ words.lists) (λ stored. plan_of stored words) (Err none)
-unfolding plan_of
-plan-stops files later start before now words pods Usage same first up steps = absurd steps
-plan-stops files later start before now words pods (Line line) same first up steps = λ stored told.
-    ap (λ (t : Judged Pods). t >>= (λ (p : Pods). stored_lists stored words.lists >>= judged_plan words p)) (first stored told)
-    ∙ ap (λ (t : Judged (List NetList)). t >>= judged_plan words pods) (steps stored (same ∙ told))
-plan-stops files later start before now words pods (Unread line) same first up steps = record {
+    → Steps {X = Plan} (λ plan. plan) files start now (file ∷ words.lists) (λ stored. plan_of_files stored words file) (Err none)
+unfolding plan_of_files
+plan-stops files later start before now words file pods Usage same first up steps = absurd steps
+plan-stops files later start before now words file pods (Line line) same first up steps = λ stored told.
+    ap (λ (t : Judged Pods). t >>= (λ (p : Pods). stored_lists stored words.lists >>= judged_plan words file p)) (first stored told)
+    ∙ ap (λ (t : Judged (List NetList)). t >>= judged_plan words file pods) (steps stored (same ∙ told))
+plan-stops files later start before now words file pods (Unread line) same first up steps = record {
   file = steps.file;
   named = (suc steps.named.0, omega arith, steps.named.2);
   rose = Rose-from_start start before now up steps.rose;
   says = steps.says;
 }
-plan-stops files later start before now words pods NoMemory same first up steps = tt
+plan-stops files later start before now words file pods NoMemory same first up steps = tt
 
 -- the same of names that are equal to those of the words
-pub plan-stops-at : (files later : Option StoredFiles) (start before now : ℕ) (words : Words) (name : List ℕ) (names : List (List ℕ)) (pods : Pods) (none : NoPlan)
-    → name ≡ words.pods → names ≡ words.lists → later ≡ files → WhereTold files (λ stored. stored_pods stored name ≡ Ok pods) → start ≤ before
+pub plan-stops-at : (files later : Option StoredFiles) (start before now : ℕ) (words : Words) (file : List ℕ) (names : List (List ℕ)) (pods : Pods) (none : NoPlan)
+    → names ≡ words.lists → later ≡ files → WhereTold files (λ stored. stored_pods stored file ≡ Ok pods) → start ≤ before
     → Steps {X = List NetList} (λ lists. lists) later before now names (λ stored. stored_lists stored names) (Err none)
-    → Steps {X = Plan} (λ plan. plan) files start now (words.pods ∷ words.lists) (λ stored. plan_of stored words) (Err none)
-plan-stops-at files later start before now words name names pods none name_is names_are same first up steps =
-    plan-stops files later start before now words pods none same (subst (λ (n : List ℕ). WhereTold files (λ stored. stored_pods stored n ≡ Ok pods)) name_is first) up
+    → Steps {X = Plan} (λ plan. plan) files start now (file ∷ words.lists) (λ stored. plan_of_files stored words file) (Err none)
+plan-stops-at files later start before now words file names pods none names_are same first up steps =
+    plan-stops files later start before now words file pods none same first up
     (subst (λ (ns : List (List ℕ)). Steps {X = List NetList} (λ lists. lists) later before now ns (λ stored. stored_lists stored ns) (Err none)) names_are steps)

@@ -1,13 +1,18 @@
 -- What a step of reading gives, and why it gives nothing.
-use Rattle.std.specs.Prelude.{◌≡◌, ℕ, List, Option, Some, Result, Ok, Err, Contains, ⊤}
+use Rattle.std.specs.Prelude.{◌≡◌, ◌⊎◌, ℕ, List, [], ◌∷◌, Option, Some, Result, Ok, Err, Contains, ⊤}
 use Rattle.cni_io.specs.Faults.{Rose}
 use Rattle.cni_io.specs.Files.{StoredFiles}
 use Rattle.net_conf.specs.List.{list_of}
 use Rattle.net_conf.specs.declared.list.NetList.{NetList}
 use Rattle.pod_file.specs.PodFile.{pods_of}
 use Rattle.pod_file.specs.declared.pods.Pods.{Pods}
+use Rattle.pod_workers.specs.declared.plan.Plan.{Plan}
+use Rattle.tool_words.specs.declared.source.Source.{Source}
+use Rattle.tool_words.specs.declared.source.Source.TheVariants.{PodFile, Generator}
+use Rattle.tool_words.specs.declared.words.Words.{Words}
 use Rattle.tool_run.specs.Lines.{unread_line}
-use Rattle.tool_run.specs.Verdict.{Judged}
+use Rattle.tool_run.specs.Seen.{FilesSeen}
+use Rattle.tool_run.specs.Verdict.{Judged, plan_of}
 use Rattle.tool_run.specs.declared.plan.NoPlan.{NoPlan}
 use Rattle.tool_run.specs.declared.plan.NoPlan.TheVariants.{Usage, Line, Unread, NoMemory}
 
@@ -38,6 +43,29 @@ GivesJudged (Err Usage) wanted = ⊥
 GivesJudged (Err (Line line)) wanted = wanted ≡ Err line.items
 GivesJudged (Err (Unread line)) wanted = ⊥
 GivesJudged (Err NoMemory) wanted = ⊤
+
+-- the files that the words name: the pod file and the lists; where pods are generated, none
+abbrev pub files_of : Source → List (List ℕ) → List (List ℕ)
+files_of (PodFile file) lists = file ∷ lists
+files_of (Generator count) lists = []
+
+abbrev pub files_named : Words → List (List ℕ)
+files_named words = files_of words.source words.lists
+
+-- these are the files, as far as the words want any: they are told, or the words name none
+abbrev pub AreFilesFor : Words → FilesSeen → StoredFiles → Type 0
+AreFilesFor words files stored = (files.stored ≡ Some stored) ⊎ (files_named words ≡ [])
+
+-- the plan of the words over all such files; or the line that tells why there is none; or a read of a named file
+-- failed; or memory ran out
+abbrev pub GivesPlan : Words → FilesSeen → Result Plan NoPlan → Type 0
+GivesPlan words files (Ok plan) = (stored : StoredFiles) → AreFilesFor words files stored
+    → plan_of stored words ≡ Ok plan
+GivesPlan words files (Err Usage) = ⊥
+GivesPlan words files (Err (Line line)) = (stored : StoredFiles) → AreFilesFor words files stored
+    → plan_of stored words ≡ Err line.items
+GivesPlan words files (Err (Unread line)) = IsUnread (files_named words) files.faults_before files.faults_now line.items
+GivesPlan words files (Err NoMemory) = ⊤
 
 -- the list was read, whether its file is told or not
 abbrev pub IsReadList : NetList → Type 0

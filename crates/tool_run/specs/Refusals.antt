@@ -11,7 +11,6 @@ use Rattle.pod_file.specs.declared.error.PodError.{PodError}
 use Rattle.pod_file.specs.declared.error.PodError.TheVariants as pods
 use Rattle.pod_workers.specs.declared.plan.PlanError.{PlanError}
 use Rattle.pod_workers.specs.declared.plan.PlanError.TheVariants as plans
-use Rattle.tool_words.specs.declared.words.Words.{Words}
 
 -- an error of this kind about this
 abbrev pub error_about : ErrorKind → List ℕ → CniError
@@ -41,7 +40,7 @@ abbrev pub plan_error : PlanError → CniError
 plan_error (plans.SameName place) = invalid_list (codes "name")
 plan_error (plans.NoNetwork number) = invalid_pods (codes "no network for command " ++ decimal number)
 
--- the file that makes the plan fail
-abbrev pub file_at_fault : Words → PlanError → List ℕ
-file_at_fault words (plans.SameName place) = slice_index_or words.lists place []
-file_at_fault words (plans.NoNetwork number) = words.pods
+-- the file that makes the plan of this pod file and these lists fail
+abbrev pub file_at_fault : List ℕ → List (List ℕ) → PlanError → List ℕ
+file_at_fault file names (plans.SameName place) = slice_index_or names place []
+file_at_fault file names (plans.NoNetwork number) = file

@@ -8,7 +8,7 @@ use Rattle.tool_words.specs.Words.{IsWithinLimits, words_given}
 use Rattle.tool_run.specs.Lines.{usage_line}
 use Rattle.tool_run.specs.Seen.{FilesSeen, HasWriteFault, SinkSeen}
 use Rattle.tool_run.specs.Statuses.{ComesTo, IsCarriedOut, IsRefusal, IsTextOf, IsUnreadOf, Wrote, WrotePrefix, WroteNothing}
-use Rattle.tool_run.specs.Verdict.{carry}
+use Rattle.tool_run.specs.Verdict.{asked_by, carry}
 use Rattle.tool_run.specs.declared.carry.CarriedOut.{CarriedOut}
 use Rattle.tool_run.specs.declared.due.Due.{Due}
 use Rattle.tool_run.specs.declared.plan.NoPlan.{NoPlan}
@@ -20,7 +20,7 @@ use Rattle.tool_run.specs.declared.top.Outcome.{Outcome}
 -- words and files come to this, if the files are told
 pub record IsDueOf (words : List (List ℕ)) (files : FilesSeen) (due : Due) : Type 0 where
   pub words_are : words_given words ≡ Some due.words
-  pub comes : ComesTo words files (carry due.plan due.words.trace due.words.dump)
+  pub comes : ComesTo words files (carry due.plan (asked_by due.words))
   pub well_formed : IsWellFormed due.plan
   pub limits : IsWithinLimits due.words
 
@@ -40,7 +40,7 @@ pub record CarriesOut (due : Due) (made : CarriedOut) : Type 0 where
   pub plan : made.book.plan ≡ due.plan
   pub over : length made.book.plan.pods.rounds ≤ made.book.round
   pub legal : Legal made.book
-  pub text : made.text.items ≡ text_of made.book due.words.trace due.words.dump
+  pub text : made.text.items ≡ text_of made.book (asked_by due.words)
 
 -- what a run is to report, or why there is no plan
 abbrev pub Settles : List (List ℕ) → FilesSeen → Result CarriedOut NoPlan → Type 0

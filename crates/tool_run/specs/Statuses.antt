@@ -10,10 +10,10 @@ use Rattle.pod_workers.specs.Order.{IsDoneInFileOrder}
 use Rattle.pod_workers.specs.World.{World}
 use Rattle.tool_words.specs.Words.{words_given}
 use Rattle.tool_words.specs.declared.words.Words.{Words}
-use Rattle.tool_run.specs.Causes.{IsUnread, WhereTold}
+use Rattle.tool_run.specs.Causes.{IsUnread, files_named}
 use Rattle.tool_run.specs.Lines.{usage_line}
 use Rattle.tool_run.specs.Seen.{FilesSeen, HasReadFault, HasWriteFault, SinkSeen}
-use Rattle.tool_run.specs.Verdict.{Verdict, usage, line, carry, verdict_of}
+use Rattle.tool_run.specs.Verdict.{Verdict, usage, line, carry, asked_by, verdict_of}
 
 -- ---- what is written
 
@@ -32,9 +32,17 @@ WrotePrefix sink bytes = (n : ℕ) × Wrote sink (take n bytes)
 
 -- ---- what is reported
 
--- where the files are told, words and files come to this
+-- the words are taken, and name no file, since they ask for generated pods
+abbrev pub NameNoFile : List (List ℕ) → Type 0
+NameNoFile words = (by : Words) × (words_given words ≡ Some by) × (files_named by ≡ [])
+
+-- these are the files, as far as the words want any: they are told, or the words name none
+abbrev pub AreFiles : List (List ℕ) → FilesSeen → StoredFiles → Type 0
+AreFiles words files stored = (files.stored ≡ Some stored) ⊎ NameNoFile words
+
+-- over all such files, the words come to this
 abbrev pub ComesTo : List (List ℕ) → FilesSeen → Verdict → Type 0
-ComesTo words files verdict = WhereTold files.stored (λ stored. verdict_of words stored ≡ verdict)
+ComesTo words files verdict = (stored : StoredFiles) → AreFiles words files stored → verdict_of words stored ≡ verdict
 
 -- the words aren't taken, and this is the line that says so
 pub record IsUsage (words : List (List ℕ)) (bytes : List ℕ) : Type 0 where
@@ -51,21 +59,21 @@ pub record IsRefusal (words : List (List ℕ)) (files : FilesSeen) (bytes : List
 pub record IsUnreadOf (words : List (List ℕ)) (files : FilesSeen) (bytes : List ℕ) : Type 0 where
   pub by : Words
   pub words_are : words_given words ≡ Some by
-  pub unread : IsUnread (by.pods ∷ by.lists) files.faults_before files.faults_now bytes
+  pub unread : IsUnread (files_named by) files.faults_before files.faults_now bytes
 
 -- a legal book of the plan that the words and the files come to, with every round over
 pub record IsCarriedOut (words : List (List ℕ)) (files : FilesSeen) (book : World) : Type 0 where
   pub by : Words
   pub words_are : words_given words ≡ Some by
-  pub plan : ComesTo words files (carry book.plan by.trace by.dump)
+  pub plan : ComesTo words files (carry book.plan (asked_by by))
   pub over : length book.plan.pods.rounds ≤ book.round
   pub legal : Legal book
 
--- the whole text of the book, with the trace and the dump that the words ask for
+-- the whole text of the book, with all that the words ask for
 pub record IsTextOf (words : List (List ℕ)) (book : World) (bytes : List ℕ) : Type 0 where
   pub by : Words
   pub words_are : words_given words ≡ Some by
-  pub text : bytes ≡ text_of book by.trace by.dump
+  pub text : bytes ≡ text_of book (asked_by by)
 
 -- what a run reports: these bytes with this status, of this book if there is one
 pub data IsReport (words : List (List ℕ)) (files : FilesSeen) (status : ℕ) (book : Option World)
@@ -106,14 +114,13 @@ pub record ReportsWorld (words : List (List ℕ)) (sink : SinkSeen) (status : �
   pub status_is : status ≡ status_of w.answers
   pub text : (bytes : List ℕ) → IsTextOf words w bytes → Wrote sink bytes
 
--- Where the files are told, an undisturbed run has the status and wrote the text of every world that the words and the
--- files come to, whose commands went in the order of the file, all rounds over, and with memory. So words and files
--- alone determine both.
+-- Where the files are told or none is named, an undisturbed run has the status and wrote the text of every world that
+-- the words and the files come to, whose commands went in the order of the file, all rounds over, and with memory. So
+-- words and files alone determine both.
 abbrev pub IsDetermined : List (List ℕ) → FilesSeen → SinkSeen → ℕ → Type 0
-IsDetermined words files sink status =
-    WhereTold files.stored
-    (λ stored. IsUndisturbed files sink status → (w : World) → IsCarriedOut words files w → IsDoneInFileOrder w
-    → ReportsWorld words sink status w)
+IsDetermined words files sink status = (stored : StoredFiles) → AreFiles words files stored
+    → IsUndisturbed files sink status → (w : World) → IsCarriedOut words files w → IsDoneInFileOrder w
+    → ReportsWorld words sink status w
 
 -- ---- laws
 
@@ -121,13 +128,14 @@ IsDetermined words files sink status =
 abbrev pub IsStatusOf : Verdict → ℕ → Type 0
 IsStatusOf usage status = status ≡ 2
 IsStatusOf (line bytes) status = status ≡ 3
-IsStatusOf (carry plan trace dump) status = IsAmong status (0 ∷ 1 ∷ 8 ∷ [])
+IsStatusOf (carry plan asked) status = IsAmong status (0 ∷ 1 ∷ 8 ∷ [])
 
--- where the files are told and neither count of faults rose, a status is one of what words and files come to, or 6
+-- where the files are told or none is named, and neither count of faults rose, a status is one of what words and files
+-- come to, or 6
 abbrev pub EachStatusIsOfItsVerdict : Type 0
 EachStatusIsOfItsVerdict = (words : List (List ℕ)) (files : FilesSeen) (sink : SinkSeen) (status : ℕ)
     (book : Option World) → Ends words files sink status book
-    → (stored : StoredFiles) → files.stored ≡ Some stored → (HasReadFault files → ⊥) → (HasWriteFault sink → ⊥)
+    → (stored : StoredFiles) → AreFiles words files stored → (HasReadFault files → ⊥) → (HasWriteFault sink → ⊥)
     → IsStatusOf (verdict_of words stored) status ⊎ (status ≡ 6)
 
 -- of words that aren't taken it is told so, unless the sink gave up or memory ran out

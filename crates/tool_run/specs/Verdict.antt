@@ -1,5 +1,5 @@
 -- What words and files come to, before anything runs.
-use Rattle.std.specs.Prelude.{ℕ, List, [], ◌∷◌, Bool, codes, Option, Some, None, Result, Ok, Err}
+use Rattle.std.specs.Prelude.{ℕ, List, [], ◌∷◌, codes, Option, Some, None, Result, Ok, Err}
 use Rattle.cni_io.specs.Files.{StoredFiles, file_of}
 use Rattle.cni_io.specs.declared.files.FileFault.{FileFault}
 use Rattle.cni_io.specs.declared.files.FileFault.TheVariants as fault
@@ -7,11 +7,17 @@ use Rattle.cni_json.specs.Outcome.{◌>>=◌}
 use Rattle.cni_result.specs.declared.error.CniError.{CniError}
 use Rattle.net_conf.specs.List.{list_of}
 use Rattle.net_conf.specs.declared.list.NetList.{NetList}
+use Rattle.pod_file.specs.Generator.{generated}
 use Rattle.pod_file.specs.PodFile.{pods_of}
 use Rattle.pod_file.specs.declared.pods.Pods.{Pods}
+use Rattle.pod_text.specs.declared.asked.Asked.{Asked}
+use Rattle.pod_text.specs.declared.asked.CommandPart.{CommandPart}
+use Rattle.pod_text.specs.declared.asked.CommandPart.TheVariants.{Lines, Summary}
 use Rattle.pod_workers.specs.Join.{joined}
 use Rattle.pod_workers.specs.declared.plan.Plan.{Plan}
 use Rattle.tool_words.specs.Words.{words_given}
+use Rattle.tool_words.specs.declared.source.Source.{Source}
+use Rattle.tool_words.specs.declared.source.Source.TheVariants.{PodFile, Generator}
 use Rattle.tool_words.specs.declared.words.Words.{Words}
 use Rattle.tool_run.specs.Lines.{word_line, unread_line, error_line}
 use Rattle.tool_run.specs.Refusals.{list_error, pods_error, plan_error, file_at_fault}
@@ -24,7 +30,8 @@ Judged A = Result A (List ℕ)
 abbrev pub limit : ℕ
 limit = 16777216
 
--- What is printed of a file that isn't given. (`file_of` never answers want of memory: that line is printed of no file.)
+-- What is printed of a file that isn't given. (`file_of` never answers want of memory: that line is printed of no
+-- file.)
 abbrev pub fault_line : FileFault → List ℕ → List ℕ
 fault_line fault.Missing file = word_line (codes "missing") file
 fault_line (fault.TooLarge most) file = word_line (codes "too large") file
@@ -66,26 +73,55 @@ stored_lists files (name ∷ names) = do
 abbrev pub plan_from : Words → Pods → List NetList → Plan
 plan_from words pods lists = record { lists = lists; pods = pods; stop_at = words.stop_at }
 
-unfoldable pub judged_plan : Words → Pods → List NetList → Judged Plan
-judged_plan words pods lists = judged (λ e. error_line (plan_error e) (file_at_fault words e))
+-- the plan of pods that a file of this name gave
+unfoldable pub judged_plan : Words → List ℕ → Pods → List NetList → Judged Plan
+judged_plan words file pods lists = judged (λ e. error_line (plan_error e) (file_at_fault file words.lists e))
     (joined (plan_from words pods lists))
 
 -- the pod file, then each list, then the plan
-unfoldable pub plan_of : StoredFiles → Words → Judged Plan
-plan_of files words = do
-  pods ← stored_pods files words.pods
+unfoldable pub plan_of_files : StoredFiles → Words → List ℕ → Judged Plan
+plan_of_files files words file = do
+  pods ← stored_pods files file
   lists ← stored_lists files words.lists
-  judged_plan words pods lists
+  judged_plan words file pods lists
 
--- the words aren't taken; a line tells what is refused; or a plan is carried out, and printed with its trace and dump
--- where asked
+-- the plan of so many generated pods
+unfoldable pub generated_plan : Option ℕ → ℕ → Plan
+generated_plan stop_at count = let made = generated count in record {
+  lists = made.list ∷ [];
+  pods = made.pods;
+  stop_at = stop_at;
+}
+
+-- the plan of a pod file, or of generated pods, which no file says anything on
+abbrev pub plan_from_source : StoredFiles → Words → Source → Judged Plan
+plan_from_source files words (PodFile file) = plan_of_files files words file
+plan_from_source files words (Generator count) = Ok (generated_plan words.stop_at count)
+
+abbrev pub plan_of : StoredFiles → Words → Judged Plan
+plan_of files words = plan_from_source files words words.source
+
+-- what is printed of the commands: generated ones are many, and have a line of numbers
+abbrev pub command_part_of : Source → CommandPart
+command_part_of (PodFile file) = Lines
+command_part_of (Generator count) = Summary
+
+-- what the words ask to be printed
+abbrev pub asked_by : Words → Asked
+asked_by words = record {
+  commands = command_part_of words.source;
+  trace = words.flags.trace;
+  dump = words.flags.dump;
+}
+
+-- the words aren't taken; a line tells what is refused; or a plan is carried out, and so much of it printed
 pub data Verdict : Type 0 where
   usage : Verdict
   line : List ℕ → Verdict
-  carry : Plan → (trace dump : Bool) → Verdict
+  carry : Plan → Asked → Verdict
 
 abbrev pub verdict_on : Words → Judged Plan → Verdict
-verdict_on words (Ok plan) = carry plan words.trace words.dump
+verdict_on words (Ok plan) = carry plan (asked_by words)
 verdict_on words (Err text) = line text
 
 abbrev pub verdict_if : Option Words → StoredFiles → Verdict

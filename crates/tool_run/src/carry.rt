@@ -6,23 +6,24 @@ ghost use Rattle.pod_workers.specs.Legal.{Legal};
 ghost use Rattle.pod_workers.specs.Order.{IsInFileOrder};
 ghost use Rattle.pod_workers.specs.Plans.{IsWellFormed};
 ghost use Rattle.tool_run.specs.Reports.{CarriesOut};
+ghost use Rattle.tool_run.specs.Verdict.{asked_by};
 
 use crate::due::Due;
+use crate::kernel::{NodeKernel, begin};
 use crate::rounds::make_round;
 use cni_addr::NoMemory;
-use kernel_model::ListKernel;
-use pod_text::text;
+use pod_text::{Asked, CommandPart, text};
 use pod_threads::Gate;
-use pod_workers::{Book, begin_on_lists};
+use pod_workers::Book;
 use std::alloc::Global;
 use std::sync::Wait;
 use std::thread::Threads;
-use tool_words::Words;
+use tool_words::{Source, Words};
 
 /// A plan that was carried out: its book, and the whole text of it.
 #[derive(Drop)]
 pub(crate) struct CarriedOut {
-    pub(crate) book: Book<ListKernel>,
+    pub(crate) book: Book<NodeKernel>,
     pub(crate) text: Vec<u8>,
 }
 
@@ -40,7 +41,7 @@ pub(crate) fn carry_out<R: Threads + Wait + Sync, G: Gate>(
     ensures order { due.words.threads ≡ 1 → IfOk result (λ made. IsInFileOrder made.book) }
 {
     let Due { words, plan } = due;
-    let mut book = begin_on_lists(alloc, plan)?;
+    let mut book = begin(alloc, plan)?;
     while !book.ended() {
         book = make_round(rt, alloc, book, words.threads, gate);
     }
@@ -55,7 +56,7 @@ pub(crate) fn carry_out_alone(alloc: Global, due: Due) -> Result<CarriedOut, NoM
     ensures order { IfOk result (λ made. IsInFileOrder made.book) }
 {
     let Due { words, plan } = due;
-    let mut book = begin_on_lists(alloc, plan)?;
+    let mut book = begin(alloc, plan)?;
     while !book.ended() {
         book.round_alone();
     }
@@ -63,12 +64,26 @@ pub(crate) fn carry_out_alone(alloc: Global, due: Due) -> Result<CarriedOut, NoM
 }
 
 /// The book with its text, as the words ask for it.
-fn print(alloc: Global, book: Book<ListKernel>, words: &Words) -> Result<CarriedOut, NoMemory>
+fn print(alloc: Global, book: Book<NodeKernel>, words: &Words) -> Result<CarriedOut, NoMemory>
     ensures book { IfOk result (λ made. made.book ≡ book) }
     ensures legal { Legal book }
-    ensures text { IfOk result (λ made. made.text.items ≡ text_of book words.now.trace words.now.dump) }
+    ensures text { IfOk result (λ made. made.text.items ≡ text_of book (asked_by words.now)) }
 {
     book.is_legal();
-    let text = text(alloc, &book, words.trace, words.dump)?;
+    let text = text(alloc, &book, asked_by(words))?;
     Ok(CarriedOut { book, text })
+}
+
+/// What the words ask to be printed.
+fn asked_by(words: &Words) -> Asked
+    ensures { result ≡ asked_by words.now }
+{
+    Asked {
+        commands: match words.source {
+            Source::PodFile(_) => CommandPart::Lines,
+            Source::Generator(_) => CommandPart::Summary,
+        },
+        trace: words.flags.trace,
+        dump: words.flags.dump,
+    }
 }

@@ -1,15 +1,17 @@
 //! Laws of how a run ends, and of what lists and pods that were read make. A law is a function that does nothing: a
 //! caller gets it by calling it.
 
-ghost use Rattle.std.specs.Prelude.{◌≡◌, All, Ok};
+ghost use Rattle.std.specs.Prelude.{◌≡◌, ◌≤◌, ℕ, All, Ok, Option};
 ghost use Rattle.pod_workers.specs.Join.{joined};
 ghost use Rattle.pod_workers.specs.Plans.{IsWellFormed};
 ghost use Rattle.pod_workers.specs.declared.plan.Plan.{Plan};
 ghost use Rattle.tool_run.specs.Causes.{IsReadList, IsReadPods};
 ghost use Rattle.tool_run.specs.Statuses.{EachStatusIsOfItsVerdict, RefusedWordsAreTold};
+ghost use Rattle.tool_run.specs.Verdict.{generated_plan};
+ghost use Rattle.tool_words.specs.Command.{most_pods};
 
 use net_conf::network_list_laws;
-use pod_file::pod_file_laws;
+use pod_file::{generator_laws, pod_file_laws};
 use pod_workers::joined_plans_are_well_formed;
 
 /// Lists and pods that were read make a well-formed plan where they make one.
@@ -21,8 +23,15 @@ pub(crate) fn read_plans_are_well_formed()
     joined_plans_are_well_formed();
 }
 
-/// Where the files are told and neither count of faults rose, the status of a run is one of what its words and files
-/// come to, or 6, want of memory.
+/// The plan of generated pods is well formed.
+pub(crate) fn generated_plans_are_well_formed()
+    ensures { (stop_at : Option ℕ) (count : ℕ) → count ≤ most_pods → IsWellFormed (generated_plan stop_at count) }
+{
+    generator_laws();
+}
+
+/// Where the files are told or none is named, and neither count of faults rose, the status of a run is one of what its
+/// words and files come to, or 6, want of memory.
 pub fn an_undisturbed_status_is_of_its_verdict()
     ensures { EachStatusIsOfItsVerdict }
 {}

@@ -5,16 +5,18 @@
 //! of `Ends` (`specs/Statuses.antt`): what was to be reported was written, with its status; or the sink gave up, behind
 //! a prefix of it; or memory ran out outside the commands, and nothing was written. What is reported is the text of a
 //! book, or one line: that the words aren't taken, what is refused, or which read failed. Where the files are told, the
-//! book is of the plan that the definition `verdict_of` (`specs/Verdict.antt`) makes of words and files. The book has
-//! the guarantee `IsGuaranteed` of `pod_laws`, whatever the threads. Where one thread makes the rounds, the book's
-//! commands go in the order of the file, and words and files determine what is written and the status, want of memory
-//! and faults aside (`IsDetermined`).
+//! book is of the plan that the definition `verdict_of` (`specs/Verdict.antt`) makes of words and files; where pods are
+//! generated, no file is read, and it is of the generator's plan whatever the files. The book has the
+//! guarantee `IsGuaranteed` of `pod_laws`, whatever the threads. Where one thread makes the rounds, the book's commands
+//! go in the order of the file, and words and files determine what is written and the status, want of memory and faults
+//! aside (`IsDetermined`).
 //!
 //! ```text
 //! // words: --threads 4 pods.json net.json
 //! let outcome = run(&rt, alloc, words, &mut files, &mut sink, &OpenGate);
 //! outcome.status            // 0, and {"n":1,"ok":true,"verb":"DEL"} was written
 //! // without net.json: status 3, and {"error":"missing","file":"net.json"}
+//! // gen:1: status 0, and {"calls":47,"commands":4,"leases":1,"ok":4}
 //! run_alone(alloc, words, &mut files, &mut sink)    // the same on this thread alone
 //! ```
 #![tactic(auto)]
@@ -23,6 +25,8 @@
 mod alone_tests;
 mod carry;
 mod due;
+mod generated;
+pub mod kernel;
 pub mod laws;
 mod lines;
 mod plan;
@@ -36,6 +40,7 @@ mod tests;
 mod thread_tests;
 pub mod top;
 
+pub use kernel::NodeKernel;
 pub use laws::{an_undisturbed_status_is_of_its_verdict, refused_words_are_told};
 pub use pod_text::{MEMORY_STATUS, NO_WORDS_STATUS};
 pub use top::{Outcome, run, run_alone};

@@ -4,7 +4,7 @@ ghost use Rattle.std.specs.Prelude.{◌≡◌, ◌≤◌, ◌<◌, ◌^◌, ◌�
 ghost use Rattle.pod_workers.specs.Plans.{IsWellFormed};
 ghost use Rattle.tool_words.specs.Command.{most_lists};
 ghost use Rattle.tool_run.specs.Causes.{GivesJudged, IsReadList, IsReadPods, Steps};
-ghost use Rattle.tool_run.specs.Verdict.{stored_bytes, stored_list, stored_lists, plan_of, stored_pods, judged_list, judged_plan, judged_pods};
+ghost use Rattle.tool_run.specs.Verdict.{stored_bytes, stored_list, stored_lists, plan_of_files, stored_pods, judged_list, judged_plan, judged_pods};
 
 use crate::laws::read_plans_are_well_formed;
 use crate::lines::{error_line, word_line};
@@ -43,40 +43,47 @@ impl From<NoMemory> for NoPlan {
     }
 }
 
-/// Reads the pod file, then each network list in order, and joins them.
-#[tactic(auto, using(crate::proofs::Stopping::stopping), unfolding(crate::specs::Verdict::plan_of))]
+/// Reads the pod file of this name, then each network list of the words in order, and joins them.
+#[tactic(auto, using(crate::proofs::Stopping::stopping), unfolding(crate::specs::Verdict::plan_of_files))]
 pub(crate) fn read_plan<F: Files>(
     alloc: Global,
     files: &mut F,
     words: &Words,
+    file: &str,
 ) -> Result<Plan, NoPlan>
     requires { length words.now.lists ≤ most_lists }
     ensures gives { Steps (λ plan. plan) (F.files files.old) (F.faults files.old) (F.faults files.new)
-        (words.now.pods ∷ words.now.lists) (λ stored. plan_of stored words.now) result }
+        (file.now ∷ words.now.lists) (λ stored. plan_of_files stored words.now file.now) result }
     ensures well_formed { IfOk result IsWellFormed }
     ensures keeps { F.files files.new ≡ F.files files.old }
     ensures later { F.faults files.old ≤ F.faults files.new }
     ensures bounded { F.faults files.new < 2 ^ 64 }
 {
-    let pods = read_pods(alloc, files, words.pods.as_str())?;
+    let pods = read_pods(alloc, files, file)?;
     let lists = read_lists(alloc, files, words.lists.as_slice())?;
-    join(alloc, words, pods, lists)
+    join(alloc, words, file, pods, lists)
 }
 
 #[tactic(auto, using(crate::proofs::Stopping::stopping), unfolding(crate::specs::Verdict::judged_plan))]
-fn join(alloc: Global, words: &Words, pods: Pods, lists: Items<NetList>) -> Result<Plan, NoPlan>
+fn join(
+    alloc: Global,
+    words: &Words,
+    file: &str,
+    pods: Pods,
+    lists: Items<NetList>,
+) -> Result<Plan, NoPlan>
     requires few { length lists ≤ most_lists }
     requires pods_read { IsReadPods pods }
     requires lists_read { All IsReadList lists }
-    ensures gives { GivesJudged result (judged_plan words.now pods lists) }
+    ensures gives { GivesJudged result (judged_plan words.now file.now pods lists) }
     ensures well_formed { IfOk result IsWellFormed }
 {
     read_plans_are_well_formed();
     match Plan::join(lists, pods, words.stop_at) {
         Ok(plan) => Ok(plan),
         Err(end) => {
-            let file = file_at_fault(words, end);
-            Err(NoPlan::Line(error_line(alloc, &plan_error(alloc, end)?, file)?))
+            let blamed = file_at_fault(file, words.lists.as_slice(), end);
+            Err(NoPlan::Line(error_line(alloc, &plan_error(alloc, end)?, blamed)?))
         }
     }
 }

@@ -4,14 +4,13 @@ ghost use Rattle.std.specs.Prelude.{◌≡◌, IfOk};
 ghost use Rattle.tool_run.specs.Refusals as refusals;
 ghost use Rattle.tool_run.specs.Refusals.{error_about, file_at_fault, list_error, plan_error, pods_error};
 
-use cni_addr::NoMemory;
+use cni_addr::{NoMemory, Text};
 use cni_result::CniError;
 use cni_verbs::{ErrorKind, memory_error, message_of_field, plain_error, titled_error};
 use net_conf::ConfError;
 use pod_file::PodError;
 use pod_workers::PlanError;
 use std::alloc::Global;
-use tool_words::Words;
 
 /// The error of a network list that is refused.
 pub(crate) fn list_error(alloc: Global, error: &ConfError) -> Result<CniError, NoMemory>
@@ -59,15 +58,15 @@ pub(crate) fn plan_error(alloc: Global, error: PlanError) -> Result<CniError, No
 }
 
 /// The file that makes the plan fail: a list whose name an earlier one has, and else the pod file.
-pub(crate) fn file_at_fault(words: &Words, error: PlanError) -> &str
-    ensures { result.now ≡ file_at_fault words.entry.now error }
+pub(crate) fn file_at_fault<'a>(pods: &'a str, lists: &'a [Text], error: PlanError) -> &'a str
+    ensures { result.now ≡ file_at_fault pods.entry.now lists.entry.now error }
 {
     match error {
-        PlanError::SameName { list } => match words.lists.as_slice().get(list as usize) {
+        PlanError::SameName { list } => match lists.get(list as usize) {
             Some(name) => name.as_str(),
             None => "",
         },
-        PlanError::NoNetwork { .. } => words.pods.as_str(),
+        PlanError::NoNetwork { .. } => pods,
     }
 }
 

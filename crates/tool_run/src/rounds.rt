@@ -4,7 +4,7 @@ ghost use Rattle.std.specs.Prelude.{◌≡◌, ◌<◌, ◌≤◌, length};
 ghost use Rattle.pod_workers.specs.Extends.{Rounds};
 ghost use Rattle.pod_workers.specs.Order.{IsInFileOrder};
 
-use kernel_model::ListKernel;
+use crate::kernel::NodeKernel;
 use pod_threads::{Gate, Rounded, round_threads};
 use pod_workers::Book;
 use std::alloc::Global;
@@ -16,10 +16,10 @@ use std::thread::Threads;
 pub(crate) fn make_round<R: Threads + Wait + Sync, G: Gate>(
     rt: &R,
     alloc: Global,
-    book: Book<ListKernel>,
+    book: Book<NodeKernel>,
     threads: u8,
     gate: &G,
-) -> Book<ListKernel>
+) -> Book<NodeKernel>
     requires some { 1 ≤ threads }
     requires left { book.round < length book.plan.pods.rounds }
     ensures rounds { Rounds book result }
@@ -35,7 +35,7 @@ pub(crate) fn make_round<R: Threads + Wait + Sync, G: Gate>(
 }
 
 /// The book with its current round made by the calling thread.
-pub(crate) fn make_round_alone(mut book: Book<ListKernel>) -> Book<ListKernel>
+pub(crate) fn make_round_alone(mut book: Book<NodeKernel>) -> Book<NodeKernel>
     requires left { book.round < length book.plan.pods.rounds }
     ensures rounds { Rounds book result }
     ensures order { IsInFileOrder book → IsInFileOrder result }

@@ -3,16 +3,18 @@
 ghost use Rattle.std.specs.Prelude.{◌≤◌, IfOk, length};
 ghost use Rattle.tool_words.specs.Command.{most_lists};
 
+use crate::kernel::{NodeKernel, begin};
 use crate::plan::read_plan;
 use cni_addr::{Items, NoMemory, Text};
 use cni_io::{MemFiles, MemSink};
 use cni_verbs::Answer;
-use kernel_model::ListKernel;
 use kernel_text::reply_text;
-use pod_workers::{Book, Entry, begin_on_lists};
+use pod_workers::{Book, Entry};
 use std::alloc::Global;
 use std::test::Fail;
-use tool_words::Words;
+use tool_words::{Flags, Source, Words};
+
+const PODS: &str = "pods.json";
 
 const LIST: &str =
     "{\"cniVersion\":\"1.1.0\",\"name\":\"pods\",\"plugins\":[{\"type\":\"bridge\",\"ipam\":{\"type\":\"host-local\",\"subnet\":\"10.88.0.0/16\"}}]}";
@@ -44,7 +46,7 @@ fn add(alloc: Global, files: &mut MemFiles, name: &str, text: &str) -> Result<()
 /// The files of a run: these pods and the list.
 pub(crate) fn files_of(alloc: Global, pods: &str) -> Result<MemFiles, Fail> {
     let mut files = MemFiles::new(alloc, Vec::new(alloc));
-    add(alloc, &mut files, "pods.json", pods)?;
+    add(alloc, &mut files, PODS, pods)?;
     add(alloc, &mut files, "net.json", LIST)?;
     Ok(files)
 }
@@ -74,25 +76,27 @@ fn words(alloc: Global) -> Result<Words, NoMemory>
     Ok(Words {
         threads: 1,
         stop_at: None,
-        trace: false,
-        dump: false,
-        pods: Text::of(alloc, "pods.json")?,
+        flags: Flags {
+            trace: false,
+            dump: false,
+        },
+        source: Source::PodFile(Text::of(alloc, PODS)?),
         lists,
     })
 }
 
 /// The book of these pods as it is begun.
-fn book_of(alloc: Global, pods: &str) -> Result<Book<ListKernel>, Fail> {
+fn book_of(alloc: Global, pods: &str) -> Result<Book<NodeKernel>, Fail> {
     let mut files = files_of(alloc, pods)?;
     let words = words(alloc)?;
-    match read_plan(alloc, &mut files, &words) {
-        Ok(plan) => Ok(begin_on_lists(alloc, plan)?),
+    match read_plan(alloc, &mut files, &words, PODS) {
+        Ok(plan) => Ok(begin(alloc, plan)?),
         Err(_) => Err("the files make no plan".into()),
     }
 }
 
 /// A step of the first command, then one of the second, and so on, until neither may step.
-fn step_in_turn(book: &mut Book<ListKernel>) {
+fn step_in_turn(book: &mut Book<NodeKernel>) {
     for _ in 0..20 {
         for number in 1..3u32 {
             if book.ready(number) {

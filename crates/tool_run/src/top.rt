@@ -6,11 +6,11 @@ ghost use Rattle.pod_workers.specs.Order.{IsInFileOrder};
 ghost use Rattle.tool_run.specs.Seen.{files_seen, sink_seen};
 ghost use Rattle.tool_run.specs.Statuses.{AskForOneThread, Ends, IsDetermined};
 
+use crate::kernel::NodeKernel;
 use crate::report::report;
 use crate::settle::{settle, settle_alone};
 use cni_addr::Text;
 use cni_io::{Files, Sink};
-use kernel_model::ListKernel;
 use pod_laws::every_legal_history_is_guaranteed;
 use pod_threads::Gate;
 use pod_workers::{Book, one_outcome};
@@ -24,7 +24,7 @@ pub struct Outcome {
     /// The exit status, one of those that [`pod_text::statuses`] names.
     pub status: u8,
     /// The plan that was carried out, with what it came to.
-    pub book: Option<Book<ListKernel>>,
+    pub book: Option<Book<NodeKernel>>,
 }
 
 /// Carries out the plan that the words and the files come to, and writes its text.

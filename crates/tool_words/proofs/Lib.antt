@@ -1,4 +1,5 @@
 pub mod App
+pub mod Counts
 pub mod Given
 pub mod Numbers
 pub mod Saying

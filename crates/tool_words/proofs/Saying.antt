@@ -1,11 +1,13 @@
 -- What the words say, by a parse of them.
-use Rattle.std.proofs.Common.{◌≡◌, ◌∙◌, Bool, if◌then◌else◌, refl, List, Option, Some, None, Err}
+use Rattle.std.proofs.Common.{◌≡◌, ◌∙◌, ap, true, false, refl, List, length, nat_le, Option, Some, None, option_map, Err}
 use Rattle.clap.specs.Matches.{found_of}
-use Rattle.clap.specs.Walk.{Text, first_of, rows_of}
+use Rattle.clap.specs.Walk.{Row, Text, first_of, rows_of}
 use Rattle.clap.specs.declared.parser.matches.ArgMatches.{ArgMatches}
-use Rattle.tool_words.specs.Command.{pods_word}
+use Rattle.tool_words.specs.Command.{most_lists, pods_word}
 use Rattle.tool_words.specs.Parse.{IsParseOf, Parses}
-use Rattle.tool_words.specs.Words.{Reads, are_within, lists_at, words_given, words_if, words_in}
+use Rattle.tool_words.specs.Source.{source_of}
+use Rattle.tool_words.specs.Words.{Reads, lists_at, words_given, words_if, words_in}
+use Rattle.tool_words.specs.declared.source.Source.{Source}
 use Rattle.tool_words.specs.declared.words.WordsEnd.{WordsEnd}
 use Rattle.tool_words.specs.declared.words.WordsEnd.TheVariants.{Usage, NoMemory}
 
@@ -19,7 +21,17 @@ pub says : (words : List Text) (m : ArgMatches) (pods : Option Text) → IsParse
 unfolding words_given
 says words m pods p is = rw (p.taken, ← p.rows_are, is) refl
 
--- words within the limits, and beyond them
-pub by_limits : (words : List Text) (m : ArgMatches) (pods : Text) (lists : List Text) (b : Bool) → IsParseOf words m → Some pods ≡ first_of pods_word (rows_of (found_of m))
-    → lists ≡ lists_at (rows_of (found_of m)) → are_within pods lists ≡ b → words_given words ≡ (if b then Some (words_in (rows_of (found_of m)) pods) else None)
-by_limits words m pods lists b p is same limits = says words m (Some pods) p is ∙ rw (← same, limits) refl
+-- too many lists
+pub too_many : (words : List Text) (m : ArgMatches) (pods : Text) (lists : List Text) → IsParseOf words m → Some pods ≡ first_of pods_word (rows_of (found_of m))
+    → lists ≡ lists_at (rows_of (found_of m)) → nat_le (length lists) most_lists ≡ false → words_given words ≡ None
+too_many words m pods lists p is same over = says words m (Some pods) p is ∙ rw (← same, over) refl
+
+-- the words say what their source says
+pub by_source : (words : List Text) (m : ArgMatches) (pods : Text) (lists : List Text) → IsParseOf words m → Some pods ≡ first_of pods_word (rows_of (found_of m))
+    → lists ≡ lists_at (rows_of (found_of m)) → nat_le (length lists) most_lists ≡ true → words_given words ≡ option_map (words_in (rows_of (found_of m))) (source_of pods lists)
+by_source words m pods lists p is same fits = says words m (Some pods) p is ∙ rw (← same, fits) refl
+
+pub no_source : (words : List Text) (found : List Row) (source : Option Source) (end : WordsEnd) → words_given words ≡ option_map (words_in found) source
+    → Reads source (Err end) → Reads (words_given words) (Err end)
+no_source words found source Usage says none = says ∙ ap (option_map (words_in found)) none
+no_source words found source NoMemory says none = tt

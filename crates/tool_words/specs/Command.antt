@@ -43,6 +43,10 @@ greatest_entry = 4294967295
 abbrev pub most_lists : ℕ
 most_lists = 64
 
+-- how many pods may be generated
+abbrev pub most_pods : ℕ
+most_pods = 10000
+
 -- ---- the command
 
 -- whole numbers from 1 to the most
@@ -68,7 +72,8 @@ abbrev pub list_rule : Rule
 list_rule = record (new_rule lists_word) { range = Some (record { start_inclusive = 0; end_inclusive = usize_max }) }
 
 abbrev pub bare_app : App
-bare_app = on_top (λ s. record s { no_binary_name = true; disable_help_flag = true; disable_version_flag = true }) (new_app (codes "cnitool"))
+bare_app = on_top (λ s. record s { no_binary_name = true; disable_help_flag = true; disable_version_flag = true })
+    (new_app (codes "cnitool"))
 
 abbrev pub the_app : App
 the_app = with_rule (with_rule (with_rule (with_rule (with_rule (with_rule bare_app threads_rule) stop_rule)

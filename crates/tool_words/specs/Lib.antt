@@ -1,3 +1,4 @@
 pub mod Command
 pub mod Parse
+pub mod Source
 pub mod Words

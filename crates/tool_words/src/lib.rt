@@ -1,4 +1,4 @@
-//! The words of the program `cnitool`: options, flags, a pod file and network lists.
+//! The words of the program `cnitool`: options, flags, and a pod file with network lists or generated pods.
 //!
 //! What it promises above: [`read_words`] gives exactly what the definition `words_given` (`specs/Words.antt`) says of
 //! the words, and refuses exactly the words that it doesn't take. What clap takes is clap's own definition, on the
@@ -8,14 +8,17 @@
 //! // --trace pods.json net.json
 //! let words = read_words(alloc, words)?;
 //! words.threads         // 1, since --threads isn't given
-//! words.trace           // true
-//! words.pods.as_str()   // "pods.json"
-//! // --threads 17 pods.json: Err(WordsEnd::Usage)
+//! words.flags.trace     // true
+//! words.source          // Source::PodFile("pods.json")
+//! // gen:10: Source::Generator(10)
+//! // --threads 17 pods.json, gen:010: Err(WordsEnd::Usage)
 //! ```
 #![tactic(auto)]
 
 mod command;
 mod parse;
+pub mod source;
 pub mod words;
 
-pub use words::{Words, WordsEnd, read_words};
+pub use source::Source;
+pub use words::{Flags, Words, WordsEnd, read_words};

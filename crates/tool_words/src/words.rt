@@ -1,10 +1,10 @@
 //! What the words of the program say.
 
 ghost use Rattle.std.specs.Prelude.{◌≡◌, IfOk, map};
-ghost use Rattle.tool_words.specs.Words.{IsWithinLimits, Reads, are_within, asks_generator, words_given};
+ghost use Rattle.tool_words.specs.Words.{IsWithinLimits, Reads, words_given};
 
-use crate::command::{DUMP_FLAG, TRACE_FLAG};
-use crate::parse::{flag, lists, parse, pods, stop_at, threads};
+use crate::parse::{flags, lists, parse, pods, stop_at, threads};
+use crate::source::{Source, read_source};
 use cni_addr::{Items, NoMemory, Text};
 use std::alloc::Global;
 
@@ -18,14 +18,19 @@ pub struct Words {
     pub threads: u8,
     /// The number, from 1, of the history's entry after which the rest of its round is stopped.
     pub stop_at: Option<u32>,
+    pub flags: Flags,
+    pub source: Source,
+    /// The network lists' names.
+    pub lists: Items<Text>,
+}
+
+/// What is to be printed besides the answers.
+#[derive(Clone, Copy)]
+pub struct Flags {
     /// The calls are to be printed after the answers.
     pub trace: bool,
     /// The host is to be printed at the end.
     pub dump: bool,
-    /// The pod file's name.
-    pub pods: Text,
-    /// The network lists' names.
-    pub lists: Items<Text>,
 }
 
 /// Why the words were not read.
@@ -49,7 +54,8 @@ impl From<NoMemory> for WordsEnd {
 
 /// Reads the words, without the program's own name, as clap takes them (its documentation of `Command` and `Arg`).
 ///
-/// Words that clap takes are refused where they name more than 64 lists, or where PODS begins `gen:`.
+/// Words that clap takes are refused where they name more than 64 lists. Where PODS begins `gen:`, a number from 1 to
+/// 10,000 stands behind it, without a sign or a leading zero, and no list beside it; else they are refused too.
 pub fn read_words(alloc: Global, words: &[Text]) -> Result<Words, WordsEnd>
     ensures exact { Reads (words_given words.now) result }
     ensures limits { IfOk result IsWithinLimits }
@@ -59,38 +65,25 @@ pub fn read_words(alloc: Global, words: &[Text]) -> Result<Words, WordsEnd>
         return Err(WordsEnd::Usage);
     };
     let lists = lists(&matches);
-    if !are_within(pods, lists) {
+    if lists.len() > MOST_LISTS {
         return Err(WordsEnd::Usage);
     }
-    let (pods, lists) = names(alloc, pods, lists)?;
+    let source = read_source(alloc, pods, lists)?;
     Ok(Words {
         threads: threads(&matches).unwrap_or(1),
         stop_at: stop_at(&matches),
-        trace: flag(&matches, TRACE_FLAG),
-        dump: flag(&matches, DUMP_FLAG),
-        pods,
-        lists,
+        flags: flags(&matches),
+        source,
+        lists: names(alloc, lists)?,
     })
 }
 
-fn are_within(pods: &str, lists: &[&str]) -> bool
-    ensures { result ≡ are_within pods.now (map (λ v. v.now) lists.now) }
-{
-    lists.len() <= MOST_LISTS && !asks_generator(pods)
-}
-
-fn asks_generator(pods: &str) -> bool
-    ensures { result ≡ asks_generator pods.now }
-{
-    pods.as_bytes().starts_with(b"gen:")
-}
-
-fn names(alloc: Global, pods: &str, lists: &[&str]) -> Result<(Text, Items<Text>), NoMemory>
-    ensures { IfOk result (λ names. (names.0 ≡ pods.now) × (names.1 ≡ map (λ s. s.now) lists.now)) }
+fn names(alloc: Global, names: &[&str]) -> Result<Items<Text>, NoMemory>
+    ensures { IfOk result (λ copies. copies ≡ map (λ s. s.now) names.now) }
 {
     let mut copies = Items::new(alloc);
-    for list in lists {
-        copies.push(Text::of(alloc, list)?)?;
+    for name in names {
+        copies.push(Text::of(alloc, name)?)?;
     }
-    Ok((Text::of(alloc, pods)?, copies))
+    Ok(copies)
 }

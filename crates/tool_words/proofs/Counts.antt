@@ -1,0 +1,130 @@
+-- The number of pods that a text spells, and what `parse` makes of the text.
+use Rattle.std.proofs.Common.{◌≡◌, ◌≢◌, ◌∙◌, ℕ, ◌<◌, ◌≤◌, ◌^◌, Bool, true, false, codes, if◌then◌else◌, List, [], ◌∷◌, drop, length, get_or, Option, Some, None, option_map, decimal, refl, sym, ap, subst, inl, inr, arith}
+use Rattle.std.specs.Str.Parse.{IsNumeral, digits_value, without_leading_plus}
+use Rattle.std.proofs.NetLemmas.Options.{cond_some}
+use Rattle.std.proofs.lemmas.Bool.{and_parts, cases_order}
+use Rattle.std.proofs.lemmas.Bool.Decides.{nat_tests}
+use Rattle.std.proofs.lemmas.Fmt.{decimal-digits_value, decimal_digit, decimal_is_IsNumeral, first_decimal}
+use Rattle.std.proofs.lemmas.Option.{none-some, same_Some}
+use Rattle.std.proofs.lemmas.Slice.Eq.{bytes_eq-Decides}
+use Rattle.std.proofs.lemmas.Str.Parse.{digit_at, numerals_by_value, tells_digits, without_leading_plus_none}
+use Rattle.clap.specs.Walk.{Text, is_empty}
+use Rattle.tool_words.specs.Command.{most_pods}
+use Rattle.tool_words.specs.Source.{asks_generator, begins_plainly, count_of, generator_of, is_count, source_of}
+use Rattle.tool_words.specs.Words.{IsSourceWithin}
+use Rattle.tool_words.specs.declared.source.Source.{Source}
+use Rattle.tool_words.specs.declared.source.Source.TheVariants.{PodFile, Generator}
+
+none_of : {A : Type 0} (o : Option A) → ((x : A) → o ≡ Some x → ⊥) → None ≡ o
+none_of None apart = refl
+none_of (Some x) apart = absurd (apart x refl)
+
+counts : (n : ℕ) → 1 ≤ n → n ≤ most_pods → is_count n ≡ true
+counts n least most = grind (arith, nat_tests)
+
+counted : (n : ℕ) → is_count n ≡ true → (1 ≤ n) × (n ≤ most_pods)
+counted n is = grind (arith, nat_tests, is)
+
+-- the numeral of a number that may be asked for spells it
+count_decimal : (n : ℕ) → 1 ≤ n → n ≤ most_pods → count_of (decimal n) ≡ Some n
+unfolding count_of
+count_decimal n least most =
+    let value = (decimal_is_IsNumeral n (omega arith)).1 in
+    let same = (bytes_eq-Decides (decimal n) (decimal n)).1 refl in
+    rw (value, counts n least most, same) refl
+
+-- no other text spells a number
+decimal_count : (text : List ℕ) (n : ℕ) → count_of text ≡ Some n → (text ≡ decimal n) × (1 ≤ n) × (n ≤ most_pods)
+unfolding count_of
+decimal_count text n is =
+    let (test, same) = cond_some _ _ _ is in
+    let (fits, spelled) = and_parts _ _ test in
+    let value = digits_value 10 text in
+    let (least, most) = counted value fits in
+    (subst (λ m. text ≡ decimal m) same ((bytes_eq-Decides text (decimal value)).0 spelled), omega (arith, same, least), omega (arith, same, most))
+
+none_decimal : (text : List ℕ) → ((n : ℕ) → 1 ≤ n → n ≤ most_pods → text ≡ decimal n → ⊥) → None ≡ count_of text
+none_decimal text apart = none_of (count_of text) λ n e. let (is, least, most) = decimal_count text n e in apart n least most is
+
+plain_decimal : (n : ℕ) → 1 ≤ n → n ≤ most_pods → begins_plainly (decimal n) ≡ true
+plain_decimal n least most =
+    let (numeral, value) = decimal_is_IsNumeral n (omega arith) in
+    let above = first_decimal n (omega arith) (omega arith) in
+    let digit = digit_at (decimal n) 0 numeral.1 numeral.0 in
+    grind (arith, nat_tests, above, digit.1)
+
+-- a text that doesn't begin plainly spells none
+pub unspelled : (text : List ℕ) → begins_plainly text ≡ false → None ≡ count_of text
+unspelled text not_plain = none_decimal text λ n least most is. cc (sym not_plain ∙ ap begins_plainly is ∙ plain_decimal n least most)
+
+-- ---- what `parse` gives of a text that begins plainly
+
+unsigned : (text : List ℕ) → begins_plainly text ≡ true → get_or text 0 0 ≢ 43
+unsigned text plain = grind (arith, nat_tests, plain)
+
+unpadded : (text : List ℕ) → begins_plainly text ≡ true → get_or text 0 0 ≢ 48
+unpadded text plain = grind (arith, nat_tests, plain)
+
+-- what `parse` takes, perhaps behind a plus, and what it gives of it
+abbrev IsTaken : List ℕ → Type 0
+IsTaken text = IsNumeral 10 (without_leading_plus text) × (digits_value 10 (without_leading_plus text) < 2 ^ 32)
+
+abbrev IsParsed : List ℕ → ℕ → Type 0
+IsParsed text n = IsTaken text × (n ≡ digits_value 10 (without_leading_plus text))
+
+-- the number that was read, and its numeral
+read : (text : List ℕ) (n : ℕ) → begins_plainly text ≡ true → IsParsed text n → (n < 2 ^ 32) × (digits_value 10 text ≡ n) × (decimal n ≡ text)
+read text n plain h =
+    let bare = without_leading_plus_none text (unsigned text plain) in
+    let (number, fits) = subst (λ t. IsNumeral 10 t × (digits_value 10 t < 2 ^ 32)) bare h.0 in
+    let value = subst (λ t. digits_value 10 t ≡ n) bare (sym h.1) in
+    let spelled = decimal-digits_value (numerals_by_value _ tells_digits) text number.1 number.0 (λ zero. absurd (unpadded text plain zero)) (omega arith) in
+    (omega (arith, fits, value), value, ap decimal (sym value) ∙ spelled)
+
+pub spelled : (text : List ℕ) (n : ℕ) → begins_plainly text ≡ true → IsParsed text n → n ≤ most_pods → Some n ≡ count_of text
+spelled text n plain h most = elim (cases_order 0 n) [
+  | inl zero ↦
+      let numeral = (read text n plain h).2 in
+      let first : get_or text 0 0 ≡ 48 = subst (λ t. get_or t 0 0 ≡ 48) (ap decimal zero ∙ numeral) (rw (decimal_digit 0 (omega arith)) refl) in
+      absurd (unpadded text plain first)
+  | inr order ↦ elim order [
+    | inl some ↦ (let numeral = (read text n plain h).2 in sym (subst (λ t. count_of t ≡ Some n) numeral (count_decimal n (omega (arith, some)) most)))
+    | inr none ↦ absurd (omega (arith, none))
+  ]
+]
+
+pub too_many : (text : List ℕ) (n : ℕ) → begins_plainly text ≡ true → IsParsed text n → most_pods < n → None ≡ count_of text
+too_many text n plain h beyond = none_decimal text λ m least most is.
+    let value = (read text n plain h).1 in
+    let other = (decimal_is_IsNumeral m (omega arith)).1 in
+    let same = ap (digits_value 10) is in
+    omega (arith, value, other, same, most, beyond)
+
+pub unread : (text : List ℕ) → begins_plainly text ≡ true → ¬ IsTaken text → None ≡ count_of text
+unread text plain h = none_decimal text λ n least most is.
+    let (numeral, value) = decimal_is_IsNumeral n (omega arith) in
+    h (rw (without_leading_plus_none text (unsigned text plain), is) (numeral, omega (arith, value)))
+
+-- ---- what PODS asks for is within the limits
+
+nothing : {X : Type 0} (xs : List X) → is_empty xs ≡ true → xs ≡ []
+nothing [] h = refl
+nothing (x ∷ xs) h = absurd (grind (arith, nat_tests, h))
+
+generated : (number : Text) (lists : List Text) (o : Option ℕ) (s : Source) → count_of number ≡ o → lists ≡ [] → option_map Generator o ≡ Some s → IsSourceWithin lists s
+generated number lists None s spelled none h = absurd (none-some s h)
+generated number lists (Some n) s spelled none h =
+    let (is, least, most) = decimal_count number n spelled in
+    subst (IsSourceWithin lists) (same_Some (Generator n) s h) (least, most, none)
+
+generator : (number : Text) (lists : List Text) (b : Bool) (s : Source) → is_empty lists ≡ b → (if b then option_map Generator (count_of number) else None) ≡ Some s → IsSourceWithin lists s
+generator number lists true s empty h = generated number lists (count_of number) s refl (nothing lists empty) h
+generator number lists false s empty h = absurd (none-some s h)
+
+of_source : (pods : Text) (lists : List Text) (b : Bool) (s : Source)
+    → (if b then generator_of (drop (length (codes "gen:")) pods) lists else Some (PodFile pods)) ≡ Some s → IsSourceWithin lists s
+of_source pods lists true s h = generator (drop (length (codes "gen:")) pods) lists (is_empty lists) s refl h
+of_source pods lists false s h = subst (IsSourceWithin lists) (same_Some (PodFile pods) s h) tt
+
+pub source-within : (pods : Text) (lists : List Text) (s : Source) → source_of pods lists ≡ Some s → IsSourceWithin lists s
+source-within pods lists s h = of_source pods lists (asks_generator pods) s h
