@@ -1,0 +1,220 @@
+#!/usr/bin/env python3
+"""Refuses the program memory, output and files as the system does, and looks what it prints and with which status.
+
+    refusals.py [PROGRAM]
+
+- memory:  the address space is limited, in steps from where the program begins to where its commands do, and on to where
+           it has enough;
+- output:  a full device, a pipe that nobody reads, one whose reader stops halfway, and none at all;
+- files:   a folder, a file without permission, one that is missing, and lists of 16,777,216 and 16,777,217 bytes.
+
+Nothing may be printed but what the status allows: the whole text (0 and 1), the text with an answer that tells want of
+memory (8), one line (3 and 4), a prefix of the text (5), or nothing (6).
+"""
+
+import json
+import os
+import pathlib
+import resource
+import shutil
+import subprocess
+import sys
+
+sys.dont_write_bytecode = True
+sys.path.insert(0, str(pathlib.Path(__file__).resolve().parent.parent))
+
+from program import (
+    COMMAND_MEMORY,
+    DIRECTORY,
+    MOST_SECONDS,
+    REFUSED,
+    SUCCESS,
+    bridge,
+    command,
+    compact,
+    count_failed,
+    in_folder,
+    lines_of,
+    network_list,
+    program_of,
+    run,
+)
+
+READ = 4
+OUTPUT = 5
+MEMORY = 6
+# the loader of the system gave up before the program began
+NOT_BEGUN = 127
+# the code of the answer of a command that ran out of memory
+OUT_OF_MEMORY = 104
+MOST_BYTES = 16_777_216
+# how many limits of memory are tried below each of the two sizes
+LIMITS = 20
+# the most memory that is tried, and what is left out above the least in which the program begins, in pages
+MOST_PAGES = 1 << 16
+MARGIN = 4
+PODS = 400
+# the user `nobody`, to whom permissions apply where the script runs as root
+NOBODY = 65_534
+
+FILES = {
+    "net.json": network_list("pods", bridge(subnet="10.0.0.0/8")),
+    "pods.json": {
+        "opening": {"namespaces": [f"/ns/{i}" for i in range(PODS)]},
+        "rounds": [[command("ADD", "pods", f"c{i}", f"/ns/{i}") for i in range(PODS)]],
+    },
+    "folder": DIRECTORY,
+}
+WORDS = ["--dump", "pods.json", "net.json"]
+
+
+def limited(program, folder, size):
+    """A run with so many bytes of address space."""
+
+    def limit():
+        resource.setrlimit(resource.RLIMIT_AS, (size, size))
+
+    return subprocess.run(
+        [program, *WORDS],
+        cwd=folder,
+        stdout=subprocess.PIPE,
+        stderr=subprocess.DEVNULL,
+        preexec_fn=limit,
+        check=False,
+        timeout=MOST_SECONDS,
+    )
+
+
+def has_begun(ended):
+    return 0 <= ended.returncode < NOT_BEGUN
+
+
+def first_that(passes, low, high):
+    """The least number that passes, where those from some number on do; `high` does."""
+    while low < high:
+        middle = (low + high) // 2
+        low, high = (low, middle) if passes(middle) else (middle + 1, high)
+    return low
+
+
+def steps_between(low, high):
+    return [low + (high - low) * step // LIMITS for step in range(LIMITS + 1)]
+
+
+def error_code(line):
+    return json.loads(line).get("error", {}).get("code")
+
+
+def wrong_of_memory(ended, text):
+    """What is wrong with how a run ended that has little memory."""
+    if ended.returncode == SUCCESS and ended.stdout == text:
+        return None
+    if ended.returncode == MEMORY and ended.stdout == b"":
+        return None
+    if ended.returncode == COMMAND_MEMORY:
+        answers = [it for it in lines_of(ended.stdout) if "verb" in json.loads(it)]
+        if len(answers) == PODS and any(error_code(it) == OUT_OF_MEMORY for it in answers):
+            return None
+    return f"status {ended.returncode}, {len(ended.stdout)} bytes"
+
+
+def memory(program, folder, text):
+    """Complaints about runs in little memory, and how often each status came."""
+    page = resource.getpagesize()
+
+    def first_limit(passes, low, high):
+        return first_that(lambda it: passes(limited(program, folder, it * page)), low, high)
+
+    enough = first_limit(lambda it: it.returncode == SUCCESS, 1, MOST_PAGES)
+    some = first_limit(lambda it: it.returncode in (SUCCESS, COMMAND_MEMORY), 1, enough)
+    none = first_limit(has_begun, 1, some) + MARGIN
+    seen = {}
+    for size in [*steps_between(none, some), *steps_between(some, enough)]:
+        ended = limited(program, folder, size * page)
+        seen[ended.returncode] = seen.get(ended.returncode, 0) + 1
+        wrong = wrong_of_memory(ended, text)
+        if wrong:
+            yield f"{size * page} bytes: {wrong}"
+    print("memory: " + ", ".join(f"status {it} {count} times" for it, count in sorted(seen.items())))
+    if not {MEMORY, COMMAND_MEMORY} <= seen.keys():
+        yield "no run, or no command of a run, was refused memory"
+
+
+def output_to(program, folder, stdout, read):
+    """The status, and what the reader took, of a run that writes there."""
+    child = subprocess.Popen([program, *WORDS], cwd=folder, stdout=stdout)
+    taken = read(child)
+    return child.wait(timeout=MOST_SECONDS), taken
+
+
+def read_half(child, size):
+    taken = child.stdout.read(size)
+    child.stdout.close()
+    return taken
+
+
+def output(program, folder, text):
+    half = len(text) // 2
+    with open("/dev/full", "wb") as full:
+        ended = {"a full device": output_to(program, folder, full, lambda _: b"")}
+    ended["a pipe that nobody reads"] = output_to(program, folder, subprocess.PIPE, lambda it: read_half(it, 0))
+    ended["a reader that stops halfway"] = output_to(program, folder, subprocess.PIPE, lambda it: read_half(it, half))
+    closed = subprocess.run(["sh", "-c", '"$0" "$@" >&-', program, *WORDS], cwd=folder, check=False)
+    ended["no output"] = closed.returncode, b""
+    for name, (status, taken) in ended.items():
+        if status != OUTPUT or not text.startswith(taken):
+            yield f"{name}: status {status}"
+
+
+def as_nobody():
+    if os.geteuid() == 0:
+        os.setuid(NOBODY)
+
+
+def without_permission(program, folder):
+    """A run in which the list may not be read, by a user to whom that applies."""
+    folder.chmod(0o755)
+    shutil.copy(program, folder / "program")
+    (folder / "net.json").chmod(0)
+    words = ["./program", *WORDS]
+    ended = subprocess.run(words, cwd=folder, stdout=subprocess.PIPE, preexec_fn=as_nobody, check=False)
+    (folder / "net.json").chmod(0o644)
+    return ended
+
+
+def read_error(file):
+    return (compact({"error": "read", "file": file}) + "\n").encode()
+
+
+def files(program, folder, text):
+    net = compact(FILES["net.json"]).encode()
+    (folder / "most.json").write_bytes(net + b" " * (MOST_BYTES - len(net)))
+    (folder / "more.json").write_bytes(net + b" " * (MOST_BYTES + 1 - len(net)))
+    missing = (compact({"error": "missing", "file": "absent.json"}) + "\n").encode()
+    large = (compact({"error": "too large", "file": "more.json"}) + "\n").encode()
+    wanted = {
+        "a folder": (run(program, ["pods.json", "folder"], folder), READ, read_error("folder")),
+        "a missing file": (run(program, ["pods.json", "absent.json"], folder), REFUSED, missing),
+        "the most bytes": (run(program, ["--dump", "pods.json", "most.json"], folder), SUCCESS, text),
+        "a byte more": (run(program, ["pods.json", "more.json"], folder), REFUSED, large),
+        "no permission": (without_permission(program, folder), READ, read_error("net.json")),
+    }
+    for name, (ended, status, printed) in wanted.items():
+        if (ended.returncode, ended.stdout) != (status, printed):
+            yield f"{name}: status {ended.returncode}, {ended.stdout[:200]}"
+
+
+def main():
+    program = program_of(sys.argv[1:])
+    with in_folder(FILES) as folder:
+        text = run(program, WORDS, folder).stdout
+        failed = count_failed(
+            (name, list(tried(program, folder, text)))
+            for name, tried in (("memory", memory), ("output", output), ("files", files))
+        )
+    print(f"refusals: {failed} wrong")
+    sys.exit(failed > 0)
+
+
+if __name__ == "__main__":
+    main()
