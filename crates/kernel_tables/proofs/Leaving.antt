@@ -1,0 +1,317 @@
+-- What leaves a sound host with a link.
+use Rattle.std.proofs.Common.{◌≡◌, ◌<◌, ℕ, zero, suc, Bool, true, false, not, ap, List, [], ◌∷◌, inl, inr, Option, Some, None, refl, sym, ◌∙◌, length, arith}
+use Rattle.std.specs.Prelude.{filter, find, ◌&&◌, ◌||◌, if◌then◌else◌}
+use Rattle.std.specs.List.{list_any, list_all, Contains}
+use Rattle.std.specs.Str.{bytes_eq}
+use Rattle.std.specs.Cmp.{both_ways}
+use Rattle.std.specs.Cmp.Lexicographic.{nat_list_eq_equiv}
+use Rattle.std.proofs.lemmas.Bool.{and_parts}
+use Rattle.std.proofs.lemmas.Slice.Eq.{bytes_eq-Decides}
+use Rattle.cni_addr.specs.Lists.{distinct, IsAmong, without_first}
+use Rattle.kernel_types.specs.Apply.Calls.{drop_link_of, goes_with, link_del_of, without_link}
+use Rattle.kernel_types.specs.Equal.{tag_eq}
+use Rattle.kernel_types.specs.Sound.{HasTagsOn, IsSound, is_link_or_peer, link_fits_tag, may_be_on, peer_fits, peers_back}
+use Rattle.kernel_types.specs.Words.{has_ns_in, is_at, is_bridge, is_own, is_peer_at}
+use Rattle.kernel_types.specs.declared.call.Reply.TheVariants.{Gone, NoNs}
+use Rattle.kernel_types.specs.declared.object.Att.{Att}
+use Rattle.kernel_types.specs.declared.object.Host.{Host}
+use Rattle.kernel_types.specs.declared.object.Link.{Link}
+use Rattle.kernel_types.specs.declared.object.LinkKey.{LinkKey}
+use Rattle.kernel_types.proofs.Cases.{is_at-itself, own-own, tag_eq-refl}
+use Rattle.kernel_types.proofs.Isolation.{tag_eq-same}
+use Rattle.kernel_types.proofs.ListLemmas.{list_any-find_none, list_any-weaker, without_first-none}
+use Rattle.kernel_types.proofs.Removal.{goes_with-itself, link_del-found, same_place}
+use Rattle.kernel_types.proofs.SoundHosts.{goes_with-sound, HasTagsOn-sound}
+use Rattle.kernel_types.proofs.TouchRemoval.{addresses_gone, gone_may_go, is_at-symm, keeps_or_owns, owned_no_bridge, routes_gone}
+use Rattle.kernel_types.specs.contracts.object.AttPartialEq.TheImpl.{eq-value as att_eq-value}
+use Rattle.kernel_types.specs.declared.object.Tag.{Tag}
+use Rattle.kernel_types.specs.declared.object.Tag.TheVariants.{Own}
+use Rattle.kernel_tables.specs.Leaving.{has_end_at, is_peer}
+use Rattle.kernel_tables.specs.Rows.{owner_named}
+use Rattle.kernel_tables.specs.Table.{is_key}
+use Rattle.kernel_tables.proofs.Owned.{att-same, own-is}
+
+-- ---- lists
+
+pub filter-where : {X : Type 0} (k p q : X → Bool) → ((x : X) → k x ≡ true → p x ≡ q x) → (xs : List X) → list_all k xs ≡ true → filter p xs ≡ filter q xs
+filter-where k p q same [] h = refl
+filter-where k p q same (x ∷ xs) h =
+    let parts = and_parts (k x) (list_all k xs) h in
+    rw (same x parts.0, filter-where k p q same xs parts.1) refl
+
+filter-among : {X : Type 0} (p q : X → Bool) (xs : List X) → ((x : X) → IsAmong x xs → p x ≡ q x) → filter p xs ≡ filter q xs
+filter-among p q [] same = refl
+filter-among p q (x ∷ xs) same = rw (same x (inl refl), filter-among p q xs (λ y at. same y (inr at))) refl
+
+contains-more : {X : Type 0} (x y : X) (xs : List X) → Contains xs x → Contains (y ∷ xs) x
+contains-more x y xs c = let below : suc c.0 < suc (length xs) = omega (arith, c.1) in (suc c.0, below, c.2)
+
+among-contains : {X : Type 0} (x : X) (xs : List X) → IsAmong x xs → Contains xs x
+among-contains x [] at = absurd at
+among-contains x (y ∷ ys) at = elim at [ inl e ↦ (let below : zero < suc (length ys) = omega arith in (zero, below, sym e)) | inr later ↦ contains-more x y ys (among-contains x ys later) ]
+
+found-step : {X : Type 0} (x y : X) (xs : List X) (b : Bool) (o : Option X) → (if b then Some x else o) ≡ Some y → (o ≡ Some y → IsAmong y xs) → IsAmong y (x ∷ xs)
+found-step x y xs true o h later = inl (grind (arith, h))
+found-step x y xs false o h later = inr (later h)
+
+pub found-among : {X : Type 0} (p : X → Bool) (xs : List X) (y : X) → find p xs ≡ Some y → IsAmong y xs
+found-among p [] y h = absurd (cc h)
+found-among p (x ∷ xs) y h = found-step x y xs (p x) (find p xs) h (found-among p xs y)
+
+any-among : {X : Type 0} (p : X → Bool) (x : X) (xs : List X) → IsAmong x xs → p x ≡ true → list_any p xs ≡ true
+any-among p x [] at h = absurd at
+any-among p x (y ∷ ys) at h = elim at [ inl e ↦ (let here : p y ≡ true = ap p (sym e) ∙ h in grind (arith, here)) | inr later ↦ (let there = any-among p x ys later h in grind (arith, there)) ]
+
+pub all-among : {X : Type 0} (p : X → Bool) (x : X) (xs : List X) → IsAmong x xs → list_all p xs ≡ true → p x ≡ true
+all-among p x [] at h = absurd at
+all-among p x (y ∷ ys) at h =
+    elim at [ inl e ↦ ap p e ∙ grind (arith, h) | inr later ↦ all-among p x ys later (grind (arith, h)) ]
+
+from-among : {X : Type 0} (p : X → Bool) (c : Bool) (xs : List X) → ((x : X) → IsAmong x xs → p x ≡ true → c ≡ true) → list_any p xs ≡ true → c ≡ true
+from-among p c [] w h = cc
+from-among p c (x ∷ xs) w h =
+    let here : p x ≡ true → c ≡ true = w x (inl refl) in
+    let later : list_any p xs ≡ true → c ≡ true = from-among p c xs (λ y at. w y (inr at)) in
+    grind (arith, h, here, later)
+
+filter-twice : {X : Type 0} (p q : X → Bool) (xs : List X) → filter (λ x. not (q x)) (filter (λ x. not (p x)) xs) ≡ filter (λ x. not (p x || q x)) xs
+filter-twice p q [] = refl
+filter-twice p q (x ∷ xs) = grind (arith, filter-twice p q xs)
+
+keep-all : {X : Type 0} (xs : List X) → filter (λ x. true) xs ≡ xs
+keep-all [] = refl
+keep-all (x ∷ xs) = ap (λ l. x ∷ l) (keep-all xs)
+
+none-filtered : {X : Type 0} (p : X → Bool) (xs : List X) → list_any p xs ≡ false → filter (λ x. not (p x)) xs ≡ xs
+none-filtered p [] h = refl
+none-filtered p (x ∷ xs) h = grind (arith, none-filtered p xs)
+
+-- where keys are distinct, the first that passes is the one of its key
+none-of : {X : Type 0} (same : X → X → Bool) (x : X) (xs : List X) → ((y : X) → same x y ≡ same y x) → list_any (same x) xs ≡ false → filter (λ y. not (same y x)) xs ≡ xs
+none-of same x [] s h = refl
+none-of same x (y ∷ ys) s h = grind (arith, s y, none-of same x ys s)
+
+without_first-step : {X : Type 0} (p : X → Bool) (same : X → X → Bool) → ((x : X) → same x x ≡ true) → ((x y : X) → same x y ≡ same y x) → (x : X) (xs : List X) (link : X) (b : Bool) → distinct same (x ∷ xs) ≡ true
+    → (if b then Some x else find p xs) ≡ Some link → (find p xs ≡ Some link → IsAmong link xs)
+    → (find p xs ≡ Some link → without_first p xs ≡ filter (λ y. not (same y link)) xs)
+    → (if b then xs else x ∷ without_first p xs) ≡ filter (λ y. not (same y link)) (x ∷ xs)
+without_first-step p same self s x xs link true d h among rest =
+    let e : x ≡ link = grind (arith, h) in
+    let parts = and_parts (not (list_any (same x) xs)) (distinct same xs) d in
+    let none = none-of same x xs (s x) (grind (arith, parts.0)) in
+    rw (← e) (grind (arith, self x, none))
+without_first-step p same self s x xs link false d h among rest =
+    let parts = and_parts (not (list_any (same x) xs)) (distinct same xs) d in
+    let other : same x link ≡ false = grind (arith, parts.0, any-among (same x) link xs (among h)) in
+    grind (arith, other, rest h)
+
+without_first-one : {X : Type 0} (p : X → Bool) (same : X → X → Bool) → ((x : X) → same x x ≡ true) → ((x y : X) → same x y ≡ same y x) → (xs : List X) (link : X) → distinct same xs ≡ true → find p xs ≡ Some link
+    → without_first p xs ≡ filter (λ y. not (same y link)) xs
+without_first-one p same self s [] link d h = refl
+without_first-one p same self s (x ∷ xs) link d h =
+    without_first-step p same self s x xs link (p x) d h (found-among p xs link) (without_first-one p same self s xs link (and_parts (not (list_any (same x) xs)) (distinct same xs) d).1)
+
+-- ---- a link and its peer
+
+peer-turned : (o : Option LinkKey) (l : Link) → is_peer_at l.ns l.name o ≡ is_peer o l
+peer-turned None l = refl
+peer-turned (Some key) l = grind (arith, nat_list_eq_equiv.symm key.ns l.ns, nat_list_eq_equiv.symm key.name l.name)
+
+module _ (host : Host) (sound : IsSound host) (link : Link) (there : IsAmong link host.links) where
+  goes : (l : Link) → IsAmong l host.links → goes_with link.ns link.name l ≡ is_link_or_peer link l
+  goes l at = goes_with-sound host link l sound (among-contains link host.links there) (among-contains l host.links at)
+
+  goes-key : (l : Link) → IsAmong l host.links → goes_with link.ns link.name l ≡ (is_at link.ns link.name l || is_peer link.peer l)
+  goes-key l at = goes l at ∙ ap (λ b. is_at link.ns link.name l || b) (peer-turned link.peer l)
+
+  -- the links that stay
+  pub links-stay : filter (λ l. not (is_peer link.peer l)) (filter (λ l. not (is_at link.ns link.name l)) host.links) ≡ filter (λ l. not (goes_with link.ns link.name l)) host.links
+  links-stay =
+      filter-twice (is_at link.ns link.name) (is_peer link.peer) host.links
+      ∙ filter-among (λ l. not (is_at link.ns link.name l || is_peer link.peer l)) (λ l. not (goes_with link.ns link.name l)) host.links (λ l at. ap not (sym (goes-key l at)))
+
+  -- one that goes stands at an end
+  goes-end : (ns name : List ℕ) (l : Link) → IsAmong l host.links → goes_with link.ns link.name l && is_at ns name l ≡ true → has_end_at link ns name ≡ true
+  goes-end ns name l at h =
+      let parts = and_parts (goes_with link.ns link.name l) (is_at ns name l) h in
+      let here = and_parts (bytes_eq l.ns ns) (bytes_eq l.name name) parts.1 in
+      let one : l.ns ≡ ns = (bytes_eq-Decides l.ns ns).0 here.0 in
+      let two : l.name ≡ name = (bytes_eq-Decides l.name name).0 here.1 in
+      let end : has_end_at link l.ns l.name ≡ true = ap (λ b. b || is_peer_at l.ns l.name link.peer) (is_at-symm link l) ∙ sym (goes l at) ∙ parts.0 in
+      ap (λ n. has_end_at link n name) (sym one) ∙ ap (has_end_at link l.ns) (sym two) ∙ end
+
+  peer-goes : (ns name : List ℕ) (o : Option LinkKey) → peer_fits host.links link o ≡ true → is_peer_at ns name o ≡ true → list_any (λ l. goes_with link.ns link.name l && is_at ns name l) host.links ≡ true
+  peer-goes ns name None fits h = absurd (cc h)
+  peer-goes ns name (Some key) fits h =
+      let here = and_parts (bytes_eq key.ns ns) (bytes_eq key.name name) h in
+      let one : key.ns ≡ ns = (bytes_eq-Decides key.ns ns).0 here.0 in
+      let two : key.name ≡ name = (bytes_eq-Decides key.name name).0 here.1 in
+      list_any-weaker (peers_back link key) (λ l. goes_with link.ns link.name l && is_at ns name l) (λ l back. rw (← one, ← two) (grind (arith, back))) host.links (grind (arith, fits))
+
+  end-goes : (ns name : List ℕ) → has_end_at link ns name ≡ true → list_any (λ l. goes_with link.ns link.name l && is_at ns name l) host.links ≡ true
+  end-goes ns name h =
+      let own : is_at ns name link ≡ true → list_any (λ l. goes_with link.ns link.name l && is_at ns name l) host.links ≡ true =
+      λ at. any-among (λ l. goes_with link.ns link.name l && is_at ns name l) link host.links there (rw (goes_with-itself link, at) refl) in
+      let fits : peer_fits host.links link link.peer ≡ true = all-among (λ l. peer_fits host.links l l.peer) link host.links there sound.links.peers in
+      grind (arith, h, own, peer-goes ns name link.peer fits)
+
+  pub goes-at : (ns name : List ℕ) → list_any (λ l. goes_with link.ns link.name l && is_at ns name l) host.links ≡ has_end_at link ns name
+  goes-at ns name = both_ways (list_any (λ l. goes_with link.ns link.name l && is_at ns name l) host.links) (has_end_at link ns name)
+      (from-among (λ l. goes_with link.ns link.name l && is_at ns name l) (has_end_at link ns name) host.links (goes-end ns name)) (end-goes ns name)
+
+owned-alone : (g o : Bool) → (not g || o) ≡ true → not (o && g) ≡ not g
+owned-alone true o h = grind (arith, h)
+owned-alone false o h = grind arith
+
+-- ---- the first link of an attachment
+
+module _ (host : Host) (sound : IsSound host) (att : Att) (link : Link) (found : find (λ l. is_own att l.tag) host.links ≡ Some link) where
+  there : IsAmong link host.links
+  there = found-among (λ l. is_own att l.tag) host.links link found
+
+  own-links : filter (λ l. not (is_peer link.peer l)) (without_first (λ l. is_own att l.tag) host.links) ≡ filter (λ l. not (goes_with link.ns link.name l)) host.links
+  own-links =
+      ap (filter (λ l. not (is_peer link.peer l))) (without_first-one (λ l. is_own att l.tag) (λ a b. is_at b.ns b.name a) is_at-itself (λ a b. is_at-symm a b) host.links link sound.links.keys found)
+      ∙ links-stay host sound link there
+
+  own-addresses : filter (λ a. not (is_own att a.tag && has_end_at link a.ns a.link)) host.addresses ≡ filter (λ a. not (list_any (λ l. goes_with link.ns link.name l && is_at a.ns a.link l) host.links)) host.addresses
+  own-addresses =
+      filter-where (λ a. not (list_any (λ l. goes_with link.ns link.name l && is_at a.ns a.link l) host.links) || is_own att a.tag) (λ a. not (is_own att a.tag && has_end_at link a.ns a.link)) (λ a. not (list_any (λ l. goes_with link.ns link.name l && is_at a.ns a.link l) host.links))
+      (λ a h. ap (λ b. not (is_own att a.tag && b)) (sym (goes-at host sound link there a.ns a.link)) ∙ owned-alone (list_any (λ l. goes_with link.ns link.name l && is_at a.ns a.link l) host.links) (is_own att a.tag) h)
+      host.addresses (addresses_gone (is_own att) (goes_with link.ns link.name) host.links host.addresses sound.links.keys (gone_may_go att host link sound found) sound.addresses)
+
+  own-routes : filter (λ r. not (is_own att r.tag && has_end_at link r.ns r.link)) host.routes ≡ filter (λ r. not (list_any (λ l. goes_with link.ns link.name l && is_at r.ns r.link l) host.links)) host.routes
+  own-routes =
+      filter-where (λ r. not (list_any (λ l. goes_with link.ns link.name l && is_at r.ns r.link l) host.links) || is_own att r.tag) (λ r. not (is_own att r.tag && has_end_at link r.ns r.link)) (λ r. not (list_any (λ l. goes_with link.ns link.name l && is_at r.ns r.link l) host.links))
+      (λ r h. ap (λ b. not (is_own att r.tag && b)) (sym (goes-at host sound link there r.ns r.link)) ∙ owned-alone (list_any (λ l. goes_with link.ns link.name l && is_at r.ns r.link l) host.links) (is_own att r.tag) h)
+      host.routes (routes_gone (is_own att) (goes_with link.ns link.name) host.links host.routes sound.links.keys (gone_may_go att host link sound found) sound.routes)
+
+  pub own-leaves : (
+    record host {
+      links = filter (λ l. not (is_peer link.peer l)) (without_first (λ l. is_own att l.tag) host.links);
+      addresses = filter (λ a. not (is_own att a.tag && has_end_at link a.ns a.link)) host.addresses;
+      routes = filter (λ r. not (is_own att r.tag && has_end_at link r.ns r.link)) host.routes;
+    },
+    Gone true,
+  ) ≡ link_del_of host att
+  own-leaves = (λ i. (record host { links = own-links i; addresses = own-addresses i; routes = own-routes i }, Gone true)) ∙ link_del-found host att link found
+
+pub none-leaves : (host : Host) (att : Att) → find (λ l. is_own att l.tag) host.links ≡ None → (record host { links = without_first (λ l. is_own att l.tag) host.links }, Gone false) ≡ link_del_of host att
+none-leaves host att none =
+    ap (λ ls. (record host { links = ls }, Gone false)) (without_first-none (λ l. is_own att l.tag) host.links (list_any-find_none (λ l. is_own att l.tag) host.links none))
+    ∙ ap (without_link host) (sym none)
+
+-- ---- what is dropped
+
+pub gone-own : {T : Type 0} (tag_of : T → Tag) (att : Att) (gone : T → Bool) (xs : List T) → filter (λ x. not (is_key att_eq-value.it (owner_named (tag_of x)) att && gone x)) xs ≡ filter (λ x. not (is_own att (tag_of x) && gone x)) xs
+gone-own tag_of att gone xs = (λ i. filter (λ x. not (own-is att_eq-value.it att-same att (tag_of x) i && gone x)) xs)
+
+pub no-peer : (o : Option LinkKey) (links : List Link) → o ≡ None → links ≡ filter (λ l. not (is_peer o l)) links
+no-peer o links none = sym (ap (λ p. filter (λ l. not (is_peer p l)) links) none ∙ keep-all links)
+
+-- ---- the link at a place
+
+pub passes-found : {X : Type 0} (p : X → Bool) (xs : List X) (y : X) → find p xs ≡ Some y → p y ≡ true
+passes-found p [] y h = absurd (cc h)
+passes-found p (x ∷ xs) y h = grind (arith, h, passes-found p xs y)
+
+at-key : (ns name : List ℕ) (link : Link) (links : List Link) → is_at ns name link ≡ true → filter (λ l. not (is_at ns name l)) links ≡ filter (λ l. not (is_at link.ns link.name l)) links
+at-key ns name link links h =
+    let parts = and_parts (bytes_eq link.ns ns) (bytes_eq link.name name) h in
+    let one : link.ns ≡ ns = (bytes_eq-Decides link.ns ns).0 parts.0 in
+    let two : link.name ≡ name = (bytes_eq-Decides link.name name).0 parts.1 in
+    (λ i. filter (λ l. not (is_at (sym one i) (sym two i) l)) links)
+
+pub link-leaves : (host : Host) → IsSound host → (ns name : List ℕ) (link : Link) → find (is_at ns name) host.links ≡ Some link → (
+  record host {
+    links = filter (λ l. not (is_peer link.peer l)) (filter (λ l. not (is_at ns name l)) host.links);
+    addresses = filter (λ a. not (has_end_at link a.ns a.link)) host.addresses;
+    routes = filter (λ r. not (has_end_at link r.ns r.link)) host.routes;
+  },
+  Gone true,
+) ≡ without_link host (find (is_at ns name) host.links)
+link-leaves host sound ns name link found =
+    let there : IsAmong link host.links = found-among (is_at ns name) host.links link found in
+    let links = ap (filter (λ l. not (is_peer link.peer l))) (at-key ns name link host.links (passes-found (is_at ns name) host.links link found)) ∙ links-stay host sound link there in
+    (λ i. (
+      record host {
+        links = links i;
+        addresses = filter (λ a. not (sym (goes-at host sound link there a.ns a.link) i)) host.addresses;
+        routes = filter (λ r. not (sym (goes-at host sound link there r.ns r.link) i)) host.routes;
+      },
+      Gone true,
+    )) ∙ ap (without_link host) (sym found)
+
+-- ---- the link at a place, where an attachment owns it
+
+module _ (host : Host) (sound : IsSound host) (ns name : List ℕ) (link : Link) (found : find (is_at ns name) host.links ≡ Some link) (att : Att) (owned : link.tag ≡ Own att) where
+  at_place : IsAmong link host.links
+  at_place = found-among (is_at ns name) host.links link found
+
+  -- what may be on a link of the attachment is the attachment's
+  may-own : (m : Link) → IsAmong m host.links → tag_eq m.tag link.tag ≡ true → (t : Tag) → may_be_on m t ≡ true → is_own att t ≡ true
+  may-own m at same t may =
+      let tag : m.tag ≡ Own att = tag_eq-same m.tag link.tag same ∙ owned in
+      let fits : link_fits_tag m m.tag ≡ true = all-among (λ l. link_fits_tag l l.tag) m host.links at sound.links.tags in
+      let no_bridge : is_bridge m.kind ≡ false = owned_no_bridge m.ns m.kind (ap (link_fits_tag m) (sym tag) ∙ fits) in
+      let is : tag_eq m.tag t ≡ true = grind (arith, may, no_bridge) in
+      own-own att t (sym (tag_eq-same m.tag t is) ∙ tag)
+
+  peer-own : (place at : List ℕ) (t : Tag) → ((m : Link) → IsAmong m host.links → is_at place at m ≡ true → may_be_on m t ≡ true) → (o : Option LinkKey) → peer_fits host.links link o ≡ true → is_peer_at place at o ≡ true → is_own att t ≡ true
+  peer-own place at t lies None fits h = absurd (cc h)
+  peer-own place at t lies (Some key) fits h =
+      from-among (peers_back link key) (is_own att t) host.links
+      (λ m among back.
+      let here : is_at key.ns key.name m ≡ true = grind (arith, back) in
+      let same : tag_eq m.tag link.tag ≡ true = grind (arith, back) in
+      may-own m among same t (lies m among (sym (same_place key.ns key.name place at (λ a b. is_at a b m) h) ∙ here)))
+      (grind (arith, fits))
+
+  -- what is on an end is the attachment's
+  end-own : (place at : List ℕ) (t : Tag) → ((m : Link) → IsAmong m host.links → is_at place at m ≡ true → may_be_on m t ≡ true) → not (is_own att t && has_end_at link place at) ≡ not (has_end_at link place at)
+  end-own place at t lies =
+      let here : is_at place at link ≡ true → is_own att t ≡ true = λ on. may-own link at_place (tag_eq-refl link.tag) t (lies link at_place on) in
+      let fits : peer_fits host.links link link.peer ≡ true = all-among (λ l. peer_fits host.links l l.peer) link host.links at_place sound.links.peers in
+      let peer : is_peer_at place at link.peer ≡ true → is_own att t ≡ true = peer-own place at t lies link.peer fits in
+      owned-alone (has_end_at link place at) (is_own att t) (keeps_or_owns (has_end_at link place at) (is_own att t) (λ h. grind (arith, h, here, peer)))
+
+  tags-on : (m : Link) → IsAmong m host.links → HasTagsOn m host
+  tags-on m at = HasTagsOn-sound host m sound (among-contains m host.links at)
+
+  end-addresses : filter (λ a. not (is_own att a.tag && has_end_at link a.ns a.link)) host.addresses ≡ filter (λ a. not (has_end_at link a.ns a.link)) host.addresses
+  end-addresses =
+      filter-among (λ a. not (is_own att a.tag && has_end_at link a.ns a.link)) (λ a. not (has_end_at link a.ns a.link)) host.addresses
+      (λ a there. end-own a.ns a.link a.tag
+      (λ m at on. let may = all-among (λ a. not (is_at a.ns a.link m) || may_be_on m a.tag) a host.addresses there (tags-on m at).addresses in grind (arith, may, on)))
+
+  end-routes : filter (λ r. not (is_own att r.tag && has_end_at link r.ns r.link)) host.routes ≡ filter (λ r. not (has_end_at link r.ns r.link)) host.routes
+  end-routes =
+      filter-among (λ r. not (is_own att r.tag && has_end_at link r.ns r.link)) (λ r. not (has_end_at link r.ns r.link)) host.routes
+      (λ r there. end-own r.ns r.link r.tag
+      (λ m at on. let has = all-among (λ r. not (is_at r.ns r.link m) || tag_eq m.tag r.tag) r host.routes there (tags-on m at).routes in grind (arith, has, on)))
+
+  pub owned-leaves : (
+    record host {
+      links = filter (λ l. not (is_peer link.peer l)) (filter (λ l. not (is_at ns name l)) host.links);
+      addresses = filter (λ a. not (is_own att a.tag && has_end_at link a.ns a.link)) host.addresses;
+      routes = filter (λ r. not (is_own att r.tag && has_end_at link r.ns r.link)) host.routes;
+    },
+    Gone true,
+  ) ≡ without_link host (find (is_at ns name) host.links)
+  owned-leaves =
+      (λ i. (
+        record host {
+          links = filter (λ l. not (is_peer link.peer l)) (filter (λ l. not (is_at ns name l)) host.links);
+          addresses = end-addresses i;
+          routes = end-routes i;
+        },
+        Gone true,
+      )) ∙ link-leaves host sound ns name link found
+
+pub drop_link-there : (host : Host) (key : LinkKey) → has_ns_in host.namespaces key.ns ≡ true → without_link host (find (is_at key.ns key.name) host.links) ≡ drop_link_of host key
+drop_link-there host key there = ap (λ b. if b then without_link host (find (is_at key.ns key.name) host.links) else (host, NoNs)) (sym there)
+
+pub no-link-leaves : (host : Host) (ns name : List ℕ) → find (is_at ns name) host.links ≡ None → (record host { links = filter (λ l. not (is_at ns name l)) host.links }, Gone false) ≡ without_link host (find (is_at ns name) host.links)
+no-link-leaves host ns name none =
+    ap (λ ls. (record host { links = ls }, Gone false)) (none-filtered (is_at ns name) host.links (list_any-find_none (is_at ns name) host.links none))
+    ∙ ap (without_link host) (sym none)

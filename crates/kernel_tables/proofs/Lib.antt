@@ -1,0 +1,13 @@
+pub mod Added
+pub mod Along
+pub mod Free
+pub mod Kept
+pub mod Leaving
+pub mod Namespaces
+pub mod NewLease
+pub mod Noted
+pub mod Opening
+pub mod Owned
+pub mod Owners
+pub mod Places
+pub mod Questions

@@ -1,0 +1,56 @@
+-- A lease that comes, and the last of its pool.
+use Rattle.std.proofs.Common.{◌≡◌, ℕ, Bool, true, false, ◌&&◌, ◌||◌, not, List, [], ◌∷◌, ◌++◌, Some, refl, ◌∙◌, ap, subst, arith}
+use Rattle.std.specs.Prelude.{filter, Result, Ok, Err, OnErr}
+use Rattle.std.specs.List.{list_any}
+use Rattle.std.specs.Str.{bytes_eq}
+use Rattle.std.proofs.lemmas.List.Folds.{list_any-append}
+use Rattle.cni_addr.specs.declared.address.Addr.{Addr}
+use Rattle.cni_addr.specs.Equal.{addr_eq}
+use Rattle.indexmap.specs.IndexMap.{IndexMap}
+use Rattle.ip_pool.specs.AddrSets.{AddrSet}
+use Rattle.ip_pool.specs.NextAddress.{is_taken}
+use Rattle.kernel_types.specs.contracts.object.LeasePartialEq.TheImpl.{eq-value as lease_eq-value}
+use Rattle.kernel_types.specs.Words.{is_lease_at, is_of_pool}
+use Rattle.kernel_types.specs.declared.object.Last.{Last}
+use Rattle.kernel_types.specs.declared.object.Lease.{Lease}
+use Rattle.kernel_types.proofs.ListLemmas.{filter-push_dropped, list_any-none}
+use Rattle.kernel_tables.specs.contracts.keys.PoolKeyPartialEq.TheImpl.{eq-value as pool_eq-value}
+use Rattle.kernel_tables.specs.declared.keys.PoolKey.{PoolKey}
+use Rattle.kernel_tables.specs.Leased.{kept_for, AreLeased}
+use Rattle.kernel_tables.specs.Table.{has_key}
+use Rattle.kernel_tables.proofs.Kept.{taken-leased}
+
+-- a lease whose address none has is not there
+pub absent-lease : (lease : Lease) (leases : List Lease) → list_any (is_lease_at lease.network lease.addr) leases ≡ false
+    → (key : Lease) → Some lease ≡ Some key → list_any (has_key lease_eq-value.it (λ l. Some l) key) leases ≡ false
+absent-lease lease leases none key e =
+    let is : lease ≡ key = cc in
+    subst (λ k. list_any (has_key lease_eq-value.it (λ l. Some l) k) leases ≡ false) is
+    (list_any-none (λ row. lease_eq-value.it row lease) (is_lease_at lease.network lease.addr) (λ row h. grind (arith, h)) leases none)
+
+-- what `==` computes of a pool
+pub same-pool : (pool : PoolKey) (last : Last) → pool_eq-value.it (record { network = last.network; set = last.set }) pool ≡ is_of_pool pool.network pool.set last
+same-pool pool last = grind arith
+
+pub any-pool : (pool : PoolKey) (lasts : List Last) → list_any (λ l. pool_eq-value.it (record { network = l.network; set = l.set }) pool) lasts ≡ list_any (is_of_pool pool.network pool.set) lasts
+any-pool pool lasts = λ i. list_any (λ l. same-pool pool l i) lasts
+
+filter-none : {X : Type 0} (t : X → Bool) (xs : List X) → list_any t xs ≡ false → filter (λ x. not (t x)) xs ≡ xs
+filter-none t [] h = refl
+filter-none t (x ∷ xs) h = grind (arith, h, filter-none t xs)
+
+-- the one that came goes again
+pub pushed-out : {X : Type 0} (t : X → Bool) (xs : List X) (x : X) → list_any t xs ≡ false → t x ≡ true → filter (λ y. not (t y)) (xs ++ x ∷ []) ≡ xs
+pushed-out t xs x none own = filter-push_dropped (λ y. not (t y)) xs x (ap not own) ∙ filter-none t xs none
+
+pub on_err-with : {T E : Type 0} (A B : Type 0) (r : Result T E) → OnErr r A → B → OnErr r (A × B)
+on_err-with A B (Ok x) a b = a
+on_err-with A B (Err e) a b = (a, b)
+
+-- its address is kept for its network
+pub AreLeased-new : {S : Type 0} (old new : IndexMap (List ℕ) AddrSet S) (leases : List Lease) (lease : Lease)
+    → ((n : List ℕ) (a : Addr) → is_taken (kept_for new n) a ≡ (bytes_eq lease.network n && addr_eq lease.addr a || is_taken (kept_for old n) a))
+    → AreLeased old leases → AreLeased new (leases ++ lease ∷ [])
+AreLeased-new old new leases lease says was n a =
+    says n a ∙ ap (λ b. bytes_eq lease.network n && addr_eq lease.addr a || b) (was n a ∙ taken-leased leases n a)
+    ∙ grind (arith, list_any-append (is_lease_at n a) leases (lease ∷ []), taken-leased (leases ++ lease ∷ []) n a)

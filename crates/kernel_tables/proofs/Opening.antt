@@ -1,0 +1,180 @@
+-- A list in which each key stands once: what is free for each of its elements, and which lists of a sound host are such.
+use Rattle.std.proofs.Common.{◌≡◌, ◌<◌, ℕ, ◌+◌, Bool, true, false, true≢false, List, [], ◌∷◌, ◌++◌, Option, Some, None, refl, sym, ◌∙◌, ap, subst, length, get_or, set, suc, take, drop, arith}
+use Rattle.std.specs.Prelude.{not, ◌&&◌, ◌||◌, if◌then◌else◌}
+use Rattle.std.specs.List.{list_any}
+use Rattle.std.specs.Option.{option_map_or}
+use Rattle.std.specs.Str.{bytes_eq}
+use Rattle.std.specs.Cmp.Lexicographic.{nat_list_eq_equiv}
+use Rattle.std.proofs.lemmas.List.{set-get_or, set_split, take_more}
+use Rattle.std.proofs.lemmas.List.Folds.{list_any-append}
+use Rattle.cni_addr.specs.declared.address.Addr.{Addr}
+use Rattle.cni_addr.specs.Equal.{addr_eq}
+use Rattle.cni_addr.specs.Lists.{distinct}
+use Rattle.indexmap.specs.IndexMap.{IndexMap}
+use Rattle.ip_pool.specs.AddrSets.{AddrSet}
+use Rattle.ip_pool.specs.NextAddress.{is_taken}
+use Rattle.kernel_types.specs.Equal.{tag_eq}
+use Rattle.kernel_types.specs.Keys.{is_same_addr, is_same_cached, is_same_last, is_same_lease, is_same_link, is_same_namespace, is_same_route, is_same_rule, is_same_setting}
+use Rattle.kernel_types.specs.Sound.{HasDistinctKeys}
+use Rattle.kernel_types.specs.Words.{addresses_in, is_host_ns}
+use Rattle.kernel_types.specs.declared.object.AddrObj.{AddrObj}
+use Rattle.kernel_types.specs.declared.object.CachedObj.{CachedObj}
+use Rattle.kernel_types.specs.declared.object.Last.{Last}
+use Rattle.kernel_types.specs.declared.object.Lease.{Lease}
+use Rattle.kernel_types.specs.declared.object.Link.{Link}
+use Rattle.kernel_types.specs.declared.object.LinkKey.{LinkKey}
+use Rattle.kernel_types.specs.declared.object.NsObj.{NsObj}
+use Rattle.kernel_types.specs.declared.object.RouteObj.{RouteObj}
+use Rattle.kernel_types.specs.declared.object.Setting.{Setting}
+use Rattle.kernel_types.specs.declared.object.Tag.{Tag}
+use Rattle.kernel_types.specs.declared.object.Tag.TheVariants.{Outside, Base, Own}
+use Rattle.kernel_types.specs.declared.rule.Rule.{Rule}
+use Rattle.kernel_types.specs.contracts.object.AddrObjPartialEq.TheImpl.{eq-value as addr_obj-value}
+use Rattle.kernel_types.specs.contracts.object.AttPartialEq.TheImpl.{eq-value as att-value}
+use Rattle.kernel_types.specs.contracts.object.LeasePartialEq.TheImpl.{eq-value as lease-value}
+use Rattle.kernel_types.specs.contracts.object.LinkKeyPartialEq.TheImpl.{eq-value as link_key-value}
+use Rattle.kernel_types.specs.contracts.object.RouteObjPartialEq.TheImpl.{eq-value as route-value}
+use Rattle.kernel_types.specs.contracts.object.SettingPartialEq.TheImpl.{eq-value as setting-value}
+use Rattle.kernel_types.specs.contracts.rule.RulePartialEq.TheImpl.{eq-value as rule-value}
+use Rattle.kernel_types.proofs.ListLemmas.{list_any-none}
+use Rattle.kernel_tables.specs.contracts.keys.AddrKeyPartialEq.TheImpl.{eq-value as addr_key-value}
+use Rattle.kernel_tables.specs.contracts.keys.PoolKeyPartialEq.TheImpl.{eq-value as pool-value}
+use Rattle.kernel_tables.specs.contracts.keys.RouteKeyPartialEq.TheImpl.{eq-value as route_key-value}
+use Rattle.kernel_tables.specs.contracts.keys.SettingKeyPartialEq.TheImpl.{eq-value as setting_key-value}
+use Rattle.kernel_tables.specs.declared.keys.PoolKey.{PoolKey}
+use Rattle.kernel_tables.specs.Leased.{kept_for, AreLeased}
+use Rattle.kernel_tables.specs.Rows.{host_name, owner_named}
+use Rattle.kernel_tables.specs.Table.{is_key, has_key, has_same_key, HasEachKeyOnce}
+use Rattle.kernel_tables.proofs.Added.{addr_key, addr-keyed, route_key, route-keyed, rule-same, setting_key, setting-keyed}
+use Rattle.kernel_tables.proofs.Free.{host-alike, host-named}
+use Rattle.kernel_tables.proofs.Kept.{taken-leased}
+use Rattle.kernel_tables.proofs.NewLease.{AreLeased-new, same-pool}
+use Rattle.kernel_tables.proofs.Owned.{att-same}
+
+-- no earlier element is the same
+none-earlier : {X : Type 0} (same : X → X → Bool) (earlier : List X) (x : X) (later : List X) → distinct same (earlier ++ x ∷ later) ≡ true → list_any (λ y. same y x) earlier ≡ false
+none-earlier same [] x later d = refl
+none-earlier same (y ∷ ys) x later d = grind (arith, d, list_any-append (same y) ys (x ∷ later), none-earlier same ys x later)
+
+-- no earlier row has the row's key
+pub key-free : {K T : Type 0} (eq : K → K → Bool) (key_of : T → Option K) (rows earlier : List T) (row : T) (later : List T) → earlier ++ row ∷ later ≡ rows → HasEachKeyOnce eq key_of rows
+    → (key : K) → key_of row ≡ Some key → list_any (has_key eq key_of key) earlier ≡ false
+key-free eq key_of rows earlier row later is once key own =
+    ap (λ o. list_any (λ y. option_map_or (λ k. has_key eq key_of k y) o false) earlier) (sym own)
+    ∙ none-earlier (λ y x. has_same_key eq key_of x y) earlier row later (ap (distinct (λ y x. has_same_key eq key_of x y)) is ∙ once)
+
+-- ---- the addresses of the leases so far
+
+module _ (leases : List Lease) (i : ℕ) (lease : Lease) (below : i < length leases) (at : lease ≡ get_or leases i lease) where
+  pub address-free : HasDistinctKeys is_same_lease leases → is_taken (addresses_in (take i leases) lease.network) lease.addr ≡ false
+  address-free once =
+      let here : take i leases ++ lease ∷ drop (suc i) leases ≡ leases = sym (set_split leases i lease below) ∙ ap (set leases i) at ∙ set-get_or leases i lease in
+      taken-leased (take i leases) lease.network lease.addr
+      ∙ none-earlier (λ y x. is_same_lease x y) (take i leases) lease (drop (suc i) leases) (ap (distinct (λ y x. is_same_lease x y)) here ∙ once)
+
+  pub AreLeased-more : {S : Type 0} (old new : IndexMap (List ℕ) AddrSet S)
+      → ((n : List ℕ) (a : Addr) → is_taken (kept_for new n) a ≡ (bytes_eq lease.network n && addr_eq lease.addr a || is_taken (kept_for old n) a))
+      → AreLeased old (take i leases) → AreLeased new (take (i + 1) leases)
+  AreLeased-more old new says was =
+      subst (AreLeased new) (ap (λ l. take i leases ++ l ∷ []) at ∙ sym (take_more leases i lease below)) (AreLeased-new old new (take i leases) lease says was)
+
+-- ---- the lists of a sound host
+
+distinct-finer : {X : Type 0} (same finer : X → X → Bool) → ((x y : X) → finer x y ≡ true → same x y ≡ true) → (xs : List X) → distinct same xs ≡ true → distinct finer xs ≡ true
+distinct-finer same finer h [] d = refl
+distinct-finer same finer h (x ∷ xs) d =
+    let none : list_any (finer x) xs ≡ false = list_any-none (finer x) (same x) (h x) xs (grind (arith, d)) in
+    let rest : distinct finer xs ≡ true = distinct-finer same finer h xs (grind (arith, d)) in
+    grind (arith, none, rest)
+
+abbrev link_key : Link → Option LinkKey
+link_key l = Some (record { ns = l.ns; name = l.name })
+
+abbrev pool_key : Last → PoolKey
+pool_key l = record { network = l.network; set = l.set }
+
+-- where rows of one key are the same
+once-if : {K T : Type 0} (eq : K → K → Bool) (key_of : T → Option K) (is_same : T → T → Bool) → ((new row : T) → has_same_key eq key_of new row ≡ true → is_same new row ≡ true)
+    → (rows : List T) → HasDistinctKeys is_same rows → HasEachKeyOnce eq key_of rows
+once-if eq key_of is_same h rows once = distinct-finer (λ a b. is_same b a) (λ a b. has_same_key eq key_of b a) (λ x y. h y x) rows once
+
+none-any : {T : Type 0} (rows : List T) → list_any (λ (row : T). false) rows ≡ false
+none-any [] = refl
+none-any (row ∷ rows) = none-any rows
+
+-- where no row has a key
+pub once-none : {K T : Type 0} (eq : K → K → Bool) (rows : List T) → HasEachKeyOnce eq (λ row. None) rows
+once-none eq [] = refl
+once-none {K} {T} eq (row ∷ rows) =
+    let none : T → Option K = λ row. None in
+    ap (λ b. not b && distinct (λ older newer. has_same_key eq none newer older) rows) (none-any rows) ∙ once-none eq rows
+
+module _ (namespaces : List NsObj) (once : HasDistinctKeys is_same_namespace namespaces) where
+  pub namespace-keys : HasEachKeyOnce bytes_eq (λ (n : NsObj). Some n.name) namespaces
+  namespace-keys = once-if bytes_eq (λ (n : NsObj). Some n.name) is_same_namespace (λ new row h. h) namespaces once
+
+link-same : (new row : Link) → has_same_key link_key-value.it link_key new row ≡ true → is_same_link new row ≡ true
+link-same new row h = grind (arith, h)
+
+named-same : (b : Bool) (new row : Link) → is_host_ns new.ns ≡ b → option_map_or (λ name. is_key bytes_eq (host_name row) name) (if b then Some new.name else None) false ≡ true → is_same_link new row ≡ true
+named-same true new row e h = host-alike new.name row new (sym (host-named new.name row) ∙ h) (grind (arith, e, nat_list_eq_equiv.refl new.name))
+named-same false new row e h = absurd (true≢false (sym h))
+
+module _ (links : List Link) (once : HasDistinctKeys is_same_link links) where
+  pub link-keys : HasEachKeyOnce link_key-value.it link_key links
+  link-keys = once-if link_key-value.it link_key is_same_link link-same links once
+
+  pub link-aliases : HasEachKeyOnce bytes_eq host_name links
+  link-aliases = once-if bytes_eq host_name is_same_link (λ new row h. named-same (is_host_ns new.ns) new row refl h) links once
+
+addr-same : (new row : AddrObj) → addr_key-value.it (addr_key row) (addr_key new) ≡ true → is_same_addr new row ≡ true
+addr-same new row h = grind (arith, h)
+
+module _ (addresses : List AddrObj) (once : HasDistinctKeys is_same_addr addresses) where
+  pub addr-keys : HasEachKeyOnce addr_key-value.it (λ a. Some (addr_key a)) addresses
+  addr-keys = once-if addr_key-value.it (λ a. Some (addr_key a)) is_same_addr addr-same addresses once
+
+  pub addr-aliases : HasEachKeyOnce addr_obj-value.it (λ a. Some a) addresses
+  addr-aliases = once-if addr_obj-value.it (λ a. Some a) is_same_addr (λ new row h. addr-same new row (addr-keyed row new h)) addresses once
+
+route-same : (new row : RouteObj) → route_key-value.it (route_key row) (route_key new) ≡ true → is_same_route new row ≡ true
+route-same new row h = grind (arith, h)
+
+module _ (routes : List RouteObj) (once : HasDistinctKeys is_same_route routes) where
+  pub route-keys : HasEachKeyOnce route_key-value.it (λ r. Some (route_key r)) routes
+  route-keys = once-if route_key-value.it (λ r. Some (route_key r)) is_same_route route-same routes once
+
+  pub route-aliases : HasEachKeyOnce route-value.it (λ r. Some r) routes
+  route-aliases = once-if route-value.it (λ r. Some r) is_same_route (λ new row h. route-same new row (route-keyed row new h)) routes once
+
+pub rule-keys : (rules : List Rule) → HasDistinctKeys is_same_rule rules → HasEachKeyOnce rule-value.it (λ r. Some r) rules
+rule-keys rules once = once-if rule-value.it (λ r. Some r) is_same_rule (λ new row h. sym (rule-same row new) ∙ h) rules once
+
+setting-same : (new row : Setting) → setting_key-value.it (setting_key row) (setting_key new) ≡ true → is_same_setting new row ≡ true
+setting-same new row h = grind (arith, h)
+
+module _ (settings : List Setting) (once : HasDistinctKeys is_same_setting settings) where
+  pub setting-keys : HasEachKeyOnce setting_key-value.it (λ s. Some (setting_key s)) settings
+  setting-keys = once-if setting_key-value.it (λ s. Some (setting_key s)) is_same_setting setting-same settings once
+
+  pub setting-aliases : HasEachKeyOnce setting-value.it (λ s. Some s) settings
+  setting-aliases = once-if setting-value.it (λ s. Some s) is_same_setting (λ new row h. setting-same new row (setting-keyed row new h)) settings once
+
+lease-same : (new row : Lease) → lease-value.it row new ≡ true → is_same_lease new row ≡ true
+lease-same new row h = grind (arith, h)
+
+pub lease-keys : (leases : List Lease) → HasDistinctKeys is_same_lease leases → HasEachKeyOnce lease-value.it (λ l. Some l) leases
+lease-keys leases once = once-if lease-value.it (λ l. Some l) is_same_lease lease-same leases once
+
+owner-same : (new row : Tag) → option_map_or (λ att. is_key att-value.it (owner_named row) att) (owner_named new) false ≡ true → tag_eq row new ≡ true
+owner-same Outside row h = absurd (true≢false (sym h))
+owner-same Base row h = absurd (true≢false (sym h))
+owner-same (Own att) Outside h = absurd (true≢false (sym h))
+owner-same (Own att) Base h = absurd (true≢false (sym h))
+owner-same (Own att) (Own own) h = sym (att-same own att) ∙ h
+
+pub cached-keys : (cached : List CachedObj) → HasDistinctKeys is_same_cached cached → HasEachKeyOnce att-value.it (λ (c : CachedObj). owner_named c.tag) cached
+cached-keys cached once = once-if att-value.it (λ (c : CachedObj). owner_named c.tag) is_same_cached (λ new row h. owner-same new.tag row.tag h) cached once
+
+pub last-keys : (lasts : List Last) → HasDistinctKeys is_same_last lasts → HasEachKeyOnce pool-value.it (λ l. Some (pool_key l)) lasts
+last-keys lasts once = once-if pool-value.it (λ l. Some (pool_key l)) is_same_last (λ new row h. sym (same-pool (pool_key new) row) ∙ h) lasts once

@@ -1,0 +1,204 @@
+-- What is asked of rows and answered by a look-up.
+use Rattle.std.proofs.Common.{◌≡◌, Bool, true, false, not, ap, List, [], ◌∷◌, ◌++◌, Option, Some, None, refl, sym, ◌∙◌, arith, rules, ℕ}
+use Rattle.std.specs.Prelude.{filter, map, find, is_some, ◌&&◌, ◌==◌, if◌then◌else◌}
+use Rattle.std.specs.List.{list_any, filter_map}
+use Rattle.std.specs.Option.{option_eq, option_map_or, option_to_list}
+use Rattle.std.specs.Str.{bytes_eq}
+use Rattle.std.proofs.Math.Bool.{beq}
+use Rattle.std.proofs.lemmas.Bool.{and_parts}
+use Rattle.std.proofs.lemmas.Slice.Eq.{bytes_eq-Decides}
+use Rattle.cni_addr.specs.declared.mac.Mac.{Mac}
+use Rattle.cni_addr.specs.Lists.{distinct, each_key_once}
+use Rattle.kernel_types.specs.contracts.object.AttPartialEq.TheImpl.{eq-value as att_eq-value}
+use Rattle.kernel_types.specs.contracts.object.AddrObjPartialEq.TheImpl.{eq-value as address_eq-value}
+use Rattle.kernel_types.specs.contracts.object.RouteObjPartialEq.TheImpl.{eq-value as route_eq-value}
+use Rattle.kernel_types.specs.contracts.rule.RulePartialEq.TheImpl.{eq-value as rule_eq-value}
+use Rattle.kernel_types.specs.contracts.rule.TargetPartialEq.TheImpl.{eq-value as target_eq-value}
+use Rattle.kernel_types.specs.contracts.object.TagPartialEq.TheImpl.{eq-value as tag_eq-value}
+use Rattle.kernel_types.specs.declared.rule.Rule.{Rule}
+use Rattle.kernel_types.specs.declared.rule.Target.{Target}
+use Rattle.kernel_types.specs.declared.rule.Target.TheVariants as targets
+use Rattle.kernel_types.specs.contracts.object.SettingPartialEq.TheImpl.{eq-value as setting_eq-value}
+use Rattle.kernel_types.specs.contracts.object.LeasePartialEq.TheImpl.{eq-value as lease_eq-value}
+use Rattle.kernel_types.specs.Equal.{addr_eq, addr_obj_eq, att_eq, chain_eq, cidr_eq, key_eq, lease_eq, link_eq, link_kind_eq, mac_eq, route_eq, rule_eq, proto_eq, setting_eq, table_eq, tag_eq, target_eq}
+use Rattle.kernel_types.specs.Keys.{is_same_link}
+use Rattle.kernel_types.specs.Sound.{HasDistinctKeys}
+use Rattle.kernel_types.specs.Words.{is_at, is_bridge, is_bridge_with, is_host_link, is_host_ns, owner_in}
+use Rattle.kernel_types.specs.declared.object.AddrObj.{AddrObj}
+use Rattle.kernel_types.specs.declared.object.Att.{Att}
+use Rattle.kernel_types.specs.declared.object.Lease.{Lease}
+use Rattle.kernel_types.specs.declared.object.Link.{Link}
+use Rattle.kernel_types.specs.declared.object.RouteObj.{RouteObj}
+use Rattle.kernel_types.specs.declared.object.Setting.{Setting}
+use Rattle.kernel_types.specs.declared.object.Tag.{Tag}
+use Rattle.kernel_types.specs.declared.object.Tag.TheVariants.{Outside, Base, Own}
+use Rattle.kernel_tables.specs.Places.{rows_of, row_at, passes, places_where, passing, first_of}
+use Rattle.kernel_tables.specs.Rows.{host_name, owner_named}
+use Rattle.kernel_tables.specs.Table.{is_key}
+use Rattle.kernel_types.proofs.Cases.{host_ns-eq, tag_eq-own}
+use Rattle.kernel_types.proofs.ListLemmas.{list_any-none}
+use Rattle.kernel_types.proofs.TouchRemoval.{one_place}
+use Rattle.kernel_tables.proofs.Owned.{att-same, own-is}
+use Rattle.kernel_tables.proofs.Places.{any-first}
+
+-- ---- rows that pass, along all places and along a trail
+
+pub any-places : {T : Type 0} (t : T → Bool) (places : List (Option T)) → list_any (passes t) places ≡ list_any t (rows_of places)
+any-places t [] = refl
+any-places t (None ∷ places) = any-places t places
+any-places t (Some x ∷ places) = grind (arith, any-places t places)
+
+some-step : (g : ℕ → Bool) (c : ℕ) (cs : List ℕ) (b : Bool) → g c ≡ b → list_any g cs ≡ is_some (first_of (filter g cs)) → list_any g (c ∷ cs) ≡ is_some (first_of (filter g (c ∷ cs)))
+some-step g c cs true e rest = rw e refl
+some-step g c cs false e rest = rw e rest
+
+some-first : (g : ℕ → Bool) (cs : List ℕ) → list_any g cs ≡ is_some (first_of (filter g cs))
+some-first g [] = refl
+some-first g (c ∷ cs) = some-step g c cs (g c) refl (some-first g cs)
+
+pub any-along : {T : Type 0} (t : T → Bool) (places : List (Option T)) (trail : List ℕ) → passing t places trail ≡ places_where t places → list_any (λ p. passes t (row_at places p)) trail ≡ list_any t (rows_of places)
+any-along t places trail h =
+    some-first (λ p. passes t (row_at places p)) trail ∙ any-first t places (passing t places trail) (sym h)
+
+-- ---- the owners of a network
+
+filter_map-cons : {A B : Type 0} (f : A → Option B) (x : A) (xs : List A) → filter_map f (x ∷ xs) ≡ option_to_list (f x) ++ filter_map f xs
+filter_map-cons f x xs = by (f x) refl
+  where
+    by : (o : Option _) → f x ≡ o → filter_map f (x ∷ xs) ≡ option_to_list o ++ filter_map f xs
+    by None e = rw e refl
+    by (Some y) e = rw e refl
+
+owners-step : (network : List ℕ) (t : Tag) (named : List Att) (rest : List Att) → filter (λ att. bytes_eq att.network network) named ≡ rest
+    → filter (λ att. bytes_eq att.network network) (option_to_list (owner_named t) ++ named) ≡ option_to_list (owner_in network t) ++ rest
+owners-step network Outside named rest h = h
+owners-step network Base named rest h = h
+owners-step network (Own att) named rest h = by (bytes_eq att.network network)
+  where
+    by : (b : Bool) → (if b then att ∷ filter (λ att. bytes_eq att.network network) named else filter (λ att. bytes_eq att.network network) named) ≡ option_to_list (if b then Some att else None) ++ rest
+    by true = ap (λ l. att ∷ l) h
+    by false = h
+
+owners-in : {T : Type 0} (tag_of : T → Tag) (network : List ℕ) (xs : List T)
+    → filter (λ att. bytes_eq att.network network) (filter_map (λ x. owner_named (tag_of x)) xs) ≡ filter_map (owner_in network) (map (λ x. tag_of x) xs)
+owners-in tag_of network [] = refl
+owners-in tag_of network (x ∷ xs) =
+    ap (filter (λ att. bytes_eq att.network network)) (filter_map-cons (λ x. owner_named (tag_of x)) x xs)
+    ∙ owners-step network (tag_of x) (filter_map (λ x. owner_named (tag_of x)) xs) (filter_map (owner_in network) (map (λ x. tag_of x) xs)) (owners-in tag_of network xs)
+    ∙ sym (filter_map-cons (owner_in network) (tag_of x) (map (λ x. tag_of x) xs))
+
+pub owners-once : {T : Type 0} (tag_of : T → Tag) (network : List ℕ) (xs : List T)
+    → each_key_once att_eq-value.it (filter (λ att. bytes_eq att.network network) (filter_map (λ x. owner_named (tag_of x)) xs)) ≡ each_key_once att_eq (filter_map (owner_in network) (map (λ x. tag_of x) xs))
+owners-once tag_of network xs = (λ i. each_key_once (λ a b. att-same a b i) (owners-in tag_of network xs i))
+
+-- ---- links of the host, by their name
+
+named-is : (name : List ℕ) (l : Link) → is_key bytes_eq (host_name l) name ≡ is_host_link name l
+named-is name l = by (is_host_ns l.ns)
+  where
+    by : (b : Bool) → is_key bytes_eq (if b then Some l.name else None) name ≡ (b && bytes_eq l.name name)
+    by true = refl
+    by false = refl
+
+host_link-at : (name : List ℕ) (l : Link) → is_host_link name l ≡ true → is_at [] name l ≡ true
+host_link-at name l h = grind (arith, host_ns-eq l.ns, h)
+
+one-named-step : {X : Type 0} (p t u : X → Bool) (x : X) (xs : List X) (b : Bool) → p x ≡ b → t x ≡ (p x && u x) → (p x ≡ true → list_any t xs ≡ false) → list_any t xs ≡ option_map_or u (find p xs) false
+    → list_any t (x ∷ xs) ≡ option_map_or u (find p (x ∷ xs)) false
+one-named-step p t u x xs true e is none rest = rw (is, e, none e) (grind arith)
+one-named-step p t u x xs false e is none rest = rw (is, e) rest
+
+one-found : {X : Type 0} (p t u : X → Bool) (same : X → X → Bool) → ((x : X) → t x ≡ (p x && u x)) → ((x y : X) → p x ≡ true → p y ≡ true → same x y ≡ true) → (xs : List X) → distinct same xs ≡ true
+    → list_any t xs ≡ option_map_or u (find p xs) false
+one-found p t u same is one [] d = refl
+one-found p t u same is one (x ∷ xs) d =
+    let parts = and_parts (not (list_any (same x) xs)) (distinct same xs) d in
+    one-named-step p t u x xs (p x) refl (is x)
+    (λ h. list_any-none t (same x) (λ y g. one x y h (and_parts (p y) (u y) (sym (is y) ∙ g)).0) xs (grind (arith, parts.0)))
+    (one-found p t u same is one xs parts.1)
+
+-- in a sound host one link of the host has the name: what is asked of all is asked of it
+pub one-named : (name : List ℕ) (t u : Link → Bool) → ((l : Link) → t l ≡ (is_host_link name l && u l)) → (links : List Link) → HasDistinctKeys is_same_link links
+    → list_any t links ≡ option_map_or u (find (λ l. is_key bytes_eq (host_name l) name) links) false
+one-named name t u is links d =
+    one-found (is_host_link name) t u (λ a b. is_same_link b a) is (λ x y h g. one_place [] name x y (host_link-at name x h) (host_link-at name y g)) links d
+    ∙ (λ i. option_map_or u (find (λ l. sym (named-is name l) i) links) false)
+
+absorbs : (a b : Bool) → (b ≡ true → a ≡ true) → b ≡ (a && b)
+absorbs a true h = rw (h refl) refl
+absorbs true false h = refl
+absorbs false false h = refl
+
+equal-place : (l link : Link) → link_eq l link ≡ true → is_at link.ns link.name l ≡ true
+equal-place l link h = grind (arith, h)
+
+-- a link that is equal to one of the host is one of its name
+pub equal-named : (link : Link) → is_host_ns link.ns ≡ true → (l : Link) → link_eq l link ≡ (is_host_link link.name l && link_eq l link)
+equal-named link host l =
+    absorbs (is_host_link link.name l) (link_eq l link)
+    (λ h. let at = and_parts (bytes_eq l.ns link.ns) (bytes_eq l.name link.name) (equal-place l link h) in
+    let ns : is_host_ns l.ns ≡ true = ap is_host_ns ((bytes_eq-Decides l.ns link.ns).0 at.0) ∙ host in
+    grind (arith, ns, at.1))
+
+last_test : (a b c d e f g h i j k l : Bool) → (a && (b && (c && (d && (e && (f && (g && (h && (i && (j && (k && l))))))))))) ≡ true → l ≡ true
+last_test a b c d e f g h i j k l all = grind (arith, all)
+
+equal-tag : (l link : Link) → link_eq l link ≡ true → tag_eq l.tag link.tag ≡ true
+equal-tag l link h =
+    last_test (bytes_eq l.ns link.ns) (bytes_eq l.name link.name) (link_kind_eq l.kind link.kind) (option_eq bytes_eq l.master link.master) (option_eq key_eq l.peer link.peer) (mac_eq l.mac link.mac)
+    (l.mtu == link.mtu) (beq l.hairpin link.hairpin) (beq l.promisc link.promisc) (beq l.allmulti link.allmulti) (l.tx_qlen == link.tx_qlen) (tag_eq l.tag link.tag) h
+
+-- a link that is equal to the attachment's is its own too
+pub equal-owned : (att : Att) (link : Link) → link.tag ≡ Own att → (l : Link) → link_eq l link ≡ (is_key att_eq-value.it (owner_named l.tag) att && link_eq l link)
+equal-owned att link tag l =
+    absorbs (is_key att_eq-value.it (owner_named l.tag) att) (link_eq l link)
+    (λ h. own-is att_eq-value.it att-same att l.tag ∙ sym (tag_eq-own att l.tag) ∙ ap (tag_eq l.tag) (sym tag) ∙ equal-tag l link h)
+
+pub bridge-named : (name : List ℕ) (mac : Mac) (l : Link) → is_bridge_with name mac l ≡ (is_host_link name l && (is_bridge l.kind && mac_eq l.mac mac))
+bridge-named name mac l = grind arith
+
+-- ---- what `==` computes of whole objects
+
+pub address-same : (a b : AddrObj) → address_eq-value.it a b ≡ addr_obj_eq a b
+address-same a b = grind arith
+
+-- five tests, from the right and from the left
+five_tests : (a b c d e : Bool) → (a && (b && (c && (d && e)))) ≡ (a && b && c && d && e)
+five_tests a b c d e = grind arith
+
+pub route-same : (a b : RouteObj) → route_eq-value.it a b ≡ route_eq a b
+route-same a b =
+    let right : route_eq-value.it a b ≡ (bytes_eq a.ns b.ns && (cidr_eq a.dst b.dst && (bytes_eq a.link b.link && (option_eq addr_eq a.gw b.gw && tag_eq a.tag b.tag)))) = search rules in
+    right ∙ five_tests (bytes_eq a.ns b.ns) (cidr_eq a.dst b.dst) (bytes_eq a.link b.link) (option_eq addr_eq a.gw b.gw) (tag_eq a.tag b.tag)
+
+tag-same : (t u : Tag) → tag_eq-value.it t u ≡ tag_eq t u
+tag-same Outside Outside = refl
+tag-same Outside Base = refl
+tag-same Outside (Own b) = refl
+tag-same Base Outside = refl
+tag-same Base Base = refl
+tag-same Base (Own b) = refl
+tag-same (Own a) Outside = refl
+tag-same (Own a) Base = refl
+tag-same (Own a) (Own b) = att-same a b
+
+target-same : (t u : Target) → target_eq-value.it t u ≡ target_eq t u
+target-same targets.Accept targets.Accept = refl
+target-same targets.Accept targets.Masquerade = refl
+target-same targets.Accept (targets.Dnat b q) = refl
+target-same targets.Masquerade targets.Accept = refl
+target-same targets.Masquerade targets.Masquerade = refl
+target-same targets.Masquerade (targets.Dnat b q) = refl
+target-same (targets.Dnat a p) targets.Accept = refl
+target-same (targets.Dnat a p) targets.Masquerade = refl
+target-same (targets.Dnat a p) (targets.Dnat b q) = refl
+
+pub rule-same : (a b : Rule) → rule_eq-value.it a b ≡ rule_eq a b
+rule-same a b = (λ i. table_eq a.table b.table && (chain_eq a.chain b.chain && (option_eq cidr_eq a.src b.src && (option_eq cidr_eq a.dst b.dst && (beq a.not_dst b.not_dst
+    && (option_eq proto_eq a.protocol b.protocol && (option_eq (λ p q. p == q) a.dport b.dport && (beq a.established b.established && (target-same a.target b.target i && tag-same a.tag b.tag i)))))))))
+
+pub setting-same : (a b : Setting) → setting_eq-value.it a b ≡ setting_eq a b
+setting-same a b = grind arith
+
+pub lease-same : (a b : Lease) → lease_eq-value.it a b ≡ lease_eq a b
+lease-same a b = grind arith

@@ -1,0 +1,18 @@
+use Rattle.std.proofs.Common.{◌≡◌, not, None, rules}
+use Rattle.std.specs.Prelude.{filter}
+use Rattle.kernel_types.specs.declared.object.AddrObj.{AddrObj}
+use Rattle.kernel_types.specs.declared.object.Link.{Link}
+use Rattle.kernel_types.specs.declared.object.RouteObj.{RouteObj}
+use Rattle.kernel_tables.specs.Leaving.{has_end_at, is_peer}
+use Rattle.kernel_tables.proofs.Leaving.{no-peer}
+use Rattle.kernel_tables.proofs.tables.Tables.drop_with.Goals as goal
+
+pub returns-in_default : goal.returns-in_default
+returns-in_default c =
+    let link = c.args.link.now in
+    let t = c.self.inside in
+    let peer : link.peer ≡ None = search rules in
+    let links : t.links ≡ filter (λ (l : Link). not (is_peer link.peer l)) t.links = no-peer link.peer t.links peer in
+    let addresses : c.remove_all.new.self ≡ filter (λ (a : AddrObj). not (has_end_at link a.ns a.link)) t.addresses = c.remove_all.ensures in
+    let routes : c.remove_all-2.new.self ≡ filter (λ (r : RouteObj). not (has_end_at link r.ns r.link)) t.routes = c.remove_all-2.ensures in
+    rw (← c.self.view_is) (λ i. record { namespaces = t.namespaces; links = links i; addresses = addresses i; routes = routes i; rules = t.rules; settings = t.settings; leases = t.leases; cached = t.cached; lasts = t.lasts })

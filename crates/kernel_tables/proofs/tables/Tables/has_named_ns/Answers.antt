@@ -1,0 +1,12 @@
+use Rattle.std.proofs.Common.{◌∙◌, ap}
+use Rattle.std.specs.Prelude.{is_some}
+use Rattle.std.specs.Str.{bytes_eq}
+use Rattle.kernel_types.specs.Words.{has_named_ns}
+use Rattle.kernel_types.specs.declared.object.NsObj.{NsObj}
+use Rattle.kernel_tables.proofs.Owned.{some-find, some-copied}
+use Rattle.kernel_tables.proofs.tables.Tables.has_named_ns.Goals as goal
+
+pub returns : goal.returns
+returns c =
+    c.is_some.ensures ∙ some-copied c.find.result ∙ ap is_some c.find.ensures ∙ some-find (λ (n : NsObj). bytes_eq n.name c.args.name.now) c.self.inside.namespaces
+    ∙ ap (λ host. has_named_ns host c.args.name.now) c.self.view_is

@@ -1,0 +1,24 @@
+use Rattle.std.proofs.Common.{◌≡◌, ◌∙◌, ap, sym, false, None, Some, rules}
+use Rattle.std.specs.Prelude.{find}
+use Rattle.std.specs.Option.{option_map_or}
+use Rattle.std.specs.Str.{bytes_eq}
+use Rattle.kernel_types.specs.Equal.{link_eq}
+use Rattle.kernel_tables.specs.Rows.{host_name}
+use Rattle.kernel_tables.specs.Table.{is_key}
+use Rattle.kernel_tables.proofs.Questions.{one-named, equal-named}
+use Rattle.kernel_tables.proofs.tables.Tables.has_unowned_link.Goals as goal
+
+pub returns-in-Some : goal.returns-in-Some
+returns-in-Some c =
+    let link = c.args.link.now in
+    let links = c.args.self.now.links in
+    let at : find (λ l. is_key bytes_eq (host_name l) link.name) links ≡ Some c.in-Some.found.now = search rules in
+    let same : c.eq.result ≡ link_eq c.in-Some.found.now link = search rules in
+    same ∙ sym (one-named link.name (λ l. link_eq l link) (λ l. link_eq l link) (equal-named link (search rules)) links c.requires.sound.links.keys ∙ ap (λ o. option_map_or (λ l. link_eq l link) o false) at)
+
+pub returns-in-None : goal.returns-in-None
+returns-in-None c =
+    let link = c.args.link.now in
+    let links = c.args.self.now.links in
+    let at : find (λ l. is_key bytes_eq (host_name l) link.name) links ≡ None = search rules in
+    sym (one-named link.name (λ l. link_eq l link) (λ l. link_eq l link) (equal-named link (search rules)) links c.requires.sound.links.keys ∙ ap (λ o. option_map_or (λ l. link_eq l link) o false) at)

@@ -1,0 +1,16 @@
+use Rattle.std.proofs.Common.{◌≡◌, ◌∙◌, ap, refl}
+use Rattle.std.specs.Prelude.{is_some}
+use Rattle.std.specs.List.{list_any}
+use Rattle.cni_addr.specs.Lists.{without_first}
+use Rattle.kernel_types.specs.Words.{is_own}
+use Rattle.kernel_types.specs.declared.object.Setting.{Setting}
+use Rattle.kernel_tables.proofs.Owned.{any-own, first-own, some-find}
+use Rattle.kernel_tables.proofs.tables.Tables.setting_del.Goals as goal
+
+pub returns : goal.returns
+returns c =
+    let rest : c.take_first_owned.new.self ≡ without_first (λ (x : Setting). is_own c.args.att.now x.tag) c.self.inside.settings =
+    c.take_first_owned.ensures.rest ∙ first-own (λ (x : Setting). x.tag) c.args.att.now c.self.inside.settings in
+    let any : c.is_some.result ≡ list_any (λ (x : Setting). is_own c.args.att.now x.tag) c.self.inside.settings =
+    c.is_some.ensures ∙ ap is_some c.take_first_owned.ensures.first ∙ some-find _ c.self.inside.settings ∙ any-own (λ (x : Setting). x.tag) c.args.att.now c.self.inside.settings in
+    rw (rest, any, ← c.self.view_is) refl

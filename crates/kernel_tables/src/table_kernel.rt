@@ -1,0 +1,112 @@
+//! The kernel over tables.
+
+ghost use Rattle.std.specs.Prelude.{◌≡◌, true, IfOk, OnErr, IsOk};
+ghost use Rattle.kernel_types.specs.Apply.{apply};
+ghost use Rattle.kernel_types.specs.Allowed.{IsAllowed};
+ghost use Rattle.kernel_types.specs.Replies.{needs_no_memory};
+ghost use Rattle.kernel_types.specs.Sound.{IsSound};
+
+use crate::tables::Tables;
+use cni_addr::NoMemory;
+use kernel_model::Kernel;
+use kernel_types::{Call, Host, Reply};
+use std::alloc::Global;
+use std::marker::Model;
+
+impl Tables {
+    /// Makes one call, by the method that is its equation.
+    fn carry_out(&mut self, alloc: Global, call: &Call) -> Result<Reply, NoMemory>
+        requires allowed { IsAllowed self.old call.now }
+        requires sound { IsSound self.old }
+        ensures ok { IfOk result (λ reply. (self.new, reply) ≡ apply self.old call.now) }
+        ensures err { OnErr result (self.new ≡ self.old) }
+        ensures frees { needs_no_memory call.now ≡ true → IsOk result }
+    {
+        match call {
+            Call::Begin { att, netns } => self.begin(att, netns),
+            Call::BridgeEnsure { name, mtu, promisc } => {
+                self.bridge_ensure(alloc, name, *mtu, *promisc)
+            }
+            Call::GatewayEnsure { bridge, cidr } => self.gateway_ensure(alloc, bridge, *cidr),
+            Call::ForwardEnsure { family } => self.forward_ensure(alloc, *family),
+            Call::VethAdd {
+                host_end,
+                inner_end,
+            } => self.veth_add(alloc, host_end, inner_end),
+            Call::MacvlanAdd { link } => self.macvlan_add(alloc, link),
+            Call::LinkSet {
+                att,
+                key,
+                mac,
+                mtu,
+                tx_qlen,
+                promisc,
+                allmulti,
+            } => Ok(self.link_set(att, key, *mac, *mtu, *tx_qlen, *promisc, *allmulti)),
+            Call::AddrAdd { obj } => self.addr_add(alloc, obj),
+            Call::RouteAdd { obj } => self.route_add(alloc, obj),
+            Call::RuleAppend { rule } => self.rule_append(alloc, rule),
+            Call::SettingSet { setting } => self.setting_set(alloc, setting),
+            Call::LeaseNext { att, number, set } => self.lease_next(alloc, att, *number, set),
+            Call::CachePut { att, cached } => self.cache_put(alloc, att, cached),
+            Call::LinkDel { att } => Ok(self.link_del(att)),
+            Call::RuleDel { att } => Ok(self.rule_del(att)),
+            Call::SettingDel { att } => Ok(self.setting_del(att)),
+            Call::LeaseDel { att } => Ok(self.lease_del(att)),
+            Call::CacheDel { att } => Ok(self.cache_del(att)),
+            Call::HasObj { probe } => Ok(self.has_obj(probe)),
+            Call::CacheGet { att } => self.cache_get(att),
+            Call::OwnersOf { network, kind } => self.owners_of(alloc, network, *kind),
+            Call::PoolFree { network, set } => Ok(self.pool_free(alloc, network, set)),
+            Call::NsChange { name, add } => self.ns_change(alloc, name, *add),
+            Call::Outside { change } => Ok(self.outside(change)),
+        }
+    }
+}
+
+/// A kernel that keeps its host in tables, which find each object by its key and the objects of an attachment by their
+/// owner.
+///
+/// A call takes as many look-ups as it names objects, and as many steps as the attachment that it is about has objects,
+/// but for these, which pass over the objects that ever were of a kind: `OwnersOf`; `HasObj` of a link outside the host
+/// that nobody owns; `NsChange` that takes a namespace away; and `Outside`, unless it drops an attachment's link.
+/// `LeaseNext` and `PoolFree` take two steps for each range of the set, however many addresses are leased.
+#[derive(Drop)]
+pub struct TableKernel {
+    tables: Tables,
+}
+
+impl Model for TableKernel {
+    ghost use Rattle.kernel_types.specs.Sound.{IsSound};
+    ghost use Rattle.kernel_types.specs.declared.object.Host.{Host};
+
+    ghost Value = { Host };
+
+    ghost view = { λ k. k.tables };
+
+    ghost invariant = { λ k. IsSound k.tables };
+}
+
+impl TableKernel {
+    /// The kernel that means this host, of as many steps as the host has objects. Want of memory alone is refused.
+    pub fn of_host(alloc: Global, host: Host) -> Result<TableKernel, NoMemory>
+        requires { IsSound host }
+        ensures { IfOk result (λ kernel. kernel ≡ host) }
+    {
+        let tables = Tables::of_host(alloc, host)?;
+        Ok(TableKernel { tables })
+    }
+}
+
+impl Kernel for TableKernel {
+    ghost host = { λ k. k };
+
+    fn call(&mut self, alloc: Global, call: &Call) -> Result<Reply, NoMemory> {
+        self.tables.carry_out(alloc, call)
+    }
+
+    /// Of as many steps as there ever were objects.
+    fn host(&self, alloc: Global) -> Result<Host, NoMemory> {
+        self.tables.copy_host(alloc)
+    }
+}

@@ -1,0 +1,83 @@
+//! The tables of a host, with a method for each call that is its equation in a sound host.
+
+ghost use Rattle.std.specs.Prelude.{◌≡◌, IfOk};
+
+mod adds;
+mod begin;
+mod cached;
+mod changes;
+mod deletions;
+mod leaving;
+mod namespaces;
+mod opening;
+mod outside;
+mod own;
+mod pool;
+mod questions;
+mod shared;
+
+use crate::keys::{AddrKey, PoolKey, RouteKey, SettingKey};
+use crate::table::Table;
+use cni_addr::{NoMemory, Text};
+use indexmap::IndexMap;
+use ip_pool::AddrRuns;
+use kernel_types::{
+    AddrObj, Att, CachedObj, Host, Last, Lease, Link, LinkKey, NsObj, RouteObj, Rule, Setting,
+};
+use std::alloc::Global;
+use std::marker::Model;
+
+/// The tables of a host, and beside the leases the addresses that are leased, network by network.
+#[derive(Drop)]
+pub(crate) struct Tables {
+    namespaces: Table<Text, Text, Att, NsObj>,
+    links: Table<LinkKey, Text, Att, Link>,
+    addresses: Table<AddrKey, AddrObj, Att, AddrObj>,
+    routes: Table<RouteKey, RouteObj, Att, RouteObj>,
+    rules: Table<Rule, Text, Att, Rule>,
+    settings: Table<SettingKey, Setting, Att, Setting>,
+    leases: Table<Lease, Text, Att, Lease>,
+    cached: Table<Att, Text, Att, CachedObj>,
+    lasts: Table<PoolKey, Text, Att, Last>,
+    leased: IndexMap<Text, AddrRuns>,
+}
+
+impl Model for Tables {
+    ghost use Rattle.kernel_types.specs.declared.object.Host.{Host};
+    ghost use Rattle.kernel_tables.specs.Leased.{AreLeased};
+
+    ghost Value = { Host };
+
+    ghost view = { λ t. record {
+      namespaces = t.namespaces;
+      links = t.links;
+      addresses = t.addresses;
+      routes = t.routes;
+      rules = t.rules;
+      settings = t.settings;
+      leases = t.leases;
+      cached = t.cached;
+      lasts = t.lasts;
+    } };
+
+    ghost invariant = { λ t. AreLeased t.leased t.leases };
+}
+
+impl Tables {
+    /// A copy of the host.
+    pub(crate) fn copy_host(&self, alloc: Global) -> Result<Host, NoMemory>
+        ensures { IfOk result (λ host. host ≡ self.now) }
+    {
+        Ok(Host {
+            namespaces: self.namespaces.copies(alloc)?,
+            links: self.links.copies(alloc)?,
+            addresses: self.addresses.copies(alloc)?,
+            routes: self.routes.copies(alloc)?,
+            rules: self.rules.copies(alloc)?,
+            settings: self.settings.copies(alloc)?,
+            leases: self.leases.copies(alloc)?,
+            cached: self.cached.copies(alloc)?,
+            lasts: self.lasts.copies(alloc)?,
+        })
+    }
+}

@@ -1,0 +1,39 @@
+//! Kept results.
+
+ghost use Rattle.std.specs.Prelude.{◌≡◌, IfOk, OnErr};
+ghost use Rattle.kernel_types.specs.Apply.Calls.{cache_put_of, cache_get_of};
+
+use super::Tables;
+use cni_addr::{Duplicate, NoMemory};
+use cni_result::Cached;
+use kernel_types::{Att, CachedObj, Reply, Tag};
+use std::alloc::Global;
+
+impl Tables {
+    pub(crate) fn cache_put(
+        &mut self,
+        alloc: Global,
+        att: &Att,
+        cached: &Cached,
+    ) -> Result<Reply, NoMemory>
+        ensures ok { IfOk result (λ reply. (self.new, reply) ≡ cache_put_of self.old att.now cached.now) }
+        ensures err { OnErr result (self.new ≡ self.old) }
+    {
+        let tag = Tag::Own(att.copy()?);
+        if self.cached.find(att).is_some() {
+            return Ok(Reply::Taken(tag));
+        }
+        let cached = cached.copy()?;
+        self.cached.push(alloc, CachedObj { cached, tag })?;
+        Ok(Reply::Done)
+    }
+
+    pub(crate) fn cache_get(&self, att: &Att) -> Result<Reply, NoMemory>
+        ensures { IfOk result (λ reply. (self.now, reply) ≡ cache_get_of self.now att.now) }
+    {
+        match self.cached.find(att) {
+            Some(entry) => Ok(Reply::Entry(Some(entry.cached.copy()?))),
+            None => Ok(Reply::Entry(None)),
+        }
+    }
+}

@@ -1,0 +1,47 @@
+//! What the world outside takes away.
+
+ghost use Rattle.std.specs.Prelude.{◌≡◌};
+ghost use Rattle.kernel_types.specs.Apply.{apply};
+ghost use Rattle.kernel_types.specs.Apply.Calls.{flush_of};
+ghost use Rattle.kernel_types.specs.Sound.{IsSound};
+ghost use Rattle.kernel_types.specs.declared.call.Call.TheVariants.{Outside};
+
+use super::Tables;
+use crate::row::Test;
+use kernel_types::{Change, Reply, Rule, Table};
+
+/// The rules of a table.
+#[derive(Clone, Copy)]
+struct InTable {
+    table: Table,
+}
+
+impl Test<Rule> for InTable {
+    ghost use Rattle.kernel_types.specs.Equal.{table_eq};
+
+    ghost passes = { λ within rule. table_eq rule.table within.table };
+
+    fn passes(&self, rule: &Rule) -> bool {
+        rule.table == self.table
+    }
+}
+
+impl Tables {
+    /// Linear in the rules that ever were.
+    fn flush(&mut self, table: Table) -> Reply
+        ensures { (self.new, result) ≡ flush_of self.old table }
+    {
+        self.rules.remove_all(&InTable { table });
+        Reply::Done
+    }
+
+    pub(crate) fn outside(&mut self, change: &Change) -> Reply
+        requires { IsSound self.old }
+        ensures { (self.new, result) ≡ apply self.old (Outside change.now) }
+    {
+        match change {
+            Change::DropLink(key) => self.drop_link(key),
+            Change::Flush(table) => self.flush(*table),
+        }
+    }
+}

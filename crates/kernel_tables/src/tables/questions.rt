@@ -1,0 +1,139 @@
+//! Questions to the host, which change nothing.
+
+ghost use Rattle.std.specs.Prelude.{◌≡◌, IfOk};
+ghost use Rattle.std.specs.List.{list_any};
+ghost use Rattle.kernel_types.specs.Equal.{link_eq};
+ghost use Rattle.kernel_types.specs.Sound.{IsSound};
+ghost use Rattle.kernel_types.specs.Words.{is_bridge_with};
+ghost use Rattle.kernel_types.specs.Apply.Calls.{has_free_master, has_object, has_obj_of, owners_of};
+ghost use Rattle.kernel_types.specs.declared.call.Probe.TheVariants.{Whole};
+
+use super::Tables;
+use crate::row::Test;
+use cni_addr::{Mac, NoMemory, Text};
+use kernel_types::words::is_host_ns;
+use kernel_types::{Att, Kind, Link, Object, Probe, Reply, Tag};
+use std::alloc::Global;
+
+/// The attachments of a network.
+#[derive(Clone, Copy)]
+struct InNetwork<'a> {
+    network: &'a Text,
+}
+
+impl Test<Att> for InNetwork<'_> {
+    ghost use Rattle.std.specs.Str.{bytes_eq};
+
+    ghost passes = { λ within att. bytes_eq att.network within.network.now };
+
+    fn passes(&self, att: &Att) -> bool {
+        att.network == *self.network
+    }
+}
+
+/// The links that are equal to one.
+#[derive(Clone, Copy)]
+struct EqualLink<'a> {
+    link: &'a Link,
+}
+
+impl Test<Link> for EqualLink<'_> {
+    ghost use Rattle.kernel_types.specs.Equal.{link_eq};
+
+    ghost passes = { λ equal link. link_eq link equal.link.now };
+
+    fn passes(&self, link: &Link) -> bool {
+        link == self.link
+    }
+}
+
+impl Tables {
+    /// Whether an equal link is there: among those of its owner, or the one of its name in the host. A link elsewhere
+    /// that nobody owns is searched for.
+    fn has_link(&self, link: &Link) -> bool
+        requires sound { IsSound self.now }
+        ensures { result ≡ list_any (λ l. link_eq l link.now) self.now.links }
+    {
+        match &link.tag {
+            Tag::Own(att) => self.links.any_owned(att, &EqualLink { link }),
+            Tag::Outside | Tag::Base => self.has_unowned_link(link),
+        }
+    }
+
+    fn has_unowned_link(&self, link: &Link) -> bool
+        requires sound { IsSound self.now }
+        ensures { result ≡ list_any (λ l. link_eq l link.now) self.now.links }
+    {
+        if is_host_ns(link.ns.as_str()) {
+            match self.links.find_alias(&link.name) {
+                Some(found) => found == link,
+                None => false,
+            }
+        } else {
+            self.links.any(&EqualLink { link })
+        }
+    }
+
+    /// Whether an equal object is there.
+    fn has_equal(&self, object: &Object) -> bool
+        requires sound { IsSound self.now }
+        ensures { result ≡ has_object self.now (Whole object.now) }
+    {
+        match object {
+            Object::Link(link) => self.has_link(link),
+            Object::Address(address) => self.addresses.find_alias(address).is_some(),
+            Object::Route(route) => self.routes.find_alias(route).is_some(),
+            Object::Rule(rule) => self.rules.find(rule).is_some(),
+            Object::Setting(setting) => self.settings.find_alias(setting).is_some(),
+            Object::Lease(lease) => self.leases.find(lease).is_some(),
+        }
+    }
+
+    /// Whether a bridge of the host has this name and hardware address.
+    fn has_bridge_at(&self, name: &Text, mac: &Mac) -> bool
+        requires sound { IsSound self.now }
+        ensures { result ≡ list_any (is_bridge_with name.now mac.now) self.now.links }
+    {
+        match self.links.find_alias(name) {
+            Some(link) => link.kind.is_bridge() && link.mac == *mac,
+            None => false,
+        }
+    }
+
+    fn has_object(&self, probe: &Probe) -> bool
+        requires sound { IsSound self.now }
+        ensures { result ≡ has_object self.now probe.now }
+    {
+        match probe {
+            Probe::Whole(object) => self.has_equal(object),
+            Probe::BridgeAt { name, mac } => self.has_bridge_at(name, mac),
+            Probe::Master { name } => self.has_free_master(name),
+        }
+    }
+
+    pub(crate) fn has_obj(&self, probe: &Probe) -> Reply
+        requires sound { IsSound self.now }
+        ensures { (self.now, result) ≡ has_obj_of self.now probe.now }
+    {
+        Reply::Has(self.has_object(probe))
+    }
+
+    pub(crate) fn owners_of(
+        &self,
+        alloc: Global,
+        network: &Text,
+        kind: Kind,
+    ) -> Result<Reply, NoMemory>
+        ensures { IfOk result (λ reply. (self.now, reply) ≡ owners_of self.now network.now kind) }
+    {
+        let within = InNetwork { network };
+        let owners = match kind {
+            Kind::Links => self.links.owners(alloc, &within)?,
+            Kind::Rules => self.rules.owners(alloc, &within)?,
+            Kind::Settings => self.settings.owners(alloc, &within)?,
+            Kind::Leases => self.leases.owners(alloc, &within)?,
+            Kind::Cached => self.cached.owners(alloc, &within)?,
+        };
+        Ok(Reply::Owners(owners))
+    }
+}

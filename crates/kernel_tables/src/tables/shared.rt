@@ -1,0 +1,164 @@
+//! What the attachments of a host share.
+
+ghost use Rattle.std.specs.Prelude.{◌≡◌, IfOk, OnErr, find};
+ghost use Rattle.std.specs.List.{list_any};
+ghost use Rattle.std.specs.Option.{option_copied};
+ghost use Rattle.kernel_types.specs.Apply.Calls.{bridge_ensure_of, new_bridge, gateway_ensure_of, new_gateway, forward_ensure_of, forward_key, new_forward};
+ghost use Rattle.kernel_types.specs.Keys.{is_same_addr, is_same_setting};
+ghost use Rattle.kernel_types.specs.Sound.{IsSound};
+ghost use Rattle.kernel_types.specs.Words.{has_host_bridge, is_host_link};
+
+use super::Tables;
+use crate::keys::{AddrKey, SettingKey};
+use cni_addr::{Cidr, Duplicate, Family, NoMemory, Text};
+use kernel_types::{AddrObj, Link, LinkKey, LinkKind, Reply, Setting, Tag, link_mac};
+use std::alloc::Global;
+
+/// A bridge that belongs to no attachment.
+fn new_bridge(alloc: Global, name: &Text, mtu: u32, promisc: bool) -> Result<Link, NoMemory>
+    ensures { IfOk result (λ link. link ≡ new_bridge name.now mtu promisc) }
+{
+    let key = LinkKey {
+        ns: Text::of(alloc, "")?,
+        name: name.copy()?,
+    };
+    Ok(Link {
+        promisc,
+        ..Link::new(
+            key,
+            LinkKind::Bridge,
+            link_mac(name.as_str()),
+            mtu,
+            Tag::Base,
+        )
+    })
+}
+
+/// The address of the gateway on a bridge, which belongs to no attachment.
+fn new_gateway(alloc: Global, bridge: &Text, cidr: Cidr) -> Result<AddrObj, NoMemory>
+    ensures { IfOk result (λ gateway. gateway ≡ new_gateway bridge.now cidr) }
+{
+    Ok(AddrObj {
+        ns: Text::of(alloc, "")?,
+        link: bridge.copy()?,
+        cidr,
+        tag: Tag::Base,
+    })
+}
+
+/// The host's switch that lets it forward packets of the family (Linux, `ip-sysctl`).
+fn forward_key(family: Family) -> &'static str
+    ensures { result.now ≡ forward_key family }
+{
+    match family {
+        Family::V4 => "net.ipv4.ip_forward",
+        Family::V6 => "net.ipv6.conf.all.forwarding",
+    }
+}
+
+/// The setting by which the host forwards packets of the family, which belongs to no attachment.
+fn new_forward(alloc: Global, family: Family) -> Result<Setting, NoMemory>
+    ensures { IfOk result (λ forward. forward ≡ new_forward family) }
+{
+    Ok(Setting {
+        ns: Text::of(alloc, "")?,
+        key: Text::of(alloc, forward_key(family))?,
+        value: Text::of(alloc, "1")?,
+        tag: Tag::Base,
+    })
+}
+
+impl Tables {
+    /// The host's link of this name.
+    pub(super) fn host_link(&self, name: &Text) -> Option<&Link>
+        ensures { option_copied result ≡ find (is_host_link name.now) self.now.links }
+    {
+        self.links.find_alias(name)
+    }
+
+    /// Whether a bridge of the host has this name.
+    pub(super) fn has_host_bridge(&self, name: &Text) -> bool
+        requires { IsSound self.now }
+        ensures { result ≡ has_host_bridge self.now name.now }
+    {
+        match self.host_link(name) {
+            Some(link) => link.kind.is_bridge(),
+            None => false,
+        }
+    }
+
+    /// Whether an address of the same place and number is there.
+    fn has_same_addr(&self, obj: &AddrObj) -> Result<bool, NoMemory>
+        ensures { IfOk result (λ there. there ≡ list_any (is_same_addr obj.now) self.now.addresses) }
+    {
+        let key = AddrKey::of(obj)?;
+        Ok(self.addresses.find(&key).is_some())
+    }
+
+    /// Whether a setting of the same place and key is there.
+    fn has_same_setting(&self, obj: &Setting) -> Result<bool, NoMemory>
+        ensures { IfOk result (λ there. there ≡ list_any (is_same_setting obj.now) self.now.settings) }
+    {
+        let key = SettingKey::of(obj)?;
+        Ok(self.settings.find(&key).is_some())
+    }
+
+    pub(crate) fn bridge_ensure(
+        &mut self,
+        alloc: Global,
+        name: &Text,
+        mtu: u32,
+        promisc: bool,
+    ) -> Result<Reply, NoMemory>
+        ensures ok { IfOk result (λ reply. (self.new, reply) ≡ bridge_ensure_of self.old name.now mtu promisc) }
+        ensures err { OnErr result (self.new ≡ self.old) }
+    {
+        if let Some(link) = self.host_link(name) {
+            return if link.kind.is_bridge() {
+                Ok(Reply::Done)
+            } else {
+                Ok(Reply::Taken(link.tag.copy()?))
+            };
+        }
+        let bridge = new_bridge(alloc, name, mtu, promisc)?;
+        self.links.push(alloc, bridge)?;
+        Ok(Reply::Done)
+    }
+
+    pub(crate) fn gateway_ensure(
+        &mut self,
+        alloc: Global,
+        bridge: &Text,
+        cidr: Cidr,
+    ) -> Result<Reply, NoMemory>
+        requires sound { IsSound self.old }
+        ensures ok { IfOk result (λ reply. (self.new, reply) ≡ gateway_ensure_of self.old bridge.now cidr) }
+        ensures err { OnErr result (self.new ≡ self.old) }
+    {
+        if !self.has_host_bridge(bridge) {
+            return Ok(Reply::NoLink);
+        }
+        let gateway = new_gateway(alloc, bridge, cidr)?;
+        if self.has_same_addr(&gateway)? {
+            return Ok(Reply::Done);
+        }
+        self.addresses.push(alloc, gateway)?;
+        Ok(Reply::Done)
+    }
+
+    pub(crate) fn forward_ensure(
+        &mut self,
+        alloc: Global,
+        family: Family,
+    ) -> Result<Reply, NoMemory>
+        ensures ok { IfOk result (λ reply. (self.new, reply) ≡ forward_ensure_of self.old family) }
+        ensures err { OnErr result (self.new ≡ self.old) }
+    {
+        let forward = new_forward(alloc, family)?;
+        if self.has_same_setting(&forward)? {
+            return Ok(Reply::Done);
+        }
+        self.settings.push(alloc, forward)?;
+        Ok(Reply::Done)
+    }
+}
