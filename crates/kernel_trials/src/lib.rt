@@ -26,6 +26,8 @@ mod calls;
 #[cfg(test)]
 mod objects;
 #[cfg(test)]
+mod random;
+#[cfg(test)]
 mod table;
 #[cfg(test)]
 mod tests;

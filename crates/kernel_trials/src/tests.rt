@@ -7,10 +7,12 @@ ghost use Rattle.kernel_types.specs.Sound.{IsSound};
 use crate::calls::call_of;
 use crate::is_allowed;
 use crate::objects::{device, one};
+use crate::random::try_by_chance;
 use crate::table::ROWS;
 use crate::words::RowError;
 use cni_addr::{NoMemory, Text};
 use kernel_model::{Kernel, ListKernel};
+use kernel_tables::TableKernel;
 use kernel_text::reply_text;
 use kernel_types::{Call, Host, Reply, opening_with};
 use std::alloc::Global;
@@ -18,7 +20,7 @@ use std::process::Abort;
 use std::test::Fail;
 
 /// A host with the device `ens1` alone.
-fn opening(alloc: Global) -> Result<Host, NoMemory>
+pub(crate) fn opening(alloc: Global) -> Result<Host, NoMemory>
     ensures { IfOk result (λ host. IsSound host) }
 {
     let device = device(alloc, "ens1")?;
@@ -27,7 +29,7 @@ fn opening(alloc: Global) -> Result<Host, NoMemory>
 }
 
 /// The call of a row and its reply; none for a heading.
-fn parts_of(row: &str) -> Option<(&str, &str)> {
+pub(crate) fn parts_of(row: &str) -> Option<(&str, &str)> {
     if row.starts_with('#') {
         None
     } else {
@@ -69,7 +71,7 @@ fn asked<K: Kernel>(
 
 /// The reply to the words of a call, and whether the plain kernel replies so too.
 // `drop` is called, since the proof of a drop at the end of the scope goes through all variants and takes many minutes
-fn answer<K: Kernel>(
+pub(crate) fn answer<K: Kernel>(
     kernel: &mut K,
     plain: &mut ListKernel,
     alloc: Global,
@@ -81,7 +83,7 @@ fn answer<K: Kernel>(
     given
 }
 
-fn mean_one_host<K: Kernel>(
+pub(crate) fn mean_one_host<K: Kernel>(
     kernel: &K,
     plain: &ListKernel,
     alloc: Global,
@@ -114,6 +116,23 @@ fn try_each_row<K: Kernel + Drop>(
 fn each_call_and_each_refusal(rt: HostRuntime) -> Result<(), Fail> {
     let alloc = rt.alloc();
     try_each_row(&rt, alloc, ListKernel::of_host(opening(alloc)?))
+}
+
+#[test]
+fn each_call_and_each_refusal_over_tables(rt: HostRuntime) -> Result<(), Fail> {
+    let alloc = rt.alloc();
+    try_each_row(&rt, alloc, TableKernel::of_host(alloc, opening(alloc)?)?)
+}
+
+#[test]
+fn calls_by_chance_over_tables(rt: HostRuntime) -> Result<(), Fail> {
+    let alloc = rt.alloc();
+    try_by_chance(
+        &rt,
+        alloc,
+        TableKernel::of_host(alloc, opening(alloc)?)?,
+        2024,
+    )
 }
 
 fn needs_no_memory(alloc: Global, words: &str) -> Result<bool, RowError> {
