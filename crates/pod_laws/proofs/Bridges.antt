@@ -145,7 +145,7 @@ turn-inside c call (inl own) = call-inside (att_of c) call own
 turn-inside c call (inr (inl asked)) = question-inside call asked
 turn-inside c call (inr (inr collected)) = ap is_from_outside (sym collected.deletes) ∙ deletion-inside collected.att collected.kind
 
-bridge-entered : (first : First) (w : World) (n : ℕ) (c : Placed) (list : NetList) (call : Call) (faulty : Bool) → GoesOn w n c list call faulty → BridgeIn first (host_of w) → BridgeIn first (after_entry (host_of w) (entry_of (host_of w) n call faulty))
+pub bridge-entered : (first : First) (w : World) (n : ℕ) (c : Placed) (list : NetList) (call : Call) (faulty : Bool) → GoesOn w n c list call faulty → BridgeIn first (host_of w) → BridgeIn first (after_entry (host_of w) (entry_of (host_of w) n call faulty))
 bridge-entered first w n c list call faulty on there =
     on-entry (BridgeIn first) (host_of w) n call faulty there
     (λ f. bridge-in-stays (bridge_of first) (host_of w) call (sound_host w on.legal) (on.allowed f) (turn-inside c.command call (turn-of w n c list call faulty on)) there)

@@ -1,5 +1,5 @@
 -- What a CHECK asks for is in the host before its first entry as after its last.
-use Rattle.std.proofs.Common.{◌≡◌, ◌≢◌, ℕ, ◌+◌, Bool, true, false, not, List, [], ◌∷◌, ◌++◌, length, Option, Some, None, refl, sym, ◌∙◌, ap, subst, inl, inr, ◌⊎◌, arith}
+use Rattle.std.proofs.Common.{◌≡◌, ◌≢◌, ℕ, Bool, true, false, not, List, [], ◌∷◌, ◌++◌, length, Option, Some, None, refl, sym, ◌∙◌, ap, subst, inl, inr, ◌⊎◌, arith}
 use Rattle.std.specs.Prelude.{◌&&◌, filter, if◌then◌else◌}
 use Rattle.std.specs.List.{list_all, list_any}
 use Rattle.std.specs.Cmp.Lexicographic.{nat_list_eq_equiv}
@@ -12,13 +12,14 @@ use Rattle.std.proofs.lemmas.Slice.Eq.{bytes_eq-Decides}
 use Rattle.cni_addr.specs.Equal.{mac_eq}
 use Rattle.cni_addr.specs.Lists.{distinct}
 use Rattle.cni_addr.specs.declared.mac.Mac.{Mac}
+use Rattle.cni_result.specs.declared.cached.Cached.{Cached}
 use Rattle.cni_result.specs.declared.result.Interface.{Interface}
 use Rattle.cni_verbs.specs.CommandWords.{att_of}
 use Rattle.cni_verbs.specs.Questions.{addresses_of_result, cached_share}
 use Rattle.kernel_types.specs.Apply.Calls.{has_object}
 use Rattle.kernel_types.specs.Equal.{addr_obj_eq, lease_eq, link_eq, route_eq, rule_eq, setting_eq, tag_eq}
 use Rattle.kernel_types.specs.Sound.{IsSound}
-use Rattle.kernel_types.specs.Words.{is_at, is_bridge, is_bridge_with, is_host_bridge, is_host_link, is_host_ns, is_own}
+use Rattle.kernel_types.specs.Words.{cached_in, is_at, is_bridge, is_bridge_with, is_host_bridge, is_host_link, is_host_ns, is_own}
 use Rattle.kernel_types.proofs.ListLemmas.{list_any-weaker}
 use Rattle.kernel_types.proofs.TouchRemoval.{is_own-tag_eq}
 use Rattle.kernel_types.specs.declared.object.Att.{Att}
@@ -33,16 +34,17 @@ use Rattle.plan_words.specs.Share.{Share, share_of}
 use Rattle.pod_file.specs.Commands.{is_of_network}
 use Rattle.pod_file.specs.declared.command.Command.{Command}
 use Rattle.pod_workers.specs.Legal.{Legal}
-use Rattle.pod_workers.specs.Plans.{Placed}
+use Rattle.pod_workers.specs.Plans.{Placed, list_for}
 use Rattle.pod_workers.specs.World.{World, after, entry_of, host_of}
 use Rattle.pod_workers.specs.declared.plan.Entry.{Entry}
 use Rattle.pod_workers.specs.declared.plan.Plan.{Plan}
 use Rattle.pod_workers.proofs.Histories.{after-append}
 use Rattle.pod_workers.proofs.Listed.{listed_network}
-use Rattle.pod_laws.specs.Checked.{ChecksHoldFromTheirStart, HoldAlike, are_in, has_bridge_by, has_bridge_named, has_bridge_of, has_objects_of}
+use Rattle.pod_laws.specs.Checked.{ChecksHoldFromTheirStart, HoldAlike, are_in, has_bridge_by, has_bridge_of, has_objects_of}
 use Rattle.pod_laws.specs.Granted.{only_asks}
 use Rattle.pod_laws.specs.Moments.{host_at_end, host_at_start, is_of, own_entries, until_first, until_last}
 use Rattle.pod_laws.proofs.AloneRuns.{until_first-own}
+use Rattle.pod_laws.proofs.CachedBridges.{always-named, has_bridge_named}
 use Rattle.pod_laws.proofs.CheckQuestions.{address-tag, cached-stays, lease-tag, link-tag, route-tag, rule-tag, setting-tag}
 use Rattle.pod_laws.proofs.Entries.{is_of-own, no-entries, own_entries-other, until_last-other, until_last-own}
 use Rattle.pod_laws.proofs.DistinctLeases.{sound-at_end}
@@ -50,6 +52,7 @@ use Rattle.pod_laws.proofs.OwnWanted.{AreOwn, own-wanted}
 use Rattle.pod_laws.proofs.QuestionRuns.{question-entered}
 use Rattle.pod_laws.proofs.Steps.{AllListed, IsOtherKept, IsOwnKept, ListFact, by-listed}
 use Rattle.pod_laws.proofs.SteadyHosts.{KeepsAsked, KeepsBridges, asked-kept, keeps-same}
+use Rattle.pod_laws.proofs.Within.{list_named-listed}
 
 -- ---- from the first entry to the last
 
@@ -220,15 +223,37 @@ alike-bridge (Macvlan conf) interfaces old new sound keeps there = refl
 
 -- ---- all that it asks for
 
-hold-alike : (list : NetList) (c : Command) (start last : Host) → IsSound last → KeepsAsked c start last → HoldAlike list c start last
-hold-alike list c start last sound keeps = record {
+-- what comes before the first entry is a front of the history
+front-first : (n : ℕ) (h : List Entry) → (rest : List Entry) × (h ≡ until_first n h ++ rest)
+front-first n [] = ([], refl)
+front-first n (x ∷ xs) = elim (cases_Bool (is_of n x)) [
+  | inl own ↦ (x ∷ xs, sym (ap (λ b. (if b then [] else x ∷ until_first n xs) ++ x ∷ xs) own))
+  | inr other ↦
+      let later = front-first n xs in
+      (later.0, ap (λ l. x ∷ l) later.1 ∙ sym (ap (λ b. (if b then [] else x ∷ until_first n xs) ++ later.0) other))
+]
+
+-- the bridge that the cached entry names is there at the start
+named-at_start : (w : World) → Legal w → (n : ℕ) (c : Placed) (list : NetList) (cached : Cached) → list_for w.plan c.command ≡ Some list → cached_in (host_at_start w n) (att_of c.command) ≡ Some cached
+    → has_bridge_named (host_at_start w n) list.first cached.result.interfaces ≡ true
+named-at_start w legal n c list cached listed is =
+    let front = front-first n w.history in
+    always-named w legal (until_first n w.history) front.0 front.1 (att_of c.command) list cached (list_named-listed w.plan c.command list listed) is
+
+hold-alike : (list : NetList) (c : Command) (start last : Host) → IsSound last → KeepsAsked c start last → ((cached : Cached) → cached_in start (att_of c) ≡ Some cached → has_bridge_named start list.first cached.result.interfaces ≡ true)
+    → HoldAlike list c start last
+hold-alike list c start last sound keeps named = record {
   entry = sym (cached-stays c start last keeps);
-  objects = λ cached named.
-      alike-both _ _ _ _ (alike-bridge list.first cached.result.interfaces start last sound keeps.bridges named)
+  objects = λ cached is.
+      alike-both _ _ _ _ (alike-bridge list.first cached.result.interfaces start last sound keeps.bridges (named cached is))
       (alike-objects (att_of c) (cached_share list c cached) (own-wanted list (att_of c) cached.netns cached.mappings (addresses_of_result cached.result)) start last keeps.share);
 }
 
 pub checks_hold_from_their_start : ChecksHoldFromTheirStart
 checks_hold_from_their_start w legal n c at verb some =
-    let found = listed_network w legal n c at (ap is_of_network verb) in
-    (found.0, found.1, hold-alike found.0 c.command (host_at_start w n) (host_at_end w n) (sound-at_end w legal n) (from_start w legal n c found.0 at found.1 (ap only_asks verb) some))
+    let found = listed_network w legal n c at (ap is_of_network verb) in (
+      found.0,
+      found.1,
+      hold-alike found.0 c.command (host_at_start w n) (host_at_end w n) (sound-at_end w legal n) (from_start w legal n c found.0 at found.1 (ap only_asks verb) some)
+          (λ cached is. named-at_start w legal n c found.0 cached found.1 is),
+    )

@@ -6,6 +6,7 @@ pub mod Asking
 pub mod Begins
 pub mod Bounded
 pub mod Bridges
+pub mod CachedBridges
 pub mod Causes
 pub mod ChangedRuns
 pub mod CheckQuestions

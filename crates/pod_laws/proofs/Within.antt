@@ -106,7 +106,7 @@ within-turn list c (Over ending given) k call left fit sound is w = cc
 abbrev AllWithin : Plan → List Entry → Type 0
 AllWithin p h = (att : Att) (list : NetList) → list_named p.lists att.network ≡ Some list → HasKindsAlone (kinds_of list) (objects_after p att h)
 
-list_named-listed : (p : Plan) (c : Command) (list : NetList) → list_for p c ≡ Some list → list_named p.lists c.network ≡ Some list
+pub list_named-listed : (p : Plan) (c : Command) (list : NetList) → list_for p c ≡ Some list → list_named p.lists c.network ≡ Some list
 unfolding list_for
 list_named-listed p c list is = if-listed (is_of_network c.verb) (list_named p.lists c.network) list is
 

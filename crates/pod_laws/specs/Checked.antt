@@ -14,7 +14,7 @@ use Rattle.cni_verbs.specs.declared.answer.Missed.{Missed}
 use Rattle.cni_verbs.specs.declared.answer.Skip.TheVariants as skips
 use Rattle.kernel_types.specs.Apply.Calls.{has_object}
 use Rattle.kernel_types.specs.Equal.{link_eq, addr_obj_eq, route_eq, rule_eq, setting_eq, lease_eq}
-use Rattle.kernel_types.specs.Words.{cached_in, has_host_bridge}
+use Rattle.kernel_types.specs.Words.{cached_in}
 use Rattle.kernel_types.specs.declared.object.Host.{Host}
 use Rattle.kernel_types.specs.declared.call.Probe.TheVariants.{BridgeAt}
 use Rattle.net_conf.specs.declared.first.First.{First}
@@ -98,17 +98,10 @@ WasChecked = EachEnding verbs.Check (λ list c entries host. EndsCheck list c en
 
 -- ---- at its start
 
--- a bridge of the host has the name of the result's first interface, where the plugin is `bridge`
-abbrev pub has_bridge_named : Host → First → List Interface → Bool
-has_bridge_named host (firsts.Bridge conf) (i ∷ is) = has_host_bridge host i.name
-has_bridge_named host first interfaces = true
-
--- The attachment has one cached entry in both hosts, and both hold what a cached result says, or neither does. All of
--- that is the attachment's own but the bridge, which an ADD ensures before it caches its result: so that no other
--- command brings it between the two, one of its name is to be in the first.
+-- the attachment has one cached entry in both hosts, and both hold all that it says, or neither does
 pub record HoldAlike (list : NetList) (c : Command) (start last : Host) : Type 0 where
   pub entry : cached_in start (att_of c) ≡ cached_in last (att_of c)
-  pub objects : (cached : Cached) → has_bridge_named start list.first cached.result.interfaces ≡ true
+  pub objects : (cached : Cached) → cached_in start (att_of c) ≡ Some cached
       → holds_cached list c cached start ≡ holds_cached list c cached last
 
 -- the hosts right before the first entry of the command at place n and right after its last

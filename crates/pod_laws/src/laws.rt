@@ -231,9 +231,9 @@ pub fn a_check_tells_what_the_host_holds()
 {}
 
 /// What a CHECK that made a call asks for is in the host right before its first entry as it is right after its last,
-/// whatever other commands did between and also where it was stopped: one cached entry, and all or not all of what a
-/// cached result says that there is. A bridge of the name that such a result tells is to be there at the start, since
-/// other commands may bring it: an ADD ensures it before it caches its result.
+/// whatever other commands did between and also where it was stopped: its attachment has one cached entry in both, and
+/// both hold all that the cached result says that there is, or neither does. So it is also with the bridge, which isn't
+/// the attachment's own: an ADD ensures it before it caches its result, and nothing takes a bridge of the host.
 pub fn a_check_holds_from_its_start()
     ensures { ChecksHoldFromTheirStart }
 {}
