@@ -60,7 +60,7 @@ comes_to_no_plan given by files (Unread text) is gives = record { by = by; words
 comes_to_no_plan given by files NoMemory is gives = tt
 
 -- the book and the text of what was due
-pub settles_made : (words : List (List ℕ)) (files : FilesSeen) (due : Due) (made : CarriedOut) → IsDueOf words files due → CarriesOut due made → Settles words files (Ok made)
+pub settles_made : {K : Type 0} (words : List (List ℕ)) (files : FilesSeen) (due : Due) (made : CarriedOut K) → IsDueOf words files due → CarriesOut due made → Settles words files (Ok made)
 settles_made words files due made is carries = (
   record {
     by = due.words;
@@ -77,8 +77,8 @@ one_thread words files due is asked = ap (λ (w : Words). w.threads) (same_Some 
 
 -- ---- the text of a book
 
-pub carries_out : {E : Type 0} (due : Due) (book : World) (r : Result CarriedOut E) → book.plan ≡ due.plan → length book.plan.pods.rounds ≤ book.round → Legal book
-    → IfOk r (λ (made : CarriedOut). made.book ≡ book) → IfOk r (λ (made : CarriedOut). made.text.items ≡ text_of book (asked_by due.words)) → IfOk r (CarriesOut due)
+pub carries_out : {K E : Type 0} (due : Due) (book : World) (r : Result (CarriedOut K) E) → book.plan ≡ due.plan → length book.plan.pods.rounds ≤ book.round → Legal book
+    → IfOk r (λ (made : CarriedOut K). made.book ≡ book) → IfOk r (λ (made : CarriedOut K). made.text.items ≡ text_of book (asked_by due.words)) → IfOk r (CarriesOut due)
 carries_out due book (Ok made) plan over legal is text = record {
   plan = ap (λ (b : World). b.plan) is ∙ plan;
   over = subst (λ (b : World). length b.plan.pods.rounds ≤ b.round) (sym is) over;
@@ -87,6 +87,6 @@ carries_out due book (Ok made) plan over legal is text = record {
 }
 carries_out due book (Err none) plan over legal is text = tt
 
-pub in_order : {E : Type 0} (book : World) (r : Result CarriedOut E) → IfOk r (λ (made : CarriedOut). made.book ≡ book) → IsInFileOrder book → IfOk r (λ (made : CarriedOut). IsInFileOrder made.book)
+pub in_order : {K E : Type 0} (book : World) (r : Result (CarriedOut K) E) → IfOk r (λ (made : CarriedOut K). made.book ≡ book) → IsInFileOrder book → IfOk r (λ (made : CarriedOut K). IsInFileOrder made.book)
 in_order book (Ok made) is order = subst IsInFileOrder (sym is) order
 in_order book (Err none) is order = tt

@@ -28,7 +28,7 @@ use Rattle.tool_run.specs.Verdict.{Verdict, asked_by, carry, verdict_if, verdict
 use Rattle.tool_run.specs.declared.carry.CarriedOut.{CarriedOut}
 use Rattle.tool_run.specs.declared.plan.NoPlan.{NoPlan}
 use Rattle.tool_run.specs.declared.plan.NoPlan.TheVariants as no_plan
-use Rattle.tool_run.specs.declared.top.Outcome.{Outcome}
+use Rattle.tool_run.specs.declared.top.Ended.{Ended}
 
 -- ---- from what was to be reported to how it ends
 
@@ -40,14 +40,14 @@ written words files sink status meant book bytes report how = elim how [
   | inr g ↦ cut_short bytes meant (report meant refl) g.0 g.1 g.2
 ]
 
-pub ends : (words : List (List ℕ)) (files : FilesSeen) (sink : SinkSeen) (settled : Result CarriedOut NoPlan) (o : Outcome) → Settles words files settled → Reported sink settled o → Ends words files sink o.status o.book
+pub ends : {K : Type 0} (words : List (List ℕ)) (files : FilesSeen) (sink : SinkSeen) (settled : Result (CarriedOut K) NoPlan) (o : Ended K) → Settles words files settled → Reported sink settled o → Ends words files sink o.status o.book
 ends words files sink (Ok made) o settles rep = written words files sink o.status (status_of made.book.answers) o.book made.text.items (λ s is. of_book made.book is rep.0 settles.0 settles.1) rep.1
 ends words files sink (Err no_plan.Usage) o settles rep = written words files sink o.status 2 o.book usage_line (λ s is. of_usage is rep.0 (record { not_taken = settles; says = refl })) rep.1
 ends words files sink (Err (no_plan.Line text)) o settles rep = written words files sink o.status 3 o.book text.items (λ s is. of_refusal is rep.0 settles) rep.1
 ends words files sink (Err (no_plan.Unread text)) o settles rep = written words files sink o.status 4 o.book text.items (λ s is. of_failed_read is rep.0 settles) rep.1
 ends words files sink (Err no_plan.NoMemory) o settles rep = out_of_memory rep.1.0 rep.0 rep.1.1
 
-pub ordered : (sink : SinkSeen) (settled : Result CarriedOut NoPlan) (o : Outcome) → Reported sink settled o → IfOk settled (λ (made : CarriedOut). IsInFileOrder made.book) → IfSome o.book IsInFileOrder
+pub ordered : {K : Type 0} (sink : SinkSeen) (settled : Result (CarriedOut K) NoPlan) (o : Ended K) → Reported sink settled o → IfOk settled (λ (made : CarriedOut K). IsInFileOrder made.book) → IfSome o.book IsInFileOrder
 ordered sink (Ok made) o rep kept = subst (λ (b : Option World). IfSome b IsInFileOrder) (sym rep.0) kept
 ordered sink (Err none) o rep kept = subst (λ (b : Option World). IfSome b IsInFileOrder) (sym rep.0) tt
 

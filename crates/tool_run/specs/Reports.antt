@@ -13,7 +13,7 @@ use Rattle.tool_run.specs.declared.carry.CarriedOut.{CarriedOut}
 use Rattle.tool_run.specs.declared.due.Due.{Due}
 use Rattle.tool_run.specs.declared.plan.NoPlan.{NoPlan}
 use Rattle.tool_run.specs.declared.plan.NoPlan.TheVariants.{Usage, Line, Unread, NoMemory}
-use Rattle.tool_run.specs.declared.top.Outcome.{Outcome}
+use Rattle.tool_run.specs.declared.top.Ended.{Ended}
 
 -- ---- before it is reported
 
@@ -36,14 +36,14 @@ ComesToDue words files (Ok due) = IsDueOf words files due
 ComesToDue words files (Err none) = ComesToNoPlan words files none
 
 -- the plan that is due was carried out, and this is its text
-pub record CarriesOut (due : Due) (made : CarriedOut) : Type 0 where
+pub record CarriesOut {K : Type 0} (due : Due) (made : CarriedOut K) : Type 0 where
   pub plan : made.book.plan ≡ due.plan
   pub over : length made.book.plan.pods.rounds ≤ made.book.round
   pub legal : Legal made.book
   pub text : made.text.items ≡ text_of made.book (asked_by due.words)
 
 -- what a run is to report, or why there is no plan
-abbrev pub Settles : List (List ℕ) → FilesSeen → Result CarriedOut NoPlan → Type 0
+abbrev pub Settles : {K : Type 0} → List (List ℕ) → FilesSeen → Result (CarriedOut K) NoPlan → Type 0
 Settles words files (Ok made) = IsCarriedOut words files made.book × IsTextOf words made.book made.text.items
 Settles words files (Err none) = ComesToNoPlan words files none
 
@@ -61,7 +61,7 @@ ReportsNoPlan sink (Line text) result = Reports sink text.items 3 result
 ReportsNoPlan sink (Unread text) result = Reports sink text.items 4 result
 ReportsNoPlan sink NoMemory result = (result ≡ 6) × WroteNothing sink
 
-abbrev pub Reported : SinkSeen → Result CarriedOut NoPlan → Outcome → Type 0
+abbrev pub Reported : {K : Type 0} → SinkSeen → Result (CarriedOut K) NoPlan → Ended K → Type 0
 Reported sink (Ok made) outcome = (outcome.book ≡ Some made.book)
     × Reports sink made.text.items (status_of made.book.answers) outcome.status
 Reported sink (Err none) outcome = (outcome.book ≡ None) × ReportsNoPlan sink none outcome.status

@@ -9,9 +9,10 @@ ghost use Rattle.tool_run.specs.Reports.{CarriesOut};
 ghost use Rattle.tool_run.specs.Verdict.{asked_by};
 
 use crate::due::Due;
-use crate::kernel::{NodeKernel, begin};
+use crate::kernel::{FromHost, begin};
 use crate::rounds::make_round;
 use cni_addr::NoMemory;
+use kernel_model::Kernel;
 use pod_text::{Asked, CommandPart, text};
 use pod_threads::Gate;
 use pod_workers::Book;
@@ -22,26 +23,26 @@ use tool_words::{Source, Words};
 
 /// A plan that was carried out: its book, and the whole text of it.
 #[derive(Drop)]
-pub(crate) struct CarriedOut {
-    pub(crate) book: Book<NodeKernel>,
+pub(crate) struct CarriedOut<K: Kernel + Drop> {
+    pub(crate) book: Book<K>,
     pub(crate) text: Vec<u8>,
 }
 
 /// Carries out the plan, each round by as many threads as the words ask for.
 #[tactic(auto, using(crate::proofs::Dues::carries_out, crate::proofs::Dues::in_order))]
-pub(crate) fn carry_out<R: Threads + Wait + Sync, G: Gate>(
+pub(crate) fn carry_out<K: FromHost + Send + Drop, R: Threads + Wait + Sync, G: Gate>(
     rt: &R,
     alloc: Global,
     due: Due,
     gate: &G,
-) -> Result<CarriedOut, NoMemory>
+) -> Result<CarriedOut<K>, NoMemory>
     requires well_formed { IsWellFormed due.plan }
     requires some { 1 ≤ due.words.threads }
     ensures made { IfOk result (CarriesOut due) }
     ensures order { due.words.threads ≡ 1 → IfOk result (λ made. IsInFileOrder made.book) }
 {
     let Due { words, plan } = due;
-    let mut book = begin(alloc, plan)?;
+    let mut book: Book<K> = begin(alloc, plan)?;
     while !book.ended() {
         book = make_round(rt, alloc, book, words.threads, gate);
     }
@@ -50,13 +51,16 @@ pub(crate) fn carry_out<R: Threads + Wait + Sync, G: Gate>(
 
 /// Carries out the plan on the calling thread.
 #[tactic(auto, using(crate::proofs::Dues::carries_out, crate::proofs::Dues::in_order))]
-pub(crate) fn carry_out_alone(alloc: Global, due: Due) -> Result<CarriedOut, NoMemory>
+pub(crate) fn carry_out_alone<K: FromHost + Drop>(
+    alloc: Global,
+    due: Due,
+) -> Result<CarriedOut<K>, NoMemory>
     requires well_formed { IsWellFormed due.plan }
     ensures made { IfOk result (CarriesOut due) }
     ensures order { IfOk result (λ made. IsInFileOrder made.book) }
 {
     let Due { words, plan } = due;
-    let mut book = begin(alloc, plan)?;
+    let mut book: Book<K> = begin(alloc, plan)?;
     while !book.ended() {
         book.round_alone();
     }
@@ -64,7 +68,11 @@ pub(crate) fn carry_out_alone(alloc: Global, due: Due) -> Result<CarriedOut, NoM
 }
 
 /// The book with its text, as the words ask for it.
-fn print(alloc: Global, book: Book<NodeKernel>, words: &Words) -> Result<CarriedOut, NoMemory>
+fn print<K: Kernel + Drop>(
+    alloc: Global,
+    book: Book<K>,
+    words: &Words,
+) -> Result<CarriedOut<K>, NoMemory>
     ensures book { IfOk result (λ made. made.book ≡ book) }
     ensures legal { Legal book }
     ensures text { IfOk result (λ made. made.text.items ≡ text_of book (asked_by words.now)) }

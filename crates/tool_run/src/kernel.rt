@@ -1,25 +1,41 @@
 //! The kernel that plans are carried out on. To have another one, name it here.
 
 ghost use Rattle.std.specs.Prelude.{◌≡◌, IfOk};
+ghost use Rattle.kernel_types.specs.Sound.{IsSound};
 ghost use Rattle.pod_workers.specs.Order.{IsInFileOrder};
 ghost use Rattle.pod_workers.specs.Plans.{IsWellFormed};
 ghost use Rattle.pod_workers.specs.World.{begun};
 
 use cni_addr::{Duplicate, NoMemory};
-use kernel_model::ListKernel;
+use kernel_model::{Host, Kernel};
+use kernel_tables::TableKernel;
 use pod_workers::{Book, Plan};
 use std::alloc::Global;
 
 /// The kernel of a node.
-pub type NodeKernel = ListKernel;
+pub type NodeKernel = TableKernel;
+
+/// A kernel that may begin with any sound host.
+pub trait FromHost: Kernel {
+    /// The kernel that means this host. Want of memory alone is refused.
+    fn from_host(alloc: Global, host: Host) -> Result<Self, NoMemory>
+        requires { IsSound host }
+        ensures { IfOk result (λ kernel. Self.Kernel.host kernel ≡ host) };
+}
+
+impl FromHost for TableKernel {
+    fn from_host(alloc: Global, host: Host) -> Result<TableKernel, NoMemory> {
+        TableKernel::of_host(alloc, host)
+    }
+}
 
 /// A book of the plan, with nothing done yet, over a kernel that begins with a copy of the opening.
-pub(crate) fn begin(alloc: Global, plan: Plan) -> Result<Book<NodeKernel>, NoMemory>
+pub(crate) fn begin<K: FromHost + Drop>(alloc: Global, plan: Plan) -> Result<Book<K>, NoMemory>
     requires { IsWellFormed plan }
     ensures begun { IfOk result (λ book. book ≡ begun plan) }
     ensures order { IfOk result IsInFileOrder }
 {
-    let kernel = NodeKernel::of_host(plan.pods.opening.copy()?);
+    let kernel = K::from_host(alloc, plan.pods.opening.copy()?)?;
     let book = Book::begin(alloc, plan, kernel)?;
     Ok(book)
 }

@@ -6,20 +6,24 @@ ghost use Rattle.tool_run.specs.Seen.{sink_seen};
 use crate::carry::CarriedOut;
 use crate::lines::USAGE;
 use crate::plan::NoPlan;
-use crate::top::Outcome;
+use crate::top::Ended;
 use cni_io::{Sink, write_whole};
+use kernel_model::Kernel;
 use pod_text::{MEMORY_STATUS, READ_STATUS, REFUSED_STATUS, USAGE_STATUS, WRITE_STATUS, status};
 
 /// Writes the text of the book, or why there is no plan.
-pub(crate) fn report<S: Sink>(sink: &mut S, settled: Result<CarriedOut, NoPlan>) -> Outcome
+pub(crate) fn report<K: Kernel + Drop, S: Sink>(
+    sink: &mut S,
+    settled: Result<CarriedOut<K>, NoPlan>,
+) -> Ended<K>
     ensures { Reported (sink_seen S.written S.faults sink.old sink.new) settled result }
 {
     match settled {
-        Ok(CarriedOut { book, text }) => Outcome {
+        Ok(CarriedOut { book, text }) => Ended {
             status: write(sink, text.as_slice(), status(&book)),
             book: Some(book),
         },
-        Err(none) => Outcome {
+        Err(none) => Ended {
             status: report_no_plan(sink, none),
             book: None,
         },

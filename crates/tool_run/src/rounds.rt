@@ -4,7 +4,7 @@ ghost use Rattle.std.specs.Prelude.{◌≡◌, ◌<◌, ◌≤◌, length};
 ghost use Rattle.pod_workers.specs.Extends.{Rounds};
 ghost use Rattle.pod_workers.specs.Order.{IsInFileOrder};
 
-use crate::kernel::NodeKernel;
+use kernel_model::Kernel;
 use pod_threads::{Gate, Rounded, round_threads};
 use pod_workers::Book;
 use std::alloc::Global;
@@ -13,13 +13,13 @@ use std::thread::Threads;
 
 /// The book with its current round made by so many threads. One thread is the calling one, which passes no gate, and
 /// so is the one that makes the round where memory is refused for several.
-pub(crate) fn make_round<R: Threads + Wait + Sync, G: Gate>(
+pub(crate) fn make_round<K: Kernel + Send + Drop, R: Threads + Wait + Sync, G: Gate>(
     rt: &R,
     alloc: Global,
-    book: Book<NodeKernel>,
+    book: Book<K>,
     threads: u8,
     gate: &G,
-) -> Book<NodeKernel>
+) -> Book<K>
     requires some { 1 ≤ threads }
     requires left { book.round < length book.plan.pods.rounds }
     ensures rounds { Rounds book result }
@@ -35,7 +35,7 @@ pub(crate) fn make_round<R: Threads + Wait + Sync, G: Gate>(
 }
 
 /// The book with its current round made by the calling thread.
-pub(crate) fn make_round_alone(mut book: Book<NodeKernel>) -> Book<NodeKernel>
+pub(crate) fn make_round_alone<K: Kernel + Drop>(mut book: Book<K>) -> Book<K>
     requires left { book.round < length book.plan.pods.rounds }
     ensures rounds { Rounds book result }
     ensures order { IsInFileOrder book → IsInFileOrder result }

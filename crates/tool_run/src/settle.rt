@@ -8,6 +8,7 @@ ghost use Rattle.tool_run.specs.Statuses.{AskForOneThread};
 
 use crate::carry::{CarriedOut, carry_out, carry_out_alone};
 use crate::due::read_due;
+use crate::kernel::FromHost;
 use crate::plan::NoPlan;
 use cni_addr::Text;
 use cni_io::Files;
@@ -17,13 +18,13 @@ use std::sync::Wait;
 use std::thread::Threads;
 
 /// What the words and the files come to, carried out by as many threads as the words ask for.
-pub(crate) fn settle<R: Threads + Wait + Sync, F: Files, G: Gate>(
+pub(crate) fn settle<K: FromHost + Send + Drop, R: Threads + Wait + Sync, F: Files, G: Gate>(
     rt: &R,
     alloc: Global,
     words: &[Text],
     files: &mut F,
     gate: &G,
-) -> Result<CarriedOut, NoPlan>
+) -> Result<CarriedOut<K>, NoPlan>
     ensures settles { Settles words.now (files_seen F.files F.faults files.old files.new) result }
     ensures order { AskForOneThread words.now → IfOk result (λ made. IsInFileOrder made.book) }
     ensures keeps { F.files files.new ≡ F.files files.old }
@@ -34,11 +35,11 @@ pub(crate) fn settle<R: Threads + Wait + Sync, F: Files, G: Gate>(
 }
 
 /// The same on the calling thread.
-pub(crate) fn settle_alone<F: Files>(
+pub(crate) fn settle_alone<K: FromHost + Drop, F: Files>(
     alloc: Global,
     words: &[Text],
     files: &mut F,
-) -> Result<CarriedOut, NoPlan>
+) -> Result<CarriedOut<K>, NoPlan>
     ensures settles { Settles words.now (files_seen F.files F.faults files.old files.new) result }
     ensures order { IfOk result (λ made. IsInFileOrder made.book) }
     ensures keeps { F.files files.new ≡ F.files files.old }

@@ -3,11 +3,12 @@
 ghost use Rattle.std.specs.Prelude.{◌≤◌, IfOk, length};
 ghost use Rattle.tool_words.specs.Command.{most_lists};
 
-use crate::kernel::{NodeKernel, begin};
+use crate::kernel::{FromHost, NodeKernel, begin};
 use crate::plan::read_plan;
 use cni_addr::{Items, NoMemory, Text};
 use cni_io::{MemFiles, MemSink};
 use cni_verbs::Answer;
+use kernel_model::Kernel;
 use kernel_text::reply_text;
 use pod_workers::{Book, Entry};
 use std::alloc::Global;
@@ -86,7 +87,7 @@ fn words(alloc: Global) -> Result<Words, NoMemory>
 }
 
 /// The book of these pods as it is begun.
-fn book_of(alloc: Global, pods: &str) -> Result<Book<NodeKernel>, Fail> {
+fn book_of<K: FromHost + Drop>(alloc: Global, pods: &str) -> Result<Book<K>, Fail> {
     let mut files = files_of(alloc, pods)?;
     let words = words(alloc)?;
     match read_plan(alloc, &mut files, &words, PODS) {
@@ -96,7 +97,7 @@ fn book_of(alloc: Global, pods: &str) -> Result<Book<NodeKernel>, Fail> {
 }
 
 /// A step of the first command, then one of the second, and so on, until neither may step.
-fn step_in_turn(book: &mut Book<NodeKernel>) {
+fn step_in_turn<K: Kernel + Drop>(book: &mut Book<K>) {
     for _ in 0..20 {
         for number in 1..3u32 {
             if book.ready(number) {
@@ -128,6 +129,17 @@ fn code(answer: Option<&Answer>) -> Option<u32> {
     }
 }
 
+/// The entries of the pods' two commands, stepped in turn, and the code that each ends with.
+fn in_turn<K: FromHost + Drop>(
+    alloc: Global,
+    pods: &str,
+) -> Result<(String, [Option<u32>; 2]), Fail> {
+    let mut book: Book<K> = book_of(alloc, pods)?;
+    step_in_turn(&mut book);
+    let codes = [code(book.answer(1)), code(book.answer(2))];
+    Ok((lines(alloc, book.history())?, codes))
+}
+
 /// In two namespaces both are added; in one the second finds the name taken, and takes back what it made.
 #[test]
 fn two_adds_take_turns(rt: HostRuntime) -> Result<(), Fail> {
@@ -144,11 +156,9 @@ fn two_adds_take_turns(rt: HostRuntime) -> Result<(), Fail> {
             101,
         ),
     ] {
-        let mut book = book_of(alloc, pods)?;
-        step_in_turn(&mut book);
-        let found = lines(alloc, book.history())?;
+        let (found, codes) = in_turn::<NodeKernel>(alloc, pods)?;
         assert_eq!(rt; found.as_str(), wanted);
-        assert!(rt; code(book.answer(1)) == Some(0) && code(book.answer(2)) == Some(second));
+        assert!(rt; codes == [Some(0), Some(second)]);
     }
     Ok(())
 }

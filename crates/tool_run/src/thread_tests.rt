@@ -1,7 +1,8 @@
 //! Runs by several threads, with gates that show that two of them are at work at one time.
 
-use crate::run;
 use crate::tests::{files_of, sink_of, texts_of};
+use crate::top::Ended;
+use crate::{FromHost, NodeKernel, run_over};
 use cni_addr::Text;
 use cni_io::{Files, Sink};
 use pod_threads::Gate;
@@ -51,16 +52,24 @@ fn joined(alloc: Global, parts: &[&str]) -> Result<String, Fail> {
     Ok(text)
 }
 
-/// The status of a run over any files and any sink.
-fn status_over<R: Threads + Wait + Sync, F: Files, S: Sink, G: Gate>(
+/// The status of a run over any kernel, any files and any sink.
+fn status_over<K, R, F, S, G>(
     rt: &R,
     alloc: Global,
     words: &[Text],
     files: &mut F,
     sink: &mut S,
     gate: &G,
-) -> u8 {
-    run(rt, alloc, words, files, sink, gate).status
+) -> u8
+where
+    K: FromHost + Send + Drop,
+    R: Threads + Wait + Sync,
+    F: Files,
+    S: Sink,
+    G: Gate,
+{
+    let ended: Ended<K> = run_over(rt, alloc, words, files, sink, gate);
+    ended.status
 }
 
 /// The status of a run by so many threads.
@@ -74,7 +83,14 @@ fn status_by<R: Threads + Wait + Sync, G: Gate>(
     let words = texts_of(alloc, &["--threads", threads, "pods.json", "net.json"])?;
     let mut files = files_of(alloc, pods)?;
     let mut sink = sink_of(alloc)?;
-    Ok(status_over(rt, alloc, words.as_slice(), &mut files, &mut sink, gate))
+    Ok(status_over::<NodeKernel, _, _, _, _>(
+        rt,
+        alloc,
+        words.as_slice(),
+        &mut files,
+        &mut sink,
+        gate,
+    ))
 }
 
 /// A point that a worker comes to: a command's number, and how many steps were made for it.

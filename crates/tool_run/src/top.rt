@@ -6,11 +6,12 @@ ghost use Rattle.pod_workers.specs.Order.{IsInFileOrder};
 ghost use Rattle.tool_run.specs.Seen.{files_seen, sink_seen};
 ghost use Rattle.tool_run.specs.Statuses.{AskForOneThread, Ends, IsDetermined};
 
-use crate::kernel::NodeKernel;
+use crate::kernel::{FromHost, NodeKernel};
 use crate::report::report;
 use crate::settle::{settle, settle_alone};
 use cni_addr::Text;
 use cni_io::{Files, Sink};
+use kernel_model::Kernel;
 use pod_laws::every_legal_history_is_guaranteed;
 use pod_threads::Gate;
 use pod_workers::{Book, one_outcome};
@@ -18,13 +19,74 @@ use std::alloc::Global;
 use std::sync::Wait;
 use std::thread::Threads;
 
-/// How a run ended.
+/// How a run over a kernel ended.
 #[derive(Drop)]
-pub struct Outcome {
+pub struct Ended<K: Kernel + Drop> {
     /// The exit status, one of those that [`pod_text::statuses`] names.
     pub status: u8,
     /// The plan that was carried out, with what it came to.
-    pub book: Option<Book<NodeKernel>>,
+    pub book: Option<Book<K>>,
+}
+
+/// How a run ended.
+pub type Outcome = Ended<NodeKernel>;
+
+/// As [`run`], over any kernel.
+pub fn run_over<K, R, F, S, G>(
+    rt: &R,
+    alloc: Global,
+    words: &[Text],
+    files: &mut F,
+    sink: &mut S,
+    gate: &G,
+) -> Ended<K>
+where
+    K: FromHost + Send + Drop,
+    R: Threads + Wait + Sync,
+    F: Files,
+    S: Sink,
+    G: Gate,
+    ensures ends { Ends words.now
+        (files_seen F.files F.faults files.old files.new)
+        (sink_seen S.written S.faults sink.old sink.new)
+        result.status result.book }
+    ensures guaranteed { IfSome result.book IsGuaranteed }
+    ensures order { AskForOneThread words.now → IfSome result.book IsInFileOrder }
+    ensures determined { AskForOneThread words.now → IsDetermined words.now
+        (files_seen F.files F.faults files.old files.new)
+        (sink_seen S.written S.faults sink.old sink.new)
+        result.status }
+    ensures keeps { F.files files.new ≡ F.files files.old }
+{
+    every_legal_history_is_guaranteed();
+    one_outcome();
+    let settled = settle(rt, alloc, words, files, gate);
+    report(sink, settled)
+}
+
+/// As [`run_alone`], over any kernel.
+pub fn run_alone_over<K: FromHost + Drop, F: Files, S: Sink>(
+    alloc: Global,
+    words: &[Text],
+    files: &mut F,
+    sink: &mut S,
+) -> Ended<K>
+    ensures ends { Ends words.now
+        (files_seen F.files F.faults files.old files.new)
+        (sink_seen S.written S.faults sink.old sink.new)
+        result.status result.book }
+    ensures guaranteed { IfSome result.book IsGuaranteed }
+    ensures order { IfSome result.book IsInFileOrder }
+    ensures determined { IsDetermined words.now
+        (files_seen F.files F.faults files.old files.new)
+        (sink_seen S.written S.faults sink.old sink.new)
+        result.status }
+    ensures keeps { F.files files.new ≡ F.files files.old }
+{
+    every_legal_history_is_guaranteed();
+    one_outcome();
+    let settled = settle_alone(alloc, words, files);
+    report(sink, settled)
 }
 
 /// Carries out the plan that the words and the files come to, and writes its text.
@@ -55,10 +117,7 @@ pub fn run<R: Threads + Wait + Sync, F: Files, S: Sink, G: Gate>(
         result.status }
     ensures keeps { F.files files.new ≡ F.files files.old }
 {
-    every_legal_history_is_guaranteed();
-    one_outcome();
-    let settled = settle(rt, alloc, words, files, gate);
-    report(sink, settled)
+    run_over(rt, alloc, words, files, sink, gate)
 }
 
 /// The same on the calling thread alone: the number of threads is read and not used, and each command runs whole, in
@@ -81,8 +140,5 @@ pub fn run_alone<F: Files, S: Sink>(
         result.status }
     ensures keeps { F.files files.new ≡ F.files files.old }
 {
-    every_legal_history_is_guaranteed();
-    one_outcome();
-    let settled = settle_alone(alloc, words, files);
-    report(sink, settled)
+    run_alone_over(alloc, words, files, sink)
 }

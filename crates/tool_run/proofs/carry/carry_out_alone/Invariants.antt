@@ -3,7 +3,7 @@ use Rattle.pod_workers.specs.Order.{IsInFileOrder}
 use Rattle.tool_run.proofs.carry.carry_out_alone.Given as goal
 
 abbrev pub invariant-loop-book : goal.invariant-loop-book
-invariant-loop-book l = (l.book.plan ≡ l.initial.book.plan) × IsInFileOrder l.book
+invariant-loop-book g l = (l.book.plan ≡ l.initial.book.plan) × IsInFileOrder l.book
 
 abbrev pub decreases-loop-book : goal.decreases-loop-book
-decreases-loop-book l = length l.initial.book.plan.pods.rounds - l.book.round
+decreases-loop-book g l = length l.initial.book.plan.pods.rounds - l.book.round

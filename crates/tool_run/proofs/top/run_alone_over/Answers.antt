@@ -1,6 +1,6 @@
 use Rattle.tool_run.specs.Seen.{files_seen, sink_seen}
 use Rattle.tool_run.proofs.Endings.{determined, ends, guaranteed, ordered}
-use Rattle.tool_run.proofs.top.run_alone.Goals as goal
+use Rattle.tool_run.proofs.top.run_alone_over.Goals as goal
 
 pub returns : goal.returns
 returns g c =

@@ -3,7 +3,7 @@ use Rattle.pod_workers.specs.Order.{IsInFileOrder}
 use Rattle.tool_run.specs.Seen.{files_seen, sink_seen}
 use Rattle.tool_run.specs.Statuses.{AskForOneThread}
 use Rattle.tool_run.proofs.Endings.{determined, ends, guaranteed, ordered}
-use Rattle.tool_run.proofs.top.run.Goals as goal
+use Rattle.tool_run.proofs.top.run_over.Goals as goal
 
 pub returns : goal.returns
 returns g c =
