@@ -46,9 +46,19 @@ impl<K: Kernel> Model for Book<K> {
 
     ghost use Rattle.pod_workers.specs.Slots.{IsKept};
 
-    ghost view = { λ b. record { plan = b.plan; history = b.history.items; answers = b.answers.items; round = b.round } };
+    ghost view = { λ b. record {
+      plan = b.plan;
+      history = b.history.items;
+      answers = b.answers.items;
+      round = b.round;
+    } };
 
-    ghost invariant = { λ b. IsKept (K.host b.kernel) b.slots.items b.places.items b.before (record { plan = b.plan; history = b.history.items; answers = b.answers.items; round = b.round }) };
+    ghost invariant = { λ b. IsKept (K.host b.kernel) b.slots.items b.places.items b.before (record {
+      plan = b.plan;
+      history = b.history.items;
+      answers = b.answers.items;
+      round = b.round;
+    }) };
 }
 
 impl<K: Kernel + Drop> Book<K> {
@@ -221,7 +231,8 @@ impl<K: Kernel + Drop> Book<K> {
         ensures extends { Extends self.old self.new }
         ensures over { IsReadyNumber self.new command → ⊥ }
         ensures own { Appends self.old.history self.new.history (All (IsEntryBy command)) }
-        ensures order { ((n : ℕ) → command ≡ n + 1 → EarlierAreAnswered self.old n) → IsInFileOrder self.old → IsInFileOrder self.new }
+        ensures order { ((n : ℕ) → command ≡ n + 1 → EarlierAreAnswered self.old n)
+            → IsInFileOrder self.old → IsInFileOrder self.new }
     {
         while self.ready(command) {
             self.is_legal();

@@ -41,7 +41,10 @@ fn index_round(
     places: &mut Vec<Place>,
 ) -> Result<(), NoMemory>
     requires { length places.old.items + length commands.now ≤ file_limit }
-    ensures { OnOk result ((rounds : List (List Command)) (before : List Placed) → slice_get rounds round ≡ Some commands.now → AreBefore round before → IsIndex rounds before places.old.items → IsIndex rounds (before ++ map (in_round round) commands.now) places.new.items) }
+    ensures { OnOk result ((rounds : List (List Command)) (before : List Placed)
+        → slice_get rounds round ≡ Some commands.now → AreBefore round before
+        → IsIndex rounds before places.old.items
+        → IsIndex rounds (before ++ map (in_round round) commands.now) places.new.items) }
 {
     let mut latest: HashMap<Text, u32> = HashMap::new(alloc);
     for (within, command) in commands.iter().enumerate() {

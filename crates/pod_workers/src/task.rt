@@ -6,6 +6,7 @@ ghost use Rattle.std.specs.Option.{option_copied};
 ghost use Rattle.cni_verbs.specs.Progress.{advanced, answer_at, is_gc, progress};
 ghost use Rattle.cni_verbs.specs.Script.{IsOpen, next_call};
 ghost use Rattle.kernel_types.specs.Replies.{is_fault};
+ghost use Rattle.pod_workers.specs.Tasks.{view_of};
 
 use cni_addr::NoMemory;
 use cni_verbs::{Answer, Run};
@@ -26,7 +27,8 @@ enum Carried {
 /// The run of a command, of whichever verb: how far its script has come, and whether it is prepared for what is next.
 #[derive(Drop)]
 pub struct Task {
-    run: Carried,
+    // Boxed, since a book has a place for the task of each command and a step hands it from one function to the next.
+    run: Box<Carried>,
 }
 
 impl Model for Task {
@@ -35,7 +37,7 @@ impl Model for Task {
 
     ghost Value = { RunView };
 
-    ghost view = { λ t. view_of t.run };
+    ghost view = { λ t. view_of t.run.value };
 }
 
 impl Task {
@@ -50,19 +52,25 @@ impl Task {
                 None => unreachable!(),
             }
         } else {
-            Ok(Task {
-                run: Carried::Verb(Run::start(alloc, list, command)?),
-            })
+            let run = Run::start(alloc, list, command)?;
+            Task::of(alloc, Carried::Verb(run))
         }
+    }
+
+    fn of(alloc: Global, run: Carried) -> Result<Task, NoMemory>
+        ensures { IfOk result (λ task. task ≡ view_of run) }
+    {
+        Ok(Task {
+            run: Box::new(alloc, run)?,
+        })
     }
 
     fn of_collection(alloc: Global, list: &NetList, command: &Command) -> Result<Task, NoMemory>
         requires { is_gc command.now.verb ≡ true }
         ensures { IfOk result (λ task. task.progress ≡ progress (Some list.now) command.now []) }
     {
-        Ok(Task {
-            run: Carried::Collection(GcRun::start(alloc, list, command)?),
-        })
+        let run = GcRun::start(alloc, list, command)?;
+        Task::of(alloc, Carried::Collection(run))
     }
 
     /// Makes what the next call is looked up in. How far the run has come stays the same, whether memory lacks or not.
@@ -70,7 +78,7 @@ impl Task {
         ensures same { self.new.progress ≡ self.old.progress }
         ensures ready { OnOk result (self.new.prepared ≡ true) }
     {
-        match &mut self.run {
+        match &mut *self.run {
             Carried::Verb(run) => run.prepare(),
             Carried::Collection(_) => Ok(()),
         }
@@ -80,7 +88,7 @@ impl Task {
     pub fn made(&self) -> u64
         ensures { result ≡ self.now.progress.made }
     {
-        match &self.run {
+        match &*self.run {
             Carried::Verb(run) => run.made(),
             Carried::Collection(run) => run.made(),
         }
@@ -90,7 +98,7 @@ impl Task {
     pub fn over(&self) -> bool
         ensures { FalseIff result (IsOpen self.now.progress.state) }
     {
-        match &self.run {
+        match &*self.run {
             Carried::Verb(run) => run.over(),
             Carried::Collection(run) => run.over(),
         }
@@ -101,7 +109,7 @@ impl Task {
         requires prepared { self.now.prepared ≡ true }
         ensures { IfOk result (λ call. call ≡ next_call self.now.progress.command self.now.progress.state) }
     {
-        match &self.run {
+        match &*self.run {
             Carried::Verb(run) => run.next(),
             Carried::Collection(run) => run.next(),
         }
@@ -117,7 +125,7 @@ impl Task {
         ensures err { OnErr result (self.new ≡ self.old) }
         ensures frees { is_fault reply ≡ false → IsOk result }
     {
-        match &mut self.run {
+        match &mut *self.run {
             Carried::Verb(run) => {
                 run.take(reply);
                 Ok(())
@@ -130,7 +138,7 @@ impl Task {
     pub fn answer(&self) -> Result<Option<Answer>, NoMemory>
         ensures { IfOk result (λ answer. answer ≡ answer_at self.now.progress) }
     {
-        match &self.run {
+        match &*self.run {
             Carried::Verb(run) => run.answer(),
             Carried::Collection(run) => run.answer(),
         }
