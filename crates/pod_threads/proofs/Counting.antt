@@ -14,13 +14,13 @@ use Rattle.pod_threads.specs.Counted.{entries_of_round}
 
 -- ---- entries of a round
 
-count-all : (p : Plan) (round : ℕ) (es : List Entry) → All (IsOfRound p round) es → entries_of_round p round es ≡ length es
+pub count-all : (p : Plan) (round : ℕ) (es : List Entry) → All (IsOfRound p round) es → entries_of_round p round es ≡ length es
 count-all p round [] all = refl
 count-all p round (e ∷ es) all =
     sum_by-cons (λ x. cond (is_of_round p round x) 1 0) e es ∙ ap (λ b. cond b 1 0 + count_by (is_of_round p round) es) (All-head (IsOfRound p round) e es all)
     ∙ ap (λ k. 1 + k) (count-all p round es (All-tail (IsOfRound p round) e es all)) ∙ (omega arith)
 
-count-append : (p : Plan) (round : ℕ) (g h : List Entry) → entries_of_round p round (g ++ h) ≡ entries_of_round p round g + entries_of_round p round h
+pub count-append : (p : Plan) (round : ℕ) (g h : List Entry) → entries_of_round p round (g ++ h) ≡ entries_of_round p round g + entries_of_round p round h
 count-append p round g h = sum_by-append (λ e. cond (is_of_round p round e) 1 0) g h
 
 -- what a round adds to its entries is what it adds to the history

@@ -67,7 +67,8 @@ impl<J: Origin, L: Ledger, K: Kernel + Drop> Shared<J, L, K> {
     pub(crate) fn step(&mut self, command: u32, mine: &mut Share<L>) -> StepEnd
         requires { 0 < mine.old.parts }
         ensures ready { IsReadyNumber self.old.world command → MakesStep self.old.world self.new.world command result }
-        ensures waits { (IsReadyNumber self.old.world command → ⊥) → (self.new.world ≡ self.old.world) × (result ≡ Over) }
+        ensures waits { (IsReadyNumber self.old.world command → ⊥)
+            → (self.new.world ≡ self.old.world) × (result ≡ Over) }
         ensures total { self.new.total ≡ self.old.total + entries_by result }
         ensures parts { mine.new.parts ≡ mine.old.parts }
         ensures amount { mine.new.amount ≡ mine.old.amount + entries_by result }
