@@ -14,6 +14,7 @@ use cni_io::{RealFiles, RealSink};
 use pod_threads::OpenGate;
 use std::env;
 use std::io::ErrorKind;
+use std::mem::forget;
 use std::process::ExitCode;
 use tool_run::{MEMORY_STATUS, NO_WORDS_STATUS, run};
 
@@ -54,7 +55,10 @@ fn main(rt: HostRuntime) -> ExitCode {
         &mut sink,
         &OpenGate,
     );
-    ExitCode::from(outcome.status)
+    let status = outcome.status;
+    // To let go of a long history entry by entry takes a good part of a run, and at its end the system takes all back.
+    forget(outcome);
+    ExitCode::from(status)
 }
 
 /// The words of the program, without its name.
