@@ -1,5 +1,6 @@
 #!/usr/bin/env python3
-"""Runs a built program on the rows of rows.json and of ../readers, and compares what it writes and its status.
+"""Runs a built program on the rows of rows.json and of ../readers, and on a list and a pod file that are cut off behind
+each of their bytes, and compares what it writes and its status.
 
     run.py [PROGRAM [WORD]]    the rows whose names hold WORD; without one, all
 
@@ -140,6 +141,18 @@ def reader_rows():
                 yield {**run_row, "later": True}
 
 
+def cut_rows(table):
+    """A list of four plugins and its pod file, cut off behind each of their bytes but the last, each as a run."""
+    row = next(it for it in table["rows"] if it["name"] == "podman_list")
+    whole = {name: compact(content_of(it, table["lists"])) for name, it in row["files"].items()}
+    error = {"cniVersion": "1.1.0", "code": 6, "details": "", "msg": "decoding failed"}
+    for file, text in whole.items():
+        for length in range(len(text)):
+            files = {name: {"text": text[:length] if name == file else it} for name, it in whole.items()}
+            run_row = {"name": f"{file} cut off behind {length} bytes", "files": files, "words": list(files)}
+            yield {**run_row, "status": REFUSED, "stdout": [compact({"error": error, "file": file})]}
+
+
 def is_read(status, lines):
     if status != REFUSED:
         return status in (SUCCESS, FAILURE, COMMAND_MEMORY)
@@ -209,7 +222,7 @@ def main():
     word = sys.argv[2] if len(sys.argv) > 2 else ""
     table = read_json(TOP / "tests/rows/rows.json")
     told = (each for row in table["rows"] for each in each_of(row))
-    rows = [row for row in [*told, *reader_rows()] if word in row["name"]]
+    rows = [row for row in [*told, *reader_rows(), *cut_rows(table)] if word in row["name"]]
     failed = count_failed((row["name"], wrong_in(program, row, table["lists"])) for row in rows)
     print(f"rows: {len(rows) - failed} passed, {failed} failed")
     return 1 if failed else 0

@@ -1,0 +1,182 @@
+#!/usr/bin/env python3
+"""Refuses the program one piece of memory, each of a run in turn, and looks how the run ends.
+
+    growths.py [PROGRAM]
+
+The k-th `malloc` of a run answers that there is none, for k from 1 until a run ends without having been refused any. A
+library that is loaded before the C library does that; the kit's clang compiles it. Each run prints the whole text
+(status 0 or 1), an answer that tells want of memory (8), or nothing (6). Where commands were answered the kernel's
+objects are sound, and two deletions or collections, of which at least one has memory, leave nothing that is owned.
+"""
+
+import collections
+import json
+import os
+import pathlib
+import shutil
+import subprocess
+import sys
+
+sys.dont_write_bytecode = True
+sys.path.insert(0, str(pathlib.Path(__file__).resolve().parent.parent))
+
+from program import (
+    COMMAND_MEMORY,
+    FAILURE,
+    MOST_SECONDS,
+    NO_PODS,
+    SUCCESS,
+    TOP,
+    bridge,
+    command,
+    count_failed,
+    in_folder,
+    lines_of,
+    network_list,
+    program_of,
+    read_json,
+    run,
+)
+
+MEMORY = 6
+# the code of the answer of a command that ran out of memory
+OUT_OF_MEMORY = 104
+# the members that tell an object of a kind from the others of that kind
+KEYS = {
+    "namespace": ["name"],
+    "link": ["ns", "name"],
+    "address": ["ns", "link", "address"],
+    "route": ["ns", "dst", "link"],
+    "setting": ["ns", "key"],
+    "lease": ["network", "address"],
+    "cached": ["tag"],
+    "last": ["network", "set"],
+}
+SOURCE = "refusing.c"
+LIBRARY = "refusing.so"
+REFUSING = """
+extern void *__libc_malloc(unsigned long);
+extern char *getenv(const char *);
+extern long atol(const char *);
+extern long write(int, const void *, unsigned long);
+
+static long left = -1;
+
+void *malloc(unsigned long size) {
+    if (left < 0) left = atol(getenv("REFUSED"));
+    if (left > 0 && --left == 0) {
+        write(atol(getenv("TOLD_TO")), "!", 1);
+        return 0;
+    }
+    return __libc_malloc(size);
+}
+"""
+
+
+def compile_into(folder):
+    """Makes the library whose `malloc` refuses the piece of memory of the number REFUSED, and tells it to TOLD_TO."""
+    (folder / SOURCE).write_text(REFUSING, encoding="utf-8")
+    clang = pathlib.Path(shutil.which("rt")).resolve().parent.parent / "toolchain/bin/clang"
+    flags = ["-shared", "-fPIC", "-nostdlib", "-fuse-ld=lld", "-o", LIBRARY]
+    subprocess.run([str(clang), *flags, SOURCE], cwd=folder, check=True)
+
+
+def refused(program, words, folder, number):
+    """The run in which the piece of memory of this number is refused, and whether there was one."""
+    told, tell = os.pipe()
+    given = {"LD_PRELOAD": str(folder / LIBRARY), "REFUSED": str(number), "TOLD_TO": str(tell)}
+    ended = subprocess.run(
+        [program, *words],
+        cwd=folder,
+        stdout=subprocess.PIPE,
+        env={**os.environ, **given},
+        pass_fds=[tell],
+        check=False,
+        timeout=MOST_SECONDS,
+    )
+    os.close(tell)
+    with os.fdopen(told, "rb") as pipe:
+        return ended, pipe.read() != b""
+
+
+def is_sound(objects):
+    """Whether each key stands once, and each veth end has its peer, which names it."""
+    keys = [[it["kind"], *(it.get(key) for key in KEYS[it["kind"]])] for it in objects if it["kind"] in KEYS]
+    links = [it for it in objects if it["kind"] == "link"]
+    peers = {(it["ns"], it["name"]): it["peer"] for it in links if it["link"] == "veth"}
+    paired = all(peers.get((to["ns"], to["name"])) == {"ns": ns, "name": name} for (ns, name), to in peers.items())
+    return paired and len(set(map(str, keys))) == len(keys)
+
+
+def wrong_of(ended, text, swept):
+    """What is wrong with how a run ended that was refused a piece of memory."""
+    if ended.returncode == MEMORY and ended.stdout == b"":
+        return None
+    if ended.returncode in (SUCCESS, FAILURE) and ended.stdout == text:
+        return None
+    if ended.returncode != COMMAND_MEMORY:
+        return f"status {ended.returncode}, {len(ended.stdout)} bytes"
+    lines = [json.loads(it) for it in lines_of(ended.stdout)]
+    if OUT_OF_MEMORY not in [it.get("error", {}).get("code") for it in lines if "verb" in it]:
+        return "no answer tells want of memory"
+    objects = [it for it in lines if "kind" in it]
+    if not is_sound(objects):
+        return "the objects aren't sound"
+    owned = {it["tag"] for it in objects if it.get("tag", "base") not in ("base", "outside")}
+    if swept and owned:
+        return f"owned at the end: {sorted(owned)}"
+    return None
+
+
+def in_turn(program, words, files, swept):
+    """Complaints about runs in which each piece of memory is refused in turn, and how often each status came."""
+    seen = collections.Counter()
+    with in_folder(files) as folder:
+        compile_into(folder)
+        text = run(program, words, folder).stdout
+        number, met = 1, True
+        while met:
+            ended, met = refused(program, words, folder, number)
+            if met:
+                seen[ended.returncode] += 1
+                wrong = wrong_of(ended, text, swept)
+                if wrong:
+                    yield f"refused {number}: {wrong}"
+            elif ended.stdout != text:
+                yield "the run that was refused nothing prints another text"
+            number += 1
+    print(f"{sum(seen.values())} refused: " + ", ".join(f"status {it} {seen[it]} times" for it in sorted(seen)))
+
+
+def rounds_of(*commands):
+    return {"opening": {"namespaces": ["/ns/a", "/ns/b", "/ns/c"]}, "rounds": [[it] for it in commands]}
+
+
+def runs():
+    """Each run by its name: its words, its files, and whether its last command takes back all that is owned."""
+    lists = read_json(TOP / "tests/rows/rows.json")["lists"]
+    words = ["--trace", "--dump", "pods.json", "net.json"]
+    mapped = {"portMappings": [{"hostPort": 8080, "containerPort": 80, "protocol": "tcp"}]}
+    add = command("ADD", "podman", "c1", "/ns/a")
+    delete = command("DEL", "podman", "c1", "/ns/a")
+    sweep = {"verb": "GC", "network": "pods", "valid": []}
+    halves = [{**command("ADD", "pods", f"c{it}", f"/ns/{'abc'[it]}"), "stop": 3 + it} for it in range(3)]
+    pods = network_list("pods", bridge(subnet="10.88.0.0/16"))
+    podman = {"pods.json": rounds_of({**add, **mapped}, delete, delete), "net.json": lists["PODMAN"]}
+    swept = {"pods.json": rounds_of(*halves, sweep, sweep), "net.json": pods}
+    dumped = {"pods.json": rounds_of(command("ADD", "pods", "c1", "/ns/a")), "net.json": pods}
+    yield "an ADD of four plugins and its deletions", words, podman, True
+    yield "collections after half-made ADDs", words, swept, True
+    yield "no command", ["pods.json"], {"pods.json": NO_PODS}, False
+    yield "an ADD, its trace and its dump", words, dumped, False
+
+
+def main():
+    program = program_of(sys.argv[1:])
+    failed = count_failed((name, list(in_turn(program, *how))) for name, *how in runs())
+    print(f"growths: {failed} wrong")
+    sys.exit(failed > 0)
+
+
+if __name__ == "__main__":
+    main()
