@@ -8,9 +8,10 @@ Each size N gives rounds of N commands, one a container, each timed less the sam
 - faults: ADDs whose first call is a listed fault, so that no kernel call is made: what the book costs;
 - gone:   DELs of what isn't there, four kernel calls each on lists that are empty: what the book costs with its calls;
 - adds:   ADDs;
-- dels:   DELs of what the ADDs of a round before made.
+- checks: CHECKs of what the ADDs of a round before made;
+- dels:   DELs of the same.
 
-`adds` and `dels` show the kernel over plain lists. A time is the processor's, the least of some runs. What isn't over
+`adds`, `checks` and `dels` show what the kernel costs. A time is the processor's, the least of some runs. What isn't over
 within MOST_SECONDS is ended, and no figure is given.
 """
 import pathlib
@@ -26,7 +27,8 @@ from program import MOST_SECONDS, bridge, command, least, network_list, program_
 RUNS = 25
 NET = network_list("pods", bridge(subnet="10.0.0.0/8"))
 # the steps of a command: its calls, and the one that gives its answer
-STEPS = {"faults": 2, "gone": 5, "adds": 7, "dels": 8}
+STEPS = {"faults": 2, "gone": 5, "adds": 7, "checks": 7, "dels": 8}
+VERBS = {"faults": "ADD", "gone": "DEL", "adds": "ADD", "checks": "CHECK", "dels": "DEL"}
 
 
 def round_of(verb, count, faults):
@@ -37,8 +39,8 @@ def round_of(verb, count, faults):
 def files(kind, count):
     """The pod file of that kind, and the same without the commands that are timed."""
     opening = {} if kind == "gone" else {"namespaces": [f"/ns/{i}" for i in range(count)]}
-    before = [round_of("ADD", count, False)] if kind == "dels" else []
-    timed = round_of("ADD" if kind in ("faults", "adds") else "DEL", count, kind == "faults")
+    before = [round_of("ADD", count, False)] if kind in ("checks", "dels") else []
+    timed = round_of(VERBS[kind], count, kind == "faults")
     return {"opening": opening, "rounds": [*before, timed]}, {"opening": opening, "rounds": before}
 
 

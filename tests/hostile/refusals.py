@@ -3,8 +3,7 @@
 
     refusals.py [PROGRAM]
 
-- memory:  the address space is limited, in steps from where the program begins to where its commands do, and on to where
-           it has enough;
+- memory:  the address space is limited, in steps from where the program begins to where it has enough;
 - output:  a full device, a pipe that nobody reads, one whose reader stops halfway, and none at all;
 - files:   a folder, a file without permission, one that is missing, and lists of 16,777,216 and 16,777,217 bytes.
 
@@ -48,8 +47,8 @@ NOT_BEGUN = 127
 # the code of the answer of a command that ran out of memory
 OUT_OF_MEMORY = 104
 MOST_BYTES = 16_777_216
-# how many limits of memory are tried below each of the two sizes
-LIMITS = 20
+# how many limits of memory are tried below the least that is enough
+LIMITS = 41
 # the most memory that is tried, and what is left out above the least in which the program begins, in pages
 MOST_PAGES = 1 << 16
 MARGIN = 4
@@ -66,6 +65,8 @@ FILES = {
     "folder": DIRECTORY,
 }
 WORDS = ["--dump", "pods.json", "net.json"]
+# a dump takes more memory than the commands do, so that none of them would be refused any
+SHORT_WORDS = WORDS[1:]
 
 
 def limited(program, folder, size):
@@ -75,7 +76,7 @@ def limited(program, folder, size):
         resource.setrlimit(resource.RLIMIT_AS, (size, size))
 
     return subprocess.run(
-        [program, *WORDS],
+        [program, *SHORT_WORDS],
         cwd=folder,
         stdout=subprocess.PIPE,
         stderr=subprocess.DEVNULL,
@@ -118,18 +119,18 @@ def wrong_of_memory(ended, text):
     return f"status {ended.returncode}, {len(ended.stdout)} bytes"
 
 
-def memory(program, folder, text):
+def memory(program, folder, _):
     """Complaints about runs in little memory, and how often each status came."""
     page = resource.getpagesize()
+    text = run(program, SHORT_WORDS, folder).stdout
 
     def first_limit(passes, low, high):
         return first_that(lambda it: passes(limited(program, folder, it * page)), low, high)
 
     enough = first_limit(lambda it: it.returncode == SUCCESS, 1, MOST_PAGES)
-    some = first_limit(lambda it: it.returncode in (SUCCESS, COMMAND_MEMORY), 1, enough)
-    none = first_limit(has_begun, 1, some) + MARGIN
+    none = first_limit(has_begun, 1, enough) + MARGIN
     seen = {}
-    for size in [*steps_between(none, some), *steps_between(some, enough)]:
+    for size in steps_between(none, enough):
         ended = limited(program, folder, size * page)
         seen[ended.returncode] = seen.get(ended.returncode, 0) + 1
         wrong = wrong_of_memory(ended, text)
