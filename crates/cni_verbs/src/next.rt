@@ -10,7 +10,7 @@ ghost use Rattle.cni_verbs.specs.Phases.{KeepsPlan, is_prepared, state_in, state
 use crate::answer::Question;
 use crate::phase::Phase;
 use crate::wanted::{Back, back_calls, calls_before, deletion, sets_of};
-use crate::words::{att_of, mappings_of};
+use crate::words::{att_of, mappings_of, named_att_of};
 use cni_addr::{Addr, Duplicate, Items, NoMemory};
 use host_local::lease_at;
 use kernel_types::{Call, Kind};
@@ -29,7 +29,7 @@ pub(crate) fn before_of(
     ensures calls { IfOk result (λ calls. calls ≡ before_of list.now command.now) }
     ensures some { IfOk result (λ calls. 0 < length calls) }
 {
-    let att = att_of(command)?;
+    let att = named_att_of(alloc, command)?;
     calls_before(alloc, &list.first, &att, &command.netns)
 }
 
@@ -44,7 +44,7 @@ pub(crate) fn back_of(
     ensures added { IfOk result (λ back.
         back.added ≡ result_of_add list.now (att_of command.now) command.now.netns given.now) }
 {
-    let att = att_of(command)?;
+    let att = named_att_of(alloc, command)?;
     let mappings = mappings_of(alloc, list, command)?;
     back_calls(alloc, list, &att, &command.netns, mappings, given)
 }
