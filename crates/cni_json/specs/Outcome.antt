@@ -11,6 +11,10 @@ abbrev pub GivesAs : {X Y E : Type 0} → (E → Bool) → (X → Y) → Result 
 GivesAs is_want_of_memory view (Ok x) wanted = wanted ≡ Ok (view x)
 GivesAs is_want_of_memory view (Err e) wanted = RefusesAs is_want_of_memory e wanted
 
+-- the wanted outcome is this one, or this one is want of memory
+abbrev pub Gives : {Y E : Type 0} → (E → Bool) → Result Y E → Result Y E → Type 0
+Gives is_want_of_memory outcome wanted = GivesAs is_want_of_memory (λ y. y) outcome wanted
+
 -- the wanted error is e, or e is want of memory: for a call that makes an error
 abbrev pub TellsAs : {E : Type 0} → (E → Bool) → E → E → Type 0
 TellsAs is_want_of_memory e wanted = MatchBool (is_want_of_memory e) ⊤ (wanted ≡ e)

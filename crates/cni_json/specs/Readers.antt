@@ -4,20 +4,21 @@ use Rattle.std.specs.Fn.{Once, Shared}
 use Rattle.serde_json.specs.Data.{Data}
 use Rattle.serde_json.specs.View.{view}
 use Rattle.serde_json.specs.declared.value.Value.{Value}
-use Rattle.cni_json.specs.Outcome.{GivesAs, TellsAs}
+use Rattle.cni_json.specs.Outcome.{Gives, TellsAs}
 use denote.Ref.{Bor}
 
 -- each call gives what is wanted of its member
 pub record IsReader {R T E : Type 0} (is_want_of_memory : E → Bool)
     (calls : Shared R (Bor Value × Unit {0}) (Result T E)) (read : R) (wanted : Data → Result T E) : Type 0 where
   pub gives : (member : Bor Value) (r : Result T E) → calls.post read (member, tt) r
-      → GivesAs is_want_of_memory (λ x. x) r (wanted (view member.now))
+      → Gives is_want_of_memory r (wanted (view member.now))
 
 -- the same, of a function that is told the member's place too
 pub record IsPlacedReader {R T E : Type 0} (is_want_of_memory : E → Bool)
-    (calls : Shared R (ℕ × (Bor Value × Unit {0})) (Result T E)) (read : R) (wanted : ℕ → Data → Result T E) : Type 0 where
+    (calls : Shared R (ℕ × (Bor Value × Unit {0})) (Result T E)) (read : R)
+    (wanted : ℕ → Data → Result T E) : Type 0 where
   pub gives : (place : ℕ) (member : Bor Value) (r : Result T E) → calls.post read (place, (member, tt)) r
-      → GivesAs is_want_of_memory (λ x. x) r (wanted place (view member.now))
+      → Gives is_want_of_memory r (wanted place (view member.now))
 
 -- the same, of a function that is told what was read before the member
 pub record IsReaderAfter {R T E : Type 0} (is_want_of_memory : E → Bool)
@@ -25,7 +26,7 @@ pub record IsReaderAfter {R T E : Type 0} (is_want_of_memory : E → Bool)
     (wanted : List T → Data → Result T E) : Type 0 where
   pub gives : (before : Bor (List T)) (member : Bor Value) (r : Result T E)
       → calls.post read (before, (member, tt)) r
-      → GivesAs is_want_of_memory (λ x. x) r (wanted before.now (view member.now))
+      → Gives is_want_of_memory r (wanted before.now (view member.now))
 
 -- such a function may be called at each value of the list, whatever was read before
 abbrev pub MayReadEach : {R T E : Type 0} → Shared R (Bor (List T) × (Bor Value × Unit {0})) (Result T E) → R

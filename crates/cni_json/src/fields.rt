@@ -3,7 +3,7 @@
 ghost use Rattle.std.specs.Prelude.{◌≡◌, Err, option_map};
 ghost use Rattle.serde_json.specs.View.{view, items_view};
 ghost use Rattle.cni_json.specs.Fields.{field_map, member_at, of_kind, text_field, bool_field, u64_field, u32_field, u32_of, list_field, object_field, object_or};
-ghost use Rattle.cni_json.specs.Outcome.{GivesAs};
+ghost use Rattle.cni_json.specs.Outcome.{Gives};
 ghost use Rattle.cni_json.specs.Readers.{IsRefusal};
 
 use crate::refusal::Refusal;
@@ -116,7 +116,7 @@ pub fn field_object<'a>(object: &'a Value, key: &str) -> Field<&'a Value>
 pub fn need_object<E: Refusal, W: FnOnce() -> E>(value: &Value, refusal: W) -> Result<(), E>
     requires { W.IsAlwaysCallable refusal }
     ensures { (wanted : E) → IsRefusal E.is_want_of_memory W.FnOnce refusal wanted
-        → GivesAs E.is_want_of_memory (λ t. t) result (object_or (Err wanted) (view value.now)) }
+        → Gives E.is_want_of_memory result (object_or (Err wanted) (view value.now)) }
 {
     value.is_object().then_some(()).ok_or_else(refusal)
 }

@@ -18,7 +18,7 @@
 //!   each object that is read ascend (`keys_ascend`).
 //!
 //! Each of these words is a definition in `specs/` that computes on literals, under `unfolding
-//! cni_json_on_literals`. `GivesAs` of `specs/Outcome.antt` says that an outcome is the wanted one
+//! cni_json_on_literals`. `Gives` of `specs/Outcome.antt` says that an outcome is the wanted one
 //! or want of memory. Each enum of errors can use it, by its own test of which of its errors are
 //! want of memory, which [`Refusal`] has for readers that serve any of them.
 //!

@@ -5,7 +5,7 @@ ghost use Rattle.serde_json.specs.Data.{Data};
 ghost use Rattle.serde_json.specs.View.{view, items_view};
 ghost use Rattle.cni_json.specs.Each.{each, each_after, each_from, list_or};
 ghost use Rattle.cni_json.specs.Fields.{list_field};
-ghost use Rattle.cni_json.specs.Outcome.{GivesAs};
+ghost use Rattle.cni_json.specs.Outcome.{Gives};
 ghost use Rattle.cni_json.specs.Readers.{IsPlacedReader, IsReader, IsReaderAfter, IsRefusal, MayReadEach};
 
 use crate::fields::{Field, field_list};
@@ -24,7 +24,7 @@ pub fn read_each<T: Drop, E: Refusal, R: Fn(&Value) -> Result<T, E>>(
 ) -> Result<Items<T>, E>
     requires { R.IsAlwaysCallable read }
     ensures { (wanted : Data → Result T E) → IsReader E.is_want_of_memory R.Fn read wanted
-        → GivesAs E.is_want_of_memory (λ xs. xs) result (each wanted (items_view list.now)) }
+        → Gives E.is_want_of_memory result (each wanted (items_view list.now)) }
 {
     read_each_after(Items::new(alloc), list, |_, member| read(member))
 }
@@ -39,7 +39,7 @@ pub fn read_each_placed<T: Drop, E: Refusal, R: Fn(usize, &Value) -> Result<T, E
 ) -> Result<Items<T>, E>
     requires { R.IsAlwaysCallable read }
     ensures { (wanted : ℕ → Data → Result T E) → IsPlacedReader E.is_want_of_memory R.Fn read wanted
-        → GivesAs E.is_want_of_memory (λ xs. xs) result (each_from wanted 0 (items_view list.now)) }
+        → Gives E.is_want_of_memory result (each_from wanted 0 (items_view list.now)) }
 {
     read_each_after(
         Items::new(alloc),
@@ -58,7 +58,7 @@ pub fn read_each_after<T: Drop, E: Refusal, R: Fn(&[T], &Value) -> Result<T, E>>
 ) -> Result<Items<T>, E>
     requires { MayReadEach R.Fn read list.now }
     ensures { (wanted : List T → Data → Result T E) → IsReaderAfter E.is_want_of_memory R.Fn read wanted
-        → GivesAs E.is_want_of_memory (λ xs. xs) result (each_after wanted before (items_view list.now)) }
+        → Gives E.is_want_of_memory result (each_after wanted before (items_view list.now)) }
 {
     let mut found = before;
     for member in list {
@@ -82,7 +82,7 @@ pub fn read_list_or<T: Drop, E: Refusal, W: FnOnce() -> E, R: Fn(&Value) -> Resu
     requires reads { R.IsAlwaysCallable read }
     ensures { (wrong : E) → IsRefusal E.is_want_of_memory W.FnOnce refusal wrong
         → (wanted : Data → Result T E) → IsReader E.is_want_of_memory R.Fn read wanted
-        → GivesAs E.is_want_of_memory (λ xs. xs) result
+        → Gives E.is_want_of_memory result
         (list_or (Err wrong) wanted (list_field key.now (view object.now))) }
 {
     match field_list(object, key) {

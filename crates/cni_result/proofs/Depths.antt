@@ -54,9 +54,9 @@ interface_depth : (version : Version) (i : Interface) → depth (interface_data 
 unfolding interface_data
 interface_depth version i = within 0 _ (search (rules, put_depth, put_if_depth) depth 9)
 
-ip_depth : (ip : IpEntry) → depth (ip_data ip) ≤ 1
+ip_depth : (version : Version) (ip : IpEntry) → depth (ip_data version ip) ≤ 1
 unfolding ip_data
-ip_depth ip = within 0 _ (search (rules, put_if_depth) depth 9)
+ip_depth version ip = within 0 _ (search (rules, put_if_depth) depth 9)
 
 route_depth : (route : RouteEntry) → depth (route_data route) ≤ 1
 unfolding route_data
@@ -80,5 +80,5 @@ result_depth r =
     let version = put_depth 2 (codes "cniVersion") (version_data r.version) no_members (omega arith) (omega arith) in
     let dns = put_object_depth 1 (codes "dns") (dns_members r.dns) _ (dns_depth r.dns) version in
     let interfaces = put_depth 2 (codes "interfaces") (list_data (interface_data r.version) r.interfaces) _ (list_depth 1 (interface_data r.version) r.interfaces (interface_depth r.version)) dns in
-    let ips = put_list_depth 1 ip_data (codes "ips") r.ips _ ip_depth interfaces in
+    let ips = put_list_depth 1 (ip_data r.version) (codes "ips") r.ips _ (ip_depth r.version) interfaces in
     within 2 _ (put_list_depth 1 route_data (codes "routes") r.routes _ route_depth ips)

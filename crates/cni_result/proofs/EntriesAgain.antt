@@ -1,8 +1,9 @@
 -- The entries of a result that were printed are read again.
 use Rattle.std.proofs.Common.{◌≡◌, ℕ, ◌^◌, ◌<◌, List, Option, Some, None, Ok, refl, ap, ◌∙◌}
 use Rattle.std.specs.Prelude.{codes, IfSome}
+use Rattle.std.proofs.lemmas.Slice.Eq.{bytes_eq-Decides}
 use Rattle.serde_json.proofs.Views.{get_member-put}
-use Rattle.serde_json.specs.Data.{Members, no_members, put}
+use Rattle.serde_json.specs.Data.{object, Members, no_members, put}
 use Rattle.serde_json.specs.Find.{as_str}
 use Rattle.cni_addr.proofs.AddrTexts.{spelled_is_read, written_is_spelled}
 use Rattle.cni_addr.proofs.CidrTexts.{network_spelled_is_read, network_written_is_spelled}
@@ -19,15 +20,15 @@ use Rattle.cni_result.proofs.ReadAgain.{cidr_again, optional_again, number_again
 use Rattle.cni_result.specs.Fields.{optional}
 use Rattle.cni_result.specs.Laws.{IsInterfaceOf, IsIpEntry, IsRouteEntry}
 use Rattle.cni_json.specs.Members.{text_data, number_data, addr_data, cidr_data, mac_data, ◌▷◌, put_if}
-use Rattle.cni_result.specs.Reading.{text_at, text_if_at, cidr_of, cidr_at, addr_if_at, mac_if_at, number_if_at, mtu_if_at, interface_at, ip_at, route_at}
+use Rattle.cni_result.specs.Reading.{text_at, text_if_at, cidr_of, cidr_at, addr_if_at, mac_if_at, number_if_at, mtu_if_at, interface_at, ip_version_of, ip_version_at, ip_at, route_at}
 use Rattle.cni_result.specs.Refusals.{invalid}
 use Rattle.cni_result.specs.Results.{interface_data, ip_data, route_data}
-use Rattle.cni_result.specs.Versions.{mtu_since_1_1}
+use Rattle.cni_result.specs.Versions.{ip_version_before_1_0, mtu_since_1_1}
 use Rattle.cni_result.specs.declared.result.Interface.{Interface}
 use Rattle.cni_result.specs.declared.result.IpEntry.{IpEntry}
 use Rattle.cni_result.specs.declared.result.RouteEntry.{RouteEntry}
 use Rattle.cni_result.specs.declared.version.Version.{Version}
-use Rattle.cni_result.specs.declared.version.Version.TheVariants.{V1_0, V1_1}
+use Rattle.cni_result.specs.declared.version.Version.TheVariants.{V0_4, V1_0, V1_1}
 
 -- ---- addresses
 
@@ -86,6 +87,7 @@ sandbox_again version i =
 
 mtu_again : (version : Version) (i : Interface) → IfSome i.mtu (λ n. n < 2 ^ 32) → mtu_since_1_1 version i.mtu ≡ i.mtu → mtu_if_at version (interface_data version i) ≡ Ok i.mtu
 unfolding number_if_at interface_data
+mtu_again V0_4 i fits told = ap Ok told
 mtu_again V1_0 i fits told = ap Ok told
 mtu_again V1_1 i fits told =
     ap (λ g. optional (codes "interfaces") Some (field_of u32_of g))
@@ -107,35 +109,57 @@ up_to_address ip = no_members ▷ put (codes "address") (cidr_data ip.address)
 abbrev up_to_gateway : IpEntry → Members
 up_to_gateway ip = up_to_address ip ▷ put_if addr_data (codes "gateway") ip.gateway
 
-address_again : (ip : IpEntry) → IsCidr ip.address → cidr_at (codes "ips") (codes "address") (ip_data ip) ≡ Ok ip.address
+abbrev up_to_interface : IpEntry → Members
+up_to_interface ip = up_to_gateway ip ▷ put_if number_data (codes "interface") ip.interface
+
+-- the IP version that is told of the address
+abbrev told_of : Version → IpEntry → Option (List ℕ)
+told_of version ip = ip_version_before_1_0 version ip.address.addr.family
+
+address_again : (version : Version) (ip : IpEntry) → IsCidr ip.address → cidr_at (codes "ips") (codes "address") (ip_data version ip) ≡ Ok ip.address
 unfolding cidr_at ip_data
-address_again ip kept =
+address_again version ip kept =
     ap (λ g. cidr_of (codes "ips") (field_of as_str g))
-    (at_other_if number_data (codes "address") (codes "interface") ip.interface (up_to_gateway ip) refl
+    (at_other_if text_data (codes "address") (codes "version") (told_of version ip) (up_to_interface ip) refl
+    ∙ at_other_if number_data (codes "address") (codes "interface") ip.interface (up_to_gateway ip) refl
     ∙ at_other_if addr_data (codes "address") (codes "gateway") ip.gateway (up_to_address ip) refl
     ∙ get_member-put (codes "address") (cidr_data ip.address) no_members)
     ∙ cidr_again (codes "ips") (cidr_text ip.address) ip.address (cidr_read ip.address kept)
 
-gateway_again : (ip : IpEntry) → IfSome ip.gateway IsAddr → addr_if_at (codes "ips") (codes "gateway") (ip_data ip) ≡ Ok ip.gateway
+gateway_again : (version : Version) (ip : IpEntry) → IfSome ip.gateway IsAddr → addr_if_at (codes "ips") (codes "gateway") (ip_data version ip) ≡ Ok ip.gateway
 unfolding addr_if_at ip_data
-gateway_again ip kept =
+gateway_again version ip kept =
     ap (λ g. optional (codes "ips") addr_of_text (field_of as_str g))
-    (at_other_if number_data (codes "gateway") (codes "interface") ip.interface (up_to_gateway ip) refl
+    (at_other_if text_data (codes "gateway") (codes "version") (told_of version ip) (up_to_interface ip) refl
+    ∙ at_other_if number_data (codes "gateway") (codes "interface") ip.interface (up_to_gateway ip) refl
     ∙ at_key_if addr_data (codes "gateway") ip.gateway (up_to_address ip) (at_other (codes "gateway") (codes "address") (cidr_data ip.address) no_members refl))
     ∙ optional_again (codes "ips") addr_of_text addr_text ip.gateway (addr_if_read ip.gateway kept)
 
-index_again : (ip : IpEntry) → IsIpEntry ip → number_if_at (codes "ips") (codes "interface") (ip_data ip) ≡ Ok ip.interface
+index_again : (version : Version) (ip : IpEntry) → IsIpEntry ip → number_if_at (codes "ips") (codes "interface") (ip_data version ip) ≡ Ok ip.interface
 unfolding number_if_at ip_data
-index_again ip kept =
+index_again version ip kept =
     ap (λ g. optional (codes "ips") Some (field_of u32_of g))
-    (at_key_if number_data (codes "interface") ip.interface (up_to_gateway ip)
+    (at_other_if text_data (codes "interface") (codes "version") (told_of version ip) (up_to_interface ip) refl
+    ∙ at_key_if number_data (codes "interface") ip.interface (up_to_gateway ip)
     (at_other_if addr_data (codes "interface") (codes "gateway") ip.gateway (up_to_address ip) refl
     ∙ at_other (codes "interface") (codes "address") (cidr_data ip.address) no_members refl))
     ∙ number_again (codes "ips") ip.interface kept.interface
 
-pub ip_again : (ip : IpEntry) → IsIpEntry ip → ip_at (ip_data ip) ≡ Ok ip
+same_version : (told : List ℕ) → ip_version_of told (field_of as_str (Some (text_data told))) ≡ Ok tt
+same_version told = rw ((bytes_eq-Decides told told).1 refl) refl
+
+version_again_at : (told : Option (List ℕ)) (ms : Members) → ip_version_at told (object (ms ▷ put_if text_data (codes "version") told)) ≡ Ok tt
+version_again_at None ms = refl
+version_again_at (Some told) ms = ap (λ g. ip_version_of told (field_of as_str g)) (get_member-put (codes "version") (text_data told) ms) ∙ same_version told
+
+ip_version_again : (version : Version) (ip : IpEntry) → ip_version_at (told_of version ip) (ip_data version ip) ≡ Ok tt
+unfolding ip_data
+ip_version_again version ip = version_again_at (told_of version ip) (up_to_interface ip)
+
+pub ip_again : (version : Version) (ip : IpEntry) → IsIpEntry ip → ip_at version (ip_data version ip) ≡ Ok ip
 unfolding ip_at
-ip_again ip kept = rw (address_again ip kept.address, gateway_again ip kept.gateway, index_again ip kept) refl
+ip_again version ip kept =
+    rw (address_again version ip kept.address, gateway_again version ip kept.gateway, index_again version ip kept, ip_version_again version ip) refl
 
 -- ---- a route
 

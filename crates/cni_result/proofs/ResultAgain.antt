@@ -23,7 +23,7 @@ use Rattle.cni_result.specs.declared.refusal.ResultError.TheVariants as refusal
 use Rattle.cni_result.specs.declared.result.AddResult.{AddResult}
 use Rattle.cni_result.specs.declared.result.Dns.{Dns}
 use Rattle.cni_result.specs.declared.version.Version.{Version}
-use Rattle.cni_result.specs.declared.version.Version.TheVariants.{V1_0, V1_1}
+use Rattle.cni_result.specs.declared.version.Version.TheVariants.{V0_4, V1_0, V1_1}
 
 -- ---- name resolution
 
@@ -101,9 +101,10 @@ abbrev up_to_interfaces : AddResult → Members
 up_to_interfaces r = up_to_dns r ▷ put (codes "interfaces") (list_data (interface_data r.version) r.interfaces)
 
 abbrev up_to_ips : AddResult → Members
-up_to_ips r = up_to_interfaces r ▷ put_list_unless_empty ip_data (codes "ips") r.ips
+up_to_ips r = up_to_interfaces r ▷ put_list_unless_empty (ip_data r.version) (codes "ips") r.ips
 
 version_named_again : (version : Version) → version_of (field_of as_str (Some (version_data version))) ≡ Ok version
+version_named_again V0_4 = refl
 version_named_again V1_0 = refl
 version_named_again V1_1 = refl
 
@@ -112,7 +113,7 @@ unfolding version_at result_members
 version_again r =
     ap (λ g. version_of (field_of as_str g))
     (at_other_list route_data (codes "cniVersion") (codes "routes") r.routes (up_to_ips r) refl
-    ∙ at_other_list ip_data (codes "cniVersion") (codes "ips") r.ips (up_to_interfaces r) refl
+    ∙ at_other_list (ip_data r.version) (codes "cniVersion") (codes "ips") r.ips (up_to_interfaces r) refl
     ∙ at_other (codes "cniVersion") (codes "interfaces") (list_data (interface_data r.version) r.interfaces) (up_to_dns r) refl
     ∙ at_other_object (codes "cniVersion") (codes "dns") (dns_members r.dns) (up_to_version r) refl
     ∙ get_member-put (codes "cniVersion") (version_data r.version) no_members)
@@ -124,21 +125,21 @@ interfaces_again r kept =
     let all = everywhere (IsInterfaceOf r.version) (λ i. interface_at r.version (interface_data r.version i) ≡ Ok i) r.interfaces (interface_again r.version) kept.interfaces in
     ap (λ g. list_of (codes "interfaces") (interface_at r.version) (field_of as_array g))
     (at_other_list route_data (codes "interfaces") (codes "routes") r.routes (up_to_ips r) refl
-    ∙ at_other_list ip_data (codes "interfaces") (codes "ips") r.ips (up_to_interfaces r) refl
+    ∙ at_other_list (ip_data r.version) (codes "interfaces") (codes "ips") r.ips (up_to_interfaces r) refl
     ∙ get_member-put (codes "interfaces") (list_data (interface_data r.version) r.interfaces) (up_to_dns r))
     ∙ list_again (codes "interfaces") (interface_data r.version) (interface_at r.version) r.interfaces all
 
-ips_again : (r : AddResult) → IsReadable r → ips_at (result_data r) ≡ Ok r.ips
+ips_again : (r : AddResult) → IsReadable r → ips_at r.version (result_data r) ≡ Ok r.ips
 unfolding ips_at list_at result_members
 ips_again r kept =
-    let all = everywhere IsIpEntry (λ ip. ip_at (ip_data ip) ≡ Ok ip) r.ips ip_again kept.ips in
-    ap (λ g. list_of (codes "ips") ip_at (field_of as_array g))
+    let all = everywhere IsIpEntry (λ ip. ip_at r.version (ip_data r.version ip) ≡ Ok ip) r.ips (ip_again r.version) kept.ips in
+    ap (λ g. list_of (codes "ips") (ip_at r.version) (field_of as_array g))
     (at_other_list route_data (codes "ips") (codes "routes") r.routes (up_to_ips r) refl
-    ∙ at_key_list ip_data (codes "ips") r.ips (up_to_interfaces r)
+    ∙ at_key_list (ip_data r.version) (codes "ips") r.ips (up_to_interfaces r)
     (at_other (codes "ips") (codes "interfaces") (list_data (interface_data r.version) r.interfaces) (up_to_dns r) refl
     ∙ at_other_object (codes "ips") (codes "dns") (dns_members r.dns) (up_to_version r) refl
     ∙ at_other (codes "ips") (codes "cniVersion") (version_data r.version) no_members refl))
-    ∙ list_if_again (codes "ips") ip_data ip_at r.ips all
+    ∙ list_if_again (codes "ips") (ip_data r.version) (ip_at r.version) r.ips all
 
 routes_again : (r : AddResult) → IsReadable r → routes_at (result_data r) ≡ Ok r.routes
 unfolding routes_at list_at result_members
@@ -146,7 +147,7 @@ routes_again r kept =
     let all = everywhere IsRouteEntry (λ route. route_at (route_data route) ≡ Ok route) r.routes route_again kept.routes in
     ap (λ g. list_of (codes "routes") route_at (field_of as_array g))
     (at_key_list route_data (codes "routes") r.routes (up_to_ips r)
-    (at_other_list ip_data (codes "routes") (codes "ips") r.ips (up_to_interfaces r) refl
+    (at_other_list (ip_data r.version) (codes "routes") (codes "ips") r.ips (up_to_interfaces r) refl
     ∙ at_other (codes "routes") (codes "interfaces") (list_data (interface_data r.version) r.interfaces) (up_to_dns r) refl
     ∙ at_other_object (codes "routes") (codes "dns") (dns_members r.dns) (up_to_version r) refl
     ∙ at_other (codes "routes") (codes "cniVersion") (version_data r.version) no_members refl))
@@ -157,7 +158,7 @@ unfolding dns_of_object result_members
 dns_at_again r =
     ap (λ g. dns_of wrong (field_of object_of g))
     (at_other_list route_data (codes "dns") (codes "routes") r.routes (up_to_ips r) refl
-    ∙ at_other_list ip_data (codes "dns") (codes "ips") r.ips (up_to_interfaces r) refl
+    ∙ at_other_list (ip_data r.version) (codes "dns") (codes "ips") r.ips (up_to_interfaces r) refl
     ∙ at_other (codes "dns") (codes "interfaces") (list_data (interface_data r.version) r.interfaces) (up_to_dns r) refl
     ∙ at_key_object (codes "dns") (dns_members r.dns) (up_to_version r) (at_other (codes "dns") (codes "cniVersion") (version_data r.version) no_members refl))
     ∙ dns_again wrong r.dns (dns_members r.dns) (dns_members_again r.dns)

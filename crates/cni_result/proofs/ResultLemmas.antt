@@ -17,9 +17,9 @@ pub interface_is_whole : (version : Version) (i : Interface) → has_float (inte
 unfolding interface_data
 interface_is_whole version i = search puts_are_whole depth 8
 
-pub ip_is_whole : (ip : IpEntry) → has_float (ip_data ip) ≡ false
+pub ip_is_whole : (version : Version) (ip : IpEntry) → has_float (ip_data version ip) ≡ false
 unfolding ip_data
-ip_is_whole ip = search puts_are_whole depth 8
+ip_is_whole version ip = search puts_are_whole depth 8
 
 pub route_is_whole : (route : RouteEntry) → has_float (route_data route) ≡ false
 unfolding route_data

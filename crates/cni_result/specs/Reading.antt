@@ -2,13 +2,14 @@
 -- members are passed over.
 use Rattle.std.specs.Prelude.{ℕ, List, [], codes, length, Bool, true, nat_lt, if◌then◌else◌, Option, Some, None, Result, Ok, Err, ok_or, ⊤}
 use Rattle.std.specs.List.{list_all}
+use Rattle.std.specs.Str.{bytes_eq}
 use Rattle.serde_json.specs.Data.{Data}
 use Rattle.cni_addr.specs.AddrText.{addr_of_text}
 use Rattle.cni_addr.specs.CidrText.{cidr_of_text}
 use Rattle.cni_addr.specs.MacText.{mac_of_text}
 use Rattle.cni_addr.specs.Value.{AddrValue, CidrValue}
 use Rattle.cni_addr.specs.declared.mac.Mac.{Mac}
-use Rattle.cni_json.specs.Fields.{text_field, u32_field, needed, object_or}
+use Rattle.cni_json.specs.Fields.{text_field, u32_field, member_or, needed, object_or}
 use Rattle.cni_json.specs.Json.{json_of}
 use Rattle.cni_json.specs.Outcome.{◌>>=◌}
 use Rattle.cni_json.specs.declared.fields.Field.{Field}
@@ -17,7 +18,7 @@ use Rattle.cni_json.specs.declared.reading.ReadEnd.TheVariants as reading
 use Rattle.cni_result.specs.Dns.{dns_of_object}
 use Rattle.cni_result.specs.Fields.{optional, list_at}
 use Rattle.cni_result.specs.Refusals.{invalid}
-use Rattle.cni_result.specs.Versions.{version_named, tells_mtu}
+use Rattle.cni_result.specs.Versions.{version_named, is_before_1_1, ip_version_before_1_0}
 use Rattle.cni_result.specs.declared.refusal.ResultError.{ResultError}
 use Rattle.cni_result.specs.declared.refusal.ResultError.TheVariants as refusal
 use Rattle.cni_result.specs.declared.result.AddResult.{AddResult}
@@ -69,7 +70,7 @@ number_if_at blamed key d = optional blamed Some (u32_field key d)
 
 -- `mtu` is passed over where the version doesn't tell it
 abbrev pub mtu_if_at : Version → Data → Result (Option ℕ) ResultError
-mtu_if_at version d = if tells_mtu version then number_if_at (codes "interfaces") (codes "mtu") d else Ok None
+mtu_if_at version d = if is_before_1_1 version then Ok None else number_if_at (codes "interfaces") (codes "mtu") d
 
 -- ---- the lists; an entry that is no object lacks what must be there
 
@@ -84,15 +85,25 @@ interface_at version d = do
 unfoldable pub interfaces_at : Version → Data → Result (List Interface) ResultError
 interfaces_at version d = list_at (codes "interfaces") (interface_at version) d
 
-unfoldable pub ip_at : Data → Result IpEntry ResultError
-ip_at d = do
+abbrev pub ip_version_of : List ℕ → Field (List ℕ) → Result ⊤ ResultError
+ip_version_of told f =
+    member_or (Ok tt) (invalid (codes "ips")) (λ text. if bytes_eq text told then Ok tt else invalid (codes "ips")) f
+
+-- the IP version of an address, which may be absent, is the one that is told of it, where one is told
+abbrev pub ip_version_at : Option (List ℕ) → Data → Result ⊤ ResultError
+ip_version_at None d = Ok tt
+ip_version_at (Some told) d = ip_version_of told (text_field (codes "version") d)
+
+unfoldable pub ip_at : Version → Data → Result IpEntry ResultError
+ip_at version d = do
   address ← cidr_at (codes "ips") (codes "address") d
   gateway ← addr_if_at (codes "ips") (codes "gateway") d
   interface ← number_if_at (codes "ips") (codes "interface") d
+  _ ← ip_version_at (ip_version_before_1_0 version address.addr.family) d
   Ok (record { address = address; gateway = gateway; interface = interface })
 
-unfoldable pub ips_at : Data → Result (List IpEntry) ResultError
-ips_at d = list_at (codes "ips") ip_at d
+unfoldable pub ips_at : Version → Data → Result (List IpEntry) ResultError
+ips_at version d = list_at (codes "ips") (ip_at version) d
 
 unfoldable pub route_at : Data → Result RouteEntry ResultError
 route_at d = do
@@ -123,7 +134,7 @@ result_at d = do
   _ ← object_or (invalid (codes "result")) d
   version ← version_at d
   interfaces ← interfaces_at version d
-  ips ← ips_at d
+  ips ← ips_at version d
   routes ← routes_at d
   dns ← dns_of_object (refusal.Invalid (codes "dns")) d
   _ ← indexes_at (length interfaces) ips

@@ -2,7 +2,7 @@
 use Rattle.std.specs.Prelude.{codes}
 use Rattle.serde_json.specs.Data.{Data, object, Members, no_members, put}
 use Rattle.cni_json.specs.Members.{addr_data, cidr_data, mac_data, text_data, number_data, list_data, ◌▷◌, put_if, put_text_unless_empty, put_list_unless_empty, put_object_unless_empty}
-use Rattle.cni_result.specs.Versions.{version_text, mtu_since_1_1}
+use Rattle.cni_result.specs.Versions.{version_text, ip_version_before_1_0, mtu_since_1_1}
 use Rattle.cni_result.specs.declared.error.CniError.{CniError}
 use Rattle.cni_result.specs.declared.result.AddResult.{AddResult}
 use Rattle.cni_result.specs.declared.result.Dns.{Dns}
@@ -23,11 +23,12 @@ interface_data version i = object (no_members
     ▷ put_if text_data (codes "sandbox") i.sandbox)
 
 -- an entry of `ips`
-unfoldable pub ip_data : IpEntry → Data
-ip_data ip = object (no_members
+unfoldable pub ip_data : Version → IpEntry → Data
+ip_data version ip = object (no_members
     ▷ put (codes "address") (cidr_data ip.address)
     ▷ put_if addr_data (codes "gateway") ip.gateway
-    ▷ put_if number_data (codes "interface") ip.interface)
+    ▷ put_if number_data (codes "interface") ip.interface
+    ▷ put_if text_data (codes "version") (ip_version_before_1_0 version ip.address.addr.family))
 
 -- an entry of `routes`
 unfoldable pub route_data : RouteEntry → Data
@@ -49,7 +50,7 @@ result_members result = no_members
     ▷ put (codes "cniVersion") (version_data result.version)
     ▷ put_object_unless_empty (codes "dns") (dns_members result.dns)
     ▷ put (codes "interfaces") (list_data (interface_data result.version) result.interfaces)
-    ▷ put_list_unless_empty ip_data (codes "ips") result.ips
+    ▷ put_list_unless_empty (ip_data result.version) (codes "ips") result.ips
     ▷ put_list_unless_empty route_data (codes "routes") result.routes
 
 -- the result of an ADD

@@ -1,12 +1,16 @@
--- Versions by their texts, and what a result tells by its version (CNI specification, section 5, ADD Success).
-use Rattle.std.specs.Prelude.{ℕ, List, codes, Bool, true, false, if◌then◌else◌, Option, None, find}
+-- Versions by their texts, and what a result tells by its version (CNI specification, section 5, ADD Success; of 0.4.0,
+-- "Result").
+use Rattle.std.specs.Prelude.{ℕ, List, codes, Bool, true, false, if◌then◌else◌, Option, Some, None, find}
 use Rattle.std.specs.Str.{bytes_eq}
+use Rattle.cni_addr.specs.declared.address.Family.{Family}
+use Rattle.cni_addr.specs.declared.address.Family.TheVariants.{V4, V6}
 use Rattle.cni_result.specs.declared.version.TheConstants.Version.{ALL}
 use Rattle.cni_result.specs.declared.version.Version.{Version}
-use Rattle.cni_result.specs.declared.version.Version.TheVariants.{V1_0, V1_1}
+use Rattle.cni_result.specs.declared.version.Version.TheVariants.{V0_4, V1_0, V1_1}
 
 -- a version as `cniVersion` names it
 abbrev pub version_text : Version → List ℕ
+version_text V0_4 = codes "0.4.0"
 version_text V1_0 = codes "1.0.0"
 version_text V1_1 = codes "1.1.0"
 
@@ -14,11 +18,27 @@ version_text V1_1 = codes "1.1.0"
 abbrev pub version_named : List ℕ → Option Version
 version_named text = find (λ version. bytes_eq text (version_text version)) ALL
 
--- a result tells the MTU of its interfaces since 1.1.0
-abbrev pub tells_mtu : Version → Bool
-tells_mtu V1_0 = false
-tells_mtu V1_1 = true
+-- the version came before 1.0.0, with which results lost the IP version of each address
+abbrev pub is_before_1_0 : Version → Bool
+is_before_1_0 V0_4 = true
+is_before_1_0 V1_0 = false
+is_before_1_0 V1_1 = false
+
+-- the version came before 1.1.0, with which came GC, STATUS and the MTU of a result's interfaces
+abbrev pub is_before_1_1 : Version → Bool
+is_before_1_1 V0_4 = true
+is_before_1_1 V1_0 = true
+is_before_1_1 V1_1 = false
 
 -- the MTU, where the version tells it
 abbrev pub mtu_since_1_1 : Version → Option ℕ → Option ℕ
-mtu_since_1_1 version mtu = if tells_mtu version then mtu else None
+mtu_since_1_1 version mtu = if is_before_1_1 version then None else mtu
+
+-- the IP version that addresses of the family have
+abbrev pub ip_version : Family → List ℕ
+ip_version V4 = codes "4"
+ip_version V6 = codes "6"
+
+-- the IP version, where the version tells it
+abbrev pub ip_version_before_1_0 : Version → Family → Option (List ℕ)
+ip_version_before_1_0 version family = if is_before_1_0 version then Some (ip_version family) else None

@@ -2,7 +2,7 @@
 
 ghost use Rattle.std.specs.Prelude.{◌≡◌, IfOk};
 ghost use Rattle.serde_json.specs.View.{view};
-ghost use Rattle.cni_json.specs.Outcome.{GivesAs};
+ghost use Rattle.cni_json.specs.Outcome.{Gives};
 ghost use Rattle.cni_json.specs.Readers.{IsRefusal};
 ghost use Rattle.cni_result.specs.Dns as wanted;
 
@@ -22,7 +22,7 @@ pub fn read_dns<E: Refusal, W: Fn() -> E>(
 ) -> Result<Dns, E>
     requires { W.IsAlwaysCallable refusal }
     ensures { (wrong : E) → IsRefusal E.is_want_of_memory W.FnOnce refusal wrong
-        → GivesAs E.is_want_of_memory (λ dns. dns) result (wanted.dns_of_object wrong (view object.now)) }
+        → Gives E.is_want_of_memory result (wanted.dns_of_object wrong (view object.now)) }
 {
     match field_object(object, "dns") {
         Field::Absent => Ok(no_dns(alloc)?),
@@ -51,12 +51,12 @@ fn dns_members<E: Refusal, W: Fn() -> E>(
 ) -> Result<Dns, E>
     requires { W.IsAlwaysCallable refusal.now }
     ensures { (wrong : E) → IsRefusal E.is_want_of_memory W.FnOnce refusal.now wrong
-        → GivesAs E.is_want_of_memory (λ dns. dns) result (wanted.dns_members_at wrong (view members.now)) }
+        → Gives E.is_want_of_memory result (wanted.dns_members_at wrong (view members.now)) }
 {
-    let nameservers = words(alloc, members, "nameservers", refusal)?;
+    let nameservers = read_words(alloc, members, "nameservers", refusal)?;
     let domain = domain(alloc, members, refusal)?;
-    let search = words(alloc, members, "search", refusal)?;
-    let options = words(alloc, members, "options", refusal)?;
+    let search = read_words(alloc, members, "search", refusal)?;
+    let options = read_words(alloc, members, "options", refusal)?;
     Ok(Dns {
         nameservers,
         domain,
@@ -69,7 +69,7 @@ fn dns_members<E: Refusal, W: Fn() -> E>(
 fn domain<E: Refusal, W: Fn() -> E>(alloc: Global, members: &Value, refusal: &W) -> Result<Text, E>
     requires { W.IsAlwaysCallable refusal.now }
     ensures { (wrong : E) → IsRefusal E.is_want_of_memory W.FnOnce refusal.now wrong
-        → GivesAs E.is_want_of_memory (λ text. text) result (wanted.domain_at wrong (view members.now)) }
+        → Gives E.is_want_of_memory result (wanted.domain_at wrong (view members.now)) }
 {
     match field_str(members, "domain") {
         Field::Absent => Ok(Text::of(alloc, "")?),
@@ -78,20 +78,21 @@ fn domain<E: Refusal, W: Fn() -> E>(alloc: Global, members: &Value, refusal: &W)
     }
 }
 
+/// The texts that are the list under the key of an object, none where it is absent. Another value of the key is refused.
 #[tactic(auto, using(cni_json::proofs::Steps::steps), unfolding(crate::specs::Dns::words_at))]
-fn words<E: Refusal, W: Fn() -> E>(
+pub fn read_words<E: Refusal, W: Fn() -> E>(
     alloc: Global,
-    members: &Value,
+    object: &Value,
     key: &str,
     refusal: &W,
 ) -> Result<Items<Text>, E>
     requires { W.IsAlwaysCallable refusal.now }
     ensures { (wrong : E) → IsRefusal E.is_want_of_memory W.FnOnce refusal.now wrong
-        → GivesAs E.is_want_of_memory (λ words. words) result (wanted.words_at wrong key.now (view members.now)) }
+        → Gives E.is_want_of_memory result (wanted.words_at wrong key.now (view object.now)) }
 {
     read_list_or(
         alloc,
-        members,
+        object,
         key,
         || refusal(),
         |entry| word(alloc, entry, refusal),
@@ -102,7 +103,7 @@ fn words<E: Refusal, W: Fn() -> E>(
 fn word<E: Refusal, W: Fn() -> E>(alloc: Global, entry: &Value, refusal: &W) -> Result<Text, E>
     requires { W.IsAlwaysCallable refusal.now }
     ensures { (wrong : E) → IsRefusal E.is_want_of_memory W.FnOnce refusal.now wrong
-        → GivesAs E.is_want_of_memory (λ text. text) result (wanted.word_of wrong (view entry.now)) }
+        → Gives E.is_want_of_memory result (wanted.word_of wrong (view entry.now)) }
 {
     match entry {
         Value::String(text) => Ok(Text::of(alloc, text.as_str())?),

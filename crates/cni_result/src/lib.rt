@@ -1,9 +1,10 @@
-//! Results, errors and cached entries of the Container Network Interface, version 1.1.0 and 1.0.0.
+//! Results, errors and cached entries of the Container Network Interface, versions 1.1.0, 1.0.0 and 0.4.0.
 //!
 //! What it promises above: the types carry every field that the runtime's verbs speak of, each is compared by its
 //! fields, and a copy equals what was copied. `to_value` and `error_value` are the specification's JSON, `read_result`
 //! is exact with its first refusal, and a result that was printed is read again as the same result. `read_dns` reads
-//! the `dns` of a result and that of a plugin's object, `version_named` the text of `cniVersion`.
+//! the `dns` of a result and that of a plugin's object, `version_named` the text of `cniVersion`, `read_words` a list of
+//! texts.
 //!
 //! ```text
 //! let added = read_result(alloc, b"{\"cniVersion\":\"1.0.0\",\"ips\":[{\"address\":\"10.0.0.2/8\"}]}")?;
@@ -26,7 +27,7 @@ mod tests;
 pub mod version;
 
 pub use cached::{Cached, PortMapping, Proto, proto_named, proto_text};
-pub use dns::{no_dns, read_dns};
+pub use dns::{no_dns, read_dns, read_words};
 pub use error::CniError;
 pub use printing::{error_value, result_line, to_value};
 pub use reading::read_result;

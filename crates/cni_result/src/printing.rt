@@ -1,20 +1,21 @@
 //! Results and errors as JSON (CNI specification 1.1.0, section 5).
 
-ghost use Rattle.std.specs.Prelude.{◌≡◌, false, IfOk, Ok};
+ghost use Rattle.std.specs.Prelude.{◌≡◌, codes, false, IfOk, OnOk, Ok};
 ghost use Rattle.serde_json.specs.View.{view};
 ghost use Rattle.serde_json.specs.Written.{has_float};
-ghost use Rattle.cni_json.specs.Members.{list_data, members_of};
+ghost use Rattle.cni_json.specs.Members.{list_data, members_of, put_list_unless_empty};
 ghost use Rattle.cni_json.specs.Json.{line_of};
 ghost use Rattle.cni_result.specs.Laws.{IsReadable};
 ghost use Rattle.cni_result.specs.Mappings.{proto_data, mapping_data};
 ghost use Rattle.cni_result.specs.Reading.{result_of_bytes};
 ghost use Rattle.cni_result.specs.Results.{version_data, interface_data, ip_data, route_data, dns_members, result_members, result_data, error_data};
+ghost use Rattle.cni_result.specs.Versions as told;
 
 use crate::cached::{PortMapping, Proto, proto_text};
 use crate::error::CniError;
 use crate::result::{AddResult, Dns, Interface, IpEntry, RouteEntry};
-use crate::version::{Version, mtu_since_1_1, version_text};
-use cni_addr::NoMemory;
+use crate::version::{Version, ip_version_before_1_0, mtu_since_1_1, version_text};
+use cni_addr::{NoMemory, Text};
 use cni_json::{JsonObject, ToJson, line};
 use serde_json::Value;
 use std::alloc::Global;
@@ -57,17 +58,51 @@ fn interfaces_value(
     Ok(Value::Array(values))
 }
 
-impl ToJson for IpEntry {
-    ghost json = { ip_data };
+#[tactic(auto, unfolding(crate::specs::Results::ip_data))]
+fn ip_value(alloc: Global, version: Version, ip: &IpEntry) -> Result<Value, NoMemory>
+    ensures { IfOk result (λ v. view v ≡ ip_data version ip.now) }
+{
+    let mut object = JsonObject::new(alloc);
+    object.put("address", &ip.address)?;
+    object.put_if("gateway", &ip.gateway)?;
+    object.put_if("interface", &ip.interface)?;
+    object.put_if("version", &ip_version_text(alloc, version, ip)?)?;
+    Ok(object.into_value())
+}
 
-    #[tactic(auto, unfolding(crate::specs::Results::ip_data))]
-    fn to_json(&self, alloc: Global) -> Result<Value, NoMemory> {
-        let mut object = JsonObject::new(alloc);
-        object.put("address", &self.address)?;
-        object.put_if("gateway", &self.gateway)?;
-        object.put_if("interface", &self.interface)?;
-        Ok(object.into_value())
+fn ip_version_text(alloc: Global, version: Version, ip: &IpEntry) -> Result<Option<Text>, NoMemory>
+    ensures { IfOk result (λ text. text ≡ told.ip_version_before_1_0 version ip.now.address.addr.family) }
+{
+    match ip_version_before_1_0(version, ip.address.addr.family) {
+        Some(text) => Ok(Some(Text::of(alloc, text)?)),
+        None => Ok(None),
     }
+}
+
+fn ips_value(alloc: Global, version: Version, ips: &[IpEntry]) -> Result<Value, NoMemory>
+    ensures { IfOk result (λ v. view v ≡ list_data (ip_data version) ips.now) }
+{
+    let mut values = Vec::with_capacity(alloc, ips.len())?;
+    for ip in ips {
+        values.push(ip_value(alloc, version, ip)?)?;
+    }
+    Ok(Value::Array(values))
+}
+
+fn put_ips(
+    object: &mut JsonObject,
+    alloc: Global,
+    version: Version,
+    ips: &[IpEntry],
+) -> Result<(), NoMemory>
+    ensures { OnOk result (members_of object.new
+        ≡ put_list_unless_empty (ip_data version) (codes "ips") ips.now (members_of object.old)) }
+{
+    if ips.is_empty() {
+        return Ok(());
+    }
+    let value = ips_value(alloc, version, ips)?;
+    object.put_value("ips", value)
 }
 
 impl ToJson for RouteEntry {
@@ -103,13 +138,14 @@ fn result_object(alloc: Global, added: &AddResult) -> Result<JsonObject, NoMemor
     object.put_object_unless_empty("dns", dns_object(alloc, &added.dns)?)?;
     let interfaces = interfaces_value(alloc, added.version, added.interfaces.as_slice())?;
     object.put_value("interfaces", interfaces)?;
-    object.put_list_unless_empty("ips", added.ips.as_slice())?;
+    put_ips(&mut object, alloc, added.version, added.ips.as_slice())?;
     object.put_list_unless_empty("routes", added.routes.as_slice())?;
     Ok(object)
 }
 
 /// The result as JSON. Lists that are empty, but for `interfaces`, and members that are absent are left out, and so
-/// is `mtu` before 1.1.0. It takes time and memory in proportion to the result.
+/// are `mtu` before 1.1.0 and the IP version of an address from 1.0.0 on. It takes time and memory in proportion to the
+/// result.
 #[tactic(auto, using(crate::proofs::ResultLemmas::result_is_whole))]
 pub fn to_value(alloc: Global, added: &AddResult) -> Result<Value, NoMemory>
     ensures json { IfOk result (λ v. view v ≡ result_data added.now) }

@@ -3,7 +3,7 @@
 ghost use Rattle.std.specs.Prelude.{◌≡◌};
 ghost use Rattle.serde_json.specs.View.{view};
 ghost use Rattle.cni_json.specs.Json.{json_of};
-ghost use Rattle.cni_json.specs.Outcome.{GivesAs};
+ghost use Rattle.cni_json.specs.Outcome.{Gives, GivesAs};
 ghost use Rattle.cni_result.specs.Reading.{version_at, is_on_one_of, are_on, indexes_at, result_at, read_or_refused, result_of_bytes};
 ghost use Rattle.cni_result.specs.Refusals.{is_want_of_memory};
 
@@ -18,13 +18,13 @@ use std::alloc::Global;
 /// The result that the bytes are as JSON.
 ///
 /// A list that is absent is empty, a member that is null is as an absent one, and unnamed members are passed over, as
-/// is `mtu` before 1.1.0. It refuses what isn't a result by the first cause: no JSON text; a number without 64 bits
-/// (`number`); no object (`result`); the version; the first of `interfaces`, `ips`, `routes` and `dns` that is wrong;
-/// and an address on an interface that isn't in the list (`interface`). It takes time and memory in proportion to the
-/// bytes.
+/// are `mtu` before 1.1.0 and the IP version of an address from 1.0.0 on. It refuses what isn't a result by the first
+/// cause: no JSON text; a number without 64 bits (`number`); no object (`result`); the version; the first of
+/// `interfaces`, `ips`, `routes` and `dns` that is wrong; and an address on an interface that isn't in the list
+/// (`interface`). It takes time and memory in proportion to the bytes.
 #[tactic(auto, using(cni_json::proofs::Steps::steps), unfolding(crate::specs::Reading::result_of_bytes))]
 pub fn read_result(alloc: Global, bytes: &[u8]) -> Result<AddResult, ResultError>
-    ensures { GivesAs is_want_of_memory (λ found. found) result (result_of_bytes bytes.now) }
+    ensures { Gives is_want_of_memory result (result_of_bytes bytes.now) }
 {
     let value = decode(alloc, bytes)?;
     result_of(alloc, &value)
@@ -43,12 +43,12 @@ fn decode(alloc: Global, bytes: &[u8]) -> Result<Value, ResultError>
 
 #[tactic(auto, using(cni_json::proofs::Steps::steps), unfolding(crate::specs::Reading::result_at))]
 fn result_of(alloc: Global, top: &Value) -> Result<AddResult, ResultError>
-    ensures { GivesAs is_want_of_memory (λ found. found) result (result_at (view top.now)) }
+    ensures { Gives is_want_of_memory result (result_at (view top.now)) }
 {
     need_object(top, || invalid(alloc, "result"))?;
     let version = version(alloc, top)?;
     let interfaces = interfaces(alloc, version, top)?;
-    let ips = ips(alloc, top)?;
+    let ips = ips(alloc, version, top)?;
     let routes = routes(alloc, top)?;
     let dns = read_dns(alloc, top, || invalid(alloc, "dns"))?;
     indexes(alloc, interfaces.as_slice().len(), ips.as_slice())?;
@@ -63,7 +63,7 @@ fn result_of(alloc: Global, top: &Value) -> Result<AddResult, ResultError>
 
 #[tactic(auto, using(cni_json::proofs::Steps::steps), unfolding(crate::specs::Reading::version_at))]
 fn version(alloc: Global, top: &Value) -> Result<Version, ResultError>
-    ensures { GivesAs is_want_of_memory (λ version. version) result (version_at (view top.now)) }
+    ensures { Gives is_want_of_memory result (version_at (view top.now)) }
 {
     match field_str(top, "cniVersion") {
         Field::Absent | Field::WrongKind => Err(version_refused(alloc, "")),
@@ -74,7 +74,7 @@ fn version(alloc: Global, top: &Value) -> Result<Version, ResultError>
 /// Each address is on an interface of the list, or on none.
 #[tactic(auto, using(cni_json::proofs::Steps::steps), unfolding(crate::specs::Reading::indexes_at))]
 fn indexes(alloc: Global, count: usize, ips: &[IpEntry]) -> Result<(), ResultError>
-    ensures { GivesAs is_want_of_memory (λ unit. unit) result (indexes_at count ips.now) }
+    ensures { Gives is_want_of_memory result (indexes_at count ips.now) }
 {
     are_on(count, ips)
         .then_some(())

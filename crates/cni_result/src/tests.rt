@@ -21,11 +21,13 @@ fn outcome(alloc: Global, text: &str) -> Result<Vec<u8>, Fail> {
     }
 }
 
-/// A container without addresses, one on a bridge at version 1.0.0, and one with every member.
+/// A container without addresses, one on a bridge at versions 0.4.0 and 1.0.0, and one with every member.
 #[test]
 fn a_line_is_read_and_printed_again(rt: HostRuntime) -> Result<(), Fail> {
     for text in [
         r#"{"cniVersion":"1.1.0","interfaces":[]}
+"#,
+        r#"{"cniVersion":"0.4.0","interfaces":[{"mac":"0a:9e:d3:ca:06:d6","name":"eth0","sandbox":"/ns/a"}],"ips":[{"address":"10.88.0.2/16","gateway":"10.88.0.1","interface":0,"version":"4"}]}
 "#,
         r#"{"cniVersion":"1.0.0","interfaces":[{"mac":"0a:14:d5:c9:f9:b7","name":"cni0"},{"mac":"0a:2e:7d:c9:4b:d9","name":"vethfce92e33"},{"mac":"0a:9e:d3:ca:06:d6","name":"eth0","sandbox":"/ns/a"}],"ips":[{"address":"10.88.0.2/16","gateway":"10.88.0.1","interface":2}],"routes":[{"dst":"0.0.0.0/0"}]}
 "#,
@@ -67,6 +69,22 @@ fn the_first_wrong_member_is_told(rt: HostRuntime) -> Result<(), Fail> {
         (
             r#"{"cniVersion":"1.0.0","ips":[{"address":"10.0.0.2/8","interface":0}]}"#,
             "interface",
+        ),
+        (
+            r#"{"cniVersion":"0.4.0","ips":[{"address":"10.0.0.2/8","version":"6"}]}"#,
+            "ips",
+        ),
+        (
+            r#"{"cniVersion":"0.4.0","ips":[{"address":"10.0.0.2/8","version":4}]}"#,
+            "ips",
+        ),
+        (
+            r#"{"cniVersion":"0.4.0","ips":[{"address":"10.0.0.2/8"}]}"#,
+            "{\"cniVersion\":\"0.4.0\",\"interfaces\":[],\"ips\":[{\"address\":\"10.0.0.2/8\",\"version\":\"4\"}]}\n",
+        ),
+        (
+            r#"{"cniVersion":"1.0.0","ips":[{"address":"10.0.0.2/8","version":"6"}]}"#,
+            "{\"cniVersion\":\"1.0.0\",\"interfaces\":[],\"ips\":[{\"address\":\"10.0.0.2/8\"}]}\n",
         ),
         (
             r#"{"cniVersion":"1.0.0","interfaces":[{"name":"a","mtu":"x"}]}"#,

@@ -3,6 +3,7 @@ pub mod AfterReplies
 pub mod Arguments
 pub mod Asked
 pub mod CallsOrOver
+pub mod EarlyEndings
 pub mod Ends
 pub mod Gathered
 pub mod GivenAddresses

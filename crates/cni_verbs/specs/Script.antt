@@ -5,8 +5,8 @@ use Rattle.std.specs.Option.{option_map_or, option_or}
 use Rattle.cni_addr.specs.declared.address.Addr.{Addr}
 use Rattle.cni_addr.specs.declared.range.RangeSet.{RangeSet}
 use Rattle.cni_result.specs.declared.cached.Cached.{Cached}
+use Rattle.cni_result.specs.Versions.{is_before_1_1}
 use Rattle.cni_result.specs.declared.version.Version.{Version}
-use Rattle.cni_result.specs.declared.version.Version.TheVariants.{V1_0, V1_1}
 use Rattle.net_conf.specs.declared.list.NetList.{NetList}
 use Rattle.pod_file.specs.declared.command.Command.{Command}
 use Rattle.pod_file.specs.declared.command.Verb.{Verb}
@@ -181,8 +181,7 @@ unless_refused cause state = unless_ended (option_map Refused cause) state
 
 -- how a list ends a verb that came with version 1.1.0, where it is older
 abbrev pub old_ending : Version → Option Ending
-old_ending V1_0 = Some (Refused (causes.TooOld V1_0))
-old_ending V1_1 = None
+old_ending version = then_some (is_before_1_1 version) (Refused (causes.TooOld version))
 
 -- how a list ends a collection before its first call, where it is older than the verb or disables it
 abbrev pub early_ending : Version → Bool → Option Ending

@@ -65,10 +65,9 @@ fn first_of_check(list: &NetList, command: &Command) -> Phase
 fn old_ending(version: Version) -> Option<Ending>
     ensures { result ≡ script.old_ending version }
 {
-    match version {
-        Version::V1_0 => Some(Ending::Refused(Cause::TooOld(Version::V1_0))),
-        Version::V1_1 => None,
-    }
+    version
+        .is_before_1_1()
+        .then_some(Ending::Refused(Cause::TooOld(version)))
 }
 
 /// How the list ends a garbage collection before its first call, if it does: it is older than the verb, or disables it.

@@ -1,11 +1,10 @@
 -- A run's state, by its list and its work.
 use Rattle.std.proofs.Common.{◌≡◌, ℕ, ◌+◌, Bool, true, false, List, [], ◌∷◌, length, Option, Some, None, refl, sym, ◌∙◌, ap, subst, arith}
-use Rattle.std.specs.Prelude.{◌==◌, option_map}
+use Rattle.std.specs.Prelude.{◌==◌, is_some, option_map}
 use Rattle.std.specs.Bool.{then_some}
 use Rattle.std.proofs.lemmas.Bool.Decides.{nat_tests}
 use Rattle.std.proofs.lemmas.Option.{none-some}
 use Rattle.cni_result.specs.declared.version.Version.{Version}
-use Rattle.cni_result.specs.declared.version.Version.TheVariants.{V1_0, V1_1}
 use Rattle.net_conf.specs.declared.list.NetList.{NetList}
 use Rattle.pod_file.specs.declared.command.Command.{Command}
 use Rattle.pod_file.specs.declared.command.Verb.{Verb}
@@ -15,12 +14,16 @@ use Rattle.kernel_types.specs.declared.call.Reply.{Reply}
 use Rattle.kernel_types.specs.Replies.{is_fault}
 use Rattle.cni_verbs.specs.Answers.{answer_of, plain_answer}
 use Rattle.cni_verbs.specs.Progress.{Progress, is_gc, advanced, answer_in}
-use Rattle.cni_verbs.specs.Script.{State, Collecting, IsOpen, collecting, early_ending, start_state, start_of, advance, next_call, call_of_work, finish_of, finish_of_work, gc_of, faults_after, has_no_work, swept}
+use Rattle.cni_verbs.specs.Script.{State, Collecting, Over, IsOpen, collecting, early_ending, start_state, start_of, advance, next_call, call_of_work, finish_of, finish_of_work, gc_of, faults_after, has_no_work, swept, unless_ended}
 use Rattle.cni_verbs.specs.Sweep.{Job, Sweep, Work, start_work, work_after}
 use Rattle.cni_verbs.specs.Wanted.{kinds_of}
+use Rattle.cni_verbs.specs.declared.answer.Cause.{Cause}
 use Rattle.cni_verbs.specs.declared.answer.Cause.TheVariants as causes
 use Rattle.cni_verbs.specs.declared.answer.Ending.{Ending}
 use Rattle.cni_verbs.specs.declared.answer.Ending.TheVariants as endings
+use Rattle.cni_verbs.specs.declared.answer.Skip.{Skip}
+use Rattle.cni_verbs.specs.declared.answer.Skip.TheVariants as skips
+use Rattle.cni_verbs.proofs.EarlyEndings.{early_ending-cases}
 use Rattle.gc_sweep.specs.Sweep.{is_early}
 use Rattle.gc_sweep.specs.View.{HasTaken, IsInRange, IsPlace, ending_in, progress_of, work_of, jobs_left, sweeps_after}
 use Rattle.gc_sweep.specs.declared.place.SweepPlace.{SweepPlace}
@@ -44,19 +47,20 @@ starts list c h = starts_by list c c.verb h
 
 -- ---- the next call
 
-pub late : (version : Version) (disabled : Bool) (w : Work) (faults : List ℕ) → is_early version disabled ≡ false → collecting version disabled w faults ≡ Collecting w faults
-late V1_0 disabled w faults h = cc
-late V1_1 true w faults h = cc
-late V1_1 false w faults h = refl
+not_ended : (early : Option Ending) (s : State) → is_some early ≡ false → unless_ended early s ≡ s
+not_ended None s h = refl
+not_ended (Some ending) s h = cc
 
-next_early_by : (version : Version) (disabled : Bool) (w : Work) (faults : List ℕ) (c : Command) → is_early version disabled ≡ true → next_call c (collecting version disabled w faults) ≡ None
+pub late : (version : Version) (disabled : Bool) (w : Work) (faults : List ℕ) → is_early version disabled ≡ false → collecting version disabled w faults ≡ Collecting w faults
+late version disabled w faults h = not_ended (early_ending version disabled) (Collecting w faults) h
+
+next_early_by : (early : Option Ending) (s : State) (c : Command) → is_some early ≡ true → next_call c (unless_ended early s) ≡ None
 unfolding next_call
-next_early_by V1_0 disabled w faults c h = refl
-next_early_by V1_1 true w faults c h = refl
-next_early_by V1_1 false w faults c h = cc
+next_early_by None s c h = cc
+next_early_by (Some ending) s c h = refl
 
 pub next_early : (version : Version) (disabled : Bool) (w : Work) (faults : List ℕ) (c : Command) → is_early version disabled ≡ true → None ≡ next_call c (collecting version disabled w faults)
-next_early version disabled w faults c h = sym (next_early_by version disabled w faults c h)
+next_early version disabled w faults c h = sym (next_early_by (early_ending version disabled) (Collecting w faults) c h)
 
 next_working : (c : Command) (w : Work) (faults : List ℕ) → next_call c (Collecting w faults) ≡ call_of_work c.network w.jobs w.sweeps
 unfolding next_call
@@ -71,10 +75,12 @@ next_late list c p faults ks same h =
 
 -- ---- a reply
 
+open_not_ended : (early : Option Ending) (s : State) → IsOpen (unless_ended early s) → is_some early ≡ false
+open_not_ended None s h = refl
+open_not_ended (Some ending) s h = absurd h
+
 pub open_late : (version : Version) (disabled : Bool) (w : Work) (faults : List ℕ) → IsOpen (collecting version disabled w faults) → is_early version disabled ≡ false
-open_late V1_0 disabled w faults h = absurd h
-open_late V1_1 true w faults h = absurd h
-open_late V1_1 false w faults h = refl
+open_late version disabled w faults h = open_not_ended (early_ending version disabled) (Collecting w faults) h
 
 advance_working : (list : NetList) (c : Command) (number : ℕ) (w : Work) (faults : List ℕ) (r : Reply) → advance list c number (Collecting w faults) r ≡ Collecting (work_after (gc_of list c) w.jobs w.sweeps r) (faults_after number faults (is_fault r))
 unfolding advance
@@ -111,11 +117,13 @@ pub finish_working : (w : Work) (faults : List ℕ) → finish_of (Collecting w 
 unfolding finish_of
 finish_working w faults = refl
 
-pub ends_early : (version : Version) (disabled : Bool) (w : Work) (faults : List ℕ) (ending : Ending) → early_ending version disabled ≡ Some ending → Some ending ≡ ending_in (collecting version disabled w faults)
+ends_so : (early : Option Ending) (s : State) (ending : Ending) → early ≡ Some ending → Some ending ≡ ending_in (unless_ended early s)
 unfolding finish_of
-ends_early V1_0 disabled w faults ending is = sym is
-ends_early V1_1 true w faults ending is = sym is
-ends_early V1_1 false w faults ending is = absurd (none-some ending is)
+ends_so None s ending is = absurd (none-some ending is)
+ends_so (Some told) s ending is = sym is
+
+pub ends_early : (version : Version) (disabled : Bool) (w : Work) (faults : List ℕ) (ending : Ending) → early_ending version disabled ≡ Some ending → Some ending ≡ ending_in (collecting version disabled w faults)
+ends_early version disabled w faults ending is = ends_so (early_ending version disabled) (Collecting w faults) ending is
 
 ends_working : (jobs : List Job) (sweeps : List Sweep) (faults : List ℕ) (b : Bool) → has_no_work jobs sweeps ≡ b → then_some b (swept faults) ≡ ending_in (Collecting (record { jobs = jobs; sweeps = sweeps }) faults)
 unfolding finish_of
@@ -145,16 +153,32 @@ pub swept_faulty : (faults : List ℕ) → (length faults == 0) ≡ false → en
 swept_faulty [] some = cc
 swept_faulty (k ∷ faults) some = refl
 
-answers_by : (list : NetList) (c : Command) (version : Version) (disabled : Bool) (jobs : List Job) (sweeps : List Sweep) (faults : List ℕ)
-    → (let s : State = collecting version disabled (record { jobs = jobs; sweeps = sweeps }) faults in option_map (plain_answer list.version c) (ending_in s) ≡ answer_in (Some list) c s)
+-- the collection is answered as it ends
+abbrev AnswersSo : NetList → Command → State → Type 0
+AnswersSo list c s = option_map (plain_answer list.version c) (ending_in s) ≡ answer_in (Some list) c s
+
+answers_working : (list : NetList) (c : Command) (jobs : List Job) (sweeps : List Sweep) (faults : List ℕ) → AnswersSo list c (Collecting (record { jobs = jobs; sweeps = sweeps }) faults)
 unfolding finish_of answer_of
-answers_by list c V1_0 disabled jobs sweeps faults = refl
-answers_by list c V1_1 true jobs sweeps faults = refl
-answers_by list c V1_1 false [] [] [] = refl
-answers_by list c V1_1 false [] [] (k ∷ faults) = refl
-answers_by list c V1_1 false [] (s ∷ sweeps) faults = refl
-answers_by list c V1_1 false (j ∷ jobs) sweeps faults = refl
+answers_working list c [] [] [] = refl
+answers_working list c [] [] (k ∷ faults) = refl
+answers_working list c [] (s ∷ sweeps) faults = refl
+answers_working list c (j ∷ jobs) sweeps faults = refl
+
+answers_refused : (list : NetList) (c : Command) (cause : Cause) → AnswersSo list c (Over (endings.Refused cause) [])
+unfolding finish_of answer_of
+answers_refused list c cause = refl
+
+answers_skipped : (list : NetList) (c : Command) (skip : Skip) → AnswersSo list c (Over (endings.Skipped skip) [])
+unfolding finish_of answer_of
+answers_skipped list c skip = refl
+
+answers_by : (list : NetList) (c : Command) (w : Work) (faults : List ℕ) → AnswersSo list c (collecting list.version list.disable_gc w faults)
+answers_by list c w faults =
+    early_ending-cases list.version list.disable_gc (λ early. AnswersSo list c (unless_ended early (Collecting w faults)))
+    (λ old. answers_refused list c (causes.TooOld list.version))
+    (λ new disabled. answers_skipped list c skips.Gc)
+    (λ new enabled. answers_working list c w.jobs w.sweeps faults)
 
 -- no ending of a collection has a result of its own
 pub answers : (list : NetList) (c : Command) (w : Work) (faults : List ℕ) (ending : Option Ending) → (let s : State = collecting list.version list.disable_gc w faults in ending ≡ ending_in s → option_map (plain_answer list.version c) ending ≡ answer_in (Some list) c s)
-answers list c w faults ending is = ap (option_map (plain_answer list.version c)) is ∙ answers_by list c list.version list.disable_gc w.jobs w.sweeps faults
+answers list c w faults ending is = ap (option_map (plain_answer list.version c)) is ∙ answers_by list c w faults

@@ -1,15 +1,15 @@
 -- The runs of a list and a command, as runs of their work.
-use Rattle.std.proofs.Common.{◌≡◌, ℕ, ◌+◌, List, [], ◌∷◌, Option, Some, inl, inr, ◌⊎◌, refl, sym, ◌∙◌, ap, subst, Bool, true, false}
+use Rattle.std.proofs.Common.{◌≡◌, ℕ, ◌+◌, List, [], ◌∷◌, Option, Some, inl, inr, ◌⊎◌, refl, sym, ◌∙◌, ap, subst, true}
+use Rattle.std.specs.Prelude.{is_some}
 use Rattle.std.proofs.lemmas.Option.{same_Some, none-some}
-use Rattle.cni_result.specs.declared.version.Version.{Version}
-use Rattle.cni_result.specs.declared.version.Version.TheVariants.{V1_0, V1_1}
 use Rattle.kernel_types.specs.declared.object.Host.{Host}
 use Rattle.net_conf.specs.declared.list.NetList.{NetList}
 use Rattle.pod_file.specs.declared.command.Command.{Command}
-use Rattle.cni_verbs.specs.Script.{State, Collecting, Over, Finish, collecting, start_state, state_from, advance, next_call, finish_of, finish_of_work, gc_of, swept}
+use Rattle.cni_verbs.specs.Script.{State, Collecting, Over, Finish, start_state, state_from, advance, next_call, finish_of, finish_of_work, gc_of, swept, unless_ended}
 use Rattle.cni_verbs.specs.Sweep.{Gc, Job, Sweep, start_work}
 use Rattle.cni_verbs.specs.declared.answer.Ending.{Ending}
 use Rattle.cni_verbs.specs.declared.answer.Ending.TheVariants.{Yes}
+use Rattle.cni_verbs.proofs.EarlyEndings.{early_ending-cases}
 use Rattle.gc_sweep.specs.Sweep.{IsCollected, is_early}
 use Rattle.gc_sweep.specs.Trace.{Made, host_on, IsRunFrom, IsRun, Ends, replies}
 use Rattle.cni_verbs.specs.Progress.{is_gc}
@@ -67,15 +67,14 @@ pub record IsEarly (list : NetList) (c : Command) : Type 0 where
   pub state : start_state list c ≡ Over ending []
   pub refuses : ending ≡ Yes → ⊥
 
-early_by : (list : NetList) (c : Command) (version : Version) (disabled : Bool) → is_gc c.verb ≡ true → version ≡ list.version → disabled ≡ list.disable_gc → IsCollected list ⊎ IsEarly list c
-early_by list c V1_0 disabled gc v d = inr (record { ending = _; state = sym (starts list c gc) ∙ ap (λ x. collecting x list.disable_gc (start_work (gc_of list c)) []) (sym v); refuses = λ e. cc })
-early_by list c V1_1 true gc v d =
-    let P : Version → Bool → State = λ x y. collecting x y (start_work (gc_of list c)) [] in
-    inr (record { ending = _; state = sym (starts list c gc) ∙ ap (λ x. P x list.disable_gc) (sym v) ∙ ap (P V1_1) (sym d); refuses = λ e. cc })
-early_by list c V1_1 false gc v d = inl (ap (λ x. is_early x list.disable_gc) (sym v) ∙ ap (is_early V1_1) (sym d))
-
 pub early_or : (list : NetList) (c : Command) → is_gc c.verb ≡ true → IsCollected list ⊎ IsEarly list c
-early_or list c gc = early_by list c list.version list.disable_gc gc refl refl
+early_or list c gc =
+    let P : Option Ending → Type 0 = λ early. start_state list c ≡ unless_ended early (Collecting (start_work (gc_of list c)) []) → is_early list.version list.disable_gc ≡ is_some early → IsCollected list ⊎ IsEarly list c in
+    early_ending-cases list.version list.disable_gc P
+    (λ old state early. inr (record { ending = _; state = state; refuses = λ e. cc }))
+    (λ new disabled state early. inr (record { ending = _; state = state; refuses = λ e. cc }))
+    (λ new enabled state early. inl early)
+    (sym (starts list c gc)) refl
 
 over_makes_none : (list : NetList) (c : Command) (ending : Ending) (host : Host) (es : List Made) → IsRunFrom list c 0 (Over ending []) host es → es ≡ []
 unfolding next_call

@@ -10,13 +10,12 @@ use Rattle.cni_json.proofs.Endings.{goes, ok_same}
 use Rattle.cni_json.specs.WellFormed.{KeysAscend}
 use Rattle.net_conf.proofs.Endings.{needed_text-ok}
 use Rattle.net_conf.proofs.PluginFacts.{chain_at-ok}
-use Rattle.net_conf.specs.Accepted.{supported}
-use Rattle.net_conf.specs.List.{read_or_refused, version_at, name_at, switch_at, disable_check_key, disable_gc_key, network_list_at, list_of}
+use Rattle.net_conf.specs.List.{read_or_refused, name_at, switch_at, disable_check_key, disable_gc_key, network_list_at, list_of}
 use Rattle.net_conf.specs.Names.{is_network_name}
 use Rattle.net_conf.specs.Plugins.{chain_at}
 use Rattle.net_conf.specs.Refusals.{invalid}
+use Rattle.net_conf.specs.Versions.{version_at}
 use Rattle.net_conf.specs.WellFormed.{IsWellFormedList}
-use Rattle.net_conf.specs.declared.accepted.Accepted.TheVariants.{Nothing}
 use Rattle.net_conf.specs.declared.list.NetList.{NetList}
 
 name_at-ok : (d : Data) (name : List ℕ) → name_at d ≡ Ok name → is_network_name name ≡ true
@@ -28,8 +27,7 @@ unfolding network_list_at
 network_list_at-ok d list order is =
     let form = goes (object_or (invalid (codes "list")) d) _ list is in
     let version = goes (version_at d) _ list form.rest in
-    let versions = goes (supported Nothing (codes "cniVersions") d) _ list version.rest in
-    let name = goes (name_at d) _ list versions.rest in
+    let name = goes (name_at d) _ list version.rest in
     let check = goes (switch_at disable_check_key d) _ list name.rest in
     let gc = goes (switch_at disable_gc_key d) _ list check.rest in
     let plugins = goes (chain_at d) _ list gc.rest in

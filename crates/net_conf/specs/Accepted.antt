@@ -8,7 +8,7 @@ use Rattle.serde_json.specs.Written.{compact_text}
 use Rattle.cni_json.specs.Fields.{member_at}
 use Rattle.cni_json.specs.Outcome.{◌>>=◌}
 use Rattle.net_conf.specs.declared.accepted.Accepted.{Accepted}
-use Rattle.net_conf.specs.declared.accepted.Accepted.TheVariants.{Nothing, Zero, AnyNumber, EmptyList, IsFlag, EmptyText, AnyText, Backend, OpenPolicy}
+use Rattle.net_conf.specs.declared.accepted.Accepted.TheVariants.{Zero, AnyNumber, EmptyList, IsFlag, EmptyText, AnyText, Backend, OpenPolicy}
 use Rattle.net_conf.specs.declared.error.ConfError.{ConfError}
 use Rattle.net_conf.specs.declared.error.ConfError.TheVariants as refusal
 
@@ -38,7 +38,6 @@ is_default_text default d = false
 
 -- the value asks for nothing
 abbrev pub accepts : Accepted → Data → Bool
-accepts Nothing d = false
 accepts Zero d = is_zero d
 accepts AnyNumber d = is_number d
 accepts EmptyList d = is_empty_list d

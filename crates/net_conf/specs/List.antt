@@ -1,21 +1,17 @@
 -- A network list, part by part in the order of its refusals (CNI specification 1.1.0, section 1).
-use Rattle.std.specs.Prelude.{ℕ, List, [], codes, Bool, true, false, if◌then◌else◌, Result, Ok, Err, ok_or, Option, Some, None}
+use Rattle.std.specs.Prelude.{ℕ, List, codes, Bool, true, false, if◌then◌else◌, Result, Ok, Err, Option, Some, None}
 use Rattle.std.specs.Str.{bytes_eq}
 use Rattle.serde_json.specs.Data.{Data, boolean, string}
 use Rattle.cni_json.specs.Json.{json_of}
-use Rattle.cni_json.specs.Fields.{member_at, text_field, member_or, object_or}
+use Rattle.cni_json.specs.Fields.{member_at, text_field, object_or}
 use Rattle.cni_json.specs.Outcome.{◌>>=◌}
-use Rattle.cni_json.specs.declared.fields.Field.{Field}
 use Rattle.cni_json.specs.declared.reading.ReadEnd.{ReadEnd}
 use Rattle.cni_json.specs.declared.reading.ReadEnd.TheVariants as ends
-use Rattle.cni_result.specs.Versions.{version_named}
-use Rattle.cni_result.specs.declared.version.Version.{Version}
-use Rattle.net_conf.specs.Accepted.{supported}
 use Rattle.net_conf.specs.Members.{needed_text}
 use Rattle.net_conf.specs.Names.{is_network_name}
 use Rattle.net_conf.specs.Plugins.{chain_at}
 use Rattle.net_conf.specs.Refusals.{invalid}
-use Rattle.net_conf.specs.declared.accepted.Accepted.TheVariants.{Nothing}
+use Rattle.net_conf.specs.Versions.{version_at}
 use Rattle.net_conf.specs.declared.error.ConfError.{ConfError}
 use Rattle.net_conf.specs.declared.error.ConfError.TheVariants as refusal
 use Rattle.net_conf.specs.declared.list.NetList.{NetList}
@@ -26,15 +22,6 @@ read_or_refused (Ok d) = Ok d
 read_or_refused (Err ends.Decode) = Err refusal.Decode
 read_or_refused (Err ends.Number) = invalid (codes "number")
 read_or_refused (Err ends.NoMemory) = Err refusal.NoMemory
-
-abbrev pub version_of : Field (List ℕ) → Result Version ConfError
-version_of f =
-    member_or (Err (refusal.Version [])) (invalid (codes "cniVersion"))
-    (λ text. ok_or (version_named text) (refusal.Version text)) f
-
--- the version that the plugins are asked in
-unfoldable pub version_at : Data → Result Version ConfError
-version_at d = version_of (text_field (codes "cniVersion") d)
 
 -- the name of the network
 unfoldable pub name_at : Data → Result (List ℕ) ConfError
@@ -68,7 +55,6 @@ unfoldable pub network_list_at : Data → Result NetList ConfError
 network_list_at d = do
   _ ← object_or (invalid (codes "list")) d
   version ← version_at d
-  _ ← supported Nothing (codes "cniVersions") d
   name ← name_at d
   check ← switch_at disable_check_key d
   gc ← switch_at disable_gc_key d

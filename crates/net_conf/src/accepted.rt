@@ -4,7 +4,7 @@ ghost use Rattle.std.specs.Prelude.{◌≡◌, false};
 ghost use Rattle.serde_json.specs.Data.{string};
 ghost use Rattle.serde_json.specs.View.{view};
 ghost use Rattle.serde_json.specs.Written.{has_float};
-ghost use Rattle.cni_json.specs.Outcome.{GivesAs};
+ghost use Rattle.cni_json.specs.Outcome.{Gives};
 ghost use Rattle.net_conf.specs.Accepted as wanted;
 ghost use Rattle.net_conf.specs.Refusals.{is_want_of_memory};
 
@@ -15,7 +15,6 @@ use std::alloc::Global;
 /// The values that are accepted of a key that isn't acted on.
 #[derive(Clone, Copy)]
 pub enum Accepted {
-    Nothing,
     Zero,
     AnyNumber,
     EmptyList,
@@ -60,7 +59,7 @@ pub fn supported(
     accepted: Accepted,
 ) -> Result<(), ConfError>
     requires { has_float (view object.now) ≡ false }
-    ensures { GivesAs is_want_of_memory (λ t. t) result (wanted.supported accepted key.now (view object.now)) }
+    ensures { Gives is_want_of_memory result (wanted.supported accepted key.now (view object.now)) }
 {
     match member(object, key) {
         None => Ok(()),
@@ -82,7 +81,7 @@ pub fn all_supported(
     rows: &[(&str, Accepted)],
 ) -> Result<(), ConfError>
     requires { has_float (view object.now) ≡ false }
-    ensures { GivesAs is_want_of_memory (λ t. t) result (wanted.all_supported (wanted.rows_of rows.now) (view object.now)) }
+    ensures { Gives is_want_of_memory result (wanted.all_supported (wanted.rows_of rows.now) (view object.now)) }
 {
     for (key, accepted) in rows {
         supported(alloc, object, key, *accepted)?;

@@ -17,7 +17,8 @@ use std::alloc::Global;
 /// which is this project's own.
 #[derive(PartialEq, Eq, Drop)]
 pub enum ConfError {
-    /// `cniVersion` is none of the versions that are known; the text is empty where there is no `cniVersion`.
+    /// Neither `cniVersion` nor `cniVersions` names a version that is known. The text is that of `cniVersion`, else the
+    /// first of `cniVersions`, else empty.
     Version { found: Text },
     /// A key that isn't acted on asks for something, with its value as compact JSON text.
     Unsupported { key: Text, value: Text },

@@ -36,6 +36,7 @@ mod read;
 mod routes;
 mod sets;
 mod tuning;
+mod versions;
 
 pub use bridge_modes::{BridgeMode, GatewayRole};
 pub use chained::{Chained, ChainedPlugins, FirewallConf, PortmapConf, Sysctl, TuningConf};

@@ -4,7 +4,7 @@ ghost use Rattle.std.specs.Prelude.{◌≡◌, Bool, true, IfOk};
 ghost use Rattle.serde_json.specs.View.{view};
 ghost use Rattle.cni_addr.specs.Codes.{family_eq};
 ghost use Rattle.cni_addr.specs.declared.address.Addr.{Addr};
-ghost use Rattle.cni_json.specs.Outcome.{GivesAs};
+ghost use Rattle.cni_json.specs.Outcome.{Gives};
 ghost use Rattle.net_conf.specs.Members.{IsTest};
 ghost use Rattle.net_conf.specs.Ranges as ranges;
 ghost use Rattle.net_conf.specs.Refusals.{is_want_of_memory};
@@ -18,7 +18,7 @@ use std::alloc::Global;
 /// The range that an object gives by `subnet`, `rangeStart`, `rangeEnd` and `gateway`.
 #[tactic(auto, using(cni_json::proofs::Steps::steps), unfolding(crate::specs::Ranges::range_at))]
 pub fn range(alloc: Global, object: &Value) -> Result<Range, ConfError>
-    ensures { GivesAs is_want_of_memory (λ range. range) result (ranges.range_at (view object.now)) }
+    ensures { Gives is_want_of_memory result (ranges.range_at (view object.now)) }
 {
     let subnet = subnet(alloc, object)?;
     let first = first_host(&subnet);
@@ -54,7 +54,7 @@ pub fn range(alloc: Global, object: &Value) -> Result<Range, ConfError>
 
 #[tactic(auto, using(cni_json::proofs::Steps::steps), unfolding(crate::specs::Ranges::subnet_at))]
 fn subnet(alloc: Global, object: &Value) -> Result<Cidr, ConfError>
-    ensures read { GivesAs is_want_of_memory (λ subnet. subnet) result (ranges.subnet_at (view object.now)) }
+    ensures read { Gives is_want_of_memory result (ranges.subnet_at (view object.now)) }
     ensures tested { IfOk result (λ subnet. ranges.is_subnet subnet ≡ true) }
 {
     let Field::Here(text) = field_str(object, "subnet") else {
@@ -110,7 +110,7 @@ fn addr_or<P: Fn(&Addr) -> bool>(
 ) -> Result<Addr, ConfError>
     requires { P.IsAlwaysCallable passes }
     ensures { (test : Addr → Bool) → IsTest P.Fn passes test
-        → GivesAs is_want_of_memory (λ addr. addr) result (ranges.addr_or_at key.now default test (view object.now)) }
+        → Gives is_want_of_memory result (ranges.addr_or_at key.now default test (view object.now)) }
 {
     let given = addr_if(alloc, object, key, key, passes)?;
     Ok(given.unwrap_or(default))
@@ -118,7 +118,7 @@ fn addr_or<P: Fn(&Addr) -> bool>(
 
 #[tactic(auto, using(cni_json::proofs::Steps::steps), unfolding(crate::specs::Ranges::in_order))]
 fn in_order(alloc: Global, start: &Addr, end: &Addr) -> Result<(), ConfError>
-    ensures { GivesAs is_want_of_memory (λ t. t) result (ranges.in_order start.now end.now) }
+    ensures { Gives is_want_of_memory result (ranges.in_order start.now end.now) }
 {
     (start.bits <= end.bits)
         .then_some(())

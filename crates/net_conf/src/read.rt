@@ -3,25 +3,24 @@
 ghost use Rattle.std.specs.Prelude.{◌≡◌, false};
 ghost use Rattle.serde_json.specs.View.{view};
 ghost use Rattle.serde_json.specs.Written.{has_float};
-ghost use Rattle.cni_json.specs.Outcome.{GivesAs};
+ghost use Rattle.cni_json.specs.Outcome.{Gives};
 ghost use Rattle.net_conf.specs.List as wanted;
 ghost use Rattle.net_conf.specs.Refusals.{is_want_of_memory};
 
-use crate::accepted::{Accepted, supported};
-use crate::error::{ConfError, invalid, version_refused};
+use crate::error::{ConfError, invalid};
 use crate::list::{DISABLE_CHECK_KEY, DISABLE_GC_KEY, NetList};
 use crate::names::is_network_name;
 use crate::plugins::plugin_chain;
+use crate::versions::version;
 use cni_addr::Text;
 use cni_json::{Field, ReadEnd, Value, field_str, member, need_object};
-use cni_result::{Version, version_named};
 use std::alloc::Global;
 
 /// The network list that the bytes spell (CNI specification 1.1.0, section 1), or the first refusal in the order of its
 /// parts. It takes time in proportion to the bytes, and that of a sort of the ranges.
 #[tactic(auto, using(cni_json::proofs::Steps::steps), unfolding(crate::specs::List::list_of))]
 pub fn read_list(alloc: Global, bytes: &[u8]) -> Result<NetList, ConfError>
-    ensures { GivesAs is_want_of_memory (λ list. list) result (wanted.list_of bytes.now) }
+    ensures { Gives is_want_of_memory result (wanted.list_of bytes.now) }
 {
     match cni_json::read(alloc, bytes) {
         Ok(top) => list(alloc, &top),
@@ -34,11 +33,10 @@ pub fn read_list(alloc: Global, bytes: &[u8]) -> Result<NetList, ConfError>
 #[tactic(auto, using(cni_json::proofs::Steps::steps), unfolding(crate::specs::List::network_list_at))]
 fn list(alloc: Global, top: &Value) -> Result<NetList, ConfError>
     requires { has_float (view top.now) ≡ false }
-    ensures { GivesAs is_want_of_memory (λ list. list) result (wanted.network_list_at (view top.now)) }
+    ensures { Gives is_want_of_memory result (wanted.network_list_at (view top.now)) }
 {
     need_object(top, || invalid(alloc, "list"))?;
     let version = version(alloc, top)?;
-    supported(alloc, top, "cniVersions", Accepted::Nothing)?;
     let name = name(alloc, top)?;
     let disable_check = check_disabled(alloc, top)?;
     let disable_gc = gc_disabled(alloc, top)?;
@@ -53,20 +51,9 @@ fn list(alloc: Global, top: &Value) -> Result<NetList, ConfError>
     })
 }
 
-#[tactic(auto, using(cni_json::proofs::Steps::steps), unfolding(crate::specs::List::version_at))]
-fn version(alloc: Global, top: &Value) -> Result<Version, ConfError>
-    ensures { GivesAs is_want_of_memory (λ version. version) result (wanted.version_at (view top.now)) }
-{
-    match field_str(top, "cniVersion") {
-        Field::WrongKind => Err(invalid(alloc, "cniVersion")),
-        Field::Absent => Err(version_refused(alloc, "")),
-        Field::Here(found) => version_named(found).ok_or_else(|| version_refused(alloc, found)),
-    }
-}
-
 #[tactic(auto, using(cni_json::proofs::Steps::steps), unfolding(crate::specs::List::name_at))]
 fn name(alloc: Global, top: &Value) -> Result<Text, ConfError>
-    ensures { GivesAs is_want_of_memory (λ name. name) result (wanted.name_at (view top.now)) }
+    ensures { Gives is_want_of_memory result (wanted.name_at (view top.now)) }
 {
     match field_str(top, "name") {
         Field::Here(name) if is_network_name(name) => Ok(Text::of(alloc, name)?),
@@ -75,13 +62,13 @@ fn name(alloc: Global, top: &Value) -> Result<Text, ConfError>
 }
 
 fn check_disabled(alloc: Global, top: &Value) -> Result<bool, ConfError>
-    ensures { GivesAs is_want_of_memory (λ b. b) result (wanted.switch_at wanted.disable_check_key (view top.now)) }
+    ensures { Gives is_want_of_memory result (wanted.switch_at wanted.disable_check_key (view top.now)) }
 {
     switch(alloc, top, DISABLE_CHECK_KEY)
 }
 
 fn gc_disabled(alloc: Global, top: &Value) -> Result<bool, ConfError>
-    ensures { GivesAs is_want_of_memory (λ b. b) result (wanted.switch_at wanted.disable_gc_key (view top.now)) }
+    ensures { Gives is_want_of_memory result (wanted.switch_at wanted.disable_gc_key (view top.now)) }
 {
     switch(alloc, top, DISABLE_GC_KEY)
 }
@@ -89,7 +76,7 @@ fn gc_disabled(alloc: Global, top: &Value) -> Result<bool, ConfError>
 /// A truth value, or the text of one. Absent is false.
 #[tactic(auto, using(cni_json::proofs::Steps::steps), unfolding(crate::specs::List::switch_at))]
 fn switch(alloc: Global, top: &Value, key: &str) -> Result<bool, ConfError>
-    ensures { GivesAs is_want_of_memory (λ b. b) result (wanted.switch_at key.now (view top.now)) }
+    ensures { Gives is_want_of_memory result (wanted.switch_at key.now (view top.now)) }
 {
     match member(top, key) {
         None => Ok(false),

@@ -1,11 +1,10 @@
 -- What a garbage collection leaves and answers, from the laws of a collection that is alone with a host.
-use Rattle.std.proofs.Common.{◌≡◌, ◌≢◌, ℕ, ◌+◌, ◌≤◌, Bool, true, false, List, length, [], ◌∷◌, Some, None, refl, sym, ◌∙◌, ap, subst, inl, inr, ◌⊎◌}
+use Rattle.std.proofs.Common.{◌≡◌, ◌≢◌, ℕ, ◌+◌, ◌≤◌, true, List, length, [], ◌∷◌, Option, Some, None, refl, sym, ◌∙◌, ap, subst, inl, inr, ◌⊎◌}
+use Rattle.std.specs.Prelude.{is_some}
 use Rattle.std.proofs.lemmas.Bool.{cases_Bool}
 use Rattle.std.proofs.lemmas.List.{length-map}
 use Rattle.std.proofs.lemmas.Option.{none-some}
 use Rattle.cni_addr.specs.declared.address.Addr.{Addr}
-use Rattle.cni_result.specs.declared.version.Version.{Version}
-use Rattle.cni_result.specs.declared.version.Version.TheVariants.{V1_0, V1_1}
 use Rattle.net_conf.specs.declared.list.NetList.{NetList}
 use Rattle.pod_file.specs.declared.command.Command.{Command}
 use Rattle.pod_file.specs.declared.command.Verb.TheVariants as verbs
@@ -19,6 +18,7 @@ use Rattle.cni_verbs.specs.declared.answer.Cause.TheVariants as causes
 use Rattle.cni_verbs.specs.declared.answer.Ending.{Ending}
 use Rattle.cni_verbs.specs.declared.answer.Ending.TheVariants.{Yes, Skipped, Refused}
 use Rattle.cni_verbs.specs.declared.answer.Skip.TheVariants as skips
+use Rattle.cni_verbs.proofs.EarlyEndings.{early_ending-cases, too_old}
 use Rattle.gc_sweep.specs.Bound.{most_of_collection}
 use Rattle.gc_sweep.specs.Keep.{keep}
 use Rattle.gc_sweep.specs.Sweep.{AreExcused, Bounds, IsCollected, fault_numbers, is_early}
@@ -45,10 +45,8 @@ use Rattle.pod_laws.proofs.RunFacts.{state_by}
 abbrev collecting : NetList → Command → State
 collecting list c = Collecting (start_work (gc_of list c)) []
 
-starts : (list : NetList) (c : Command) → c.verb ≡ verbs.Gc → (v : Version) (b : Bool) → list.version ≡ v → list.disable_gc ≡ b → start_state list c ≡ unless_ended (early_ending v b) (collecting list c)
-starts list c gc v b version disabled =
-    ap (λ x. start_of list x c) gc ∙ ap (λ x. unless_ended (early_ending x list.disable_gc) (collecting list c)) version
-    ∙ ap (λ x. unless_ended (early_ending v x) (collecting list c)) disabled
+starts : (list : NetList) (c : Command) → c.verb ≡ verbs.Gc → start_state list c ≡ unless_ended (early_ending list.version list.disable_gc) (collecting list c)
+starts list c gc = ap (λ x. start_of list x c) gc
 
 over-none : (list : NetList) (c : Command) (st : State) (ending : Ending) (given : List Addr) (host : Host) (es : List Entry) → st ≡ Over ending given → trace.IsRunFrom list c 0 st host (made_in es) → es ≡ []
 unfolding next_call
@@ -147,31 +145,38 @@ made-calls list c es ending starts_so s none =
     none-some (record { ending = ending; given = [] })
     (sym (ap finish_of (ap (state_by list c) none ∙ starts_so) ∙ unfinished list c) ∙ swept-finish (state_by list c es) ending s)
 
+-- an early ending comes before any entry, and is the one that is answered
+record EndedEarly (list : NetList) (c : Command) (es : List Entry) (given : List Addr) (told : Ending) (a : Answer) : Type 0 where
+  no_entry : es ≡ []
+  said : Says list c given told a
+
+ended-early : (w : World) (n : ℕ) (c : Placed) (list : NetList) (told : Ending) (a : Answer) → list_for w.plan c.command ≡ Some list → (t : StandsTogether w.plan w.history n c) → (over : IsOver list c.command (state_by list c.command (own_entries n w.history)) a)
+    → start_state list c.command ≡ Over told [] → EndedEarly list c.command (own_entries n w.history) over.given told a
+ended-early w n c list told a listed t over start =
+    let es = own_entries n w.history in
+    let none = over-none list c.command (start_state list c.command) told [] (after w.plan.pods.opening t.before) es start (t.run list listed) in
+    let ending = over-ending (state_by list c.command es) told over.ending [] over.given (ap (state_by list c.command) none ∙ start) over.state_is in
+    record { no_entry = none; said = subst (λ x. Says list c.command over.given x a) ending (says list c.command over.given over.ending a over.answer_is) }
+
 answered-by : (w : World) (n : ℕ) (c : Placed) (list : NetList) (a : Answer) → list_for w.plan c.command ≡ Some list → c.command.verb ≡ verbs.Gc → (t : StandsTogether w.plan w.history n c) → IsOver list c.command (state_by list c.command (own_entries n w.history)) a
-    → (v : Version) (b : Bool) → list.version ≡ v → list.disable_gc ≡ b → IsCollectionAnswer list c.command (own_entries n w.history) (host_at_start w n) (host_at_end w n) a
-answered-by w n c list a listed gc t over V1_0 b version disabled =
+    → IsCollectionAnswer list c.command (own_entries n w.history) (host_at_start w n) (host_at_end w n) a
+answered-by w n c list a listed gc t over =
     let es = own_entries n w.history in
-    let start = starts list c.command gc V1_0 b version disabled in
-    let none = over-none list c.command (start_state list c.command) (Refused (causes.TooOld V1_0)) [] (after w.plan.pods.opening t.before) es start (t.run list listed) in
-    let ending = over-ending (state_by list c.command es) (Refused (causes.TooOld V1_0)) over.ending [] over.given (ap (state_by list c.command) none ∙ start) over.state_is in
-    inl (record { old = version; no_entry = none; answer = subst (λ x. Says list c.command over.given x a) ending (says list c.command over.given over.ending a over.answer_is) })
-answered-by w n c list a listed gc t over V1_1 true version disabled =
-    let es = own_entries n w.history in
-    let start = starts list c.command gc V1_1 true version disabled in
-    let none = over-none list c.command (start_state list c.command) (Skipped skips.Gc) [] (after w.plan.pods.opening t.before) es start (t.run list listed) in
-    let ending = over-ending (state_by list c.command es) (Skipped skips.Gc) over.ending [] over.given (ap (state_by list c.command) none ∙ start) over.state_is in
-    inr (inl (record { new_enough = version; disabled = disabled; no_entry = none; answer = subst (λ x. Says list c.command over.given x a) ending (says list c.command over.given over.ending a over.answer_is) }))
-answered-by w n c list a listed gc t over V1_1 false version disabled =
-    let es = own_entries n w.history in
-    let start = starts list c.command gc V1_1 false version disabled in
+    let P : Option Ending → Type 0 = λ early. start_state list c.command ≡ unless_ended early (collecting list c.command) → is_early list.version list.disable_gc ≡ is_some early
+    → IsCollectionAnswer list c.command es (host_at_start w n) (host_at_end w n) a in
+    early_ending-cases list.version list.disable_gc P
+    (λ old start early. let e = ended-early w n c list (too_old list.version) a listed t over start in inl (record { old = old; no_entry = e.no_entry; answer = e.said }))
+    (λ new disabled start early. let e = ended-early w n c list (Skipped skips.Gc) a listed t over start in inr (inl (record { new_enough = new; disabled = disabled; no_entry = e.no_entry; answer = e.said })))
+    (λ new enabled start early.
     let s = swept-of (state_by list c.command es) over.ending over.given (collects-after list c.command (replies_in es) start) over.state_is in
     let some = made-calls list c.command es over.ending start s in
-    let at = at-end w n c list over.ending listed gc (ap (λ x. is_early x list.disable_gc) version ∙ ap (is_early V1_1) disabled) t s in
-    inr (inr (ended-answer list c.command (after w.plan.pods.opening t.before) es over.ending over.given a (host_at_start w n) (host_at_end w n) at (says list c.command over.given over.ending a over.answer_is) some (alone-start w n c t some) (alone-end w n c t)))
+    let at = at-end w n c list over.ending listed gc early t s in
+    inr (inr (ended-answer list c.command (after w.plan.pods.opening t.before) es over.ending over.given a (host_at_start w n) (host_at_end w n) at (says list c.command over.given over.ending a over.answer_is) some (alone-start w n c t some) (alone-end w n c t))))
+    (starts list c.command gc) refl
 
 pub collections_are_answered : CollectionsAreAnswered
 collections_are_answered w legal n c a at gc is = λ list listed. elim (answer-due w legal n c list a at listed is) [
-  | inl over ↦ inl (answered-by w n c list a listed gc (stands_together w legal n c at (ap is_exclusive_verb gc)) over list.version list.disable_gc refl refl)
+  | inl over ↦ inl (answered-by w n c list a listed gc (stands_together w legal n c at (ap is_exclusive_verb gc)) over)
   | inr cut ↦ inr cut
 ]
 

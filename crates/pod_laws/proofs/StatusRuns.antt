@@ -1,13 +1,12 @@
 -- A STATUS asks of one host, and its answer is what that host has to give.
 use Rattle.std.proofs.Common.{◌≡◌, ℕ, ◌+◌, Bool, true, false, List, [], ◌∷◌, ◌++◌, length, refl, sym, ◌∙◌, ap, subst}
 use Rattle.std.proofs.Math.Bool.{and-true}
-use Rattle.std.specs.Prelude.{◌&&◌}
+use Rattle.std.specs.Prelude.{◌&&◌, MatchBool}
 use Rattle.std.specs.List.{AllByRecursion, list_all}
 use Rattle.std.proofs.lemmas.List.Folds.{list_all-append}
 use Rattle.std.proofs.lemmas.List.{length_push}
 use Rattle.cni_addr.specs.declared.range.RangeSet.{RangeSet}
-use Rattle.cni_result.specs.declared.version.Version.{Version}
-use Rattle.cni_result.specs.declared.version.Version.TheVariants.{V1_0, V1_1}
+use Rattle.cni_result.specs.Versions.{is_before_1_1}
 use Rattle.net_conf.specs.declared.first.First.{First}
 use Rattle.net_conf.specs.declared.first.First.TheVariants.{Bridge, Ptp, Macvlan}
 use Rattle.net_conf.specs.declared.list.NetList.{NetList}
@@ -28,6 +27,7 @@ use Rattle.cni_verbs.specs.declared.answer.Cause.TheVariants as causes
 use Rattle.cni_verbs.specs.declared.answer.Ending.{Ending}
 use Rattle.cni_verbs.specs.declared.answer.Ending.TheVariants.{Refused}
 use Rattle.cni_verbs.specs.declared.answer.Question.{Question}
+use Rattle.cni_verbs.proofs.EarlyEndings.{old_ending-cases, too_old}
 use Rattle.pod_workers.specs.World.{entry_of, host_of, reply_to}
 use Rattle.pod_workers.specs.declared.plan.Entry.{Entry}
 use Rattle.pod_laws.specs.Available.{EndsStatus, IsUnavailable, LacksService, WasAvailable, has_master_of, is_available}
@@ -82,40 +82,54 @@ granted-status list c host =
 
 -- its version has the verb, and no entry is a fault
 pub record HasStatus (list : NetList) (c : Command) (es : List Entry) (host : Host) (left : List Question) : Type 0 where
-  pub version : list.version ≡ V1_1
+  pub version : is_before_1_1 list.version ≡ false
   pub calm : has_fault es ≡ false
   pub asked : HasAsked host (status_questions list c) left
 
 abbrev StatusAt : NetList → Command → List Entry → State → Host → Type 0
 StatusAt list c es (Asking next left) host = HasStatus list c es host (next ∷ left)
-StatusAt list c es (Over ending given) host = (given ≡ []) × EndsStatus list c es host list.version ending
+StatusAt list c es (Over ending given) host = (given ≡ []) × EndsStatus list c es host ending
 StatusAt list c es _ host = ⊥
 
-status-ends : (list : NetList) (c : Command) (es : List Entry) (host : Host) (ending : Ending) → list.version ≡ V1_1 → has_fault es ≡ false → EndsAsked host (status_questions list c) ending → EndsStatus list c es host list.version ending
+-- a list that has the verb tells by its calls
+abbrev AnswersStatus : NetList → Command → List Entry → Host → Ending → Type 0
+AnswersStatus list c es host ending = EndsByFault es (has_fault es) ending (EndsByTest (is_available list c host) ending (LacksService list c host ending))
+
+since_1_1 : (list : NetList) (c : Command) (es : List Entry) (host : Host) (ending : Ending) → is_before_1_1 list.version ≡ false → AnswersStatus list c es host ending → EndsStatus list c es host ending
+since_1_1 list c es host ending version ends = subst (λ b. MatchBool b ((es ≡ []) × (ending ≡ Refused (causes.TooOld list.version))) (AnswersStatus list c es host ending)) (sym version) ends
+
+status-ends : (list : NetList) (c : Command) (es : List Entry) (host : Host) (ending : Ending) → is_before_1_1 list.version ≡ false → has_fault es ≡ false → EndsAsked host (status_questions list c) ending → EndsStatus list c es host ending
 status-ends list c es host ending version calm ends =
     let tested : EndsByTest (is_available list c host) ending (LacksService list c host ending) =
     by-asked host (status_questions list c) IsUnavailable (is_available list c host) ending (granted-status list c host)
     (λ q d. let of_service : IsServiceQuestion q = each-at IsServiceQuestion d.past q d.later (subst (AllByRecursion IsServiceQuestion) d.are (service-questions list c)) in of_service.1) ends in
-    subst (λ v. EndsStatus list c es host v ending) (sym version)
+    since_1_1 list c es host ending version
     (subst (λ b. EndsByFault es b ending (EndsByTest (is_available list c host) ending (LacksService list c host ending))) (sym calm) tested)
 
-status-asked : (list : NetList) (c : Command) (es : List Entry) (host : Host) (st : State) → list.version ≡ V1_1 → has_fault es ≡ false → IsAsking host (status_questions list c) st → StatusAt list c es st host
+status-asked : (list : NetList) (c : Command) (es : List Entry) (host : Host) (st : State) → is_before_1_1 list.version ≡ false → has_fault es ≡ false → IsAsking host (status_questions list c) st → StatusAt list c es st host
 status-asked list c es host (Asking q qs) version calm a = record { version = version; calm = calm; asked = a }
 status-asked list c es host (Over ending given) version calm a = (a.0, status-ends list c es host ending version calm a.1)
 status-asked list c es host _ version calm a = absurd a
 
-status-fault : (list : NetList) (c : Command) (es : List Entry) (host : Host) (number : ℕ) → list.version ≡ V1_1 → has_fault es ≡ true → number ≡ length es → EndsStatus list c es host list.version (Refused (causes.Fault number))
+status-fault : (list : NetList) (c : Command) (es : List Entry) (host : Host) (number : ℕ) → is_before_1_1 list.version ≡ false → has_fault es ≡ true → number ≡ length es → EndsStatus list c es host (Refused (causes.Fault number))
 status-fault list c es host number version fault is =
     let ending = Refused (causes.Fault number) in
-    subst (λ v. EndsStatus list c es host v ending) (sym version)
+    since_1_1 list c es host ending version
     (subst (λ b. EndsByFault es b ending (EndsByTest (is_available list c host) ending (LacksService list c host ending))) (sym fault) (ap (λ k. Refused (causes.Fault k)) is))
 
-status-old : (list : NetList) (c : Command) (host : Host) (v : Version) → list.version ≡ v → StatusAt list c [] (unless_ended (old_ending v) (asking (status_questions list c))) host
-status-old list c host V1_0 is = (refl, subst (λ v. EndsStatus list c [] host v (Refused (causes.TooOld V1_0))) (sym is) (refl, refl))
-status-old list c host V1_1 is = status-asked list c [] host (asking (status_questions list c)) is refl (asked-all host (status_questions list c) (status_questions list c) (asked-none host (status_questions list c)))
+status-too_old : (list : NetList) (c : Command) (host : Host) → is_before_1_1 list.version ≡ true → EndsStatus list c [] host (too_old list.version)
+status-too_old list c host old =
+    let none : List Entry = [] in
+    subst (λ b. MatchBool b ((none ≡ []) × (too_old list.version ≡ too_old list.version)) (AnswersStatus list c none host (too_old list.version))) (sym old) (refl, refl)
+
+status-old : (list : NetList) (c : Command) (host : Host) → StatusAt list c [] (unless_ended (old_ending list.version) (asking (status_questions list c))) host
+status-old list c host =
+    old_ending-cases list.version (λ early. StatusAt list c [] (unless_ended early (asking (status_questions list c))) host)
+    (λ old. (refl, status-too_old list c host old))
+    (λ new. status-asked list c [] host (asking (status_questions list c)) new refl (asked-all host (status_questions list c) (status_questions list c) (asked-none host (status_questions list c))))
 
 status-start_of : (list : NetList) (c : Command) (host : Host) (v : Verb) → v ≡ verbs.Status → StatusAt list c [] (start_of list v c) host
-status-start_of list c host verbs.Status is = status-old list c host list.version refl
+status-start_of list c host verbs.Status is = status-old list c host
 status-start_of list c host _ is = cc
 
 abbrev AsksStatus : HostFact
@@ -160,5 +174,5 @@ was_available w legal n c a at verb is = λ list listed whole.
     let es = own_entries n w.history in
     let host = host_at_end w n in
     let last = each-run KeepsAsked AsksStatus asked-kept status-start status-step w legal n c list at listed verb in
-    answered-by list c.command _ a (λ st. StatusAt list c.command es st host) (EndsStatus list c.command es host list.version) (λ ending given ends. ends) (λ work faults none. none)
+    answered-by list c.command _ a (λ st. StatusAt list c.command es st host) (EndsStatus list c.command es host) (λ ending given ends. ends) (λ work faults none. none)
     (over-by w legal n c list a at listed is whole) last

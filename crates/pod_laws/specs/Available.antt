@@ -1,8 +1,7 @@
 -- What a STATUS is answered (CNI specification, section 3, "Status").
-use Rattle.std.specs.Prelude.{◌≡◌, ◌&&◌, Bool, true, List, []}
+use Rattle.std.specs.Prelude.{◌≡◌, ◌&&◌, Bool, true, MatchBool, List, []}
 use Rattle.std.specs.List.{list_all}
-use Rattle.cni_result.specs.declared.version.Version.{Version}
-use Rattle.cni_result.specs.declared.version.Version.TheVariants.{V1_0, V1_1}
+use Rattle.cni_result.specs.Versions.{is_before_1_1}
 use Rattle.cni_verbs.specs.Answers.{code_of}
 use Rattle.cni_verbs.specs.Questions.{status_questions}
 use Rattle.cni_verbs.specs.Wanted.{sets_of}
@@ -44,11 +43,12 @@ LacksService list c host ending = EndsByDenied host (status_questions list c) Is
 
 -- how a STATUS ends: a list of an older version has no such verb (code 1), and else by a fault, or by what the host has
 -- to give
-abbrev pub EndsStatus : NetList → Command → List Entry → Host → Version → Ending → Type 0
-EndsStatus list c entries host V1_0 ending = (entries ≡ []) × (ending ≡ Refused (causes.TooOld V1_0))
-EndsStatus list c entries host V1_1 ending = EndsByFault entries (has_fault entries) ending
-    (EndsByTest (is_available list c host) ending (LacksService list c host ending))
+abbrev pub EndsStatus : NetList → Command → List Entry → Host → Ending → Type 0
+EndsStatus list c entries host ending = MatchBool (is_before_1_1 list.version)
+    ((entries ≡ []) × (ending ≡ Refused (causes.TooOld list.version)))
+    (EndsByFault entries (has_fault entries) ending
+    (EndsByTest (is_available list c host) ending (LacksService list c host ending)))
 
 -- with the host at its last entry
 abbrev pub WasAvailable : Type 0
-WasAvailable = EachEnding verbs.Status (λ list c entries host. EndsStatus list c entries host list.version)
+WasAvailable = EachEnding verbs.Status EndsStatus

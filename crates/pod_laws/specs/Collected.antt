@@ -1,7 +1,7 @@
 -- What a garbage collection leaves and answers, wherever it stands in a history (CNI specification, section 3,
 -- "Garbage-collecting unused resources").
 use Rattle.std.specs.Prelude.{◌≡◌, ◌≢◌, ℕ, ◌+◌, ◌≤◌, ◌⊎◌, true, false, List, [], length, Some, slice_get}
-use Rattle.cni_result.specs.declared.version.Version.TheVariants.{V1_0, V1_1}
+use Rattle.cni_result.specs.Versions.{is_before_1_1}
 use Rattle.cni_verbs.specs.Answers.{error_of}
 use Rattle.cni_verbs.specs.declared.answer.Answer.{Answer}
 use Rattle.cni_verbs.specs.declared.answer.Answer.TheVariants as answers
@@ -25,13 +25,13 @@ use Rattle.pod_laws.specs.Answers.{EachListAnswer, OrCutOff}
 
 -- its list is older than the verb
 pub record IsTooOld (list : NetList) (c : Command) (entries : List Entry) (a : Answer) : Type 0 where
-  pub old : list.version ≡ V1_0
+  pub old : is_before_1_1 list.version ≡ true
   pub no_entry : entries ≡ []
-  pub answer : a ≡ answers.Refused (error_of list.version c (causes.TooOld V1_0))
+  pub answer : a ≡ answers.Refused (error_of list.version c (causes.TooOld list.version))
 
 -- its list disables it
 pub record IsDisabled (list : NetList) (entries : List Entry) (a : Answer) : Type 0 where
-  pub new_enough : list.version ≡ V1_1
+  pub new_enough : is_before_1_1 list.version ≡ false
   pub disabled : list.disable_gc ≡ true
   pub no_entry : entries ≡ []
   pub answer : a ≡ answers.Skipped skips.Gc

@@ -85,8 +85,8 @@ pub fn a_repeated_deletion_leaves_the_host()
 
 // ---- GC
 
-/// A GC is refused with no call made where its list is older than the verb (code 1), and skipped so where a list of
-/// version 1.1.0 disables it. Else it makes calls, and is answered `ok` where it met no fault: then the host right
+/// A GC is refused with no call made where its list is older than the verb (code 1), and skipped so where a newer
+/// list disables it. Else it makes calls, and is answered `ok` where it met no fault: then the host right
 /// after its last entry is the one right before its first without the objects of stale attachments. Where it met
 /// faults, its error (code 103) names them all, and each such object that is left had a faulty call. So it is unless
 /// memory was refused or it was stopped.
@@ -212,7 +212,7 @@ pub fn each_question_leaves_the_host()
     ensures { EachQuestionLeavesTheHost }
 {}
 
-/// A STATUS of a list of version 1.1.0 ends at a fault (code 103). Without one it is answered `ok` where each range set
+/// A STATUS of a list that isn't older than it ends at a fault (code 103). Without one it is answered `ok` where each range set
 /// of its list has a free address in the host at its entries and the master of `macvlan` is there, and else refused for
 /// the first that isn't available (code 50): the range sets in order, and then the master. An older list refuses it
 /// with no call made (code 1). So it is unless memory was refused or it was stopped.

@@ -1,6 +1,6 @@
 use Rattle.std.proofs.Common.{rules}
 use Rattle.cni_result.specs.Dns.{words_at, word_of}
-use Rattle.cni_result.proofs.dns.words.Goals as goal
+use Rattle.cni_result.proofs.dns.read_words.Goals as goal
 
 pub returns : goal.returns
 unfolding words_at
