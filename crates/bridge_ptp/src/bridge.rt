@@ -11,7 +11,7 @@ use crate::veth::veth_pair;
 use cni_addr::{Addr, Cidr, Duplicate, Family, Items, NoMemory, Text, copies};
 use cni_result::{AddResult, IpEntry, RouteEntry};
 use host_local::{interface_kinds, ips_of, routes_of};
-use kernel_types::{Att, Call, Given, Kind};
+use kernel_types::{Att, Call, Given, Kind, NamedAtt};
 use net_conf::BridgeConf;
 use plan_words::{
     Asked, EachKeyOnce, addresses_on, ask_all, ask_forward, completed, default_route,
@@ -26,7 +26,7 @@ use std::hash::{Hash, Hasher};
 pub fn bridge_before(
     alloc: Global,
     conf: &BridgeConf,
-    att: &Att,
+    att: &NamedAtt,
     netns: &Text,
 ) -> Result<Items<Call>, NoMemory>
     ensures { IfOk result (λ calls. calls ≡ plan.bridge_calls_before conf.now att.now netns.now) }
@@ -258,7 +258,7 @@ pub fn bridge_after(
 pub fn bridge_result(
     alloc: Global,
     conf: &BridgeConf,
-    att: &Att,
+    att: &NamedAtt,
     netns: &Text,
     ipam: &AddResult,
 ) -> Result<AddResult, NoMemory>
@@ -266,7 +266,7 @@ pub fn bridge_result(
 {
     let mut interfaces = Items::new(alloc);
     interfaces.push(bridge_interface(&conf.bridge)?)?;
-    push_pair(alloc, &mut interfaces, att, netns, conf.mtu, ipam.version)?;
+    push_pair(&mut interfaces, att, netns, conf.mtu, ipam.version)?;
     let routes = result_routes(
         alloc,
         conf.gateway.is_default(),

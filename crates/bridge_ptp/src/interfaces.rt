@@ -5,9 +5,8 @@ ghost use Rattle.bridge_ptp.specs.Results as results;
 
 use cni_addr::{Duplicate, Items, NoMemory, Text};
 use cni_result::{Interface, Version, mtu_since_1_1};
-use kernel_types::{Att, link_mac};
+use kernel_types::{NamedAtt, link_mac};
 use plan_words::inner_interface;
-use std::alloc::Global;
 
 /// A bridge of the host.
 pub(crate) fn bridge_interface(name: &Text) -> Result<Interface, NoMemory>
@@ -22,16 +21,11 @@ pub(crate) fn bridge_interface(name: &Text) -> Result<Interface, NoMemory>
 }
 
 /// The host's end of the attachment's veth pair.
-fn host_interface(
-    alloc: Global,
-    att: &Att,
-    mtu: u32,
-    version: Version,
-) -> Result<Interface, NoMemory>
+fn host_interface(att: &NamedAtt, mtu: u32, version: Version) -> Result<Interface, NoMemory>
     ensures { IfOk result (λ i. i ≡ results.host_interface att.now mtu version) }
 {
     Ok(Interface {
-        name: att.host_name(alloc)?,
+        name: att.host_name()?,
         mac: Some(att.host_mac()),
         mtu: mtu_since_1_1(version, Some(mtu)),
         sandbox: None,
@@ -40,15 +34,14 @@ fn host_interface(
 
 /// Puts both ends of the attachment's veth pair at the end, the container's last.
 pub(crate) fn push_pair(
-    alloc: Global,
     interfaces: &mut Items<Interface>,
-    att: &Att,
+    att: &NamedAtt,
     netns: &Text,
     mtu: u32,
     version: Version,
 ) -> Result<(), NoMemory>
     ensures { OnOk result (interfaces.new ≡ interfaces.old ++ results.pair_interfaces att.now netns.now mtu version) }
 {
-    interfaces.push(host_interface(alloc, att, mtu, version)?)?;
+    interfaces.push(host_interface(att, mtu, version)?)?;
     interfaces.push(inner_interface(att, netns, mtu, version)?)
 }

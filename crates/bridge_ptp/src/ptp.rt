@@ -11,7 +11,7 @@ use crate::veth::veth_pair;
 use cni_addr::{Addr, Duplicate, Items, NoMemory, Text, whole};
 use cni_result::{AddResult, RouteEntry};
 use host_local::interface_kinds;
-use kernel_types::{AddrObj, Att, Call, Given, Kind, LinkKey, RouteObj};
+use kernel_types::{AddrObj, Att, Call, Given, Kind, LinkKey, NamedAtt, RouteObj};
 use net_conf::PtpConf;
 use plan_words::{
     Asked, EachKeyOnce, address_at, address_on, ask_all, ask_forward, completed, host_key,
@@ -70,7 +70,7 @@ impl Asked for AddressOrRoute {
 pub fn ptp_before(
     alloc: Global,
     conf: &PtpConf,
-    att: &Att,
+    att: &NamedAtt,
     netns: &Text,
 ) -> Result<Items<Call>, NoMemory>
     ensures { IfOk result (λ calls. calls ≡ plan.ptp_calls_before conf.now att.now netns.now) }
@@ -135,7 +135,7 @@ fn push_objects_for(
 
 fn objects_for_each(
     alloc: Global,
-    att: &Att,
+    att: &NamedAtt,
     netns: &Text,
     given: &[Given],
 ) -> Result<EachKeyOnce<AddressOrRoute>, NoMemory>
@@ -146,7 +146,7 @@ fn objects_for_each(
     let host = host_key(alloc, att)?;
     let mut objects = EachKeyOnce::new(alloc);
     for g in given {
-        push_objects_for(&mut objects, att, &host, netns, g)?;
+        push_objects_for(&mut objects, att.att(), &host, netns, g)?;
     }
     Ok(objects)
 }
@@ -172,14 +172,20 @@ fn push_routes(
 fn ptp_objects(
     alloc: Global,
     conf: &PtpConf,
-    att: &Att,
+    att: &NamedAtt,
     netns: &Text,
     given: &[Given],
 ) -> Result<EachKeyOnce<AddressOrRoute>, NoMemory>
     ensures { IfOk result (λ objects. objects ≡ plan.ptp_objects conf.now att.now netns.now given.now) }
 {
     let mut objects = objects_for_each(alloc, att, netns, given)?;
-    push_routes(&mut objects, att, netns, given, conf.ipam.routes.as_slice())?;
+    push_routes(
+        &mut objects,
+        att.att(),
+        netns,
+        given,
+        conf.ipam.routes.as_slice(),
+    )?;
     Ok(objects)
 }
 
@@ -188,14 +194,14 @@ fn ptp_objects(
 pub fn ptp_after(
     alloc: Global,
     conf: &PtpConf,
-    att: &Att,
+    att: &NamedAtt,
     netns: &Text,
     given: &[Given],
 ) -> Result<Items<Call>, NoMemory>
     ensures { IfOk result (λ calls. calls ≡ plan.ptp_calls_after conf.now att.now netns.now given.now) }
 {
     let objects = ptp_objects(alloc, conf, att, netns, given)?;
-    let rules = masquerade_rules(alloc, conf.ip_masq, att, given)?;
+    let rules = masquerade_rules(alloc, conf.ip_masq, att.att(), given)?;
     let mut calls = Vec::new(alloc);
     ask_all(&mut calls, objects)?;
     ask_forward(&mut calls, given)?;
@@ -210,14 +216,14 @@ pub fn ptp_after(
 pub fn ptp_result(
     alloc: Global,
     conf: &PtpConf,
-    att: &Att,
+    att: &NamedAtt,
     netns: &Text,
     ipam: &AddResult,
 ) -> Result<AddResult, NoMemory>
     ensures { IfOk result (λ r. r ≡ results.ptp_result_of conf.now att.now netns.now ipam.now) }
 {
     let mut interfaces = Items::new(alloc);
-    push_pair(alloc, &mut interfaces, att, netns, conf.mtu, ipam.version)?;
+    push_pair(&mut interfaces, att, netns, conf.mtu, ipam.version)?;
     let routes = ipam.routes.copy()?;
     completed(alloc, ipam, interfaces, 1, routes, conf.dns.copy()?)
 }

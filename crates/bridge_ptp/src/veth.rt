@@ -4,14 +4,14 @@ ghost use Rattle.std.specs.Prelude.{◌≡◌, IfOk};
 ghost use Rattle.bridge_ptp.specs.Veth as veth;
 
 use cni_addr::{NoMemory, Text};
-use kernel_types::{Att, Call};
+use kernel_types::{Call, NamedAtt};
 use plan_words::{host_end, inner_end};
 use std::alloc::Global;
 
 /// The call that makes the attachment's pair, with the host's end under this master.
 pub(crate) fn veth_pair(
     alloc: Global,
-    att: &Att,
+    att: &NamedAtt,
     netns: &Text,
     master: Option<Text>,
     mtu: u32,

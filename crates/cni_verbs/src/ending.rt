@@ -12,7 +12,7 @@ use crate::errors::refused;
 use crate::over::{is_over, is_over_outside};
 use crate::phase::Phase;
 use crate::wanted::result_of_add;
-use crate::words::att_of;
+use crate::words::named_att_of;
 use cni_addr::{Addr, Duplicate, NoMemory};
 use cni_result::Version;
 use kernel_types::Kind;
@@ -48,7 +48,7 @@ fn added(
 ) -> Result<Answer, NoMemory>
     ensures { IfOk result (λ answer. answer ≡ answer_of_ending list.now command.now Ending.Added given.now) }
 {
-    let att = att_of(command)?;
+    let att = named_att_of(alloc, command)?;
     let added = result_of_add(alloc, list, &att, &command.netns, given)?;
     Ok(Answer::Added(added))
 }

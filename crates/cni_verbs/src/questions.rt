@@ -8,7 +8,7 @@ ghost use Rattle.net_conf.specs.Sets.{most_sets};
 use crate::answer::{Cause, Missed, Question};
 use crate::share::{Objects, no_objects};
 use crate::wanted::{back_calls, calls_before, sets_of};
-use crate::words::att_of;
+use crate::words::named_att_of;
 use cni_addr::{Addr, Duplicate, Items, Mac, NoMemory, RangeSet, Text};
 use cni_result::{AddResult, Cached, Interface};
 use kernel_types::{AddrObj, Call, Lease, Link, Object, Probe, RouteObj, Rule, Setting};
@@ -237,13 +237,13 @@ fn cached_share(
 ) -> Result<Objects, NoMemory>
     ensures { IfOk result (λ share. share ≡ asked.cached_share list.now command.now cached.now) }
 {
-    let att = att_of(command)?;
+    let att = named_att_of(alloc, command)?;
     let addrs = addresses_of_result(alloc, &cached.result)?;
     let mappings = cached.mappings.copy()?;
     let mut share = no_objects(alloc);
     let before = calls_before(alloc, &list.first, &att, &cached.netns)?;
     share.take_calls(before)?;
-    share.take_leases(alloc, &att, addrs.as_slice())?;
+    share.take_leases(alloc, att.att(), addrs.as_slice())?;
     let back = back_calls(alloc, list, &att, &cached.netns, mappings, addrs.as_slice())?;
     share.take_calls(back.calls)?;
     Ok(share)

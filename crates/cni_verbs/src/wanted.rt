@@ -18,7 +18,7 @@ use firewall_tuning::{
     firewall_calls, firewall_kinds, firewall_result, tuning_calls, tuning_kinds, tuning_result,
 };
 use host_local::{given_of, ipam_of, ipam_result_of};
-use kernel_types::{Att, Call, Given, Kind};
+use kernel_types::{Att, Call, Given, Kind, NamedAtt};
 use net_conf::{Chained, First, NetList};
 use std::alloc::Global;
 
@@ -36,7 +36,7 @@ fn push_all<T: Drop>(list: &mut Vec<T>, more: Items<T>) -> Result<(), NoMemory>
 pub fn calls_before(
     alloc: Global,
     first: &First,
-    att: &Att,
+    att: &NamedAtt,
     netns: &Text,
 ) -> Result<Items<Call>, NoMemory>
     ensures calls { IfOk result (λ calls. calls ≡ wanted.calls_before first.now att.now netns.now) }
@@ -52,23 +52,23 @@ pub fn calls_before(
 fn calls_after(
     alloc: Global,
     first: &First,
-    att: &Att,
+    att: &NamedAtt,
     netns: &Text,
     given: &[Given],
 ) -> Result<Items<Call>, NoMemory>
     ensures { IfOk result (λ calls. calls ≡ wanted.calls_after first.now att.now netns.now given.now) }
 {
     match first {
-        First::Bridge(conf) => bridge_after(alloc, conf, att, netns, given),
+        First::Bridge(conf) => bridge_after(alloc, conf, att.att(), netns, given),
         First::Ptp(conf) => ptp_after(alloc, conf, att, netns, given),
-        First::Macvlan(conf) => macvlan::after(alloc, conf, att, netns, given),
+        First::Macvlan(conf) => macvlan::after(alloc, conf, att.att(), netns, given),
     }
 }
 
 fn first_result(
     alloc: Global,
     first: &First,
-    att: &Att,
+    att: &NamedAtt,
     netns: &Text,
     ipam: &AddResult,
 ) -> Result<AddResult, NoMemory>
@@ -107,7 +107,7 @@ pub fn sets_of(list: &NetList) -> &[RangeSet]
 fn first_plugin_result(
     alloc: Global,
     list: &NetList,
-    att: &Att,
+    att: &NamedAtt,
     netns: &Text,
     given: &[Given],
 ) -> Result<AddResult, NoMemory>
@@ -138,13 +138,17 @@ fn chained_calls(
     }
 }
 
-fn chained_result(alloc: Global, chained: &Chained, prev: &AddResult) -> Result<AddResult, NoMemory>
-    ensures { IfOk result (λ r. r ≡ wanted.chained_result chained.now prev.now) }
+fn chained_result(alloc: Global, chained: &Chained, prev: AddResult) -> Result<AddResult, NoMemory>
+    ensures { IfOk result (λ r. r ≡ wanted.chained_result chained.now prev) }
 {
     match chained {
-        Chained::Portmap(_) => portmap::result(prev),
-        Chained::Firewall(_) => firewall_result(prev),
-        Chained::Tuning(conf) => tuning_result(alloc, conf, prev),
+        Chained::Portmap(_) => Ok(portmap::result(prev)),
+        Chained::Firewall(_) => Ok(firewall_result(prev)),
+        Chained::Tuning(conf) => {
+            let tuned = tuning_result(alloc, conf, &prev);
+            drop(prev);
+            tuned
+        }
     }
 }
 
@@ -167,7 +171,7 @@ fn all_chained_results(
 {
     let mut prev = first;
     for plugin in chained {
-        prev = chained_result(alloc, plugin, &prev)?;
+        prev = chained_result(alloc, plugin, prev)?;
     }
     Ok(prev)
 }
@@ -192,7 +196,7 @@ fn push_chained(
             calls,
             chained_calls(alloc, plugin, att, netns, mappings, &last)?,
         )?;
-        last = chained_result(alloc, plugin, &last)?;
+        last = chained_result(alloc, plugin, last)?;
     }
     Ok(last)
 }
@@ -204,7 +208,7 @@ fn push_chained(
 pub fn result_of_add(
     alloc: Global,
     list: &NetList,
-    att: &Att,
+    att: &NamedAtt,
     netns: &Text,
     addrs: &[Addr],
 ) -> Result<AddResult, NoMemory>
@@ -251,7 +255,7 @@ pub struct Back {
 pub fn back_calls(
     alloc: Global,
     list: &NetList,
-    att: &Att,
+    att: &NamedAtt,
     netns: &Text,
     mappings: Items<PortMapping>,
     addrs: &[Addr],
@@ -268,13 +272,13 @@ pub fn back_calls(
         alloc,
         &mut calls,
         list.chained.as_slice(),
-        att,
+        att.att(),
         netns,
         mappings.as_slice(),
         first,
     )?;
     let cached = added.copy()?;
-    calls.push(cache_put(att, netns, mappings, cached)?)?;
+    calls.push(cache_put(att.att(), netns, mappings, cached)?)?;
     Ok(Back {
         calls: Items::of_vec(calls),
         added,
@@ -287,10 +291,8 @@ fn chained_kinds_reversed(alloc: Global, chained: &[Chained]) -> Result<Vec<Kind
     ensures { IfOk result (λ kinds. kinds.items ≡ wanted.chained_kinds_reversed chained.now) }
 {
     let mut kinds = Vec::with_capacity(alloc, chained.len())?;
-    let mut left = chained.len();
-    while left > 0 {
-        left -= 1;
-        let [kind] = chained_kinds(&chained[left]);
+    for place in (0..chained.len()).rev() {
+        let [kind] = chained_kinds(&chained[place]);
         kinds.push(kind)?;
     }
     Ok(kinds)

@@ -9,8 +9,8 @@ ghost use Rattle.cni_verbs.specs.CommandWords as words;
 use crate::answer::{Cause, WordFaults};
 use cni_addr::{Addr, Duplicate, Items, NoMemory, Text, read_addr};
 use cni_result::{PortMapping, Proto, proto_named};
-use kernel_types::Att;
 use kernel_types::words::is_host_ns;
+use kernel_types::{Att, NamedAtt};
 use net_conf::{Chained, NetList, is_container_id, is_interface_name};
 use pod_file::{Command, RawMapping};
 use std::alloc::Global;
@@ -24,6 +24,13 @@ pub(crate) fn att_of(command: &Command) -> Result<Att, NoMemory>
         container: command.container.copy()?,
         ifname: command.ifname.copy()?,
     })
+}
+
+/// The attachment that the command speaks of, with the names that are derived from it.
+pub(crate) fn named_att_of(alloc: Global, command: &Command) -> Result<NamedAtt, NoMemory>
+    ensures { IfOk result (λ att. att ≡ words.att_of command.now) }
+{
+    NamedAtt::of(alloc, att_of(command)?)
 }
 
 // ---- arguments

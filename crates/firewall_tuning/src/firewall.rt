@@ -3,7 +3,7 @@
 ghost use Rattle.std.specs.Prelude.{◌≡◌, IfOk};
 ghost use Rattle.firewall_tuning.specs.Firewall as plan;
 
-use cni_addr::{Addr, Duplicate, Items, NoMemory, whole};
+use cni_addr::{Addr, Items, NoMemory, whole};
 use cni_result::{AddResult, IpEntry};
 use kernel_types::{Att, Call, Chain, Kind, Rule, Table, Target};
 use plan_words::{EachKeyOnce, ask_all, rule_for_all};
@@ -52,11 +52,11 @@ pub fn firewall_calls(alloc: Global, att: &Att, prev: &AddResult) -> Result<Item
     Ok(Items::of_vec(calls))
 }
 
-/// The result before, unchanged. A copy, linear in its lists.
-pub fn firewall_result(prev: &AddResult) -> Result<AddResult, NoMemory>
-    ensures { IfOk result (λ r. r ≡ prev.now) }
+/// The result before, unchanged. Takes no memory.
+pub fn firewall_result(prev: AddResult) -> AddResult
+    ensures { result ≡ prev }
 {
-    prev.copy()
+    prev
 }
 
 /// The kinds of objects that DEL takes back.

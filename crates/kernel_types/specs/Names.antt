@@ -17,16 +17,25 @@ abbrev pub local_mac : List ℕ → Mac
 local_mac bytes = record { bytes = 0x0a ∷ bytes }
 
 -- the host's end of a veth pair: `veth` and the first eight hex digits of the digest
+abbrev pub host_name_by : List ℕ → List ℕ
+host_name_by digest = codes "veth" ++ encode_lower (take 4 digest)
+
 abbrev pub host_name_of : Att → List ℕ
-host_name_of att = codes "veth" ++ encode_lower (take 4 (digest_of att))
+host_name_of att = host_name_by (digest_of att)
 
 -- the container's end, and a macvlan link: bytes 4 to 8 of the digest
+abbrev pub inner_mac_by : List ℕ → Mac
+inner_mac_by digest = local_mac (take 5 (drop 4 digest))
+
 abbrev pub inner_mac_of : Att → Mac
-inner_mac_of att = local_mac (take 5 (drop 4 (digest_of att)))
+inner_mac_of att = inner_mac_by (digest_of att)
 
 -- the host's end: bytes 9 to 13 of the digest
+abbrev pub host_mac_by : List ℕ → Mac
+host_mac_by digest = local_mac (take 5 (drop 9 digest))
+
 abbrev pub host_mac_of : Att → Mac
-host_mac_of att = local_mac (take 5 (drop 9 (digest_of att)))
+host_mac_of att = host_mac_by (digest_of att)
 
 -- a link that no attachment owns: the first five bytes of its name's digest
 unfoldable pub link_mac_of : List ℕ → Mac

@@ -4,11 +4,13 @@
 
 ghost use Rattle.std.specs.Prelude.{◌≡◌, IfOk};
 ghost use Rattle.kernel_types.specs.Names.{digest_of, host_name_of, link_mac_of, local_mac};
+ghost use Rattle.kernel_types.specs.Names as names;
 
 use crate::object::Att;
-use cni_addr::{Mac, NoMemory, Text};
+use cni_addr::{Duplicate, Mac, NoMemory, Text};
 use sha2::{Digest, Sha256};
 use std::alloc::Global;
+use std::marker::Model;
 
 /// The digest of an attachment by its three names, joined by line feeds. Takes no memory.
 #[tactic(auto, unfolding(crate::specs::Names::digest_of))]
@@ -30,9 +32,39 @@ pub fn host_name_bytes(network: &str, container: &str, ifname: &str) -> [u8; 12]
     ensures { result ≡ host_name_of (record { network = network.now; container = container.now; ifname = ifname.now }) }
 {
     let digest = digest_of(network, container, ifname);
+    host_name_by(&digest)
+}
+
+// ---- of a digest
+
+fn host_name_by(digest: &[u8; 32]) -> [u8; 12]
+    ensures { result ≡ names.host_name_by digest.now }
+{
     let mut name = *b"veth00000000";
     let _ = hex::encode_to_slice(&digest[..4], &mut name[4..]);
     name
+}
+
+fn host_name_text(alloc: Global, digest: &[u8; 32]) -> Result<Text, NoMemory>
+    ensures { IfOk result (λ name. name ≡ names.host_name_by digest.now) }
+{
+    let name = host_name_by(digest);
+    match str::from_utf8(&name) {
+        Ok(text) => Text::of(alloc, text),
+        Err(_) => unreachable!(),
+    }
+}
+
+fn host_mac_by(digest: &[u8; 32]) -> Mac
+    ensures { result ≡ names.host_mac_by digest.now }
+{
+    local_mac([digest[9], digest[10], digest[11], digest[12], digest[13]])
+}
+
+fn inner_mac_by(digest: &[u8; 32]) -> Mac
+    ensures { result ≡ names.inner_mac_by digest.now }
+{
+    local_mac([digest[4], digest[5], digest[6], digest[7], digest[8]])
 }
 
 /// The locally administered address (IEEE 802) with these five bytes behind the first.
@@ -63,31 +95,91 @@ impl Att {
     pub fn host_name(&self, alloc: Global) -> Result<Text, NoMemory>
         ensures { IfOk result (λ name. name ≡ host_name_of self.now) }
     {
-        let name = host_name_bytes(
-            self.network.as_str(),
-            self.container.as_str(),
-            self.ifname.as_str(),
-        );
-        match str::from_utf8(&name) {
-            Ok(text) => Text::of(alloc, text),
-            Err(_) => unreachable!(),
-        }
+        host_name_text(alloc, &self.digest())
     }
 
     /// The hardware address of the host's end.
     pub fn host_mac(&self) -> Mac
         ensures { result ≡ host_mac_of self.now }
     {
-        let digest = self.digest();
-        local_mac([digest[9], digest[10], digest[11], digest[12], digest[13]])
+        host_mac_by(&self.digest())
     }
 
     /// The hardware address of the container's end, and of a macvlan link.
     pub fn inner_mac(&self) -> Mac
         ensures { result ≡ inner_mac_of self.now }
     {
-        let digest = self.digest();
-        local_mac([digest[4], digest[5], digest[6], digest[7], digest[8]])
+        inner_mac_by(&self.digest())
+    }
+}
+
+/// An attachment with what is derived from its digest, which is made once for all of it. Contracts see it as the
+/// attachment.
+#[derive(Drop)]
+pub struct NamedAtt {
+    att: Att,
+    host_name: Text,
+    host_mac: Mac,
+    inner_mac: Mac,
+}
+
+impl Model for NamedAtt {
+    ghost use Rattle.std.specs.Prelude.{◌≡◌};
+    ghost use Rattle.kernel_types.specs.Names.{host_name_of, host_mac_of, inner_mac_of};
+    ghost use Rattle.kernel_types.specs.declared.object.Att.{Att};
+
+    ghost Value = { Att };
+
+    ghost view = { λ n. n.att };
+
+    ghost invariant = { λ n. (n.host_name ≡ host_name_of n.att)
+        × (n.host_mac ≡ host_mac_of n.att)
+        × (n.inner_mac ≡ inner_mac_of n.att) };
+}
+
+impl NamedAtt {
+    ghost use Rattle.kernel_types.specs.Names.{host_name_of, host_mac_of, inner_mac_of};
+
+    /// The attachment with its names.
+    pub fn of(alloc: Global, att: Att) -> Result<NamedAtt, NoMemory>
+        ensures { IfOk result (λ named. named ≡ att) }
+    {
+        let digest = att.digest();
+        let host_name = host_name_text(alloc, &digest)?;
+        Ok(NamedAtt {
+            att,
+            host_name,
+            host_mac: host_mac_by(&digest),
+            inner_mac: inner_mac_by(&digest),
+        })
+    }
+
+    /// The attachment alone.
+    pub fn att(&self) -> &Att
+        ensures { result.now ≡ self.now }
+    {
+        &self.att
+    }
+
+    /// As [`Att::host_name`]. The text is shared.
+    pub fn host_name(&self) -> Result<Text, NoMemory>
+        ensures { IfOk result (λ name. name ≡ host_name_of self.now) }
+    {
+        self.host_name.copy()
+    }
+
+    /// As [`Att::host_mac`].
+    pub fn host_mac(&self) -> Mac
+        ensures { result ≡ host_mac_of self.now }
+    {
+        self.host_mac
+    }
+
+    /// As [`Att::inner_mac`].
+    pub fn inner_mac(&self) -> Mac
+        ensures { result ≡ inner_mac_of self.now }
+    {
+        self.inner_mac
     }
 }
 

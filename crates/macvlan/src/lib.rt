@@ -17,7 +17,7 @@ ghost use Rattle.macvlan.specs.Macvlan as plan;
 use cni_addr::{Duplicate, Items, NoMemory, Text};
 use cni_result::AddResult;
 use host_local::{interface_kinds, routes_of};
-use kernel_types::{Att, Call, Given, Kind};
+use kernel_types::{Att, Call, Given, Kind, NamedAtt};
 use net_conf::MacvlanConf;
 use plan_words::{addresses_on, ask_all, completed, inner_interface, macvlan_link, routes_on};
 use std::alloc::Global;
@@ -26,7 +26,7 @@ use std::alloc::Global;
 pub fn before(
     alloc: Global,
     conf: &MacvlanConf,
-    att: &Att,
+    att: &NamedAtt,
     netns: &Text,
 ) -> Result<Items<Call>, NoMemory>
     ensures { IfOk result (λ calls. calls ≡ plan.macvlan_calls_before conf.now att.now netns.now) }
@@ -60,7 +60,7 @@ pub fn after(
 pub fn result(
     alloc: Global,
     conf: &MacvlanConf,
-    att: &Att,
+    att: &NamedAtt,
     netns: &Text,
     ipam: &AddResult,
 ) -> Result<AddResult, NoMemory>

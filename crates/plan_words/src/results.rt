@@ -5,12 +5,12 @@ ghost use Rattle.plan_words.specs.Results as results;
 
 use cni_addr::{Duplicate, Items, NoMemory, Text};
 use cni_result::{AddResult, Dns, Interface, IpEntry, RouteEntry, Version, mtu_since_1_1};
-use kernel_types::Att;
+use kernel_types::NamedAtt;
 use std::alloc::Global;
 
 /// The container's end, or a macvlan link.
 pub fn inner_interface(
-    att: &Att,
+    att: &NamedAtt,
     netns: &Text,
     mtu: u32,
     version: Version,
@@ -18,7 +18,7 @@ pub fn inner_interface(
     ensures { IfOk result (λ i. i ≡ results.inner_interface att.now netns.now mtu version) }
 {
     Ok(Interface {
-        name: att.ifname.copy()?,
+        name: att.att().ifname.copy()?,
         mac: Some(att.inner_mac()),
         mtu: mtu_since_1_1(version, Some(mtu)),
         sandbox: Some(netns.copy()?),

@@ -1,4 +1,5 @@
-//! The objects of an attachment, as the plugins make them. What makes one object takes the time of a digest at most.
+//! The objects of an attachment, as the plugins make them. No call makes a digest: what needs a derived name takes the
+//! attachment with its names.
 
 ghost use Rattle.std.specs.Prelude.{◌≡◌, ◌++◌, option_map, flat_map, IfOk, OnErr, OnOk};
 ghost use Rattle.cni_addr.specs.declared.address.Family.TheVariants.{V4};
@@ -12,7 +13,8 @@ use crate::families::{first_given, has_family};
 use cni_addr::{Addr, Cidr, Duplicate, Family, MacvlanMode, NoMemory, Text, whole};
 use cni_result::RouteEntry;
 use kernel_types::{
-    AddrObj, Att, Call, Chain, Given, Link, LinkKey, LinkKind, RouteObj, Rule, Table, Tag, Target,
+    AddrObj, Att, Call, Chain, Given, Link, LinkKey, LinkKind, NamedAtt, RouteObj, Rule, Table,
+    Tag, Target,
 };
 use std::alloc::Global;
 
@@ -49,12 +51,12 @@ fn multicast(family: Family) -> Cidr
 // ---- links
 
 /// Where the host's end of the attachment's veth pair is.
-pub fn host_key(alloc: Global, att: &Att) -> Result<LinkKey, NoMemory>
+pub fn host_key(alloc: Global, att: &NamedAtt) -> Result<LinkKey, NoMemory>
     ensures { IfOk result (λ key. key ≡ shapes.host_key att.now) }
 {
     Ok(LinkKey {
         ns: Text::of(alloc, "")?,
-        name: att.host_name(alloc)?,
+        name: att.host_name()?,
     })
 }
 
@@ -71,7 +73,7 @@ pub fn inner_key(att: &Att, netns: &Text) -> Result<LinkKey, NoMemory>
 /// The host's end of the attachment's veth pair, under this master.
 pub fn host_end(
     alloc: Global,
-    att: &Att,
+    att: &NamedAtt,
     netns: &Text,
     master: Option<Text>,
     mtu: u32,
@@ -80,21 +82,21 @@ pub fn host_end(
     ensures { IfOk result (λ link. link ≡ shapes.host_end att.now netns.now master mtu hairpin) }
 {
     let key = host_key(alloc, att)?;
-    let tag = Tag::Own(att.copy()?);
+    let tag = Tag::Own(att.att().copy()?);
     Ok(Link {
         master,
-        peer: Some(inner_key(att, netns)?),
+        peer: Some(inner_key(att.att(), netns)?),
         hairpin,
         ..Link::new(key, LinkKind::Veth, att.host_mac(), mtu, tag)
     })
 }
 
 /// The container's end of the attachment's veth pair.
-pub fn inner_end(alloc: Global, att: &Att, netns: &Text, mtu: u32) -> Result<Link, NoMemory>
+pub fn inner_end(alloc: Global, att: &NamedAtt, netns: &Text, mtu: u32) -> Result<Link, NoMemory>
     ensures { IfOk result (λ link. link ≡ shapes.inner_end att.now netns.now mtu) }
 {
-    let key = inner_key(att, netns)?;
-    let tag = Tag::Own(att.copy()?);
+    let key = inner_key(att.att(), netns)?;
+    let tag = Tag::Own(att.att().copy()?);
     Ok(Link {
         peer: Some(host_key(alloc, att)?),
         ..Link::new(key, LinkKind::Veth, att.inner_mac(), mtu, tag)
@@ -103,7 +105,7 @@ pub fn inner_end(alloc: Global, att: &Att, netns: &Text, mtu: u32) -> Result<Lin
 
 /// The attachment's macvlan link over a master of the host.
 pub fn macvlan_link(
-    att: &Att,
+    att: &NamedAtt,
     netns: &Text,
     master: &Text,
     mode: MacvlanMode,
@@ -111,8 +113,8 @@ pub fn macvlan_link(
 ) -> Result<Link, NoMemory>
     ensures { IfOk result (λ link. link ≡ shapes.macvlan_link att.now netns.now master.now mode mtu) }
 {
-    let key = inner_key(att, netns)?;
-    let tag = Tag::Own(att.copy()?);
+    let key = inner_key(att.att(), netns)?;
+    let tag = Tag::Own(att.att().copy()?);
     Ok(Link {
         master: Some(master.copy()?),
         ..Link::new(key, LinkKind::Macvlan(mode), att.inner_mac(), mtu, tag)

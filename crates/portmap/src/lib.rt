@@ -17,7 +17,7 @@ ghost use Rattle.kernel_types.specs.Equal.{rule_eq};
 ghost use Rattle.cni_addr.specs.Lists.{push_unless_there};
 ghost use Rattle.portmap.specs.Portmap as plan;
 
-use cni_addr::{Addr, Cidr, Duplicate, Family, Items, NoMemory, network_of, whole};
+use cni_addr::{Addr, Cidr, Family, Items, NoMemory, network_of, whole};
 use cni_result::{AddResult, IpEntry, PortMapping};
 use kernel_types::{Att, Call, Chain, Kind, Rule, Table, Target};
 use net_conf::PortmapConf;
@@ -199,11 +199,11 @@ pub fn calls(
     Ok(Items::of_vec(all))
 }
 
-/// The result before, unchanged. A copy, linear in its lists.
-pub fn result(prev: &AddResult) -> Result<AddResult, NoMemory>
-    ensures { IfOk result (λ r. r ≡ prev.now) }
+/// The result before, unchanged. Takes no memory.
+pub fn result(prev: AddResult) -> AddResult
+    ensures { result ≡ prev }
 {
-    prev.copy()
+    prev
 }
 
 /// The kinds of objects that DEL takes back.

@@ -7,7 +7,7 @@ use Rattle.std.specs.List.{list_all}
 use Rattle.std.specs.Str.{IsAscii}
 use Rattle.hex.proofs.HexLemmas.{IsAscii-encode_with}
 use Rattle.hex.specs.Hex.{lower_digits}
-use Rattle.kernel_types.proofs.object.Att.host_name.Goals as goal
+use Rattle.kernel_types.proofs.names.host_name_text.Goals as goal
 
 IsAscii-from_test : (bs : List ℕ) → list_all (λ b. nat_lt b 128) bs ≡ true → IsAscii bs
 IsAscii-from_test bs test =
@@ -17,4 +17,4 @@ IsAscii-from_test bs test =
 pub unreachable-requires : goal.unreachable-requires
 unreachable-requires c =
     let digits = IsAscii-encode_with lower_digits _ (IsAscii-from_test lower_digits refl) in
-    c.in-Err.ensures.cases.0 (rw c.host_name_bytes-name.ensures (IsUtf8-from_ascii _ (IsAscii-append (codes "veth") _ (IsAscii-from_test (codes "veth") refl) digits)))
+    c.in-Err.ensures.cases.0 (rw c.host_name_by-name.ensures (IsUtf8-from_ascii _ (IsAscii-append (codes "veth") _ (IsAscii-from_test (codes "veth") refl) digits)))
