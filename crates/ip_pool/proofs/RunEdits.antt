@@ -283,6 +283,12 @@ without_addr-size a (r ∷ rs) runs = size_step (ends_before 0 a r) (is_in_run a
         let none = not_in_later a r rs later ends in
         rw (here, none) (omega arith)
 
+-- ---- an address that isn't there leaves the runs as they are
+
+pub without_addr-absent : (a : Addr) (rs : List Run) → is_in_runs a rs ≡ false → without_addr a rs ≡ rs
+without_addr-absent a [] absent = refl
+without_addr-absent a (r ∷ rs) absent = grind (arith, without_addr-absent a rs)
+
 -- ---- that they are runs
 
 part-before : (t r p : Run) → is_before t r ≡ true → family_eq p.last.family r.last.family ≡ true → r.first ≤ p.first → is_before t p ≡ true

@@ -85,6 +85,7 @@ impl AddrRuns {
     /// may split a run: a binary search, and a move of the later runs.
     pub fn remove(&mut self, addr: &Addr) -> bool
         ensures found { result ≡ is_taken self.old.addresses addr.now }
+        ensures absent { result ≡ false → self.new ≡ self.old }
         ensures members { (a : Addr) → is_taken self.new.addresses a
             ≡ (is_taken self.old.addresses a && not (addr_eq a addr.now)) }
         ensures ascends { ascends self.new.addresses ≡ true }

@@ -1,10 +1,10 @@
-//! The modelled kernel: the trait, and the kernel over plain lists.
+//! The modelled kernel: the trait, the kernel over plain lists, and one for tests that refuses memory.
 //!
 //! What it promises above: a [`Kernel`] means a sound host; a call that may be made gives the host and the reply of
 //! `apply` (`kernel_types/specs/Apply.antt`), want of memory leaves the host as it was, nine calls and the removal of a
 //! namespace never want memory, and no kernel replies with a fault. [`ListKernel`] keeps this contract over nine
-//! vectors, which it may scan: it is the plain definition made to run. The types that a caller of a kernel names are
-//! handed on from `kernel_types`.
+//! vectors, which it may scan: it is the plain definition made to run. [`RefusingKernel`] keeps it over any kernel. The
+//! types that a caller of a kernel names are handed on from `kernel_types`.
 //!
 //! ```text
 //! let mut kernel = ListKernel::of_host(opening);
@@ -18,6 +18,7 @@ pub mod kernel;
 pub mod list_kernel;
 mod lists;
 mod owners;
+pub mod refusing;
 mod words;
 
 pub use kernel::Kernel;
@@ -26,3 +27,4 @@ pub use kernel_types::{
     LinkKind, NsObj, Object, Probe, Reply, RouteObj, Rule, Setting, Table, Tag, Target, link_mac,
 };
 pub use list_kernel::ListKernel;
+pub use refusing::RefusingKernel;

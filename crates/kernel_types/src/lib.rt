@@ -34,12 +34,13 @@ pub mod names;
 pub mod object;
 pub mod opening;
 pub mod rule;
+pub mod shared;
 pub mod texts;
 pub mod words;
 
 pub use call::{Call, Change, Given, Kind, Object, Probe, Reply};
 pub use link_values::{LinkValues, set_links};
-pub use names::{host_name_bytes, link_mac};
+pub use names::{NamedAtt, host_name_bytes, link_mac};
 pub use object::{
     AddrObj, Att, CachedObj, Host, Last, Lease, Link, LinkKey, LinkKind, NsObj, RouteObj, Setting,
     Tag,

@@ -49,7 +49,8 @@ impl Link {
         is_at(key.ns.as_str(), key.name.as_str(), self) && self.tag.is_own(att)
     }
 
-    fn set_values(&mut self, values: LinkValues)
+    /// Gives the link the values.
+    pub fn set_values(&mut self, values: LinkValues)
         ensures { self.new ≡ with_values values.mac values.mtu values.tx_qlen values.promisc values.allmulti self.old }
     {
         self.mac = values.mac.unwrap_or(self.mac);

@@ -1,15 +1,16 @@
-//! What the crates above ask of single objects: their place, kind, owner and key; the last address of a pool; and
-//! whether a call may be refused memory. None takes memory.
+//! What the crates above ask of single objects: their place, kind, owner and key; whether a link goes with another or
+//! with a namespace; the last address of a pool; and whether a call may be refused memory. None takes memory.
 
 ghost use Rattle.std.specs.Prelude.{◌≡◌, find};
 ghost use Rattle.std.specs.Option.{option_copied};
+ghost use Rattle.kernel_types.specs.Apply.Calls.{goes_with, goes_with_ns, has_peer_in};
 ghost use Rattle.kernel_types.specs.Keys.{is_same_addr, is_same_route, is_same_setting};
 ghost use Rattle.kernel_types.specs.Replies.{needs_no_memory};
 ghost use Rattle.kernel_types.specs.Words.{is_at, is_bridge, is_host_ns, is_macvlan, is_owned, is_peer_at, is_veth, is_of_pool, last_in};
 
 use crate::call::Call;
 use crate::object::{AddrObj, Last, Link, LinkKey, LinkKind, RouteObj, Setting, Tag};
-use cni_addr::Addr;
+use cni_addr::{Addr, Text};
 
 /// Whether a namespace of this name is the host's own, whose name is empty.
 pub fn is_host_ns(ns: &str) -> bool
@@ -32,6 +33,31 @@ pub fn is_peer_at(ns: &str, name: &str, peer: &Option<LinkKey>) -> bool
     match peer {
         Some(key) => key.ns.as_str() == ns && key.name.as_str() == name,
         None => false,
+    }
+}
+
+fn has_peer_in(name: &Text, peer: &Option<LinkKey>) -> bool
+    ensures { result ≡ has_peer_in name.now peer.now }
+{
+    match peer {
+        Some(key) => key.ns == *name,
+        None => false,
+    }
+}
+
+impl Link {
+    /// Whether it stands at this place, or its peer does: whether it goes when the link there does.
+    pub fn goes_with(&self, ns: &str, name: &str) -> bool
+        ensures { result ≡ goes_with ns.now name.now self.now }
+    {
+        is_at(ns, name, self) || is_peer_at(ns, name, &self.peer)
+    }
+
+    /// Whether it is in the namespace of this name, or its peer is: whether it goes when the namespace does.
+    pub fn goes_with_ns(&self, name: &Text) -> bool
+        ensures { result ≡ goes_with_ns name.now self.now }
+    {
+        self.ns == *name || has_peer_in(name, &self.peer)
     }
 }
 

@@ -31,7 +31,11 @@ pub mod laws;
 mod lines;
 mod plan;
 mod refusals;
+#[cfg(test)]
+mod refused_tests;
 mod report;
+#[cfg(test)]
+mod round_tests;
 mod rounds;
 mod settle;
 #[cfg(test)]

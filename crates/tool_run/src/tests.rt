@@ -1,6 +1,7 @@
 //! Two ADDs of one round, stepped in turn by hand; and the words, the files and the sink of the other tests.
 
 ghost use Rattle.std.specs.Prelude.{◌≤◌, IfOk, length};
+ghost use Rattle.pod_workers.specs.Plans.{IsWellFormed};
 ghost use Rattle.tool_words.specs.Command.{most_lists};
 
 use crate::kernel::{FromHost, NodeKernel, begin};
@@ -10,14 +11,14 @@ use cni_io::{MemFiles, MemSink};
 use cni_verbs::Answer;
 use kernel_model::Kernel;
 use kernel_text::reply_text;
-use pod_workers::{Book, Entry};
+use pod_workers::{Book, Entry, Plan};
 use std::alloc::Global;
 use std::test::Fail;
 use tool_words::{Flags, Source, Words};
 
-const PODS: &str = "pods.json";
+pub(crate) const PODS: &str = "pods.json";
 
-const LIST: &str =
+pub(crate) const LIST: &str =
     "{\"cniVersion\":\"1.1.0\",\"name\":\"pods\",\"plugins\":[{\"type\":\"bridge\",\"ipam\":{\"type\":\"host-local\",\"subnet\":\"10.88.0.0/16\"}}]}";
 
 pub(crate) const ONE: &str = "{\"opening\":{\"namespaces\":[\"/ns/a\"]},\"rounds\":[[\
@@ -32,7 +33,7 @@ const TOGETHER: &str = "{\"opening\":{\"namespaces\":[\"/ns/a\"]},\"rounds\":[[\
 {\"verb\":\"ADD\",\"network\":\"pods\",\"container\":\"c2\",\"netns\":\"/ns/a\"}]]}";
 
 /// Stores a file.
-fn add(alloc: Global, files: &mut MemFiles, name: &str, text: &str) -> Result<(), Fail> {
+pub(crate) fn add(alloc: Global, files: &mut MemFiles, name: &str, text: &str) -> Result<(), Fail> {
     let mut bytes = Vec::new(alloc);
     bytes.extend_from_slice(text.as_bytes())?;
     let Ok(name) = Text::of(alloc, name) else {
@@ -44,12 +45,17 @@ fn add(alloc: Global, files: &mut MemFiles, name: &str, text: &str) -> Result<()
     }
 }
 
-/// The files of a run: these pods and the list.
-pub(crate) fn files_of(alloc: Global, pods: &str) -> Result<MemFiles, Fail> {
+/// The files of a run: these pods and this list.
+pub(crate) fn files_with(alloc: Global, list: &str, pods: &str) -> Result<MemFiles, Fail> {
     let mut files = MemFiles::new(alloc, Vec::new(alloc));
     add(alloc, &mut files, PODS, pods)?;
-    add(alloc, &mut files, "net.json", LIST)?;
+    add(alloc, &mut files, "net.json", list)?;
     Ok(files)
+}
+
+/// The files of a run: these pods and the list.
+pub(crate) fn files_of(alloc: Global, pods: &str) -> Result<MemFiles, Fail> {
+    files_with(alloc, LIST, pods)
 }
 
 /// The words of a run.
@@ -86,14 +92,22 @@ fn words(alloc: Global) -> Result<Words, NoMemory>
     })
 }
 
-/// The book of these pods as it is begun.
-fn book_of<K: FromHost + Drop>(alloc: Global, pods: &str) -> Result<Book<K>, Fail> {
-    let mut files = files_of(alloc, pods)?;
+/// The plan of these pods and this list.
+pub(crate) fn plan_of(alloc: Global, list: &str, pods: &str) -> Result<Plan, Fail>
+    ensures { IfOk result IsWellFormed }
+{
+    let mut files = files_with(alloc, list, pods)?;
     let words = words(alloc)?;
     match read_plan(alloc, &mut files, &words, PODS) {
-        Ok(plan) => Ok(begin(alloc, plan)?),
+        Ok(plan) => Ok(plan),
         Err(_) => Err("the files make no plan".into()),
     }
+}
+
+/// The book of these pods as it is begun.
+fn book_of<K: FromHost + Drop>(alloc: Global, pods: &str) -> Result<Book<K>, Fail> {
+    let plan = plan_of(alloc, LIST, pods)?;
+    Ok(begin(alloc, plan)?)
 }
 
 /// A step of the first command, then one of the second, and so on, until neither may step.

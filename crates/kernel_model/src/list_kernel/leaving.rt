@@ -3,14 +3,14 @@
 ghost use Rattle.std.specs.Prelude.{◌≡◌, ◌&&◌, not, filter, find, Some};
 ghost use Rattle.std.specs.List.{list_any};
 ghost use Rattle.kernel_types.specs.Words.{is_own};
-ghost use Rattle.kernel_types.specs.Apply.Calls.{goes_with, has_peer_in, without_links, link_del_of};
+ghost use Rattle.kernel_types.specs.Apply.Calls.{goes_with, without_links, link_del_of};
 ghost use Rattle.kernel_types.specs.declared.object.Link.{Link};
 
 use super::HostLists;
 use crate::lists::{find_own, take_own};
 use cni_addr::Text;
-use kernel_types::words::{is_at, is_peer_at};
-use kernel_types::{AddrObj, Att, Link, LinkKey, Reply, RouteObj};
+use kernel_types::words::is_at;
+use kernel_types::{AddrObj, Att, Link, Reply, RouteObj};
 
 /// A test of which links leave.
 pub(super) trait Leaving {
@@ -36,8 +36,7 @@ impl Leaving for AtPlace<'_> {
     ghost leaving = { λ place. goes_with place.ns.now place.name.now };
 
     fn is_leaving(&self, link: &Link) -> bool {
-        is_at(self.ns.as_str(), self.name.as_str(), link)
-            || is_peer_at(self.ns.as_str(), self.name.as_str(), &link.peer)
+        link.goes_with(self.ns.as_str(), self.name.as_str())
     }
 }
 
@@ -53,7 +52,7 @@ impl Leaving for InNamespace<'_> {
     ghost leaving = { λ ns. goes_with_ns ns.name.now };
 
     fn is_leaving(&self, link: &Link) -> bool {
-        link.ns == *self.name || has_peer_in(self.name, &link.peer)
+        link.goes_with_ns(self.name)
     }
 }
 
@@ -85,15 +84,6 @@ impl OnLink for RouteObj {
 
     fn is_on(&self, link: &Link) -> bool {
         is_at(self.ns.as_str(), self.link.as_str(), link)
-    }
-}
-
-fn has_peer_in(name: &Text, peer: &Option<LinkKey>) -> bool
-    ensures { result ≡ has_peer_in name.now peer.now }
-{
-    match peer {
-        Some(key) => key.ns == *name,
-        None => false,
     }
 }
 

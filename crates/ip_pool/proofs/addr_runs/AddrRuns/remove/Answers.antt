@@ -7,7 +7,7 @@ use Rattle.ip_pool.specs.NextAddress.{is_taken}
 use Rattle.ip_pool.specs.declared.runs.Run.{Run}
 use Rattle.ip_pool.specs.Runs.{addresses_of, are_runs, is_in_runs, size_of}
 use Rattle.ip_pool.specs.RunEdits.{without_addr}
-use Rattle.ip_pool.proofs.RunEdits.{without_addr-members, without_addr-size, without_addr-runs}
+use Rattle.ip_pool.proofs.RunEdits.{without_addr-absent, without_addr-members, without_addr-size, without_addr-runs}
 use Rattle.ip_pool.proofs.RunMembers.{taken-runs, addresses-ascend}
 use Rattle.ip_pool.proofs.addr_runs.AddrRuns.remove.Goals as goal
 
@@ -92,3 +92,9 @@ returns-else-found-clause-members c =
 pub returns-else-found-clause-ascends : goal.returns-else-found-clause-ascends
 returns-else-found-clause-ascends c =
     left-ascends c.self.inside.runs.items c.remove_addr-found.new.runs.items c.args.addr.now c.self.invariant.runs c.remove_addr-found.ensures.items
+
+pub returns-else-found-clause-absent : goal.returns-else-found-clause-absent
+returns-else-found-clause-absent c =
+    let absent : is_in_runs c.args.addr.now c.self.inside.runs.items ≡ false = sym c.remove_addr-found.ensures.found ∙ c.if-found.false in
+    let same = c.remove_addr-found.ensures.items ∙ without_addr-absent c.args.addr.now c.self.inside.runs.items absent in
+    λ gone. rw (same, c.remove_addr-found.ensures.capacity) c.self.view_is
