@@ -5,7 +5,6 @@ use Rattle.cni_addr.specs.declared.address.Addr.{Addr}
 use Rattle.cni_addr.specs.declared.range.RangeSet.{RangeSet}
 use Rattle.cni_result.specs.declared.cached.Cached.{Cached}
 use Rattle.cni_result.specs.declared.version.Version.{Version}
-use Rattle.cni_result.specs.declared.version.Version.TheVariants.{V1_0, V1_1}
 use Rattle.net_conf.specs.declared.list.NetList.{NetList}
 use Rattle.pod_file.specs.declared.command.Command.{Command}
 use Rattle.pod_file.specs.declared.command.Verb.{Verb}
@@ -17,6 +16,7 @@ use Rattle.kernel_types.specs.declared.call.Reply.TheVariants.{Done, Leased, Gon
 use Rattle.cni_verbs.specs.CommandWords.{add_refusal, del_refusal}
 use Rattle.cni_verbs.specs.Questions.{check_questions, status_questions}
 use Rattle.cni_verbs.proofs.AfterReplies.{after_replies-keeps}
+use Rattle.cni_verbs.proofs.EarlyEndings.{early_ending-cases, old_ending-cases}
 use Rattle.cni_verbs.specs.Script.{State, AtBegin, BeforeLeases, Leasing, AfterLeases, ReadingCache, Deleting, FindingEntry, Asking, Changing, Collecting, Over, before_of, after_leases, leasing, before_leases, deleting, asking, gc_of, faulted, at_begin, at_call_before, at_lease, at_call_after, at_cache, at_deletion, checking, at_entry, at_question, changed, advance, unless_refused, unless_ended, old_ending, early_ending, start_of, start_state, state_from, state_after}
 use Rattle.cni_verbs.specs.Sweep.{Work, start_work}
 use Rattle.cni_verbs.specs.Wanted.{kinds_of}
@@ -126,13 +126,10 @@ by-unless P None s refused h = h refl
 by-unless P (Some cause) s refused h = refused cause
 
 pub by-unless_old : (P : State → Type 0) (v : Version) (s : State) → OfRefusals P → P s → P (unless_ended (old_ending v) s)
-by-unless_old P V1_0 s refused h = refused _
-by-unless_old P V1_1 s refused h = h
+by-unless_old P v s refused h = old_ending-cases v (λ early. P (unless_ended early s)) (λ old. refused _) (λ new. h)
 
 pub by-unless_early : (P : State → Type 0) (v : Version) (b : Bool) (s : State) → OfRefusals P → P (Over (Skipped skips.Gc) []) → P s → P (unless_ended (early_ending v b) s)
-by-unless_early P V1_0 b s refused skipped h = refused _
-by-unless_early P V1_1 true s refused skipped h = skipped
-by-unless_early P V1_1 false s refused skipped h = h
+by-unless_early P v b s refused skipped h = early_ending-cases v b (λ early. P (unless_ended early s)) (λ old. refused _) (λ new disabled. skipped) (λ new enabled. h)
 
 -- a verb that the list may disable
 pub by-either : (P : State → Type 0) (b : Bool) (s t : State) → P s → P t → P (if b then s else t)

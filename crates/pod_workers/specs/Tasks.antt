@@ -1,9 +1,11 @@
 -- What the task of a command stands for, whichever crate's run carries it. It serves proofs of private functions.
-use Rattle.std.specs.Prelude.{◌≡◌, true, List, is_some}
+use Rattle.std.specs.Prelude.{◌≡◌, ℕ, ◌==◌, Bool, true, List, is_some}
+use Rattle.std.specs.List.{list_any}
 use Rattle.cni_verbs.specs.Progress.{RunView, is_gc}
 use Rattle.net_conf.specs.declared.list.NetList.{NetList}
 use Rattle.pod_file.specs.declared.command.Command.{Command}
 use Rattle.pod_workers.specs.Plans.{list_in}
+use Rattle.pod_workers.specs.World.{is_faulty}
 use Rattle.pod_workers.specs.declared.task.Carried.{Carried}
 use Rattle.pod_workers.specs.declared.task.Carried.TheVariants.{Verb, Collection}
 
@@ -15,3 +17,11 @@ view_of (Collection run) = record { progress = run; prepared = true }
 -- a collection has the list of its network
 abbrev pub IsListed : List NetList → Command → Type 0
 IsListed lists c = is_gc c.verb ≡ true → is_some (list_in lists c) ≡ true
+
+-- one of these numbers of calls is the one that was made
+abbrev pub are_after : ℕ → List ℕ → Bool
+are_after made before = list_any (λ n. made == n) before
+
+-- the numbers say how many calls stand before each fault of the command
+abbrev pub AreFaultsOf : List ℕ → Command → Type 0
+AreFaultsOf before c = (made : ℕ) → are_after made before ≡ is_faulty c made

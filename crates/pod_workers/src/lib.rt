@@ -18,6 +18,7 @@
 #![tactic(auto)]
 
 pub mod book;
+mod faults;
 mod index;
 mod join;
 pub mod laws;

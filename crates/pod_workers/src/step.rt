@@ -1,6 +1,6 @@
 //! One step of one command: its task, begun where it isn't, tells what comes next, and a call is made and entered.
 
-ghost use Rattle.std.specs.Prelude.{◌≡◌, ◌+◌, ◌<◌, ◌≤◌, ◌==◌, ◌^◌, ◌⊎◌, [], ◌∷◌, ◌++◌, ◌||◌, IfOk, IsTrue, OnErr, OnOk, length, true, false};
+ghost use Rattle.std.specs.Prelude.{◌≡◌, ◌+◌, ◌<◌, ◌≤◌, ◌^◌, ◌⊎◌, [], ◌∷◌, ◌++◌, ◌||◌, IfOk, IsTrue, OnErr, OnOk, length, true, false};
 ghost use Rattle.cni_verbs.specs.Progress.{advanced};
 ghost use Rattle.cni_verbs.specs.Replies.{host_after, reply_to};
 ghost use Rattle.cni_verbs.specs.Script.{IsOpen};
@@ -8,7 +8,7 @@ ghost use Rattle.kernel_types.specs.Allowed.{IsAllowed};
 ghost use Rattle.kernel_types.specs.Replies.{holds_text_or_list, is_fault};
 ghost use Rattle.pod_workers.specs.Slots.{IsCountable, MayStepTask, StepsTask, begun_by, next_in};
 ghost use Rattle.pod_workers.specs.Tasks.{IsListed};
-ghost use Rattle.pod_workers.specs.World.{IsUpToStop, after_entry, entry_by, is_faulty, is_stop};
+ghost use Rattle.pod_workers.specs.World.{IsUpToStop, after_entry, entry_by, is_stop};
 
 use crate::join::list_in;
 use crate::plan::{Entry, Next};
@@ -121,7 +121,7 @@ fn next_step(task: &mut Task, command: &Command, cut: bool) -> Result<Next, NoMe
         match task.next()? {
             Some(call) => Ok(Next::Call {
                 call,
-                faulty: is_faulty(command, made),
+                faulty: task.fails_next(),
             }),
             None => unreachable!(),
         }
@@ -138,22 +138,6 @@ fn is_stopped(stop: Option<u32>, cut: bool, made: u64) -> bool
         None => cut,
         Some(most) => most as u64 <= made || cut,
     }
-}
-
-fn is_faulty(command: &Command, made: u64) -> bool
-    ensures { result ≡ is_faulty command.now made }
-{
-    command
-        .faults
-        .as_slice()
-        .iter()
-        .any(|fault| is_after(*fault, made))
-}
-
-fn is_after(number: u32, made: u64) -> bool
-    ensures { result ≡ (number == made + 1) }
-{
-    number > 0 && made == (number - 1) as u64
 }
 
 /// Makes a call, or meets the listed fault. The task takes the reply, and call and reply are entered.

@@ -6,8 +6,10 @@ ghost use Rattle.std.specs.Option.{option_copied};
 ghost use Rattle.cni_verbs.specs.Progress.{advanced, answer_at, is_gc, progress};
 ghost use Rattle.cni_verbs.specs.Script.{IsOpen, next_call};
 ghost use Rattle.kernel_types.specs.Replies.{is_fault};
-ghost use Rattle.pod_workers.specs.Tasks.{view_of};
+ghost use Rattle.pod_workers.specs.Tasks.{AreFaultsOf, view_of};
+ghost use Rattle.pod_workers.specs.World.{is_faulty};
 
+use crate::faults::Faults;
 use cni_addr::NoMemory;
 use cni_verbs::{Answer, Run};
 use gc_sweep::GcRun;
@@ -24,53 +26,73 @@ enum Carried {
     Collection(GcRun),
 }
 
+/// A run, and which of its calls are to fail.
+#[derive(Drop)]
+struct Begun {
+    run: Carried,
+    faults: Faults,
+}
+
 /// The run of a command, of whichever verb: how far its script has come, and whether it is prepared for what is next.
 #[derive(Drop)]
 pub struct Task {
     // Boxed, since a book has a place for the task of each command and a step hands it from one function to the next.
-    run: Box<Carried>,
+    begun: Box<Begun>,
 }
 
 impl Model for Task {
     ghost use Rattle.cni_verbs.specs.Progress.{RunView};
-    ghost use Rattle.pod_workers.specs.Tasks.{view_of};
+    ghost use Rattle.pod_workers.specs.Tasks.{AreFaultsOf, view_of};
 
     ghost Value = { RunView };
 
-    ghost view = { λ t. view_of t.run.value };
+    ghost view = { λ t. view_of t.begun.value.run };
+
+    ghost invariant = { λ t. AreFaultsOf t.begun.value.faults (view_of t.begun.value.run).progress.command };
 }
 
 impl Task {
+    // What is done once a run is kept out of the step, which would clear a stack for it each time.
+
     /// The run of a command before its first call. A collection has a list.
+    #[inline(never)]
     pub fn start(alloc: Global, list: Option<&NetList>, command: &Command) -> Result<Task, NoMemory>
         requires { is_gc command.now.verb ≡ true → is_some list ≡ true }
         ensures { IfOk result (λ task. task.progress ≡ progress (option_copied list.entry) command.now []) }
     {
+        let faults = Faults::of(alloc, command.faults.as_slice())?;
         if is_gc(command.verb) {
             match list {
-                Some(list) => Task::of_collection(alloc, list, command),
+                Some(list) => Task::of_collection(alloc, list, command, faults),
                 None => unreachable!(),
             }
         } else {
             let run = Run::start(alloc, list, command)?;
-            Task::of(alloc, Carried::Verb(run))
+            Task::of(alloc, Carried::Verb(run), faults)
         }
     }
 
-    fn of(alloc: Global, run: Carried) -> Result<Task, NoMemory>
+    fn of(alloc: Global, run: Carried, faults: Faults) -> Result<Task, NoMemory>
+        requires { AreFaultsOf faults (view_of run).progress.command }
         ensures { IfOk result (λ task. task ≡ view_of run) }
     {
         Ok(Task {
-            run: Box::new(alloc, run)?,
+            begun: Box::new(alloc, Begun { run, faults })?,
         })
     }
 
-    fn of_collection(alloc: Global, list: &NetList, command: &Command) -> Result<Task, NoMemory>
-        requires { is_gc command.now.verb ≡ true }
+    fn of_collection(
+        alloc: Global,
+        list: &NetList,
+        command: &Command,
+        faults: Faults,
+    ) -> Result<Task, NoMemory>
+        requires verb { is_gc command.now.verb ≡ true }
+        requires faults { AreFaultsOf faults command.now }
         ensures { IfOk result (λ task. task.progress ≡ progress (Some list.now) command.now []) }
     {
         let run = GcRun::start(alloc, list, command)?;
-        Task::of(alloc, Carried::Collection(run))
+        Task::of(alloc, Carried::Collection(run), faults)
     }
 
     /// Makes what the next call is looked up in. How far the run has come stays the same, whether memory lacks or not.
@@ -78,7 +100,7 @@ impl Task {
         ensures same { self.new.progress ≡ self.old.progress }
         ensures ready { OnOk result (self.new.prepared ≡ true) }
     {
-        match &mut *self.run {
+        match &mut self.begun.run {
             Carried::Verb(run) => run.prepare(),
             Carried::Collection(_) => Ok(()),
         }
@@ -88,17 +110,24 @@ impl Task {
     pub fn made(&self) -> u64
         ensures { result ≡ self.now.progress.made }
     {
-        match &*self.run {
+        match &self.begun.run {
             Carried::Verb(run) => run.made(),
             Carried::Collection(run) => run.made(),
         }
+    }
+
+    /// Whether the next call is to fail.
+    pub fn fails_next(&self) -> bool
+        ensures { result ≡ is_faulty self.now.progress.command self.now.progress.made }
+    {
+        self.begun.faults.are_after(self.made())
     }
 
     /// Whether no call is left to make. Takes no memory.
     pub fn over(&self) -> bool
         ensures { FalseIff result (IsOpen self.now.progress.state) }
     {
-        match &*self.run {
+        match &self.begun.run {
             Carried::Verb(run) => run.over(),
             Carried::Collection(run) => run.over(),
         }
@@ -109,7 +138,7 @@ impl Task {
         requires prepared { self.now.prepared ≡ true }
         ensures { IfOk result (λ call. call ≡ next_call self.now.progress.command self.now.progress.state) }
     {
-        match &*self.run {
+        match &self.begun.run {
             Carried::Verb(run) => run.next(),
             Carried::Collection(run) => run.next(),
         }
@@ -125,7 +154,7 @@ impl Task {
         ensures err { OnErr result (self.new ≡ self.old) }
         ensures frees { is_fault reply ≡ false → IsOk result }
     {
-        match &mut *self.run {
+        match &mut self.begun.run {
             Carried::Verb(run) => {
                 run.take(reply);
                 Ok(())
@@ -135,10 +164,11 @@ impl Task {
     }
 
     /// What the command is answered, where the run is over.
+    #[inline(never)]
     pub fn answer(&self) -> Result<Option<Answer>, NoMemory>
         ensures { IfOk result (λ answer. answer ≡ answer_at self.now.progress) }
     {
-        match &*self.run {
+        match &self.begun.run {
             Carried::Verb(run) => run.answer(),
             Carried::Collection(run) => run.answer(),
         }

@@ -30,7 +30,10 @@ returns-then-is_stopped-clause-next c =
 
 pub returns-in-Some-2-clause-next : goal.returns-in-Some-2-clause-next
 returns-in-Some-2-clause-next c =
-    ap (next.Call c.in-Some-2.call) (c.is_faulty.ensures ∙ ap (is_faulty c.args.command.now) c.made-made.ensures)
+    ap (next.Call c.in-Some-2.call)
+    (c.fails_next.ensures
+    ∙ ap (λ (t : Progress). is_faulty t.command t.made) c.prepare.ensures.same
+    ∙ ap (λ command. is_faulty command c.args.task.now.progress.made) c.requires.of_command)
     ∙ next-is-call c.args.task.now.progress c.args.command.now c.args.cut c.is_stopped.result c.in-Some-2.call c.requires.of_command
     (c.is_stopped.ensures.stop ∙ ap (λ made. is_stop c.args.command.now.stop made || c.args.cut) c.made-made.ensures) c.if-is_stopped.false
     (ap (λ (t : Progress). next_call t.command t.state) (sym c.prepare.ensures.same) ∙ sym c.in_ok-call.ensures ∙ c.in-Some-2.is)

@@ -1,0 +1,47 @@
+//! The calls of a command that are to fail.
+
+ghost use Rattle.std.specs.Prelude.{◌≡◌, ℕ, ◌+◌, ◌==◌, IfOk};
+ghost use Rattle.std.specs.List.{list_any};
+ghost use Rattle.pod_workers.specs.Tasks.{are_after};
+
+use cni_addr::NoMemory;
+use indexmap::IndexSet;
+use std::alloc::Global;
+use std::marker::Model;
+
+/// How many calls stand before each of the calls that are to fail, each number once.
+#[derive(Drop)]
+pub(crate) struct Faults {
+    before: IndexSet<u64>,
+}
+
+impl Model for Faults {
+    ghost use Rattle.std.specs.Prelude.{List, ℕ};
+
+    ghost Value = { List ℕ };
+
+    ghost view = { λ f. f.before.keys };
+}
+
+impl Faults {
+    /// The faults of these numbers, from 1, in any order. Linear in the numbers; takes no memory where there are none.
+    pub(crate) fn of(alloc: Global, numbers: &[u32]) -> Result<Faults, NoMemory>
+        ensures { IfOk result (λ faults. (made : ℕ) → are_after made faults
+            ≡ list_any (λ k. k == made + 1) numbers.now) }
+    {
+        let mut before = IndexSet::new(alloc);
+        for number in numbers {
+            if *number > 0 {
+                before.insert((*number - 1) as u64)?;
+            }
+        }
+        Ok(Faults { before })
+    }
+
+    /// Whether the call after so many is to fail. It takes one look-up, however many faults there are.
+    pub(crate) fn are_after(&self, made: u64) -> bool
+        ensures { result ≡ are_after made self.now }
+    {
+        self.before.contains(&made)
+    }
+}
