@@ -10,7 +10,7 @@ ghost use Rattle.cni_verbs.specs.Phases.{KeepsPlan, is_prepared, state_in, state
 use crate::answer::Question;
 use crate::phase::Phase;
 use crate::wanted::{Back, back_calls, calls_before, deletion, sets_of};
-use crate::words::{att_of, mappings_of};
+use crate::words::{att_of, mappings_of, named_att_of};
 use cni_addr::{Addr, Duplicate, Items, NoMemory};
 use host_local::lease_at;
 use kernel_types::{Call, Kind};
@@ -29,7 +29,7 @@ pub(crate) fn before_of(
     ensures calls { IfOk result (λ calls. calls ≡ before_of list.now command.now) }
     ensures some { IfOk result (λ calls. 0 < length calls) }
 {
-    let att = att_of(command)?;
+    let att = named_att_of(alloc, command)?;
     calls_before(alloc, &list.first, &att, &command.netns)
 }
 
@@ -44,13 +44,16 @@ pub(crate) fn back_of(
     ensures added { IfOk result (λ back.
         back.added ≡ result_of_add list.now (att_of command.now) command.now.netns given.now) }
 {
-    let att = att_of(command)?;
+    let att = named_att_of(alloc, command)?;
     let mappings = mappings_of(alloc, list, command)?;
     back_calls(alloc, list, &att, &command.netns, mappings, given)
 }
 
 // ---- the next call
+//
+// Each call is made in a function of its own, so that a step doesn't clear a stack for all of them.
 
+#[inline(never)]
 fn begin(command: &Command) -> Result<Option<Call>, NoMemory>
     ensures { IfOk result (λ next. next ≡ Some (call.Begin (att_of command.now) command.now.netns)) }
 {
@@ -60,6 +63,7 @@ fn begin(command: &Command) -> Result<Option<Call>, NoMemory>
     }))
 }
 
+#[inline(never)]
 fn call_at(calls: &[Call], place: usize) -> Result<Option<Call>, NoMemory>
     ensures { IfOk result (λ next. next ≡ slice_get calls.now place) }
 {
@@ -69,6 +73,7 @@ fn call_at(calls: &[Call], place: usize) -> Result<Option<Call>, NoMemory>
     }
 }
 
+#[inline(never)]
 fn lease_next(list: &NetList, command: &Command, place: usize) -> Result<Option<Call>, NoMemory>
     requires { place < length (sets_of list.now) }
     ensures { IfOk result (λ next.
@@ -78,6 +83,7 @@ fn lease_next(list: &NetList, command: &Command, place: usize) -> Result<Option<
     lease_at(sets, att_of(command)?, place as u32)
 }
 
+#[inline(never)]
 fn call_asked(questions: &[Question], place: usize) -> Result<Option<Call>, NoMemory>
     ensures { IfOk result (λ next. next ≡ option_map (λ question. question.call) (slice_get questions.now place)) }
 {
@@ -87,6 +93,7 @@ fn call_asked(questions: &[Question], place: usize) -> Result<Option<Call>, NoMe
     }
 }
 
+#[inline(never)]
 fn cache_get(command: &Command) -> Result<Option<Call>, NoMemory>
     ensures { IfOk result (λ next. next ≡ Some (call.CacheGet (att_of command.now))) }
 {
@@ -95,6 +102,7 @@ fn cache_get(command: &Command) -> Result<Option<Call>, NoMemory>
     }))
 }
 
+#[inline(never)]
 fn deletion_at(command: &Command, kinds: &[Kind], place: usize) -> Result<Option<Call>, NoMemory>
     ensures { IfOk result (λ next. next ≡ option_map (deletion (att_of command.now)) (slice_get kinds.now place)) }
 {

@@ -12,6 +12,13 @@ use net_conf::NetList;
 use pod_file::Command;
 use std::alloc::Global;
 
+/// Whether the next call or question is made already.
+pub(crate) fn is_prepared(phase: &Phase) -> bool
+    ensures { result ≡ is_prepared phase.now }
+{
+    !matches!(phase, Phase::Begun | Phase::Leased | Phase::Found(_))
+}
+
 /// Makes the calls before or after the leases or the questions of a CHECK, where they are next and aren't made. The
 /// phase means the same, and where memory lacks it stays as it is.
 pub(crate) fn prepare_phase(

@@ -14,7 +14,7 @@ use crate::ending::{answer_in, answer_outside};
 use crate::next::{next_of, next_outside};
 use crate::over::{is_over, is_over_outside};
 use crate::phase::Phase;
-use crate::prepare::prepare_phase;
+use crate::prepare::{is_prepared, prepare_phase};
 use crate::start::{first_outside, first_phase};
 use crate::wanted::{kinds_of, sets_of};
 use cni_addr::{Addr, Duplicate, Items, NoMemory};
@@ -139,6 +139,28 @@ impl Run {
     /// after each reply. How far the run has come stays the same, and where memory lacks the run is as it was: it may
     /// be prepared again. Linear in the list, the mappings and the leased addresses, once a run.
     pub fn prepare(&mut self) -> Result<(), NoMemory>
+        ensures same { self.new.progress ≡ self.old.progress }
+        ensures ready { OnOk result (self.new.prepared ≡ true) }
+        ensures left { OnErr result (self.new.prepared ≡ self.old.prepared) }
+    {
+        if self.is_prepared() {
+            return Ok(());
+        }
+        self.make_ahead()
+    }
+
+    fn is_prepared(&self) -> bool
+        ensures { result ≡ self.now.prepared }
+    {
+        match &self.list {
+            Some(_) => is_prepared(&self.phase),
+            None => true,
+        }
+    }
+
+    // Apart from `prepare`, so that a step doesn't clear a stack for what is made once or twice a run.
+    #[inline(never)]
+    fn make_ahead(&mut self) -> Result<(), NoMemory>
         ensures same { self.new.progress ≡ self.old.progress }
         ensures ready { OnOk result (self.new.prepared ≡ true) }
         ensures left { OnErr result (self.new.prepared ≡ self.old.prepared) }

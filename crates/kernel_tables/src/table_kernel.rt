@@ -14,7 +14,8 @@ use std::alloc::Global;
 use std::marker::Model;
 
 impl Tables {
-    /// Makes one call, by the method that is its equation.
+    /// Makes one call, by the method that is its equation. None of them is inlined: this function would else clear a
+    /// stack for all of them at each call.
     fn carry_out(&mut self, alloc: Global, call: &Call) -> Result<Reply, NoMemory>
         requires allowed { IsAllowed self.old call.now }
         requires sound { IsSound self.old }

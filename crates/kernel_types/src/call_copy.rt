@@ -3,13 +3,16 @@
 ghost use Rattle.std.specs.Prelude.{◌≡◌, true, IfOk, OnErr};
 ghost use Rattle.kernel_types.specs.Replies.{holds_text_or_list};
 ghost use Rattle.kernel_types.specs.declared.call.Call.TheVariants as calls;
+ghost use Rattle.kernel_types.specs.declared.call.Reply.TheVariants as replies;
 
 use crate::call::{Call, Change, Kind, Object, Probe, Reply};
-use crate::object::{Att, Link, LinkKey, Setting};
-use cni_addr::{Cidr, Duplicate, Mac, NoMemory, RangeSet, Text};
+use crate::object::{AddrObj, Att, Link, LinkKey, RouteObj, Setting, Tag};
+use crate::rule::Rule;
+use cni_addr::{Cidr, Duplicate, Items, Mac, NoMemory, RangeSet, Text};
 use cni_result::Cached;
 
 impl Duplicate for Object {
+    #[inline(never)]
     fn copy(&self) -> Result<Object, NoMemory> {
         match self {
             Object::Link(link) => Ok(Object::Link(link.copy()?)),
@@ -23,6 +26,7 @@ impl Duplicate for Object {
 }
 
 impl Duplicate for Probe {
+    #[inline(never)]
     fn copy(&self) -> Result<Probe, NoMemory> {
         match self {
             Probe::Whole(object) => Ok(Probe::Whole(object.copy()?)),
@@ -36,6 +40,7 @@ impl Duplicate for Probe {
 }
 
 impl Duplicate for Change {
+    #[inline(never)]
     fn copy(&self) -> Result<Change, NoMemory> {
         match self {
             Change::DropLink(key) => Ok(Change::DropLink(key.copy()?)),
@@ -54,16 +59,37 @@ impl Reply {
             Reply::Done => Ok(Reply::Done),
             Reply::NoNs => Ok(Reply::NoNs),
             Reply::NoLink => Ok(Reply::NoLink),
-            Reply::Taken(tag) => Ok(Reply::Taken(tag.copy()?)),
+            Reply::Taken(tag) => twin_of_taken(tag),
             Reply::Empty => Ok(Reply::Empty),
             Reply::Leased(addr) => Ok(Reply::Leased(*addr)),
             Reply::Gone(gone) => Ok(Reply::Gone(*gone)),
             Reply::Has(has) => Ok(Reply::Has(*has)),
-            Reply::Owners(owners) => Ok(Reply::Owners(owners.copy()?)),
-            Reply::Entry(cached) => Ok(Reply::Entry(cached.copy()?)),
+            Reply::Owners(owners) => twin_of_owners(owners),
+            Reply::Entry(cached) => twin_of_entry(cached),
             Reply::Fault => Ok(Reply::Fault),
         }
     }
+}
+
+#[inline(never)]
+fn twin_of_taken(tag: &Tag) -> Result<Reply, NoMemory>
+    ensures { IfOk result (λ twin. twin ≡ replies.Taken tag.now) }
+{
+    Ok(Reply::Taken(tag.copy()?))
+}
+
+#[inline(never)]
+fn twin_of_owners(owners: &Items<Att>) -> Result<Reply, NoMemory>
+    ensures { IfOk result (λ twin. twin ≡ replies.Owners owners.now) }
+{
+    Ok(Reply::Owners(owners.copy()?))
+}
+
+#[inline(never)]
+fn twin_of_entry(cached: &Option<Cached>) -> Result<Reply, NoMemory>
+    ensures { IfOk result (λ twin. twin ≡ replies.Entry cached.now) }
+{
+    Ok(Reply::Entry(cached.copy()?))
 }
 
 impl Duplicate for Reply {
@@ -72,8 +98,10 @@ impl Duplicate for Reply {
     }
 }
 
-// Parts are copied first and the call is put together last, so that a want of memory lets go of whole parts alone.
+// Parts are copied first and the call is put together last, so that a want of memory lets go of whole parts alone. Each
+// call and each object has a function that isn't inlined: a copy would else clear a stack for the parts of all of them.
 
+#[inline(never)]
 fn copy_begin(att: &Att, netns: &Text) -> Result<Call, NoMemory>
     ensures { IfOk result (λ twin. twin ≡ calls.Begin att.now netns.now) }
 {
@@ -82,6 +110,7 @@ fn copy_begin(att: &Att, netns: &Text) -> Result<Call, NoMemory>
     Ok(Call::Begin { att, netns })
 }
 
+#[inline(never)]
 fn copy_bridge_ensure(name: &Text, mtu: u32, promisc: bool) -> Result<Call, NoMemory>
     ensures { IfOk result (λ twin. twin ≡ calls.BridgeEnsure name.now mtu promisc) }
 {
@@ -89,6 +118,7 @@ fn copy_bridge_ensure(name: &Text, mtu: u32, promisc: bool) -> Result<Call, NoMe
     Ok(Call::BridgeEnsure { name, mtu, promisc })
 }
 
+#[inline(never)]
 fn copy_gateway_ensure(bridge: &Text, cidr: Cidr) -> Result<Call, NoMemory>
     ensures { IfOk result (λ twin. twin ≡ calls.GatewayEnsure bridge.now cidr) }
 {
@@ -96,6 +126,7 @@ fn copy_gateway_ensure(bridge: &Text, cidr: Cidr) -> Result<Call, NoMemory>
     Ok(Call::GatewayEnsure { bridge, cidr })
 }
 
+#[inline(never)]
 fn copy_veth_add(host_end: &Link, inner_end: &Link) -> Result<Call, NoMemory>
     ensures { IfOk result (λ twin. twin ≡ calls.VethAdd host_end.now inner_end.now) }
 {
@@ -107,6 +138,7 @@ fn copy_veth_add(host_end: &Link, inner_end: &Link) -> Result<Call, NoMemory>
     })
 }
 
+#[inline(never)]
 fn copy_link_set(
     att: &Att,
     key: &LinkKey,
@@ -131,6 +163,7 @@ fn copy_link_set(
     })
 }
 
+#[inline(never)]
 fn copy_lease_next(att: &Att, number: u32, set: &RangeSet) -> Result<Call, NoMemory>
     ensures { IfOk result (λ twin. twin ≡ calls.LeaseNext att.now number set.now) }
 {
@@ -139,6 +172,7 @@ fn copy_lease_next(att: &Att, number: u32, set: &RangeSet) -> Result<Call, NoMem
     Ok(Call::LeaseNext { att, number, set })
 }
 
+#[inline(never)]
 fn copy_cache_put(att: &Att, cached: &Cached) -> Result<Call, NoMemory>
     ensures { IfOk result (λ twin. twin ≡ calls.CachePut att.now cached.now) }
 {
@@ -147,6 +181,7 @@ fn copy_cache_put(att: &Att, cached: &Cached) -> Result<Call, NoMemory>
     Ok(Call::CachePut { att, cached })
 }
 
+#[inline(never)]
 fn copy_pool_free(network: &Text, set: &RangeSet) -> Result<Call, NoMemory>
     ensures { IfOk result (λ twin. twin ≡ calls.PoolFree network.now set.now) }
 {
@@ -155,6 +190,7 @@ fn copy_pool_free(network: &Text, set: &RangeSet) -> Result<Call, NoMemory>
     Ok(Call::PoolFree { network, set })
 }
 
+#[inline(never)]
 fn copy_owners_of(network: &Text, kind: Kind) -> Result<Call, NoMemory>
     ensures { IfOk result (λ twin. twin ≡ calls.OwnersOf network.now kind) }
 {
@@ -162,11 +198,67 @@ fn copy_owners_of(network: &Text, kind: Kind) -> Result<Call, NoMemory>
     Ok(Call::OwnersOf { network, kind })
 }
 
+#[inline(never)]
 fn copy_ns_change(name: &Text, add: bool) -> Result<Call, NoMemory>
     ensures { IfOk result (λ twin. twin ≡ calls.NsChange name.now add) }
 {
     let name = name.copy()?;
     Ok(Call::NsChange { name, add })
+}
+
+#[inline(never)]
+fn copy_macvlan_add(link: &Link) -> Result<Call, NoMemory>
+    ensures { IfOk result (λ twin. twin ≡ calls.MacvlanAdd link.now) }
+{
+    Ok(Call::MacvlanAdd { link: link.copy()? })
+}
+
+#[inline(never)]
+fn copy_addr_add(obj: &AddrObj) -> Result<Call, NoMemory>
+    ensures { IfOk result (λ twin. twin ≡ calls.AddrAdd obj.now) }
+{
+    Ok(Call::AddrAdd { obj: obj.copy()? })
+}
+
+#[inline(never)]
+fn copy_route_add(obj: &RouteObj) -> Result<Call, NoMemory>
+    ensures { IfOk result (λ twin. twin ≡ calls.RouteAdd obj.now) }
+{
+    Ok(Call::RouteAdd { obj: obj.copy()? })
+}
+
+#[inline(never)]
+fn copy_rule_append(rule: &Rule) -> Result<Call, NoMemory>
+    ensures { IfOk result (λ twin. twin ≡ calls.RuleAppend rule.now) }
+{
+    Ok(Call::RuleAppend { rule: rule.copy()? })
+}
+
+#[inline(never)]
+fn copy_setting_set(setting: &Setting) -> Result<Call, NoMemory>
+    ensures { IfOk result (λ twin. twin ≡ calls.SettingSet setting.now) }
+{
+    Ok(Call::SettingSet {
+        setting: setting.copy()?,
+    })
+}
+
+#[inline(never)]
+fn copy_has_obj(probe: &Probe) -> Result<Call, NoMemory>
+    ensures { IfOk result (λ twin. twin ≡ calls.HasObj probe.now) }
+{
+    Ok(Call::HasObj {
+        probe: probe.copy()?,
+    })
+}
+
+#[inline(never)]
+fn copy_outside(change: &Change) -> Result<Call, NoMemory>
+    ensures { IfOk result (λ twin. twin ≡ calls.Outside change.now) }
+{
+    Ok(Call::Outside {
+        change: change.copy()?,
+    })
 }
 
 impl Duplicate for Call {
@@ -180,7 +272,7 @@ impl Duplicate for Call {
                 host_end,
                 inner_end,
             } => copy_veth_add(host_end, inner_end),
-            Call::MacvlanAdd { link } => Ok(Call::MacvlanAdd { link: link.copy()? }),
+            Call::MacvlanAdd { link } => copy_macvlan_add(link),
             Call::LinkSet {
                 att,
                 key,
@@ -190,12 +282,10 @@ impl Duplicate for Call {
                 promisc,
                 allmulti,
             } => copy_link_set(att, key, *mac, *mtu, *tx_qlen, *promisc, *allmulti),
-            Call::AddrAdd { obj } => Ok(Call::AddrAdd { obj: obj.copy()? }),
-            Call::RouteAdd { obj } => Ok(Call::RouteAdd { obj: obj.copy()? }),
-            Call::RuleAppend { rule } => Ok(Call::RuleAppend { rule: rule.copy()? }),
-            Call::SettingSet { setting } => Ok(Call::SettingSet {
-                setting: setting.copy()?,
-            }),
+            Call::AddrAdd { obj } => copy_addr_add(obj),
+            Call::RouteAdd { obj } => copy_route_add(obj),
+            Call::RuleAppend { rule } => copy_rule_append(rule),
+            Call::SettingSet { setting } => copy_setting_set(setting),
             Call::LeaseNext { att, number, set } => copy_lease_next(att, *number, set),
             Call::CachePut { att, cached } => copy_cache_put(att, cached),
             Call::LinkDel { att } => Ok(Call::LinkDel { att: att.copy()? }),
@@ -203,16 +293,12 @@ impl Duplicate for Call {
             Call::SettingDel { att } => Ok(Call::SettingDel { att: att.copy()? }),
             Call::LeaseDel { att } => Ok(Call::LeaseDel { att: att.copy()? }),
             Call::CacheDel { att } => Ok(Call::CacheDel { att: att.copy()? }),
-            Call::HasObj { probe } => Ok(Call::HasObj {
-                probe: probe.copy()?,
-            }),
+            Call::HasObj { probe } => copy_has_obj(probe),
             Call::CacheGet { att } => Ok(Call::CacheGet { att: att.copy()? }),
             Call::OwnersOf { network, kind } => copy_owners_of(network, *kind),
             Call::PoolFree { network, set } => copy_pool_free(network, set),
             Call::NsChange { name, add } => copy_ns_change(name, *add),
-            Call::Outside { change } => Ok(Call::Outside {
-                change: change.copy()?,
-            }),
+            Call::Outside { change } => copy_outside(change),
         }
     }
 }

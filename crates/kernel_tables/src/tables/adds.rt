@@ -50,6 +50,7 @@ impl Tables {
         }
     }
 
+    #[inline(never)]
     pub(crate) fn veth_add(
         &mut self,
         alloc: Global,
@@ -104,6 +105,7 @@ impl Tables {
         }
     }
 
+    #[inline(never)]
     pub(crate) fn macvlan_add(&mut self, alloc: Global, link: &Link) -> Result<Reply, NoMemory>
         requires sound { IsSound self.old }
         ensures ok { IfOk result (λ reply. (self.new, reply) ≡ macvlan_add_of self.old link.now) }

@@ -39,6 +39,7 @@ impl Tables {
             | cached
     }
 
+    #[inline(never)]
     pub(crate) fn begin(&mut self, att: &Att, netns: &Text) -> Result<Reply, NoMemory>
         ensures ok { IfOk result (λ reply. (self.new, reply) ≡ begin_of self.old att.now netns.now) }
         ensures err { OnErr result (self.new ≡ self.old) }

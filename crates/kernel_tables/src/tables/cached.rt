@@ -10,6 +10,7 @@ use kernel_types::{Att, CachedObj, Reply, Tag};
 use std::alloc::Global;
 
 impl Tables {
+    #[inline(never)]
     pub(crate) fn cache_put(
         &mut self,
         alloc: Global,
@@ -28,6 +29,7 @@ impl Tables {
         Ok(Reply::Done)
     }
 
+    #[inline(never)]
     pub(crate) fn cache_get(&self, att: &Att) -> Result<Reply, NoMemory>
         ensures { IfOk result (λ reply. (self.now, reply) ≡ cache_get_of self.now att.now) }
     {

@@ -44,6 +44,7 @@ impl Tables {
         }
     }
 
+    #[inline(never)]
     pub(crate) fn link_set(
         &mut self,
         att: &Att,

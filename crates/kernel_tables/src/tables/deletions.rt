@@ -9,18 +9,21 @@ use crate::leased::remove_leased;
 use kernel_types::{Att, Reply};
 
 impl Tables {
+    #[inline(never)]
     pub(crate) fn rule_del(&mut self, att: &Att) -> Reply
         ensures { (self.new, result) ≡ rule_del_of self.old att.now }
     {
         Reply::Gone(self.rules.take_first_owned(att).is_some())
     }
 
+    #[inline(never)]
     pub(crate) fn setting_del(&mut self, att: &Att) -> Reply
         ensures { (self.new, result) ≡ setting_del_of self.old att.now }
     {
         Reply::Gone(self.settings.take_first_owned(att).is_some())
     }
 
+    #[inline(never)]
     pub(crate) fn cache_del(&mut self, att: &Att) -> Reply
         ensures { (self.new, result) ≡ cache_del_of self.old att.now }
     {
@@ -28,6 +31,7 @@ impl Tables {
     }
 
     /// The address is no longer leased: in a sound host no other lease of its network has it.
+    #[inline(never)]
     pub(crate) fn lease_del(&mut self, att: &Att) -> Reply
         requires { IsSound self.old }
         ensures { (self.new, result) ≡ lease_del_of self.old att.now }

@@ -57,6 +57,7 @@ impl Tables {
     }
 
     /// In a sound host the link goes with its peer alone, and what is on them is the attachment's.
+    #[inline(never)]
     pub(crate) fn link_del(&mut self, att: &Att) -> Reply
         requires { IsSound self.old }
         ensures { (self.new, result) ≡ link_del_of self.old att.now }

@@ -146,6 +146,7 @@ impl Tables {
         Reply::Done
     }
 
+    #[inline(never)]
     pub(crate) fn ns_change(
         &mut self,
         alloc: Global,

@@ -35,6 +35,7 @@ impl Tables {
         Reply::Done
     }
 
+    #[inline(never)]
     pub(crate) fn outside(&mut self, change: &Change) -> Reply
         requires { IsSound self.old }
         ensures { (self.new, result) ≡ apply self.old (Outside change.now) }

@@ -27,6 +27,7 @@ impl Tables {
         }
     }
 
+    #[inline(never)]
     pub(crate) fn addr_add(&mut self, alloc: Global, obj: &AddrObj) -> Result<Reply, NoMemory>
         requires sound { IsSound self.old }
         ensures ok { IfOk result (λ reply. (self.new, reply) ≡ addr_add_of self.old obj.now) }
@@ -42,6 +43,7 @@ impl Tables {
         Ok(Reply::Done)
     }
 
+    #[inline(never)]
     pub(crate) fn route_add(&mut self, alloc: Global, obj: &RouteObj) -> Result<Reply, NoMemory>
         requires sound { IsSound self.old }
         ensures ok { IfOk result (λ reply. (self.new, reply) ≡ route_add_of self.old obj.now) }
@@ -57,6 +59,7 @@ impl Tables {
         Ok(Reply::Done)
     }
 
+    #[inline(never)]
     pub(crate) fn rule_append(&mut self, alloc: Global, rule: &Rule) -> Result<Reply, NoMemory>
         ensures ok { IfOk result (λ reply. (self.new, reply) ≡ rule_append_of self.old rule.now) }
         ensures err { OnErr result (self.new ≡ self.old) }
@@ -68,6 +71,7 @@ impl Tables {
         Ok(Reply::Done)
     }
 
+    #[inline(never)]
     pub(crate) fn setting_set(
         &mut self,
         alloc: Global,

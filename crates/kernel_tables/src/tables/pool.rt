@@ -189,6 +189,7 @@ impl Tables {
     }
 
     /// Two steps for each range and two more at most, however many addresses are leased.
+    #[inline(never)]
     pub(crate) fn lease_next(
         &mut self,
         alloc: Global,
@@ -215,6 +216,7 @@ impl Tables {
     }
 
     /// Two steps for each range at most, however many addresses are leased. Takes no memory.
+    #[inline(never)]
     pub(crate) fn pool_free(&self, alloc: Global, network: &Text, set: &RangeSet) -> Reply
         ensures { (self.now, result) ≡ pool_free_of self.now network.now set.now }
     {

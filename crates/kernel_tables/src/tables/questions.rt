@@ -111,6 +111,7 @@ impl Tables {
         }
     }
 
+    #[inline(never)]
     pub(crate) fn has_obj(&self, probe: &Probe) -> Reply
         requires sound { IsSound self.now }
         ensures { (self.now, result) ≡ has_obj_of self.now probe.now }
@@ -118,6 +119,7 @@ impl Tables {
         Reply::Has(self.has_object(probe))
     }
 
+    #[inline(never)]
     pub(crate) fn owners_of(
         &self,
         alloc: Global,

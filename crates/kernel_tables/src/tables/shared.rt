@@ -3,7 +3,7 @@
 ghost use Rattle.std.specs.Prelude.{◌≡◌, IfOk, OnErr, find};
 ghost use Rattle.std.specs.List.{list_any};
 ghost use Rattle.std.specs.Option.{option_copied};
-ghost use Rattle.kernel_types.specs.Apply.Calls.{bridge_ensure_of, new_bridge, gateway_ensure_of, new_gateway, forward_ensure_of, forward_key, new_forward};
+ghost use Rattle.kernel_types.specs.Apply.Calls.{bridge_ensure_of, gateway_ensure_of, forward_ensure_of};
 ghost use Rattle.kernel_types.specs.Keys.{is_same_addr, is_same_setting};
 ghost use Rattle.kernel_types.specs.Sound.{IsSound};
 ghost use Rattle.kernel_types.specs.Words.{has_host_bridge, is_host_link};
@@ -11,62 +11,8 @@ ghost use Rattle.kernel_types.specs.Words.{has_host_bridge, is_host_link};
 use super::Tables;
 use crate::keys::{AddrKey, SettingKey};
 use cni_addr::{Cidr, Duplicate, Family, NoMemory, Text};
-use kernel_types::{AddrObj, Link, LinkKey, LinkKind, Reply, Setting, Tag, link_mac};
+use kernel_types::{AddrObj, Link, Reply, Setting};
 use std::alloc::Global;
-
-/// A bridge that belongs to no attachment.
-fn new_bridge(alloc: Global, name: &Text, mtu: u32, promisc: bool) -> Result<Link, NoMemory>
-    ensures { IfOk result (λ link. link ≡ new_bridge name.now mtu promisc) }
-{
-    let key = LinkKey {
-        ns: Text::of(alloc, "")?,
-        name: name.copy()?,
-    };
-    Ok(Link {
-        promisc,
-        ..Link::new(
-            key,
-            LinkKind::Bridge,
-            link_mac(name.as_str()),
-            mtu,
-            Tag::Base,
-        )
-    })
-}
-
-/// The address of the gateway on a bridge, which belongs to no attachment.
-fn new_gateway(alloc: Global, bridge: &Text, cidr: Cidr) -> Result<AddrObj, NoMemory>
-    ensures { IfOk result (λ gateway. gateway ≡ new_gateway bridge.now cidr) }
-{
-    Ok(AddrObj {
-        ns: Text::of(alloc, "")?,
-        link: bridge.copy()?,
-        cidr,
-        tag: Tag::Base,
-    })
-}
-
-/// The host's switch that lets it forward packets of the family (Linux, `ip-sysctl`).
-fn forward_key(family: Family) -> &'static str
-    ensures { result.now ≡ forward_key family }
-{
-    match family {
-        Family::V4 => "net.ipv4.ip_forward",
-        Family::V6 => "net.ipv6.conf.all.forwarding",
-    }
-}
-
-/// The setting by which the host forwards packets of the family, which belongs to no attachment.
-fn new_forward(alloc: Global, family: Family) -> Result<Setting, NoMemory>
-    ensures { IfOk result (λ forward. forward ≡ new_forward family) }
-{
-    Ok(Setting {
-        ns: Text::of(alloc, "")?,
-        key: Text::of(alloc, forward_key(family))?,
-        value: Text::of(alloc, "1")?,
-        tag: Tag::Base,
-    })
-}
 
 impl Tables {
     /// The host's link of this name.
@@ -103,6 +49,7 @@ impl Tables {
         Ok(self.settings.find(&key).is_some())
     }
 
+    #[inline(never)]
     pub(crate) fn bridge_ensure(
         &mut self,
         alloc: Global,
@@ -120,11 +67,12 @@ impl Tables {
                 Ok(Reply::Taken(link.tag.copy()?))
             };
         }
-        let bridge = new_bridge(alloc, name, mtu, promisc)?;
+        let bridge = Link::bridge(alloc, name, mtu, promisc)?;
         self.links.push(alloc, bridge)?;
         Ok(Reply::Done)
     }
 
+    #[inline(never)]
     pub(crate) fn gateway_ensure(
         &mut self,
         alloc: Global,
@@ -138,7 +86,7 @@ impl Tables {
         if !self.has_host_bridge(bridge) {
             return Ok(Reply::NoLink);
         }
-        let gateway = new_gateway(alloc, bridge, cidr)?;
+        let gateway = AddrObj::gateway(alloc, bridge, cidr)?;
         if self.has_same_addr(&gateway)? {
             return Ok(Reply::Done);
         }
@@ -146,6 +94,7 @@ impl Tables {
         Ok(Reply::Done)
     }
 
+    #[inline(never)]
     pub(crate) fn forward_ensure(
         &mut self,
         alloc: Global,
@@ -154,7 +103,7 @@ impl Tables {
         ensures ok { IfOk result (λ reply. (self.new, reply) ≡ forward_ensure_of self.old family) }
         ensures err { OnErr result (self.new ≡ self.old) }
     {
-        let forward = new_forward(alloc, family)?;
+        let forward = Setting::forwarding(alloc, family)?;
         if self.has_same_setting(&forward)? {
             return Ok(Reply::Done);
         }

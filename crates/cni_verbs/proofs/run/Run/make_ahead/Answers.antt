@@ -1,6 +1,6 @@
 use Rattle.std.specs.Prelude.{vec_capacity}
 use Rattle.cni_verbs.proofs.NextCalls.{kept_prepared}
-use Rattle.cni_verbs.proofs.run.Run.prepare.Goals as goal
+use Rattle.cni_verbs.proofs.run.Run.make_ahead.Goals as goal
 
 pub invariant_of-self : goal.invariant_of-self
 invariant_of-self c =
