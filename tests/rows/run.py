@@ -2,7 +2,7 @@
 """Runs a built program on the rows of rows.json and of ../readers, and on a list and a pod file that are cut off behind
 each of their bytes, and compares what it writes and its status.
 
-    run.py [PROGRAM [WORD]]    the rows whose names hold WORD; without one, all
+    run.py [PROGRAM [WORD]]    the rows whose names hold WORD; without one, all; fails where there is none
 
 A row has the files that lie where the program runs, the words, and what is expected:
 
@@ -225,7 +225,7 @@ def main():
     rows = [row for row in [*told, *reader_rows(), *cut_rows(table)] if word in row["name"]]
     failed = count_failed((row["name"], wrong_in(program, row, table["lists"])) for row in rows)
     print(f"rows: {len(rows) - failed} passed, {failed} failed")
-    return 1 if failed else 0
+    return 1 if failed or not rows else 0
 
 
 if __name__ == "__main__":
