@@ -1,7 +1,8 @@
 """Runs what the documents show of the program.
 
-A session is a block of lines that begin with four spaces: a command after `$ `, below it the lines that it prints. A
-line `..` stands for any lines. A block of JSON in docs/FORMATS.md or docs/plugins/ is a network list, a pod file, a
+A session is a block of lines that begin with four spaces: a command of bash after `$ `, below it the lines that it
+prints. A line `..` stands for any lines. A command that ends with `>FILE` prints what that file holds; so each picture
+that a document shows is made. A block of JSON in docs/FORMATS.md or docs/plugins/ is a network list, a pod file, a
 plugin or the `ipam` of one. A pod file is run on the document's lists, and all else is read; none is to be refused, and
 the lines right below one are what it prints. examples/first is the data of crates/cnitool, whose output `rt ci` compares.
 """
@@ -16,9 +17,12 @@ import textwrap
 sys.path.insert(0, str(pathlib.Path(__file__).resolve().parent.parent))
 
 from program import NO_PODS, REFUSED, TOP, network_list, run, run_on
+from written import is_other
 
 # a block of JSON, and the lines below it that no command prints
 EXAMPLE = re.compile(r"^```json\n(.*?)^```\n(?:\n((?:    (?!\$ )[^\n]*\n)+))?", re.MULTILINE | re.DOTALL)
+PICTURE = re.compile(r"!\[[^]]*\]\(([^)]*)\)")
+PICTURES = TOP / "docs" / "pictures"
 FIRST = ("bridge", "ptp", "macvlan")
 # each file of examples/first, and the file of crates/cnitool that says the same
 TWICE = {"net.json": "data/net.json", "pods.json": "data/pods.json", "output.txt": "stdout"}
@@ -38,13 +42,27 @@ def sessions(text):
     return found
 
 
+def is_printed(printed, lines):
+    """Whether these lines were printed, among which `..` stands for any."""
+    pattern = "".join("(?:.*\n)*" if line == ".." else re.escape(line) + "\n" for line in lines)
+    return re.fullmatch(pattern, printed) is not None
+
+
 def wrong_sessions(text, program):
-    for command, expected in sessions(text):
-        word, *words = shlex.split(command)
-        printed = run(program if word == "./cnitool" else word, words, TOP).stdout.decode("utf-8")
-        pattern = "".join("(?:.*\n)*" if line == ".." else re.escape(line) + "\n" for line in expected)
-        if not re.fullmatch(pattern, printed):
-            yield f"`{command}` prints something else"
+    for line, expected in sessions(text):
+        command, _, file = line.partition(" >")
+        words = ["-c", command.replace("./cnitool", shlex.quote(program))]
+        printed = run("bash", words, TOP).stdout.decode("utf-8")
+        if is_other(TOP / file, printed) if file else not is_printed(printed, expected):
+            yield f"`{line}` prints something else"
+
+
+def wrong_pictures(pages):
+    """The pictures that no command makes, and those that no document shows, of documents with their texts."""
+    made = {TOP / line.partition(" >")[2] for text in pages.values() for line, _ in sessions(text)}
+    shown = {(path.parent / it).resolve() for path, text in pages.items() for it in PICTURE.findall(text)}
+    yield from (f"no command makes {it.relative_to(TOP)}" for it in sorted(shown - made))
+    yield from (f"no document shows {it.relative_to(TOP)}" for it in sorted({*PICTURES.iterdir()} - shown))
 
 
 def files_of(value, lists):
