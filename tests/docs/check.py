@@ -6,8 +6,8 @@
 Each file that a document names in backticks is there. Each `crate::item` is an item of that crate, each `crate/edit` an
 edit that must be refused, and each bare name in the documents on the code stands in some crate. Each definition of
 docs/DEFINITIONS.md stands in the file beside it. docs/INDEX.md names every public definition and function.
-examples/first is as the data of crates/cnitool. Some command of the documents makes each picture. With a program, the
-documents' sessions and examples are run by examples.py.
+examples/first is as the data of crates/cnitool, and examples/plugins as the pages of the plugins. Some command of the
+documents makes each picture. With a program, the documents' sessions and examples are run by examples.py.
 """
 
 import os
@@ -112,7 +112,7 @@ def main():
     program = program_of(sys.argv[1:]) if sys.argv[1:] else None
     sources = {name: text_of(index.files_of(crate)) for name, crate in CRATES.items()}
     wrong = [f"{path.relative_to(TOP)}: {it}" for path in documents() for it in wrong_in(path, sources, program)]
-    wrong += examples.unlike_crate()
+    wrong += [*examples.unlike_crate(), *examples.unlike_pages()]
     wrong += examples.wrong_pictures({it: it.read_text(encoding="utf-8") for it in documents()})
     if is_other(index.INDEX, index.index()):
         wrong.append("docs/INDEX.md isn't what tests/docs/index.py writes")

@@ -4,7 +4,8 @@ A session is a block of lines that begin with four spaces: a command of bash aft
 prints. A line `..` stands for any lines. A command that ends with `>FILE` prints what that file holds; so each picture
 that a document shows is made. A block of JSON in docs/FORMATS.md or docs/plugins/ is a network list, a pod file, a
 plugin or the `ipam` of one. A pod file is run on the document's lists, and all else is read; none is to be refused, and
-the lines right below one are what it prints. examples/first is the data of crates/cnitool, whose output `rt ci` compares.
+the lines right below one are what it prints. The list in examples/plugins of a page of docs/plugins has the page's
+example. examples/first is the data of crates/cnitool, whose output `rt ci` compares.
 """
 
 import json
@@ -16,7 +17,7 @@ import textwrap
 
 sys.path.insert(0, str(pathlib.Path(__file__).resolve().parent.parent))
 
-from program import NO_PODS, REFUSED, TOP, network_list, run, run_on
+from program import NO_PODS, REFUSED, TOP, network_list, read_json, run, run_on
 from written import is_other
 
 # a block of JSON, and the lines below it that no command prints
@@ -96,3 +97,12 @@ def unlike_crate():
     for name, file in TWICE.items():
         if (TOP / "examples" / "first" / name).read_bytes() != (TOP / "crates" / "cnitool" / file).read_bytes():
             yield f"examples/first/{name} isn't crates/cnitool/{file}"
+
+
+def unlike_pages():
+    """The lists of examples/plugins that don't have the example of their plugin's page, as a plugin or as an `ipam`."""
+    for page in sorted((TOP / "docs" / "plugins").glob("*.md")):
+        example = json.loads(EXAMPLE.search(page.read_text(encoding="utf-8"))[1])
+        plugins = read_json(TOP / "examples" / "plugins" / f"{page.stem}.json")["plugins"]
+        if example not in [*plugins, *(it.get("ipam") for it in plugins)]:
+            yield f"examples/plugins/{page.stem}.json hasn't the example of {page.name}"
