@@ -4,8 +4,9 @@
     check.py [PROGRAM]
 
 Each file that a document names in backticks is there. Each `crate::item` is an item of that crate, each `crate/edit` an
-edit that must be refused, and each bare name in the documents on the code stands in some crate. Each definition of
-docs/DEFINITIONS.md stands in the file beside it. docs/INDEX.md names every public definition and function.
+edit that must be refused, and each bare name in the documents on the code stands in some crate. docs/GUARANTEES.md names
+every law, and every edit beside its crate. The picture of docs/ARCHITECTURE.md has every crate above those that it stands
+on. Each definition of docs/DEFINITIONS.md stands in the file beside it. docs/INDEX.md is what index.py finds.
 examples/first is as the data of crates/cnitool, and examples/plugins as the pages of the plugins. Some command of the
 documents makes each picture. With a program, the documents' sessions and examples are run by examples.py.
 """
@@ -23,7 +24,10 @@ from program import TOP, program_of
 from written import is_other
 
 CRATES = {it.name: it for it in index.crates()}
+EDITS = {name: {it.stem for it in (crate / "must-fail").glob("*.edit")} for name, crate in CRATES.items()}
 SUFFIXES = (".antt", ".rt", ".md", ".json", ".py", ".txt", ".edit")
+# a crate with its edits, over one line or more
+EDITS_OF = re.compile(r"^- `(\w+)`: (.*(?:\n  .*)*)$", re.MULTILINE)
 ON_THE_CODE = ("ARCHITECTURE.md", "DECISIONS.md", "DEFINITIONS.md", "GUARANTEES.md")
 
 
@@ -59,7 +63,7 @@ def missing_items(text, sources):
 
 
 def missing_names(text, sources):
-    known = {*sources, *re.findall(r"\w+", "\n".join(sources.values()))}
+    known = {*sources, *re.findall(r"\w+", "\n".join(sources.values())), *set().union(*EDITS.values())}
     for word in re.findall(r"`([A-Za-z_]\w*)`", text):
         if word not in known:
             yield f"no name {word}"
@@ -72,16 +76,58 @@ def missing_edits(text):
             yield f"no edit {crate}/{name}"
 
 
-def missing_definitions(text):
+def missing_laws(text):
+    for name, crate in CRATES.items():
+        laws = crate / "src" / "laws.rt"
+        for law in re.findall(r"^pub fn (\w+)", laws.read_text(encoding="utf-8") if laws.exists() else "", re.MULTILINE):
+            if not re.search(rf"(?:`|::){law}`", text):
+                yield f"the law {law} of {name} isn't named"
+
+
+def wrong_edits(text):
+    """Where the list of edits isn't the crates' edits."""
+    section = text.split("## Wrong bodies that are refused")[1].split("\n## ")[0]
+    named = {crate: set(re.findall(r"`(\w+)`", edits)) for crate, edits in EDITS_OF.findall(section)}
+    for crate, edits in EDITS.items():
+        for name in sorted(named.pop(crate, set()) ^ edits):
+            yield f"the edits of {crate}: {name}"
+    for crate in named:
+        yield f"no crate {crate}"
+
+
+def missing_in_crates(text):
+    """The files of a row by their places in a crate that its first cell names, where none of these has them."""
     for line in text.splitlines():
-        cells = [it.strip() for it in line.strip().strip("|").split("|")]
-        if not line.startswith("| `") or len(cells) < 2 or "/specs/" not in cells[1]:
+        head, *rest = line.strip("|").split("|") if line.startswith("|") else [""]
+        crates = [CRATES[it] for it in re.findall(r"`(\w+)`", head) if it in CRATES]
+        for file in re.findall(r"`((?:specs|src|proofs)/[^`]+)`", "".join(rest)):
+            if crates and not any((it / file).exists() for it in crates):
+                yield f"no file {file} in {crates[0].name}"
+
+
+def wrong_picture(text):
+    """Where the picture of the crates lacks one, or has it beside or below one that it stands on."""
+    rows = re.search(r"^```text\n(.*?)^```", text, re.MULTILINE | re.DOTALL).group(1).splitlines()
+    row = {word: number for number, line in enumerate(rows) for word in re.findall(r"\w+", line) if word in CRATES}
+    for line in (TOP / "crates.txt").read_text(encoding="utf-8").splitlines():
+        name, *below = re.findall(r"\w+", line) if not line.startswith("#") else [""]
+        if name and name not in row:
+            yield f"the picture lacks {name}"
+        yield from (f"the picture has {name} at {it}" for it in below if row.get(it, len(rows)) <= row.get(name, 0))
+
+
+def missing_definitions(text):
+    """Where a row of a table names a file that isn't there, or a definition that isn't in the files beside it. A file
+    without a folder is in the folder of the one before it."""
+    for line in text.splitlines():
+        cells = [it.strip() for it in line.strip("|").split("|")] if line.startswith("|") else []
+        if len(cells) < 2 or "/specs/" not in cells[1]:
             continue
-        files = re.findall(r"`([^`]+)`", cells[1])
+        files = re.findall(r"`([^`]+(?:\.antt|/))`", cells[1])
         folder = ""
         found = ""
         for file in files:
-            folder = str(pathlib.Path(file).parent) if "/specs/" in file and not file.endswith("/") else folder
+            folder = str(pathlib.Path(file).parent) if file.endswith(".antt") and "/" in file else folder
             path = TOP / "crates" / (file if "/" in file else f"{folder}/{file}")
             if path.is_dir():
                 found += text_of(path.rglob("*.antt"))
@@ -89,7 +135,7 @@ def missing_definitions(text):
                 found += text_of([path])
             else:
                 yield f"no file {path.relative_to(TOP)}"
-        for name in re.findall(r"`([^`]+)`", cells[0]):
+        for name in re.findall(r"`([^`]+)`", cells[0]) if line.startswith("| `") else []:
             if not holds(found, name):
                 yield f"no definition {name} in {', '.join(files)}"
 
@@ -101,6 +147,12 @@ def wrong_in(path, sources, program):
     yield from missing_edits(text)
     if path.name in ON_THE_CODE:
         yield from missing_names(text, sources)
+    if path.name == "ARCHITECTURE.md":
+        yield from missing_in_crates(text)
+        yield from wrong_picture(text)
+    if path.name == "GUARANTEES.md":
+        yield from missing_laws(text)
+        yield from wrong_edits(text)
     if path.name == "DEFINITIONS.md":
         yield from missing_definitions(text)
     if program:
