@@ -1,10 +1,9 @@
 -- Versions by their texts, and what a result tells by its version (CNI specification, section 5, ADD Success; of 0.4.0,
 -- "Result").
-use Rattle.std.specs.Prelude.{ℕ, List, codes, Bool, true, false, if◌then◌else◌, Option, Some, None, find}
+use Rattle.std.specs.Prelude.{ℕ, List, [], ◌∷◌, codes, Bool, true, false, if◌then◌else◌, Option, Some, None, find}
 use Rattle.std.specs.Str.{bytes_eq}
 use Rattle.cni_addr.specs.declared.address.Family.{Family}
 use Rattle.cni_addr.specs.declared.address.Family.TheVariants.{V4, V6}
-use Rattle.cni_result.specs.declared.version.TheConstants.Version.{ALL}
 use Rattle.cni_result.specs.declared.version.Version.{Version}
 use Rattle.cni_result.specs.declared.version.Version.TheVariants.{V0_4, V1_0, V1_1}
 
@@ -14,9 +13,13 @@ version_text V0_4 = codes "0.4.0"
 version_text V1_0 = codes "1.0.0"
 version_text V1_1 = codes "1.1.0"
 
+-- the versions that are known, each once, the oldest first
+abbrev pub known_versions : List Version
+known_versions = V0_4 ∷ V1_0 ∷ V1_1 ∷ []
+
 -- the version that a text names as `cniVersion`, of those that are known
 abbrev pub version_named : List ℕ → Option Version
-version_named text = find (λ version. bytes_eq text (version_text version)) ALL
+version_named text = find (λ version. bytes_eq text (version_text version)) known_versions
 
 -- the version came before 1.0.0, with which results lost the IP version of each address
 abbrev pub is_before_1_0 : Version → Bool

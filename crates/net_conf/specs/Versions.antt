@@ -8,8 +8,7 @@ use Rattle.cni_json.specs.Fields.{text_field, member_or}
 use Rattle.cni_json.specs.Outcome.{◌>>=◌}
 use Rattle.cni_json.specs.declared.fields.Field.{Field}
 use Rattle.cni_result.specs.Dns.{words_at}
-use Rattle.cni_result.specs.Versions.{version_text}
-use Rattle.cni_result.specs.declared.version.TheConstants.Version.{ALL}
+use Rattle.cni_result.specs.Versions.{known_versions, version_text}
 use Rattle.cni_result.specs.declared.version.Version.{Version}
 use Rattle.net_conf.specs.Refusals.{invalid}
 use Rattle.net_conf.specs.declared.error.ConfError.{ConfError}
@@ -39,7 +38,7 @@ names texts version = list_any (λ text. bytes_eq text (version_text version)) t
 
 -- the newest version, of those that are known, that one of the texts names
 abbrev pub newest_named : List (List ℕ) → Option Version
-newest_named texts = find (names texts) (reverse ALL)
+newest_named texts = find (names texts) (reverse known_versions)
 
 abbrev pub first_or_empty : List (List ℕ) → List ℕ
 first_or_empty [] = []

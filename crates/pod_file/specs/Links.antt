@@ -1,5 +1,5 @@
 -- The links of an opening.
-use Rattle.std.specs.Prelude.{ℕ, ◌||◌, List, [], length, codes, Bool, if◌then◌else◌, Result, Ok, ok_or, Option, find, ⊤}
+use Rattle.std.specs.Prelude.{ℕ, ◌||◌, List, [], ◌∷◌, length, codes, Bool, if◌then◌else◌, Result, Ok, ok_or, Option, find, ⊤}
 use Rattle.std.specs.List.{list_any}
 use Rattle.std.specs.Str.{bytes_eq}
 use Rattle.serde_json.specs.Data.{Data, Items}
@@ -12,13 +12,13 @@ use Rattle.kernel_types.specs.Texts.{link_kind_text}
 use Rattle.kernel_types.specs.Words.{is_host_ns, is_at, new_link}
 use Rattle.kernel_types.specs.declared.object.Link.{Link}
 use Rattle.kernel_types.specs.declared.object.LinkKind.{LinkKind}
+use Rattle.kernel_types.specs.declared.object.LinkKind.TheVariants.{Bridge, Device}
 use Rattle.kernel_types.specs.declared.object.Tag.TheVariants.{Outside}
 use Rattle.net_conf.specs.Members.{default_mtu, is_mtu}
 use Rattle.net_conf.specs.Names.{is_interface_name}
 use Rattle.pod_file.specs.Refusals.{wrong, member_path}
 use Rattle.pod_file.specs.declared.error.PodError.{PodError}
 use Rattle.pod_file.specs.declared.error.PodError.TheVariants as refusal
-use Rattle.pod_file.specs.declared.links.TheConstants.{KINDS}
 
 abbrev pub listed_of : {A : Type 0} → List ℕ → (List A → Data → Result A PodError) → Field Items → Result (List A) PodError
 listed_of path read f = member_or (Ok []) (wrong path) (each_after read []) f
@@ -38,9 +38,13 @@ interface_name index text = tested (wrong_link index) is_interface_name text
 unfoldable pub name_at : ℕ → Data → Result (List ℕ) PodError
 name_at index d = needed (wrong_link index) (interface_name index) (text_field (codes "name") d)
 
+-- the kinds of links that an opening may have
+abbrev pub opening_kinds : List LinkKind
+opening_kinds = Device ∷ Bridge ∷ []
+
 -- the kind whose word the text is, of those that an opening may have
 abbrev pub kind_named : List ℕ → Option LinkKind
-kind_named text = find (λ kind. bytes_eq text (link_kind_text kind)) KINDS
+kind_named text = find (λ kind. bytes_eq text (link_kind_text kind)) opening_kinds
 
 abbrev pub kind_of : ℕ → Field (List ℕ) → Result LinkKind PodError
 kind_of index f =

@@ -13,9 +13,6 @@ use kernel_types::{Host, opening_with};
 use net_conf::NetList;
 use std::alloc::Global;
 
-/// The most containers that are generated.
-pub const MOST_CONTAINERS: u32 = 10_000;
-
 /// A network list, and a pod file for its network.
 #[derive(PartialEq, Eq, Drop)]
 pub struct Generated {

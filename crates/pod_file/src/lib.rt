@@ -31,7 +31,7 @@ mod rounds;
 
 pub use command::{Command, RawMapping, ValidAtt, Verb, verb_named, verb_text};
 pub use error::PodError;
-pub use generator::{Generated, MOST_CONTAINERS, generate};
+pub use generator::{Generated, generate};
 pub use laws::{generator_laws, pod_file_laws};
 pub use pods::{Pods, Rounds};
 pub use read::read_pods;

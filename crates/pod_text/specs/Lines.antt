@@ -7,7 +7,7 @@ use Rattle.cni_json.specs.Json.{line_of}
 use Rattle.cni_json.specs.Members.{text_data, number_data, list_data, ◌▷◌}
 use Rattle.cni_result.specs.Results.{version_data, result_data, error_data}
 use Rattle.cni_result.specs.declared.version.Version.{Version}
-use Rattle.cni_result.specs.declared.version.TheConstants.Version.{ALL}
+use Rattle.cni_result.specs.Versions.{known_versions}
 use Rattle.cni_verbs.specs.ErrorKinds.{memory_error}
 use Rattle.cni_verbs.specs.declared.answer.Answer.{Answer}
 use Rattle.cni_verbs.specs.declared.answer.Answer.TheVariants.{Added, Yes, Skipped, Versions, Refused, OutOfMemory, Stopped}
@@ -37,7 +37,7 @@ skip_text skips.Gc = disable_gc_key
 unfoldable pub versions_data : Version → Data
 versions_data version = object (no_members
     ▷ put (codes "cniVersion") (version_data version)
-    ▷ put (codes "supportedVersions") (list_data version_data ALL))
+    ▷ put (codes "supportedVersions") (list_data version_data known_versions))
 
 -- what the command was answered
 abbrev pub put_answer : Answer → Members → Members
