@@ -1,5 +1,5 @@
 -- What is read of a network's text is its grammar, both ways, and what is written is read again.
-use Rattle.std.proofs.Common.{◌≡◌, ◌≢◌, ℕ, ◌^◌, ◌<◌, ◌≤◌, Bool, true, false, cond, not, List, [], ◌∷◌, ◌++◌, inl, inr, ◌+◌, ◌-◌, ap₂, take, drop, length-drop, length-append, take_at, drop_at, append_assoc, ne_eqb, eqb-true, suc, All, lt-ltb, le-leb, length, get_or, Option, Some, None, Result, Ok, Err, decimal, refl, sym, ap, ◌∙◌, subst, arith, append-nil, lit≤}
+use Rattle.std.proofs.Common.{◌≡◌, ◌≢◌, ℕ, ◌^◌, ◌<◌, ◌≤◌, Bool, true, false, cond, not, List, [], ◌∷◌, ◌++◌, inl, inr, ◌+◌, ◌-◌, ap₂, take, drop, length-drop, length-append, take_at, drop_at, append_assoc, eqb-true, suc, lt-ltb, le-leb, length, get_or, Option, Some, None, Result, Ok, Err, decimal, refl, sym, ap, ◌∙◌, subst, arith, append-nil, lit≤}
 use Rattle.std.proofs.lemmas.Option.{none-some}
 use Rattle.std.proofs.lemmas.List.{drop_all, take_all}
 use Rattle.std.proofs.lemmas.Bool.{cases_lt, ltb-true, leb-true, lt-leb}
@@ -16,17 +16,16 @@ use Rattle.cni_addr.specs.CidrText.{slash, is_slash, begins_plainly, prefix_of_t
 use Rattle.cni_addr.specs.AddrText.{IsAddrText}
 use Rattle.cni_addr.specs.CidrText.{IsCidrText}
 use Rattle.cni_addr.specs.Network.{IsCidr}
-use Rattle.cni_addr.proofs.Networks.{at_prefix}
-use Rattle.cni_addr.specs.Value.{IsAddr}
+use Rattle.cni_addr.proofs.Networks.{at_prefix, longest_prefix-most}
 use Rattle.std.proofs.lemmas.List.Elements.{All-get_or}
 use Rattle.std.proofs.lemmas.List.Sums.{split_at_first, passes_at_first}
-use Rattle.std.proofs.NetLemmas.Alphabet.{IsDigitOrDot, All-ipv4_text}
 use Rattle.std.specs.Prelude.{if◌then◌else◌}
 use Rattle.cni_addr.specs.AddrText.{addr_of_text, addr_text}
 use Rattle.cni_addr.specs.Value.{AddrValue, CidrValue, longest_prefix}
 use Rattle.std.specs.List.{position, position_or_len, before_first, after_first}
 use Rattle.std.proofs.NetLemmas.Options.{cond_some}
-use Rattle.cni_addr.proofs.AddrTexts.{whole_some, none_of, octet_fits, address_dotted, spelled_is_read, read_is_spelled, written_is_spelled}
+use Rattle.cni_addr.proofs.AddrTexts.{none_of, address_plain, spelled_is_read, read_is_spelled, written_is_spelled}
+use Rattle.cni_addr.proofs.GroupTexts.{whole_some, IsPlain}
 
 -- the decimal text of a number is read
 pub read_decimal : (n : ℕ) → n < 256 → prefix_of_text (decimal n) ≡ Some n
@@ -164,18 +163,9 @@ written_parts c addr prefix text parts is =
 pub spelled_is_cidr : (text : List ℕ) (c : CidrValue) → IsCidrText text c → IsCidr c
 spelled_is_cidr text c h = record { addr = h.address_spelled.fits; prefix = h.fits }
 
--- no digit and no dot is a slash
-digit_or_dot : (c : ℕ) → IsDigitOrDot c → is_slash c ≡ false
-digit_or_dot c (inl digit) = ne_eqb c slash (λ e. omega arith)
-digit_or_dot c (inr dot) = ne_eqb c slash (λ e. omega arith)
-
 -- the text of an address has no slash
 no_slash : (text : List ℕ) (a : AddrValue) → IsAddrText text a → (k : ℕ) → k < length text → is_slash (get_or text k 0) ≡ false
-no_slash text a h k within =
-    let dotted = address_dotted text a h in
-    let octets = dotted.a ∷ dotted.b ∷ dotted.c ∷ dotted.d ∷ [] in
-    let all = All-ipv4_text octets (λ i. octet_fits dotted.a dotted.b dotted.c dotted.d i dotted.fit) in
-    digit_or_dot (get_or text k 0) (All-get_or IsDigitOrDot text k 0 within (subst (λ t. All IsDigitOrDot t) (sym dotted.spelled) all))
+no_slash text a h k within = All-get_or IsPlain text k 0 within (address_plain text a h)
 
 -- the first slash, where none stands before it
 slash_place : (front rest : List ℕ) → ((k : ℕ) → k < length front → is_slash (get_or front k 0) ≡ false) → position_or_len is_slash (front ++ slash ∷ rest) ≡ length front
@@ -184,9 +174,9 @@ slash_place (c ∷ front) rest clear =
     let more = slash_place front rest (λ k within. clear (suc k) (omega arith)) in
     ap (λ b. cond (not b) (1 + position_or_len is_slash (front ++ slash ∷ rest)) 0) (clear 0 (omega arith)) ∙ omega (arith, more)
 
--- a prefix of a family that is built is a small number
-prefix_small : (a : AddrValue) (prefix : ℕ) → IsAddr a → prefix ≤ longest_prefix a.family → prefix < 256
-prefix_small a prefix kept fits = let here = subst (λ f. prefix ≤ longest_prefix f) kept.built fits in omega arith
+-- a prefix of a family is a small number
+prefix_small : (a : AddrValue) (prefix : ℕ) → prefix ≤ longest_prefix a.family → prefix < 256
+prefix_small a prefix fits = omega (arith, longest_prefix-most a.family)
 
 -- an item moves from the back to the front
 one_by_one : (front : List ℕ) (c : ℕ) (rest : List ℕ) → front ++ c ∷ rest ≡ (front ++ c ∷ []) ++ rest
@@ -213,7 +203,7 @@ network_spelled_is_read text c h =
     let after : after_first is_slash text ≡ rest =
     ap₂ (λ (i : ℕ) (t : List ℕ). drop (i + 1) t) place (h.spelled ∙ one_by_one h.address slash rest)
     ∙ drop_at (h.address ++ slash ∷ []) rest (length h.address + 1) (omega (arith, length-append h.address (slash ∷ []))) in
-    let small = prefix_small c.addr c.prefix h.address_spelled.fits h.fits in
+    let small = prefix_small c.addr c.prefix h.fits in
     ap₂ cidr_of_parts (ap addr_of_text before ∙ spelled_is_read h.address c.addr h.address_spelled) (ap prefix_of_text after ∙ read_decimal c.prefix small)
     ∙ sym (fitting_prefix c.addr c.prefix h.fits)
 

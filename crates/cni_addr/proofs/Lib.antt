@@ -1,6 +1,8 @@
 pub mod AddrTexts
 pub mod Cases
 pub mod CidrTexts
+pub mod GroupTexts
+pub mod Groups
 pub mod HexDigits
 pub mod KeyLists
 pub mod Lists

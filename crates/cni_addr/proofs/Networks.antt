@@ -1,7 +1,7 @@
 -- Networks as numbers.
-use Rattle.std.proofs.Common.{◌==◌, ◌&&◌, true, refl, eqb-true, eq-eqb, ne_eqb, Bool, Option, Some, None, inl, inr, ◌≡◌, ℕ, ◌+◌, ◌-◌, ◌*◌, ◌/◌, ◌%◌, ◌^◌, ◌<◌, ◌≤◌, sym, ap, ◌∙◌, subst, arith}
+use Rattle.std.proofs.Common.{◌==◌, ◌&&◌, nat_le, bit_and, true, false, refl, ap₂, leb-true, le-leb, eqb-true, eq-eqb, ne_eqb, Bool, Option, Some, None, inl, inr, ◌≡◌, ℕ, ◌+◌, ◌-◌, ◌*◌, ◌/◌, ◌%◌, ◌^◌, ◌<◌, ◌≤◌, sym, ap, ◌∙◌, subst, arith}
 use Rattle.std.proofs.Math.Nat.{mul-le-mul_left}
-use Rattle.std.proofs.lemmas.Nat.{pow_pos, pow-add, div_below, le-div, mod-mul-add}
+use Rattle.std.proofs.lemmas.Nat.{pow_pos, pow-add, div_below, le-div, mod-mul-add, and_mask}
 use Rattle.std.proofs.lemmas.Bool.{and_parts, and_from, cases_eq}
 use Rattle.std.proofs.lemmas.Option.{none-some}
 use Rattle.std.specs.Prelude.{if◌then◌else◌}
@@ -11,7 +11,7 @@ use Rattle.cni_addr.specs.declared.address.Family.{Family}
 use Rattle.cni_addr.specs.declared.address.Family.TheVariants.{V4, V6}
 use Rattle.cni_addr.specs.Value.{AddrValue, CidrValue, IsAddr, bits_below, longest_prefix}
 use Rattle.cni_addr.specs.Codes.{family_eq}
-use Rattle.cni_addr.specs.Network.{network_size, network_of, last_of, contains, whole, next_addr, IsCidr}
+use Rattle.cni_addr.specs.Network.{network_size, network_bits, network_of, last_of, contains, whole, next_addr, IsCidr}
 
 -- the highest number with the bits of n above the lowest h is below a bound that is a multiple of 2 ^ h
 pub last_below : (n h w : ℕ) → h ≤ w → n < 2 ^ w → n - n % 2 ^ h + (2 ^ h - 1) < 2 ^ w
@@ -32,52 +32,71 @@ at_bits family bits = record { family = family; bits = bits }
 abbrev pub at_prefix : ℕ → AddrValue → CidrValue
 at_prefix prefix a = record { addr = a; prefix = prefix }
 
--- A network whose address and size are known by other names, as in the code that takes them out of a value.
-module _ (c : CidrValue) (a addr : AddrValue) (prefix size : ℕ) (kept : IsAddr a) (same : a ≡ addr) (parts : at_prefix prefix addr ≡ c)
-    (fits : prefix ≤ longest_prefix addr.family) (sized : size ≡ network_size c) where
+-- the longest prefix is an address's length in bits
+pub longest_prefix-most : (f : Family) → longest_prefix f ≤ 128
+longest_prefix-most V4 = omega arith
+longest_prefix-most V6 = omega arith
+
+bits_below-longest : (f : Family) → bits_below f ≡ 2 ^ longest_prefix f
+bits_below-longest V4 = refl
+bits_below-longest V6 = refl
+
+pub bits_below-most : (f : Family) → bits_below f ≤ 2 ^ 128
+bits_below-most V4 = omega arith
+bits_below-most V6 = omega arith
+
+-- A network whose address is known by another name, as in the code that takes it out of a value.
+module _ (c : CidrValue) (a addr : AddrValue) (prefix : ℕ) (same : a ≡ addr) (parts : at_prefix prefix addr ≡ c) where
   same_network : at_prefix prefix a ≡ c
   same_network = ap (at_prefix prefix) same ∙ parts
 
-  sized_here : size ≡ network_size (at_prefix prefix a)
-  sized_here = sized ∙ ap network_size (sym same_network)
+  size_here : network_size c ≡ 2 ^ (longest_prefix a.family - prefix)
+  size_here = ap network_size (sym same_network)
 
-  -- of the one family that is built
-  sized_v4 : size ≡ 2 ^ (32 - prefix)
-  sized_v4 = sized_here ∙ ap (λ f. 2 ^ (longest_prefix f - prefix)) kept.built
+  first_here : network_bits c ≡ a.bits - a.bits % 2 ^ (longest_prefix a.family - prefix)
+  first_here = ap network_bits (sym same_network)
 
-  below_v4 : a.bits < 2 ^ 32
-  below_v4 = subst (λ f. a.bits < bits_below f) kept.built kept.within
+  -- without the host bits it is the number of the network's first address
+  pub first_is : (ones : ℕ) → ones + 1 ≡ network_size c → a.bits - bit_and a.bits ones ≡ network_bits c
+  first_is ones sized =
+      let size = size_here in
+      let all : ones ≡ 2 ^ (longest_prefix a.family - prefix) - 1 = omega (arith, sized, size) in
+      let host = ap (λ n. bit_and a.bits n) all ∙ and_mask a.bits (longest_prefix a.family - prefix) in
+      omega (arith, host, first_here)
 
-  -- the network's address is one
-  pub network_fits : IsAddr (at_bits a.family (a.bits - a.bits % size))
-  network_fits = record { within = subst (λ f. a.bits - a.bits % size < bits_below f) (sym kept.built) (let below = below_v4 in omega arith); built = kept.built }
+  -- which is one of the family
+  pub first_fits : (first : ℕ) → first ≡ network_bits c → IsAddr a → IsAddr (at_bits a.family first)
+  first_fits first is kept = record { within = let within = kept.within in omega (arith, is, first_here, within) }
 
-  -- and so is its last
-  pub last_fits : IsAddr (record { family = a.family; bits = a.bits - a.bits % size + (size - 1) })
-  last_fits = record {
-    within =
-        subst (λ f. a.bits - a.bits % size + (size - 1) < bits_below f) (sym kept.built)
-        (subst (λ s. a.bits - a.bits % s + (s - 1) < 2 ^ 32) (sym sized_v4) (last_below a.bits (32 - prefix) 32 (omega arith) below_v4));
-    built = kept.built;
-  }
+  -- and so is the number of its last address
+  pub last_fits : (first ones : ℕ) → first ≡ network_bits c → ones + 1 ≡ network_size c → IsAddr a → IsAddr (at_bits a.family (first + ones))
+  last_fits first ones is sized kept =
+      let longest = longest_prefix a.family in
+      let bound = bits_below-longest a.family in
+      let within : a.bits < 2 ^ longest = subst (λ n. a.bits < n) bound kept.within in
+      let below = last_below a.bits (longest - prefix) longest (omega arith) within in
+      let sum : first + ones ≡ a.bits - a.bits % 2 ^ (longest - prefix) + (2 ^ (longest - prefix) - 1) = omega (arith, is, first_here, sized, size_here) in
+      record { within = subst (λ n. first + ones < n) (sym bound) (subst (λ n. n < 2 ^ longest) (sym sum) below) }
 
-  -- what the code computes is the network
-  pub network_is : at_prefix prefix (at_bits a.family (a.bits - a.bits % size)) ≡ network_of c
+  -- the last address is no number above 128 bits
+  pub last_below_2_128 : (first ones : ℕ) → first ≡ network_bits c → ones + 1 ≡ network_size c → IsAddr a → first + ones < 2 ^ 128
+  last_below_2_128 first ones is sized kept = let fits = (last_fits first ones is sized kept).within in omega (arith, fits, bits_below-most a.family)
+
+  -- what the code makes is the network
+  pub network_is : (first : ℕ) → first ≡ network_bits c → at_prefix prefix (at_bits a.family first) ≡ network_of c
   unfolding network_of
-  network_is = ap (λ s. at_prefix prefix (at_bits a.family (a.bits - a.bits % s))) sized_here ∙ ap network_of same_network
+  network_is first is =
+      ap (λ n. at_prefix prefix (at_bits a.family n)) is ∙ ap (λ (d : CidrValue). at_prefix d.prefix (at_bits d.addr.family (network_bits c))) same_network
 
   -- and its last address
-  pub last_is : at_bits a.family (a.bits - a.bits % size + (size - 1)) ≡ last_of c
+  pub last_is : (first ones : ℕ) → first ≡ network_bits c → ones + 1 ≡ network_size c → at_bits a.family (first + ones) ≡ last_of c
   unfolding last_of
-  last_is = ap (λ s. at_bits a.family (a.bits - a.bits % s + (s - 1))) sized_here ∙ ap last_of same_network
+  last_is first ones is sized =
+      let sum : first + ones ≡ network_bits c + (network_size c - 1) = omega (arith, is, sized) in
+      ap (λ n. at_bits a.family n) sum ∙ ap (λ (d : CidrValue). at_bits d.addr.family (network_bits c + (network_size c - 1))) same_network
 
-  -- and whether it has an address of its family
-  pub contains_is : (b other : AddrValue) → b ≡ other → family_eq a.family b.family ≡ true → (b.bits / size == a.bits / size) ≡ contains c other
-  unfolding contains
-  contains_is b other is test =
-      ap (λ s. b.bits / s == a.bits / s) sized_here
-      ∙ ap (λ t. t && (b.bits / network_size (at_prefix prefix a) == a.bits / network_size (at_prefix prefix a))) (sym test)
-      ∙ ap (λ n. contains n b) same_network ∙ ap (contains c) is
+  same_family : a.family ≡ c.addr.family
+  same_family = ap (λ (d : CidrValue). d.addr.family) same_network
 
 -- the network of one address, whose parts are known by other names
 pub whole_is : (a addr : AddrValue) (prefix : ℕ) → a ≡ addr → prefix ≡ longest_prefix a.family → at_prefix prefix a ≡ whole addr
@@ -85,6 +104,12 @@ unfolding whole
 whole_is a addr prefix same longest = ap (λ p. at_prefix p a) longest ∙ ap whole same
 
 -- ---- what a network is
+
+-- two tests that pass alike are one
+same_test : (p q : Bool) → (p ≡ true → q ≡ true) → (q ≡ true → p ≡ true) → p ≡ q
+same_test true q there back = sym (there refl)
+same_test false true there back = back refl
+same_test false false there back = refl
 
 -- families that are the same by the test are one
 pub family_eq-true : (f g : Family) → family_eq f g ≡ true → f ≡ g
@@ -177,6 +202,41 @@ contains_first c = (contains_between c (network_of c).addr).1 (network_family c,
 pub contains_last : (c : CidrValue) → contains c (last_of c) ≡ true
 contains_last c = (contains_between c (last_of c)).1 (last_family c, first_before_last c, omega arith)
 
+-- A test of an address by the network's first number and its size, whose parts are known by other names.
+module _ (c : CidrValue) (a addr : AddrValue) (prefix : ℕ) (same : a ≡ addr) (parts : at_prefix prefix addr ≡ c) (first : ℕ) (is : first ≡ network_bits c) (b other : AddrValue) (named : b ≡ other) where
+  -- no address of another family is in it
+  pub other_family : family_eq a.family b.family ≡ false → false ≡ contains c other
+  unfolding contains
+  other_family apart =
+      let families = ap₂ family_eq (sym (same_family c a addr prefix same parts)) (ap (λ (x : AddrValue). x.family) (sym named)) in
+      sym (ap (λ t. t && (other.bits / network_size c == c.addr.bits / network_size c)) (families ∙ apart))
+
+  -- of the same family those from the first on, fewer after it than the network has
+  in_order : (ones : ℕ) → ones + 1 ≡ network_size c → family_eq a.family b.family ≡ true → (nat_le first b.bits && nat_le (b.bits - first) ones) ≡ contains c other
+  unfolding network_of last_of
+  in_order ones sized alike =
+      let family = sym (same_family c a addr prefix same parts) ∙ family_eq-true a.family b.family alike ∙ ap (λ (x : AddrValue). x.family) named in
+      let bits : b.bits ≡ other.bits = ap (λ (x : AddrValue). x.bits) named in
+      same_test (nat_le first b.bits && nat_le (b.bits - first) ones) (contains c other)
+      (λ inside.
+      let (low, high) = and_parts (nat_le first b.bits) (nat_le (b.bits - first) ones) inside in
+      let low_is = leb-true first b.bits low in
+      let high_is = leb-true (b.bits - first) ones high in
+      (contains_between c other).1 (family, omega (arith, is, bits, low_is), omega (arith, is, bits, sized, low_is, high_is)))
+      (λ there.
+      let between = (contains_between c other).0 there in
+      and_from (nat_le first b.bits) (nat_le (b.bits - first) ones) (le-leb first b.bits (omega (arith, is, bits, between.1)))
+      (le-leb (b.bits - first) ones (omega (arith, is, bits, sized, between.2))))
+
+  pub none_below : family_eq a.family b.family ≡ true → nat_le first b.bits ≡ false → false ≡ contains c other
+  none_below alike low =
+      let some = some_address c in
+      let none = in_order (network_size c - 1) (omega (arith, some)) alike in
+      sym (ap (λ t. t && nat_le (b.bits - first) (network_size c - 1)) low) ∙ none
+
+  pub those_within : (ones : ℕ) → ones + 1 ≡ network_size c → family_eq a.family b.family ≡ true → nat_le first b.bits ≡ true → nat_le (b.bits - first) ones ≡ contains c other
+  those_within ones sized alike low = sym (ap (λ t. t && nat_le (b.bits - first) ones) low) ∙ in_order ones sized alike
+
 -- a network has the addresses that its network has
 pub contains_of_network : (c : CidrValue) (a : AddrValue) → contains (network_of c) a ≡ contains c a
 unfolding contains network_of
@@ -192,15 +252,17 @@ last_of_network c =
     let none : (c.addr.bits - c.addr.bits % network_size c) % network_size c ≡ 0 = cleared c.addr.bits (network_size c) (some_address c) in
     ap (λ bits. at_bits c.addr.family (bits + (network_size c - 1))) (omega (arith, none))
 
--- the network and its last address are of the family that is built
+-- the network of a network that fits fits
 pub IsCidr-network_of : (c : CidrValue) → IsCidr c → IsCidr (network_of c)
 unfolding network_of
-IsCidr-network_of c kept = record { addr = network_fits c c.addr c.addr c.prefix (network_size c) kept.addr refl refl kept.prefix refl; prefix = kept.prefix }
+IsCidr-network_of c kept = record { addr = first_fits c c.addr c.addr c.prefix refl refl (network_bits c) refl kept.addr; prefix = kept.prefix }
 
 -- and so is its last address
 pub IsAddr-last_of : (c : CidrValue) → IsCidr c → IsAddr (last_of c)
 unfolding last_of
-IsAddr-last_of c kept = last_fits c c.addr c.addr c.prefix (network_size c) kept.addr refl refl kept.prefix refl
+IsAddr-last_of c kept =
+    let some = some_address c in
+    last_fits c c.addr c.addr c.prefix refl refl (network_bits c) (network_size c - 1) refl (omega (arith, some)) kept.addr
 
 -- ---- one address alone
 
@@ -283,6 +345,6 @@ next_is_higher a b kept found =
       | inr before ↦
           let same : at_bits a.family (a.bits + 1) ≡ b = some_same (at_bits a.family (a.bits + 1)) b (next_before_end a a refl before ∙ found) in
           let within = kept.within in
-          let next : IsAddr (at_bits a.family (a.bits + 1)) = record { within = omega arith; built = kept.built } in
+          let next : IsAddr (at_bits a.family (a.bits + 1)) = record { within = omega arith } in
           (subst IsAddr same next, ap (λ (x : AddrValue). x.family) (sym same), ap (λ (x : AddrValue). x.bits) (sym same))
     ]

@@ -3,7 +3,7 @@ use Rattle.std.specs.Prelude.{ℕ, ◌+◌, ◌-◌, ◌/◌, ◌%◌, ◌^◌, 
 use Rattle.cni_addr.specs.Codes.{family_eq}
 use Rattle.cni_addr.specs.Value.{AddrValue, CidrValue, IsAddr, bits_below, longest_prefix}
 
--- an address that is built, with a prefix of its family
+-- an address with a prefix of its family
 pub record IsCidr (c : CidrValue) : Type 0 where
   pub addr : IsAddr c.addr
   pub prefix : c.prefix ≤ longest_prefix c.addr.family

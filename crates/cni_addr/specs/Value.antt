@@ -25,10 +25,9 @@ abbrev pub bits_below : Family → ℕ
 bits_below V4 = 2 ^ 32
 bits_below V6 = 2 ^ 128
 
--- the number fits the family, and the family is one that is built
+-- the number fits the family
 pub record IsAddr (a : AddrValue) : Type 0 where
   pub within : a.bits < bits_below a.family
-  pub built : a.family ≡ V4
 
 -- the longest prefix of the family
 abbrev pub longest_prefix : Family → ℕ

@@ -29,7 +29,7 @@ impl Eq for Family {
     ghost laws = { on_equiv family_code nat_eq_equiv };
 }
 
-/// An address as a number, its first byte the highest. IPv4 alone is built: the invariant says so.
+/// An address as a number, its first byte the highest. It fits its family: the invariant says so.
 #[derive(Clone, Copy, Debug, PartialEq, Eq, Hash)]
 pub struct Addr {
     pub family: Family,

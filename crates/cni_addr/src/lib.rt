@@ -4,7 +4,7 @@
 //!
 //! - A [`Text`] is the list of its bytes and an [`Items`] the list of its items, whatever they share inside; a copy
 //!   equals what was copied.
-//! - An address is a family and a number below the family's bound. IPv4 alone is built.
+//! - An address is a family, IPv4 or IPv6, and a number below the family's bound.
 //! - Each reader is equal to a definition, which [`laws`] tie to a grammar both ways: what is spelled is read, and what
 //!   is read is spelled. What a writer writes is read again as the same value.
 //! - A network has just the addresses of its family from its first to its last.
@@ -19,6 +19,7 @@
 //! write_addr(alloc, &last_of(&cidr))?           // 10.88.255.255
 //! contains(&cidr, &read_addr(b"10.89.0.1")?)    // false
 //! read_cidr(b"10.0.0.0/33")                     // None
+//! write_addr(alloc, &read_addr(b"FD00:88:0:0::2")?)?    // fd00:88::2
 //! ```
 #![tactic(auto)]
 

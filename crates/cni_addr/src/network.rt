@@ -1,6 +1,6 @@
 //! Networks as numbers. No call here takes memory.
 
-ghost use Rattle.std.specs.Prelude.{◌≡◌, ◌+◌};
+ghost use Rattle.std.specs.Prelude.{◌≡◌, ◌+◌, ◌^◌, ◌≤◌};
 ghost use Rattle.cni_addr.specs.Network as network;
 ghost use Rattle.cni_addr.specs.Value.{bits_below, longest_prefix};
 
@@ -32,21 +32,20 @@ impl Family {
 pub fn contains(cidr: &Cidr, addr: &Addr) -> bool
     ensures { result ≡ network.contains cidr.now addr.now }
 {
-    let size = network_size(cidr);
     let own = cidr.addr;
-    own.family == addr.family && addr.bits / size == own.bits / size
+    let first = first_bits(cidr);
+    own.family == addr.family && first <= addr.bits && addr.bits - first <= host_ones(cidr)
 }
 
 /// The network itself: the host bits are cleared.
 pub fn network_of(cidr: &Cidr) -> Cidr
     ensures { result ≡ network.network_of cidr.now }
 {
-    let size = network_size(cidr);
     let addr = cidr.addr;
     Cidr {
         addr: Addr {
             family: addr.family,
-            bits: addr.bits - addr.bits % size,
+            bits: first_bits(cidr),
         },
         prefix: cidr.prefix,
     }
@@ -56,19 +55,38 @@ pub fn network_of(cidr: &Cidr) -> Cidr
 pub fn last_of(cidr: &Cidr) -> Addr
     ensures { result ≡ network.last_of cidr.now }
 {
-    let size = network_size(cidr);
     let addr = cidr.addr;
     Addr {
         family: addr.family,
-        bits: addr.bits - addr.bits % size + (size - 1),
+        bits: first_bits(cidr) + host_ones(cidr),
     }
 }
 
-/// How many addresses share the prefix.
-fn network_size(cidr: &Cidr) -> u128
-    ensures { result ≡ network.network_size cidr.now }
+/// The number of the network's first address.
+fn first_bits(cidr: &Cidr) -> u128
+    ensures { result ≡ network.network_bits cidr.now }
 {
-    2u128.pow(u32::from(cidr.addr.family.longest_prefix() - cidr.prefix))
+    let addr = cidr.addr;
+    addr.bits - (addr.bits & host_ones(cidr))
+}
+
+/// The number of which the host bits alone are set. The network's size is one more, which is no `u128` for all of IPv6.
+fn host_ones(cidr: &Cidr) -> u128
+    ensures { result + 1 ≡ network.network_size cidr.now }
+{
+    low_ones(cidr.addr.family.longest_prefix() - cidr.prefix)
+}
+
+/// The number of which so many bits, the lowest, are set.
+fn low_ones(count: u8) -> u128
+    requires { count ≤ 128 }
+    ensures { result + 1 ≡ 2 ^ count }
+{
+    if count == 128 {
+        u128::MAX
+    } else {
+        2u128.pow(u32::from(count)) - 1
+    }
 }
 
 /// The address with its family's full prefix: the network of this address alone.

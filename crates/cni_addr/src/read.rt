@@ -8,18 +8,24 @@ ghost use Rattle.std.specs.List.{position};
 
 use crate::address::{Addr, Cidr, Family};
 use crate::mac::Mac;
-use std::net::Ipv4Addr;
+use std::net::IpAddr;
 use std::str;
 
-/// The address that the text spells: four decimal numbers 0 to 255 without leading zeros, joined by dots
-/// (RFC 3986, section 3.2.2, `IPv4address`). None comes exactly outside the grammar. Takes no memory.
+/// The address that the text spells: of IPv4 four decimal numbers 0 to 255 without leading zeros, joined by dots (RFC
+/// 3986, section 3.2.2, `IPv4address`); of IPv6 groups of hex digits of either case with colons, `::` for one group of
+/// zero or more, and perhaps four decimal numbers at the end (RFC 4291, section 2.2). A zone (RFC 4007, section 11) isn't
+/// taken. None comes exactly outside the grammar. Takes no memory.
 pub fn read_addr(text: &[u8]) -> Option<Addr>
     ensures { result ≡ addr_of_text text.now }
 {
-    match Ipv4Addr::parse_ascii(text) {
-        Ok(ip) => Some(Addr {
+    match IpAddr::parse_ascii(text) {
+        Ok(IpAddr::V4(ip)) => Some(Addr {
             family: Family::V4,
             bits: u128::from(ip.to_bits()),
+        }),
+        Ok(IpAddr::V6(ip)) => Some(Addr {
+            family: Family::V6,
+            bits: ip.to_bits(),
         }),
         Err(_) => None,
     }

@@ -10,6 +10,13 @@ fn v4(bits: u32) -> Addr {
     }
 }
 
+fn v6(bits: u128) -> Addr {
+    Addr {
+        family: Family::V6,
+        bits,
+    }
+}
+
 fn slash_16(bits: u32) -> Cidr {
     Cidr {
         addr: v4(bits),
@@ -43,10 +50,74 @@ fn refuses_other_addresses(rt: HostRuntime) {
         "10.0.0.1.",
         " 10.0.0.1",
         "10.0.0.1/8",
-        "::1",
+        "1::2::3",
+        "12345::",
+        "fe80::1%eth0",
+        "1:2:3:4:5:6:7::8",
+        "1:2:3:4:5:6:7",
+        "1:2:3:4:5:6:7:8:9",
+        "1:2:3:4:5:6:7:10.0.0.1",
+        "10.0.0.1::",
+        "::10.0.0.01",
+        ":::",
+        ":1",
+        "1:",
+        "g::",
+        "[::1]",
+        "::1 ",
     ] {
         assert_eq!(rt; read_addr(text.as_bytes()), None, "{text}");
     }
+}
+
+#[test]
+fn reads_groups(rt: HostRuntime) {
+    for (text, bits) in [
+        ("::", 0),
+        ("::1", 1),
+        ("::10.0.0.1", 0x0a00_0001),
+        ("fd00:88::2", 0xfd00_0088_0000_0000_0000_0000_0000_0002),
+        (
+            "FD00:0088:0:0:0:0:0:2",
+            0xfd00_0088_0000_0000_0000_0000_0000_0002,
+        ),
+        (
+            "1:2:3:4:5:6:10.0.0.1",
+            0x0001_0002_0003_0004_0005_0006_0a00_0001,
+        ),
+        ("1:2:3:4:5:6:7::", 0x0001_0002_0003_0004_0005_0006_0007_0000),
+    ] {
+        assert_eq!(rt; read_addr(text.as_bytes()), Some(v6(bits)), "{text}");
+    }
+}
+
+// The examples of RFC 5952, section 4, by its parts, and others.
+#[test]
+fn writes_groups_by_rfc_5952(rt: HostRuntime) -> Result<(), Fail> {
+    for (text, written) in [
+        // 4.1
+        ("2001:0db8::0001", "2001:db8::1"),
+        // 4.2.1
+        ("2001:db8:0:0:0:0:2:1", "2001:db8::2:1"),
+        ("2001:db8::0:1", "2001:db8::1"),
+        // 4.2.2
+        ("2001:db8::1:1:1:1:1", "2001:db8:0:1:1:1:1:1"),
+        // 4.2.3
+        ("2001:0:0:1:0:0:0:1", "2001:0:0:1::1"),
+        ("2001:db8:0:0:1:0:0:1", "2001:db8::1:0:0:1"),
+        // 4.3
+        ("2001:DB8:0:0:1:0:0:1", "2001:db8::1:0:0:1"),
+        ("::ffff:10.0.0.1", "::ffff:a00:1"),
+        ("::10.0.0.1", "::a00:1"),
+        ("1:0:2:3:4:5:6:7", "1:0:2:3:4:5:6:7"),
+        ("0:0:0:0:0:0:0:0", "::"),
+        ("1:0:0:0:0:0:0:0", "1::"),
+        ("0:0:1:2:3:4:0:0", "::1:2:3:4:0:0"),
+    ] {
+        let addr = read_addr(text.as_bytes()).ok_or("no address")?;
+        assert_eq!(rt; write_addr(rt.alloc(), &addr)?.as_str(), written, "{text}");
+    }
+    Ok(())
 }
 
 #[test]
@@ -57,6 +128,9 @@ fn reads_and_writes_networks(rt: HostRuntime) -> Result<(), Fail> {
         "0.0.0.0/0",
         "10.0.0.1/9",
         "255.255.255.255/32",
+        "::/0",
+        "fd00:88::2/64",
+        "2001:db8::1:0:0:1/128",
     ] {
         let cidr = read_cidr(text.as_bytes()).ok_or("no network")?;
         assert_eq!(rt; write_cidr(rt.alloc(), &cidr)?.as_str(), text);
@@ -74,7 +148,9 @@ fn reads_and_writes_networks(rt: HostRuntime) -> Result<(), Fail> {
         "10.0.0.0/256",
         "10.0.0.0/8/8",
         "10.0.0.0/8 ",
-        "::/0",
+        "::/129",
+        "::/00",
+        "fe80::1%eth0/64",
     ] {
         assert_eq!(rt; read_cidr(text.as_bytes()), None, "{text}");
     }
@@ -128,9 +204,38 @@ fn finds_the_ends_of_networks(rt: HostRuntime) {
 }
 
 #[test]
+fn finds_the_ends_of_ipv6_networks(rt: HostRuntime) {
+    let cidr = Cidr {
+        addr: v6(0xfd00_0088_0000_0000_0000_0000_0000_0002),
+        prefix: 64,
+    };
+    let first = v6(0xfd00_0088_0000_0000_0000_0000_0000_0000);
+    let last = v6(0xfd00_0088_0000_0000_ffff_ffff_ffff_ffff);
+    assert_eq!(rt; network_of(&cidr).addr, first);
+    assert_eq!(rt; last_of(&cidr), last);
+    assert!(rt; contains(&cidr, &last));
+    assert!(rt; !contains(&cidr, &v6(0xfd00_0088_0000_0001_0000_0000_0000_0000)));
+    assert!(rt; !contains(&cidr, &v4(0x0a58_0002)));
+    let all = Cidr {
+        addr: cidr.addr,
+        prefix: 0,
+    };
+    assert_eq!(rt; network_of(&all).addr, v6(0));
+    assert_eq!(rt; last_of(&all), v6(u128::MAX));
+    assert!(rt; contains(&all, &v6(0)));
+    assert!(rt; contains(&all, &v6(u128::MAX)));
+    let end = whole(&v6(u128::MAX));
+    assert_eq!(rt; end.prefix, 128);
+    assert_eq!(rt; network_of(&end), end);
+    assert_eq!(rt; last_of(&end), v6(u128::MAX));
+}
+
+#[test]
 fn steps_to_the_next_address(rt: HostRuntime) {
     assert_eq!(rt; next_addr(&v4(0x0a00_00ff)), Some(v4(0x0a00_0100)));
     assert_eq!(rt; next_addr(&v4(0xffff_ffff)), None);
+    assert_eq!(rt; next_addr(&v6(0xffff_ffff)), Some(v6(0x1_0000_0000)));
+    assert_eq!(rt; next_addr(&v6(u128::MAX)), None);
 }
 
 #[test]

@@ -1,24 +1,43 @@
 //! Writers of texts, each the one text that its reader takes for the value and that is customary.
 
 ghost use Rattle.std.specs.Prelude.{◌≡◌, IfOk, map, string_bytes};
-ghost use Rattle.cni_addr.specs.AddrText.{addr_text};
+ghost use Rattle.cni_addr.specs.AddrText.{bits_text, addr_text};
 ghost use Rattle.cni_addr.specs.CidrText.{cidr_text};
 ghost use Rattle.cni_addr.specs.MacText.{colon, byte_text, mac_text};
 ghost use Rattle.std.specs.List.{join_with_byte};
+ghost use Rattle.cni_addr.specs.declared.address.Family.TheVariants as Family;
 
-use crate::address::{Addr, Cidr};
+use crate::address::{Addr, Cidr, Family};
 use crate::mac::Mac;
 use crate::memory::NoMemory;
 use crate::text::Text;
 use std::alloc::{AllocError, Global};
-use std::net::Ipv4Addr;
+use std::net::{Ipv4Addr, Ipv6Addr};
 
-/// The text of the address, as `read_addr` reads it.
+/// The text of the address, as `read_addr` reads it: of IPv6 by RFC 5952, section 4, and without dots, which its section
+/// 5 would have in an IPv4-mapped address.
 pub fn write_addr(alloc: Global, addr: &Addr) -> Result<Text, NoMemory>
     ensures { IfOk result (λ t. t ≡ addr_text addr.now) }
 {
-    let ip = Ipv4Addr::from_bits(addr.bits as u32);
-    Text::of(alloc, ip.to_string(alloc)?.as_str())
+    match addr.family {
+        Family::V4 => write_v4(alloc, addr.bits as u32),
+        Family::V6 => write_v6(alloc, addr.bits),
+    }
+}
+
+/// The text of the IPv4 address with this number.
+fn write_v4(alloc: Global, bits: u32) -> Result<Text, NoMemory>
+    ensures { IfOk result (λ t. t ≡ bits_text Family.V4 bits) }
+{
+    Text::of(alloc, Ipv4Addr::from_bits(bits).to_string(alloc)?.as_str())
+}
+
+/// The text of the IPv6 address with this number.
+fn write_v6(alloc: Global, bits: u128) -> Result<Text, NoMemory>
+    ensures { IfOk result (λ t. t ≡ bits_text Family.V6 bits) }
+{
+    let groups = Ipv6Addr::from_bits(bits).hex_groups();
+    Text::of(alloc, groups.to_string(alloc)?.as_str())
 }
 
 /// The text of the network, its host bits kept, as `read_cidr` reads it.

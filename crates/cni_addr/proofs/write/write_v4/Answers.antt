@@ -1,0 +1,11 @@
+use Rattle.std.proofs.Common.{◌≡◌, subst, ap, ◌∙◌}
+use Rattle.std.specs.Prelude.{IfOk}
+use Rattle.std.specs.Net.Addr.{IsIpv4OfBits}
+use Rattle.std.specs.Net.Text.{ipv4_text}
+use Rattle.cni_addr.proofs.write.write_v4.Goals as goal
+
+pub returns : goal.returns
+unfolding IsIpv4OfBits
+returns c =
+    let text = c.as_str.ensures.value ∙ c.in_ok-to_string.ensures.ok ∙ ap ipv4_text c.from_bits.ensures in
+    subst (λ x. IfOk c.of.result (λ t. t ≡ x)) text c.of.ensures
