@@ -5,7 +5,6 @@ ghost use Rattle.cni_addr.specs.AddrText.{bits_text, addr_text};
 ghost use Rattle.cni_addr.specs.CidrText.{cidr_text};
 ghost use Rattle.cni_addr.specs.MacText.{colon, byte_text, mac_text};
 ghost use Rattle.std.specs.List.{join_with_byte};
-ghost use Rattle.cni_addr.specs.declared.address.Family.TheVariants as Family;
 
 use crate::address::{Addr, Cidr, Family};
 use crate::mac::Mac;

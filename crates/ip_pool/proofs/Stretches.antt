@@ -1,6 +1,8 @@
 -- Stretches of a range's candidates, from one number to below another.
-use Rattle.std.proofs.Common.{◌≡◌, ℕ, zero, suc, ◌+◌, ◌-◌, ◌<◌, ◌≤◌, Bool, true, false, not, ◌&&◌, cond, List, [], ◌∷◌, ◌++◌, Some, filter, find, refl, ap, arith, ◌∙◌}
+use Rattle.std.proofs.Common.{◌≡◌, ℕ, zero, suc, ◌+◌, ◌-◌, ◌<◌, ◌≤◌, Bool, true, false, not, ◌&&◌, cond, List, [], ◌∷◌, ◌++◌, Some, None, filter, find, refl, ap, arith, ◌∙◌}
+use Rattle.std.specs.Option.{option_or}
 use Rattle.std.proofs.lemmas.List.Elements.{filter-append}
+use Rattle.std.proofs.lemmas.List.Folds.{find-append}
 use Rattle.cni_addr.specs.declared.address.Family.{Family}
 use Rattle.cni_addr.specs.declared.address.Addr.{Addr}
 use Rattle.cni_addr.specs.declared.range.Range.{Range}
@@ -68,3 +70,29 @@ pub candidates_between-skip : (r : Range) (low high : ℕ) → low < high → ad
 candidates_between-skip r low high below same =
     let more : high - low ≡ suc (high - (low + 1)) = omega arith in
     rw (more, same) refl
+
+-- ---- a search over a stretch, whose last address is tried by itself
+
+-- no stretch ends before it begins
+pub find-no_stretch : (P : Addr → Bool) (r : Range) (low high : ℕ) → high < low → find P (candidates_between r low (high + 1)) ≡ None
+find-no_stretch P r low high below =
+    let none : (high + 1) - low ≡ 0 = omega arith in
+    rw none refl
+
+find-one : (P : Addr → Bool) (r : Range) (high : ℕ) (a : Addr) (b : Bool) → a ≡ address_at r high → (not (addr_eq a r.gateway) && P a) ≡ b → find P (candidates_between r high (high + 1)) ≡ cond b (Some a) None
+find-one P r high a b is passes =
+    let none = candidates_between-empty r (high + 1) in
+    let here = rw is at passes in
+    rw is (find-candidates_between P r high (high + 1) (omega arith) ∙ rw (here, none) refl)
+
+-- what is sought is below the last, or is the last, or is not there
+pub find-to_last : (P : Addr → Bool) (r : Range) (low high : ℕ) (a : Addr) (b : Bool) → low ≤ high → a ≡ address_at r high → (not (addr_eq a r.gateway) && P a) ≡ b
+    → find P (candidates_between r low (high + 1)) ≡ option_or (find P (candidates_between r low high)) (cond b (Some a) None)
+find-to_last P r low high a b above is passes =
+    ap (find P) (candidates_between-split r low high (high + 1) above (omega arith)) ∙ find-append P (candidates_between r low high) (candidates_between r high (high + 1))
+    ∙ ap (option_or (find P (candidates_between r low high))) (find-one P r high a b is passes)
+
+pub find-below_last : (P : Addr → Bool) (r : Range) (low high : ℕ) (x : Addr) → low ≤ high → find P (candidates_between r low high) ≡ Some x → find P (candidates_between r low (high + 1)) ≡ Some x
+find-below_last P r low high x above found =
+    ap (find P) (candidates_between-split r low high (high + 1) above (omega arith)) ∙ find-append P (candidates_between r low high) (candidates_between r high (high + 1))
+    ∙ ap (λ o. option_or o (find P (candidates_between r high (high + 1)))) found

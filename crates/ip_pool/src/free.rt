@@ -30,8 +30,8 @@ fn may_lease<T: Taken>(range: &Range, addr: &Addr, taken: &T) -> bool
 }
 
 /// The first free candidate of the range from the number `low` to below `high`.
-fn first_free_between<T: Taken>(range: &Range, low: u128, high: u128, taken: &T) -> Option<Addr>
-    requires { high ≤ range.now.end.bits + 1 }
+fn first_free_below<T: Taken>(range: &Range, low: u128, high: u128, taken: &T) -> Option<Addr>
+    requires { high ≤ range.now.end.bits }
     ensures { result ≡ find (is_free (T.taken taken.now))
         (candidates_between range.now low high) }
 {
@@ -44,11 +44,43 @@ fn first_free_between<T: Taken>(range: &Range, low: u128, high: u128, taken: &T)
     None
 }
 
+/// The first free candidate of the range from the number `low` to the number `high`. The last one is tried by itself,
+/// since the number after it may be no `u128`.
+fn first_free_within<T: Taken>(range: &Range, low: u128, high: u128, taken: &T) -> Option<Addr>
+    requires { high ≤ range.now.end.bits }
+    ensures { result ≡ find (is_free (T.taken taken.now))
+        (candidates_between range.now low (high + 1)) }
+{
+    if high < low {
+        return None;
+    }
+    if let Some(addr) = first_free_below(range, low, high, taken) {
+        return Some(addr);
+    }
+    let last = address_at(range, high);
+    if may_lease(range, &last, taken) {
+        Some(last)
+    } else {
+        None
+    }
+}
+
+/// The first free candidate of the range after the number `last`.
+fn first_free_past<T: Taken>(range: &Range, last: u128, taken: &T) -> Option<Addr>
+    ensures { result ≡ find (is_free (T.taken taken.now))
+        (candidates_between range.now (last + 1) (range.now.end.bits + 1)) }
+{
+    if range.end.bits <= last {
+        return None;
+    }
+    first_free_within(range, last + 1, range.end.bits, taken)
+}
+
 /// The first free candidate of the range.
 fn first_free_in<T: Taken>(range: &Range, taken: &T) -> Option<Addr>
     ensures { result ≡ find (is_free (T.taken taken.now)) (candidates_in range.now) }
 {
-    first_free_between(range, range.start.bits, range.end.bits + 1, taken)
+    first_free_within(range, range.start.bits, range.end.bits, taken)
 }
 
 /// The first free candidate of the ranges in order.
@@ -76,10 +108,10 @@ pub(crate) fn first_free_round<T: Taken>(
     ensures { result ≡ find (is_free (T.taken taken.now))
         (way_round range.now earlier.now later.now last.now.bits) }
 {
-    first_free_between(range, last.bits + 1, range.end.bits + 1, taken)
+    first_free_past(range, last.bits, taken)
         .or_else(|| first_free(later, taken))
         .or_else(|| first_free(earlier, taken))
-        .or_else(|| first_free_between(range, range.start.bits, last.bits + 1, taken))
+        .or_else(|| first_free_within(range, range.start.bits, last.bits, taken))
 }
 
 /// The first free candidate of the ranges after `last`, going round at the end.

@@ -2,6 +2,7 @@
 
 ghost use Rattle.std.specs.Prelude.{◌≡◌, ◌<◌};
 
+mod ends;
 mod rows;
 mod runs;
 mod sequences;

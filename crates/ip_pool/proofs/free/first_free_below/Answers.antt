@@ -1,7 +1,7 @@
 use Rattle.std.proofs.Common.{sym, ◌∙◌}
 use Rattle.ip_pool.specs.Pool.{is_free}
 use Rattle.ip_pool.proofs.Stretches.{find-stretch_hit, find-stretch_miss}
-use Rattle.ip_pool.proofs.free.first_free_between.Goals as goal
+use Rattle.ip_pool.proofs.free.first_free_below.Goals as goal
 
 pub returns-then-may_lease : goal.returns-then-may_lease
 returns-then-may_lease g c =

@@ -1,6 +1,6 @@
 use Rattle.std.proofs.Common.{◌≡◌, find}
 use Rattle.ip_pool.specs.Pool.{candidates_between, is_free}
-use Rattle.ip_pool.proofs.free.first_free_between.Given as goal
+use Rattle.ip_pool.proofs.free.first_free_below.Given as goal
 
 -- what is sought is not among the addresses so far
 abbrev pub invariant-loop-bits : goal.invariant-loop-bits
