@@ -1,4 +1,4 @@
--- Texts of addresses: which groups they spell, how they are read, and of which bytes they are made.
+-- Texts of addresses: which groups they spell, how they are read and written, and of which bytes they are made.
 use Rattle.std.proofs.Common.{◌≡◌, ℕ, zero, suc, ◌-◌, ◌^◌, ◌<◌, ◌≤◌, Bool, true, false, List, [], ◌∷◌, ◌++◌, length, get_or, replicate, All, Some, None, inl, inr, refl, sym, ap, ◌∙◌, subst, arith, append-nil, lit≤, ne_eqb, length-append}
 use Rattle.std.proofs.lemmas.Option.{none-some}
 use Rattle.std.proofs.Math.Nat.{pow-le-pow_right}
@@ -10,11 +10,12 @@ use Rattle.std.specs.Str.Parse.{AllDigits}
 use Rattle.std.specs.Net.Addr.{segments_of}
 use Rattle.std.specs.Net.Grammar.{IsDotted, IsGroup, IsGroupsAfter, IsColonHex}
 use Rattle.std.specs.Net.Reader.{Read, read_ipv6, whole_value}
-use Rattle.std.specs.Net.Text.{ipv4_text}
+use Rattle.std.specs.Net.Text.{ipv4_text, hex_groups_text, longest_zero_run}
 use Rattle.std.proofs.NetLemmas.Alphabet.{IsDigitOrDot, All-ipv4_text}
 use Rattle.std.proofs.NetLemmas.Ipv6.{read_ipv6_complete, read_ipv6_sound, EndsGroups-nil}
-use Rattle.std.proofs.NetLemmas.Texts.{AllSegments}
+use Rattle.std.proofs.NetLemmas.Texts.{AllSegments, IsZeroRun-longest_zero_run, longest_zero_run_first}
 use Rattle.cni_addr.specs.CidrText.{is_slash}
+use Rattle.cni_addr.specs.GroupText.{IsRecommended}
 use Rattle.cni_addr.proofs.Groups.{AllSegments-segments_of}
 
 -- each of four octets fits
@@ -134,3 +135,16 @@ colon_hex_plain text segments (inr h) =
     let head = groups_plain false [] h.head_text h.head (All-nil IsPlain) h.head_groups in
     let tail = groups_plain true [] h.tail_text h.tail (All-nil IsPlain) h.tail_groups in
     subst (λ t. All IsPlain t) (sym h.spelled) (All-append IsPlain (h.head_text ++ 58 ∷ 58 ∷ []) h.tail_text (All-append IsPlain h.head_text (58 ∷ 58 ∷ []) head (colons 2)) tail)
+
+-- ---- what is written of groups
+
+pub hex_groups_text-IsRecommended : (groups : List ℕ) → IsRecommended (hex_groups_text groups) groups
+unfolding hex_groups_text
+hex_groups_text-IsRecommended groups = record {
+  start = (longest_zero_run groups).0;
+  count = (longest_zero_run groups).1;
+  zeros = IsZeroRun-longest_zero_run groups;
+  longest = λ other n h. (longest_zero_run_first groups other n h).0;
+  first = λ other h. (longest_zero_run_first groups other (longest_zero_run groups).1 h).1 refl;
+  written = refl;
+}

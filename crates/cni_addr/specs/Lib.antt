@@ -2,6 +2,7 @@ pub mod AddrText
 pub mod CidrText
 pub mod Codes
 pub mod Equal
+pub mod GroupText
 pub mod KeyLaws
 pub mod Lists
 pub mod MacText

@@ -4,7 +4,11 @@
 ghost use Rattle.std.specs.Prelude.{◌≡◌, ◌↔◌, ◌+◌, ◌%◌, ◌≤◌, ℕ, Bool, List, Some, None, true};
 ghost use Rattle.std.specs.Cmp.{IsPartialEquivalence};
 ghost use Rattle.cni_addr.specs.Value.{AddrValue, CidrValue, IsAddr, bits_below};
-ghost use Rattle.cni_addr.specs.AddrText.{IsAddrText, addr_of_text, addr_text};
+ghost use Rattle.std.specs.Int.{w128, to_be_bytes};
+ghost use Rattle.std.specs.Net.Addr.{segments_of};
+ghost use Rattle.cni_addr.specs.declared.address.Family.TheVariants.{V6};
+ghost use Rattle.cni_addr.specs.AddrText.{IsAddrText, addr_of_text, addr_text, bits_text};
+ghost use Rattle.cni_addr.specs.GroupText.{IsRecommended};
 ghost use Rattle.cni_addr.specs.Lists.{each_key_once};
 ghost use Rattle.cni_addr.specs.KeyLaws.{HasFirstOfEachKey};
 ghost use Rattle.cni_addr.specs.CidrText.{IsCidrText, cidr_of_text, cidr_text};
@@ -17,7 +21,13 @@ pub fn addr_text_laws()
     ensures { IsSpelling IsAddrText IsAddr addr_of_text addr_text }
 {}
 
-/// The same of a network's text. What is read is a network that a [`Cidr`](crate::Cidr) can be.
+/// An IPv6 address is written as RFC 5952, section 4, recommends: in lower case, without leading zeros, and with `::`
+/// for the longest run of zeros, of equal ones the first.
+pub fn group_text_laws()
+    ensures { (bits : ℕ) → IsRecommended (bits_text V6 bits) (segments_of (to_be_bytes w128 bits)) }
+{}
+
+/// The text of a network is a spelling too. What is read is a network that a [`Cidr`](crate::Cidr) can be.
 pub fn cidr_text_laws()
     ensures spelling { IsSpelling IsCidrText IsCidr cidr_of_text cidr_text }
     ensures kept { (text : List ℕ) (c : CidrValue) → IsCidrText text c → IsCidr c }
