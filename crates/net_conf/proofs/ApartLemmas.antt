@@ -1,5 +1,5 @@
 -- Ranges in the order of their starts share no address exactly where each ends before the next starts.
-use Rattle.std.proofs.Common.{◌≡◌, ◌≢◌, ℕ, zero, suc, ◌<◌, ◌≤◌, ◌⊎◌, inl, inr, List, [], ◌∷◌, length, get_or, swap, Bool, true, false, not, IsPermutation, refl, sym, ap, ap₂, ◌∙◌, arith}
+use Rattle.std.proofs.Common.{◌≡◌, ◌≢◌, ℕ, zero, suc, ◌<◌, ◌≤◌, ◌⊎◌, inl, inr, ◌+◌, List, [], ◌∷◌, length, get_or, drop, filter, swap, Bool, true, false, not, Option, Some, None, All, IsPermutation, refl, sym, ap, ap₂, ◌∙◌, arith}
 use Rattle.std.specs.Prelude.{◌&&◌, ◌||◌, ◌==◌, nat_lt, nat_le, min, max}
 use Rattle.std.specs.Cmp.{both_ways}
 use Rattle.std.specs.List.{list_all}
@@ -8,12 +8,16 @@ use Rattle.std.proofs.lemmas.Bool.{cases_eq, cases_Bool, and_parts, or_from, or_
 use Rattle.std.proofs.lemmas.Bool.Decides.{nat_tests}
 use Rattle.std.proofs.lemmas.List.Edits.{Swapped, swapped_from_swap, length-swap}
 use Rattle.std.proofs.lemmas.List.Sums.{AllPass-from_list_all, list_all-from_AllPass}
-use Rattle.std.proofs.lemmas.List.Sorted.{IsPermutation-keeps, IsPermutation-sym, All-permutation, length_permutation}
+use Rattle.std.proofs.lemmas.List.{drop_more}
+use Rattle.std.proofs.lemmas.List.Elements.{filter_passes}
+use Rattle.std.proofs.lemmas.List.Kept.{IsNonDecreasingBy-filter}
+use Rattle.std.proofs.lemmas.List.Sorted.{IsPermutation-keeps, IsPermutation-sym}
 use Rattle.cni_addr.specs.Codes.{family_code, family_eq}
 use Rattle.cni_addr.specs.declared.address.Family.{Family}
+use Rattle.cni_addr.specs.declared.address.Family.TheVariants.{V4, V6}
 use Rattle.cni_addr.specs.declared.range.Range.{Range}
 use Rattle.ip_pool.specs.Pool.{is_apart, are_apart}
-use Rattle.net_conf.specs.Apart.{has_address_of, ascends, have_addresses_of_one_family}
+use Rattle.net_conf.specs.Apart.{has_address_of, starts_after, ascend_after}
 
 -- ---- two ranges
 
@@ -70,20 +74,16 @@ first-apart f r s rs p q order false is =
     let up : r.start.bits ≤ s.start.bits = order 0 1 r (omega arith) (omega arith) in
     rw (not_apart-within f r s p q up within) refl
 
-pub ascends-are_apart : (f : Family) (rs : List Range) → list_all (has_address_of f) rs ≡ true → IsNonDecreasingBy (λ x. x.start.bits) rs → ascends rs ≡ are_apart rs
+-- ranges with addresses of one family, in order
+ascends-are_apart : (f : Family) (rs : List Range) → All (λ r. has_address_of f r ≡ true) rs → IsNonDecreasingBy (λ x. x.start.bits) rs → ascend_after None rs ≡ are_apart rs
 ascends-are_apart f [] all order = refl
 ascends-are_apart f (r ∷ []) all order = refl
 ascends-are_apart f (r ∷ s ∷ rs) all order =
-    let one = and_parts (has_address_of f r) (list_all (has_address_of f) (s ∷ rs)) all in
-    let two = and_parts (has_address_of f s) (list_all (has_address_of f) rs) one.1 in
-    let first = first-apart f r s rs one.0 two.0 order (nat_lt r.end.bits s.start.bits) refl in
-    let more = ascends-are_apart f (s ∷ rs) one.1 (tail_order r (s ∷ rs) order) in
+    let first = first-apart f r s rs (all 0 r (omega arith)) (all 1 s (omega arith)) order (nat_lt r.end.bits s.start.bits) refl in
+    let more = ascends-are_apart f (s ∷ rs) (λ k d within. all (suc k) d (omega arith)) (tail_order r (s ∷ rs) order) in
     ap₂ (λ a b. a && b) (sym first) more
 
--- ---- another order
-
-abbrev AreApartAt : List Range → Type 0
-AreApartAt rs = (i j : ℕ) (d : Range) → i < j → j < length rs → is_apart (get_or rs i d) (get_or rs j d) ≡ true
+-- ---- one family after the other
 
 swapped-apart : (r s : Range) → is_apart r s ≡ is_apart s r
 swapped-apart r s =
@@ -97,6 +97,88 @@ swapped-apart r s =
 
     swap_eq : (a b : ℕ) → (a == b) ≡ (b == a)
     swap_eq a b = grind (arith, nat_tests)
+
+-- a range has addresses of one family at most, and of no other is a range's address
+family-cases : (f : Family) → (family_eq f V4 ≡ true) ⊎ (family_eq f V6 ≡ true)
+family-cases V4 = inl refl
+family-cases V6 = inr refl
+
+-- a range without an address is apart from each
+apart-empty : (r s : Range) → r.end.bits < r.start.bits → is_apart r s ≡ true
+apart-empty r s empty =
+    let fact : min r.end.bits s.end.bits < max r.start.bits s.start.bits = omega arith in
+    or_right (not (family_eq r.start.family s.start.family)) _ (grind (arith, nat_tests, fact))
+
+-- a range without an address of the family is apart from each that has some
+apart-other : (f : Family) (r s : Range) → has_address_of f r ≡ true → has_address_of f s ≡ false → is_apart r s ≡ true
+apart-other f r s p q =
+    let one = and_parts (family_eq r.start.family f) (nat_le r.start.bits r.end.bits) p in
+    elim (cases_Bool (family_eq s.start.family f)) [
+      | inl alike ↦
+          let none : s.end.bits < s.start.bits = grind (arith, nat_tests, alike, q) in
+          swapped-apart r s ∙ apart-empty s r none
+      | inr other ↦ (let differ : not (family_eq r.start.family s.start.family) ≡ true = grind (arith, nat_tests, one.0, other) in rw differ refl)
+    ]
+
+-- of neither family it has none at all
+apart-neither : (r s : Range) → has_address_of V4 r ≡ false → has_address_of V6 r ≡ false → is_apart r s ≡ true
+apart-neither r s p q =
+    apart-empty r s
+    (elim (family-cases r.start.family) [
+      | inl four ↦ grind (arith, nat_tests, four, p)
+      | inr six ↦ grind (arith, nat_tests, six, q)
+    ])
+
+list_all-of_each : {X : Type 0} (p : X → Bool) (xs : List X) → ((x : X) → p x ≡ true) → list_all p xs ≡ true
+list_all-of_each p [] each = refl
+list_all-of_each p (x ∷ xs) each = rw (each x) (list_all-of_each p xs each)
+
+-- a test that the others pass is to be made of those alone
+list_all-of_those : {X : Type 0} (p q : X → Bool) (xs : List X) → ((x : X) → q x ≡ false → p x ≡ true) → list_all p xs ≡ list_all p (filter q xs)
+list_all-of_those p q [] others = refl
+list_all-of_those p q (x ∷ xs) others =
+    elim (cases_Bool (q x)) [
+      | inl is ↦ rw is (ap (λ b. p x && b) (list_all-of_those p q xs others))
+      | inr not_it ↦ rw (not_it, others x not_it) (list_all-of_those p q xs others)
+    ]
+
+regroup_first : (a b c : Bool) → (a && (b && c)) ≡ ((a && b) && c)
+regroup_first true b c = refl
+regroup_first false b c = refl
+
+regroup_second : (a b c : Bool) → (a && (b && c)) ≡ (b && (a && c))
+regroup_second true b c = refl
+regroup_second false true c = refl
+regroup_second false false c = refl
+
+-- a range of one family has none of the other's addresses
+not_both : (r : Range) → has_address_of V4 r ≡ true → has_address_of V6 r ≡ false
+not_both r is = grind (arith, nat_tests, is)
+
+apart-by_family : (rs : List Range) → are_apart rs ≡ (are_apart (filter (has_address_of V4) rs) && are_apart (filter (has_address_of V6) rs))
+apart-by_family [] = refl
+apart-by_family (r ∷ rs) =
+    let later = apart-by_family rs in
+    let fours = filter (has_address_of V4) rs in
+    let sixes = filter (has_address_of V6) rs in
+    elim (cases_Bool (has_address_of V4 r)) [
+      | inl four ↦
+          let here = list_all-of_those (is_apart r) (has_address_of V4) rs (λ s other. apart-other V4 r s four other) in
+          rw (four, not_both r four) (ap₂ (λ a b. a && b) here later ∙ regroup_first (list_all (is_apart r) fours) (are_apart fours) (are_apart sixes))
+      | inr not_four ↦ elim (cases_Bool (has_address_of V6 r)) [
+        | inl six ↦
+            let here = list_all-of_those (is_apart r) (has_address_of V6) rs (λ s other. apart-other V6 r s six other) in
+            rw (not_four, six) (ap₂ (λ a b. a && b) here later ∙ regroup_second (list_all (is_apart r) sixes) (are_apart fours) (are_apart sixes))
+        | inr not_six ↦
+            let here = list_all-of_each (is_apart r) rs (λ s. apart-neither r s not_four not_six) in
+            rw (not_four, not_six, here) later
+      ]
+    ]
+
+-- ---- another order
+
+abbrev AreApartAt : List Range → Type 0
+AreApartAt rs = (i j : ℕ) (d : Range) → i < j → j < length rs → is_apart (get_or rs i d) (get_or rs j d) ≡ true
 
 apart_at : (rs : List Range) → are_apart rs ≡ true → AreApartAt rs
 apart_at [] apart i j d up within = absurd (omega arith)
@@ -143,21 +225,30 @@ are_apart-permutation : (xs ys : List Range) → IsPermutation xs ys → are_apa
 are_apart-permutation xs ys moved =
     both_ways (are_apart xs) (are_apart ys) (apart-permutation xs ys moved) (apart-permutation ys xs (IsPermutation-sym xs ys moved))
 
-family-permutation : (f : Family) (xs ys : List Range) → IsPermutation xs ys → list_all (has_address_of f) xs ≡ true → list_all (has_address_of f) ys ≡ true
-family-permutation f xs ys moved all =
-    let each = All-permutation (λ r. has_address_of f r ≡ true) xs ys moved (AllPass-from_list_all (has_address_of f) xs all) in
-    list_all-from_AllPass (has_address_of f) ys each
+ascends-of_family : (f : Family) (rs : List Range) → IsNonDecreasingBy (λ r. r.start.bits) rs → ascend_after None (filter (has_address_of f) rs) ≡ are_apart (filter (has_address_of f) rs)
+ascends-of_family f rs order =
+    ascends-are_apart f (filter (has_address_of f) rs) (filter_passes (has_address_of f) rs) (IsNonDecreasingBy-filter (λ r. r.start.bits) (has_address_of f) rs order)
 
-in_order-of_family : (xs ys : List Range) → IsPermutation xs ys → have_addresses_of_one_family xs ≡ true → IsNonDecreasingBy (λ r. r.start.bits) ys → ascends ys ≡ are_apart ys
-in_order-of_family [] ys moved some order =
-    let none : length ys ≡ 0 = length_permutation [] ys moved in
-    no_ranges ys none
-  where
-    no_ranges : (ys : List Range) → length ys ≡ 0 → ascends ys ≡ are_apart ys
-    no_ranges [] none = refl
-    no_ranges (y ∷ ys) none = absurd (omega arith)
-in_order-of_family (x ∷ xs) ys moved some order = ascends-are_apart x.start.family ys (family-permutation x.start.family (x ∷ xs) ys moved some) order
+-- Ranges that are put in order are apart exactly where they ascend in each family.
+module _ (xs ys : List Range) (moved : IsPermutation xs ys) (order : IsNonDecreasingBy (λ r. r.start.bits) ys) (four : Bool) (of_four : four ≡ ascend_after None (filter (has_address_of V4) ys)) where
+  in_both : (six : Bool) → six ≡ ascend_after None (filter (has_address_of V6) ys) → (four && six) ≡ are_apart xs
+  in_both six of_six =
+      ap₂ (λ a b. a && b) (of_four ∙ ascends-of_family V4 ys order) (of_six ∙ ascends-of_family V6 ys order) ∙ sym (apart-by_family ys) ∙ sym (are_apart-permutation xs ys moved)
 
--- ranges of one family, put in order
-pub ascends_put_in_order : (xs ys : List Range) → IsPermutation xs ys → have_addresses_of_one_family xs ≡ true → IsNonDecreasingBy (λ r. r.start.bits) ys → ascends ys ≡ are_apart xs
-ascends_put_in_order xs ys moved some order = in_order-of_family xs ys moved some order ∙ sym (are_apart-permutation xs ys moved)
+  pub ascend-in_second : (six : Bool) → six ≡ ascend_after None (filter (has_address_of V6) ys) → four ≡ true → six ≡ are_apart xs
+  ascend-in_second six of_six is = sym (ap (λ b. b && six) is) ∙ in_both six of_six
+
+  pub not_in_first : four ≡ false → four ≡ are_apart xs
+  not_in_first is = is ∙ sym (ap (λ b. b && ascend_after None (filter (has_address_of V6) ys)) is) ∙ in_both (ascend_after None (filter (has_address_of V6) ys)) refl
+
+-- ---- one range after the other
+
+pub ascend-passed : (p : Range → Bool) (end : Option ℕ) (rs : List Range) (i : ℕ) (r : Range) → i < length rs → r ≡ get_or rs i r → p r ≡ false
+    → ascend_after end (filter p (drop i rs)) ≡ ascend_after end (filter p (drop (i + 1) rs))
+ascend-passed p end rs i r within is other =
+    ap (λ l. ascend_after end (filter p l)) (drop_more rs i r within ∙ ap (λ x. x ∷ drop (i + 1) rs) (sym is)) ∙ rw other refl
+
+pub ascend-taken : (p : Range → Bool) (end : Option ℕ) (rs : List Range) (i : ℕ) (r : Range) → i < length rs → r ≡ get_or rs i r → p r ≡ true
+    → ascend_after end (filter p (drop i rs)) ≡ (starts_after end r && ascend_after (Some r.end.bits) (filter p (drop (i + 1) rs)))
+ascend-taken p end rs i r within is one =
+    ap (λ l. ascend_after end (filter p l)) (drop_more rs i r within ∙ ap (λ x. x ∷ drop (i + 1) rs) (sym is)) ∙ rw one refl

@@ -12,7 +12,7 @@ use Rattle.cni_addr.specs.declared.range.Range.{Range}
 use Rattle.cni_addr.specs.AddrText.{addr_of_text}
 use Rattle.cni_addr.specs.CidrText.{cidr_of_text}
 use Rattle.cni_addr.specs.Network.{IsCidr, network_of, last_of, contains}
-use Rattle.cni_addr.specs.Value.{AddrValue, CidrValue, IsAddr, bits_below}
+use Rattle.cni_addr.specs.Value.{AddrValue, CidrValue, IsAddr, IsOneFamily, bits_below}
 use Rattle.cni_json.proofs.Endings.{goes, ok_same, passed}
 use Rattle.net_conf.proofs.Endings.{mapped, passing-ok, or_default}
 use Rattle.net_conf.proofs.RangeLemmas.{subnet_room}
@@ -36,10 +36,7 @@ contained_is_addr c a kept inside =
     let between = (contains_between c a).0 inside in
     let last = IsAddr-last_of c kept in
     let same : (last_of c).family ≡ a.family = sym (last_family c) ∙ between.0 in
-    record {
-      within = subst (λ f. a.bits < bits_below f) same (let below = last.within in omega arith);
-      built = sym same ∙ last.built;
-    }
+    record { within = subst (λ f. a.bits < bits_below f) same (let below = last.within in omega arith) }
 
 pub first_host_inside : (c : CidrValue) → is_subnet c ≡ true → contains c (first_host c) ≡ true
 unfolding first_host network_of
@@ -127,3 +124,23 @@ range_at-ok d r is =
       gateway_is_addr = gateway_kept.0;
       gateway_family = family_eq-true gateway.value.family c.addr.family gateway_kept.1;
     })
+
+-- the parts of a range that are read have one family; the defaults are known by other names
+pub one_family : (d : Data) (c : CidrValue) (first last start end gateway : AddrValue) → first ≡ first_host c → last ≡ last_host c → subnet_at d ≡ Ok c
+    → addr_or_at (codes "rangeStart") first (contains c) d ≡ Ok start → addr_or_at (codes "rangeEnd") last (contains c) d ≡ Ok end
+    → addr_or_at (codes "gateway") first (is_address_of c.addr.family) d ≡ Ok gateway → IsOneFamily c start end gateway
+one_family d c first last start end gateway named_first named_last subnet_is start_is end_is gateway_is =
+    let kept = subnet_at-ok d c subnet_is in
+    let first_is = contained_is_addr c (first_host c) kept.1 (first_host_inside c kept.0) in
+    let last_is = contained_is_addr c (last_host c) kept.1 (last_host_inside c kept.0) in
+    let first_start : IsRead (contains c) first = subst (IsRead (contains c)) (sym named_first) (first_is, first_host_inside c kept.0) in
+    let last_end : IsRead (contains c) last = subst (IsRead (contains c)) (sym named_last) (last_is, last_host_inside c kept.0) in
+    let first_gateway : IsRead (is_address_of c.addr.family) first = subst (IsRead (is_address_of c.addr.family)) (sym named_first) (first_is, first_host_family c) in
+    let start_kept = addr_or_at-ok _ first (contains c) d start first_start start_is in
+    let end_kept = addr_or_at-ok _ last (contains c) d end last_end end_is in
+    let gateway_kept = addr_or_at-ok _ first (is_address_of c.addr.family) d gateway first_gateway gateway_is in
+    record {
+      starts = sym ((contains_between c start).0 start_kept.1).0;
+      ends = sym ((contains_between c end).0 end_kept.1).0;
+      gateways = family_eq-true gateway.family c.addr.family gateway_kept.1;
+    }

@@ -1,6 +1,5 @@
 -- Ranges in the order of their starts.
-use Rattle.std.specs.Prelude.{ℕ, Bool, true, ◌&&◌, nat_le, nat_lt, List, [], ◌∷◌}
-use Rattle.std.specs.List.{list_all}
+use Rattle.std.specs.Prelude.{ℕ, Bool, true, ◌&&◌, nat_le, nat_lt, List, [], ◌∷◌, Option, Some, None}
 use Rattle.cni_addr.specs.Codes.{family_eq}
 use Rattle.cni_addr.specs.declared.address.Family.{Family}
 use Rattle.cni_addr.specs.declared.range.Range.{Range}
@@ -9,15 +8,12 @@ use Rattle.cni_addr.specs.declared.range.Range.{Range}
 abbrev pub has_address_of : Family → Range → Bool
 has_address_of family r = family_eq r.start.family family && nat_le r.start.bits r.end.bits
 
--- each range starts after the end of the one before; the first starts after this end
-abbrev pub ascends_from : ℕ → List Range → Bool
-ascends_from end [] = true
-ascends_from end (r ∷ rs) = nat_lt end r.start.bits && ascends_from r.end.bits rs
+-- the range starts after this end, where there is one
+abbrev pub starts_after : Option ℕ → Range → Bool
+starts_after None r = true
+starts_after (Some end) r = nat_lt end r.start.bits
 
-abbrev pub ascends : List Range → Bool
-ascends [] = true
-ascends (r ∷ rs) = ascends_from r.end.bits rs
-
-abbrev pub have_addresses_of_one_family : List Range → Bool
-have_addresses_of_one_family [] = true
-have_addresses_of_one_family (r ∷ rs) = list_all (has_address_of r.start.family) (r ∷ rs)
+-- each range starts after the end of the one before, and the first after this end
+abbrev pub ascend_after : Option ℕ → List Range → Bool
+ascend_after end [] = true
+ascend_after end (r ∷ rs) = starts_after end r && ascend_after (Some r.end.bits) rs

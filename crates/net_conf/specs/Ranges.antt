@@ -5,6 +5,7 @@ use Rattle.cni_json.specs.Fields.{text_field, needed}
 use Rattle.cni_json.specs.Outcome.{◌>>=◌}
 use Rattle.cni_json.specs.declared.fields.Field.{Field}
 use Rattle.cni_addr.specs.declared.address.Family.{Family}
+use Rattle.cni_addr.specs.declared.address.Family.TheVariants.{V4, V6}
 use Rattle.cni_addr.specs.declared.address.Addr.{Addr}
 use Rattle.cni_addr.specs.declared.address.Cidr.{Cidr}
 use Rattle.cni_addr.specs.declared.range.Range.{Range}
@@ -16,9 +17,16 @@ use Rattle.net_conf.specs.Members.{addr_if_at, passing}
 use Rattle.net_conf.specs.Refusals.{invalid}
 use Rattle.net_conf.specs.declared.error.ConfError.{ConfError}
 
--- host bits are 0, and there is room for a network, a gateway, an address to lease and a broadcast address
+-- the longest prefix of a subnet: there is room for a network, a gateway, an address to lease and a broadcast address
+abbrev pub longest_subnet : Family → ℕ
+longest_subnet V4 = 30
+longest_subnet V6 = 126
+
+-- host bits are 0, and the prefix is neither shorter than 8 nor longer than the family's subnets may have
 unfoldable pub is_subnet : Cidr → Bool
-is_subnet subnet = cidr_eq subnet (network_of subnet) && (nat_le 8 subnet.prefix && nat_le subnet.prefix 30)
+is_subnet subnet =
+    cidr_eq subnet (network_of subnet)
+    && (nat_le 8 subnet.prefix && nat_le subnet.prefix (longest_subnet subnet.addr.family))
 
 abbrev pub subnet_of : Field (List ℕ) → Result Cidr ConfError
 subnet_of f = needed (invalid (codes "subnet")) (λ text. passing (codes "subnet") is_subnet (cidr_of_text text)) f

@@ -1,26 +1,20 @@
 //! Whether ranges share an address.
 
-ghost use Rattle.std.specs.Prelude.{◌≡◌, true};
-ghost use Rattle.std.specs.List.{list_all};
+ghost use Rattle.std.specs.Prelude.{◌≡◌, ◌<◌, filter, None};
 ghost use Rattle.std.specs.List.Sorted.{IsNonDecreasingBy, IsPermutation};
 ghost use Rattle.ip_pool.specs.Pool as pools;
 ghost use Rattle.net_conf.specs.Apart as order;
 
 use cni_addr::{Family, Range};
-use ip_pool::are_apart;
 
-/// Whether no two of the ranges share an address. Ranges of one family are put in order and compared with their
+/// Whether no two of the ranges share an address. They are put in order, and in each family compared with their
 /// neighbours alone, so that as many sets as an `ipam` may have take no time in proportion to their square. The order in
 /// which it leaves the ranges is not specified: its caller drops them.
 pub(crate) fn share_no_address(ranges: &mut [Range]) -> bool
     ensures { result ≡ pools.are_apart ranges.old }
 {
-    if have_addresses_of_one_family(ranges) {
-        put_in_order(ranges);
-        ascend(ranges)
-    } else {
-        are_apart(ranges)
-    }
+    put_in_order(ranges);
+    ascend(Family::V4, ranges) && ascend(Family::V6, ranges)
 }
 
 fn put_in_order(ranges: &mut [Range])
@@ -30,19 +24,20 @@ fn put_in_order(ranges: &mut [Range])
     ranges.sort_unstable_by_key(|range| range.start.bits);
 }
 
-fn have_addresses_of_one_family(ranges: &[Range]) -> bool
-    ensures { result ≡ order.have_addresses_of_one_family ranges.now }
+/// Whether each range that has addresses of the family starts after the end of the one before it.
+fn ascend(family: Family, ranges: &[Range]) -> bool
+    ensures { result ≡ order.ascend_after None (filter (order.has_address_of family) ranges.now) }
 {
-    match ranges {
-        [] => true,
-        [first, ..] => have_addresses_of(first.start.family, ranges),
+    let mut end = None;
+    for range in ranges {
+        if has_address_of(family, range) {
+            if !starts_after(end, range) {
+                return false;
+            }
+            end = Some(range.end.bits);
+        }
     }
-}
-
-fn have_addresses_of(family: Family, ranges: &[Range]) -> bool
-    ensures { result ≡ list_all (order.has_address_of family) ranges.now }
-{
-    ranges.iter().all(|range| has_address_of(family, range))
+    true
 }
 
 fn has_address_of(family: Family, range: &Range) -> bool
@@ -51,25 +46,12 @@ fn has_address_of(family: Family, range: &Range) -> bool
     range.start.family == family && range.start.bits <= range.end.bits
 }
 
-/// Whether each range starts after the end of the one before it.
-fn ascend(ranges: &[Range]) -> bool
-    ensures { result ≡ order.ascends ranges.now }
+/// Whether the range starts after this end, where there is one.
+fn starts_after(end: Option<u128>, range: &Range) -> bool
+    ensures { result ≡ order.starts_after end range.now }
 {
-    match ranges {
-        [] => true,
-        [first, others @ ..] => ascend_from(first.end.bits, others),
+    match end {
+        None => true,
+        Some(end) => end < range.start.bits,
     }
-}
-
-fn ascend_from(bound: u128, ranges: &[Range]) -> bool
-    ensures { result ≡ order.ascends_from bound ranges.now }
-{
-    let mut end = bound;
-    for range in ranges {
-        if range.start.bits <= end {
-            return false;
-        }
-        end = range.end.bits;
-    }
-    true
 }

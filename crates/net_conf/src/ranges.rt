@@ -11,7 +11,7 @@ ghost use Rattle.net_conf.specs.Refusals.{is_want_of_memory};
 
 use crate::error::{ConfError, invalid};
 use crate::members::addr_if;
-use cni_addr::{Addr, Cidr, Range, contains, last_of, network_of, read_cidr};
+use cni_addr::{Addr, Cidr, Family, Range, contains, last_of, network_of, read_cidr};
 use cni_json::{Field, Value, field_str};
 use std::alloc::Global;
 
@@ -70,7 +70,19 @@ fn subnet(alloc: Global, object: &Value) -> Result<Cidr, ConfError>
 fn is_subnet(subnet: &Cidr) -> bool
     ensures { result ≡ ranges.is_subnet subnet.now }
 {
-    *subnet == network_of(subnet) && 8 <= subnet.prefix && subnet.prefix <= 30
+    *subnet == network_of(subnet)
+        && 8 <= subnet.prefix
+        && subnet.prefix <= longest_subnet(subnet.addr.family)
+}
+
+/// The longest prefix that leaves room for a network, a gateway, an address to lease and a broadcast address.
+fn longest_subnet(family: Family) -> u8
+    ensures { result ≡ ranges.longest_subnet family }
+{
+    match family {
+        Family::V4 => 30,
+        Family::V6 => 126,
+    }
 }
 
 /// The address after the subnet's own.
@@ -80,9 +92,10 @@ fn first_host(subnet: &Cidr) -> Addr
     ensures { result ≡ ranges.first_host subnet.now }
 {
     let last = last_of(subnet);
+    let own = subnet.addr;
     Addr {
         family: last.family,
-        bits: subnet.addr.bits + 1,
+        bits: own.bits + 1,
     }
 }
 
