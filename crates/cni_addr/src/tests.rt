@@ -1,5 +1,7 @@
 //! Values from outside, and each public call once.
 
+ghost use Rattle.std.specs.Prelude.{◌≡◌};
+
 use super::*;
 use std::test::Fail;
 
@@ -10,7 +12,9 @@ fn v4(bits: u32) -> Addr {
     }
 }
 
-fn v6(bits: u128) -> Addr {
+fn v6(bits: u128) -> Addr
+    ensures { result.family ≡ Family.V6 }
+{
     Addr {
         family: Family::V6,
         bits,

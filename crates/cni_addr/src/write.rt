@@ -13,8 +13,8 @@ use crate::text::Text;
 use std::alloc::{AllocError, Global};
 use std::net::{Ipv4Addr, Ipv6Addr};
 
-/// The text of the address, as `read_addr` reads it: of IPv6 by RFC 5952, section 4, and without dots, which its section
-/// 5 would have in an IPv4-mapped address.
+/// The text of the address, as `read_addr` reads it: of IPv6 by RFC 5952, section 4, and without the dots that its
+/// section 5 has in an IPv4-mapped address.
 pub fn write_addr(alloc: Global, addr: &Addr) -> Result<Text, NoMemory>
     ensures { IfOk result (λ t. t ≡ addr_text addr.now) }
 {

@@ -8,8 +8,8 @@ ghost use Rattle.net_conf.specs.Apart as order;
 use cni_addr::{Family, Range};
 
 /// Whether no two of the ranges share an address. They are put in order, and in each family compared with their
-/// neighbours alone, so that as many sets as an `ipam` may have take no time in proportion to their square. The order in
-/// which it leaves the ranges is not specified: its caller drops them.
+/// neighbours alone, so that as many sets as an `ipam` may have take no time in proportion to their square. The order
+/// in which it leaves the ranges is not specified: its caller drops them.
 pub(crate) fn share_no_address(ranges: &mut [Range]) -> bool
     ensures { result ≡ pools.are_apart ranges.old }
 {
