@@ -2,8 +2,7 @@
 
 ghost use Rattle.std.specs.Prelude.{◌≡◌, ◌<◌};
 
-use super::runs::{add_new, pick_runs_in};
-use super::{addr, pick_in, range};
+use super::{Replay, addr, range};
 use crate::{AddrRuns, Steps};
 use cni_addr::{Addr, Cidr, Family, Items, NoMemory, Range, RangeSet};
 use std::alloc::Global;
@@ -41,83 +40,64 @@ fn set_of(alloc: Global, ranges: &[Range]) -> Result<RangeSet, NoMemory> {
     Ok(RangeSet { ranges: items })
 }
 
-/// The choice, which is the same from a list and from runs.
-fn next<L: Ledger>(
+/// Leases these addresses one after the other, each the next one, and tells which would be next.
+fn lease_in_turn<L: Ledger>(
     rt: &impl Abort,
     alloc: Global,
-    set: &RangeSet,
-    last: Option<Addr>,
-    taken: &[Addr],
-    steps: &mut Steps<L>,
-) -> Result<Option<Addr>, NoMemory> {
-    let mut list = Items::new(alloc);
-    let mut runs = AddrRuns::new(alloc);
-    for addr in taken {
-        list.push(*addr)?;
-        add_new(&mut runs, addr, steps)?;
-    }
-    let picked = pick_in(rt, set, last, &list);
-    let by_runs = pick_runs_in(rt, set, last, &runs, steps);
-    assert_eq!(rt; by_runs, picked);
-    Ok(picked)
-}
-
-fn pools_reach<L: Ledger>(rt: &impl Abort, alloc: Global, blank: Blank) -> Result<(), NoMemory>
+    ranges: &[Range],
+    given: &[Addr],
+    blank: Blank,
+) -> Result<Option<Addr>, NoMemory>
     requires name { blank.name ≡ L.name }
     requires parts { blank.parts ≡ L.parts }
     requires some { 0 < blank.parts }
 {
-    let mut steps = Steps::<L>::new(blank);
-    let (a, gateway, b, end) = (u128::MAX - 3, u128::MAX - 2, u128::MAX - 1, u128::MAX);
-    let top = set_of(alloc, &[v6_range(a, end, gateway)])?;
-    for (last, taken, picked) in [
-        (None, [].as_slice(), Some(v6(a))),
-        (Some(v6(a)), [v6(a)].as_slice(), Some(v6(b))),
-        (Some(v6(b)), [v6(a), v6(b)].as_slice(), Some(v6(end))),
-        (Some(v6(end)), [v6(b), v6(end)].as_slice(), Some(v6(a))),
-        (Some(v6(end)), [v6(a), v6(b), v6(end)].as_slice(), None),
-    ] {
-        assert_eq!(rt; next(rt, alloc, &top, last, taken, &mut steps)?, picked);
+    let mut replay = Replay::<L> {
+        set: set_of(alloc, ranges)?,
+        base: 0,
+        last: None,
+        taken: Items::new(alloc),
+        runs: AddrRuns::new(alloc),
+        steps: Steps::new(blank),
+    };
+    for addr in given {
+        replay.give(rt, *addr, "a pool")?;
     }
-    let low = set_of(alloc, &[v6_range(0, 3, 1)])?;
-    assert_eq!(rt; next(rt, alloc, &low, None, &[], &mut steps)?, Some(v6(0)));
-    assert_eq!(rt;
-        next(rt, alloc, &low, Some(v6(0)), &[v6(0)], &mut steps)?,
-        Some(v6(2))
-    );
-    let large = set_of(alloc, &[v6_range(1, (1 << 120) - 2, 1)])?;
-    assert_eq!(rt;
-        next(rt, alloc, &large, None, &[v6(2), v6(3)], &mut steps)?,
-        Some(v6(4))
-    );
+    Ok(replay.pick(rt))
+}
+
+#[test]
+fn a_pool_reaches_the_last_address(rt: HostRuntime) -> Result<(), Fail> {
+    let pool = [v6_range(u128::MAX - 3, u128::MAX, u128::MAX - 2)];
+    let given = [v6(u128::MAX - 3), v6(u128::MAX - 1), v6(u128::MAX)];
+    let next = lease_in_turn::<Brand>(&rt, rt.alloc(), &pool, &given, Blank::new(1))?;
+    assert_eq!(rt; next, None);
     Ok(())
 }
 
 #[test]
-fn pools_reach_the_ends_of_ipv6(rt: HostRuntime) -> Result<(), Fail> {
-    pools_reach::<Brand>(&rt, rt.alloc(), Blank::new(1))?;
+fn a_set_goes_on_after_the_last_address(rt: HostRuntime) -> Result<(), Fail> {
+    let pool = [v6_range(u128::MAX, u128::MAX, 0), v6_range(0, 3, 1)];
+    let given = [v6(u128::MAX), v6(0), v6(2)];
+    let next = lease_in_turn::<Brand>(&rt, rt.alloc(), &pool, &given, Blank::new(1))?;
+    assert_eq!(rt; next, Some(v6(3)));
     Ok(())
 }
 
-fn families_apart<L: Ledger>(rt: &impl Abort, alloc: Global, blank: Blank) -> Result<(), NoMemory>
-    requires name { blank.name ≡ L.name }
-    requires parts { blank.parts ≡ L.parts }
-    requires some { 0 < blank.parts }
-{
-    let mut steps = Steps::<L>::new(blank);
-    let both = set_of(alloc, &[range(2, 3, 1), v6_range(2, 3, 1)])?;
-    for (last, taken, picked) in [
-        (None, [v6(2)].as_slice(), Some(addr(2))),
-        (Some(addr(3)), [addr(2), addr(3)].as_slice(), Some(v6(2))),
-        (Some(v6(3)), [v6(2), v6(3)].as_slice(), Some(addr(2))),
-    ] {
-        assert_eq!(rt; next(rt, alloc, &both, last, taken, &mut steps)?, picked);
-    }
+#[test]
+fn a_pool_is_large(rt: HostRuntime) -> Result<(), Fail> {
+    let pool = [v6_range(1, (1 << 120) - 2, 1)];
+    let given = [v6(2), v6(3)];
+    let next = lease_in_turn::<Brand>(&rt, rt.alloc(), &pool, &given, Blank::new(1))?;
+    assert_eq!(rt; next, Some(v6(4)));
     Ok(())
 }
 
 #[test]
 fn families_share_no_address(rt: HostRuntime) -> Result<(), Fail> {
-    families_apart::<Brand>(&rt, rt.alloc(), Blank::new(1))?;
+    let pool = [range(2, 3, 1), v6_range(2, 3, 1)];
+    let given = [addr(2), addr(3), v6(2)];
+    let next = lease_in_turn::<Brand>(&rt, rt.alloc(), &pool, &given, Blank::new(1))?;
+    assert_eq!(rt; next, Some(v6(3)));
     Ok(())
 }
