@@ -1,0 +1,5 @@
+use Rattle.ip_pool.proofs.tests.ends.families_share_no_address.Given as goal
+
+-- the ledger is that of the blank
+abbrev pub ghosts-lease_in_turn : goal.ghosts-lease_in_turn
+ghosts-lease_in_turn g a = record { name = a.blank.name; parts = a.blank.parts }
