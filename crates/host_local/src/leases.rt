@@ -56,9 +56,9 @@ fn range_with<'a>(ranges: &'a [Range], addr: &Addr) -> Option<&'a Range>
 }
 
 fn given_by(addr: &Addr, range: &Range) -> Given
+    requires { is_between addr.now range.now ≡ true }
     ensures { result ≡ leases.given_by addr.now range.now }
 {
-    // One family is built, so that the three have one.
     let _families = (addr.family, range.gateway.family, range.subnet.addr.family);
     Given {
         address: Cidr {
@@ -74,7 +74,10 @@ fn given_by(addr: &Addr, range: &Range) -> Given
 fn find_given(set: &RangeSet, addr: &Addr) -> Option<Given>
     ensures { result ≡ leases.given_by_set set.now addr.now }
 {
-    range_with(set.ranges.as_slice(), addr).map(|range| given_by(addr, range))
+    match range_with(set.ranges.as_slice(), addr) {
+        Some(range) => Some(given_by(addr, range)),
+        None => None,
+    }
 }
 
 /// The k-th address by the k-th set. An address that no range of its set holds is passed over, which no candidate is:

@@ -3,6 +3,9 @@ use Rattle.std.specs.Prelude.{ℕ, List, [], ◌∷◌, ◌++◌, codes, Option,
 use Rattle.std.specs.List.{join_with_byte}
 use Rattle.cni_addr.specs.AddrText.{addr_text}
 use Rattle.cni_addr.specs.MacText.{colon}
+use Rattle.cni_addr.specs.declared.address.Addr.{Addr}
+use Rattle.cni_addr.specs.declared.address.Family.{Family}
+use Rattle.cni_addr.specs.declared.address.Family.TheVariants.{V4, V6}
 use Rattle.cni_addr.specs.declared.macvlan.MacvlanMode.{MacvlanMode}
 use Rattle.kernel_types.specs.declared.object.Att.{Att}
 use Rattle.kernel_types.specs.declared.object.Tag.{Tag}
@@ -38,8 +41,16 @@ chain_text chains.HostMasq = codes "CNI-HOSTPORT-MASQ"
 chain_text chains.Masq = codes "CNI-MASQ"
 chain_text chains.Forward = codes "CNI-FORWARD"
 
+abbrev pub host_text_of : Family → List ℕ → List ℕ
+host_text_of V4 text = text
+host_text_of V6 text = codes "[" ++ text ++ codes "]"
+
+-- an address before a port, in brackets where it has colons itself (RFC 3986, section 3.2.2)
+abbrev pub host_text : Addr → List ℕ
+host_text addr = host_text_of addr.family (addr_text addr)
+
 -- what a rule does, as iptables names it
 abbrev pub target_text : Target → List ℕ
 target_text targets.Accept = codes "ACCEPT"
 target_text targets.Masquerade = codes "MASQUERADE"
-target_text (targets.Dnat addr port) = codes "DNAT " ++ join_with_byte colon (addr_text addr ∷ decimal port ∷ [])
+target_text (targets.Dnat addr port) = codes "DNAT " ++ join_with_byte colon (host_text addr ∷ decimal port ∷ [])

@@ -3,7 +3,7 @@
 ghost use Rattle.std.specs.Prelude.{◌≡◌, IfOk};
 ghost use Rattle.kernel_text.specs.Words.{link_mode, chain_text, target_text};
 
-use cni_addr::{MacvlanMode, NoMemory, Text, write_addr};
+use cni_addr::{Family, MacvlanMode, NoMemory, Text, write_addr};
 use kernel_types::{Chain, LinkKind, Target};
 use std::alloc::Global;
 
@@ -39,7 +39,10 @@ pub fn target_text(alloc: Global, target: &Target) -> Result<Text, NoMemory>
         Target::Dnat { addr, port } => {
             let text = write_addr(alloc, addr)?;
             let text = text.as_str();
-            Text::of(alloc, format!(in alloc; "DNAT {text}:{port}")?.as_str())
+            match addr.family {
+                Family::V4 => Text::of(alloc, format!(in alloc; "DNAT {text}:{port}")?.as_str()),
+                Family::V6 => Text::of(alloc, format!(in alloc; "DNAT [{text}]:{port}")?.as_str()),
+            }
         }
     }
 }

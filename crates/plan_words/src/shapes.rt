@@ -2,7 +2,6 @@
 //! attachment with its names.
 
 ghost use Rattle.std.specs.Prelude.{◌≡◌, ◌++◌, option_map, flat_map, IfOk, OnErr, OnOk};
-ghost use Rattle.cni_addr.specs.declared.address.Family.TheVariants.{V4};
 ghost use Rattle.kernel_types.specs.Equal.{rule_eq};
 ghost use Rattle.cni_addr.specs.Lists.{each_key_once};
 ghost use Rattle.plan_words.specs.Families as families;
@@ -22,7 +21,6 @@ use std::alloc::Global;
 
 /// Every address of the family.
 pub fn default_route(family: Family) -> Cidr
-    requires { family ≡ V4 }
     ensures { result ≡ shapes.default_route family }
 {
     Cidr {
@@ -31,9 +29,8 @@ pub fn default_route(family: Family) -> Cidr
     }
 }
 
-/// `224.0.0.0/4` (RFC 5771).
+/// `224.0.0.0/4` (RFC 5771), `ff00::/8` (RFC 4291).
 fn multicast(family: Family) -> Cidr
-    requires { family ≡ V4 }
     ensures { result ≡ shapes.multicast family }
 {
     match family {
@@ -44,7 +41,13 @@ fn multicast(family: Family) -> Cidr
             },
             prefix: 4,
         },
-        Family::V6 => unreachable!(),
+        Family::V6 => Cidr {
+            addr: Addr {
+                family,
+                bits: 255 << 120,
+            },
+            prefix: 8,
+        },
     }
 }
 

@@ -18,14 +18,14 @@ later_plugins-once = search arith
 range_of_tens-ok : IsWellFormedRange range_of_tens
 unfolding is_subnet network_of contains
 range_of_tens-ok = record {
-  is_cidr = record { addr = record { within = omega arith; built = refl }; prefix = omega arith };
+  is_cidr = record { addr = record { within = omega arith }; prefix = omega arith };
   subnet = refl;
-  start_is_addr = record { within = omega arith; built = refl };
+  start_is_addr = record { within = omega arith };
   start_inside = refl;
-  end_is_addr = record { within = omega arith; built = refl };
+  end_is_addr = record { within = omega arith };
   end_inside = refl;
   in_order = refl;
-  gateway_is_addr = record { within = omega arith; built = refl };
+  gateway_is_addr = record { within = omega arith };
   gateway_family = refl;
 }
 
