@@ -1,9 +1,9 @@
 //! The mode of a link, and chains and targets as texts.
 
 ghost use Rattle.std.specs.Prelude.{◌≡◌, IfOk};
-ghost use Rattle.kernel_text.specs.Words.{link_mode, chain_text, target_text};
+ghost use Rattle.kernel_text.specs.Words.{link_mode, chain_text, host_text, target_text};
 
-use cni_addr::{Family, MacvlanMode, NoMemory, Text, write_addr};
+use cni_addr::{Addr, Family, MacvlanMode, NoMemory, Text, write_addr};
 use kernel_types::{Chain, LinkKind, Target};
 use std::alloc::Global;
 
@@ -29,6 +29,19 @@ pub fn chain_text(chain: Chain) -> &'static str
     }
 }
 
+fn host_text(alloc: Global, addr: &Addr) -> Result<Text, NoMemory>
+    ensures { IfOk result (λ text. text ≡ host_text addr.now) }
+{
+    let text = write_addr(alloc, addr)?;
+    match addr.family {
+        Family::V4 => Ok(text),
+        Family::V6 => {
+            let text = text.as_str();
+            Text::of(alloc, format!(in alloc; "[{text}]")?.as_str())
+        }
+    }
+}
+
 /// The target as iptables names it, of `DNAT` with its address and port.
 pub fn target_text(alloc: Global, target: &Target) -> Result<Text, NoMemory>
     ensures { IfOk result (λ text. text ≡ target_text target.now) }
@@ -37,12 +50,9 @@ pub fn target_text(alloc: Global, target: &Target) -> Result<Text, NoMemory>
         Target::Accept => Text::of(alloc, "ACCEPT"),
         Target::Masquerade => Text::of(alloc, "MASQUERADE"),
         Target::Dnat { addr, port } => {
-            let text = write_addr(alloc, addr)?;
-            let text = text.as_str();
-            match addr.family {
-                Family::V4 => Text::of(alloc, format!(in alloc; "DNAT {text}:{port}")?.as_str()),
-                Family::V6 => Text::of(alloc, format!(in alloc; "DNAT [{text}]:{port}")?.as_str()),
-            }
+            let host = host_text(alloc, addr)?;
+            let host = host.as_str();
+            Text::of(alloc, format!(in alloc; "DNAT {host}:{port}")?.as_str())
         }
     }
 }
