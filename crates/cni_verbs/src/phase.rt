@@ -5,7 +5,7 @@ ghost use Rattle.std.specs.Prelude.{◌≡◌};
 use crate::answer::{Cause, Ending, Question};
 use cni_addr::Items;
 use cni_result::{AddResult, Cached};
-use kernel_types::Call;
+use kernel_types::{Call, Shared};
 
 /// What a run does next. The numbers say how much of a list of its plan is behind it.
 #[derive(Drop)]
@@ -36,7 +36,7 @@ pub(crate) enum Phase {
     /// The cached entry is read ahead of the questions of a check.
     FindingEntry,
     /// A CHECK asks about this cached entry, and its questions aren't made yet.
-    Found(Cached),
+    Found(Shared<Cached>),
     /// So many questions were answered with yes.
     Asking {
         questions: Items<Question>,

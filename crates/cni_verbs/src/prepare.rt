@@ -48,7 +48,7 @@ pub(crate) fn prepare_phase(
             Ok(())
         }
         Phase::Found(cached) => {
-            let questions = check_questions(alloc, list, command, cached)?;
+            let questions = check_questions(alloc, list, command, cached.get())?;
             *phase = Phase::Asking {
                 questions,
                 passed: 0,

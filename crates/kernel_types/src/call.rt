@@ -2,6 +2,7 @@
 
 use crate::object::{AddrObj, Att, Lease, Link, LinkKey, RouteObj, Setting, Tag};
 use crate::rule::{Rule, Table};
+use crate::shared_value::Shared;
 use cni_addr::{Addr, Cidr, Family, Items, Mac, RangeSet, Text};
 use cni_result::Cached;
 use std::marker::Model;
@@ -214,7 +215,7 @@ pub enum Reply {
     /// The attachments that own an object, each once, in the order of the host's list.
     Owners(Items<Att>),
     /// The cached result, where there is one.
-    Entry(Option<Cached>),
+    Entry(Option<Shared<Cached>>),
     /// The call failed and changed nothing. The kernel never answers so: it stands for a listed fault.
     Fault,
 }

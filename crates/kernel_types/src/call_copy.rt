@@ -8,6 +8,7 @@ ghost use Rattle.kernel_types.specs.declared.call.Reply.TheVariants as replies;
 use crate::call::{Call, Change, Kind, Object, Probe, Reply};
 use crate::object::{AddrObj, Att, Link, LinkKey, RouteObj, Setting, Tag};
 use crate::rule::Rule;
+use crate::shared_value::Shared;
 use cni_addr::{Cidr, Duplicate, Items, Mac, NoMemory, RangeSet, Text};
 use cni_result::Cached;
 
@@ -86,7 +87,7 @@ fn twin_of_owners(owners: &Items<Att>) -> Result<Reply, NoMemory>
 }
 
 #[inline(never)]
-fn twin_of_entry(cached: &Option<Cached>) -> Result<Reply, NoMemory>
+fn twin_of_entry(cached: &Option<Shared<Cached>>) -> Result<Reply, NoMemory>
     ensures { IfOk result (λ twin. twin ≡ replies.Entry cached.now) }
 {
     Ok(Reply::Entry(cached.copy()?))

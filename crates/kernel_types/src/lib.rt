@@ -35,6 +35,7 @@ pub mod object;
 pub mod opening;
 pub mod rule;
 pub mod shared;
+pub mod shared_value;
 pub mod texts;
 pub mod words;
 
@@ -47,4 +48,5 @@ pub use object::{
 };
 pub use opening::opening_with;
 pub use rule::{Chain, Rule, Table, Target};
+pub use shared_value::Shared;
 pub use texts::{link_kind_text, table_named, table_text};

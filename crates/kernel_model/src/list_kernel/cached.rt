@@ -7,7 +7,7 @@ use super::HostLists;
 use crate::lists::{any_own, find_own};
 use cni_addr::{Duplicate, NoMemory};
 use cni_result::Cached;
-use kernel_types::{Att, CachedObj, Reply, Tag};
+use kernel_types::{Att, CachedObj, Reply, Shared, Tag};
 
 impl HostLists {
     pub(crate) fn cache_put(&mut self, att: &Att, cached: &Cached) -> Result<Reply, NoMemory>
@@ -27,7 +27,10 @@ impl HostLists {
         ensures { IfOk result (λ reply. (self.now, reply) ≡ cache_get_of self.now att.now) }
     {
         match find_own(&self.cached, att) {
-            Some(entry) => Ok(Reply::Entry(Some(entry.cached.copy()?))),
+            Some(entry) => {
+                let cached = Shared::of(*self.cached.allocator(), entry.cached.copy()?)?;
+                Ok(Reply::Entry(Some(cached)))
+            }
             None => Ok(Reply::Entry(None)),
         }
     }

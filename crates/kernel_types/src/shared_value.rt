@@ -1,0 +1,66 @@
+//! Values that their copies share.
+
+ghost use Rattle.std.specs.Prelude.{◌≡◌, IfOk};
+
+use cni_addr::{Duplicate, NoMemory};
+use std::alloc::Global;
+use std::marker::Model;
+use std::sync::Arc;
+
+/// A value that its copies share. Contracts see the value.
+///
+/// It is one pointer, so a large value is moved and copied at the cost of a small one.
+#[derive(Drop)]
+pub struct Shared<T> {
+    value: Arc<T>,
+}
+
+impl<T> Model for Shared<T> {
+    ghost use Rattle.std.specs.Arc.{arc_value};
+
+    ghost Value = { T };
+
+    ghost view = { λ s. arc_value s.value };
+}
+
+impl<T: Drop> Shared<T> {
+    /// The value, in memory of its own.
+    pub fn of(alloc: Global, value: T) -> Result<Shared<T>, NoMemory>
+        ensures { IfOk result (λ shared. shared ≡ value) }
+    {
+        Ok(Shared {
+            value: Arc::new(alloc, value)?,
+        })
+    }
+}
+
+impl<T> Shared<T> {
+    /// The value as it is read. Takes no memory.
+    pub fn get(&self) -> &T
+        ensures { result.now ≡ self.now }
+    {
+        &*self.value
+    }
+}
+
+impl<T> Duplicate for Shared<T> {
+    fn copy(&self) -> Result<Shared<T>, NoMemory> {
+        Ok(Shared {
+            value: Arc::try_clone(&self.value)?,
+        })
+    }
+}
+
+impl<T: PartialEq> PartialEq for Shared<T> {
+    ghost eq = { T.eq };
+
+    ghost laws = { T.PartialEq.laws };
+
+    fn eq(&self, other: &Shared<T>) -> bool {
+        self.get() == other.get()
+    }
+}
+
+impl<T: Eq> Eq for Shared<T> {
+    ghost laws = { T.Eq.laws };
+}
