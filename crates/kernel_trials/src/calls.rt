@@ -1,10 +1,11 @@
 //! The calls that the words of a row stand for, a function each.
 
 use crate::objects::{
-    address, att, cached, host_end, inner_end, key, lease, macvlan, route, rule, set, setting,
+    address, att, cached, host_end, inner_end, key, lease, macvlan, route, rule, set, set_number,
+    setting,
 };
-use crate::words::{RowError, cidr_of, cut, kind_of, link_words};
-use cni_addr::{Family, Text};
+use crate::words::{RowError, cidr_of, cut, family_of, kind_of, link_words};
+use cni_addr::Text;
 use kernel_types::{Call, Change, Object, Probe, link_mac, table_named};
 use std::alloc::Global;
 
@@ -31,8 +32,9 @@ fn gateway_ensure(alloc: Global, bridge: &str) -> Result<Call, RowError> {
     Ok(Call::GatewayEnsure { bridge, cidr })
 }
 
-fn forward_ensure() -> Result<Call, RowError> {
-    Ok(Call::ForwardEnsure { family: Family::V4 })
+fn forward_ensure(words: &str) -> Result<Call, RowError> {
+    let family = family_of(words)?;
+    Ok(Call::ForwardEnsure { family })
 }
 
 /// `VethAdd CONTAINER NAMESPACE NAME OUTER MASTER`.
@@ -86,16 +88,13 @@ fn setting_set(alloc: Global, words: &str) -> Result<Call, RowError> {
     Ok(Call::SettingSet { setting })
 }
 
-/// `LeaseNext CONTAINER SET`; the tiny set is the second of the network.
+/// `LeaseNext CONTAINER SET`.
 fn lease_next(alloc: Global, words: &str) -> Result<Call, RowError> {
     let (container, name) = cut(words);
+    let number = set_number(name)?;
     let set = set(alloc, name)?;
     let att = att(alloc, container)?;
-    Ok(Call::LeaseNext {
-        att,
-        number: u32::from(name == "tiny"),
-        set,
-    })
+    Ok(Call::LeaseNext { att, number, set })
 }
 
 fn cache_put(alloc: Global, container: &str) -> Result<Call, RowError> {
@@ -223,7 +222,7 @@ pub(crate) fn call_of(alloc: Global, words: &str) -> Result<Call, RowError> {
         "Begin" => begin(alloc, words),
         "BridgeEnsure" => bridge_ensure(alloc, words),
         "GatewayEnsure" => gateway_ensure(alloc, words),
-        "ForwardEnsure" => forward_ensure(),
+        "ForwardEnsure" => forward_ensure(words),
         "VethAdd" => veth_add(alloc, words),
         "MacvlanAdd" => macvlan_add(alloc, words),
         _ => addition(alloc, verb, words),

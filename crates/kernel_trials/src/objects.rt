@@ -5,7 +5,7 @@ ghost use Rattle.kernel_types.specs.declared.object.LinkKind.TheVariants as kind
 ghost use Rattle.kernel_types.specs.declared.object.Tag.TheVariants as tags;
 
 use crate::words::{RowError, addr_of, cidr_of, cut, link_words, port_of};
-use cni_addr::{Items, MacvlanMode, NoMemory, Range, RangeSet, Text};
+use cni_addr::{Family, Items, MacvlanMode, NoMemory, Range, RangeSet, Text};
 use cni_result::{AddResult, Cached, Version, no_dns};
 use kernel_types::{
     AddrObj, Att, Chain, Lease, Link, LinkKey, LinkKind, RouteObj, Rule, Setting, Table, Tag,
@@ -130,11 +130,14 @@ pub(crate) fn address(alloc: Global, words: &str) -> Result<AddrObj, RowError> {
     })
 }
 
-/// The default route: container and place.
+/// A route by the gateway of its family: container, place and destination.
 pub(crate) fn route(alloc: Global, words: &str) -> Result<RouteObj, RowError> {
     let at = link_words(words);
-    let dst = cidr_of("0.0.0.0/0")?;
-    let gateway = addr_of("10.88.0.1")?;
+    let dst = cidr_of(at.rest)?;
+    let gateway = addr_of(match dst.addr.family {
+        Family::V4 => "10.88.0.1",
+        Family::V6 => "fd00:88::1",
+    })?;
     let ns = Text::of(alloc, at.ns)?;
     let link = Text::of(alloc, at.link)?;
     let tag = own(alloc, at.container)?;
@@ -206,11 +209,27 @@ fn set_of(alloc: Global, subnet: &str, gateway: &str, end: &str) -> Result<Range
     Ok(RangeSet { ranges })
 }
 
-/// The wide set, or the tiny one, which has one candidate.
+/// The place of a set among those of the network.
+pub(crate) fn set_number(name: &str) -> Result<u32, RowError> {
+    match name {
+        "wide" => Ok(0),
+        "tiny" => Ok(1),
+        "last" => Ok(2),
+        _ => Err(RowError::NoCall),
+    }
+}
+
+/// The wide set, or one of those with one candidate: the tiny one, and the last one of IPv6.
 pub(crate) fn set(alloc: Global, name: &str) -> Result<RangeSet, RowError> {
     match name {
         "wide" => set_of(alloc, "10.88.0.0/16", "10.88.0.1", "10.88.255.254"),
         "tiny" => set_of(alloc, "10.3.0.0/30", "10.3.0.1", "10.3.0.2"),
+        "last" => set_of(
+            alloc,
+            "ffff:ffff:ffff:ffff:ffff:ffff:ffff:fffc/126",
+            "ffff:ffff:ffff:ffff:ffff:ffff:ffff:fffd",
+            "ffff:ffff:ffff:ffff:ffff:ffff:ffff:fffe",
+        ),
         _ => Err(RowError::NoCall),
     }
 }

@@ -1,6 +1,6 @@
 //! The words of a row.
 
-use cni_addr::{Addr, Cidr, NoMemory, read_addr, read_cidr};
+use cni_addr::{Addr, Cidr, Family, NoMemory, read_addr, read_cidr};
 use kernel_types::Kind;
 
 /// Why a row has no reply.
@@ -58,6 +58,14 @@ pub(crate) fn cidr_of(word: &str) -> Result<Cidr, RowError> {
 
 pub(crate) fn port_of(word: &str) -> Result<u16, RowError> {
     word.parse().or(Err(RowError::NoCall))
+}
+
+pub(crate) fn family_of(word: &str) -> Result<Family, RowError> {
+    match word {
+        "IPv4" => Ok(Family::V4),
+        "IPv6" => Ok(Family::V6),
+        _ => Err(RowError::NoCall),
+    }
 }
 
 pub(crate) fn kind_of(word: &str) -> Result<Kind, RowError> {
