@@ -171,15 +171,20 @@ goes_lease list c sets made old new phase r next is stands all h =
     let F : Phase → Type 0 = λ p. Goes list c made old new p r next in
     subst F (sym is) (at_state list c (made + 1) new next (steps_lease list c (made + 1) old r lt) h)
 
-pub goes_after : (list : NetList) (c : Command) (made passed : ℕ) (calls : List Call) (added : AddResult) (addrs : List Addr) (phase : Phase) (r : Reply) (next : Phase)
-    → phase ≡ phases.AfterLeases calls passed added → KeepsResult list c addrs phase → IsOpen (state_in list c addrs phase)
-    → (added ≡ result_of_add list (att_of c) c.netns addrs → IsPhaseOf list c (made + 1) addrs next (script.at_call_after (made + 1) (drop (passed + 1) calls) addrs r))
-    → Goes list c made addrs addrs phase r next
-goes_after list c made passed calls added addrs phase r next is keeps opens h =
+-- the result that is kept
+pub kept_result : (list : NetList) (c : Command) (passed : ℕ) (calls : List Call) (added : AddResult) (addrs : List Addr) (phase : Phase)
+    → phase ≡ phases.AfterLeases calls passed added → KeepsResult list c addrs phase → added ≡ result_of_add list (att_of c) c.netns addrs
+kept_result list c passed calls added addrs phase is keeps =
     let K : Phase → Type 0 = λ p. KeepsResult list c addrs p in
+    subst K is keeps
+
+pub goes_after : (list : NetList) (c : Command) (made passed : ℕ) (calls : List Call) (added : AddResult) (addrs : List Addr) (phase : Phase) (r : Reply) (next : Phase)
+    → phase ≡ phases.AfterLeases calls passed added → IsOpen (state_in list c addrs phase)
+    → IsPhaseOf list c (made + 1) addrs next (script.at_call_after (made + 1) (drop (passed + 1) calls) addrs r) → Goes list c made addrs addrs phase r next
+goes_after list c made passed calls added addrs phase r next is opens h =
     let O : Phase → Type 0 = λ p. IsOpen (state_in list c addrs p) in
     let F : Phase → Type 0 = λ p. Goes list c made addrs addrs p r next in
-    subst F (sym is) (at_state list c (made + 1) addrs next (steps_after list c (made + 1) passed calls addrs r (subst O is opens)) (h (subst K is keeps)))
+    subst F (sym is) (at_state list c (made + 1) addrs next (steps_after list c (made + 1) passed calls addrs r (subst O is opens)) h)
 
 pub goes_cache : (list : NetList) (c : Command) (made : ℕ) (ending : Ending) (addrs : List Addr) (phase : Phase) (r : Reply) (next : Phase) → phase ≡ phases.ReadingCache ending
     → IsPhaseOf list c (made + 1) addrs next (script.at_cache list (made + 1) ending r) → Goes list c made addrs addrs phase r next

@@ -1,11 +1,16 @@
-//! The phase after a reply. Nothing here takes memory.
+//! The phase after a reply. Where the reply grants what was asked in the midst of a list, the phase stays in its place
+//! and a number in it goes up. Memory is taken for copies alone: of the tag in the way, which the error names, and of
+//! the cached entry that a CHECK asks about.
 
-ghost use Rattle.std.specs.Prelude.{◌≡◌, ℕ, ◌+◌, ◌<◌, ◌≤◌, ◌^◌, [], ◌∷◌, List, length, drop, slice_get, Some, vec_capacity};
+ghost use Rattle.std.specs.Prelude.{◌≡◌, ℕ, ◌+◌, ◌<◌, ◌≤◌, ◌^◌, [], ◌∷◌, List, length, drop, slice_get, Some, vec_capacity, false, IfOk, IsOk, OnErr, OnOk};
+ghost use Rattle.std.specs.Option.{unwrap_or};
 ghost use Rattle.cni_addr.specs.declared.address.Addr.{Addr};
+ghost use Rattle.cni_result.specs.declared.result.AddResult.{AddResult};
 ghost use Rattle.net_conf.specs.declared.list.NetList.{NetList};
 ghost use Rattle.pod_file.specs.declared.command.Command.{Command};
+ghost use Rattle.kernel_types.specs.Replies.{holds_text_or_list};
+ghost use Rattle.kernel_types.specs.declared.call.Call.{Call};
 ghost use Rattle.kernel_types.specs.declared.call.Kind.{Kind};
-ghost use Rattle.kernel_types.specs.declared.call.Reply.{Reply};
 ghost use Rattle.cni_verbs.specs.CommandWords.{att_of};
 ghost use Rattle.cni_verbs.specs.Wanted.{sets_of, kinds_of, result_of_add};
 ghost use Rattle.cni_verbs.specs.Script.{IsOpen};
@@ -16,36 +21,40 @@ ghost use Rattle.cni_verbs.specs.Phases.{Awaits, KeepsResult, Stands, IsPhaseOf,
 use crate::answer::{Cause, Ending, Question};
 use crate::over::is_changing;
 use crate::phase::Phase;
-use cni_addr::{Addr, Items};
-use cni_result::AddResult;
+use cni_addr::{Addr, Duplicate, Items, NoMemory};
 use kernel_types::{Call, Reply};
+use std::alloc::Global;
 use std::mem::replace;
 
 // ---- refusals
 
-fn cause_of(set: u32, number: u64, reply: Reply) -> Cause
-    ensures { result ≡ script.cause_of set number reply }
+fn cause_of(set: u32, number: u64, reply: &Reply) -> Result<Cause, NoMemory>
+    ensures ok { IfOk result (λ cause. cause ≡ script.cause_of set number reply.now) }
+    ensures frees { holds_text_or_list reply.now ≡ false → IsOk result }
 {
     match reply {
-        Reply::NoNs => Cause::NoNamespace,
-        Reply::NoLink => Cause::NoMaster,
-        Reply::Taken(tag) => Cause::NameTaken(tag),
-        Reply::Empty => Cause::PoolEmpty(set),
+        Reply::NoNs => Ok(Cause::NoNamespace),
+        Reply::NoLink => Ok(Cause::NoMaster),
+        Reply::Taken(tag) => Ok(Cause::NameTaken(tag.copy()?)),
+        Reply::Empty => Ok(Cause::PoolEmpty(set)),
         Reply::Done
         | Reply::Leased(_)
         | Reply::Gone(_)
         | Reply::Has(_)
         | Reply::Owners(_)
         | Reply::Entry(_)
-        | Reply::Fault => Cause::Fault(number),
+        | Reply::Fault => Ok(Cause::Fault(number)),
     }
 }
 
 /// Reads the cached entry ahead of the deletions, of a run that this reply refuses.
-fn undoing(set: u32, number: u64, refusal: Reply) -> Phase
-    ensures { result ≡ Phase.ReadingCache (Ending.Refused (script.cause_of set number refusal)) }
+fn undoing(set: u32, number: u64, refusal: &Reply) -> Result<Phase, NoMemory>
+    ensures ok { IfOk result (λ next. next
+        ≡ Phase.ReadingCache (Ending.Refused (script.cause_of set number refusal.now))) }
+    ensures frees { holds_text_or_list refusal.now ≡ false → IsOk result }
 {
-    Phase::ReadingCache(Ending::Refused(cause_of(set, number, refusal)))
+    let cause = cause_of(set, number, refusal)?;
+    Ok(Phase::ReadingCache(Ending::Refused(cause)))
 }
 
 fn faulted(number: u64, ending: Ending) -> Ending
@@ -57,6 +66,13 @@ fn faulted(number: u64, ending: Ending) -> Ending
         }
         Ending::Refused(cause) => Ending::Refused(cause),
     }
+}
+
+/// The ending that a phase holds, taken out ahead of the phase that comes in its place.
+fn taken_out(ending: &mut Ending) -> Ending
+    ensures { result ≡ ending.old }
+{
+    replace(ending, Ending::Yes)
 }
 
 // ---- where work is left
@@ -73,60 +89,77 @@ fn leasing(given: usize, sets: usize) -> Phase
     }
 }
 
-fn before_leases(calls: Items<Call>, passed: usize, sets: usize) -> Phase
+/// Passes a call before the leases. Where it was the last, the leases are next.
+fn pass_before(calls: &Items<Call>, passed: &mut usize, sets: usize) -> Option<Phase>
+    requires { passed.old < length calls.now }
     ensures { (list : NetList) (c : Command) (made : ℕ) → length (sets_of list) ≡ sets
-        → IsPhaseOf list c made [] result (script.before_leases list c (drop passed calls)) }
+        → IsPhaseOf list c made [] (unwrap_or result (Phase.BeforeLeases calls.now passed.new))
+        (script.before_leases list c (drop (passed.old + 1) calls.now)) }
 {
-    if passed < calls.as_slice().len() {
-        Phase::BeforeLeases { calls, passed }
+    let count = calls.as_slice().len();
+    *passed += 1;
+    if *passed < count {
+        None
     } else {
-        drop(calls);
-        leasing(0, sets)
+        Some(leasing(0, sets))
     }
 }
 
-// ---- one reply
+// ---- one reply: the next phase, or none where the one at hand goes on
 
-fn after_begin(number: u64, reply: Reply) -> Phase
-    ensures { (list : NetList) (c : Command)
-        → IsPhaseOf list c number [] result (script.at_begin list c number reply) }
+fn after_begin(number: u64, reply: &Reply) -> Result<Phase, NoMemory>
+    ensures ok { (list : NetList) (c : Command)
+        → IfOk result (λ next. IsPhaseOf list c number [] next (script.at_begin list c number reply.now)) }
+    ensures frees { holds_text_or_list reply.now ≡ false → IsOk result }
 {
     match reply {
-        Reply::Done => Phase::Begun,
-        refusal => Phase::refused(cause_of(0, number, refusal)),
+        Reply::Done => Ok(Phase::Begun),
+        refusal => Ok(Phase::refused(cause_of(0, number, refusal)?)),
     }
 }
 
 fn after_call_before(
-    calls: Items<Call>,
-    passed: usize,
+    calls: &Items<Call>,
+    passed: &mut usize,
     sets: usize,
     number: u64,
-    reply: Reply,
-) -> Phase
-    requires { passed < length calls }
-    ensures { (list : NetList) (c : Command) → length (sets_of list) ≡ sets
-        → IsPhaseOf list c number [] result (script.at_call_before list c number (drop (passed + 1) calls) reply) }
+    reply: &Reply,
+) -> Result<Option<Phase>, NoMemory>
+    requires { passed.old < length calls.now }
+    ensures ok { (list : NetList) (c : Command) → length (sets_of list) ≡ sets
+        → IfOk result (λ next. IsPhaseOf list c number []
+        (unwrap_or next (Phase.BeforeLeases calls.now passed.new))
+        (script.at_call_before list c number (drop (passed.old + 1) calls.now) reply.now)) }
+    ensures err { OnErr result (passed.new ≡ passed.old) }
+    ensures frees { holds_text_or_list reply.now ≡ false → IsOk result }
 {
     match reply {
-        Reply::Done => before_leases(calls, passed + 1, sets),
-        refusal => undoing(0, number, refusal),
+        Reply::Done => Ok(pass_before(calls, passed, sets)),
+        refusal => Ok(Some(undoing(0, number, refusal)?)),
     }
 }
 
-fn after_lease(given: &mut Vec<Addr>, sets: usize, number: u64, reply: Reply) -> Phase
+fn after_lease(
+    given: &mut Vec<Addr>,
+    sets: usize,
+    number: u64,
+    reply: &Reply,
+) -> Result<Phase, NoMemory>
     requires left { length given.old.items < sets }
     requires few { sets < 2 ^ 32 }
     requires room { sets ≤ vec_capacity given.old }
-    ensures phase { (list : NetList) (c : Command) → length (sets_of list) ≡ sets
-        → IsPhaseOf list c number given.new.items result
-        (script.at_lease list c number (drop (length given.old.items + 1) (sets_of list)) given.old.items reply) }
+    ensures ok { (list : NetList) (c : Command) → length (sets_of list) ≡ sets
+        → IfOk result (λ next. IsPhaseOf list c number given.new.items next
+        (script.at_lease list c number (drop (length given.old.items + 1) (sets_of list))
+        given.old.items reply.now)) }
+    ensures err { OnErr result (given.new ≡ given.old) }
+    ensures frees { holds_text_or_list reply.now ≡ false → IsOk result }
     ensures room { sets ≤ vec_capacity given.new }
 {
     match reply {
         Reply::Leased(addr) => {
-            given.push_reserved(addr);
-            leasing(given.len(), sets)
+            given.push_reserved(*addr);
+            Ok(leasing(given.len(), sets))
         }
         refusal => {
             let set = given.len() as u32;
@@ -136,161 +169,216 @@ fn after_lease(given: &mut Vec<Addr>, sets: usize, number: u64, reply: Reply) ->
 }
 
 fn after_call_after(
-    calls: Items<Call>,
-    passed: usize,
-    added: AddResult,
+    passed: &mut usize,
     number: u64,
-    reply: Reply,
-) -> Phase
-    requires { passed < number }
-    ensures { (list : NetList) (c : Command) (addrs : List Addr)
+    reply: &Reply,
+) -> Result<Option<Phase>, NoMemory>
+    requires { passed.old < number }
+    ensures ok { (list : NetList) (c : Command) (addrs : List Addr) (calls : List Call) (added : AddResult)
         → added ≡ result_of_add list (att_of c) c.netns addrs
-        → IsPhaseOf list c number addrs result (script.at_call_after number (drop (passed + 1) calls) addrs reply) }
+        → IfOk result (λ next. IsPhaseOf list c number addrs
+        (unwrap_or next (Phase.AfterLeases calls passed.new added))
+        (script.at_call_after number (drop (passed.old + 1) calls) addrs reply.now)) }
+    ensures err { OnErr result (passed.new ≡ passed.old) }
+    ensures frees { holds_text_or_list reply.now ≡ false → IsOk result }
 {
     match reply {
-        Reply::Done => Phase::AfterLeases {
-            calls,
-            passed: passed + 1,
-            added,
-        },
-        refusal => undoing(0, number, refusal),
+        Reply::Done => {
+            *passed += 1;
+            Ok(None)
+        }
+        refusal => Ok(Some(undoing(0, number, refusal)?)),
     }
 }
 
-fn after_cache(number: u64, ending: Ending, reply: Reply) -> Phase
+fn after_cache(number: u64, ending: &mut Ending, reply: &Reply) -> Phase
     ensures { (list : NetList) (c : Command) (addrs : List Addr)
-        → IsPhaseOf list c number addrs result (script.at_cache list number ending reply) }
+        → IsPhaseOf list c number addrs result (script.at_cache list number ending.old reply.now) }
 {
+    let ending = taken_out(ending);
     match reply {
         Reply::Fault => Phase::Over(faulted(number, ending)),
         _ => Phase::Deleting(0, ending),
     }
 }
 
-fn after_deletion(passed: usize, number: u64, ending: Ending, reply: Reply) -> Phase
-    requires { passed < number }
+fn after_deletion(
+    passed: &mut usize,
+    number: u64,
+    ending: &mut Ending,
+    reply: &Reply,
+) -> Option<Phase>
+    requires { passed.old < number }
     ensures { (list : NetList) (c : Command) (addrs : List Addr) (kind : Kind)
-        → drop passed (kinds_of list) ≡ kind ∷ drop (passed + 1) (kinds_of list)
-        → IsPhaseOf list c number addrs result
-        (script.at_deletion number kind (drop (passed + 1) (kinds_of list)) ending reply) }
+        → drop passed.old (kinds_of list) ≡ kind ∷ drop (passed.old + 1) (kinds_of list)
+        → IsPhaseOf list c number addrs (unwrap_or result (Phase.Deleting passed.new ending.new))
+        (script.at_deletion number kind (drop (passed.old + 1) (kinds_of list)) ending.old reply.now) }
 {
     match reply {
-        Reply::Gone(false) => Phase::Deleting(passed + 1, ending),
-        Reply::Fault => Phase::Over(faulted(number, ending)),
-        _ => Phase::Deleting(passed, ending),
+        Reply::Gone(false) => {
+            *passed += 1;
+            None
+        }
+        Reply::Fault => Some(Phase::Over(faulted(number, taken_out(ending)))),
+        _ => None,
     }
 }
 
-fn after_entry(number: u64, reply: Reply) -> Phase
-    ensures { (list : NetList) (c : Command) (addrs : List Addr)
-        → IsPhaseOf list c number addrs result (script.at_entry list c number reply) }
+fn after_entry(number: u64, reply: &Reply) -> Result<Phase, NoMemory>
+    ensures ok { (list : NetList) (c : Command) (addrs : List Addr)
+        → IfOk result (λ next. IsPhaseOf list c number addrs next (script.at_entry list c number reply.now)) }
+    ensures frees { holds_text_or_list reply.now ≡ false → IsOk result }
 {
     match reply {
-        Reply::Entry(Some(cached)) => Phase::Found(cached),
-        Reply::Entry(None) => Phase::refused(Cause::Unknown),
-        _ => Phase::refused(Cause::Fault(number)),
+        Reply::Entry(Some(cached)) => Ok(Phase::Found(cached.copy()?)),
+        Reply::Entry(None) => Ok(Phase::refused(Cause::Unknown)),
+        _ => Ok(Phase::refused(Cause::Fault(number))),
     }
 }
 
-/// The end of a run whose question at this place was answered with no.
-fn denied(questions: Items<Question>, place: usize) -> Phase
-    requires { place < length questions }
-    ensures { (question : Question) → slice_get questions place ≡ Some question
+/// The end of a run whose question at this place was answered with no. The questions are taken out ahead of it.
+fn denied(alloc: Global, questions: &mut Items<Question>, place: usize) -> Phase
+    requires { place < length questions.old }
+    ensures { (question : Question) → slice_get questions.old place ≡ Some question
         → result ≡ Phase.Over (Ending.Refused question.lack) }
 {
-    let mut questions = questions.into_vec();
+    let taken = replace(questions, Items::new(alloc));
+    let mut questions = taken.into_vec();
     let Question { call, lack } = questions.swap_remove(place);
     drop(call);
     drop(questions);
     Phase::refused(lack)
 }
 
-fn after_question(questions: Items<Question>, passed: usize, number: u64, reply: Reply) -> Phase
-    requires passed { passed < number }
-    requires left { passed < length questions }
+fn after_question(
+    alloc: Global,
+    questions: &mut Items<Question>,
+    passed: &mut usize,
+    number: u64,
+    reply: &Reply,
+) -> Option<Phase>
+    requires passed { passed.old < number }
+    requires left { passed.old < length questions.old }
     ensures { (list : NetList) (c : Command) (addrs : List Addr) (question : Question)
-        → slice_get questions passed ≡ Some question
-        → IsPhaseOf list c number addrs result
-        (script.at_question number question (drop (passed + 1) questions) reply) }
+        → slice_get questions.old passed.old ≡ Some question
+        → IsPhaseOf list c number addrs (unwrap_or result (Phase.Asking questions.new passed.new))
+        (script.at_question number question (drop (passed.old + 1) questions.old) reply.now) }
 {
     match reply {
-        Reply::Has(true) => Phase::Asking {
-            questions,
-            passed: passed + 1,
-        },
-        Reply::Has(false) => denied(questions, passed),
-        _ => Phase::refused(Cause::Fault(number)),
+        Reply::Has(true) => {
+            *passed += 1;
+            None
+        }
+        Reply::Has(false) => Some(denied(alloc, questions, *passed)),
+        _ => Some(Phase::refused(Cause::Fault(number))),
     }
 }
 
 // ---- a change from outside
 
-fn changed(number: u64, reply: Reply) -> Ending
-    ensures { result ≡ script.changed number reply }
+fn changed(number: u64, reply: &Reply) -> Result<Ending, NoMemory>
+    ensures ok { IfOk result (λ ending. ending ≡ script.changed number reply.now) }
+    ensures frees { holds_text_or_list reply.now ≡ false → IsOk result }
 {
     match reply {
-        Reply::NoNs => Ending::Refused(Cause::NoNamespace),
-        Reply::Taken(tag) => Ending::Refused(Cause::NameTaken(tag)),
-        Reply::Gone(false) => Ending::Refused(Cause::NothingThere),
-        Reply::Fault => Ending::Refused(Cause::Fault(number)),
-        _ => Ending::Yes,
+        Reply::NoNs => Ok(Ending::Refused(Cause::NoNamespace)),
+        Reply::Taken(tag) => Ok(Ending::Refused(Cause::NameTaken(tag.copy()?))),
+        Reply::Gone(false) => Ok(Ending::Refused(Cause::NothingThere)),
+        Reply::Fault => Ok(Ending::Refused(Cause::Fault(number))),
+        _ => Ok(Ending::Yes),
     }
 }
 
 /// What a reply, the one of this number, makes of the phase of a run of no network.
-pub(crate) fn after_outside(phase: &mut Phase, number: u64, reply: Reply)
-    ensures { state_outside phase.new ≡ script.outside_advance number (state_outside phase.old) reply }
+pub(crate) fn after_outside(phase: &mut Phase, number: u64, reply: &Reply) -> Result<(), NoMemory>
+    ensures ok { OnOk result (state_outside phase.new
+        ≡ script.outside_advance number (state_outside phase.old) reply.now) }
+    ensures err { OnErr result (phase.new ≡ phase.old) }
+    ensures frees { holds_text_or_list reply.now ≡ false → IsOk result }
 {
     if is_changing(phase) {
-        let old = replace(phase, Phase::Over(changed(number, reply)));
+        let ending = changed(number, reply)?;
+        let old = replace(phase, Phase::Over(ending));
         drop(old);
+        Ok(())
     } else {
-        drop(reply);
+        Ok(())
     }
 }
 
 // ---- every phase
 
-/// The phase after a reply, where so many calls were made before it. A leased address is put to the given ones.
-pub(crate) fn after(
-    phase: Phase,
+/// What a reply makes of the phase at hand: the next one, or none where this one goes on.
+fn next_phase(
+    phase: &mut Phase,
     given: &mut Vec<Addr>,
     sets: usize,
     made: u64,
-    reply: Reply,
-) -> Phase
+    reply: &Reply,
+) -> Result<Option<Phase>, NoMemory>
     requires numbered { made + 1 < 2 ^ 64 }
-    requires stands { Stands sets made given.old.items phase }
-    requires awaits { Awaits phase }
+    requires stands { Stands sets made given.old.items phase.old }
+    requires awaits { Awaits phase.old }
     requires few { sets < 2 ^ 32 }
     requires room { sets ≤ vec_capacity given.old }
-    ensures phase { (list : NetList) (c : Command) → length (sets_of list) ≡ sets
-        → KeepsResult list c given.old.items phase
-        → IsOpen (state_in list c given.old.items phase)
-        → IsPhaseOf list c (made + 1) given.new.items result
-        (script.advance list c (made + 1) (state_in list c given.old.items phase) reply) }
+    ensures ok { (list : NetList) (c : Command) → length (sets_of list) ≡ sets
+        → KeepsResult list c given.old.items phase.old
+        → IsOpen (state_in list c given.old.items phase.old)
+        → IfOk result (λ next. IsPhaseOf list c (made + 1) given.new.items (unwrap_or next phase.new)
+        (script.advance list c (made + 1) (state_in list c given.old.items phase.old) reply.now)) }
+    ensures err { OnErr result ((phase.new ≡ phase.old) × (given.new ≡ given.old)) }
+    ensures frees { holds_text_or_list reply.now ≡ false → IsOk result }
     ensures room { sets ≤ vec_capacity given.new }
 {
     let number = made + 1;
     match phase {
-        Phase::AtBegin => after_begin(number, reply),
+        Phase::AtBegin => Ok(Some(after_begin(number, reply)?)),
         Phase::BeforeLeases { calls, passed } => {
             after_call_before(calls, passed, sets, number, reply)
         }
-        Phase::Leasing => after_lease(given, sets, number, reply),
-        Phase::AfterLeases {
-            calls,
-            passed,
-            added,
-        } => after_call_after(calls, passed, added, number, reply),
-        Phase::ReadingCache(ending) => after_cache(number, ending, reply),
-        Phase::Deleting(passed, ending) => after_deletion(passed, number, ending, reply),
-        Phase::FindingEntry => after_entry(number, reply),
-        Phase::Asking { questions, passed } => after_question(questions, passed, number, reply),
-        Phase::Changing(call) => {
-            drop(call);
-            Phase::Over(changed(number, reply))
+        Phase::Leasing => Ok(Some(after_lease(given, sets, number, reply)?)),
+        Phase::AfterLeases { passed, .. } => after_call_after(passed, number, reply),
+        Phase::ReadingCache(ending) => Ok(Some(after_cache(number, ending, reply))),
+        Phase::Deleting(passed, ending) => Ok(after_deletion(passed, number, ending, reply)),
+        Phase::FindingEntry => Ok(Some(after_entry(number, reply)?)),
+        Phase::Asking { questions, passed } => {
+            let alloc = *given.allocator();
+            Ok(after_question(alloc, questions, passed, number, reply))
         }
+        Phase::Changing(_) => Ok(Some(Phase::Over(changed(number, reply)?))),
         Phase::Begun | Phase::Leased | Phase::Found(_) | Phase::Over(_) => unreachable!(),
+    }
+}
+
+/// Goes on to the phase after a reply, where so many calls were made before it. A leased address is put to the given
+/// ones. Where memory lacks, the phase stays.
+pub(crate) fn after(
+    phase: &mut Phase,
+    given: &mut Vec<Addr>,
+    sets: usize,
+    made: u64,
+    reply: &Reply,
+) -> Result<(), NoMemory>
+    requires numbered { made + 1 < 2 ^ 64 }
+    requires stands { Stands sets made given.old.items phase.old }
+    requires awaits { Awaits phase.old }
+    requires few { sets < 2 ^ 32 }
+    requires room { sets ≤ vec_capacity given.old }
+    ensures ok { (list : NetList) (c : Command) → length (sets_of list) ≡ sets
+        → KeepsResult list c given.old.items phase.old
+        → IsOpen (state_in list c given.old.items phase.old)
+        → OnOk result (IsPhaseOf list c (made + 1) given.new.items phase.new
+        (script.advance list c (made + 1) (state_in list c given.old.items phase.old) reply.now)) }
+    ensures err { OnErr result ((phase.new ≡ phase.old) × (given.new ≡ given.old)) }
+    ensures frees { holds_text_or_list reply.now ≡ false → IsOk result }
+    ensures room { sets ≤ vec_capacity given.new }
+{
+    match next_phase(phase, given, sets, made, reply)? {
+        Some(next) => {
+            let old = replace(phase, next);
+            drop(old);
+            Ok(())
+        }
+        None => Ok(()),
     }
 }

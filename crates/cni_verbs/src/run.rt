@@ -1,8 +1,9 @@
 //! One command's run, a call at a time.
 
-ghost use Rattle.std.specs.Prelude.{◌≡◌, ◌+◌, ◌<◌, ◌≤◌, ◌^◌, is_some, false, true, [], None, Some, IfOk, OnErr, OnOk, length, vec_capacity};
+ghost use Rattle.std.specs.Prelude.{◌≡◌, ◌+◌, ◌<◌, ◌≤◌, ◌^◌, is_some, false, true, [], None, Some, IfOk, OnErr, OnOk, length, vec_capacity, IsOk};
 ghost use Rattle.std.specs.Bool.{FalseIff};
 ghost use Rattle.std.specs.Option.{option_copied};
+ghost use Rattle.kernel_types.specs.Replies.{holds_text_or_list};
 ghost use Rattle.cni_verbs.specs.Progress.{is_gc, progress, advanced, answer_at};
 ghost use Rattle.cni_verbs.specs.Phases.{IsPhaseOf, state_outside};
 ghost use Rattle.cni_verbs.specs.Script.{IsOpen, start_state, outside_start, next_call};
@@ -23,7 +24,6 @@ use net_conf::NetList;
 use pod_file::Command;
 use std::alloc::Global;
 use std::marker::Model;
-use std::mem::replace;
 
 /// The run of one command. It keeps how far it has come and what it was leased, and no replies.
 #[derive(Drop)]
@@ -33,7 +33,7 @@ pub struct Run {
     made: u64,
     phase: Phase,
     kinds: Items<Kind>,
-    // With room for one address of each set, so that a reply takes no memory.
+    // With room for one address of each set, so that a lease takes no memory.
     given: Vec<Addr>,
 }
 
@@ -190,44 +190,51 @@ impl Run {
         }
     }
 
-    /// Takes the reply to the call that [`Run::next`] gave. Takes no memory.
-    pub fn take(&mut self, reply: Reply)
+    /// Takes the reply to the call that [`Run::next`] gave. Memory can be wanting only where the reply holds a text or a
+    /// list, for a copy of what the run keeps of it, and then the run is as it was.
+    pub fn take(&mut self, reply: &Reply) -> Result<(), NoMemory>
         requires prepared { self.old.prepared ≡ true }
         requires open { IsOpen self.old.progress.state }
         requires numbered { self.old.progress.made + 1 < 2 ^ 64 }
-        ensures { self.new.progress ≡ advanced self.old.progress reply }
+        ensures ok { OnOk result (self.new.progress ≡ advanced self.old.progress reply.now) }
+        ensures err { OnErr result (self.new ≡ self.old) }
+        ensures frees { holds_text_or_list reply.now ≡ false → IsOk result }
     {
         if self.list.is_some() {
-            self.take_by_list(reply);
+            self.take_by_list(reply)
         } else {
-            self.take_outside(reply);
+            self.take_outside(reply)
         }
     }
 
-    fn take_by_list(&mut self, reply: Reply)
+    fn take_by_list(&mut self, reply: &Reply) -> Result<(), NoMemory>
         requires listed { is_some self.old.progress.list ≡ true }
         requires prepared { self.old.prepared ≡ true }
         requires open { IsOpen self.old.progress.state }
         requires numbered { self.old.progress.made + 1 < 2 ^ 64 }
-        ensures { self.new.progress ≡ advanced self.old.progress reply }
+        ensures ok { OnOk result (self.new.progress ≡ advanced self.old.progress reply.now) }
+        ensures err { OnErr result (self.new ≡ self.old) }
+        ensures frees { holds_text_or_list reply.now ≡ false → IsOk result }
     {
         let sets = match &self.list {
             Some(list) => sets_of(list).len(),
             None => unreachable!(),
         };
-        let phase = replace(&mut self.phase, Phase::Leasing);
-        let next = after(phase, &mut self.given, sets, self.made, reply);
-        drop(replace(&mut self.phase, next));
+        after(&mut self.phase, &mut self.given, sets, self.made, reply)?;
         self.made += 1;
+        Ok(())
     }
 
-    fn take_outside(&mut self, reply: Reply)
+    fn take_outside(&mut self, reply: &Reply) -> Result<(), NoMemory>
         requires alone { self.old.progress.list ≡ None }
         requires numbered { self.old.progress.made + 1 < 2 ^ 64 }
-        ensures { self.new.progress ≡ advanced self.old.progress reply }
+        ensures ok { OnOk result (self.new.progress ≡ advanced self.old.progress reply.now) }
+        ensures err { OnErr result (self.new ≡ self.old) }
+        ensures frees { holds_text_or_list reply.now ≡ false → IsOk result }
     {
-        after_outside(&mut self.phase, self.made + 1, reply);
+        after_outside(&mut self.phase, self.made + 1, reply)?;
         self.made += 1;
+        Ok(())
     }
 
     /// How many calls it has made.

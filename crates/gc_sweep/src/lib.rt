@@ -7,16 +7,17 @@
 //!
 //! To the book above it promises that a run is seen as the list, the command and the script's state
 //! (`specs/Progress.antt` of `cni_verbs`), that its next call and its answer are the script's, and that
-//! [`GcRun::take`] wants memory for a fault's number alone. The [`laws`] say what any such run does to a sound host
-//! (`specs/Sweep.antt`): what is kept stays as it is, what is left over had a faulty call, and without a fault exactly
-//! what is kept is left (`keep` in `specs/Keep.antt`), within a bound on the calls (`specs/Bound.antt`).
+//! [`GcRun::take`] wants memory for a fault's number and a copy of the owners alone. The [`laws`] say what any such run
+//! does to a sound host (`specs/Sweep.antt`): what is kept stays as it is, what is left over had a faulty call, and
+//! without a fault exactly what is kept is left (`keep` in `specs/Keep.antt`), within a bound on the calls
+//! (`specs/Bound.antt`).
 //!
 //! ```text
 //! let mut run = GcRun::start(alloc, &list, &gc)?;
 //! run.next()?                          // OwnersOf { network: "pods", kind: Cached }
-//! run.take(Reply::Owners(owners))?;    // c1 and c2, of which c2 is valid
+//! run.take(&Reply::Owners(owners))?;   // c1 and c2, of which c2 is valid
 //! run.next()?                          // CacheGet, for c1
-//! run.take(Reply::Fault)?;             // c1's deletion ends here, the collection goes on
+//! run.take(&Reply::Fault)?;            // c1's deletion ends here, the collection goes on
 //! run.next()?                          // OwnersOf { network: "pods", kind: Links }
 //! ```
 #![tactic(auto)]

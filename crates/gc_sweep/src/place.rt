@@ -1,6 +1,7 @@
 //! Where a collection is: the sweep at hand, its owners, and the step of the one at hand.
 
-ghost use Rattle.std.specs.Prelude.{◌≡◌, ◌<◌, ◌≤◌, ◌+◌, not, false, List, filter, length, slice_get, Some, nat_le, nat_lt, [], IfOk};
+ghost use Rattle.std.specs.Prelude.{◌≡◌, ◌<◌, ◌≤◌, ◌+◌, not, false, List, filter, length, slice_get, Some, nat_le, nat_lt, [], IfOk, IsOk, OnErr, OnOk};
+ghost use Rattle.kernel_types.specs.Replies.{holds_text_or_list, is_fault};
 ghost use Rattle.kernel_types.specs.declared.call.Kind.{Kind};
 ghost use Rattle.pod_file.specs.declared.command.ValidAtt.{ValidAtt};
 ghost use Rattle.cni_verbs.specs.Script.{call_of_work, has_no_work};
@@ -222,27 +223,46 @@ fn next_sweep(kinds: &[Kind], valid: &ValidIndex, place: &mut SweepPlace, owners
     }
 }
 
-/// Goes on as a reply to the next call says.
-pub(crate) fn take(kinds: &[Kind], valid: &ValidIndex, place: &mut SweepPlace, reply: Reply)
+/// Goes on as a reply to the next call says. Memory can be wanting only for a copy of the owners that a reply tells, and
+/// then the place stays.
+pub(crate) fn take(
+    kinds: &[Kind],
+    valid: &ValidIndex,
+    place: &mut SweepPlace,
+    reply: &Reply,
+) -> Result<(), NoMemory>
     requires { IsPlace kinds.now place.old }
-    ensures work { (list : List ValidAtt) → IsIndexOf list valid.now
-        → HasTaken kinds.now list reply place.old place.new }
+    ensures work { OnOk result ((list : List ValidAtt) → IsIndexOf list valid.now
+        → HasTaken kinds.now list reply.now place.old place.new) }
     ensures range { IsPlace kinds.now place.new }
+    ensures err { OnErr result ((place.new ≡ place.old) × (is_fault reply.now ≡ false)) }
+    ensures frees { holds_text_or_list reply.now ≡ false → IsOk result }
 {
     if place.has_owner() {
         match reply {
-            Reply::Gone(false) | Reply::Entry(_) => step_done(kinds, place),
-            Reply::Fault => owner_done(kinds, place),
-            _ => {}
+            Reply::Gone(false) | Reply::Entry(_) => {
+                step_done(kinds, place);
+                Ok(())
+            }
+            Reply::Fault => {
+                owner_done(kinds, place);
+                Ok(())
+            }
+            _ => Ok(()),
         }
     } else {
         match reply {
-            Reply::Owners(owners) => next_sweep(kinds, valid, place, owners),
+            Reply::Owners(owners) => {
+                let owners = owners.copy()?;
+                next_sweep(kinds, valid, place, owners);
+                Ok(())
+            }
             Reply::Fault => {
                 let alloc = *place.owners.allocator();
                 next_sweep(kinds, valid, place, Items::new(alloc));
+                Ok(())
             }
-            _ => {}
+            _ => Ok(()),
         }
     }
 }

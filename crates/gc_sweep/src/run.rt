@@ -2,7 +2,7 @@
 
 ghost use Rattle.std.specs.Prelude.{◌≡◌, ◌+◌, ◌<◌, ◌^◌, IfOk, OnOk, OnErr, IsOk, Some, None, [], false, true};
 ghost use Rattle.std.specs.Bool.{FalseIff};
-ghost use Rattle.kernel_types.specs.Replies.{is_fault};
+ghost use Rattle.kernel_types.specs.Replies.{holds_text_or_list, is_fault};
 ghost use Rattle.cni_verbs.specs.Progress.{is_gc, progress, advanced, answer_at};
 ghost use Rattle.cni_verbs.specs.Script.{IsOpen, next_call, faults_after, swept};
 ghost use Rattle.gc_sweep.specs.Sweep.{is_early};
@@ -80,18 +80,19 @@ impl GcRun {
         }
     }
 
-    /// Takes the reply to the call that [`GcRun::next`] gave. Memory is wanted for a fault's number alone.
-    pub fn take(&mut self, reply: Reply) -> Result<(), NoMemory>
+    /// Takes the reply to the call that [`GcRun::next`] gave. Memory can be wanting only for a fault's number and for a
+    /// copy of the owners that a reply tells, and then the run is as it was.
+    pub fn take(&mut self, reply: &Reply) -> Result<(), NoMemory>
         requires open { IsOpen self.old.state }
         requires numbered { self.old.made + 1 < 2 ^ 64 }
-        ensures ok { OnOk result (self.new ≡ advanced self.old reply) }
+        ensures ok { OnOk result (self.new ≡ advanced self.old reply.now) }
         ensures err { OnErr result (self.new ≡ self.old) }
-        ensures frees { is_fault reply ≡ false → IsOk result }
+        ensures frees { is_fault reply.now ≡ false → holds_text_or_list reply.now ≡ false → IsOk result }
     {
-        let faulty = is_fault(&reply);
+        let faulty = is_fault(reply);
         note_fault(&mut self.faults, self.made + 1, faulty)?;
+        take(self.kinds.as_slice(), &self.valid, &mut self.place, reply)?;
         self.made += 1;
-        take(self.kinds.as_slice(), &self.valid, &mut self.place, reply);
         Ok(())
     }
 

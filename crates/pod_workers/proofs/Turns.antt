@@ -1,9 +1,8 @@
 -- What a run does next, by its state.
-use Rattle.std.proofs.Common.{◌≡◌, ℕ, Bool, true, false, List, [], ◌∷◌, ◌++◌, Option, Some, None, Result, Ok, Err, OnErr, refl, sym, ◌∙◌, ap, subst, inl, inr, ◌⊎◌}
+use Rattle.std.proofs.Common.{◌≡◌, ℕ, Bool, true, false, List, [], ◌∷◌, ◌++◌, Option, Some, None, refl, sym, ◌∙◌, ap, subst, inl, inr, ◌⊎◌}
 use Rattle.std.specs.Prelude.{option_map, if◌then◌else◌, ◌||◌}
 use Rattle.std.proofs.lemmas.Bool.{false≢true}
 use Rattle.std.proofs.lemmas.Option.{same_Some, none-some}
-use Rattle.cni_addr.specs.declared.memory.NoMemory.{NoMemory}
 use Rattle.cni_verbs.proofs.CallsOrOver.{calls_or_over}
 use Rattle.cni_verbs.specs.Progress.{Progress, RunView, advanced, answer_by}
 use Rattle.cni_verbs.specs.Replies.{host_after, reply_to}
@@ -126,14 +125,20 @@ left-by : {host host' : Host} (b : Bool) → host' ≡ host → (if b then host 
 left-by true left = refl
 left-by false left = left
 
--- a reply that can't be copied, or be taken by a run, for want of memory left the host
+-- a reply that a run can't take for want of memory is a fault or holds a text or a list
+why-refused : (fault holds : Bool) → (fault ≡ false → holds ≡ false → ⊥) → (holds ≡ true) ⊎ (fault ≡ true)
+why-refused true holds frees = inr refl
+why-refused false true frees = inl refl
+why-refused false false frees = absurd (frees refl refl)
+
+-- such a reply left the host
 refused-take : (host host' : Host) (call : Call) (faulty : Bool) (reply : Reply) → host' ≡ host_after host call reply → reply ≡ reply_to host call faulty
     → (holds_text_or_list reply ≡ true) ⊎ (is_fault reply ≡ true) → host' ≡ host
 refused-take host host' call faulty reply is replied (inr fault) = is ∙ ap (λ b. if b then host else (apply host call).0) fault
 refused-take host host' call true reply is replied (inl holds) = is ∙ ap (host_after host call) replied
 refused-take host host' call false reply is replied (inl holds) = is ∙ left-by (is_fault reply) ((IsReplyOf-apply host call).leaves (ap holds_text_or_list (sym replied) ∙ holds))
 
-pub refused-reply : (r : Result Reply NoMemory) (host host' : Host) (call : Call) (faulty : Bool) (reply : Reply) → host' ≡ host_after host call reply → reply ≡ reply_to host call faulty
-    → OnErr r ((holds_text_or_list reply ≡ true) ⊎ (is_fault reply ≡ true)) → OnErr r (host' ≡ host)
-refused-reply (Ok kept) host host' call faulty reply is replied why = tt
-refused-reply (Err e) host host' call faulty reply is replied why = refused-take host host' call faulty reply is replied why
+pub refused-reply : (host host' : Host) (call : Call) (faulty : Bool) (reply : Reply) → host' ≡ host_after host call reply → reply ≡ reply_to host call faulty
+    → (is_fault reply ≡ false → holds_text_or_list reply ≡ false → ⊥) → host' ≡ host
+refused-reply host host' call faulty reply is replied frees =
+    refused-take host host' call faulty reply is replied (why-refused (is_fault reply) (holds_text_or_list reply) frees)

@@ -1,11 +1,10 @@
 //! One step of one command: its task, begun where it isn't, tells what comes next, and a call is made and entered.
 
-ghost use Rattle.std.specs.Prelude.{◌≡◌, ◌+◌, ◌<◌, ◌≤◌, ◌^◌, ◌⊎◌, [], ◌∷◌, ◌++◌, ◌||◌, IfOk, IsTrue, OnErr, OnOk, length, true, false};
+ghost use Rattle.std.specs.Prelude.{◌≡◌, ◌+◌, ◌<◌, ◌≤◌, ◌^◌, [], ◌∷◌, ◌++◌, ◌||◌, IfOk, IsTrue, OnErr, OnOk, length, true, false};
 ghost use Rattle.cni_verbs.specs.Progress.{advanced};
 ghost use Rattle.cni_verbs.specs.Replies.{host_after, reply_to};
 ghost use Rattle.cni_verbs.specs.Script.{IsOpen};
 ghost use Rattle.kernel_types.specs.Allowed.{IsAllowed};
-ghost use Rattle.kernel_types.specs.Replies.{holds_text_or_list, is_fault};
 ghost use Rattle.pod_workers.specs.Slots.{IsCountable, MayStepTask, StepsTask, begun_by, next_in};
 ghost use Rattle.pod_workers.specs.Tasks.{IsListed};
 ghost use Rattle.pod_workers.specs.World.{IsUpToStop, after_entry, entry_by, is_stop};
@@ -167,63 +166,25 @@ fn make_call<K: Kernel>(
         return Err(NoMemory);
     }
     let _room = history.capacity();
-    match reply_to_task(alloc, kernel, task, &call, faulty) {
+    match reply_to(alloc, kernel, &call, faulty) {
         Err(NoMemory) => {
             drop(call);
             Err(NoMemory)
         }
-        Ok(reply) => {
-            history.push_reserved(Entry {
-                command,
-                call,
-                reply,
-            });
-            Ok(())
-        }
-    }
-}
-
-/// The reply to a call, which the task takes.
-fn reply_to_task<K: Kernel>(
-    alloc: Global,
-    kernel: &mut K,
-    task: &mut Task,
-    call: &Call,
-    faulty: bool,
-) -> Result<Reply, NoMemory>
-    requires allowed { faulty ≡ false → IsAllowed (K.host kernel.old) call.now }
-    requires prepared { task.old.prepared ≡ true }
-    requires unfinished { IsOpen task.old.progress.state }
-    requires numbered { task.old.progress.made + 1 < 2 ^ 64 }
-    ensures reply { IfOk result (λ reply. reply ≡ reply_to (K.host kernel.old) call.now faulty) }
-    ensures host { IfOk result (λ reply. K.host kernel.new ≡ host_after (K.host kernel.old) call.now reply) }
-    ensures task { IfOk result (λ reply. task.new.progress ≡ advanced task.old.progress reply) }
-    ensures err { OnErr result (K.host kernel.new ≡ K.host kernel.old) }
-{
-    let reply = reply_to(alloc, kernel, call, faulty)?;
-    take_reply(task, reply)
-}
-
-/// Gives a reply to the task, and a copy of it back.
-fn take_reply(task: &mut Task, reply: Reply) -> Result<Reply, NoMemory>
-    requires prepared { task.old.prepared ≡ true }
-    requires unfinished { IsOpen task.old.progress.state }
-    requires numbered { task.old.progress.made + 1 < 2 ^ 64 }
-    ensures kept { IfOk result (λ kept. kept ≡ reply) }
-    ensures task { OnOk result (task.new.progress ≡ advanced task.old.progress reply) }
-    ensures err { OnErr result ((holds_text_or_list reply ≡ true) ⊎ (is_fault reply ≡ true)) }
-{
-    match reply.twin() {
-        Err(NoMemory) => {
-            drop(reply);
-            Err(NoMemory)
-        }
-        Ok(kept) => match task.take(reply) {
+        Ok(reply) => match task.take(&reply) {
             Err(NoMemory) => {
-                drop(kept);
+                drop(call);
+                drop(reply);
                 Err(NoMemory)
             }
-            Ok(()) => Ok(kept),
+            Ok(()) => {
+                history.push_reserved(Entry {
+                    command,
+                    call,
+                    reply,
+                });
+                Ok(())
+            }
         },
     }
 }

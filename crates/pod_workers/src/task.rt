@@ -5,7 +5,7 @@ ghost use Rattle.std.specs.Bool.{FalseIff};
 ghost use Rattle.std.specs.Option.{option_copied};
 ghost use Rattle.cni_verbs.specs.Progress.{advanced, answer_at, is_gc, progress};
 ghost use Rattle.cni_verbs.specs.Script.{IsOpen, next_call};
-ghost use Rattle.kernel_types.specs.Replies.{is_fault};
+ghost use Rattle.kernel_types.specs.Replies.{holds_text_or_list, is_fault};
 ghost use Rattle.pod_workers.specs.Tasks.{AreFaultsOf, view_of};
 ghost use Rattle.pod_workers.specs.World.{is_faulty};
 
@@ -144,21 +144,18 @@ impl Task {
         }
     }
 
-    /// Takes the reply to the call that [`Task::next`] gave. Memory can be wanting only where the reply is a fault, and
-    /// then the run is as it was.
-    pub fn take(&mut self, reply: Reply) -> Result<(), NoMemory>
+    /// Takes the reply to the call that [`Task::next`] gave. Memory can be wanting only where the reply is a fault or
+    /// holds a text or a list, and then the run is as it was.
+    pub fn take(&mut self, reply: &Reply) -> Result<(), NoMemory>
         requires prepared { self.old.prepared ≡ true }
         requires open { IsOpen self.old.progress.state }
         requires numbered { self.old.progress.made + 1 < 2 ^ 64 }
-        ensures ok { OnOk result (self.new.progress ≡ advanced self.old.progress reply) }
+        ensures ok { OnOk result (self.new.progress ≡ advanced self.old.progress reply.now) }
         ensures err { OnErr result (self.new ≡ self.old) }
-        ensures frees { is_fault reply ≡ false → IsOk result }
+        ensures frees { is_fault reply.now ≡ false → holds_text_or_list reply.now ≡ false → IsOk result }
     {
         match &mut self.begun.run {
-            Carried::Verb(run) => {
-                run.take(reply);
-                Ok(())
-            }
+            Carried::Verb(run) => run.take(reply),
             Carried::Collection(run) => run.take(reply),
         }
     }

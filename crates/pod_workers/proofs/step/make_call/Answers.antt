@@ -1,15 +1,11 @@
-use Rattle.std.proofs.Common.{[], ◌∷◌, ◌++◌, ◌∙◌, ap}
-use Rattle.cni_verbs.specs.Progress.{advanced}
-use Rattle.cni_verbs.specs.Replies.{host_after}
+use Rattle.std.proofs.lemmas.Bool.{false≢true}
+use Rattle.pod_workers.proofs.Turns.{refused-reply}
 use Rattle.pod_workers.proofs.step.make_call.Goals as goal
 
-pub returns-in-Ok-clause-task : goal.returns-in-Ok-clause-task
-returns-in-Ok-clause-task g c = c.in-Ok.ensures.task ∙ ap (advanced c.args.task.now.progress) c.in-Ok.ensures.reply
-
-pub returns-in-Ok-clause-host : goal.returns-in-Ok-clause-host
-returns-in-Ok-clause-host g c = c.in-Ok.ensures.host ∙ ap (host_after (g.K.Kernel.host c.args.kernel.now) c.args.call) c.in-Ok.ensures.reply
-
-pub returns-in-Ok-clause-history : goal.returns-in-Ok-clause-history
-returns-in-Ok-clause-history g c =
-    c.push_reserved.ensures.items ∙ ap (λ h. h ++ record { command = c.args.command; call = c.args.call; reply = c.in-Ok.reply } ∷ []) c.reserve.ensures.items
-    ∙ ap (λ r. c.args.history.now.items ++ record { command = c.args.command; call = c.args.call; reply = r } ∷ []) c.in-Ok.ensures.reply
+pub returns-in-Err-take-clause-err : goal.returns-in-Err-take-clause-err
+returns-in-Err-take-clause-err g c =
+    let host = g.K.Kernel.host c.args.kernel.now in (
+      refused-reply host (g.K.Kernel.host c.reply_to.new.kernel) c.get.result.now c.args.faulty c.in-Ok.reply c.in-Ok.ensures.host c.in-Ok.ensures.reply
+          (λ fault holds. false≢true (c.in-Err-take.ensures.frees fault holds)),
+      c.reserve.ensures.items,
+    )

@@ -15,10 +15,9 @@ listed-awaits : (list : Option NetList) (c : Command) (addrs : List Addr) (phase
 listed-awaits None c addrs phase listed open_by prepared = absurd cc
 listed-awaits (Some list) c addrs phase listed open_by prepared = awaits list c addrs phase open_by prepared
 
-pub after-next-requires-clause-awaits : goal.after-next-requires-clause-awaits
-after-next-requires-clause-awaits c =
-    subst Awaits (sym c.replace-phase.ensures.value)
-    (listed-awaits c.self.inside.list c.self.inside.command c.self.inside.given.items c.self.inside.phase
+pub after-requires-clause-awaits : goal.after-requires-clause-awaits
+after-requires-clause-awaits c =
+    listed-awaits c.self.inside.list c.self.inside.command c.self.inside.given.items c.self.inside.phase
     (ap (λ (v : RunView). is_some v.progress.list) c.self.view_is ∙ c.requires.listed)
     (subst (λ (v : RunView). IsOpen v.progress.state) (sym c.self.view_is) c.requires.open)
-    (ap (λ (v : RunView). v.prepared) c.self.view_is ∙ c.requires.prepared))
+    (ap (λ (v : RunView). v.prepared) c.self.view_is ∙ c.requires.prepared)
