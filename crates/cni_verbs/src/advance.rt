@@ -22,7 +22,7 @@ use crate::answer::{Cause, Ending, Question};
 use crate::over::is_changing;
 use crate::phase::Phase;
 use cni_addr::{Addr, Duplicate, Items, NoMemory};
-use kernel_types::{Call, Reply};
+use kernel_types::{Call, Reply, Shared};
 use std::alloc::Global;
 use std::mem::replace;
 
@@ -90,7 +90,7 @@ fn leasing(given: usize, sets: usize) -> Phase
 }
 
 /// Passes a call before the leases. Where it was the last, the leases are next.
-fn pass_before(calls: &Items<Call>, passed: &mut usize, sets: usize) -> Option<Phase>
+fn pass_before(calls: &Items<Shared<Call>>, passed: &mut usize, sets: usize) -> Option<Phase>
     requires { passed.old < length calls.now }
     ensures { (list : NetList) (c : Command) (made : ℕ) → length (sets_of list) ≡ sets
         → IsPhaseOf list c made [] (unwrap_or result (Phase.BeforeLeases calls.now passed.new))
@@ -119,7 +119,7 @@ fn after_begin(number: u64, reply: &Reply) -> Result<Phase, NoMemory>
 }
 
 fn after_call_before(
-    calls: &Items<Call>,
+    calls: &Items<Shared<Call>>,
     passed: &mut usize,
     sets: usize,
     number: u64,

@@ -13,7 +13,7 @@ use crate::wanted::{Back, back_calls, calls_before, deletion, sets_of};
 use crate::words::{att_of, mappings_of, named_att_of};
 use cni_addr::{Addr, Duplicate, Items, NoMemory};
 use host_local::lease_at;
-use kernel_types::{Call, Kind};
+use kernel_types::{Call, Kind, Shared};
 use net_conf::NetList;
 use pod_file::Command;
 use std::alloc::Global;
@@ -54,17 +54,16 @@ pub(crate) fn back_of(
 // Each call is made in a function of its own, so that a step doesn't clear a stack for all of them.
 
 #[inline(never)]
-fn begin(command: &Command) -> Result<Option<Call>, NoMemory>
+fn begin(alloc: Global, command: &Command) -> Result<Option<Shared<Call>>, NoMemory>
     ensures { IfOk result (λ next. next ≡ Some (call.Begin (att_of command.now) command.now.netns)) }
 {
-    Ok(Some(Call::Begin {
-        att: att_of(command)?,
-        netns: command.netns.copy()?,
-    }))
+    let att = att_of(command)?;
+    let netns = command.netns.copy()?;
+    Ok(Some(Shared::of(alloc, Call::Begin { att, netns })?))
 }
 
 #[inline(never)]
-fn call_at(calls: &[Call], place: usize) -> Result<Option<Call>, NoMemory>
+fn call_at(calls: &[Shared<Call>], place: usize) -> Result<Option<Shared<Call>>, NoMemory>
     ensures { IfOk result (λ next. next ≡ slice_get calls.now place) }
 {
     match calls.get(place) {
@@ -74,17 +73,25 @@ fn call_at(calls: &[Call], place: usize) -> Result<Option<Call>, NoMemory>
 }
 
 #[inline(never)]
-fn lease_next(list: &NetList, command: &Command, place: usize) -> Result<Option<Call>, NoMemory>
+fn lease_next(
+    alloc: Global,
+    list: &NetList,
+    command: &Command,
+    place: usize,
+) -> Result<Option<Shared<Call>>, NoMemory>
     requires { place < length (sets_of list.now) }
     ensures { IfOk result (λ next.
         next ≡ option_map (call.LeaseNext (att_of command.now) place) (slice_get (sets_of list.now) place)) }
 {
     let sets = sets_of(list);
-    lease_at(sets, att_of(command)?, place as u32)
+    match lease_at(sets, att_of(command)?, place as u32)? {
+        Some(call) => Ok(Some(Shared::of(alloc, call)?)),
+        None => Ok(None),
+    }
 }
 
 #[inline(never)]
-fn call_asked(questions: &[Question], place: usize) -> Result<Option<Call>, NoMemory>
+fn call_asked(questions: &[Question], place: usize) -> Result<Option<Shared<Call>>, NoMemory>
     ensures { IfOk result (λ next. next ≡ option_map (λ question. question.call) (slice_get questions.now place)) }
 {
     match questions.get(place) {
@@ -94,46 +101,62 @@ fn call_asked(questions: &[Question], place: usize) -> Result<Option<Call>, NoMe
 }
 
 #[inline(never)]
-fn cache_get(command: &Command) -> Result<Option<Call>, NoMemory>
+fn cache_get(alloc: Global, command: &Command) -> Result<Option<Shared<Call>>, NoMemory>
     ensures { IfOk result (λ next. next ≡ Some (call.CacheGet (att_of command.now))) }
 {
-    Ok(Some(Call::CacheGet {
-        att: att_of(command)?,
-    }))
+    let att = att_of(command)?;
+    Ok(Some(Shared::of(alloc, Call::CacheGet { att })?))
 }
 
 #[inline(never)]
-fn deletion_at(command: &Command, kinds: &[Kind], place: usize) -> Result<Option<Call>, NoMemory>
+fn deletion_at(
+    alloc: Global,
+    command: &Command,
+    kinds: &[Kind],
+    place: usize,
+) -> Result<Option<Shared<Call>>, NoMemory>
     ensures { IfOk result (λ next. next ≡ option_map (deletion (att_of command.now)) (slice_get kinds.now place)) }
 {
     match kinds.get(place) {
-        Some(kind) => Ok(Some(deletion(att_of(command)?, *kind))),
+        Some(kind) => {
+            let call = deletion(att_of(command)?, *kind);
+            Ok(Some(Shared::of(alloc, call)?))
+        }
         None => Ok(None),
     }
 }
 
+#[inline(never)]
+fn change_of(alloc: Global, change: &Call) -> Result<Option<Shared<Call>>, NoMemory>
+    ensures { IfOk result (λ next. next ≡ Some change.now) }
+{
+    let change = change.copy()?;
+    Ok(Some(Shared::of(alloc, change)?))
+}
+
 /// The call that the run of this list makes next.
 pub(crate) fn next_of(
+    alloc: Global,
     list: &NetList,
     command: &Command,
     kinds: &[Kind],
     given: &[Addr],
     phase: &Phase,
-) -> Result<Option<Call>, NoMemory>
+) -> Result<Option<Shared<Call>>, NoMemory>
     requires kept { (room : ℕ) × (made : ℕ)
         × KeepsPlan list.now command.now kinds.now room made given.now phase.now }
     requires prepared { is_prepared phase.now ≡ true }
     ensures { IfOk result (λ next. next ≡ next_call command.now (state_in list.now command.now given.now phase.now)) }
 {
     match phase {
-        Phase::AtBegin => begin(command),
+        Phase::AtBegin => begin(alloc, command),
         Phase::BeforeLeases { calls, passed } => call_at(calls.as_slice(), *passed),
-        Phase::Leasing => lease_next(list, command, given.len()),
+        Phase::Leasing => lease_next(alloc, list, command, given.len()),
         Phase::AfterLeases { calls, passed, .. } => call_at(calls.as_slice(), *passed),
-        Phase::ReadingCache(_) | Phase::FindingEntry => cache_get(command),
-        Phase::Deleting(passed, _) => deletion_at(command, kinds, *passed),
+        Phase::ReadingCache(_) | Phase::FindingEntry => cache_get(alloc, command),
+        Phase::Deleting(passed, _) => deletion_at(alloc, command, kinds, *passed),
         Phase::Asking { questions, passed } => call_asked(questions.as_slice(), *passed),
-        Phase::Changing(change) => Ok(Some(change.copy()?)),
+        Phase::Changing(change) => change_of(alloc, change),
         Phase::Over(_) => Ok(None),
         Phase::Begun | Phase::Leased | Phase::Found(_) => unreachable!(),
     }
@@ -141,11 +164,15 @@ pub(crate) fn next_of(
 
 /// The call that the run of no network makes next.
 #[tactic(auto, unfolding(crate::specs::Script::next_call))]
-pub(crate) fn next_outside(command: &Command, phase: &Phase) -> Result<Option<Call>, NoMemory>
+pub(crate) fn next_outside(
+    alloc: Global,
+    command: &Command,
+    phase: &Phase,
+) -> Result<Option<Shared<Call>>, NoMemory>
     ensures { IfOk result (λ next. next ≡ next_call command.now (state_outside phase.now)) }
 {
     match phase {
-        Phase::Changing(change) => Ok(Some(change.copy()?)),
+        Phase::Changing(change) => change_of(alloc, change),
         _ => Ok(None),
     }
 }

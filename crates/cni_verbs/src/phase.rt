@@ -16,7 +16,7 @@ pub(crate) enum Phase {
     Begun,
     /// So many calls of the first plugin were made, and some are left before the leases.
     BeforeLeases {
-        calls: Items<Call>,
+        calls: Items<Shared<Call>>,
         passed: usize,
     },
     /// Sets are left to lease from.
@@ -25,7 +25,7 @@ pub(crate) enum Phase {
     Leased,
     /// So many of the calls after the leases are behind it, and this is the result at their end.
     AfterLeases {
-        calls: Items<Call>,
+        calls: Items<Shared<Call>>,
         passed: usize,
         added: AddResult,
     },

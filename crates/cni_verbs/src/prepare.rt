@@ -1,13 +1,14 @@
 //! What the next call is looked up in, made ahead.
 
-ghost use Rattle.std.specs.Prelude.{◌≡◌, true, OnErr, OnOk};
+ghost use Rattle.std.specs.Prelude.{◌≡◌, true, IfOk, OnErr, OnOk};
 ghost use Rattle.cni_verbs.specs.Phases.{IsSameButPrepared, is_prepared};
 
 use crate::next::{back_of, before_of};
 use crate::phase::Phase;
 use crate::questions::check_questions;
 use crate::wanted::Back;
-use cni_addr::{Addr, NoMemory};
+use cni_addr::{Addr, Items, NoMemory};
+use kernel_types::{Call, Shared};
 use net_conf::NetList;
 use pod_file::Command;
 use std::alloc::Global;
@@ -17,6 +18,18 @@ pub(crate) fn is_prepared(phase: &Phase) -> bool
     ensures { result ≡ is_prepared phase.now }
 {
     !matches!(phase, Phase::Begun | Phase::Leased | Phase::Found(_))
+}
+
+/// The calls, each where the history can share it. Linear in the calls.
+fn shared_calls(alloc: Global, calls: Items<Call>) -> Result<Items<Shared<Call>>, NoMemory>
+    ensures { IfOk result (λ shared. shared ≡ calls) }
+{
+    let calls = calls.into_vec();
+    let mut shared = Vec::with_capacity(alloc, calls.len())?;
+    for call in calls {
+        shared.push(Shared::of(alloc, call)?)?;
+    }
+    Ok(Items::of_vec(shared))
 }
 
 /// Makes the calls before or after the leases or the questions of a CHECK, where they are next and aren't made. The
@@ -35,11 +48,13 @@ pub(crate) fn prepare_phase(
     match phase {
         Phase::Begun => {
             let calls = before_of(alloc, list, command)?;
+            let calls = shared_calls(alloc, calls)?;
             *phase = Phase::BeforeLeases { calls, passed: 0 };
             Ok(())
         }
         Phase::Leased => {
             let Back { calls, added } = back_of(alloc, list, command, given)?;
+            let calls = shared_calls(alloc, calls)?;
             *phase = Phase::AfterLeases {
                 calls,
                 passed: 0,

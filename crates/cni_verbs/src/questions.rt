@@ -11,7 +11,7 @@ use crate::wanted::{back_calls, calls_before, sets_of};
 use crate::words::named_att_of;
 use cni_addr::{Addr, Duplicate, Items, Mac, NoMemory, RangeSet, Text};
 use cni_result::{AddResult, Cached, Interface};
-use kernel_types::{AddrObj, Call, Lease, Link, Object, Probe, RouteObj, Rule, Setting};
+use kernel_types::{AddrObj, Call, Lease, Link, Object, Probe, RouteObj, Rule, Setting, Shared};
 use net_conf::{First, NetList};
 use pod_file::Command;
 use std::alloc::Global;
@@ -26,19 +26,18 @@ trait Checked: Drop {
     ghost question: { Self → Question };
 
     /// Whether it is there as it is, and what is missed otherwise.
-    fn ask(self) -> Result<Question, NoMemory>
+    fn ask(self, alloc: Global) -> Result<Question, NoMemory>
         ensures { IfOk result (λ q. q ≡ question self) };
 }
 
-fn asks_for(object: Object, missed: Missed) -> Question
-    ensures { result ≡ asked.asks_for object missed }
+fn asks_for(alloc: Global, object: Object, missed: Missed) -> Result<Question, NoMemory>
+    ensures { IfOk result (λ q. q ≡ asked.asks_for object missed) }
 {
-    Question {
-        call: Call::HasObj {
-            probe: Probe::Whole(object),
-        },
+    let probe = Probe::Whole(object);
+    Ok(Question {
+        call: Shared::of(alloc, Call::HasObj { probe })?,
         lack: Cause::Missing(missed),
-    }
+    })
 }
 
 impl Checked for Link {
@@ -46,12 +45,12 @@ impl Checked for Link {
 
     ghost question = { link_question };
 
-    fn ask(self) -> Result<Question, NoMemory> {
+    fn ask(self, alloc: Global) -> Result<Question, NoMemory> {
         let missed = Missed::Link {
             ns: self.ns.copy()?,
             name: self.name.copy()?,
         };
-        Ok(asks_for(Object::Link(self), missed))
+        asks_for(alloc, Object::Link(self), missed)
     }
 }
 
@@ -60,13 +59,13 @@ impl Checked for AddrObj {
 
     ghost question = { address_question };
 
-    fn ask(self) -> Result<Question, NoMemory> {
+    fn ask(self, alloc: Global) -> Result<Question, NoMemory> {
         let missed = Missed::Address {
             ns: self.ns.copy()?,
             link: self.link.copy()?,
             cidr: self.cidr,
         };
-        Ok(asks_for(Object::Address(self), missed))
+        asks_for(alloc, Object::Address(self), missed)
     }
 }
 
@@ -75,13 +74,13 @@ impl Checked for RouteObj {
 
     ghost question = { route_question };
 
-    fn ask(self) -> Result<Question, NoMemory> {
+    fn ask(self, alloc: Global) -> Result<Question, NoMemory> {
         let missed = Missed::Route {
             ns: self.ns.copy()?,
             link: self.link.copy()?,
             dst: self.dst,
         };
-        Ok(asks_for(Object::Route(self), missed))
+        asks_for(alloc, Object::Route(self), missed)
     }
 }
 
@@ -90,12 +89,12 @@ impl Checked for Setting {
 
     ghost question = { setting_question };
 
-    fn ask(self) -> Result<Question, NoMemory> {
+    fn ask(self, alloc: Global) -> Result<Question, NoMemory> {
         let missed = Missed::Setting {
             ns: self.ns.copy()?,
             key: self.key.copy()?,
         };
-        Ok(asks_for(Object::Setting(self), missed))
+        asks_for(alloc, Object::Setting(self), missed)
     }
 }
 
@@ -104,23 +103,24 @@ impl Checked for Lease {
 
     ghost question = { lease_question };
 
-    fn ask(self) -> Result<Question, NoMemory> {
+    fn ask(self, alloc: Global) -> Result<Question, NoMemory> {
         let missed = Missed::Lease(self.addr);
-        Ok(asks_for(Object::Lease(self), missed))
+        asks_for(alloc, Object::Lease(self), missed)
     }
 }
 
 fn ask_each<T: Checked>(questions: &mut Vec<Question>, objects: Vec<T>) -> Result<(), NoMemory>
     ensures { OnOk result (questions.new.items ≡ questions.old.items ++ map T.question objects.items) }
 {
+    let alloc = *questions.allocator();
     for object in objects {
-        let question = object.ask()?;
+        let question = object.ask(alloc)?;
         questions.push(question)?;
     }
     Ok(())
 }
 
-fn rule_question(rule: &Rule, number: u64) -> Result<Question, NoMemory>
+fn rule_question(alloc: Global, rule: &Rule, number: u64) -> Result<Question, NoMemory>
     ensures { IfOk result (λ q. q ≡ asked.rule_question number rule.now) }
 {
     let missed = Missed::Rule {
@@ -128,14 +128,15 @@ fn rule_question(rule: &Rule, number: u64) -> Result<Question, NoMemory>
         chain: rule.chain,
         number,
     };
-    Ok(asks_for(Object::Rule(rule.copy()?), missed))
+    asks_for(alloc, Object::Rule(rule.copy()?), missed)
 }
 
 fn ask_rules(questions: &mut Vec<Question>, rules: &[Rule]) -> Result<(), NoMemory>
     ensures { OnOk result (questions.new.items ≡ questions.old.items ++ asked.rule_questions 1 rules.now) }
 {
+    let alloc = *questions.allocator();
     for (place, rule) in rules.iter().enumerate() {
-        let question = rule_question(rule, place as u64 + 1)?;
+        let question = rule_question(alloc, rule, place as u64 + 1)?;
         questions.push(question)?;
     }
     Ok(())
@@ -155,7 +156,7 @@ fn ask_share(questions: &mut Vec<Question>, share: Objects) -> Result<(), NoMemo
 
 // ---- the bridge
 
-fn bridge_question(name: &Text, mac: Mac) -> Result<Question, NoMemory>
+fn bridge_question(alloc: Global, name: &Text, mac: Mac) -> Result<Question, NoMemory>
     ensures { IfOk result (λ q. q ≡ record {
       call = calls.HasObj (Probe.BridgeAt name.now mac);
       lack = Cause.Missing (Missed.Bridge name.now);
@@ -163,10 +164,9 @@ fn bridge_question(name: &Text, mac: Mac) -> Result<Question, NoMemory>
 {
     let bridge = name.copy()?;
     let missed = name.copy()?;
+    let probe = Probe::BridgeAt { name: bridge, mac };
     Ok(Question {
-        call: Call::HasObj {
-            probe: Probe::BridgeAt { name: bridge, mac },
-        },
+        call: Shared::of(alloc, Call::HasObj { probe })?,
         lack: Cause::Missing(Missed::Bridge(missed)),
     })
 }
@@ -180,7 +180,8 @@ fn ask_bridge_by_mac(
 {
     match mac {
         Some(mac) => {
-            let question = bridge_question(name, mac)?;
+            let alloc = *questions.allocator();
+            let question = bridge_question(alloc, name, mac)?;
             questions.push(question)?;
             Ok(())
         }
@@ -272,13 +273,18 @@ pub(crate) fn check_questions(
 
 // ---- STATUS
 
-fn pool_question(network: &Text, number: u32, set: &RangeSet) -> Result<Question, NoMemory>
+fn pool_question(
+    alloc: Global,
+    network: &Text,
+    number: u32,
+    set: &RangeSet,
+) -> Result<Question, NoMemory>
     ensures { IfOk result (λ q. q ≡ asked.pool_question network.now number set.now) }
 {
     let network = network.copy()?;
     let set = set.copy()?;
     Ok(Question {
-        call: Call::PoolFree { network, set },
+        call: Shared::of(alloc, Call::PoolFree { network, set })?,
         lack: Cause::NoFreeAddress(number),
     })
 }
@@ -291,14 +297,15 @@ fn ask_pools(
     requires few { length sets.now ≤ most_sets }
     ensures { OnOk result (questions.new.items ≡ questions.old.items ++ asked.pool_questions network.now 0 sets.now) }
 {
+    let alloc = *questions.allocator();
     for (place, set) in sets.iter().enumerate() {
-        let question = pool_question(network, place as u32, set)?;
+        let question = pool_question(alloc, network, place as u32, set)?;
         questions.push(question)?;
     }
     Ok(())
 }
 
-fn master_question(name: &Text) -> Result<Question, NoMemory>
+fn master_question(alloc: Global, name: &Text) -> Result<Question, NoMemory>
     ensures { IfOk result (λ q. q ≡ record {
       call = calls.HasObj (Probe.Master name.now);
       lack = Cause.MasterAbsent name.now;
@@ -306,10 +313,9 @@ fn master_question(name: &Text) -> Result<Question, NoMemory>
 {
     let master = name.copy()?;
     let absent = name.copy()?;
+    let probe = Probe::Master { name: master };
     Ok(Question {
-        call: Call::HasObj {
-            probe: Probe::Master { name: master },
-        },
+        call: Shared::of(alloc, Call::HasObj { probe })?,
         lack: Cause::MasterAbsent(absent),
     })
 }
@@ -319,7 +325,8 @@ fn ask_master(questions: &mut Vec<Question>, first: &First) -> Result<(), NoMemo
 {
     match first {
         First::Macvlan(conf) => {
-            let question = master_question(&conf.master)?;
+            let alloc = *questions.allocator();
+            let question = master_question(alloc, &conf.master)?;
             questions.push(question)?;
             Ok(())
         }

@@ -19,7 +19,7 @@ use crate::prepare::{is_prepared, prepare_phase};
 use crate::start::{first_outside, first_phase};
 use crate::wanted::{kinds_of, sets_of};
 use cni_addr::{Addr, Duplicate, Items, NoMemory};
-use kernel_types::{Call, Kind, Reply};
+use kernel_types::{Call, Kind, Reply, Shared};
 use net_conf::NetList;
 use pod_file::Command;
 use std::alloc::Global;
@@ -173,20 +173,23 @@ impl Run {
         Ok(())
     }
 
-    /// The call to make next, or none where the run is over. A copy, linear in that call alone.
-    pub fn next(&self) -> Result<Option<Call>, NoMemory>
+    /// The call to make next, or none where the run is over. A planned call is shared with the plan, and each other is
+    /// made here, linear in that call alone.
+    pub fn next(&self) -> Result<Option<Shared<Call>>, NoMemory>
         requires prepared { self.now.prepared ≡ true }
         ensures { IfOk result (λ call. call ≡ next_call self.now.progress.command self.now.progress.state) }
     {
+        let alloc = *self.given.allocator();
         match &self.list {
             Some(list) => next_of(
+                alloc,
                 list,
                 &self.command,
                 self.kinds.as_slice(),
                 self.given.as_slice(),
                 &self.phase,
             ),
-            None => next_outside(&self.command, &self.phase),
+            None => next_outside(alloc, &self.command, &self.phase),
         }
     }
 

@@ -12,7 +12,7 @@ ghost use Rattle.gc_sweep.specs.View.{HasTaken, IsPlace, jobs_left, step_of, ste
 use crate::valid::ValidIndex;
 use cni_addr::{Duplicate, Items, NoMemory, Text};
 use cni_verbs::wanted::deletion;
-use kernel_types::{Att, Call, Kind, Reply};
+use kernel_types::{Att, Call, Kind, Reply, Shared};
 use std::alloc::Global;
 
 /// The sweep at hand: none yet, that of the cached entries, or that of a kind.
@@ -137,23 +137,26 @@ fn call_of(att: &Att, step: OwnerStep) -> Result<Call, NoMemory>
 
 /// The next call, or none where nothing is left to do.
 pub(crate) fn next_call(
+    alloc: Global,
     network: &Text,
     kinds: &[Kind],
     place: &SweepPlace,
-) -> Result<Option<Call>, NoMemory>
+) -> Result<Option<Shared<Call>>, NoMemory>
     requires { IsPlace kinds.now place.now }
     ensures { IfOk result (λ call. call
         ≡ call_of_work network.now (jobs_left kinds.now place.now) (sweeps_after kinds.now place.now.stage)) }
 {
     if place.has_owner() {
         let step = owner_step_at(kinds, place.stage, place.step);
-        Ok(Some(call_of(&place.owners[place.at], step)?))
+        let call = call_of(&place.owners[place.at], step)?;
+        Ok(Some(Shared::of(alloc, call)?))
     } else {
         match next_stage(place.stage) {
-            Some(stage) => Ok(Some(Call::OwnersOf {
-                network: network.copy()?,
-                kind: kind_of_stage(stage),
-            })),
+            Some(stage) => {
+                let network = network.copy()?;
+                let kind = kind_of_stage(stage);
+                Ok(Some(Shared::of(alloc, Call::OwnersOf { network, kind })?))
+            }
             None => Ok(None),
         }
     }

@@ -13,7 +13,7 @@ use crate::valid::ValidIndex;
 use cni_addr::{Duplicate, Items, NoMemory};
 use cni_verbs::wanted::kinds_of;
 use cni_verbs::{Answer, Cause, Ending, early_ending, plain_answer};
-use kernel_types::{Call, Kind, Reply};
+use kernel_types::{Call, Kind, Reply, Shared};
 use net_conf::NetList;
 use pod_file::Command;
 use std::alloc::Global;
@@ -70,13 +70,19 @@ impl GcRun {
     }
 
     /// The call to make next, or none where the run is over.
-    pub fn next(&self) -> Result<Option<Call>, NoMemory>
+    pub fn next(&self) -> Result<Option<Shared<Call>>, NoMemory>
         ensures { IfOk result (λ call. call ≡ next_call self.now.command self.now.state) }
     {
         if is_early(&self.list) {
             Ok(None)
         } else {
-            next_call(&self.command.network, self.kinds.as_slice(), &self.place)
+            let alloc = *self.place.owners.allocator();
+            next_call(
+                alloc,
+                &self.command.network,
+                self.kinds.as_slice(),
+                &self.place,
+            )
         }
     }
 

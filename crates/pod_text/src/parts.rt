@@ -94,7 +94,7 @@ fn push_entry(
 ) -> Result<(), NoMemory>
     ensures { OnOk result (lines.new.items ≡ lines.old.items ++ entry_line number entry.now) }
 {
-    let value = trace_value(alloc, number, entry.command, &entry.call, &entry.reply)?;
+    let value = trace_value(alloc, number, entry.command, entry.call.get(), &entry.reply)?;
     push_line(alloc, &value, lines)
 }
 

@@ -2,7 +2,7 @@
 
 use cni_addr::Items;
 use cni_verbs::Answer;
-use kernel_types::{Call, Reply};
+use kernel_types::{Call, Reply, Shared};
 use net_conf::NetList;
 use pod_file::Pods;
 
@@ -28,7 +28,8 @@ pub enum PlanError {
 pub struct Entry {
     /// The command's number in the file, from 1.
     pub command: u32,
-    pub call: Call,
+    /// Shared with the plan that it comes from.
+    pub call: Shared<Call>,
     pub reply: Reply,
 }
 
@@ -43,5 +44,5 @@ pub enum StepEnd {
 #[derive(Drop)]
 pub enum Next {
     Answer(Answer),
-    Call { call: Call, faulty: bool },
+    Call { call: Shared<Call>, faulty: bool },
 }

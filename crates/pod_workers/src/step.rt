@@ -15,7 +15,7 @@ use crate::task::Task;
 use cni_addr::NoMemory;
 use cni_verbs::Answer;
 use kernel_model::Kernel;
-use kernel_types::{Call, Reply};
+use kernel_types::{Call, Reply, Shared};
 use net_conf::NetList;
 use pod_file::Command;
 use std::alloc::Global;
@@ -145,7 +145,7 @@ fn make_call<K: Kernel>(
     history: &mut Vec<Entry>,
     task: &mut Task,
     command: u32,
-    call: Call,
+    call: Shared<Call>,
     faulty: bool,
 ) -> Result<(), NoMemory>
     requires allowed { faulty ≡ false → IsAllowed (K.host kernel.old) call }
@@ -166,7 +166,7 @@ fn make_call<K: Kernel>(
         return Err(NoMemory);
     }
     let _room = history.capacity();
-    match reply_to(alloc, kernel, &call, faulty) {
+    match reply_to(alloc, kernel, call.get(), faulty) {
         Err(NoMemory) => {
             drop(call);
             Err(NoMemory)

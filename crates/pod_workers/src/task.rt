@@ -13,7 +13,7 @@ use crate::faults::Faults;
 use cni_addr::NoMemory;
 use cni_verbs::{Answer, Run};
 use gc_sweep::GcRun;
-use kernel_types::{Call, Reply};
+use kernel_types::{Call, Reply, Shared};
 use net_conf::NetList;
 use pod_file::{Command, Verb};
 use std::alloc::Global;
@@ -134,7 +134,7 @@ impl Task {
     }
 
     /// The call to make next, or none where the run is over.
-    pub fn next(&self) -> Result<Option<Call>, NoMemory>
+    pub fn next(&self) -> Result<Option<Shared<Call>>, NoMemory>
         requires prepared { self.now.prepared ≡ true }
         ensures { IfOk result (λ call. call ≡ next_call self.now.progress.command self.now.progress.state) }
     {

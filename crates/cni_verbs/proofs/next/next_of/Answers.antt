@@ -1,4 +1,4 @@
-use Rattle.std.proofs.Common.{◌∙◌, List, Some, ap}
+use Rattle.std.proofs.Common.{◌∙◌, List, ap}
 use Rattle.std.specs.Prelude.{option_map, slice_get}
 use Rattle.cni_verbs.specs.declared.answer.Question.{Question}
 use Rattle.cni_verbs.proofs.NextCalls.{ok_by, next_begin, next_before, next_lease, next_after, next_cache, next_deletion, next_asking, next_change, next_over, is-prepared}
@@ -44,9 +44,9 @@ returns-in-Asking c =
     ∙ next_asking c.args.list.now c.args.command.now _ _ c.args.given.now c.args.phase.now c.in-Asking.is)
     c.call_asked.ensures
 
-pub returns-in_ok-copy-in-Changing : goal.returns-in_ok-copy-in-Changing
-returns-in_ok-copy-in-Changing c =
-    ap Some c.in_ok-copy-in-Changing.ensures ∙ next_change c.args.list.now c.args.command.now _ c.args.given.now c.args.phase.now c.in-Changing.is
+pub returns-in-Changing : goal.returns-in-Changing
+returns-in-Changing c =
+    ok_by c.change_of.result (next_change c.args.list.now c.args.command.now _ c.args.given.now c.args.phase.now c.in-Changing.is) c.change_of.ensures
 
 pub returns-in-Over : goal.returns-in-Over
 returns-in-Over c = next_over c.args.list.now c.args.command.now c.args.given.now c.args.phase.now _ c.in-Over.is
