@@ -14,8 +14,8 @@ use host_local::interface_kinds;
 use kernel_types::{AddrObj, Att, Call, Given, Kind, LinkKey, NamedAtt, RouteObj};
 use net_conf::PtpConf;
 use plan_words::{
-    Asked, EachKeyOnce, address_at, address_on, ask_all, ask_forward, completed, host_key,
-    masquerade_rules, route_at, route_by, route_on,
+    Asked, EachKeyOnce, Gateways, address_at, address_on, ask_all, ask_forward, completed,
+    host_key, masquerade_rules, route_at, route_by, route_on,
 };
 use std::alloc::Global;
 use std::hash::Hasher;
@@ -163,8 +163,9 @@ fn push_routes(
         ≡ fold (push_unless_there plan.same_key) objects.old
         (map (λ r. plan.Route (shapes.route_on att.now netns.now given.now r)) entries.now)) }
 {
+    let gateways = Gateways::of(given);
     for entry in entries {
-        push_route(objects, route_on(att, netns, given, entry)?)?;
+        push_route(objects, route_on(att, netns, &gateways, entry)?)?;
     }
     Ok(())
 }

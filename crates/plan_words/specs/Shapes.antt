@@ -1,6 +1,6 @@
 -- The objects of an attachment, as the plugins make them (documentation of `bridge`, `ptp`, `macvlan`; the rule sets
 -- are this project's own, after iptables).
-use Rattle.std.specs.Prelude.{ℕ, ◌*◌, ◌^◌, Bool, true, false, List, [], ◌∷◌, ◌++◌, map, flat_map, Option, Some, None, option_map, if◌then◌else◌}
+use Rattle.std.specs.Prelude.{ℕ, ◌*◌, ◌^◌, Bool, true, false, List, [], ◌∷◌, ◌++◌, map, flat_map, Option, Some, None, if◌then◌else◌}
 use Rattle.std.specs.Option.{option_or}
 use Rattle.cni_addr.specs.declared.address.Addr.{Addr}
 use Rattle.cni_addr.specs.declared.address.Cidr.{Cidr}
@@ -30,12 +30,12 @@ use Rattle.kernel_types.specs.declared.call.Call.{Call}
 use Rattle.kernel_types.specs.declared.call.Call.TheVariants.{ForwardEnsure}
 use Rattle.kernel_types.specs.declared.call.Given.{Given}
 use Rattle.cni_addr.specs.Lists.{each_key_once}
-use Rattle.plan_words.specs.Families.{first_given, has_family}
+use Rattle.plan_words.specs.Families.{family_gateway, has_family}
 use Rattle.kernel_types.specs.Names.{host_name_of, host_mac_of, inner_mac_of}
 
 -- ---- networks that rules and routes speak of
 
--- every address
+-- every address of the family
 abbrev pub default_route : Family → Cidr
 default_route family = record { addr = record { family = family; bits = 0 }; prefix = 0 }
 
@@ -83,7 +83,7 @@ address_on att netns g = address_at att (inner_key att netns) g.address
 
 -- the route's own gateway, else the first given address's of its family
 abbrev pub gateway_for : List Given → RouteEntry → Option Addr
-gateway_for given r = option_or r.gw (option_map (λ g. g.gateway) (first_given r.dst.addr.family given))
+gateway_for given r = option_or r.gw (family_gateway r.dst.addr.family given)
 
 abbrev pub route_by : Att → List ℕ → Cidr → Option Addr → RouteObj
 route_by att netns dst gw = route_at att (inner_key att netns) dst gw

@@ -8,7 +8,7 @@ use cni_addr::{Addr, Cidr};
 use kernel_types::{Rule, Target};
 use std::hash::{Hash, Hasher};
 
-/// The number of the address. Few objects differ in its family alone.
+/// The number of the address, which one address of each family has.
 pub(crate) fn hash_addr<H: Hasher>(addr: &Addr, state: &mut H)
     ensures { state.new ≡ fold H.write state.old (addr_writes addr.now) }
 {

@@ -13,6 +13,7 @@
 pub mod asked;
 pub mod each_key_once;
 pub mod families;
+pub mod gateways;
 mod key_writes;
 pub mod results;
 pub mod shapes;
@@ -20,6 +21,7 @@ pub mod shapes;
 pub use asked::Asked;
 pub use each_key_once::{EachKeyOnce, ask_all};
 pub use families::{first_given, first_of_family, has_family};
+pub use gateways::Gateways;
 pub use results::{completed, inner_interface};
 pub use shapes::{
     address_at, address_on, addresses_on, ask_forward, default_route, host_end, host_key,

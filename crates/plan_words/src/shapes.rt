@@ -1,14 +1,14 @@
 //! The objects of an attachment, as the plugins make them. No call makes a digest: what needs a derived name takes the
 //! attachment with its names.
 
-ghost use Rattle.std.specs.Prelude.{◌≡◌, ◌++◌, option_map, flat_map, IfOk, OnErr, OnOk};
+ghost use Rattle.std.specs.Prelude.{◌≡◌, ◌++◌, flat_map, IfOk, OnErr, OnOk};
 ghost use Rattle.kernel_types.specs.Equal.{rule_eq};
 ghost use Rattle.cni_addr.specs.Lists.{each_key_once};
-ghost use Rattle.plan_words.specs.Families as families;
 ghost use Rattle.plan_words.specs.Shapes as shapes;
 
 use crate::each_key_once::EachKeyOnce;
-use crate::families::{first_given, has_family};
+use crate::families::has_family;
+use crate::gateways::Gateways;
 use cni_addr::{Addr, Cidr, Duplicate, Family, MacvlanMode, NoMemory, Text, whole};
 use cni_result::RouteEntry;
 use kernel_types::{
@@ -178,18 +178,10 @@ pub fn addresses_on(
     Ok(objects)
 }
 
-fn family_gateway(given: &[Given], family: Family) -> Option<Addr>
-    ensures { result ≡ option_map (λ g. g.gateway) (families.first_given family given.now) }
+fn gateway_for(gateways: &Gateways<'_>, route: &RouteEntry) -> Option<Addr>
+    ensures { result ≡ shapes.gateway_for gateways.now route.now }
 {
-    first_given(given, family).map(|g| g.gateway)
-}
-
-fn gateway_for(given: &[Given], route: &RouteEntry) -> Option<Addr>
-    ensures { result ≡ shapes.gateway_for given.now route.now }
-{
-    route
-        .gw
-        .or_else(|| family_gateway(given, route.dst.addr.family))
+    route.gw.or(gateways.of_family(route.dst.addr.family))
 }
 
 /// The route from the container's end to this destination, by this gateway or directly.
@@ -203,16 +195,15 @@ pub fn route_by(att: &Att, netns: &Text, dst: Cidr, gw: Option<Addr>) -> Result<
 pub fn route_on(
     att: &Att,
     netns: &Text,
-    given: &[Given],
+    gateways: &Gateways<'_>,
     route: &RouteEntry,
 ) -> Result<RouteObj, NoMemory>
-    ensures { IfOk result (λ obj. obj ≡ shapes.route_on att.now netns.now given.now route.now) }
+    ensures { IfOk result (λ obj. obj ≡ shapes.route_on att.now netns.now gateways.now route.now) }
 {
-    route_by(att, netns, route.dst, gateway_for(given, route))
+    route_by(att, netns, route.dst, gateway_for(gateways, route))
 }
 
-/// The routes from the container's end, each destination once. Linear in the entries, where the first given address is
-/// of their family: a route without a gateway looks for the first of its own.
+/// The routes from the container's end, each destination once. Linear in the given addresses and the entries.
 pub fn routes_on(
     alloc: Global,
     att: &Att,
@@ -222,9 +213,10 @@ pub fn routes_on(
 ) -> Result<EachKeyOnce<RouteObj>, NoMemory>
     ensures { IfOk result (λ objects. objects ≡ shapes.routes_on att.now netns.now given.now entries.now) }
 {
+    let gateways = Gateways::of(given);
     let mut objects = EachKeyOnce::new(alloc);
     for entry in entries {
-        objects.push(route_on(att, netns, given, entry)?)?;
+        objects.push(route_on(att, netns, &gateways, entry)?)?;
     }
     Ok(objects)
 }

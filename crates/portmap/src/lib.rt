@@ -4,7 +4,7 @@
 //! back. They are those of `specs/Portmap.antt`.
 //!
 //! ```text
-//! portmap::calls(alloc, &conf, &att, &mappings, &prev)? // for each mapping up to three RuleAppend an address
+//! portmap::calls(alloc, &conf, &att, &mappings, &prev)? // a mapping: up to 3 RuleAppend for IPv4, 2 for IPv6
 //! ```
 #![tactic(auto)]
 
@@ -37,7 +37,7 @@ fn loopback() -> Cidr
     }
 }
 
-/// Whether the mapping asks for no host address of the other family.
+/// Whether the mapping has no host address, or one of this family.
 fn host_ip_allows(mapping: &PortMapping, addr: &Addr) -> bool
     ensures { result ≡ plan.host_ip_allows mapping.now.host_ip addr.now }
 {
@@ -87,7 +87,7 @@ fn hostport_masquerade(
     })
 }
 
-/// From the host itself. IPv6 has no route from the loopback address to another link.
+/// From the host itself, of IPv4 alone: Linux sends nothing from `::1` out by another link.
 fn push_from_host(
     rules: &mut EachKeyOnce<Rule>,
     att: &Att,
@@ -125,7 +125,7 @@ fn push_masquerades(
     Ok(())
 }
 
-/// The rules of a mapping to one address, unless the mapping asks for a host address of the other family.
+/// The rules of a mapping to one address, unless the mapping has a host address of the other family.
 fn push_rules_to(
     rules: &mut EachKeyOnce<Rule>,
     snat: bool,
@@ -183,7 +183,7 @@ fn portmap_rules(
 }
 
 /// The rules of each mapping, for the first address of each family that the attachment was given. None without an
-/// address. Linear in the mappings and the addresses.
+/// address. A mapping with a host address has the rules of its family alone. Linear in the mappings and the addresses.
 pub fn calls(
     alloc: Global,
     conf: &PortmapConf,
