@@ -34,13 +34,13 @@ abbrev pub AddsInAtMost : NetList → Command → ℕ → Type 0
 AddsInAtMost list c most = (given : List Addr) → length (calls_of_add list c given) ≤ most
 
 -- those of the first plugin for so many leased addresses: addresses, routes with two default routes, gateways with a
--- switch a family, and two rules an address. On both ends of `ptp` lie two addresses and three routes a leased address
+-- setting a family, and two rules an address. On both ends of `ptp` lie two addresses and three routes a leased address
 abbrev pub most_of_first : First → ℕ → ℕ
 most_of_first (Bridge conf) given = given + (length (routes_of conf.ipam) + 2) + (given + 2) + 2 * given
 most_of_first (Ptp conf) given = 5 * given + length conf.ipam.routes + 2 + 2 * given
 most_of_first (Macvlan conf) given = given + length (routes_of conf.ipam)
 
--- those of a chained plugin: three rules a mapping and family, two an address, or the settings and the link's values
+-- those of a chained plugin: three rules a mapping and family at most, two an address, or the settings and the link's values
 abbrev pub most_of_chained : List PortMapping → ℕ → Chained → ℕ
 most_of_chained mappings given (Portmap conf) = 6 * length mappings
 most_of_chained mappings given (Firewall conf) = 2 * given

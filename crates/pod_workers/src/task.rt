@@ -95,7 +95,7 @@ impl Task {
         Task::of(alloc, Carried::Collection(run), faults)
     }
 
-    /// Makes what the next call is looked up in. How far the run has come stays the same, whether memory lacks or not.
+    /// Makes what the next call is looked up in. How far the run has come stays the same, also out of memory.
     pub fn prepare(&mut self) -> Result<(), NoMemory>
         ensures same { self.new.progress ≡ self.old.progress }
         ensures ready { OnOk result (self.new.prepared ≡ true) }
