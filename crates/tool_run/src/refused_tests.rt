@@ -1,7 +1,7 @@
 //! A round by `Book::round_alone` over a kernel that refuses memory.
 
 use crate::kernel::{FromHost, NodeKernel};
-use crate::round_tests::{Seen, carried_out};
+use crate::round_tests::{Came, Seen, Word, carried_out};
 use crate::tests::{LIST, plan_of};
 use cni_addr::{Duplicate, Items};
 use kernel_model::RefusingKernel;
@@ -25,7 +25,7 @@ fn refused<K: FromHost + Drop>(alloc: Global, number: u64) -> Result<(Seen, Vec<
     let kernel = K::from_host(alloc, plan.pods.opening.copy()?)?;
     let refuse = Items::of_vec(vec![in alloc; number]?);
     let mut book = Book::begin(alloc, plan, RefusingKernel::of(kernel, refuse))?;
-    let seen = carried_out(alloc, &mut book)?;
+    let seen = carried_out(&mut book, 1, 2)?;
     let asked = Asked {
         commands: CommandPart::Lines,
         trace: false,
@@ -40,8 +40,14 @@ fn an_add_that_is_refused_memory_is_swept(rt: HostRuntime) -> Result<(), Fail> {
     let alloc = rt.alloc();
     let (seen, lines) = refused::<NodeKernel>(alloc, 4)?;
     assert_eq!(rt; lines.as_slice(), LINES.as_bytes());
-    assert_eq!(rt; seen.calls(1), Some(3));
-    assert_eq!(rt; seen.calls(2), Some(8));
-    assert!(rt; seen.unowned);
+    let refused = Came {
+        calls: 3,
+        word: Word::OutOfMemory,
+    };
+    let swept = Came {
+        calls: 8,
+        word: Word::Yes,
+    };
+    assert!(rt; seen.first == refused && seen.second == swept && seen.unowned);
     Ok(())
 }

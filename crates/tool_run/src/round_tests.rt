@@ -2,9 +2,11 @@
 
 use crate::kernel::{FromHost, NodeKernel, begin};
 use crate::tests::{LIST, plan_of};
+use cni_addr::NoMemory;
+use cni_result::CniError;
 use cni_verbs::Answer;
 use kernel_model::{Host, Kernel};
-use pod_workers::{Book, Entry};
+use pod_workers::Book;
 use std::alloc::Global;
 use std::test::Fail;
 
@@ -26,7 +28,7 @@ const THREE: &str = "{\"opening\":{\"namespaces\":[\"/ns/a\",\"/ns/b\",\"/ns/c\"
 [{\"verb\":\"GC\",\"network\":\"pods\",\"valid\":[],";
 
 /// After how many calls an ADD is stopped, and how many a collection makes after it.
-const STOPPED: [(u32, usize); 16] = [
+const STOPPED: [(u32, u32); 16] = [
     (0, 6),
     (1, 6),
     (2, 6),
@@ -46,7 +48,7 @@ const STOPPED: [(u32, usize); 16] = [
 ];
 
 /// Which call of an ADD is a fault, and how many it makes.
-const FAULTY: [(u32, usize); 15] = [
+const FAULTY: [(u32, u32); 15] = [
     (1, 1),
     (2, 9),
     (3, 10),
@@ -64,88 +66,94 @@ const FAULTY: [(u32, usize); 15] = [
     (15, 31),
 ];
 
-/// What one command came to: how many calls it made, and its answer in a word.
-#[derive(Drop)]
-struct Told {
-    number: u32,
-    calls: usize,
-    answer: String,
+/// What a command was answered, in a word.
+#[derive(Clone, Copy, Debug, PartialEq, Eq)]
+pub(crate) enum Word {
+    Added,
+    Yes,
+    OutOfMemory,
+    /// Refused with code 103 for the fault of this call.
+    Fault(u32),
+    Other,
 }
 
-/// What a run came to: its commands, and whether nothing is owned at its end.
-#[derive(Drop)]
+/// How many calls a command made, and what it was answered.
+#[derive(Clone, Copy, Debug, PartialEq, Eq)]
+pub(crate) struct Came {
+    pub(crate) calls: u32,
+    pub(crate) word: Word,
+}
+
+/// What two commands came to, and whether nothing is owned at the end.
+#[derive(Clone, Copy, Debug)]
 pub(crate) struct Seen {
-    told: Vec<Told>,
+    pub(crate) first: Came,
+    pub(crate) second: Came,
     pub(crate) unowned: bool,
 }
 
-impl Seen {
-    pub(crate) fn calls(&self, number: u32) -> Option<usize> {
-        let told = self.told.iter().find(|it| it.number == number);
-        told.map(|it| it.calls)
-    }
-
-    pub(crate) fn answer(&self, number: u32) -> &str {
-        match self.told.iter().find(|it| it.number == number) {
-            Some(told) => told.answer.as_str(),
-            None => "",
+/// The call whose fault a refusal tells of.
+fn fault_of(error: &CniError) -> Word {
+    match error.details.as_str().split_once(' ') {
+        Some(("call", number)) if error.code == 103 => {
+            number.parse().map_or(Word::Other, Word::Fault)
         }
+        _ => Word::Other,
     }
 }
 
-/// The answer in a word, with the code and the details of a refusal.
-fn answer_word(alloc: Global, answer: Option<&Answer>) -> Result<String, Fail> {
-    Ok(match answer {
-        Some(Answer::Added(_)) => format!(in alloc; "added")?,
-        Some(Answer::Yes) => format!(in alloc; "yes")?,
-        Some(Answer::Stopped { calls }) => format!(in alloc; "stopped {calls}")?,
-        Some(Answer::OutOfMemory) => format!(in alloc; "out of memory")?,
-        Some(Answer::Refused(error)) => {
-            let code = error.code;
-            let details = error.details.as_str();
-            format!(in alloc; "{code} {details}")?
-        }
-        _ => format!(in alloc; "other")?,
-    })
+fn word_of(answer: Option<&Answer>) -> Word {
+    match answer {
+        Some(Answer::Added(_)) => Word::Added,
+        Some(Answer::Yes) => Word::Yes,
+        Some(Answer::OutOfMemory) => Word::OutOfMemory,
+        Some(Answer::Refused(error)) => fault_of(error),
+        _ => Word::Other,
+    }
 }
 
-/// What this book comes to with every round made. No pods here have more than eight rounds, or commands.
+fn came_of<K: Kernel + Drop>(book: &Book<K>, number: u32) -> Came {
+    let calls = book.history().iter();
+    Came {
+        calls: calls.filter(|entry| entry.command == number).count() as u32,
+        word: word_of(book.answer(number)),
+    }
+}
+
+/// What these two commands of a book come to with every round made. No pods here have more than eight rounds.
 pub(crate) fn carried_out<K: Kernel + Drop>(
-    alloc: Global,
     book: &mut Book<K>,
-) -> Result<Seen, Fail> {
+    first: u32,
+    second: u32,
+) -> Result<Seen, NoMemory> {
     for _ in 0..8 {
         if !book.ended() {
             book.round_alone();
         }
     }
-    let mut told = Vec::new(alloc);
-    for number in 1..9u32 {
-        told.push(Told {
-            number,
-            calls: calls_of(book.history(), number),
-            answer: answer_word(alloc, book.answer(number))?,
-        })?;
-    }
     let host = book.host()?;
+    let unowned = is_unowned(&host);
+    drop(host);
     Ok(Seen {
-        told,
-        unowned: is_unowned(&host),
+        first: came_of(book, first),
+        second: came_of(book, second),
+        unowned,
     })
 }
 
-/// What these pods and this list come to.
-fn make_rounds<K: FromHost + Drop>(alloc: Global, list: &str, pods: &str) -> Result<Seen, Fail> {
+/// What these two commands of the pods come to, with this list.
+fn make_rounds<K: FromHost + Drop>(
+    alloc: Global,
+    list: &str,
+    pods: &str,
+    first: u32,
+    second: u32,
+) -> Result<Seen, Fail> {
     let plan = plan_of(alloc, list, pods)?;
     let mut book: Book<K> = begin(alloc, plan)?;
-    carried_out(alloc, &mut book)
-}
-
-fn calls_of(history: &[Entry], command: u32) -> usize {
-    history
-        .iter()
-        .filter(|entry| entry.command == command)
-        .count()
+    let seen = carried_out(&mut book, first, second);
+    drop(book);
+    Ok(seen?)
 }
 
 /// Whether no attachment owns anything.
@@ -159,39 +167,60 @@ fn is_unowned(host: &Host) -> bool {
         || host.cached.as_slice().iter().any(|it| it.tag.is_owned()))
 }
 
-/// A pod file with a command that is stopped after so many calls.
-fn stopped(alloc: Global, before: &str, stop: u32, after: &str) -> Result<String, Fail> {
-    Ok(format!(in alloc; "{before}\"stop\":{stop}{after}")?)
+/// An ADD that is stopped after so many calls, and a collection of everything.
+fn stopped_add(alloc: Global, stop: u32) -> Result<Seen, Fail> {
+    let swept = "}],[{\"verb\":\"GC\",\"network\":\"gen\",\"valid\":[]}]]}";
+    let pods = format!(in alloc; "{MAPPED}\"stop\":{stop}{swept}")?;
+    make_rounds::<NodeKernel>(alloc, PUBLISHED, pods.as_str(), 1, 2)
 }
 
-/// A pod file with a command whose call of this number is a fault.
-fn faulty(alloc: Global, before: &str, fault: u32, after: &str) -> Result<String, Fail> {
-    Ok(format!(in alloc; "{before}\"faults\":[{fault}]{after}")?)
+/// An ADD whose call of this number is a fault.
+fn faulty_add(alloc: Global, fault: u32) -> Result<Seen, Fail> {
+    let pods = format!(in alloc; "{MAPPED}\"faults\":[{fault}]}}]]}}")?;
+    make_rounds::<NodeKernel>(alloc, PUBLISHED, pods.as_str(), 1, 1)
+}
+
+/// A collection that is cut short as these words say, and another behind it.
+fn two_collections(alloc: Global, cut: &str) -> Result<Seen, Fail> {
+    let again = "}],[{\"verb\":\"GC\",\"network\":\"pods\",\"valid\":[]}]]}";
+    let pods = format!(in alloc; "{THREE}{cut}{again}")?;
+    make_rounds::<NodeKernel>(alloc, LIST, pods.as_str(), 4, 5)
+}
+
+fn faulty_collection(alloc: Global, fault: u32) -> Result<Seen, Fail> {
+    let cut = format!(in alloc; "\"faults\":[{fault}]")?;
+    two_collections(alloc, cut.as_str())
+}
+
+fn stopped_collection(alloc: Global, stop: u32) -> Result<Seen, Fail> {
+    let cut = format!(in alloc; "\"stop\":{stop}")?;
+    two_collections(alloc, cut.as_str())
 }
 
 #[test]
 fn an_add_that_is_stopped_is_swept(rt: HostRuntime) -> Result<(), Fail> {
-    let alloc = rt.alloc();
     for (stop, calls) in STOPPED {
-        let swept = "}],[{\"verb\":\"GC\",\"network\":\"gen\",\"valid\":[]}]]}";
-        let pods = stopped(alloc, MAPPED, stop, swept)?;
-        let seen = make_rounds::<NodeKernel>(alloc, PUBLISHED, pods.as_str())?;
-        assert_eq!(rt; seen.calls(1), Some(stop as usize));
-        assert_eq!(rt; seen.calls(2), Some(calls), "stop {stop}");
-        assert!(rt; seen.answer(2) == "yes" && seen.unowned, "stop {stop}");
+        let seen = stopped_add(rt.alloc(), stop)?;
+        let swept = Came {
+            calls,
+            word: Word::Yes,
+        };
+        assert_eq!(rt; seen.first.calls, stop);
+        assert_eq!(rt; seen.second, swept, "stop {stop}");
+        assert!(rt; seen.unowned, "stop {stop}");
     }
     Ok(())
 }
 
 #[test]
 fn an_add_with_a_fault_takes_back_what_it_made(rt: HostRuntime) -> Result<(), Fail> {
-    let alloc = rt.alloc();
     for (fault, calls) in FAULTY {
-        let pods = faulty(alloc, MAPPED, fault, "}]]}")?;
-        let seen = make_rounds::<NodeKernel>(alloc, PUBLISHED, pods.as_str())?;
-        let answer = format!(in alloc; "103 call {fault}")?;
-        assert_eq!(rt; seen.calls(1), Some(calls), "fault {fault}");
-        assert_eq!(rt; seen.answer(1), answer.as_str());
+        let seen = faulty_add(rt.alloc(), fault)?;
+        let refused = Came {
+            calls,
+            word: Word::Fault(fault),
+        };
+        assert_eq!(rt; seen.first, refused, "fault {fault}");
         assert!(rt; seen.unowned, "fault {fault}");
     }
     Ok(())
@@ -200,18 +229,15 @@ fn an_add_with_a_fault_takes_back_what_it_made(rt: HostRuntime) -> Result<(), Fa
 /// A collection that meets a fault, or is stopped, is finished by the one behind it.
 #[test]
 fn a_collection_that_is_cut_short_is_finished(rt: HostRuntime) -> Result<(), Fail> {
-    let alloc = rt.alloc();
-    let again = "}],[{\"verb\":\"GC\",\"network\":\"pods\",\"valid\":[]}]]}";
     for call in 1..28u32 {
-        let pods = faulty(alloc, THREE, call, again)?;
-        let failed = make_rounds::<NodeKernel>(alloc, LIST, pods.as_str())?;
-        let answer = format!(in alloc; "103 call {call}")?;
-        assert_eq!(rt; failed.answer(4), answer.as_str());
-        assert!(rt; failed.answer(5) == "yes" && failed.unowned, "fault {call}");
-        let pods = stopped(alloc, THREE, call, again)?;
-        let cut = make_rounds::<NodeKernel>(alloc, LIST, pods.as_str())?;
-        assert_eq!(rt; cut.calls(4), Some(call as usize));
-        assert!(rt; cut.answer(5) == "yes" && cut.unowned, "stop {call}");
+        let failed = faulty_collection(rt.alloc(), call)?;
+        assert_eq!(rt; failed.first.word, Word::Fault(call));
+        assert_eq!(rt; failed.second.word, Word::Yes);
+        assert!(rt; failed.unowned, "fault {call}");
+        let cut = stopped_collection(rt.alloc(), call)?;
+        assert_eq!(rt; cut.first.calls, call);
+        assert_eq!(rt; cut.second.word, Word::Yes);
+        assert!(rt; cut.unowned, "stop {call}");
     }
     Ok(())
 }
@@ -219,11 +245,8 @@ fn a_collection_that_is_cut_short_is_finished(rt: HostRuntime) -> Result<(), Fai
 /// Where its first question is a fault, a collection still asks for the other kinds, and takes back all.
 #[test]
 fn a_collection_whose_first_call_is_a_fault_goes_on(rt: HostRuntime) -> Result<(), Fail> {
-    let alloc = rt.alloc();
-    let again = "}],[{\"verb\":\"GC\",\"network\":\"pods\",\"valid\":[]}]]}";
-    let pods = faulty(alloc, THREE, 1, again)?;
-    let seen = make_rounds::<NodeKernel>(alloc, LIST, pods.as_str())?;
-    assert_eq!(rt; seen.calls(4), Some(24));
-    assert_eq!(rt; seen.calls(5), Some(6));
+    let seen = faulty_collection(rt.alloc(), 1)?;
+    assert_eq!(rt; seen.first.calls, 24);
+    assert_eq!(rt; seen.second.calls, 6);
     Ok(())
 }
