@@ -110,7 +110,7 @@ class Dump:
         here = {"ns": link["ns"], "link": link["name"]}
         lines = [f"{link['name']} {link['link']}", *(it["address"] for it in self.of("address", **here))]
         for route in self.of("route", **here):
-            to = "default" if route["dst"] == "0.0.0.0/0" else route["dst"]
+            to = "default" if route["dst"] in ("0.0.0.0/0", "::/0") else route["dst"]
             lines.append(f"route {to}" + (f" via {route['gw']}" if "gw" in route else ""))
         unusual = [it for it in ("hairpin", "promisc", "allmulti") if link[it]]
         unusual += [f"mtu {link['mtu']}"] * (link["mtu"] != USUAL_MTU)
@@ -140,8 +140,11 @@ def port_of(rule):
     """The host's port that a rule publishes, with its address where that is restricted; none of another rule."""
     if not rule["target"].startswith("DNAT"):
         return ""
-    address = rule["dst"].split("/")[0] + ":" if "dst" in rule else ""
-    return f"{address}{rule['dport']}/{rule['protocol']}"
+    port = f"{rule['dport']}/{rule['protocol']}"
+    if "dst" not in rule:
+        return port
+    address = rule["dst"].split("/")[0]
+    return f"[{address}]:{port}" if ":" in address else f"{address}:{port}"
 
 
 def rows_of(dump):
