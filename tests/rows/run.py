@@ -14,6 +14,7 @@ A row has the files that lie where the program runs, the words, and what is expe
     replies     by command number: the replies to its calls, in order (the words ask for a trace)
     leased      the addresses that the results have, in any order; the answers write each as `<LEASED>`
     dump        the lines of the dump, or the kinds of its objects where they are single words
+    objects     by kind: the lines of the dump that are of that kind
     later       instead of what is printed: the file is read, so a refusal is one that comes after reading
     owners      whose objects the dump has, each attachment once
     stdout_to   the file that standard output goes to, in place of a pipe that is read
@@ -171,6 +172,22 @@ def trace_differences(row, trace):
             yield f"replies to command {number}: {replies.get(number, [])}"
 
 
+def dump_differences(row, dump):
+    read = [json.loads(line) for line in dump]
+    if "owners" in row:
+        got = sorted({tag for value in read if (tag := value.get("tag", "base")) not in ("base", "outside")})
+        if got != row["owners"]:
+            yield f"owners: {got}"
+    for kind, due in row.get("objects", {}).items():
+        got = [line for line, value in zip(dump, read) if value["kind"] == kind]
+        if got != [expanded(line) for line in due]:
+            yield f"objects {kind}: {json.dumps(got)}"
+    if "dump" in row:
+        got = [value["kind"] for value in read] if all(line.isalpha() for line in row["dump"]) else dump
+        if got != [expanded(line) for line in row["dump"]]:
+            yield f"dump: {json.dumps(got)}"
+
+
 def differences(row, status, out):
     """What is other than expected, a text each."""
     if "later" in row:
@@ -184,7 +201,6 @@ def differences(row, status, out):
         yield "no line feed at the end"
     read = [json.loads(line) for line in lines]
     answers = [line for line, value in zip(lines, read) if "verb" in value]
-    dump = [line for line, value in zip(lines, read) if "kind" in value]
     if "leased" in row:
         got = sorted(address for line in answers for address in LEASED.findall(line))
         if got != sorted(row["leased"]):
@@ -195,15 +211,7 @@ def differences(row, status, out):
         if key in row and got != [expanded(line) for line in row[key]]:
             yield f"{key}: {json.dumps(got)}"
     yield from trace_differences(row, [value for value in read if "call" in value])
-    if "owners" in row:
-        got = sorted({tag for value in read if (tag := value.get("tag", "base")) not in ("base", "outside")})
-        if got != row["owners"]:
-            yield f"owners: {got}"
-    if "dump" in row:
-        kinds = [json.loads(line)["kind"] for line in dump]
-        got = kinds if all(line.isalpha() for line in row["dump"]) else dump
-        if got != [expanded(line) for line in row["dump"]]:
-            yield f"dump: {json.dumps(got)}"
+    yield from dump_differences(row, [line for line, value in zip(lines, read) if "kind" in value])
 
 
 def output_of(row):
