@@ -8,15 +8,10 @@ and DELs, one a round and each container in a namespace of its own. Of each ADD 
 number of the set that has none left; of each DEL that it succeeds; and at the end, by the dump, the address that each set
 leased last.
 
-The program takes IPv4 alone, and IPv6 sets are compared through their low 32 bits, put into IPv4 addresses. A set's ranges
-may lie in several networks, whose low bits are alike; so those networks of 96 bits that occur in the set are numbered in
-their order, and an address becomes (11 + set).NUMBER.0.0 plus its low 32 bits. That keeps the order of the set's
-addresses, each stands for itself alone, and a subnet becomes one with 96 bits less of prefix: its low part must fit into
-16 bits, which is tested here, so nothing wraps round and no subnet reaches into the next. The choice of an address looks
-at the order of ranges and addresses alone.
+The plugin's default end of an IPv6 range is the subnet's last address, and the program's the one before it. So an IPv6
+range must have its `rangeEnd` to be compared, and each recorded one has.
 """
 
-import ipaddress
 import json
 import pathlib
 import sys
@@ -37,61 +32,10 @@ from program import (
 )
 from recorded import is_ipv6, recordings
 
-ADDRESSES = ("rangeStart", "rangeEnd", "gateway")
 
-
-class AsRecorded:
-    """The addresses of an IPv4 set, which are taken as they are."""
-
-    def subnet(self, text):
-        return text
-
-    def address(self, text):
-        return text
-
-    def cidr(self, text):
-        return text
-
-
-class ThroughLowBits:
-    """IPv4 addresses that stand for those of an IPv6 set, in the same order."""
-
-    def __init__(self, number, given_set):
-        self.base = (11 + number) << 24
-        texts = [given["subnet"].split("/")[0] for given in given_set]
-        texts += [given[key] for given in given_set for key in ADDRESSES if key in given]
-        self.networks = sorted({int(ipaddress.IPv6Address(text)) >> 32 for text in texts})
-        # the default end of an IPv6 range is another than that of an IPv4 range
-        assert all("rangeEnd" in given for given in given_set)
-
-    def address(self, text):
-        bits = int(ipaddress.IPv6Address(text))
-        low = bits & 0xFFFFFFFF
-        network = self.networks.index(bits >> 32)
-        assert low < 1 << 16 and network < 1 << 8
-        return str(ipaddress.IPv4Address(self.base + (network << 16) + low))
-
-    def subnet(self, text):
-        assert ipaddress.IPv6Network(text).prefixlen >= 112
-        return self.cidr(text)
-
-    def cidr(self, text):
-        address, prefix = text.split("/")
-        return f"{self.address(address)}/{int(prefix) - 96}"
-
-
-def map_of(number, given_set):
-    return ThroughLowBits(number, given_set) if is_ipv6(given_set) else AsRecorded()
-
-
-def mapped_range(taken_by, given):
-    ends = {key: taken_by.address(given[key]) for key in ADDRESSES if key in given}
-    return {"subnet": taken_by.subnet(given["subnet"]), **ends}
-
-
-def list_of(maps, sets):
-    ranges = [[mapped_range(taken_by, given) for given in given_set] for taken_by, given_set in zip(maps, sets)]
-    return network_list("peer", bridge(ranges=ranges))
+def list_of(sets):
+    assert all("rangeEnd" in given for given_set in filter(is_ipv6, sets) for given in given_set)
+    return network_list("peer", bridge(ranges=sets))
 
 
 def pod_file(operations):
@@ -104,12 +48,12 @@ def pod_file(operations):
     return {"opening": {"namespaces": [f"/ns/{container}" for container in containers]}, "rounds": rounds}
 
 
-def wanted_answer(maps, operation):
+def wanted_answer(operation):
     if "del" in operation:
         return "deleted"
     if "empty_set" in operation:
         return f"pool empty, set {operation['empty_set']}"
-    return [taken_by.cidr(text) for taken_by, text in zip(maps, operation["ips"])]
+    return operation["ips"]
 
 
 def answer_of(line):
@@ -135,8 +79,7 @@ def printed(program, files):
 def differences(program, recorded):
     """What is other than recorded, a text each."""
     sets, operations = recorded["sets"], recorded["sequence"]
-    maps = [map_of(number, given_set) for number, given_set in enumerate(sets)]
-    status, lines = printed(program, {"pods.json": pod_file(operations), "net.json": list_of(maps, sets)})
+    status, lines = printed(program, {"pods.json": pod_file(operations), "net.json": list_of(sets)})
     if status not in (SUCCESS, FAILURE):
         yield f"status {status}: {lines}"
         return
@@ -144,12 +87,11 @@ def differences(program, recorded):
     if len(answers) != len(operations):
         yield f"{len(answers)} answers to {len(operations)} commands"
     for place, (operation, answer) in enumerate(zip(operations, answers), 1):
-        wanted = wanted_answer(maps, operation)
+        wanted = wanted_answer(operation)
         if answer != wanted:
             yield f"command {place}: {answer} and not {wanted}"
-    wanted = [last and taken_by.address(last) for taken_by, last in zip(maps, recorded["lasts"])]
-    if lasts_of(lines, len(sets)) != wanted:
-        yield f"last addresses: {lasts_of(lines, len(sets))} and not {wanted}"
+    if lasts_of(lines, len(sets)) != recorded["lasts"]:
+        yield f"last addresses: {lasts_of(lines, len(sets))} and not {recorded['lasts']}"
 
 
 def main():
@@ -159,10 +101,9 @@ def main():
         (f"sequence {number}", [*differences(program, recorded)]) for number, recorded in enumerate(sequences)
     )
     sets = [given_set for recorded in sequences for given_set in recorded["sets"]]
-    through = sum(map(is_ipv6, sets))
     print(
         f"recorded sequences: {len(sequences) - failed} of {len(sequences)} agree, "
-        f"with {len(sets)} sets, {through} of them IPv6 through their low 32 bits"
+        f"with {len(sets)} sets, {sum(map(is_ipv6, sets))} of them IPv6"
     )
     return 1 if failed else 0
 
