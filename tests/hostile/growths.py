@@ -164,8 +164,11 @@ def runs():
     pods = network_list("pods", bridge(subnet="10.88.0.0/16"))
     podman = {"pods.json": rounds_of({**add, **mapped}, delete, delete), "net.json": lists["PODMAN"]}
     swept = {"pods.json": rounds_of(*halves, sweep, sweep), "net.json": pods}
+    published = [{**it, "network": "published"} for it in ({**add, **mapped}, delete, delete)]
+    both = {"pods.json": rounds_of(*published), "net.json": lists["DUAL_PUBLISHED"]}
     dumped = {"pods.json": rounds_of(command("ADD", "pods", "c1", "/ns/a")), "net.json": pods}
     yield "an ADD of four plugins and its deletions", words, podman, True
+    yield "an ADD of both families and its deletions", words, both, True
     yield "collections after half-made ADDs", words, swept, True
     yield "no command", ["pods.json"], {"pods.json": NO_PODS}, False
     yield "an ADD, its trace and its dump", words, dumped, False

@@ -30,7 +30,7 @@ MOST_CHANGES = 4
 # the most bytes of a file that is changed
 MOST_BYTES = 20_000
 NUMBERS = [b"0", b"-1", b"1e3", b"0.5", b"255", b"65536", b"4294967296", b"18446744073709551616", b"1" * 40]
-BYTES = [b"\x00", b'"', b"\\", b"\xff", b"\xc3\xa9", b"\n", b",", b":", b"[", b"]", b"{", b"}"]
+BYTES = [b"\x00", b'"', b"\\", b"\xff", b"\xc3\xa9", b"\n", b",", b":", b"::", b"/", b".", b"%", b"[", b"]", b"{", b"}"]
 TOKEN = re.compile(rb'"(?:[^"\\]|\\.)*"|-?[0-9.eE+-]+|true|false|null')
 NUMBER = re.compile(rb"-?\d+")
 

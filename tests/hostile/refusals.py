@@ -53,6 +53,7 @@ LIMITS = 41
 MOST_PAGES = 1 << 16
 MARGIN = 4
 PODS = 400
+DELETES = 1200
 # the user `nobody`, to whom permissions apply where the script runs as root
 NOBODY = 65_534
 
@@ -62,11 +63,12 @@ FILES = {
         "opening": {"namespaces": [f"/ns/{i}" for i in range(PODS)]},
         "rounds": [[command("ADD", "pods", f"c{i}", f"/ns/{i}") for i in range(PODS)]],
     },
+    "deletes.json": {"rounds": [[command("DEL", "pods", f"c{i}", "")] for i in range(DELETES)]},
     "folder": DIRECTORY,
 }
 WORDS = ["--dump", "pods.json", "net.json"]
-# a dump takes more memory than the commands do, so that none of them would be refused any
-SHORT_WORDS = WORDS[1:]
+# what answers little: long answers or a dump take more memory than the commands do, so that none would be refused any
+SHORT_WORDS = ["deletes.json", "net.json"]
 
 
 def limited(program, folder, size):
@@ -114,7 +116,7 @@ def wrong_of_memory(ended, text):
         return None
     if ended.returncode == COMMAND_MEMORY:
         answers = [it for it in lines_of(ended.stdout) if "verb" in json.loads(it)]
-        if len(answers) == PODS and any(error_code(it) == OUT_OF_MEMORY for it in answers):
+        if len(answers) == DELETES and any(error_code(it) == OUT_OF_MEMORY for it in answers):
             return None
     return f"status {ended.returncode}, {len(ended.stdout)} bytes"
 
