@@ -5,7 +5,7 @@ ghost use Rattle.kernel_types.specs.declared.object.LinkKind.TheVariants as kind
 ghost use Rattle.kernel_types.specs.declared.object.Tag.TheVariants as tags;
 
 use crate::words::{RowError, addr_of, cidr_of, cut, link_words, port_of};
-use cni_addr::{Family, Items, MacvlanMode, NoMemory, Range, RangeSet, Text};
+use cni_addr::{Addr, Cidr, Family, Items, MacvlanMode, NoMemory, Range, RangeSet, Text};
 use cni_result::{AddResult, Cached, Version, no_dns};
 use kernel_types::{
     AddrObj, Att, Chain, Lease, Link, LinkKey, LinkKind, RouteObj, Rule, Setting, Table, Tag,
@@ -194,18 +194,25 @@ pub(crate) fn lease(alloc: Global, words: &str) -> Result<Lease, RowError> {
     Ok(Lease { network, addr, tag })
 }
 
+/// The range from its gateway on, where all are of one family.
+fn range_of(subnet: Cidr, gateway: Addr, end: Addr) -> Option<Range> {
+    match (subnet.addr.family, gateway.family, end.family) {
+        (Family::V4, Family::V4, Family::V4) | (Family::V6, Family::V6, Family::V6) => {
+            Some(Range {
+                subnet,
+                start: gateway,
+                end,
+                gateway,
+            })
+        }
+        _ => None,
+    }
+}
+
 /// A set of one range, which has its gateway in it.
 fn set_of(alloc: Global, subnet: &str, gateway: &str, end: &str) -> Result<RangeSet, RowError> {
-    let subnet = cidr_of(subnet)?;
-    let gateway = addr_of(gateway)?;
-    let end = addr_of(end)?;
-    let range = Range {
-        subnet,
-        start: gateway,
-        end,
-        gateway,
-    };
-    let ranges = one(alloc, range)?;
+    let range = range_of(cidr_of(subnet)?, addr_of(gateway)?, addr_of(end)?);
+    let ranges = one(alloc, range.ok_or(RowError::NoCall)?)?;
     Ok(RangeSet { ranges })
 }
 
