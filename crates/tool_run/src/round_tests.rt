@@ -28,7 +28,7 @@ const THREE: &str = "{\"opening\":{\"namespaces\":[\"/ns/a\",\"/ns/b\",\"/ns/c\"
 [{\"verb\":\"GC\",\"network\":\"pods\",\"valid\":[],";
 
 /// After how many calls an ADD is stopped, and how many a collection makes after it.
-const STOPPED: [(u32, u32); 16] = [
+const STOPPED: [(u32, u64); 16] = [
     (0, 6),
     (1, 6),
     (2, 6),
@@ -48,7 +48,7 @@ const STOPPED: [(u32, u32); 16] = [
 ];
 
 /// Which call of an ADD is a fault, and how many it makes.
-const FAULTY: [(u32, u32); 15] = [
+const FAULTY: [(u32, u64); 15] = [
     (1, 1),
     (2, 9),
     (3, 10),
@@ -80,7 +80,7 @@ pub(crate) enum Word {
 /// How many calls a command made, and what it was answered.
 #[derive(Clone, Copy, Debug, PartialEq, Eq)]
 pub(crate) struct Came {
-    pub(crate) calls: u32,
+    pub(crate) calls: u64,
     pub(crate) word: Word,
 }
 
@@ -115,7 +115,7 @@ fn word_of(answer: Option<&Answer>) -> Word {
 fn came_of<K: Kernel + Drop>(book: &Book<K>, number: u32) -> Came {
     let calls = book.history().iter();
     Came {
-        calls: calls.filter(|entry| entry.command == number).count() as u32,
+        calls: calls.filter(|entry| entry.command == number).count() as u64,
         word: word_of(book.answer(number)),
     }
 }
@@ -205,7 +205,7 @@ fn an_add_that_is_stopped_is_swept(rt: HostRuntime) -> Result<(), Fail> {
             calls,
             word: Word::Yes,
         };
-        assert_eq!(rt; seen.first.calls, stop);
+        assert_eq!(rt; seen.first.calls, u64::from(stop));
         assert_eq!(rt; seen.second, swept, "stop {stop}");
         assert!(rt; seen.unowned, "stop {stop}");
     }
@@ -235,7 +235,7 @@ fn a_collection_that_is_cut_short_is_finished(rt: HostRuntime) -> Result<(), Fai
         assert_eq!(rt; failed.second.word, Word::Yes);
         assert!(rt; failed.unowned, "fault {call}");
         let cut = stopped_collection(rt.alloc(), call)?;
-        assert_eq!(rt; cut.first.calls, call);
+        assert_eq!(rt; cut.first.calls, u64::from(call));
         assert_eq!(rt; cut.second.word, Word::Yes);
         assert!(rt; cut.unowned, "stop {call}");
     }
