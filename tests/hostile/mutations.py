@@ -3,10 +3,10 @@
 
     mutations.py [PROGRAM [COUNT [SEED]]]
 
-COUNT times, 400 where it isn't given, one file of an example or of a row of ../rows has a bit, a byte, a word, a number, a
-bracket or its length changed, once or several times, by a generator of random numbers that begins with SEED. Each run
-ends with a status of 0, 1 or 3, with nothing printed but JSON lines, and a second run prints the same. A file that ends
-otherwise is printed.
+COUNT times, 400 where it isn't given, one file of an example or of a row of ../rows has a bit, a byte, a word, a
+number, a bracket or its length changed, once or several times, by a generator of random numbers that begins with SEED.
+Each run ends with a status of 0, 1 or 3, with nothing printed but JSON lines, and a second run prints the same. A file
+that ends otherwise is printed.
 """
 
 import json

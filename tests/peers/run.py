@@ -3,10 +3,10 @@
 
     run.py [PROGRAM]
 
-Each sequence is one network list, whose sets are the recorded ones, and one pod file, whose rounds are the recorded ADDs
-and DELs, one a round and each container in a namespace of its own. Of each ADD the leased addresses are compared, or the
-number of the set that has none left; of each DEL that it succeeds; and at the end, by the dump, the address that each set
-leased last.
+Each sequence is one network list, whose sets are the recorded ones, and one pod file, whose rounds are the recorded
+ADDs and DELs, one a round and each container in a namespace of its own. Of each ADD the leased addresses are compared,
+or the number of the set that has none left; of each DEL that it succeeds; and at the end, by the dump, the address that
+each set leased last.
 
 The plugin's default end of an IPv6 range is the subnet's last address, and the program's the one before it. So an IPv6
 range must have its `rangeEnd` to be compared, and each recorded one has.

@@ -20,10 +20,12 @@ A row has the files that lie where the program runs, the words, and what is expe
     stdout_to   the file that standard output goes to, in place of a pipe that is read
     for_each    the row stands for as many as these lists have places: `<K>` is what the list K has at the row's place
 
-A file is a JSON value that is written compactly, or `@NAME`, one of the lists; or {"text": ..}, {"size": N} or {"directory": true};
-or {"before": .., "repeated": .., "times": N, "after": ..}, texts, of which the second stands N times, between commas.
-In a line `<HV N/C/I>`, `<MH N/C/I>` and `<MC N/C/I>` are the host end's name, its MAC and the container end's MAC of the
-attachment of container C to network N by interface I, and `<ML NAME>` is the MAC of another link; they are derived here.
+A file is a JSON value that is written compactly, or `@NAME`, one of the lists; or {"text": ..}, {"size": N} or
+{"directory": true}; or {"before": .., "repeated": .., "times": N, "after": ..}, texts, of which the second stands N
+times, between commas.
+In a line `<HV N/C/I>`, `<MH N/C/I>` and `<MC N/C/I>` are the host end's name, its MAC and the container end's MAC of
+the attachment of container C to network N by interface I, and `<ML NAME>` is the MAC of another link; they are derived
+here.
 """
 
 import contextlib
@@ -92,7 +94,7 @@ def content_of(given, lists):
 
 
 def filled(value, of_place):
-    """A value of a row with what a place's lists have in it: a text that is one of their names alone becomes what the list has."""
+    """A value of a row with what a place's lists have in it. A text that is a list's name alone becomes what it has."""
     if isinstance(value, dict):
         return {key: filled(each, of_place) for key, each in value.items()}
     if isinstance(value, list):
