@@ -22,7 +22,7 @@ use crate::answer::{Cause, Ending, Question};
 use crate::over::is_changing;
 use crate::phase::Phase;
 use cni_addr::{Addr, Duplicate, Items, NoMemory};
-use kernel_types::{Call, Reply, Shared};
+use kernel_types::{Call, RefCounted, Reply};
 use std::alloc::Global;
 use std::mem::replace;
 
@@ -90,7 +90,7 @@ fn leasing(given: usize, sets: usize) -> Phase
 }
 
 /// Passes a call before the leases. Where it was the last, the leases are next.
-fn pass_before(calls: &Items<Shared<Call>>, passed: &mut usize, sets: usize) -> Option<Phase>
+fn pass_before(calls: &Items<RefCounted<Call>>, passed: &mut usize, sets: usize) -> Option<Phase>
     requires { passed.old < length calls.now }
     ensures { (list : NetList) (c : Command) (made : ℕ) → length (sets_of list) ≡ sets
         → IsPhaseOf list c made [] (unwrap_or result (Phase.BeforeLeases calls.now passed.new))
@@ -106,7 +106,10 @@ fn pass_before(calls: &Items<Shared<Call>>, passed: &mut usize, sets: usize) -> 
 }
 
 // ---- one reply: the next phase, or none where the one at hand goes on
+//
+// Each is a function of its own, so that a step doesn't clear a stack for all of them.
 
+#[inline(never)]
 fn after_begin(number: u64, reply: &Reply) -> Result<Phase, NoMemory>
     ensures ok { (list : NetList) (c : Command)
         → IfOk result (λ next. IsPhaseOf list c number [] next (script.at_begin list c number reply.now)) }
@@ -118,8 +121,9 @@ fn after_begin(number: u64, reply: &Reply) -> Result<Phase, NoMemory>
     }
 }
 
+#[inline(never)]
 fn after_call_before(
-    calls: &Items<Shared<Call>>,
+    calls: &Items<RefCounted<Call>>,
     passed: &mut usize,
     sets: usize,
     number: u64,
@@ -139,6 +143,7 @@ fn after_call_before(
     }
 }
 
+#[inline(never)]
 fn after_lease(
     given: &mut Vec<Addr>,
     sets: usize,
@@ -168,6 +173,7 @@ fn after_lease(
     }
 }
 
+#[inline(never)]
 fn after_call_after(
     passed: &mut usize,
     number: u64,
@@ -191,6 +197,7 @@ fn after_call_after(
     }
 }
 
+#[inline(never)]
 fn after_cache(number: u64, ending: &mut Ending, reply: &Reply) -> Phase
     ensures { (list : NetList) (c : Command) (addrs : List Addr)
         → IsPhaseOf list c number addrs result (script.at_cache list number ending.old reply.now) }
@@ -202,6 +209,7 @@ fn after_cache(number: u64, ending: &mut Ending, reply: &Reply) -> Phase
     }
 }
 
+#[inline(never)]
 fn after_deletion(
     passed: &mut usize,
     number: u64,
@@ -224,6 +232,7 @@ fn after_deletion(
     }
 }
 
+#[inline(never)]
 fn after_entry(number: u64, reply: &Reply) -> Result<Phase, NoMemory>
     ensures ok { (list : NetList) (c : Command) (addrs : List Addr)
         → IfOk result (λ next. IsPhaseOf list c number addrs next (script.at_entry list c number reply.now)) }
@@ -250,6 +259,7 @@ fn denied(alloc: Global, questions: &mut Items<Question>, place: usize) -> Phase
     Phase::refused(lack)
 }
 
+#[inline(never)]
 fn after_question(
     alloc: Global,
     questions: &mut Items<Question>,
@@ -351,7 +361,7 @@ fn next_phase(
 }
 
 /// Goes on to the phase after a reply, where so many calls were made before it. A leased address is put to the given
-/// ones. Where memory lacks, the phase stays.
+/// ones. Out of memory, the phase stays.
 pub(crate) fn after(
     phase: &mut Phase,
     given: &mut Vec<Addr>,

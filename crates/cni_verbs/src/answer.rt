@@ -2,7 +2,7 @@
 
 use cni_addr::{Addr, Cidr, Items, Text};
 use cni_result::{AddResult, CniError, Version};
-use kernel_types::{Call, Chain, Shared, Table, Tag};
+use kernel_types::{Call, Chain, RefCounted, Table, Tag};
 
 /// A verb that a list disables (`disableCheck`, `disableGC`).
 #[derive(Clone, Copy, PartialEq, Eq)]
@@ -109,7 +109,7 @@ pub enum Cause {
 /// A call that asks something, and why the verb refuses where the answer is no.
 #[derive(PartialEq, Eq, Drop)]
 pub struct Question {
-    pub call: Shared<Call>,
+    pub call: RefCounted<Call>,
     pub lack: Cause,
 }
 

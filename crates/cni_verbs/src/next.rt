@@ -13,7 +13,7 @@ use crate::wanted::{Back, back_calls, calls_before, deletion, sets_of};
 use crate::words::{att_of, mappings_of, named_att_of};
 use cni_addr::{Addr, Duplicate, Items, NoMemory};
 use host_local::lease_at;
-use kernel_types::{Call, Kind, Shared};
+use kernel_types::{Call, Kind, RefCounted};
 use net_conf::NetList;
 use pod_file::Command;
 use std::alloc::Global;
@@ -54,16 +54,16 @@ pub(crate) fn back_of(
 // Each call is made in a function of its own, so that a step doesn't clear a stack for all of them.
 
 #[inline(never)]
-fn begin(alloc: Global, command: &Command) -> Result<Option<Shared<Call>>, NoMemory>
+fn begin(alloc: Global, command: &Command) -> Result<Option<RefCounted<Call>>, NoMemory>
     ensures { IfOk result (λ next. next ≡ Some (call.Begin (att_of command.now) command.now.netns)) }
 {
     let att = att_of(command)?;
     let netns = command.netns.copy()?;
-    Ok(Some(Shared::of(alloc, Call::Begin { att, netns })?))
+    Ok(Some(RefCounted::of(alloc, Call::Begin { att, netns })?))
 }
 
 #[inline(never)]
-fn call_at(calls: &[Shared<Call>], place: usize) -> Result<Option<Shared<Call>>, NoMemory>
+fn call_at(calls: &[RefCounted<Call>], place: usize) -> Result<Option<RefCounted<Call>>, NoMemory>
     ensures { IfOk result (λ next. next ≡ slice_get calls.now place) }
 {
     match calls.get(place) {
@@ -78,20 +78,20 @@ fn lease_next(
     list: &NetList,
     command: &Command,
     place: usize,
-) -> Result<Option<Shared<Call>>, NoMemory>
+) -> Result<Option<RefCounted<Call>>, NoMemory>
     requires { place < length (sets_of list.now) }
     ensures { IfOk result (λ next.
         next ≡ option_map (call.LeaseNext (att_of command.now) place) (slice_get (sets_of list.now) place)) }
 {
     let sets = sets_of(list);
     match lease_at(sets, att_of(command)?, place as u32)? {
-        Some(call) => Ok(Some(Shared::of(alloc, call)?)),
+        Some(call) => Ok(Some(RefCounted::of(alloc, call)?)),
         None => Ok(None),
     }
 }
 
 #[inline(never)]
-fn call_asked(questions: &[Question], place: usize) -> Result<Option<Shared<Call>>, NoMemory>
+fn call_asked(questions: &[Question], place: usize) -> Result<Option<RefCounted<Call>>, NoMemory>
     ensures { IfOk result (λ next. next ≡ option_map (λ question. question.call) (slice_get questions.now place)) }
 {
     match questions.get(place) {
@@ -101,11 +101,11 @@ fn call_asked(questions: &[Question], place: usize) -> Result<Option<Shared<Call
 }
 
 #[inline(never)]
-fn cache_get(alloc: Global, command: &Command) -> Result<Option<Shared<Call>>, NoMemory>
+fn cache_get(alloc: Global, command: &Command) -> Result<Option<RefCounted<Call>>, NoMemory>
     ensures { IfOk result (λ next. next ≡ Some (call.CacheGet (att_of command.now))) }
 {
     let att = att_of(command)?;
-    Ok(Some(Shared::of(alloc, Call::CacheGet { att })?))
+    Ok(Some(RefCounted::of(alloc, Call::CacheGet { att })?))
 }
 
 #[inline(never)]
@@ -114,24 +114,24 @@ fn deletion_at(
     command: &Command,
     kinds: &[Kind],
     place: usize,
-) -> Result<Option<Shared<Call>>, NoMemory>
+) -> Result<Option<RefCounted<Call>>, NoMemory>
     ensures { IfOk result (λ next. next ≡ option_map (deletion (att_of command.now)) (slice_get kinds.now place)) }
 {
     match kinds.get(place) {
         Some(kind) => {
             let call = deletion(att_of(command)?, *kind);
-            Ok(Some(Shared::of(alloc, call)?))
+            Ok(Some(RefCounted::of(alloc, call)?))
         }
         None => Ok(None),
     }
 }
 
 #[inline(never)]
-fn change_of(alloc: Global, change: &Call) -> Result<Option<Shared<Call>>, NoMemory>
+fn change_of(alloc: Global, change: &Call) -> Result<Option<RefCounted<Call>>, NoMemory>
     ensures { IfOk result (λ next. next ≡ Some change.now) }
 {
     let change = change.copy()?;
-    Ok(Some(Shared::of(alloc, change)?))
+    Ok(Some(RefCounted::of(alloc, change)?))
 }
 
 /// The call that the run of this list makes next.
@@ -142,7 +142,7 @@ pub(crate) fn next_of(
     kinds: &[Kind],
     given: &[Addr],
     phase: &Phase,
-) -> Result<Option<Shared<Call>>, NoMemory>
+) -> Result<Option<RefCounted<Call>>, NoMemory>
     requires kept { (room : ℕ) × (made : ℕ)
         × KeepsPlan list.now command.now kinds.now room made given.now phase.now }
     requires prepared { is_prepared phase.now ≡ true }
@@ -168,7 +168,7 @@ pub(crate) fn next_outside(
     alloc: Global,
     command: &Command,
     phase: &Phase,
-) -> Result<Option<Shared<Call>>, NoMemory>
+) -> Result<Option<RefCounted<Call>>, NoMemory>
     ensures { IfOk result (λ next. next ≡ next_call command.now (state_outside phase.now)) }
 {
     match phase {

@@ -5,7 +5,7 @@ ghost use Rattle.std.specs.Prelude.{◌≡◌};
 use crate::answer::{Cause, Ending, Question};
 use cni_addr::Items;
 use cni_result::{AddResult, Cached};
-use kernel_types::{Call, Shared};
+use kernel_types::{Call, RefCounted};
 
 /// What a run does next. The numbers say how much of a list of its plan is behind it.
 #[derive(Drop)]
@@ -16,7 +16,7 @@ pub(crate) enum Phase {
     Begun,
     /// So many calls of the first plugin were made, and some are left before the leases.
     BeforeLeases {
-        calls: Items<Shared<Call>>,
+        calls: Items<RefCounted<Call>>,
         passed: usize,
     },
     /// Sets are left to lease from.
@@ -25,7 +25,7 @@ pub(crate) enum Phase {
     Leased,
     /// So many of the calls after the leases are behind it, and this is the result at their end.
     AfterLeases {
-        calls: Items<Shared<Call>>,
+        calls: Items<RefCounted<Call>>,
         passed: usize,
         added: AddResult,
     },
@@ -36,7 +36,7 @@ pub(crate) enum Phase {
     /// The cached entry is read ahead of the questions of a check.
     FindingEntry,
     /// A CHECK asks about this cached entry, and its questions aren't made yet.
-    Found(Shared<Cached>),
+    Found(RefCounted<Cached>),
     /// So many questions were answered with yes.
     Asking {
         questions: Items<Question>,

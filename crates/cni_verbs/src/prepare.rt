@@ -8,7 +8,7 @@ use crate::phase::Phase;
 use crate::questions::check_questions;
 use crate::wanted::Back;
 use cni_addr::{Addr, Items, NoMemory};
-use kernel_types::{Call, Shared};
+use kernel_types::{Call, RefCounted};
 use net_conf::NetList;
 use pod_file::Command;
 use std::alloc::Global;
@@ -21,19 +21,19 @@ pub(crate) fn is_prepared(phase: &Phase) -> bool
 }
 
 /// The calls, each where the history can share it. Linear in the calls.
-fn shared_calls(alloc: Global, calls: Items<Call>) -> Result<Items<Shared<Call>>, NoMemory>
+fn shared_calls(alloc: Global, calls: Items<Call>) -> Result<Items<RefCounted<Call>>, NoMemory>
     ensures { IfOk result (λ shared. shared ≡ calls) }
 {
     let calls = calls.into_vec();
     let mut shared = Vec::with_capacity(alloc, calls.len())?;
     for call in calls {
-        shared.push(Shared::of(alloc, call)?)?;
+        shared.push(RefCounted::of(alloc, call)?)?;
     }
     Ok(Items::of_vec(shared))
 }
 
 /// Makes the calls before or after the leases or the questions of a CHECK, where they are next and aren't made. The
-/// phase means the same, and where memory lacks it stays as it is.
+/// phase means the same, and out of memory it stays as it is.
 pub(crate) fn prepare_phase(
     alloc: Global,
     list: &NetList,

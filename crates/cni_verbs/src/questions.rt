@@ -11,7 +11,9 @@ use crate::wanted::{back_calls, calls_before, sets_of};
 use crate::words::named_att_of;
 use cni_addr::{Addr, Duplicate, Items, Mac, NoMemory, RangeSet, Text};
 use cni_result::{AddResult, Cached, Interface};
-use kernel_types::{AddrObj, Call, Lease, Link, Object, Probe, RouteObj, Rule, Setting, Shared};
+use kernel_types::{
+    AddrObj, Call, Lease, Link, Object, Probe, RefCounted, RouteObj, Rule, Setting,
+};
 use net_conf::{First, NetList};
 use pod_file::Command;
 use std::alloc::Global;
@@ -35,7 +37,7 @@ fn asks_for(alloc: Global, object: Object, missed: Missed) -> Result<Question, N
 {
     let probe = Probe::Whole(object);
     Ok(Question {
-        call: Shared::of(alloc, Call::HasObj { probe })?,
+        call: RefCounted::of(alloc, Call::HasObj { probe })?,
         lack: Cause::Missing(missed),
     })
 }
@@ -166,7 +168,7 @@ fn bridge_question(alloc: Global, name: &Text, mac: Mac) -> Result<Question, NoM
     let missed = name.copy()?;
     let probe = Probe::BridgeAt { name: bridge, mac };
     Ok(Question {
-        call: Shared::of(alloc, Call::HasObj { probe })?,
+        call: RefCounted::of(alloc, Call::HasObj { probe })?,
         lack: Cause::Missing(Missed::Bridge(missed)),
     })
 }
@@ -284,7 +286,7 @@ fn pool_question(
     let network = network.copy()?;
     let set = set.copy()?;
     Ok(Question {
-        call: Shared::of(alloc, Call::PoolFree { network, set })?,
+        call: RefCounted::of(alloc, Call::PoolFree { network, set })?,
         lack: Cause::NoFreeAddress(number),
     })
 }
@@ -315,7 +317,7 @@ fn master_question(alloc: Global, name: &Text) -> Result<Question, NoMemory>
     let absent = name.copy()?;
     let probe = Probe::Master { name: master };
     Ok(Question {
-        call: Shared::of(alloc, Call::HasObj { probe })?,
+        call: RefCounted::of(alloc, Call::HasObj { probe })?,
         lack: Cause::MasterAbsent(absent),
     })
 }

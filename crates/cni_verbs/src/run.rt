@@ -19,7 +19,7 @@ use crate::prepare::{is_prepared, prepare_phase};
 use crate::start::{first_outside, first_phase};
 use crate::wanted::{kinds_of, sets_of};
 use cni_addr::{Addr, Duplicate, Items, NoMemory};
-use kernel_types::{Call, Kind, Reply, Shared};
+use kernel_types::{Call, Kind, RefCounted, Reply};
 use net_conf::NetList;
 use pod_file::Command;
 use std::alloc::Global;
@@ -136,8 +136,8 @@ impl Run {
     }
 
     /// Makes what the next call is looked up in, where it isn't made yet: [`Run::next`] and [`Run::take`] ask for it
-    /// after each reply. How far the run has come stays the same, and where memory lacks the run is as it was: it may
-    /// be prepared again. Linear in the list, the mappings and the leased addresses, once a run.
+    /// after each reply. How far the run has come stays the same, and out of memory the run is as it was: it may be
+    /// prepared again. Linear in the list, the mappings and the leased addresses, once a run.
     pub fn prepare(&mut self) -> Result<(), NoMemory>
         ensures same { self.new.progress ≡ self.old.progress }
         ensures ready { OnOk result (self.new.prepared ≡ true) }
@@ -175,7 +175,7 @@ impl Run {
 
     /// The call to make next, or none where the run is over. A planned call is shared with the plan, and each other is
     /// made here, linear in that call alone.
-    pub fn next(&self) -> Result<Option<Shared<Call>>, NoMemory>
+    pub fn next(&self) -> Result<Option<RefCounted<Call>>, NoMemory>
         requires prepared { self.now.prepared ≡ true }
         ensures { IfOk result (λ call. call ≡ next_call self.now.progress.command self.now.progress.state) }
     {
@@ -193,8 +193,8 @@ impl Run {
         }
     }
 
-    /// Takes the reply to the call that [`Run::next`] gave. Memory can be wanting only where the reply holds a text or a
-    /// list, for a copy of what the run keeps of it, and then the run is as it was.
+    /// Takes the reply to the call that [`Run::next`] gave. It can run out of memory only where the reply holds a text
+    /// or a list, for a copy of what the run keeps of it, and then the run is as it was.
     pub fn take(&mut self, reply: &Reply) -> Result<(), NoMemory>
         requires prepared { self.old.prepared ≡ true }
         requires open { IsOpen self.old.progress.state }

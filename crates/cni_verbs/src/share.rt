@@ -7,7 +7,8 @@ ghost use Rattle.kernel_types.specs.Words.{lease_of};
 use cni_addr::{Addr, Items, NoMemory};
 use cni_result::Cached;
 use kernel_types::{
-    AddrObj, Att, CachedObj, Call, Lease, Link, LinkValues, RouteObj, Rule, Setting, Tag, set_links,
+    AddrObj, Att, CachedObj, Call, Lease, Link, LinkValues, RefCounted, RouteObj, Rule, Setting,
+    Tag, set_links,
 };
 use std::alloc::Global;
 use std::marker::Model;
@@ -71,7 +72,11 @@ fn push_both(links: &mut Vec<Link>, first: Link, second: Link) -> Result<(), NoM
     push(links, second)
 }
 
-fn push_cached(list: &mut Vec<CachedObj>, att: Att, cached: Cached) -> Result<(), NoMemory>
+fn push_cached(
+    list: &mut Vec<CachedObj>,
+    att: Att,
+    cached: RefCounted<Cached>,
+) -> Result<(), NoMemory>
     ensures { OnOk result
         (list.new.items ≡ list.old.items ++ record { cached = cached; tag = Tag.Own att } ∷ []) }
 {

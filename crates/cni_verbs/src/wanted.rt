@@ -18,7 +18,7 @@ use firewall_tuning::{
     firewall_calls, firewall_kinds, firewall_result, tuning_calls, tuning_kinds, tuning_result,
 };
 use host_local::{given_of, ipam_of, ipam_result_of};
-use kernel_types::{Att, Call, Given, Kind, NamedAtt};
+use kernel_types::{Att, Call, Given, Kind, NamedAtt, RefCounted};
 use net_conf::{Chained, First, NetList};
 use std::alloc::Global;
 
@@ -222,6 +222,7 @@ pub fn result_of_add(
 // ---- the calls
 
 fn cache_put(
+    alloc: Global,
     att: &Att,
     netns: &Text,
     mappings: Items<PortMapping>,
@@ -230,14 +231,15 @@ fn cache_put(
     ensures { IfOk result (λ put.
         put ≡ call.CachePut att.now (record { netns = netns.now; mappings = mappings; result = last })) }
 {
-    Ok(Call::CachePut {
-        att: att.copy()?,
-        cached: Cached {
-            netns: netns.copy()?,
-            mappings,
-            result: last,
-        },
-    })
+    let netns = netns.copy()?;
+    let cached = Cached {
+        netns,
+        mappings,
+        result: last,
+    };
+    let cached = RefCounted::of(alloc, cached)?;
+    let att = att.copy()?;
+    Ok(Call::CachePut { att, cached })
 }
 
 /// What an ADD makes after its last lease.
@@ -278,7 +280,7 @@ pub fn back_calls(
         first,
     )?;
     let cached = added.copy()?;
-    calls.push(cache_put(att.att(), netns, mappings, cached)?)?;
+    calls.push(cache_put(alloc, att.att(), netns, mappings, cached)?)?;
     Ok(Back {
         calls: Items::of_vec(calls),
         added,

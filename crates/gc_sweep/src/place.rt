@@ -12,7 +12,7 @@ ghost use Rattle.gc_sweep.specs.View.{HasTaken, IsPlace, jobs_left, step_of, ste
 use crate::valid::ValidIndex;
 use cni_addr::{Duplicate, Items, NoMemory, Text};
 use cni_verbs::wanted::deletion;
-use kernel_types::{Att, Call, Kind, Reply, Shared};
+use kernel_types::{Att, Call, Kind, RefCounted, Reply};
 use std::alloc::Global;
 
 /// The sweep at hand: none yet, that of the cached entries, or that of a kind.
@@ -141,7 +141,7 @@ pub(crate) fn next_call(
     network: &Text,
     kinds: &[Kind],
     place: &SweepPlace,
-) -> Result<Option<Shared<Call>>, NoMemory>
+) -> Result<Option<RefCounted<Call>>, NoMemory>
     requires { IsPlace kinds.now place.now }
     ensures { IfOk result (λ call. call
         ≡ call_of_work network.now (jobs_left kinds.now place.now) (sweeps_after kinds.now place.now.stage)) }
@@ -149,13 +149,13 @@ pub(crate) fn next_call(
     if place.has_owner() {
         let step = owner_step_at(kinds, place.stage, place.step);
         let call = call_of(&place.owners[place.at], step)?;
-        Ok(Some(Shared::of(alloc, call)?))
+        Ok(Some(RefCounted::of(alloc, call)?))
     } else {
         match next_stage(place.stage) {
             Some(stage) => {
                 let network = network.copy()?;
                 let kind = kind_of_stage(stage);
-                Ok(Some(Shared::of(alloc, Call::OwnersOf { network, kind })?))
+                Ok(Some(RefCounted::of(alloc, Call::OwnersOf { network, kind })?))
             }
             None => Ok(None),
         }
@@ -226,8 +226,8 @@ fn next_sweep(kinds: &[Kind], valid: &ValidIndex, place: &mut SweepPlace, owners
     }
 }
 
-/// Goes on as a reply to the next call says. Memory can be wanting only for a copy of the owners that a reply tells, and
-/// then the place stays.
+/// Goes on as a reply to the next call says. It can run out of memory only for a copy of the owners that a reply tells,
+/// and then the place stays.
 pub(crate) fn take(
     kinds: &[Kind],
     valid: &ValidIndex,

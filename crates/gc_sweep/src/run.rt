@@ -13,7 +13,7 @@ use crate::valid::ValidIndex;
 use cni_addr::{Duplicate, Items, NoMemory};
 use cni_verbs::wanted::kinds_of;
 use cni_verbs::{Answer, Cause, Ending, early_ending, plain_answer};
-use kernel_types::{Call, Kind, Reply, Shared};
+use kernel_types::{Call, Kind, RefCounted, Reply};
 use net_conf::NetList;
 use pod_file::Command;
 use std::alloc::Global;
@@ -70,7 +70,7 @@ impl GcRun {
     }
 
     /// The call to make next, or none where the run is over.
-    pub fn next(&self) -> Result<Option<Shared<Call>>, NoMemory>
+    pub fn next(&self) -> Result<Option<RefCounted<Call>>, NoMemory>
         ensures { IfOk result (λ call. call ≡ next_call self.now.command self.now.state) }
     {
         if is_early(&self.list) {
@@ -86,8 +86,8 @@ impl GcRun {
         }
     }
 
-    /// Takes the reply to the call that [`GcRun::next`] gave. Memory can be wanting only for a fault's number and for a
-    /// copy of the owners that a reply tells, and then the run is as it was.
+    /// Takes the reply to the call that [`GcRun::next`] gave. It can run out of memory only for a fault's number
+    /// and for a copy of the owners that a reply tells, and then the run is as it was.
     pub fn take(&mut self, reply: &Reply) -> Result<(), NoMemory>
         requires open { IsOpen self.old.state }
         requires numbered { self.old.made + 1 < 2 ^ 64 }

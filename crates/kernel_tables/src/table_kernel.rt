@@ -56,7 +56,7 @@ impl Tables {
             Call::LeaseDel { att } => Ok(self.lease_del(att)),
             Call::CacheDel { att } => Ok(self.cache_del(att)),
             Call::HasObj { probe } => Ok(self.has_obj(probe)),
-            Call::CacheGet { att } => self.cache_get(alloc, att),
+            Call::CacheGet { att } => self.cache_get(att),
             Call::OwnersOf { network, kind } => self.owners_of(alloc, network, *kind),
             Call::PoolFree { network, set } => Ok(self.pool_free(alloc, network, set)),
             Call::NsChange { name, add } => self.ns_change(alloc, name, *add),

@@ -32,9 +32,10 @@ impl Dumped for CachedObj {
     fn dump_value(&self, alloc: Global) -> Result<Value, NoMemory> {
         let mut object = JsonObject::new(alloc);
         object.put_text("kind", "cached")?;
-        object.put("netns", &self.cached.netns)?;
-        object.put_list_unless_empty("portMappings", self.cached.mappings.as_slice())?;
-        object.put_value("result", to_value(alloc, &self.cached.result)?)?;
+        let cached = self.cached.get();
+        object.put("netns", &cached.netns)?;
+        object.put_list_unless_empty("portMappings", cached.mappings.as_slice())?;
+        object.put_value("result", to_value(alloc, &cached.result)?)?;
         put_tag(&mut object, alloc, &self.tag)?;
         Ok(object.into_value())
     }

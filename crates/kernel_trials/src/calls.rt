@@ -6,7 +6,7 @@ use crate::objects::{
 };
 use crate::words::{RowError, cidr_of, cut, family_of, kind_of, link_words};
 use cni_addr::Text;
-use kernel_types::{Call, Change, Object, Probe, link_mac, table_named};
+use kernel_types::{Call, Change, Object, Probe, RefCounted, link_mac, table_named};
 use std::alloc::Global;
 
 /// `Begin CONTAINER NAMESPACE`; the host's own namespace is written `host`.
@@ -99,7 +99,7 @@ fn lease_next(alloc: Global, words: &str) -> Result<Call, RowError> {
 
 fn cache_put(alloc: Global, container: &str) -> Result<Call, RowError> {
     let att = att(alloc, container)?;
-    let cached = cached(alloc)?;
+    let cached = RefCounted::of(alloc, cached(alloc)?)?;
     Ok(Call::CachePut { att, cached })
 }
 

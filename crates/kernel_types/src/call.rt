@@ -1,8 +1,8 @@
 //! The calls of the modelled kernel, its replies, and a leased address with what its range says of it.
 
 use crate::object::{AddrObj, Att, Lease, Link, LinkKey, RouteObj, Setting, Tag};
+use crate::ref_counted::RefCounted;
 use crate::rule::{Rule, Table};
-use crate::shared_value::Shared;
 use cni_addr::{Addr, Cidr, Family, Items, Mac, RangeSet, Text};
 use cni_result::Cached;
 use std::marker::Model;
@@ -69,7 +69,7 @@ pub enum Probe {
 pub enum Change {
     /// A link of a namespace other than the host's goes, with its peer.
     DropLink(LinkKey),
-    /// All rules of a table go.
+    /// All rules of a table go, of both families.
     Flush(Table),
 }
 
@@ -142,7 +142,7 @@ pub enum Call {
     /// The cached result of the attachment.
     CachePut {
         att: Att,
-        cached: Cached,
+        cached: RefCounted<Cached>,
     },
     /// The attachment's first link goes, with its peer and what stands on either.
     LinkDel {
@@ -215,7 +215,7 @@ pub enum Reply {
     /// The attachments that own an object, each once, in the order of the host's list.
     Owners(Items<Att>),
     /// The cached result, where there is one.
-    Entry(Option<Shared<Cached>>),
+    Entry(Option<RefCounted<Cached>>),
     /// The call failed and changed nothing. The kernel never answers so: it stands for a listed fault.
     Fault,
 }

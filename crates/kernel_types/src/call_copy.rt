@@ -7,8 +7,8 @@ ghost use Rattle.kernel_types.specs.declared.call.Reply.TheVariants as replies;
 
 use crate::call::{Call, Change, Kind, Object, Probe, Reply};
 use crate::object::{AddrObj, Att, Link, LinkKey, RouteObj, Setting, Tag};
+use crate::ref_counted::RefCounted;
 use crate::rule::Rule;
-use crate::shared_value::Shared;
 use cni_addr::{Cidr, Duplicate, Items, Mac, NoMemory, RangeSet, Text};
 use cni_result::Cached;
 
@@ -51,7 +51,7 @@ impl Duplicate for Change {
 }
 
 impl Reply {
-    /// A copy, of which memory can be wanting only where the reply holds a text or a list.
+    /// A copy, which can run out of memory only where the reply holds a text or a list.
     pub fn twin(&self) -> Result<Reply, NoMemory>
         ensures ok { IfOk result (λ twin. twin ≡ self.now) }
         ensures err { OnErr result (holds_text_or_list self.now ≡ true) }
@@ -87,7 +87,7 @@ fn twin_of_owners(owners: &Items<Att>) -> Result<Reply, NoMemory>
 }
 
 #[inline(never)]
-fn twin_of_entry(cached: &Option<Shared<Cached>>) -> Result<Reply, NoMemory>
+fn twin_of_entry(cached: &Option<RefCounted<Cached>>) -> Result<Reply, NoMemory>
     ensures { IfOk result (λ twin. twin ≡ replies.Entry cached.now) }
 {
     Ok(Reply::Entry(cached.copy()?))
@@ -99,8 +99,8 @@ impl Duplicate for Reply {
     }
 }
 
-// Parts are copied first and the call is put together last, so that a want of memory lets go of whole parts alone. Each
-// call and each object has a function that isn't inlined: a copy would else clear a stack for the parts of all of them.
+// Parts are copied first and the call is put together last, so that running out of memory lets go of whole parts alone.
+// Each call and each object has a function that isn't inlined: a copy would else clear a stack for the parts of all.
 
 #[inline(never)]
 fn copy_begin(att: &Att, netns: &Text) -> Result<Call, NoMemory>
@@ -174,7 +174,7 @@ fn copy_lease_next(att: &Att, number: u32, set: &RangeSet) -> Result<Call, NoMem
 }
 
 #[inline(never)]
-fn copy_cache_put(att: &Att, cached: &Cached) -> Result<Call, NoMemory>
+fn copy_cache_put(att: &Att, cached: &RefCounted<Cached>) -> Result<Call, NoMemory>
     ensures { IfOk result (λ twin. twin ≡ calls.CachePut att.now cached.now) }
 {
     let att = att.copy()?;

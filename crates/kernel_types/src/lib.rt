@@ -33,9 +33,9 @@ pub mod link_values;
 pub mod names;
 pub mod object;
 pub mod opening;
+pub mod ref_counted;
 pub mod rule;
 pub mod shared;
-pub mod shared_value;
 pub mod texts;
 pub mod words;
 
@@ -47,6 +47,6 @@ pub use object::{
     Tag,
 };
 pub use opening::opening_with;
+pub use ref_counted::RefCounted;
 pub use rule::{Chain, Rule, Table, Target};
-pub use shared_value::Shared;
 pub use texts::{link_kind_text, table_named, table_text};

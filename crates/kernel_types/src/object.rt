@@ -3,6 +3,7 @@
 ghost use Rattle.std.specs.Prelude.{◌≡◌, IfOk};
 ghost use Rattle.kernel_types.specs.Words.{is_own, lease_of, outside_namespace};
 
+use crate::ref_counted::RefCounted;
 use crate::rule::Rule;
 use cni_addr::{Addr, Cidr, Duplicate, Items, Mac, MacvlanMode, NoMemory, Text};
 use cni_result::Cached;
@@ -12,7 +13,7 @@ use cni_result::Cached;
 pub enum Tag {
     /// It was there before, or the world outside made it: nobody here takes it away.
     Outside,
-    /// The attachments of a host share it (a bridge, its gateway, forwarding); it stays.
+    /// The attachments of a host share it (a bridge, a gateway on it, forwarding of a family); it stays.
     Base,
     /// It is this attachment's own, and goes with it.
     Own(Att),
@@ -186,7 +187,7 @@ impl Duplicate for AddrObj {
 #[derive(PartialEq, Eq, Hash, Drop)]
 pub struct RouteObj {
     pub ns: Text,
-    /// The network that it leads to; that of all addresses makes it a default route.
+    /// The network that it leads to; that of all addresses of a family makes it the family's default route.
     pub dst: Cidr,
     /// The name of the link that it leads out by.
     pub link: Text,
@@ -262,7 +263,8 @@ impl Duplicate for Lease {
 /// What a runtime keeps of an attachment's ADD: its result, and what its later verbs need.
 #[derive(PartialEq, Eq, Drop)]
 pub struct CachedObj {
-    pub cached: Cached,
+    /// Shared with the call that put it here.
+    pub cached: RefCounted<Cached>,
     pub tag: Tag,
 }
 

@@ -2,7 +2,7 @@
 
 use cni_addr::Items;
 use cni_verbs::Answer;
-use kernel_types::{Call, Reply, Shared};
+use kernel_types::{Call, RefCounted, Reply};
 use net_conf::NetList;
 use pod_file::Pods;
 
@@ -29,7 +29,7 @@ pub struct Entry {
     /// The command's number in the file, from 1.
     pub command: u32,
     /// Shared with the plan that it comes from.
-    pub call: Shared<Call>,
+    pub call: RefCounted<Call>,
     pub reply: Reply,
 }
 
@@ -44,5 +44,8 @@ pub enum StepEnd {
 #[derive(Drop)]
 pub enum Next {
     Answer(Answer),
-    Call { call: Shared<Call>, faulty: bool },
+    Call {
+        call: RefCounted<Call>,
+        faulty: bool,
+    },
 }

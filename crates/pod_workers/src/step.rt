@@ -15,7 +15,7 @@ use crate::task::Task;
 use cni_addr::NoMemory;
 use cni_verbs::Answer;
 use kernel_model::Kernel;
-use kernel_types::{Call, Reply, Shared};
+use kernel_types::{Call, RefCounted, Reply};
 use net_conf::NetList;
 use pod_file::Command;
 use std::alloc::Global;
@@ -145,7 +145,7 @@ fn make_call<K: Kernel>(
     history: &mut Vec<Entry>,
     task: &mut Task,
     command: u32,
-    call: Shared<Call>,
+    call: RefCounted<Call>,
     faulty: bool,
 ) -> Result<(), NoMemory>
     requires allowed { faulty ≡ false → IsAllowed (K.host kernel.old) call }

@@ -13,7 +13,7 @@ use crate::faults::Faults;
 use cni_addr::NoMemory;
 use cni_verbs::{Answer, Run};
 use gc_sweep::GcRun;
-use kernel_types::{Call, Reply, Shared};
+use kernel_types::{Call, RefCounted, Reply};
 use net_conf::NetList;
 use pod_file::{Command, Verb};
 use std::alloc::Global;
@@ -134,7 +134,7 @@ impl Task {
     }
 
     /// The call to make next, or none where the run is over.
-    pub fn next(&self) -> Result<Option<Shared<Call>>, NoMemory>
+    pub fn next(&self) -> Result<Option<RefCounted<Call>>, NoMemory>
         requires prepared { self.now.prepared ≡ true }
         ensures { IfOk result (λ call. call ≡ next_call self.now.progress.command self.now.progress.state) }
     {
@@ -144,8 +144,8 @@ impl Task {
         }
     }
 
-    /// Takes the reply to the call that [`Task::next`] gave. Memory can be wanting only where the reply is a fault or
-    /// holds a text or a list, and then the run is as it was.
+    /// Takes the reply to the call that [`Task::next`] gave. It can run out of memory only where the reply is a fault
+    /// or holds a text or a list, and then the run is as it was.
     pub fn take(&mut self, reply: &Reply) -> Result<(), NoMemory>
         requires prepared { self.old.prepared ≡ true }
         requires open { IsOpen self.old.progress.state }

@@ -7,10 +7,14 @@ use super::HostLists;
 use crate::lists::{any_own, find_own};
 use cni_addr::{Duplicate, NoMemory};
 use cni_result::Cached;
-use kernel_types::{Att, CachedObj, Reply, Shared, Tag};
+use kernel_types::{Att, CachedObj, RefCounted, Reply, Tag};
 
 impl HostLists {
-    pub(crate) fn cache_put(&mut self, att: &Att, cached: &Cached) -> Result<Reply, NoMemory>
+    pub(crate) fn cache_put(
+        &mut self,
+        att: &Att,
+        cached: &RefCounted<Cached>,
+    ) -> Result<Reply, NoMemory>
         ensures ok { IfOk result (λ reply. (self.new, reply) ≡ cache_put_of self.old att.now cached.now) }
         ensures err { OnErr result (self.new ≡ self.old) }
     {
@@ -28,7 +32,7 @@ impl HostLists {
     {
         match find_own(&self.cached, att) {
             Some(entry) => {
-                let cached = Shared::of(*self.cached.allocator(), entry.cached.copy()?)?;
+                let cached = entry.cached.copy()?;
                 Ok(Reply::Entry(Some(cached)))
             }
             None => Ok(Reply::Entry(None)),

@@ -6,7 +6,7 @@ ghost use Rattle.kernel_types.specs.Apply.Calls.{cache_put_of, cache_get_of};
 use super::Tables;
 use cni_addr::{Duplicate, NoMemory};
 use cni_result::Cached;
-use kernel_types::{Att, CachedObj, Reply, Shared, Tag};
+use kernel_types::{Att, CachedObj, RefCounted, Reply, Tag};
 use std::alloc::Global;
 
 impl Tables {
@@ -15,7 +15,7 @@ impl Tables {
         &mut self,
         alloc: Global,
         att: &Att,
-        cached: &Cached,
+        cached: &RefCounted<Cached>,
     ) -> Result<Reply, NoMemory>
         ensures ok { IfOk result (λ reply. (self.new, reply) ≡ cache_put_of self.old att.now cached.now) }
         ensures err { OnErr result (self.new ≡ self.old) }
@@ -30,12 +30,12 @@ impl Tables {
     }
 
     #[inline(never)]
-    pub(crate) fn cache_get(&self, alloc: Global, att: &Att) -> Result<Reply, NoMemory>
+    pub(crate) fn cache_get(&self, att: &Att) -> Result<Reply, NoMemory>
         ensures { IfOk result (λ reply. (self.now, reply) ≡ cache_get_of self.now att.now) }
     {
         match self.cached.find(att) {
             Some(entry) => {
-                let cached = Shared::of(alloc, entry.cached.copy()?)?;
+                let cached = entry.cached.copy()?;
                 Ok(Reply::Entry(Some(cached)))
             }
             None => Ok(Reply::Entry(None)),

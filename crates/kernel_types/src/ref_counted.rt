@@ -11,11 +11,11 @@ use std::sync::Arc;
 ///
 /// It is one pointer, so a large value is moved and copied at the cost of a small one.
 #[derive(Drop)]
-pub struct Shared<T> {
+pub struct RefCounted<T> {
     value: Arc<T>,
 }
 
-impl<T> Model for Shared<T> {
+impl<T> Model for RefCounted<T> {
     ghost use Rattle.std.specs.Arc.{arc_value};
 
     ghost Value = { T };
@@ -23,18 +23,18 @@ impl<T> Model for Shared<T> {
     ghost view = { λ s. arc_value s.value };
 }
 
-impl<T: Drop> Shared<T> {
+impl<T: Drop> RefCounted<T> {
     /// The value, in memory of its own.
-    pub fn of(alloc: Global, value: T) -> Result<Shared<T>, NoMemory>
+    pub fn of(alloc: Global, value: T) -> Result<RefCounted<T>, NoMemory>
         ensures { IfOk result (λ shared. shared ≡ value) }
     {
-        Ok(Shared {
+        Ok(RefCounted {
             value: Arc::new(alloc, value)?,
         })
     }
 }
 
-impl<T> Shared<T> {
+impl<T> RefCounted<T> {
     /// The value as it is read. Takes no memory.
     pub fn get(&self) -> &T
         ensures { result.now ≡ self.now }
@@ -43,24 +43,24 @@ impl<T> Shared<T> {
     }
 }
 
-impl<T> Duplicate for Shared<T> {
-    fn copy(&self) -> Result<Shared<T>, NoMemory> {
-        Ok(Shared {
+impl<T> Duplicate for RefCounted<T> {
+    fn copy(&self) -> Result<RefCounted<T>, NoMemory> {
+        Ok(RefCounted {
             value: Arc::try_clone(&self.value)?,
         })
     }
 }
 
-impl<T: PartialEq> PartialEq for Shared<T> {
+impl<T: PartialEq> PartialEq for RefCounted<T> {
     ghost eq = { T.eq };
 
     ghost laws = { T.PartialEq.laws };
 
-    fn eq(&self, other: &Shared<T>) -> bool {
+    fn eq(&self, other: &RefCounted<T>) -> bool {
         self.get() == other.get()
     }
 }
 
-impl<T: Eq> Eq for Shared<T> {
+impl<T: Eq> Eq for RefCounted<T> {
     ghost laws = { T.Eq.laws };
 }
