@@ -4,8 +4,9 @@
     ./cnitool --dump PODS LIST .. | tools/diagram.py >PICTURE.svg
 
 Each namespace is a box, the host's the lowest. A line joins the two ends of a veth pair, a port and its bridge, or a
-macvlan link and its master; an arrow is a published port. What an attachment owns has one colour, and is dashed where
-the attachment has no cached result. Hardware addresses, queue lengths and the last leased addresses aren't drawn.
+macvlan link and its master; an arrow is a published port, one a family. What an attachment owns has one colour, and is
+dashed where the attachment has no cached result. Hardware addresses, queue lengths and the last leased addresses aren't
+drawn.
 """
 
 import dataclasses

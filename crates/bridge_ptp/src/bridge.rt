@@ -51,7 +51,7 @@ fn has_destination(entries: &[RouteEntry], dst: &Cidr) -> bool
     entries.iter().any(|r| r.dst == *dst)
 }
 
-/// The default route of the address's family, where `isDefaultGateway` adds it: unless one is configured.
+/// The default route of the address's family, where `isDefaultGateway` adds it: unless it is configured.
 fn default_to(is_default_gateway: bool, configured: &[RouteEntry], addr: &Addr) -> Option<Cidr>
     ensures { result ≡ results.default_to is_default_gateway configured.now addr.now.family }
 {
@@ -100,7 +100,7 @@ fn push_default(
     }
 }
 
-/// The configured routes, and with `isDefaultGateway` the default routes that they lack.
+/// The configured routes, and with `isDefaultGateway` the default routes of the addresses' families that they lack.
 fn result_routes(
     alloc: Global,
     is_default_gateway: bool,

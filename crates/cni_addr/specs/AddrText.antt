@@ -1,4 +1,4 @@
--- Addresses as texts, in the grammar and the spelling of std's addresses.
+-- Addresses as texts: read by the grammar of std's addresses, and written by RFC 5952, section 4.
 use Rattle.std.specs.Prelude.{ℕ, List, Option, option_map}
 use Rattle.std.specs.Option.{option_or}
 use Rattle.std.specs.Int.{w32, w128, to_be_bytes, from_be_bytes}
@@ -12,7 +12,7 @@ use Rattle.cni_addr.specs.Value.{AddrValue, IsAddr}
 
 -- the text spells the number as an address of the family: four decimal numbers without leading zeros, joined by
 -- dots (RFC 3986, 3.2.2, IPv4address), or eight groups of one to four hex digits, joined by colons, of which the last
--- two may be dotted, and `::` may stand once for one group of zero or more (RFC 4291, 2.2); no zone (RFC 4007, 11)
+-- two may be dotted, and `::` may stand once for one or more groups of zeros (RFC 4291, 2.2); no zone (RFC 4007, 11)
 abbrev pub Spells : List ℕ → Family → ℕ → Type 0
 Spells text V4 bits = IsDotted text (to_be_bytes w32 bits)
 Spells text V6 bits = IsColonHex text (segments_of (to_be_bytes w128 bits))
@@ -37,7 +37,7 @@ addr_of_text text =
     (option_map address_of_groups (whole_value (read_ipv6 text)))
 
 -- the number as an address of the family is written. For IPv6 by RFC 5952, 4: hex digits in lower case, no leading
--- zeros, and the longest run of two groups of zero or more as `::`, the first of equal ones; groups alone, never dots
+-- zeros, and the longest run of two or more groups of zeros as `::`, the first of equal ones; groups alone, never dots
 abbrev pub bits_text : Family → ℕ → List ℕ
 bits_text V4 bits = ipv4_text (to_be_bytes w32 bits)
 bits_text V6 bits = hex_groups_text (segments_of (to_be_bytes w128 bits))

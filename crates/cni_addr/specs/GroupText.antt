@@ -2,12 +2,12 @@
 use Rattle.std.specs.Prelude.{◌≡◌, ℕ, ◌+◌, ◌≤◌, List, ◌++◌, length, take, drop, replicate, codes, nat_lt, if◌then◌else◌}
 use Rattle.std.specs.Net.Text.{groups_text}
 
--- so many groups of zero stand at this place
+-- so many groups of zeros stand at this place
 abbrev pub AreZeros : List ℕ → ℕ → ℕ → Type 0
 AreZeros groups start count = (start + count ≤ length groups) × (take count (drop start groups) ≡ replicate count 0)
 
--- the groups stand in hex with colons between them, but the longest run of zeros, if it has two groups or more, is
--- written `::`, and of equal ones the first
+-- the groups stand in hex with colons between them, but the longest run of two or more groups of zeros is written
+-- `::`, and of equal ones the first
 pub record IsRecommended (text groups : List ℕ) : Type 0 where
   pub start : ℕ
   pub count : ℕ

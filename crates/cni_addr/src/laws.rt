@@ -22,7 +22,7 @@ pub fn addr_text_laws()
 {}
 
 /// An IPv6 address is written as RFC 5952, section 4, recommends: in lower case, without leading zeros, and with `::`
-/// for the longest run of zeros, of equal ones the first.
+/// for the longest run of two or more groups of zeros, of equal ones the first.
 pub fn group_text_laws()
     ensures { (bits : ℕ) → IsRecommended (bits_text V6 bits) (segments_of (to_be_bytes w128 bits)) }
 {}

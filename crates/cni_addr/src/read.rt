@@ -12,9 +12,9 @@ use std::net::IpAddr;
 use std::str;
 
 /// The address that the text spells: of IPv4 four decimal numbers 0 to 255 without leading zeros, joined by dots (RFC
-/// 3986, section 3.2.2, `IPv4address`); of IPv6 groups of hex digits of either case with colons, `::` for one group of
-/// zero or more, and perhaps four decimal numbers at the end (RFC 4291, section 2.2). A zone (RFC 4007, section 11) is
-/// not taken. None comes exactly outside the grammar. Takes no memory.
+/// 3986, section 3.2.2, `IPv4address`); of IPv6 groups of hex digits of either case with colons, `::` for one or more
+/// groups of zeros, and perhaps four decimal numbers at the end (RFC 4291, section 2.2). A zone (RFC 4007, section 11)
+/// is not taken. None comes exactly outside the grammar. Takes no memory.
 pub fn read_addr(text: &[u8]) -> Option<Addr>
     ensures { result ≡ addr_of_text text.now }
 {

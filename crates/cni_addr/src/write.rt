@@ -1,4 +1,4 @@
-//! Writers of texts, each the one text that its reader takes for the value and that is customary.
+//! Writers of texts. Of the texts that its reader takes for a value, each writes the customary one.
 
 ghost use Rattle.std.specs.Prelude.{◌≡◌, IfOk, map, string_bytes};
 ghost use Rattle.cni_addr.specs.AddrText.{bits_text, addr_text};

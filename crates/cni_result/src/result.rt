@@ -38,7 +38,7 @@ impl Duplicate for IpEntry {
     }
 }
 
-/// A route to a destination, by a gateway or by the gateway of the address.
+/// A route to a destination, by its own gateway or by that of the first address of its family.
 #[derive(Clone, Copy, PartialEq, Eq)]
 pub struct RouteEntry {
     pub dst: Cidr,

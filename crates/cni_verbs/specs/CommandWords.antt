@@ -60,7 +60,7 @@ value_of_argument key text =
 abbrev pub proto_of : List ℕ → Option Proto
 proto_of text = if length text == 0 then Some Tcp else proto_named text
 
--- no address, or the text of every address, restricts nothing
+-- no text, `0.0.0.0` and `::` restrict nothing; another text of the same address does, as `0::0`
 abbrev pub is_any_host : List ℕ → Bool
 is_any_host text = length text == 0 || (bytes_eq text (codes "0.0.0.0") || bytes_eq text (codes "::"))
 

@@ -6,7 +6,7 @@
 //! and the errors (`specs/Answers.antt`), whose codes and titles every error of the program has from here
 //! (`specs/ErrorKinds.antt`). A [`Run`] follows the script one reply at a time and keeps no replies: it is seen as the
 //! list, the command and the script's state (`specs/Progress.antt`), its next call and its answer are the script's, and
-//! to take a reply wants no memory but for a copy of a text or a list that the reply holds: what takes more is made by
+//! to take a reply takes no memory but for a copy of a text or a list that the reply holds: what takes more is made by
 //! `prepare`, once after each reply. A command of no network runs too: it is one change from outside. A garbage
 //! collection isn't a `Run`.
 //!

@@ -168,7 +168,8 @@ fn mapping_by(
 }
 
 /// The mapping, where both ports are 1 to 65535, the protocol is `tcp`, `udp`, `sctp` or not given, and the address is
-/// one or not given (the `portMappings` capability). Takes no memory.
+/// one or not given (the `portMappings` capability). `0.0.0.0` and `::` restrict no more than no address does. Takes no
+/// memory.
 pub fn mapping_of(raw: &RawMapping) -> Option<PortMapping>
     ensures { result ≡ words.mapping_of raw.now }
 {

@@ -42,7 +42,7 @@ fn host_text(alloc: Global, addr: &Addr) -> Result<Text, NoMemory>
     }
 }
 
-/// The target as iptables names it, of `DNAT` with its address and port.
+/// The target as iptables names it; of `DNAT` with its address, of IPv6 in brackets, and its port.
 pub fn target_text(alloc: Global, target: &Target) -> Result<Text, NoMemory>
     ensures { IfOk result (λ text. text ≡ target_text target.now) }
 {

@@ -221,17 +221,17 @@ pub(crate) fn set_number(name: &str) -> Result<u32, RowError> {
     match name {
         "wide" => Ok(0),
         "tiny" => Ok(1),
-        "last" => Ok(2),
+        "top" => Ok(2),
         _ => Err(RowError::NoCall),
     }
 }
 
-/// The wide set, or one of those with one candidate: the tiny one, and the last one of IPv6.
+/// The wide set, or one of those with one candidate: the tiny one, and the top one of IPv6.
 pub(crate) fn set(alloc: Global, name: &str) -> Result<RangeSet, RowError> {
     match name {
         "wide" => set_of(alloc, "10.88.0.0/16", "10.88.0.1", "10.88.255.254"),
         "tiny" => set_of(alloc, "10.3.0.0/30", "10.3.0.1", "10.3.0.2"),
-        "last" => set_of(
+        "top" => set_of(
             alloc,
             "ffff:ffff:ffff:ffff:ffff:ffff:ffff:fffc/126",
             "ffff:ffff:ffff:ffff:ffff:ffff:ffff:fffd",

@@ -1,4 +1,5 @@
-//! The packet rules of the modelled kernel: `iptables`' tables, and the plugins' chains by their purpose.
+//! The packet rules of the modelled kernel: the tables of `iptables` and `ip6tables` as one, and the plugins' chains by
+//! their purpose.
 
 use crate::object::Tag;
 use cni_addr::{Addr, Cidr, Duplicate, NoMemory};
@@ -33,12 +34,12 @@ impl Eq for Table {
     ghost laws = { on_equiv table_code nat_eq_equiv };
 }
 
-/// A chain of packet rules. The plugins' chains of one purpose are one here.
+/// A chain of packet rules of both families. The plugins' chains of one purpose are one here.
 #[derive(Clone, Copy, Hash)]
 pub enum Chain {
-    /// Where a packet for a mapped port of the host gets the container's address.
+    /// Where a packet for a mapped port of the host gets the container's address of its family.
     Dnat,
-    /// Where a packet of the host or a container to a mapped port gets the host's address.
+    /// Where a packet from a container to a mapped port gets the host's address; of IPv4 also one from the host itself.
     HostMasq,
     /// Where a packet that leaves a container's network gets the host's address.
     Masq,
@@ -77,14 +78,14 @@ pub enum Target {
     Dnat { addr: Addr, port: u16 },
 }
 
-/// A rule of a chain.
+/// A rule of a chain. It is of one family: that of its networks, and without these that of the address in its target.
 #[derive(PartialEq, Eq, Hash, Drop)]
 pub struct Rule {
     pub table: Table,
     pub chain: Chain,
-    /// Fits packets from this network; absent, from any.
+    /// Fits packets from this network; absent, from any of the rule's family.
     pub src: Option<Cidr>,
-    /// Fits packets to this network, or to none of it where `not_dst` stands; absent, to any.
+    /// Fits packets to this network, or to none of it where `not_dst` stands; absent, to any of the rule's family.
     pub dst: Option<Cidr>,
     pub not_dst: bool,
     /// Fits packets of this protocol; absent, of any.

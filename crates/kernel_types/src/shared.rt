@@ -31,7 +31,7 @@ impl Link {
 }
 
 impl AddrObj {
-    /// The shared address of the gateway on a bridge of the host.
+    /// The shared address of a gateway on a bridge of the host.
     pub fn gateway(alloc: Global, bridge: &Text, cidr: Cidr) -> Result<AddrObj, NoMemory>
         ensures { IfOk result (λ gateway. gateway ≡ new_gateway bridge.now cidr) }
     {
@@ -44,7 +44,7 @@ impl AddrObj {
     }
 }
 
-/// The host's switch that lets it forward packets of the family (Linux, `ip-sysctl`).
+/// The host's setting that lets it forward packets of the family (Linux, `ip-sysctl`).
 fn forward_key(family: Family) -> &'static str
     ensures { result.now ≡ forward_key family }
 {

@@ -138,7 +138,7 @@ impl Call {
 
 // ---- the keys of objects that a call adds unless their key is taken
 
-/// Whether the other address is on the same link and has the same number, whatever its prefix.
+/// Whether the other one is the same address on the same link, whatever its prefix.
 pub fn is_same_addr(new: &AddrObj, other: &AddrObj) -> bool
     ensures { result ≡ is_same_addr new.now other.now }
 {

@@ -49,10 +49,11 @@ unfoldable pub addr_if_at : List ℕ → List ℕ → (Addr → Bool) → Data �
 addr_if_at blamed key test d = addr_if_of blamed test (text_field key d)
 
 -- the function tells which addresses pass the test
-pub record IsTest {F : Type 0} (calls : Shared F (Bor Addr × Unit {0}) Bool) (passes : F) (test : Addr → Bool) : Type 0 where
+pub record IsTest {F : Type 0} (calls : Shared F (Bor Addr × Unit {0}) Bool) (passes : F) (test : Addr → Bool)
+    : Type 0 where
   pub tells : (addr : Bor Addr) (b : Bool) → calls.post passes (addr, tt) b → b ≡ test addr.now
 
--- from the least MTU of IPv4 (RFC 791, section 3.2) to the greatest length of a packet
+-- from the least MTU of IPv4 (RFC 791, section 3.2), whatever families the list has, to the greatest length of a packet
 abbrev pub is_mtu : ℕ → Bool
 is_mtu n = nat_le 68 n && nat_le n 65535
 

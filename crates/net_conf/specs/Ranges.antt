@@ -17,7 +17,8 @@ use Rattle.net_conf.specs.Members.{addr_if_at, passing}
 use Rattle.net_conf.specs.Refusals.{invalid}
 use Rattle.net_conf.specs.declared.error.ConfError.{ConfError}
 
--- the longest prefix of a subnet: there is room for a network, a gateway, an address to lease and a broadcast address
+-- the longest prefix of a subnet, which has room for four addresses: of IPv4 the network's own, a gateway, one to
+-- lease, and the broadcast address
 abbrev pub longest_subnet : Family → ℕ
 longest_subnet V4 = 30
 longest_subnet V6 = 126

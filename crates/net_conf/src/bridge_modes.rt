@@ -12,7 +12,7 @@ pub enum GatewayRole {
     /// `isGateway` alone is set: the bridge gets the gateways' addresses, and the host forwards.
     Gateway,
     /// `isDefaultGateway` is set, which asks for all that `isGateway` asks for, whatever that key says: besides, the
-    /// containers get default routes by the gateways, where none is configured.
+    /// containers get each family's default route by its first gateway, unless one of that family is configured.
     DefaultGateway,
 }
 

@@ -7,7 +7,7 @@ use cni_addr::{Duplicate, Items, Mac, NoMemory, Text};
 use std::marker::Model;
 
 /// The configuration of `portmap`: whether the runtime hands it the port mappings (its `capabilities`), and whether
-/// traffic from the host itself is masqueraded.
+/// traffic to the ports from the container's own network, and of IPv4 from the host itself, is masqueraded.
 #[derive(Clone, Copy, PartialEq, Eq)]
 pub struct PortmapConf {
     pub mappings: bool,
@@ -25,8 +25,8 @@ pub struct Sysctl {
     pub value: Text,
 }
 
-/// The configuration of `tuning`. In a list that is read, each key of `sysctl` begins with `net.` and comes once, and an
-/// MTU passes [`is_mtu`](crate::is_mtu).
+/// The configuration of `tuning`. In a list that is read, each key of `sysctl` begins with `net.` and comes once, and
+/// an MTU passes [`is_mtu`](crate::is_mtu).
 #[derive(PartialEq, Eq, Drop)]
 pub struct TuningConf {
     pub sysctl: Items<Sysctl>,

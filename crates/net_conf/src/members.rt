@@ -63,7 +63,7 @@ pub fn addr_if<P: Fn(&Addr) -> bool>(
 }
 
 /// Whether a link may have an MTU of so many bytes: from 68, the least of IPv4 (RFC 791, section 3.2), to 65,535, the
-/// greatest length of a packet.
+/// greatest length of a packet. The 1,280 bytes that IPv6 asks of a link (RFC 8200, section 5) aren't asked for.
 pub fn is_mtu(number: u64) -> bool
     ensures { result ≡ members.is_mtu number }
 {

@@ -75,7 +75,7 @@ fn is_subnet(subnet: &Cidr) -> bool
         && subnet.prefix <= longest_subnet(subnet.addr.family)
 }
 
-/// The longest prefix that leaves room for a network, a gateway, an address to lease and a broadcast address.
+/// The longest prefix of a subnet, which has room for four addresses.
 fn longest_subnet(family: Family) -> u8
     ensures { result ≡ ranges.longest_subnet family }
 {

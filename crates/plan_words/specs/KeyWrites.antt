@@ -19,7 +19,7 @@ port_of Accept = None
 port_of Masquerade = None
 port_of (Dnat addr port) = Some port
 
--- the networks and ports
+-- the networks and ports, in which most rules of an attachment differ; a mapping's `DNAT` rules of both families don't
 abbrev pub rule_writes : Rule → HashWrites
 rule_writes rule =
     option cidr_writes rule.src

@@ -93,7 +93,7 @@ route_on att netns given r = route_by att netns r.dst (gateway_for given r)
 
 -- ---- rules
 
--- a rule of the attachment that every packet of the chain matches
+-- a rule of the attachment for every packet of the chain, where its target has an address for those of its family
 abbrev pub rule_for_all : Att → Table → Chain → Target → Rule
 rule_for_all att table chain target = record {
   table = table;

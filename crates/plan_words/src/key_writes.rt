@@ -8,7 +8,7 @@ use cni_addr::{Addr, Cidr};
 use kernel_types::{Rule, Target};
 use std::hash::{Hash, Hasher};
 
-/// The number of the address, which one address of each family has.
+/// The number of the address, which at most one address of each family has.
 pub(crate) fn hash_addr<H: Hasher>(addr: &Addr, state: &mut H)
     ensures { state.new ≡ fold H.write state.old (addr_writes addr.now) }
 {
@@ -44,7 +44,8 @@ fn port_of(target: &Target) -> Option<u16>
     }
 }
 
-/// What the rules of one attachment differ in: networks and ports.
+/// What most rules of one attachment differ in: networks and ports. The two `DNAT` rules of a mapping, one a family,
+/// differ in their target's address alone, and are told apart one by one.
 pub(crate) fn hash_rule<H: Hasher>(rule: &Rule, state: &mut H)
     ensures { state.new ≡ fold H.write state.old (rule_writes rule.now) }
 {

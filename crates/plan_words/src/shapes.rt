@@ -223,7 +223,8 @@ pub fn routes_on(
 
 // ---- rules of packet filtering
 
-/// A rule that every packet of the chain matches. The plugins narrow it to the packets that they mean.
+/// A rule for every packet of the chain, or where the target has an address for those of its family. The plugins narrow
+/// it to the packets that they mean.
 pub fn rule_for_all(att: &Att, table: Table, chain: Chain, target: Target) -> Result<Rule, NoMemory>
     ensures { IfOk result (λ rule. rule ≡ shapes.rule_for_all att.now table chain target) }
 {

@@ -41,8 +41,7 @@ dnat_of att m addr = record (rule_for_all att Nat chains.Dnat (targets.Dnat addr
   dport = Some m.host_port;
 }
 
--- to the container's port from its own network, or from the host itself: masqueraded, so that replies come back this
--- way
+-- to the container's port from this network: masqueraded, so that replies come back this way
 abbrev pub hostport_masquerade : Att → PortMapping → Addr → Cidr → Rule
 hostport_masquerade att m addr src = record (rule_for_all att Nat chains.HostMasq targets.Masquerade) {
   src = Some src;
@@ -51,6 +50,7 @@ hostport_masquerade att m addr src = record (rule_for_all att Nat chains.HostMas
   dport = Some m.container_port;
 }
 
+-- from the host itself, of IPv4 alone: Linux sends nothing from `::1` out by another link
 abbrev pub from_host : Att → PortMapping → Addr → Family → List Rule
 from_host att m addr V4 = hostport_masquerade att m addr loopback ∷ []
 from_host att m addr V6 = []

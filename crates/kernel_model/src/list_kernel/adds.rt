@@ -14,7 +14,7 @@ use cni_addr::{Duplicate, NoMemory, Text};
 use kernel_types::words::{is_same_addr, is_same_route, is_same_setting};
 use kernel_types::{AddrObj, Link, Reply, RouteObj, Rule, Setting, Tag};
 
-/// The address of the same place and number.
+/// The same address on the same link.
 fn same_addr<'a>(addresses: &'a [AddrObj], obj: &AddrObj) -> Option<&'a AddrObj>
     ensures { option_copied result ≡ find (is_same_addr obj.now) addresses.now }
 {

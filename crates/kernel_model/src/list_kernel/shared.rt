@@ -12,7 +12,7 @@ use kernel_types::words::{is_same_addr, is_same_setting};
 use kernel_types::{AddrObj, Link, Reply, Setting};
 use std::alloc::Global;
 
-/// Whether an address of the same place and number is there.
+/// Whether the same address is on the same link.
 fn has_same_addr(addresses: &[AddrObj], obj: &AddrObj) -> bool
     ensures { result ≡ list_any (is_same_addr obj.now) addresses.now }
 {

@@ -33,7 +33,7 @@ impl Tables {
         }
     }
 
-    /// Whether an address of the same place and number is there.
+    /// Whether the same address is on the same link.
     fn has_same_addr(&self, obj: &AddrObj) -> Result<bool, NoMemory>
         ensures { IfOk result (λ there. there ≡ list_any (is_same_addr obj.now) self.now.addresses) }
     {

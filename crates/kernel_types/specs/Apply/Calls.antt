@@ -81,7 +81,7 @@ gateway_ensure_of host bridge cidr =
     (record host { addresses = host.addresses ++ new_gateway bridge cidr ∷ [] })
     else (host, NoLink)
 
--- the switch that lets the host forward between its links (Linux `ip-sysctl`)
+-- the setting that lets the host forward packets of the family between its links (Linux, `ip-sysctl`)
 abbrev pub forward_key : Family → List ℕ
 forward_key V4 = codes "net.ipv4.ip_forward"
 forward_key V6 = codes "net.ipv6.conf.all.forwarding"
