@@ -4,10 +4,10 @@ one run. It is no test.
 
     generated.py PEER [PROGRAM [N ..]]
 
-PEER takes `gen:N` as the program does and keeps the same history. For each N, 1,000 and 10,000 where none is named, both
-run in turn, RUNS times: the least processor time, the peak of memory, and the time a call against that of the first N. At
-the last N the program also runs with four threads, by the time that passes. What isn't over within MOST_SECONDS is ended,
-and no figure is given.
+PEER takes `gen:N` as the program does and keeps the same history. For each N, 1,000 and 10,000 where none is named,
+both run in turn, RUNS times: the least processor time, the peak of memory, and the time a call against that of the
+first N. At the last N the program also runs with four threads, by the time that passes. What isn't over within
+MOST_SECONDS is ended, and no figure is given.
 """
 import json
 import os

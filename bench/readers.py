@@ -3,8 +3,8 @@
 
     readers.py [PROGRAM]
 
-Reading JSON alone is what the program does with the same bytes inside one pair of brackets: it reads them as JSON, finds
-that the top is no object, and refuses them. So each row is the time for the file over the time for the file in
+Reading JSON alone is what the program does with the same bytes inside one pair of brackets: it reads them as JSON,
+finds that the top is no object, and refuses them. So each row is the time for the file over the time for the file in
 brackets. What isn't over within MOST_SECONDS is ended, and no figure is given.
 """
 import os

@@ -11,8 +11,8 @@ Each size N gives rounds of N commands, one a container, each timed less the sam
 - checks: CHECKs of what the ADDs of a round before made;
 - dels:   DELs of the same.
 
-`adds`, `checks` and `dels` show what the kernel costs. A time is the processor's, the least of some runs. What isn't over
-within MOST_SECONDS is ended, and no figure is given.
+`adds`, `checks` and `dels` show what the kernel costs. A time is the processor's, the least of some runs. What isn't
+over within MOST_SECONDS is ended, and no figure is given.
 """
 import pathlib
 import resource

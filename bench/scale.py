@@ -3,8 +3,8 @@
 
     scale.py [PROGRAM [SMALL LARGE]]
 
-Sizes are 2,000 and 20,000 where none is named. Each row is the processor's time for one item at the large size over that at
-the small one, each less the time of the same files without what is timed:
+Sizes are 2,000 and 20,000 where none is named. Each row is the processor's time for one item at the large size over
+that at the small one, each less the time of the same files without what is timed:
 
 - mappings:  one ADD with so many port mappings;
 - routes:    one ADD with so many routes;

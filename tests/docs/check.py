@@ -4,9 +4,9 @@
     check.py [PROGRAM]
 
 Each file that a document names in backticks is there. Each `crate::item` is an item of that crate, each `crate/edit` an
-edit that must be refused, and each bare name in the documents on the code stands in some crate. docs/GUARANTEES.md names
-every law, and every edit beside its crate. The picture of docs/ARCHITECTURE.md has every crate above those that it stands
-on. Each definition of docs/DEFINITIONS.md stands in the file beside it. docs/INDEX.md is what index.py finds.
+edit that must be refused, and each bare name in the documents on the code stands in some crate. docs/GUARANTEES.md
+names every law, and every edit beside its crate. The picture of docs/ARCHITECTURE.md has every crate above those that
+it stands on. Each definition of docs/DEFINITIONS.md stands in the file beside it. docs/INDEX.md is what index.py finds.
 examples/first is as the data of crates/cnitool, and examples/plugins as the pages of the plugins. Some command of the
 documents makes each picture. With a program, the documents' sessions and examples are run by examples.py.
 """

@@ -3,8 +3,8 @@
 
     run.py [PROGRAM]
 
-For some N the list and the pod file that `gen:N` stands for are written out here, by docs/FORMATS.md. Trace and dump of both
-runs are to be the same, line by line; of the command lines `gen:N` prints the numbers.
+For some N the list and the pod file that `gen:N` stands for are written out here, by docs/FORMATS.md. Trace and dump of
+both runs are to be the same, line by line; of the command lines `gen:N` prints the numbers.
 """
 
 import json

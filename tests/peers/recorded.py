@@ -1,4 +1,5 @@
-"""What the `host-local` plugin did, as hostlocal.json has it: its own tests of its allocator, and sequences that were run."""
+"""What the `host-local` plugin did, as hostlocal.json has it: its own tests of its allocator, and sequences that were
+run."""
 
 from program import TOP, read_json
 

@@ -78,7 +78,8 @@ fn domain<E: Refusal, W: Fn() -> E>(alloc: Global, members: &Value, refusal: &W)
     }
 }
 
-/// The texts that are the list under the key of an object, none where it is absent. Another value of the key is refused.
+/// The texts that are the list under the key of an object, none where it is absent. Another value of the key is
+/// refused.
 #[tactic(auto, using(cni_json::proofs::Steps::steps), unfolding(crate::specs::Dns::words_at))]
 pub fn read_words<E: Refusal, W: Fn() -> E>(
     alloc: Global,

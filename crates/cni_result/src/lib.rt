@@ -3,8 +3,8 @@
 //! What it promises above: the types carry every field that the runtime's verbs speak of, each is compared by its
 //! fields, and a copy equals what was copied. `to_value` and `error_value` are the specification's JSON, `read_result`
 //! is exact with its first refusal, and a result that was printed is read again as the same result. `read_dns` reads
-//! the `dns` of a result and that of a plugin's object, `version_named` the text of `cniVersion`, `read_words` a list of
-//! texts.
+//! the `dns` of a result and that of a plugin's object, `version_named` the text of `cniVersion`, `read_words` a list
+//! of texts.
 //!
 //! ```text
 //! let added = read_result(alloc, b"{\"cniVersion\":\"1.0.0\",\"ips\":[{\"address\":\"10.0.0.2/8\"}]}")?;

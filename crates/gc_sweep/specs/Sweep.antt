@@ -55,7 +55,8 @@ pub record AreExcused (network : List ℕ) (valid : List ValidAtt) (es : List Ma
 -- what one that came to its end leaves over is excused
 abbrev pub OverExcused : Type 0
 OverExcused = (list : NetList) (c : Command) (host : Host) (es : List Made) (ending : Ending) → is_gc c.verb ≡ true
-    → IsCollected list → IsSound host → IsRun list c host es → Ends list c es ending → AreExcused c.network c.valid es (host_from host es)
+    → IsCollected list → IsSound host → IsRun list c host es → Ends list c es ending
+    → AreExcused c.network c.valid es (host_from host es)
 
 -- the numbers of the faulty calls, counted from the one after `made`
 abbrev pub fault_numbers : ℕ → List Made → List ℕ

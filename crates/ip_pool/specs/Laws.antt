@@ -23,19 +23,24 @@ ApartSharesNone = (r s : Range) → (is_apart r s ≡ true) ↔ ((a : Addr) → 
 
 -- what is picked is the next address, and none is picked where none is left
 abbrev pub PickIsNextAddress : Type 0
-PickIsNextAddress = (set : RangeSet) (last : Option Addr) (taken : List Addr) → are_apart set.ranges ≡ true → is_candidate_or_none set last ≡ true → IsPick set last taken (pick_of set last taken)
+PickIsNextAddress = (set : RangeSet) (last : Option Addr) (taken : List Addr) → are_apart set.ranges ≡ true
+    → is_candidate_or_none set last ≡ true → IsPick set last taken (pick_of set last taken)
 
 -- there is no other next address
 abbrev pub NextAddressIsOne : Type 0
-NextAddressIsOne = (set : RangeSet) (last : Option Addr) (taken : List Addr) (one other : Option Addr) → IsPick set last taken one → IsPick set last taken other → one ≡ other
+NextAddressIsOne = (set : RangeSet) (last : Option Addr) (taken : List Addr) (one other : Option Addr)
+    → IsPick set last taken one → IsPick set last taken other → one ≡ other
 
 -- what is picked is a free candidate, whatever the set and the last one
 abbrev pub PickIsFreeCandidate : Type 0
-PickIsFreeCandidate = (set : RangeSet) (last : Option Addr) (taken : List Addr) (a : Addr) → pick_of set last taken ≡ Some a → (is_candidate set a ≡ true) × (is_taken taken a ≡ false)
+PickIsFreeCandidate = (set : RangeSet) (last : Option Addr) (taken : List Addr) (a : Addr)
+    → pick_of set last taken ≡ Some a → (is_candidate set a ≡ true) × (is_taken taken a ≡ false)
 
 -- none is picked exactly where every candidate is taken, and exactly there none is free
 abbrev pub NoneWhereExhausted : Type 0
-NoneWhereExhausted = (set : RangeSet) (last : Option Addr) (taken : List Addr) → ((pick_of set last taken ≡ None) ↔ IsExhausted set taken) × ((has_free_of set taken ≡ false) ↔ IsExhausted set taken)
+NoneWhereExhausted = (set : RangeSet) (last : Option Addr) (taken : List Addr)
+    → ((pick_of set last taken ≡ None) ↔ IsExhausted set taken)
+    × ((has_free_of set taken ≡ false) ↔ IsExhausted set taken)
 
 -- the choice depends on which addresses are taken, and not on their order, nor on how often each is there
 abbrev pub ChoiceDependsOnTakenAlone : Type 0

@@ -30,7 +30,9 @@ range_place set a = position_or_len (is_in a) set.ranges
 
 -- an earlier range, or the same and a lower number
 abbrev pub is_below : RangeSet → Addr → Addr → Bool
-is_below set a b = nat_lt (range_place set a) (range_place set b) || (range_place set a == range_place set b && nat_lt a.bits b.bits)
+is_below set a b =
+    nat_lt (range_place set a) (range_place set b)
+    || (range_place set a == range_place set b && nat_lt a.bits b.bits)
 
 -- what is passed on the way from the last one to this one, going round at the end
 abbrev pub is_passed : RangeSet → Option Addr → Addr → Addr → Bool

@@ -29,7 +29,8 @@ candidates_of set = flat_map candidates_in set.ranges
 -- the order in which addresses are tried: those after the last one, then those up to it
 abbrev pub after_last_first : Option Addr → List Addr → List Addr
 after_last_first None addrs = addrs
-after_last_first (Some last) addrs = after_first (addr_eq last) addrs ++ take (position_or_len (addr_eq last) addrs + 1) addrs
+after_last_first (Some last) addrs =
+    after_first (addr_eq last) addrs ++ take (position_or_len (addr_eq last) addrs + 1) addrs
 
 -- it is not among the taken ones
 abbrev pub is_free : List Addr → Addr → Bool
@@ -47,7 +48,9 @@ has_free_of set taken = list_any (is_free taken) (candidates_of set)
 
 -- no address is between start and end of both: the higher start is above the lower end
 abbrev pub is_apart : Range → Range → Bool
-is_apart r s = not (family_eq r.start.family s.start.family) || nat_lt (min r.end.bits s.end.bits) (max r.start.bits s.start.bits)
+is_apart r s =
+    not (family_eq r.start.family s.start.family)
+    || nat_lt (min r.end.bits s.end.bits) (max r.start.bits s.start.bits)
 
 -- the test holds of each element and each later one
 abbrev pub all_pairs : {X : Type 0} → (X → X → Bool) → List X → Bool

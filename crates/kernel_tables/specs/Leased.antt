@@ -15,7 +15,8 @@ kept_for leased network = option_map_or (λ set. set.addresses) (get bytes_eq le
 
 -- of each network those are kept that are leased in it
 abbrev pub AreLeased : {S : Type 0} → IndexMap (List ℕ) AddrSet S → List Lease → Type 0
-AreLeased leased leases = (network : List ℕ) (addr : Addr) → is_taken (kept_for leased network) addr ≡ is_taken (addresses_in leases network) addr
+AreLeased leased leases = (network : List ℕ) (addr : Addr)
+    → is_taken (kept_for leased network) addr ≡ is_taken (addresses_in leases network) addr
 
 -- how many more addresses may be kept for the network without memory
 abbrev pub room_for : {S : Type 0} → IndexMap (List ℕ) AddrSet S → List ℕ → ℕ

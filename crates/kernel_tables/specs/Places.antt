@@ -21,7 +21,9 @@ emptied test row = if passes test row then None else row
 -- the places whose row passes, counted from n
 abbrev pub places_from : {T : Type 0} → (T → Bool) → ℕ → List (Option T) → List ℕ
 places_from test n [] = []
-places_from test n (row ∷ rows) = if passes test row then n ∷ places_from test (n + 1) rows else places_from test (n + 1) rows
+places_from test n (row ∷ rows) =
+    if passes test row then n ∷ places_from test (n + 1) rows
+    else places_from test (n + 1) rows
 
 -- the places whose row passes
 abbrev pub places_where : {T : Type 0} → (T → Bool) → List (Option T) → List ℕ
@@ -41,8 +43,10 @@ at_first places (p ∷ ps) = row_at places p
 abbrev pub passing : {T : Type 0} → (T → Bool) → List (Option T) → List ℕ → List ℕ
 passing test places candidates = filter (λ p. passes test (row_at places p)) candidates
 
--- For each key there are candidates, among them each place whose row has the key, in order. What is no such place is passed over.
-pub record Finds {K T : Type 0} (test : K → T → Bool) (candidates : K → List ℕ) (places : List (Option T)) : Type 0 where
+-- For each key there are candidates, among them each place whose row has the key, in order. What is no such place is
+-- passed over.
+pub record Finds {K T : Type 0} (test : K → T → Bool) (candidates : K → List ℕ) (places : List (Option T))
+    : Type 0 where
   pub inside : (k : K) → list_all (λ p. nat_lt p (length places)) (candidates k) ≡ true
   pub exact : (k : K) → passing (test k) places (candidates k) ≡ places_where (test k) places
 

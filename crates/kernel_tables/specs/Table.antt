@@ -33,5 +33,6 @@ abbrev pub IsIndex : {K T S : Type 0} → (K → K → Bool) → (T → Option K
 IsIndex eq key_of places index = Finds (has_key eq key_of) (place_of eq index) places
 
 -- the trails lead to each owner's rows
-abbrev pub AreTrails : {O T Z S : Type 0} → (O → O → Bool) → (T → Option O) → List (Option T) → IndexMap O (VecDeque ℕ Z) S → Type 0
+abbrev pub AreTrails : {O T Z S : Type 0} → (O → O → Bool) → (T → Option O) → List (Option T)
+    → IndexMap O (VecDeque ℕ Z) S → Type 0
 AreTrails eq owner_of places trails = Finds (has_key eq owner_of) (trail_of eq trails) places

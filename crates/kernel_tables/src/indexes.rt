@@ -94,7 +94,8 @@ pub(crate) fn first_place<K: Eq, L: Eq, O: Eq + Hash, T: Row<K, L, O>>(
     trails: &mut IndexMap<O, VecDeque<usize>>,
     owner: &O,
 ) -> Option<usize>
-    ensures first { result ≡ first_of (passing (has_key O.eq T.owner_of owner.now) places.now (trail_of O.eq trails.old owner.now)) }
+    ensures first { result ≡ first_of (passing (has_key O.eq T.owner_of owner.now) places.now
+        (trail_of O.eq trails.old owner.now)) }
     ensures trails { AreTrails O.eq T.owner_of places.now trails.old → AreTrails O.eq T.owner_of places.now trails.new }
 {
     match trails.get_mut(owner) {

@@ -16,7 +16,8 @@ pub(crate) struct AddrKey {
 impl AddrKey {
     /// The key of this address.
     pub(crate) fn of(address: &AddrObj) -> Result<AddrKey, NoMemory>
-        ensures { IfOk result (λ key. key ≡ record { ns = address.now.ns; link = address.now.link; addr = address.now.cidr.addr }) }
+        ensures { IfOk result (λ key. key
+            ≡ record { ns = address.now.ns; link = address.now.link; addr = address.now.cidr.addr }) }
     {
         Ok(AddrKey {
             ns: address.ns.copy()?,

@@ -1,13 +1,14 @@
 //! The modelled kernel over tables: what a call asks for is looked up, and never searched.
 //!
 //! What it promises above: [`TableKernel`] keeps the whole contract of [`Kernel`](kernel_model::Kernel), so that each
-//! call gives the host and the reply of `apply` (`kernel_types/specs/Apply.antt`), as `kernel_model::ListKernel` does. A
-//! call takes all its memory before it changes anything, and the calls that never want memory take none.
+//! call gives the host and the reply of `apply` (`kernel_types/specs/Apply.antt`), as `kernel_model::ListKernel` does.
+//! A call takes all its memory before it changes anything, and the calls that never want memory take none.
 //!
 //! Each list of the host is a table: rows at places in the order in which they came, an index of the places by the key
 //! that is distinct in a sound host, one by a second key, and for each attachment a trail of the places of its rows. Of
-//! each network the leased addresses are kept in runs beside its leases, so that the next free one is found in two steps
-//! for each range. That the indexes are used is no promise of a contract; `bench/README.md` has what they are worth.
+//! each network the leased addresses are kept in runs beside its leases, so that the next free one is found in two
+//! steps for each range. That the indexes are used is no promise of a contract; `bench/README.md` has what they are
+//! worth.
 //!
 //! ```text
 //! let mut kernel = TableKernel::of_host(alloc, opening)?;

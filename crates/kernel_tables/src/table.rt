@@ -120,7 +120,8 @@ impl<K: Eq + Hash + Drop, L: Eq + Hash + Drop, O: Eq + Hash + Drop, T: Row<K, L,
     /// Puts a row at the end.
     pub(crate) fn push(&mut self, alloc: Global, row: T) -> Result<(), NoMemory>
         requires key { (key : K) → T.key_of row ≡ Some key → list_any (has_key K.eq T.key_of key) self.old ≡ false }
-        requires alias { (alias : L) → T.alias_of row ≡ Some alias → list_any (has_key L.eq T.alias_of alias) self.old ≡ false }
+        requires alias { (alias : L) → T.alias_of row ≡ Some alias
+            → list_any (has_key L.eq T.alias_of alias) self.old ≡ false }
         ensures ok { OnOk result (self.new ≡ self.old ++ row ∷ []) }
         ensures err { OnErr result (self.new ≡ self.old) }
     {
@@ -171,7 +172,8 @@ impl<K: Eq + Hash + Drop, L: Eq + Hash + Drop, O: Eq + Hash + Drop, T: Row<K, L,
         requires key { (row : T) → T.key_of (C.changed change.now row) ≡ T.key_of row }
         requires alias { (row : T) → T.alias_of (C.changed change.now row) ≡ T.alias_of row }
         requires owner { (row : T) → T.owner_of (C.changed change.now row) ≡ T.owner_of row }
-        ensures { self.new ≡ map (λ row. if has_key K.eq T.key_of key.now row then C.changed change.now row else row) self.old }
+        ensures { self.new
+            ≡ map (λ row. if has_key K.eq T.key_of key.now row then C.changed change.now row else row) self.old }
     {
         if let Some(place) = self.by_key.get(key).copied() {
             change_if(&mut self.places[place], key, change);
@@ -196,7 +198,8 @@ impl<K: Eq + Hash + Drop, L: Eq + Hash + Drop, O: Eq + Hash + Drop, T: Row<K, L,
     pub(crate) fn owners<P: Test<O>>(&self, alloc: Global, which: &P) -> Result<Items<O>, NoMemory>
     where
         O: Duplicate,
-        ensures { IfOk result (λ owners. owners ≡ each_key_once O.eq (filter (P.passes which.now) (filter_map T.owner_of self.now))) }
+        ensures { IfOk result (λ owners. owners
+            ≡ each_key_once O.eq (filter (P.passes which.now) (filter_map T.owner_of self.now))) }
     {
         let mut owners = IndexSet::new(alloc);
         for place in self.places.iter() {
@@ -224,7 +227,8 @@ impl<K: Eq + Hash + Drop, L: Eq + Hash + Drop, O: Eq + Hash + Drop, T: Row<K, L,
 
     /// Takes out each row of this owner that passes a test. Linear in the rows of the owner.
     pub(crate) fn remove_owned<P: Test<T>>(&mut self, owner: &O, gone: &P)
-        ensures { self.new ≡ filter (λ row. not (has_key O.eq T.owner_of owner.now row && P.passes gone.now row)) self.old }
+        ensures { self.new
+            ≡ filter (λ row. not (has_key O.eq T.owner_of owner.now row && P.passes gone.now row)) self.old }
     {
         if let Some(trail) = self.trails.get(owner) {
             empty_along(&mut self.places, trail, owner, gone);
@@ -279,7 +283,8 @@ fn change_if<K: Eq, L: Eq, O: Eq, T: Row<K, L, O>, C: Change<T>>(
     key: &K,
     change: &C,
 )
-    ensures { place.new ≡ option_map (λ row. if has_key K.eq T.key_of key.now row then C.changed change.now row else row) place.old }
+    ensures { place.new
+        ≡ option_map (λ row. if has_key K.eq T.key_of key.now row then C.changed change.now row else row) place.old }
 {
     if let Some(row) = place {
         if row.has_key(key) {
@@ -305,7 +310,9 @@ fn empty_along<K: Eq, L: Eq, O: Eq, T: Row<K, L, O> + Drop, P: Test<T>>(
     owner: &O,
     gone: &P,
 )
-    ensures { places.new.items ≡ emptied_at (λ row. has_key O.eq T.owner_of owner.now row && P.passes gone.now row) places.old.items trail.now.items }
+    ensures { places.new.items
+        ≡ emptied_at (λ row. has_key O.eq T.owner_of owner.now row && P.passes gone.now row)
+        places.old.items trail.now.items }
 {
     for index in 0..trail.len() {
         empty_at(places, trail[index], owner, gone);
@@ -320,7 +327,8 @@ fn empty_at<K: Eq, L: Eq, O: Eq, T: Row<K, L, O> + Drop, P: Test<T>>(
     gone: &P,
 )
     ensures { places.new.items ≡ set places.old.items place
-        (emptied (λ row. has_key O.eq T.owner_of owner.now row && P.passes gone.now row) (row_at places.old.items place)) }
+        (emptied (λ row. has_key O.eq T.owner_of owner.now row && P.passes gone.now row)
+        (row_at places.old.items place)) }
 {
     if is_owned_and_passes(places, place, owner, gone) {
         places[place] = None;
@@ -334,7 +342,8 @@ fn is_owned_and_passes<K: Eq, L: Eq, O: Eq, T: Row<K, L, O>, P: Test<T>>(
     owner: &O,
     test: &P,
 ) -> bool
-    ensures { result ≡ passes (λ row. has_key O.eq T.owner_of owner.now row && P.passes test.now row) (row_at places.now place) }
+    ensures { result
+        ≡ passes (λ row. has_key O.eq T.owner_of owner.now row && P.passes test.now row) (row_at places.now place) }
 {
     match places.get(place) {
         Some(Some(row)) => row.is_owned_by(owner) && test.passes(row),

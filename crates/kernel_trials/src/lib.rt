@@ -1,9 +1,9 @@
 //! Every call of the modelled kernel, tried once on its happy path and once on each refusal.
 //!
-//! A table has calls written as words, each with the reply that is expected of it; a test carries them out in order on a
-//! kernel and compares the replies as they are printed, so that the equations of the calls are held against replies that
-//! were worked out by hand. Beside it a [`ListKernel`](kernel_model::ListKernel) makes the same calls: after each row
-//! both have one reply and one host.
+//! A table has calls written as words, each with the reply that is expected of it; a test carries them out in order on
+//! a kernel and compares the replies as they are printed, so that the equations of the calls are held against replies
+//! that were worked out by hand. Beside it a [`ListKernel`](kernel_model::ListKernel) makes the same calls: after each
+//! row both have one reply and one host.
 //!
 //! What it promises: [`is_allowed`] tells exactly the calls that may be made in a host, so no row makes another one,
 //! and [`the_mac_of_abc`] is a derived hardware address worked out.

@@ -50,7 +50,8 @@ accepts OpenPolicy d = is_default_text (codes "open") d
 -- an absent value passes, and so does what is accepted; a refusal gives the value's compact text
 abbrev pub accepted_value : Accepted → List ℕ → Option Data → Result ⊤ ConfError
 accepted_value accepted key None = Ok tt
-accepted_value accepted key (Some d) = if accepts accepted d then Ok tt else Err (refusal.Unsupported key (compact_text d))
+accepted_value accepted key (Some d) =
+    if accepts accepted d then Ok tt else Err (refusal.Unsupported key (compact_text d))
 
 -- the value under the key
 unfoldable pub supported : Accepted → List ℕ → Data → Result ⊤ ConfError

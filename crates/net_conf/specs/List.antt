@@ -59,7 +59,14 @@ network_list_at d = do
   check ← switch_at disable_check_key d
   gc ← switch_at disable_gc_key d
   plugins ← chain_at d
-  Ok (record { version = version; name = name; disable_check = check; disable_gc = gc; first = plugins.first; chained = plugins.chained })
+  Ok (record {
+    version = version;
+    name = name;
+    disable_check = check;
+    disable_gc = gc;
+    first = plugins.first;
+    chained = plugins.chained;
+  })
 
 -- the network list that the bytes spell, or the first refusal
 unfoldable pub list_of : List ℕ → Result NetList ConfError

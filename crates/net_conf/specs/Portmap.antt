@@ -17,7 +17,8 @@ portmap_rows =
     ∷ (codes "externalSetMarkChain", EmptyText) ∷ (codes "backend", Backend) ∷ []
 
 abbrev pub mappings_flag : Field Data → Result Bool ConfError
-mappings_flag f = with_default (codes "capabilities") false (flag_within (codes "capabilities") (codes "portMappings") false) f
+mappings_flag f =
+    with_default (codes "capabilities") false (flag_within (codes "capabilities") (codes "portMappings") false) f
 
 -- whether the plugin is to get the port mappings
 unfoldable pub takes_mappings_at : Data → Result Bool ConfError

@@ -20,11 +20,13 @@ use Rattle.pod_file.specs.Refusals.{wrong, member_path}
 use Rattle.pod_file.specs.declared.error.PodError.{PodError}
 use Rattle.pod_file.specs.declared.error.PodError.TheVariants as refusal
 
-abbrev pub listed_of : {A : Type 0} → List ℕ → (List A → Data → Result A PodError) → Field Items → Result (List A) PodError
+abbrev pub listed_of : {A : Type 0} → List ℕ → (List A → Data → Result A PodError) → Field Items
+    → Result (List A) PodError
 listed_of path read f = member_or (Ok []) (wrong path) (each_after read []) f
 
 -- the list under a key of the opening, each member read after those before it, and empty where it is absent
-unfoldable pub listed_at : {A : Type 0} → List ℕ → List ℕ → (List A → Data → Result A PodError) → Data → Result (List A) PodError
+unfoldable pub listed_at : {A : Type 0} → List ℕ → List ℕ → (List A → Data → Result A PodError) → Data
+    → Result (List A) PodError
 listed_at path key read d = listed_of path read (list_field key d)
 
 -- a fault in a link has the link's place, and no deeper one

@@ -28,7 +28,8 @@ unfoldable pub port_at : CommandPlace → List ℕ → Data → Result ℕ PodEr
 port_at place key d = member_or (Ok 0) (wrong_key place (codes "portMappings")) Ok (u64_field key d)
 
 -- the list under a key of the command, each of its members read, and empty where it is absent
-unfoldable pub list_at : {A : Type 0} → CommandPlace → List ℕ → (Data → Result A PodError) → Data → Result (List A) PodError
+unfoldable pub list_at : {A : Type 0} → CommandPlace → List ℕ → (Data → Result A PodError) → Data
+    → Result (List A) PodError
 list_at place key read d = list_or (wrong_key place key) read (list_field key d)
 
 -- a text of a mapping, empty where there is none

@@ -56,7 +56,8 @@ is_alone commands = nat_le (length commands) 1 || not (list_any is_exclusive com
 -- the first round, counted from the given number, in which an exclusive command isn't alone
 abbrev pub each_alone : ℕ → List (List Command) → Result ⊤ PodError
 each_alone round [] = Ok tt
-each_alone round (commands ∷ rounds) = if is_alone commands then each_alone (round + 1) rounds else Err (refusal.Alone round)
+each_alone round (commands ∷ rounds) =
+    if is_alone commands then each_alone (round + 1) rounds else Err (refusal.Alone round)
 
 -- ---- numbers
 

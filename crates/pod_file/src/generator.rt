@@ -48,8 +48,8 @@ pub(crate) struct SharedTexts {
 }
 
 /// The workload of so many containers: they are added and checked; then those of an even number are deleted, all but
-/// each fourth are collected, and these are checked again. A text that several commands have is made once. It takes time
-/// and memory in proportion to the number.
+/// each fourth are collected, and these are checked again. A text that several commands have is made once. It takes
+/// time and memory in proportion to the number.
 pub fn generate(alloc: Global, count: u32) -> Result<Generated, NoMemory>
     requires some { 1 ≤ count }
     requires few { count ≤ wanted.most_containers }

@@ -26,7 +26,8 @@ pub record IsFirst (w : World) (n : ℕ) (before : List Entry) (first : Entry) :
 
 -- what a check asks for of the objects of a share
 abbrev pub asked_of : Share → ℕ
-asked_of s = length s.links + length s.addresses + length s.routes + length s.rules + length s.settings + length s.leases
+asked_of s = length s.links + length s.addresses + length s.routes + length s.rules + length s.settings
+    + length s.leases
 
 -- the calls that a command has made, by its verb
 pub record IsBounded (w : World) (n : ℕ) (c : Placed) (list : NetList) : Type 0 where

@@ -212,10 +212,10 @@ pub fn each_question_leaves_the_host()
     ensures { EachQuestionLeavesTheHost }
 {}
 
-/// A STATUS of a list that isn't older than it ends at a fault (code 103). Without one it is answered `ok` where each range set
-/// of its list has a free address in the host at its entries and the master of `macvlan` is there, and else refused for
-/// the first that isn't available (code 50): the range sets in order, and then the master. An older list refuses it
-/// with no call made (code 1). So it is unless memory was refused or it was stopped.
+/// A STATUS of a list that isn't older than it ends at a fault (code 103). Without one it is answered `ok` where each
+/// range set of its list has a free address in the host at its entries and the master of `macvlan` is there, and else
+/// refused for the first that isn't available (code 50): the range sets in order, and then the master. An older list
+/// refuses it with no call made (code 1). So it is unless memory was refused or it was stopped.
 pub fn a_status_tells_what_is_available()
     ensures { WasAvailable }
 {}

@@ -98,4 +98,5 @@ command_part Summary w = summary_line w
 -- the part on the commands, then the history's lines and the host's where they are asked for
 unfoldable pub text_of : World → Asked → List ℕ
 text_of w asked =
-    command_part asked.commands w ++ where_asked asked.trace (trace_lines w) ++ where_asked asked.dump (dump_of (host_of w))
+    command_part asked.commands w ++ where_asked asked.trace (trace_lines w)
+    ++ where_asked asked.dump (dump_of (host_of w))

@@ -136,9 +136,9 @@ fn push_host<K: Kernel + Drop>(
     push_dump(alloc, &host, lines)
 }
 
-/// The text of the book: of the commands what is asked for; with `trace` a line for each call of the history; with `dump`
-/// a line for each object of the host. Memory that is refused leaves nothing. It takes time and memory in proportion to
-/// the text and the plan, and with the summary and with `dump` a copy of the host besides.
+/// The text of the book: of the commands what is asked for; with `trace` a line for each call of the history; with
+/// `dump` a line for each object of the host. Memory that is refused leaves nothing. It takes time and memory in
+/// proportion to the text and the plan, and with the summary and with `dump` a copy of the host besides.
 #[tactic(auto, unfolding(crate::specs::Lines::text_of))]
 pub fn text<K: Kernel + Drop>(
     alloc: Global,

@@ -6,7 +6,8 @@ ghost use Rattle.pod_threads.specs.Counted.{entries_of_round, is_current};
 use kernel_model::Kernel;
 use pod_workers::Book;
 
-/// How many entries of the history are of commands of the current round. Those stand last, so it reads one more at most.
+/// How many entries of the history are of commands of the current round. Those stand last, so it reads one more at
+/// most.
 pub(crate) fn entries_of_current<K: Kernel + Drop>(book: &Book<K>) -> usize
     ensures { result ≡ entries_of_round book.now.plan book.now.round book.now.history }
 {

@@ -40,7 +40,8 @@ most_of_first (Bridge conf) given = given + (length (routes_of conf.ipam) + 2) +
 most_of_first (Ptp conf) given = 5 * given + length conf.ipam.routes + 2 + 2 * given
 most_of_first (Macvlan conf) given = given + length (routes_of conf.ipam)
 
--- those of a chained plugin: three rules a mapping and family at most, two an address, or the settings and the link's values
+-- those of a chained plugin: three rules a mapping and family at most, two an address, or the settings and the link's
+-- values
 abbrev pub most_of_chained : List PortMapping → ℕ → Chained → ℕ
 most_of_chained mappings given (Portmap conf) = 6 * length mappings
 most_of_chained mappings given (Firewall conf) = 2 * given
@@ -50,4 +51,5 @@ most_of_chained mappings given (Tuning conf) = length conf.sysctl + 1
 abbrev pub most_calls : NetList → Command → ℕ
 most_calls list c =
     1 + length (before_of list c) + length (sets_of list)
-    + (most_of_first list.first (length (sets_of list)) + sum_by (most_of_chained (mappings_of list c) (length (sets_of list))) list.chained + 1)
+    + (most_of_first list.first (length (sets_of list))
+    + sum_by (most_of_chained (mappings_of list c) (length (sets_of list))) list.chained + 1)

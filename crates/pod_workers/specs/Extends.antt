@@ -29,7 +29,8 @@ KeepsAnswers old new = (n : ℕ) (a : Answer) → slice_get old n ≡ Some (Some
 
 -- commands of other rounds are answered as they were
 abbrev pub KeepsOtherRounds : World → World → Type 0
-KeepsOtherRounds from w = EachCommand from.plan (λ n c. (c.round ≡ from.round → ⊥) → slice_get w.answers n ≡ slice_get from.answers n)
+KeepsOtherRounds from w =
+    EachCommand from.plan (λ n c. (c.round ≡ from.round → ⊥) → slice_get w.answers n ≡ slice_get from.answers n)
 
 -- in the same round, whose commands alone go on
 pub record Extends (from w : World) : Type 0 where

@@ -28,8 +28,10 @@ pub record Follows (p : Plan) (before : List Entry) (e : Entry) : Type 0 where
   pub by : Placed
   pub of : IsEntryOf p e place by
   pub call : turn_by (list_for p by.command) by.command (replies_of place before) ≡ Calls e.call
-  pub reply : e.reply ≡ reply_to (after p.pods.opening before) e.call (is_faulty by.command (length (replies_of place before)))
-  pub allowed : is_faulty by.command (length (replies_of place before)) ≡ false → IsAllowed (after p.pods.opening before) e.call
+  pub reply : e.reply ≡ reply_to (after p.pods.opening before) e.call
+      (is_faulty by.command (length (replies_of place before)))
+  pub allowed : is_faulty by.command (length (replies_of place before)) ≡ false
+      → IsAllowed (after p.pods.opening before) e.call
   pub no_stop : is_stop by.command.stop (length (replies_of place before)) ≡ false
 
 -- what each entry is to those before it
@@ -54,7 +56,8 @@ EveryEntryFollows = (w : World) → Legal w → EachFollows w.plan w.history
 abbrev pub EntryIsInRound : Plan → List Entry → Option ℕ → ℕ → Type 0
 EntryIsInRound p h None round = ⊥
 EntryIsInRound p h (Some number) round =
-    (before rest : List Entry) × (e : Entry) × (n : ℕ) × (c : Placed) × (h ≡ before ++ e ∷ rest) × (length before + 1 ≡ number) × IsEntryOf p e n c × (c.round ≡ round)
+    (before rest : List Entry) × (e : Entry) × (n : ℕ) × (c : Placed) × (h ≡ before ++ e ∷ rest)
+    × (length before + 1 ≡ number) × IsEntryOf p e n c × (c.round ≡ round)
 
 -- it is the script's answer after all replies of the command at place n
 abbrev pub IsScripts : World → ℕ → Placed → Answer → Type 0
@@ -163,7 +166,8 @@ IsWithinStop p made = (number : ℕ) × (p.stop_at ≡ Some number) × (made ≤
 
 -- a stopped command is answered how many calls it made: its own `stop`, or no more than that number
 abbrev pub EachStopIsCounted : Type 0
-EachStopIsCounted = (w : World) → Legal w → EachCommand w.plan (λ n c. (made : ℕ) → slice_get w.answers n ≡ Some (Some (Stopped made))
+EachStopIsCounted = (w : World) → Legal w → EachCommand w.plan (λ n c. (made : ℕ)
+    → slice_get w.answers n ≡ Some (Some (Stopped made))
     → (made ≡ length (own_replies w n)) × ((c.command.stop ≡ Some made) ⊎ IsWithinStop w.plan made))
 
 -- ---- moments
@@ -189,7 +193,8 @@ pub record IsMadeAt (w : World) (before : List Entry) (e : Entry) : Type 0 where
   pub number : e.command ≡ place + 1
   pub ready : IsReady at.front place by
   pub makes : with_entry at.front e ≡ stepped at.front place by.command
-  pub goes : next_of at.front by.command (own_replies at.front place) ≡ next.Call e.call (is_faulty by.command (length (own_replies at.front place)))
+  pub goes : next_of at.front by.command (own_replies at.front place)
+      ≡ next.Call e.call (is_faulty by.command (length (own_replies at.front place)))
 
 abbrev pub EachEntryIsMade : Type 0
 EachEntryIsMade = (w : World) → Legal w → EachOne w.history (IsMadeAt w)
@@ -217,7 +222,8 @@ pub record IsAnsweredAt (w : World) (n : ℕ) (a : Answer) : Type 0 where
   pub due : (next_of at.front by.command (own_replies at.front n) ≡ next.Answer a) ⊎ (a ≡ OutOfMemory)
 
 abbrev pub EachAnswerIsGiven : Type 0
-EachAnswerIsGiven = (w : World) → Legal w → (n : ℕ) (a : Answer) → slice_get w.answers n ≡ Some (Some a) → IsAnsweredAt w n a
+EachAnswerIsGiven = (w : World) → Legal w → (n : ℕ) (a : Answer) → slice_get w.answers n ≡ Some (Some a)
+    → IsAnsweredAt w n a
 
 -- ---- all clauses
 

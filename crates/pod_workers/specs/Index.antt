@@ -18,7 +18,8 @@ NoneOf commands start end round container =
 abbrev pub IsLatest : List Placed → ℕ → ℕ → List ℕ → Option ℕ → Type 0
 IsLatest commands end round container None = NoneOf commands 0 end round container
 IsLatest commands end round container (Some m) =
-    (m < end) × ((d : Placed) × (slice_get commands m ≡ Some d) × IsOf d round container) × NoneOf commands (m + 1) end round container
+    (m < end) × ((d : Placed) × (slice_get commands m ≡ Some d) × IsOf d round container)
+    × NoneOf commands (m + 1) end round container
 
 -- all are of earlier rounds
 abbrev pub AreBefore : ℕ → List Placed → Type 0
@@ -29,14 +30,16 @@ abbrev pub command_at_place : List (List Command) → Place → Option Command
 command_at_place rounds p = option_and_then (λ commands. slice_get commands p.within) (slice_get rounds p.round)
 
 -- the index is right about the command at place n
-pub record IsPlaced (rounds : List (List Command)) (commands : List Placed) (n : ℕ) (c : Placed) (p : Place) : Type 0 where
+pub record IsPlaced (rounds : List (List Command)) (commands : List Placed) (n : ℕ) (c : Placed) (p : Place)
+    : Type 0 where
   pub command : command_at_place rounds p ≡ Some c.command
   pub round_is : c.round ≡ p.round
   pub previous : IsLatest commands n c.round c.command.container p.previous
 
 pub record IsIndex (rounds : List (List Command)) (commands : List Placed) (places : List Place) : Type 0 where
   pub long : length places ≡ length commands
-  pub each : (n : ℕ) (c : Placed) (p : Place) → slice_get commands n ≡ Some c → slice_get places n ≡ Some p → IsPlaced rounds commands n c p
+  pub each : (n : ℕ) (c : Placed) (p : Place) → slice_get commands n ≡ Some c → slice_get places n ≡ Some p
+      → IsPlaced rounds commands n c p
 
 -- ---- who may step, by the index
 

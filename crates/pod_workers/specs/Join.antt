@@ -22,7 +22,8 @@ first_without_list lists rounds = position (λ c. lacks_list lists c.command) (p
 -- that no list has
 abbrev pub refusal_of : List NetList → List (List Command) → Option PlanError
 refusal_of lists rounds =
-    option_or (option_map (λ place. SameName place) (first_repeat_after [] 0 lists)) (option_map (λ place. NoNetwork (place + 1)) (first_without_list lists rounds))
+    option_or (option_map (λ place. SameName place) (first_repeat_after [] 0 lists))
+    (option_map (λ place. NoNetwork (place + 1)) (first_without_list lists rounds))
 
 -- the plan, unless it is refused
 abbrev pub plan_unless : Option PlanError → Plan → Result Plan PlanError

@@ -26,13 +26,16 @@ NoAddressIsLeasedTwice = (w : World) → Legal w → (network : List ℕ) → No
 -- each call that a ready command makes may be made in the host there
 abbrev pub EveryCallMayBeMade : Type 0
 EveryCallMayBeMade =
-    (w : World) (n : ℕ) (c : Placed) (call : Call) → Legal w → IsReady w n c → next_of w c.command (own_replies w n) ≡ next.Call call false → IsAllowed (host_of w) call
+    (w : World) (n : ℕ) (c : Placed) (call : Call) → Legal w → IsReady w n c
+    → next_of w c.command (own_replies w n) ≡ next.Call call false → IsAllowed (host_of w) call
 
 -- the network of each command whose verb speaks of one has its list
 abbrev pub EachNetworkCommandHasItsList : Type 0
 EachNetworkCommandHasItsList =
-    (w : World) → Legal w → (n : ℕ) (c : Placed) → slice_get (commands_of w.plan) n ≡ Some c → is_of_network c.command.verb ≡ true → (list : NetList) × (list_for w.plan c.command ≡ Some list)
+    (w : World) → Legal w → (n : ℕ) (c : Placed) → slice_get (commands_of w.plan) n ≡ Some c
+    → is_of_network c.command.verb ≡ true → (list : NetList) × (list_for w.plan c.command ≡ Some list)
 
 -- a plan that was joined is well formed, where its lists and its pods are
 abbrev pub JoinedPlansAreWellFormed : Type 0
-JoinedPlansAreWellFormed = (p q : Plan) → joined p ≡ Ok q → All IsWellFormedList p.lists → IsWellFormedPods p.pods → IsWellFormed q
+JoinedPlansAreWellFormed = (p q : Plan) → joined p ≡ Ok q → All IsWellFormedList p.lists → IsWellFormedPods p.pods
+    → IsWellFormed q

@@ -37,7 +37,8 @@ EarlierAreAnswered w n = EachCommand w.plan (λ m d. m < n → d.round ≡ w.rou
 
 -- a step of the first open command of a round keeps the file's order
 abbrev pub FileOrderIsKept : Type 0
-FileOrderIsKept = (w : World) (n : ℕ) (c : Placed) → Legal w → IsInFileOrder w → IsReady w n c → EarlierAreAnswered w n → IsInFileOrder (stepped w n c.command)
+FileOrderIsKept = (w : World) (n : ℕ) (c : Placed) → Legal w → IsInFileOrder w → IsReady w n c
+    → EarlierAreAnswered w n → IsInFileOrder (stepped w n c.command)
 
 -- every round is over, and memory was never lacking
 pub record IsDoneInFileOrder (w : World) : Type 0 where
@@ -48,4 +49,5 @@ pub record IsDoneInFileOrder (w : World) : Type 0 where
 
 -- what a run in file order leaves is a function of the plan
 abbrev pub OneOutcome : Type 0
-OneOutcome = (v w : World) → v.plan ≡ w.plan → IsDoneInFileOrder v → IsDoneInFileOrder w → (v.history ≡ w.history) × (v.answers ≡ w.answers)
+OneOutcome = (v w : World) → v.plan ≡ w.plan → IsDoneInFileOrder v → IsDoneInFileOrder w
+    → (v.history ≡ w.history) × (v.answers ≡ w.answers)

@@ -19,8 +19,8 @@ use Rattle.cni_verbs.specs.Wanted.{add_calls, back_calls, calls_before, kinds_of
 
 -- ---- one call
 
--- The call is well formed: what `IsAllowed` asks of its fields alone. (A lease asks besides that the host's last address
--- of the pool is one of its candidates.)
+-- The call is well formed: what `IsAllowed` asks of its fields alone. (A lease asks besides that the host's last
+-- address of the pool is one of its candidates.)
 abbrev pub IsWellFormedCall : Call → Type 0
 IsWellFormedCall (VethAdd host_end inner_end) = IsVethPair host_end inner_end
 IsWellFormedCall (MacvlanAdd link) = IsMacvlanLink link
@@ -66,9 +66,12 @@ only_leases att given = record no_objects { leases = map (lease_of att) given }
 pub record ArePlanned (list : NetList) (att : Att) (netns : List ℕ) (mappings : List PortMapping) (given : List Addr) : Type 0 where
   pub own : list_all (is_call_of att) (add_calls list att netns mappings given) ≡ true
   pub planned : list_all (is_plan_call_of att) (plan_calls list att netns mappings given) ≡ true
-  pub well_formed : IsWellFormedList list → is_host_ns netns ≡ false → AllByRecursion IsWellFormedCall (add_calls list att netns mappings given)
+  pub well_formed : IsWellFormedList list → is_host_ns netns ≡ false
+      → AllByRecursion IsWellFormedCall (add_calls list att netns mappings given)
   pub of_kinds : list_all (is_of_kinds (kinds_of list)) (add_calls list att netns mappings given) ≡ true
-  pub adds : share_after_calls (only_leases att given) (add_calls list att netns mappings given) ≡ wanted list att netns mappings given
+  pub adds : share_after_calls (only_leases att given) (add_calls list att netns mappings given)
+      ≡ wanted list att netns mappings given
 
 abbrev pub AddCallsArePlanned : Type 0
-AddCallsArePlanned = (list : NetList) (att : Att) (netns : List ℕ) (mappings : List PortMapping) (given : List Addr) → ArePlanned list att netns mappings given
+AddCallsArePlanned = (list : NetList) (att : Att) (netns : List ℕ) (mappings : List PortMapping) (given : List Addr)
+    → ArePlanned list att netns mappings given

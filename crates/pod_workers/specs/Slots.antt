@@ -70,7 +70,8 @@ StepsTask host host' h h' c cut task stepped = DoesNext host host' h h' c task (
 
 -- ---- a book
 
-pub record IsKept (host : Host) (slots : List (Option RunView)) (places : List Place) (before : ℕ) (w : World) : Type 0 where
+pub record IsKept (host : Host) (slots : List (Option RunView)) (places : List Place) (before : ℕ) (w : World)
+    : Type 0 where
   pub legal : Legal w
   pub host_is : host ≡ host_of w
   pub slots_long : length slots ≡ length (commands_of w.plan)

@@ -74,7 +74,8 @@ EachCommand p Fit = (n : ℕ) (c : Placed) → slice_get (commands_of p) n ≡ S
 -- so it is for each two commands of the plan, the earlier one first
 abbrev pub EachTwoCommands : Plan → (ℕ → Placed → ℕ → Placed → Type 0) → Type 0
 EachTwoCommands p Fit =
-    (m n : ℕ) (d c : Placed) → m < n → slice_get (commands_of p) m ≡ Some d → slice_get (commands_of p) n ≡ Some c → Fit m d n c
+    (m n : ℕ) (d c : Placed) → m < n → slice_get (commands_of p) m ≡ Some d → slice_get (commands_of p) n ≡ Some c
+    → Fit m d n c
 
 -- so it is for the command of this number, from 1
 abbrev pub AtCommand : World → ℕ → (ℕ → Placed → Type 0) → Type 0
@@ -127,7 +128,8 @@ is_cut w = is_cut_at w.plan.stop_at w (last_entry w.history)
 -- the script's answer, else a stop, else a call
 abbrev pub next_by : Option NetList → Command → ℕ → Bool → Turn → Next
 next_by list c made cut (Finishes finish) = next.Answer (answer_by list c finish)
-next_by list c made cut (Calls call) = if is_stop c.stop made || cut then next.Answer (Stopped made) else next.Call call (is_faulty c made)
+next_by list c made cut (Calls call) =
+    if is_stop c.stop made || cut then next.Answer (Stopped made) else next.Call call (is_faulty c made)
 
 abbrev pub next_of : World → Command → List Reply → Next
 next_of w c rs = next_by (list_for w.plan c) c (length rs) (is_cut w) (turn_by (list_for w.plan c) c rs)
@@ -144,7 +146,8 @@ abbrev pub with_entry : World → Entry → World
 with_entry w e = record { plan = w.plan; history = w.history ++ e ∷ []; answers = w.answers; round = w.round }
 
 abbrev pub answered : World → ℕ → Answer → World
-answered w n a = record { plan = w.plan; history = w.history; answers = slice_set w.answers n (Some a); round = w.round }
+answered w n a =
+    record { plan = w.plan; history = w.history; answers = slice_set w.answers n (Some a); round = w.round }
 
 abbrev pub done : World → ℕ → Next → World
 done w n (next.Answer a) = answered w n a
@@ -164,7 +167,8 @@ end_of_step w n c = end_of (next_of w c (own_replies w n))
 
 -- the command of this number, from 1, made its step, which ended so
 abbrev pub StepsTo : World → World → ℕ → StepEnd → Type 0
-StepsTo old new number end = AtCommand old number (λ n c. (new ≡ stepped old n c.command) × (end ≡ end_of_step old n c.command))
+StepsTo old new number end = AtCommand old number
+    (λ n c. (new ≡ stepped old n c.command) × (end ≡ end_of_step old n c.command))
 
 -- it was refused memory for its step, and is answered so
 abbrev pub RunsOut : World → World → ℕ → Type 0
@@ -191,7 +195,8 @@ pub record MayStep (commands : List Placed) (answers : List (Option Answer)) (ro
   pub there : slice_get commands n ≡ Some c
   pub current : c.round ≡ round
   pub unanswered : slice_get answers n ≡ Some None
-  pub first : (m : ℕ) (d : Placed) (o : Option Answer) → m < n → slice_get commands m ≡ Some d → slice_get answers m ≡ Some o → ¬ Blocks d o round c.command.container
+  pub first : (m : ℕ) (d : Placed) (o : Option Answer) → m < n → slice_get commands m ≡ Some d
+      → slice_get answers m ≡ Some o → ¬ Blocks d o round c.command.container
 
 abbrev pub IsReady : World → ℕ → Placed → Type 0
 IsReady w n c = MayStep (commands_of w.plan) w.answers w.round n c

@@ -74,8 +74,8 @@ fn a_failed_read_is_told_of_its_file(rt: HostRuntime) -> Result<(), Fail> {
     Ok(())
 }
 
-/// The status of a run on six containers, and what it wrote, where the write of this number fails and the others take so
-/// many bytes.
+/// The status of a run on six containers, and what it wrote, where the write of this number fails and the others take
+/// so many bytes.
 fn written(alloc: Global, failing: u64, most: usize) -> Result<(u8, Vec<u8>), Fail> {
     let mut files = files_with(alloc, SMALL, SIX)?;
     let words = texts_of(alloc, &["pods.json", "net.json"])?;
