@@ -5,7 +5,7 @@
 
 The k-th `malloc` of a run answers that there is none, for k from 1 until a run ends without having been refused any. A
 library that is loaded before the C library does that; the kit's clang compiles it. Each run prints the whole text
-(status 0 or 1), an answer that tells want of memory (8), or nothing (6). Where commands were answered the kernel's
+(status 0 or 1), an answer that says out of memory (8), or nothing (6). Where commands were answered the kernel's
 objects are sound, and two deletions or collections, of which at least one has memory, leave nothing that is owned.
 """
 
@@ -118,7 +118,7 @@ def wrong_of(ended, text, swept):
         return f"status {ended.returncode}, {len(ended.stdout)} bytes"
     lines = [json.loads(it) for it in lines_of(ended.stdout)]
     if OUT_OF_MEMORY not in [it.get("error", {}).get("code") for it in lines if "verb" in it]:
-        return "no answer tells want of memory"
+        return "no answer says out of memory"
     objects = [it for it in lines if "kind" in it]
     if not is_sound(objects):
         return "the objects aren't sound"

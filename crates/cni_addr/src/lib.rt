@@ -8,7 +8,7 @@
 //! - Each reader is equal to a definition, which [`laws`] tie to a grammar both ways: what is spelled is read, and what
 //!   is read is spelled. What a writer writes is read again as the same value.
 //! - A network has just the addresses of its family from its first to its last.
-//! - Want of memory is [`NoMemory`] and nothing else, and only calls that take an allocator, that copy, or that push
+//! - Out of memory is [`NoMemory`] and nothing else, and only calls that take an allocator, that copy, or that push
 //!   answer it.
 //!
 //! A worked example, of an address that a pool of 10.88.0.0/16 leased:

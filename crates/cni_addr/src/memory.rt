@@ -1,4 +1,4 @@
-//! Want of memory, and values that are copied.
+//! Out of memory, and values that are copied.
 
 ghost use Rattle.std.specs.Prelude.{◌≡◌, IfOk};
 

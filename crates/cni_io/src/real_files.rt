@@ -47,7 +47,7 @@ impl<R: rt::Files> Files for RealFiles<R> {
     /// Reads at most one byte more than the limit.
     ///
     /// `Missing` comes where the system says that there is no such file (POSIX `ENOENT`). Every
-    /// other error of the system but want of memory is `Failed`, as for a directory, a path that
+    /// other error of the system but out of memory is `Failed`, as for a directory, a path that
     /// leads through a file, a name that is too long and a file that may not be read.
     fn read(&mut self, alloc: Global, name: &str, limit: u64) -> Result<Vec<u8>, FileFault>
         ensures limited { KeepsToLimit limit result }

@@ -12,9 +12,9 @@ passed_on true e r next refuses = tt
 passed_on false e r next refuses = ap (λ s. s >>= next) refuses
 
 -- an error that was made as wanted is the outcome's
-pub RefusesAs-told : {Y E : Type 0} (is_want_of_memory : E → Bool) (e wanted : E) (r : Result Y E) → TellsAs is_want_of_memory e wanted → r ≡ Err wanted → RefusesAs is_want_of_memory e r
-RefusesAs-told is_want_of_memory e wanted r tells is = told (is_want_of_memory e) e wanted r tells is
+pub RefusesAs-told : {Y E : Type 0} (is_out_of_memory : E → Bool) (e wanted : E) (r : Result Y E) → TellsAs is_out_of_memory e wanted → r ≡ Err wanted → RefusesAs is_out_of_memory e r
+RefusesAs-told is_out_of_memory e wanted r tells is = told (is_out_of_memory e) e wanted r tells is
 
 -- an error of the first step is one of the whole
-pub RefusesAs-then : {A B E : Type 0} (is_want_of_memory : E → Bool) (e : E) (r : Result A E) (next : A → Result B E) → RefusesAs is_want_of_memory e r → RefusesAs is_want_of_memory e (r >>= next)
-RefusesAs-then is_want_of_memory e r next refuses = passed_on (is_want_of_memory e) e r next refuses
+pub RefusesAs-then : {A B E : Type 0} (is_out_of_memory : E → Bool) (e : E) (r : Result A E) (next : A → Result B E) → RefusesAs is_out_of_memory e r → RefusesAs is_out_of_memory e (r >>= next)
+RefusesAs-then is_out_of_memory e r next refuses = passed_on (is_out_of_memory e) e r next refuses

@@ -4,7 +4,7 @@ use Rattle.cni_json.specs.declared.reading.ReadEnd.{ReadEnd}
 use Rattle.cni_json.specs.declared.reading.ReadEnd.TheVariants.{Decode, Number, NoMemory}
 
 -- the refusal says that memory ran out
-abbrev pub is_want_of_memory : ReadEnd → Bool
-is_want_of_memory Decode = false
-is_want_of_memory Number = false
-is_want_of_memory NoMemory = true
+abbrev pub is_out_of_memory : ReadEnd → Bool
+is_out_of_memory Decode = false
+is_out_of_memory Number = false
+is_out_of_memory NoMemory = true

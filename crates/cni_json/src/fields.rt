@@ -115,8 +115,8 @@ pub fn field_object<'a>(object: &'a Value, key: &str) -> Field<&'a Value>
 #[tactic(auto, using(crate::proofs::Steps::steps))]
 pub fn need_object<E: Refusal, W: FnOnce() -> E>(value: &Value, refusal: W) -> Result<(), E>
     requires { W.IsAlwaysCallable refusal }
-    ensures { (wanted : E) → IsRefusal E.is_want_of_memory W.FnOnce refusal wanted
-        → Gives E.is_want_of_memory result (object_or (Err wanted) (view value.now)) }
+    ensures { (wanted : E) → IsRefusal E.is_out_of_memory W.FnOnce refusal wanted
+        → Gives E.is_out_of_memory result (object_or (Err wanted) (view value.now)) }
 {
     value.is_object().then_some(()).ok_or_else(refusal)
 }

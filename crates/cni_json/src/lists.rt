@@ -23,8 +23,8 @@ pub fn read_each<T: Drop, E: Refusal, R: Fn(&Value) -> Result<T, E>>(
     read: R,
 ) -> Result<Items<T>, E>
     requires { R.IsAlwaysCallable read }
-    ensures { (wanted : Data → Result T E) → IsReader E.is_want_of_memory R.Fn read wanted
-        → Gives E.is_want_of_memory result (each wanted (items_view list.now)) }
+    ensures { (wanted : Data → Result T E) → IsReader E.is_out_of_memory R.Fn read wanted
+        → Gives E.is_out_of_memory result (each wanted (items_view list.now)) }
 {
     read_each_after(Items::new(alloc), list, |_, member| read(member))
 }
@@ -38,8 +38,8 @@ pub fn read_each_placed<T: Drop, E: Refusal, R: Fn(usize, &Value) -> Result<T, E
     read: R,
 ) -> Result<Items<T>, E>
     requires { R.IsAlwaysCallable read }
-    ensures { (wanted : ℕ → Data → Result T E) → IsPlacedReader E.is_want_of_memory R.Fn read wanted
-        → Gives E.is_want_of_memory result (each_from wanted 0 (items_view list.now)) }
+    ensures { (wanted : ℕ → Data → Result T E) → IsPlacedReader E.is_out_of_memory R.Fn read wanted
+        → Gives E.is_out_of_memory result (each_from wanted 0 (items_view list.now)) }
 {
     read_each_after(
         Items::new(alloc),
@@ -57,8 +57,8 @@ pub fn read_each_after<T: Drop, E: Refusal, R: Fn(&[T], &Value) -> Result<T, E>>
     read: R,
 ) -> Result<Items<T>, E>
     requires { MayReadEach R.Fn read list.now }
-    ensures { (wanted : List T → Data → Result T E) → IsReaderAfter E.is_want_of_memory R.Fn read wanted
-        → Gives E.is_want_of_memory result (each_after wanted before (items_view list.now)) }
+    ensures { (wanted : List T → Data → Result T E) → IsReaderAfter E.is_out_of_memory R.Fn read wanted
+        → Gives E.is_out_of_memory result (each_after wanted before (items_view list.now)) }
 {
     let mut found = before;
     for member in list {
@@ -80,9 +80,9 @@ pub fn read_list_or<T: Drop, E: Refusal, W: FnOnce() -> E, R: Fn(&Value) -> Resu
 ) -> Result<Items<T>, E>
     requires refuses { W.IsAlwaysCallable refusal }
     requires reads { R.IsAlwaysCallable read }
-    ensures { (wrong : E) → IsRefusal E.is_want_of_memory W.FnOnce refusal wrong
-        → (wanted : Data → Result T E) → IsReader E.is_want_of_memory R.Fn read wanted
-        → Gives E.is_want_of_memory result
+    ensures { (wrong : E) → IsRefusal E.is_out_of_memory W.FnOnce refusal wrong
+        → (wanted : Data → Result T E) → IsReader E.is_out_of_memory R.Fn read wanted
+        → Gives E.is_out_of_memory result
         (list_or (Err wrong) wanted (list_field key.now (view object.now))) }
 {
     match field_list(object, key) {

@@ -7,7 +7,7 @@ ghost use Rattle.serde_json.specs.View.{view, items_view, members_view};
 ghost use Rattle.serde_json.specs.Written.{has_float, items_have_float, members_have_float};
 ghost use Rattle.cni_json.specs.Json.{json_of};
 ghost use Rattle.cni_json.specs.Outcome.{GivesAs};
-ghost use Rattle.cni_json.specs.ReadEnds.{is_want_of_memory};
+ghost use Rattle.cni_json.specs.ReadEnds.{is_out_of_memory};
 
 use serde_json::{Map, Value};
 use std::alloc::Global;
@@ -30,7 +30,7 @@ pub enum ReadEnd {
 /// a fraction, an exponent and an integer of more than 64 bits are each `Number`. It takes time and
 /// memory in proportion to the bytes.
 pub fn read(alloc: Global, bytes: &[u8]) -> Result<Value, ReadEnd>
-    ensures outcome { GivesAs is_want_of_memory view result (json_of bytes.now) }
+    ensures outcome { GivesAs is_out_of_memory view result (json_of bytes.now) }
 
     // What `line` and its reading again ask for.
     ensures numbers { IfOk result (λ value. has_float (view value) ≡ false) }

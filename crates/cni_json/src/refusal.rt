@@ -5,10 +5,10 @@ ghost use Rattle.cni_addr.specs.declared.memory.NoMemory.{NoMemory};
 
 use cni_addr::NoMemory;
 
-/// Why a reader gives no value. Some errors say that memory ran out (`is_want_of_memory`), and that which [`NoMemory`]
+/// Why a reader gives no value. Some errors say that memory ran out (`is_out_of_memory`), and that which [`NoMemory`]
 /// becomes is one of them.
 pub trait Refusal: From<NoMemory> {
-    ghost is_want_of_memory: { Self → Bool };
+    ghost is_out_of_memory: { Self → Bool };
 
-    ghost tells_want_of_memory: { (n : NoMemory) (e : Self) → Self.From.from_gives n e → is_want_of_memory e ≡ true };
+    ghost tells_out_of_memory: { (n : NoMemory) (e : Self) → Self.From.from_gives n e → is_out_of_memory e ≡ true };
 }

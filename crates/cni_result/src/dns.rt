@@ -21,8 +21,8 @@ pub fn read_dns<E: Refusal, W: Fn() -> E>(
     refusal: W,
 ) -> Result<Dns, E>
     requires { W.IsAlwaysCallable refusal }
-    ensures { (wrong : E) → IsRefusal E.is_want_of_memory W.FnOnce refusal wrong
-        → Gives E.is_want_of_memory result (wanted.dns_of_object wrong (view object.now)) }
+    ensures { (wrong : E) → IsRefusal E.is_out_of_memory W.FnOnce refusal wrong
+        → Gives E.is_out_of_memory result (wanted.dns_of_object wrong (view object.now)) }
 {
     match field_object(object, "dns") {
         Field::Absent => Ok(no_dns(alloc)?),
@@ -50,8 +50,8 @@ fn dns_members<E: Refusal, W: Fn() -> E>(
     refusal: &W,
 ) -> Result<Dns, E>
     requires { W.IsAlwaysCallable refusal.now }
-    ensures { (wrong : E) → IsRefusal E.is_want_of_memory W.FnOnce refusal.now wrong
-        → Gives E.is_want_of_memory result (wanted.dns_members_at wrong (view members.now)) }
+    ensures { (wrong : E) → IsRefusal E.is_out_of_memory W.FnOnce refusal.now wrong
+        → Gives E.is_out_of_memory result (wanted.dns_members_at wrong (view members.now)) }
 {
     let nameservers = read_words(alloc, members, "nameservers", refusal)?;
     let domain = domain(alloc, members, refusal)?;
@@ -68,8 +68,8 @@ fn dns_members<E: Refusal, W: Fn() -> E>(
 #[tactic(auto, using(cni_json::proofs::Steps::steps), unfolding(crate::specs::Dns::domain_at))]
 fn domain<E: Refusal, W: Fn() -> E>(alloc: Global, members: &Value, refusal: &W) -> Result<Text, E>
     requires { W.IsAlwaysCallable refusal.now }
-    ensures { (wrong : E) → IsRefusal E.is_want_of_memory W.FnOnce refusal.now wrong
-        → Gives E.is_want_of_memory result (wanted.domain_at wrong (view members.now)) }
+    ensures { (wrong : E) → IsRefusal E.is_out_of_memory W.FnOnce refusal.now wrong
+        → Gives E.is_out_of_memory result (wanted.domain_at wrong (view members.now)) }
 {
     match field_str(members, "domain") {
         Field::Absent => Ok(Text::of(alloc, "")?),
@@ -88,8 +88,8 @@ pub fn read_words<E: Refusal, W: Fn() -> E>(
     refusal: &W,
 ) -> Result<Items<Text>, E>
     requires { W.IsAlwaysCallable refusal.now }
-    ensures { (wrong : E) → IsRefusal E.is_want_of_memory W.FnOnce refusal.now wrong
-        → Gives E.is_want_of_memory result (wanted.words_at wrong key.now (view object.now)) }
+    ensures { (wrong : E) → IsRefusal E.is_out_of_memory W.FnOnce refusal.now wrong
+        → Gives E.is_out_of_memory result (wanted.words_at wrong key.now (view object.now)) }
 {
     read_list_or(
         alloc,
@@ -103,8 +103,8 @@ pub fn read_words<E: Refusal, W: Fn() -> E>(
 #[tactic(auto, using(cni_json::proofs::Steps::steps))]
 fn word<E: Refusal, W: Fn() -> E>(alloc: Global, entry: &Value, refusal: &W) -> Result<Text, E>
     requires { W.IsAlwaysCallable refusal.now }
-    ensures { (wrong : E) → IsRefusal E.is_want_of_memory W.FnOnce refusal.now wrong
-        → Gives E.is_want_of_memory result (wanted.word_of wrong (view entry.now)) }
+    ensures { (wrong : E) → IsRefusal E.is_out_of_memory W.FnOnce refusal.now wrong
+        → Gives E.is_out_of_memory result (wanted.word_of wrong (view entry.now)) }
 {
     match entry {
         Value::String(text) => Ok(Text::of(alloc, text.as_str())?),

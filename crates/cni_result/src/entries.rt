@@ -7,7 +7,7 @@ ghost use Rattle.cni_json.specs.Outcome.{Gives};
 ghost use Rattle.cni_json.specs.Readers.{IsReader};
 ghost use Rattle.cni_result.specs.Fields.{list_at};
 ghost use Rattle.cni_result.specs.Reading.{mtu_if_at, interface_at, interfaces_at, ip_version_at, ip_at, ips_at, route_at, routes_at};
-ghost use Rattle.cni_result.specs.Refusals.{is_want_of_memory};
+ghost use Rattle.cni_result.specs.Refusals.{is_out_of_memory};
 ghost use Rattle.cni_result.specs.Versions.{ip_version_before_1_0};
 ghost use Rattle.cni_result.specs.declared.refusal.ResultError.{ResultError};
 
@@ -28,8 +28,8 @@ fn list<T: Drop, R: Fn(&Value) -> Result<T, ResultError>>(
     read: R,
 ) -> Result<Items<T>, ResultError>
     requires { R.IsAlwaysCallable read }
-    ensures { (wanted : Data → Result T ResultError) → IsReader is_want_of_memory R.Fn read wanted
-        → Gives is_want_of_memory result (list_at key.now wanted (view top.now)) }
+    ensures { (wanted : Data → Result T ResultError) → IsReader is_out_of_memory R.Fn read wanted
+        → Gives is_out_of_memory result (list_at key.now wanted (view top.now)) }
 {
     read_list_or(alloc, top, key, || invalid(alloc, key), read)
 }
@@ -41,7 +41,7 @@ pub(crate) fn interfaces(
     version: Version,
     top: &Value,
 ) -> Result<Items<Interface>, ResultError>
-    ensures { Gives is_want_of_memory result (interfaces_at version (view top.now)) }
+    ensures { Gives is_out_of_memory result (interfaces_at version (view top.now)) }
 {
     list(
         alloc,
@@ -53,7 +53,7 @@ pub(crate) fn interfaces(
 
 #[tactic(auto, using(cni_json::proofs::Steps::steps), unfolding(crate::specs::Reading::interface_at))]
 fn interface(alloc: Global, version: Version, entry: &Value) -> Result<Interface, ResultError>
-    ensures { Gives is_want_of_memory result (interface_at version (view entry.now)) }
+    ensures { Gives is_out_of_memory result (interface_at version (view entry.now)) }
 {
     let name = text(alloc, entry, "name", "interfaces")?;
     let mac = mac_if(alloc, entry, "mac", "interfaces")?;
@@ -68,7 +68,7 @@ fn interface(alloc: Global, version: Version, entry: &Value) -> Result<Interface
 }
 
 fn mtu_if(alloc: Global, version: Version, entry: &Value) -> Result<Option<u32>, ResultError>
-    ensures { Gives is_want_of_memory result (mtu_if_at version (view entry.now)) }
+    ensures { Gives is_out_of_memory result (mtu_if_at version (view entry.now)) }
 {
     if version.is_before_1_1() {
         Ok(None)
@@ -84,14 +84,14 @@ pub(crate) fn ips(
     version: Version,
     top: &Value,
 ) -> Result<Items<IpEntry>, ResultError>
-    ensures { Gives is_want_of_memory result (ips_at version (view top.now)) }
+    ensures { Gives is_out_of_memory result (ips_at version (view top.now)) }
 {
     list(alloc, top, "ips", |entry| ip(alloc, version, entry))
 }
 
 #[tactic(auto, using(cni_json::proofs::Steps::steps), unfolding(crate::specs::Reading::ip_at))]
 fn ip(alloc: Global, version: Version, entry: &Value) -> Result<IpEntry, ResultError>
-    ensures { Gives is_want_of_memory result (ip_at version (view entry.now)) }
+    ensures { Gives is_out_of_memory result (ip_at version (view entry.now)) }
 {
     let address = cidr(alloc, entry, "address", "ips")?;
     let gateway = addr_if(alloc, entry, "gateway", "ips")?;
@@ -112,7 +112,7 @@ fn ip_version(
     family: Family,
     entry: &Value,
 ) -> Result<(), ResultError>
-    ensures { Gives is_want_of_memory result
+    ensures { Gives is_out_of_memory result
         (ip_version_at (ip_version_before_1_0 version family) (view entry.now)) }
 {
     let Some(told) = ip_version_before_1_0(version, family) else {
@@ -128,14 +128,14 @@ fn ip_version(
 /// The routes, none where there is no list of them.
 #[tactic(auto, using(cni_json::proofs::Steps::steps), unfolding(crate::specs::Reading::routes_at))]
 pub(crate) fn routes(alloc: Global, top: &Value) -> Result<Items<RouteEntry>, ResultError>
-    ensures { Gives is_want_of_memory result (routes_at (view top.now)) }
+    ensures { Gives is_out_of_memory result (routes_at (view top.now)) }
 {
     list(alloc, top, "routes", |entry| route(alloc, entry))
 }
 
 #[tactic(auto, using(cni_json::proofs::Steps::steps), unfolding(crate::specs::Reading::route_at))]
 fn route(alloc: Global, entry: &Value) -> Result<RouteEntry, ResultError>
-    ensures { Gives is_want_of_memory result (route_at (view entry.now)) }
+    ensures { Gives is_out_of_memory result (route_at (view entry.now)) }
 {
     let dst = cidr(alloc, entry, "dst", "routes")?;
     let gw = addr_if(alloc, entry, "gw", "routes")?;

@@ -3,7 +3,7 @@
 ghost use Rattle.serde_json.specs.View.{view};
 ghost use Rattle.cni_json.specs.Outcome.{Gives};
 ghost use Rattle.cni_result.specs.Reading.{text_at, text_if_at, cidr_at, addr_if_at, mac_if_at, number_if_at};
-ghost use Rattle.cni_result.specs.Refusals.{is_want_of_memory};
+ghost use Rattle.cni_result.specs.Refusals.{is_out_of_memory};
 
 use crate::refusal::{ResultError, invalid};
 use cni_addr::{Addr, Cidr, Mac, Text, read_addr, read_cidr, read_mac};
@@ -18,7 +18,7 @@ pub(crate) fn text(
     key: &str,
     blamed: &str,
 ) -> Result<Text, ResultError>
-    ensures { Gives is_want_of_memory result (text_at blamed.now key.now (view object.now)) }
+    ensures { Gives is_out_of_memory result (text_at blamed.now key.now (view object.now)) }
 {
     match field_str(object, key) {
         Field::Absent | Field::WrongKind => Err(invalid(alloc, blamed)),
@@ -34,7 +34,7 @@ pub(crate) fn text_if(
     key: &str,
     blamed: &str,
 ) -> Result<Option<Text>, ResultError>
-    ensures { Gives is_want_of_memory result (text_if_at blamed.now key.now (view object.now)) }
+    ensures { Gives is_out_of_memory result (text_if_at blamed.now key.now (view object.now)) }
 {
     match field_str(object, key) {
         Field::Absent => Ok(None),
@@ -51,7 +51,7 @@ pub(crate) fn cidr(
     key: &str,
     blamed: &str,
 ) -> Result<Cidr, ResultError>
-    ensures { Gives is_want_of_memory result (cidr_at blamed.now key.now (view object.now)) }
+    ensures { Gives is_out_of_memory result (cidr_at blamed.now key.now (view object.now)) }
 {
     let Field::Here(text) = field_str(object, key) else {
         return Err(invalid(alloc, blamed));
@@ -67,7 +67,7 @@ pub(crate) fn addr_if(
     key: &str,
     blamed: &str,
 ) -> Result<Option<Addr>, ResultError>
-    ensures { Gives is_want_of_memory result (addr_if_at blamed.now key.now (view object.now)) }
+    ensures { Gives is_out_of_memory result (addr_if_at blamed.now key.now (view object.now)) }
 {
     match field_str(object, key) {
         Field::Absent => Ok(None),
@@ -87,7 +87,7 @@ pub(crate) fn mac_if(
     key: &str,
     blamed: &str,
 ) -> Result<Option<Mac>, ResultError>
-    ensures { Gives is_want_of_memory result (mac_if_at blamed.now key.now (view object.now)) }
+    ensures { Gives is_out_of_memory result (mac_if_at blamed.now key.now (view object.now)) }
 {
     match field_str(object, key) {
         Field::Absent => Ok(None),
@@ -107,7 +107,7 @@ pub(crate) fn number_if(
     key: &str,
     blamed: &str,
 ) -> Result<Option<u32>, ResultError>
-    ensures { Gives is_want_of_memory result (number_if_at blamed.now key.now (view object.now)) }
+    ensures { Gives is_out_of_memory result (number_if_at blamed.now key.now (view object.now)) }
 {
     match field_u32(object, key) {
         Field::Absent => Ok(None),

@@ -1,4 +1,4 @@
-//! Results, errors and cached entries of the Container Network Interface, versions 1.1.0, 1.0.0 and 0.4.0.
+//! Results, errors and cached results of the Container Network Interface, versions 1.1.0, 1.0.0 and 0.4.0.
 //!
 //! What it promises above: the types carry every field that the runtime's verbs speak of, each is compared by its
 //! fields, and a copy equals what was copied. `to_value` and `error_value` are the specification's JSON, `read_result`

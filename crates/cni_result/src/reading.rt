@@ -5,7 +5,7 @@ ghost use Rattle.serde_json.specs.View.{view};
 ghost use Rattle.cni_json.specs.Json.{json_of};
 ghost use Rattle.cni_json.specs.Outcome.{Gives, GivesAs};
 ghost use Rattle.cni_result.specs.Reading.{version_at, is_on_one_of, are_on, indexes_at, result_at, read_or_refused, result_of_bytes};
-ghost use Rattle.cni_result.specs.Refusals.{is_want_of_memory};
+ghost use Rattle.cni_result.specs.Refusals.{is_out_of_memory};
 
 use crate::dns::read_dns;
 use crate::entries::{interfaces, ips, routes};
@@ -24,14 +24,14 @@ use std::alloc::Global;
 /// (`interface`). It takes time and memory in proportion to the bytes.
 #[tactic(auto, using(cni_json::proofs::Steps::steps), unfolding(crate::specs::Reading::result_of_bytes))]
 pub fn read_result(alloc: Global, bytes: &[u8]) -> Result<AddResult, ResultError>
-    ensures { Gives is_want_of_memory result (result_of_bytes bytes.now) }
+    ensures { Gives is_out_of_memory result (result_of_bytes bytes.now) }
 {
     let value = decode(alloc, bytes)?;
     result_of(alloc, &value)
 }
 
 fn decode(alloc: Global, bytes: &[u8]) -> Result<Value, ResultError>
-    ensures { GivesAs is_want_of_memory view result (read_or_refused (json_of bytes.now)) }
+    ensures { GivesAs is_out_of_memory view result (read_or_refused (json_of bytes.now)) }
 {
     match read(alloc, bytes) {
         Ok(value) => Ok(value),
@@ -43,7 +43,7 @@ fn decode(alloc: Global, bytes: &[u8]) -> Result<Value, ResultError>
 
 #[tactic(auto, using(cni_json::proofs::Steps::steps), unfolding(crate::specs::Reading::result_at))]
 fn result_of(alloc: Global, top: &Value) -> Result<AddResult, ResultError>
-    ensures { Gives is_want_of_memory result (result_at (view top.now)) }
+    ensures { Gives is_out_of_memory result (result_at (view top.now)) }
 {
     need_object(top, || invalid(alloc, "result"))?;
     let version = version(alloc, top)?;
@@ -63,7 +63,7 @@ fn result_of(alloc: Global, top: &Value) -> Result<AddResult, ResultError>
 
 #[tactic(auto, using(cni_json::proofs::Steps::steps), unfolding(crate::specs::Reading::version_at))]
 fn version(alloc: Global, top: &Value) -> Result<Version, ResultError>
-    ensures { Gives is_want_of_memory result (version_at (view top.now)) }
+    ensures { Gives is_out_of_memory result (version_at (view top.now)) }
 {
     match field_str(top, "cniVersion") {
         Field::Absent | Field::WrongKind => Err(version_refused(alloc, "")),
@@ -74,7 +74,7 @@ fn version(alloc: Global, top: &Value) -> Result<Version, ResultError>
 /// Each address is on an interface of the list, or on none.
 #[tactic(auto, using(cni_json::proofs::Steps::steps), unfolding(crate::specs::Reading::indexes_at))]
 fn indexes(alloc: Global, count: usize, ips: &[IpEntry]) -> Result<(), ResultError>
-    ensures { Gives is_want_of_memory result (indexes_at count ips.now) }
+    ensures { Gives is_out_of_memory result (indexes_at count ips.now) }
 {
     are_on(count, ips)
         .then_some(())

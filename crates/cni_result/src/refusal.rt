@@ -3,7 +3,7 @@
 ghost use Rattle.std.specs.Prelude.{◌≡◌};
 ghost use Rattle.std.proofs.Common.{rules};
 ghost use Rattle.cni_json.specs.Outcome.{TellsAs};
-ghost use Rattle.cni_result.specs.Refusals.{is_want_of_memory};
+ghost use Rattle.cni_result.specs.Refusals.{is_out_of_memory};
 ghost use Rattle.cni_result.specs.declared.refusal.ResultError.TheVariants as refusal;
 
 use cni_addr::{NoMemory, Text};
@@ -33,21 +33,21 @@ impl From<NoMemory> for ResultError {
 }
 
 impl Refusal for ResultError {
-    ghost is_want_of_memory = { is_want_of_memory };
+    ghost is_out_of_memory = { is_out_of_memory };
 
-    ghost tells_want_of_memory = { λ n e is. Prim.search rules };
+    ghost tells_out_of_memory = { λ n e is. Prim.search rules };
 }
 
 /// The refusal of a member.
 pub(crate) fn invalid(alloc: Global, key: &str) -> ResultError
-    ensures { TellsAs is_want_of_memory result (refusal.Invalid key.now) }
+    ensures { TellsAs is_out_of_memory result (refusal.Invalid key.now) }
 {
     Text::of(alloc, key).map_or_else(ResultError::from, |key| ResultError::Invalid { key })
 }
 
 /// The refusal of a version.
 pub(crate) fn version_refused(alloc: Global, found: &str) -> ResultError
-    ensures { TellsAs is_want_of_memory result (refusal.Version found.now) }
+    ensures { TellsAs is_out_of_memory result (refusal.Version found.now) }
 {
     Text::of(alloc, found).map_or_else(ResultError::from, |found| ResultError::Version { found })
 }

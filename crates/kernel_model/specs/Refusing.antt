@@ -15,7 +15,7 @@ module _ {K : Type 0} where
   abbrev pub is_numbered : Refusing K → Bool
   is_numbered k = nat_lt k.calls (2 ^ 64 - 1)
 
-  -- the call is refused, as the next one: its number is named, and it may want memory
+  -- the call is refused, as the next one: its number is named, and it may need memory
   abbrev pub refuses : Refusing K → Call → Bool
   refuses k call = (is_numbered k && list_any (λ n. n == k.calls + 1) k.refuse) && not (needs_no_memory call)
 

@@ -15,8 +15,8 @@ use std::marker::Model;
 
 /// A kernel over another one, for tests: it refuses the calls of some numbers memory, and hands the others on.
 ///
-/// Calls are numbered from 1 up to `u64::MAX`, those that never want memory among them. A call whose number is among
-/// the refused ones answers [`NoMemory`], and the inner kernel isn't asked; but not one that never wants memory
+/// Calls are numbered from 1 up to `u64::MAX`, those that never need memory among them. A call whose number is among
+/// the refused ones answers [`NoMemory`], and the inner kernel isn't asked; but not one that never needs memory
 /// ([`Call::needs_no_memory`]), which the inner kernel answers as it does every other call.
 #[derive(Drop)]
 pub struct RefusingKernel<K> {

@@ -2,7 +2,7 @@
 //!
 //! What it promises above: [`TableKernel`] keeps the whole contract of [`Kernel`](kernel_model::Kernel), so that each
 //! call gives the host and the reply of `apply` (`kernel_types/specs/Apply.antt`), as `kernel_model::ListKernel` does.
-//! A call takes all its memory before it changes anything, and the calls that never want memory take none.
+//! A call takes all its memory before it changes anything, and the calls that never need memory take none.
 //!
 //! Each list of the host is a table: rows at places in the order in which they came, an index of the places by the key
 //! that is distinct in a sound host, one by a second key, and for each attachment a trail of the places of its rows. Of

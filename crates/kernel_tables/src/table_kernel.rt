@@ -89,7 +89,7 @@ impl Model for TableKernel {
 }
 
 impl TableKernel {
-    /// The kernel that means this host, of as many steps as the host has objects. Want of memory alone is refused.
+    /// The kernel that means this host, of as many steps as the host has objects. The only error is out of memory.
     pub fn of_host(alloc: Global, host: Host) -> Result<TableKernel, NoMemory>
         requires { IsSound host }
         ensures { IfOk result (λ kernel. kernel ≡ host) }

@@ -2,7 +2,7 @@
 //!
 //! A [`Host`] is nine lists: eight of objects that carry an owner's [`Tag`], and the addresses that were leased last.
 //! What a [`Call`] does to a host, and its [`Reply`], is the definition `apply` in `specs/Apply.antt`, one equation a
-//! call. The plugins' crates make plans of calls; the crate `kernel_model` has a kernel that carries calls out.
+//! call. The plugins' crates make lists of calls; the crate `kernel_model` has a kernel that carries calls out.
 //!
 //! What it promises above, by the functions of [`laws`], over these definitions:
 //!

@@ -6,7 +6,7 @@ ghost use Rattle.serde_json.specs.View.{view};
 ghost use Rattle.serde_json.specs.Written.{has_float};
 ghost use Rattle.cni_json.specs.Outcome.{Gives};
 ghost use Rattle.net_conf.specs.Accepted as wanted;
-ghost use Rattle.net_conf.specs.Refusals.{is_want_of_memory};
+ghost use Rattle.net_conf.specs.Refusals.{is_out_of_memory};
 
 use crate::error::{ConfError, unsupported};
 use cni_json::{Value, member};
@@ -59,7 +59,7 @@ pub fn supported(
     accepted: Accepted,
 ) -> Result<(), ConfError>
     requires { has_float (view object.now) ≡ false }
-    ensures { Gives is_want_of_memory result (wanted.supported accepted key.now (view object.now)) }
+    ensures { Gives is_out_of_memory result (wanted.supported accepted key.now (view object.now)) }
 {
     match member(object, key) {
         None => Ok(()),
@@ -81,7 +81,7 @@ pub fn all_supported(
     rows: &[(&str, Accepted)],
 ) -> Result<(), ConfError>
     requires { has_float (view object.now) ≡ false }
-    ensures { Gives is_want_of_memory result (wanted.all_supported (wanted.rows_of rows.now) (view object.now)) }
+    ensures { Gives is_out_of_memory result (wanted.all_supported (wanted.rows_of rows.now) (view object.now)) }
 {
     for (key, accepted) in rows {
         supported(alloc, object, key, *accepted)?;

@@ -6,7 +6,7 @@ ghost use Rattle.serde_json.specs.Written.{has_float};
 ghost use Rattle.cni_json.specs.Outcome.{Gives};
 ghost use Rattle.net_conf.specs.Accepted as accepted;
 ghost use Rattle.net_conf.specs.Bridge as wanted;
-ghost use Rattle.net_conf.specs.Refusals.{is_want_of_memory};
+ghost use Rattle.net_conf.specs.Refusals.{is_out_of_memory};
 
 use crate::accepted::{Accepted, all_supported};
 use crate::bridge_modes::{BridgeMode, GatewayRole};
@@ -23,7 +23,7 @@ use std::alloc::Global;
 #[tactic(auto, using(cni_json::proofs::Steps::steps), unfolding(crate::specs::Bridge::bridge_at))]
 pub fn bridge(alloc: Global, object: &Value) -> Result<BridgeConf, ConfError>
     requires { has_float (view object.now) ≡ false }
-    ensures { Gives is_want_of_memory result (wanted.bridge_at (view object.now)) }
+    ensures { Gives is_out_of_memory result (wanted.bridge_at (view object.now)) }
 {
     bridge_supported(alloc, object)?;
     let bridge = bridge_name(alloc, object)?;
@@ -45,7 +45,7 @@ pub fn bridge(alloc: Global, object: &Value) -> Result<BridgeConf, ConfError>
 
 fn bridge_supported(alloc: Global, object: &Value) -> Result<(), ConfError>
     requires { has_float (view object.now) ≡ false }
-    ensures { Gives is_want_of_memory result (accepted.all_supported wanted.bridge_rows (view object.now)) }
+    ensures { Gives is_out_of_memory result (accepted.all_supported wanted.bridge_rows (view object.now)) }
 {
     all_supported(
         alloc,
@@ -65,7 +65,7 @@ fn bridge_supported(alloc: Global, object: &Value) -> Result<(), ConfError>
 
 #[tactic(auto, using(cni_json::proofs::Steps::steps), unfolding(crate::specs::Bridge::bridge_name_at))]
 fn bridge_name(alloc: Global, object: &Value) -> Result<Text, ConfError>
-    ensures { Gives is_want_of_memory result (wanted.bridge_name_at (view object.now)) }
+    ensures { Gives is_out_of_memory result (wanted.bridge_name_at (view object.now)) }
 {
     match field_str(object, "bridge") {
         Field::Absent => Ok(Text::of(alloc, "cni0")?),
@@ -76,7 +76,7 @@ fn bridge_name(alloc: Global, object: &Value) -> Result<Text, ConfError>
 
 #[tactic(auto, using(cni_json::proofs::Steps::steps), unfolding(crate::specs::Bridge::gateway_role_at))]
 fn gateway_role(alloc: Global, object: &Value) -> Result<GatewayRole, ConfError>
-    ensures { Gives is_want_of_memory result (wanted.gateway_role_at (view object.now)) }
+    ensures { Gives is_out_of_memory result (wanted.gateway_role_at (view object.now)) }
 {
     let is_gateway = flag(alloc, object, "isGateway", false)?;
     let is_default = flag(alloc, object, "isDefaultGateway", false)?;
@@ -95,7 +95,7 @@ fn role_of(is_gateway: bool, is_default: bool) -> GatewayRole
 
 #[tactic(auto, using(cni_json::proofs::Steps::steps), unfolding(crate::specs::Bridge::bridge_mode_at))]
 fn bridge_mode(alloc: Global, object: &Value) -> Result<BridgeMode, ConfError>
-    ensures { Gives is_want_of_memory result (wanted.bridge_mode_at (view object.now)) }
+    ensures { Gives is_out_of_memory result (wanted.bridge_mode_at (view object.now)) }
 {
     let hairpin = flag(alloc, object, "hairpinMode", false)?;
     let promisc = promisc(alloc, object)?;
@@ -104,14 +104,14 @@ fn bridge_mode(alloc: Global, object: &Value) -> Result<BridgeMode, ConfError>
 
 #[tactic(auto, unfolding(crate::specs::Bridge::promisc_at))]
 fn promisc(alloc: Global, object: &Value) -> Result<bool, ConfError>
-    ensures { Gives is_want_of_memory result (wanted.promisc_at (view object.now)) }
+    ensures { Gives is_out_of_memory result (wanted.promisc_at (view object.now)) }
 {
     flag(alloc, object, "promiscMode", false)
 }
 
 #[tactic(auto, using(cni_json::proofs::Steps::steps))]
 fn mode_of(alloc: Global, hairpin: bool, promisc: bool) -> Result<BridgeMode, ConfError>
-    ensures { Gives is_want_of_memory result (wanted.mode_of hairpin promisc) }
+    ensures { Gives is_out_of_memory result (wanted.mode_of hairpin promisc) }
 {
     match (hairpin, promisc) {
         (false, false) => Ok(BridgeMode::Plain),

@@ -5,7 +5,7 @@ ghost use Rattle.std.proofs.Common.{rules};
 ghost use Rattle.serde_json.specs.View.{view};
 ghost use Rattle.serde_json.specs.Written.{has_float, compact_text};
 ghost use Rattle.cni_json.specs.Outcome.{TellsAs};
-ghost use Rattle.net_conf.specs.Refusals.{is_want_of_memory};
+ghost use Rattle.net_conf.specs.Refusals.{is_out_of_memory};
 ghost use Rattle.net_conf.specs.declared.error.ConfError.TheVariants as refusal;
 
 use cni_addr::{NoMemory, Text};
@@ -13,7 +13,7 @@ use cni_json::{Refusal, Value};
 use std::alloc::Global;
 
 /// Why a network list is refused: the first cause in the order of its parts. They are reported with the codes 1, 2, 6
-/// and 7 of the CNI specification 1.1.0 (section 5, "Error"), in the order of the cases, and want of memory with 104,
+/// and 7 of the CNI specification 1.1.0 (section 5, "Error"), in the order of the cases, and out of memory with 104,
 /// which is this project's own.
 #[derive(PartialEq, Eq, Drop)]
 pub enum ConfError {
@@ -39,21 +39,21 @@ impl From<NoMemory> for ConfError {
 }
 
 impl Refusal for ConfError {
-    ghost is_want_of_memory = { is_want_of_memory };
+    ghost is_out_of_memory = { is_out_of_memory };
 
-    ghost tells_want_of_memory = { λ n e is. Prim.search rules };
+    ghost tells_out_of_memory = { λ n e is. Prim.search rules };
 }
 
 /// The refusal of a key or part.
 pub(crate) fn invalid(alloc: Global, why: &str) -> ConfError
-    ensures { TellsAs is_want_of_memory result (refusal.Invalid why.now) }
+    ensures { TellsAs is_out_of_memory result (refusal.Invalid why.now) }
 {
     Text::of(alloc, why).map_or_else(ConfError::from, |why| ConfError::Invalid { why })
 }
 
 /// The refusal of a version.
 pub(crate) fn version_refused(alloc: Global, found: &str) -> ConfError
-    ensures { TellsAs is_want_of_memory result (refusal.Version found.now) }
+    ensures { TellsAs is_out_of_memory result (refusal.Version found.now) }
 {
     Text::of(alloc, found).map_or_else(ConfError::from, |found| ConfError::Version { found })
 }
@@ -61,7 +61,7 @@ pub(crate) fn version_refused(alloc: Global, found: &str) -> ConfError
 /// The refusal of a key's value.
 pub(crate) fn unsupported(alloc: Global, key: &str, value: &Value) -> ConfError
     requires { has_float (view value.now) ≡ false }
-    ensures { TellsAs is_want_of_memory result (refusal.Unsupported key.now (compact_text (view value.now))) }
+    ensures { TellsAs is_out_of_memory result (refusal.Unsupported key.now (compact_text (view value.now))) }
 {
     key_and_value(alloc, key, value).unwrap_or_else(ConfError::from)
 }

@@ -6,7 +6,7 @@ ghost use Rattle.cni_addr.specs.declared.address.Addr.{Addr};
 ghost use Rattle.cni_json.specs.Outcome.{Gives};
 ghost use Rattle.net_conf.specs.Members as members;
 ghost use Rattle.net_conf.specs.Members.{IsTest};
-ghost use Rattle.net_conf.specs.Refusals.{is_want_of_memory};
+ghost use Rattle.net_conf.specs.Refusals.{is_out_of_memory};
 
 use crate::error::{ConfError, invalid};
 use cni_addr::{Addr, read_addr};
@@ -16,7 +16,7 @@ use std::alloc::Global;
 /// A truth value, or the default where it is absent.
 #[tactic(auto, unfolding(crate::specs::Members::flag_at))]
 pub fn flag(alloc: Global, object: &Value, key: &str, default: bool) -> Result<bool, ConfError>
-    ensures { Gives is_want_of_memory result (members.flag_at key.now default (view object.now)) }
+    ensures { Gives is_out_of_memory result (members.flag_at key.now default (view object.now)) }
 {
     flag_within(alloc, object, key, key, default)
 }
@@ -30,7 +30,7 @@ pub fn flag_within(
     key: &str,
     default: bool,
 ) -> Result<bool, ConfError>
-    ensures { Gives is_want_of_memory result (members.flag_within outer.now key.now default (view object.now)) }
+    ensures { Gives is_out_of_memory result (members.flag_within outer.now key.now default (view object.now)) }
 {
     match field_bool(object, key) {
         Field::Absent => Ok(default),
@@ -50,7 +50,7 @@ pub fn addr_if<P: Fn(&Addr) -> bool>(
 ) -> Result<Option<Addr>, ConfError>
     requires { P.IsAlwaysCallable passes }
     ensures { (test : Addr → Bool) → IsTest P.Fn passes test
-        → Gives is_want_of_memory result (members.addr_if_at blamed.now key.now test (view object.now)) }
+        → Gives is_out_of_memory result (members.addr_if_at blamed.now key.now test (view object.now)) }
 {
     match field_str(object, key) {
         Field::Absent => Ok(None),
@@ -76,7 +76,7 @@ pub const DEFAULT_MTU: u32 = 1500;
 /// The MTU that the object gives, in bytes. 0 stands for none, as does an absent one.
 #[tactic(auto, using(cni_json::proofs::Steps::steps), unfolding(crate::specs::Members::given_mtu_at))]
 pub fn given_mtu(alloc: Global, object: &Value) -> Result<Option<u32>, ConfError>
-    ensures { Gives is_want_of_memory result (members.given_mtu_at (view object.now)) }
+    ensures { Gives is_out_of_memory result (members.given_mtu_at (view object.now)) }
 {
     match field_u64(object, "mtu") {
         Field::Absent | Field::Here(0) => Ok(None),
@@ -88,7 +88,7 @@ pub fn given_mtu(alloc: Global, object: &Value) -> Result<Option<u32>, ConfError
 /// The MTU of links, in bytes, which is the default where none is given.
 #[tactic(auto, using(cni_json::proofs::Steps::steps), unfolding(crate::specs::Members::mtu_at))]
 pub fn mtu(alloc: Global, object: &Value) -> Result<u32, ConfError>
-    ensures { Gives is_want_of_memory result (members.mtu_at (view object.now)) }
+    ensures { Gives is_out_of_memory result (members.mtu_at (view object.now)) }
 {
     let given = given_mtu(alloc, object)?;
     Ok(given.unwrap_or(DEFAULT_MTU))

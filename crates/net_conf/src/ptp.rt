@@ -5,7 +5,7 @@ ghost use Rattle.serde_json.specs.View.{view};
 ghost use Rattle.serde_json.specs.Written.{has_float};
 ghost use Rattle.cni_json.specs.Outcome.{Gives};
 ghost use Rattle.net_conf.specs.Ptp as wanted;
-ghost use Rattle.net_conf.specs.Refusals.{is_want_of_memory};
+ghost use Rattle.net_conf.specs.Refusals.{is_out_of_memory};
 ghost use Rattle.net_conf.specs.declared.error.ConfError.TheVariants as refusal;
 
 use crate::error::{ConfError, invalid};
@@ -19,7 +19,7 @@ use std::alloc::Global;
 #[tactic(auto, using(cni_json::proofs::Steps::steps), unfolding(crate::specs::Ptp::ptp_at))]
 pub fn ptp(alloc: Global, object: &Value) -> Result<PtpConf, ConfError>
     requires { has_float (view object.now) ≡ false }
-    ensures { Gives is_want_of_memory result (wanted.ptp_at (view object.now)) }
+    ensures { Gives is_out_of_memory result (wanted.ptp_at (view object.now)) }
 {
     let ip_masq = flag(alloc, object, "ipMasq", false)?;
     let mtu = mtu(alloc, object)?;
@@ -35,7 +35,7 @@ pub fn ptp(alloc: Global, object: &Value) -> Result<PtpConf, ConfError>
 
 #[tactic(auto, using(cni_json::proofs::Steps::steps))]
 fn ipam_or_refused(alloc: Global, ipam: Option<HostLocalConf>) -> Result<HostLocalConf, ConfError>
-    ensures { Gives is_want_of_memory result (ok_or ipam (refusal.Invalid (codes "ipam"))) }
+    ensures { Gives is_out_of_memory result (ok_or ipam (refusal.Invalid (codes "ipam"))) }
 {
     ipam.ok_or_else(|| invalid(alloc, "ipam"))
 }

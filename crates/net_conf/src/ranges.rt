@@ -7,7 +7,7 @@ ghost use Rattle.cni_addr.specs.declared.address.Addr.{Addr};
 ghost use Rattle.cni_json.specs.Outcome.{Gives};
 ghost use Rattle.net_conf.specs.Members.{IsTest};
 ghost use Rattle.net_conf.specs.Ranges as ranges;
-ghost use Rattle.net_conf.specs.Refusals.{is_want_of_memory};
+ghost use Rattle.net_conf.specs.Refusals.{is_out_of_memory};
 
 use crate::error::{ConfError, invalid};
 use crate::members::addr_if;
@@ -18,7 +18,7 @@ use std::alloc::Global;
 /// The range that an object gives by `subnet`, `rangeStart`, `rangeEnd` and `gateway`.
 #[tactic(auto, using(cni_json::proofs::Steps::steps), unfolding(crate::specs::Ranges::range_at))]
 pub fn range(alloc: Global, object: &Value) -> Result<Range, ConfError>
-    ensures { Gives is_want_of_memory result (ranges.range_at (view object.now)) }
+    ensures { Gives is_out_of_memory result (ranges.range_at (view object.now)) }
 {
     let subnet = subnet(alloc, object)?;
     let first = first_host(&subnet);
@@ -54,7 +54,7 @@ pub fn range(alloc: Global, object: &Value) -> Result<Range, ConfError>
 
 #[tactic(auto, using(cni_json::proofs::Steps::steps), unfolding(crate::specs::Ranges::subnet_at))]
 fn subnet(alloc: Global, object: &Value) -> Result<Cidr, ConfError>
-    ensures read { Gives is_want_of_memory result (ranges.subnet_at (view object.now)) }
+    ensures read { Gives is_out_of_memory result (ranges.subnet_at (view object.now)) }
     ensures tested { IfOk result (λ subnet. ranges.is_subnet subnet ≡ true) }
 {
     let Field::Here(text) = field_str(object, "subnet") else {
@@ -123,7 +123,7 @@ fn addr_or<P: Fn(&Addr) -> bool>(
 ) -> Result<Addr, ConfError>
     requires { P.IsAlwaysCallable passes }
     ensures { (test : Addr → Bool) → IsTest P.Fn passes test
-        → Gives is_want_of_memory result (ranges.addr_or_at key.now default test (view object.now)) }
+        → Gives is_out_of_memory result (ranges.addr_or_at key.now default test (view object.now)) }
 {
     let given = addr_if(alloc, object, key, key, passes)?;
     Ok(given.unwrap_or(default))
@@ -131,7 +131,7 @@ fn addr_or<P: Fn(&Addr) -> bool>(
 
 #[tactic(auto, using(cni_json::proofs::Steps::steps), unfolding(crate::specs::Ranges::in_order))]
 fn in_order(alloc: Global, start: &Addr, end: &Addr) -> Result<(), ConfError>
-    ensures { Gives is_want_of_memory result (ranges.in_order start.now end.now) }
+    ensures { Gives is_out_of_memory result (ranges.in_order start.now end.now) }
 {
     (start.bits <= end.bits)
         .then_some(())

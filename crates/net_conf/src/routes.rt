@@ -4,7 +4,7 @@ ghost use Rattle.std.specs.Prelude.{codes};
 ghost use Rattle.serde_json.specs.View.{view};
 ghost use Rattle.cni_json.specs.Outcome.{Gives, TellsAs};
 ghost use Rattle.net_conf.specs.Routes as routes;
-ghost use Rattle.net_conf.specs.Refusals.{is_want_of_memory};
+ghost use Rattle.net_conf.specs.Refusals.{is_out_of_memory};
 ghost use Rattle.net_conf.specs.declared.error.ConfError.TheVariants as refusal;
 
 use crate::error::{ConfError, invalid};
@@ -17,7 +17,7 @@ use std::alloc::Global;
 /// The routes, none where there is no list of them.
 #[tactic(auto, using(cni_json::proofs::Steps::steps), unfolding(crate::specs::Routes::routes_at))]
 pub fn routes(alloc: Global, object: &Value) -> Result<Items<RouteEntry>, ConfError>
-    ensures { Gives is_want_of_memory result (routes.routes_at (view object.now)) }
+    ensures { Gives is_out_of_memory result (routes.routes_at (view object.now)) }
 {
     read_list_or(
         alloc,
@@ -30,7 +30,7 @@ pub fn routes(alloc: Global, object: &Value) -> Result<Items<RouteEntry>, ConfEr
 
 #[tactic(auto, using(cni_json::proofs::Steps::steps), unfolding(crate::specs::Routes::route_at))]
 fn route(alloc: Global, member: &Value) -> Result<RouteEntry, ConfError>
-    ensures { Gives is_want_of_memory result (routes.route_at (view member.now)) }
+    ensures { Gives is_out_of_memory result (routes.route_at (view member.now)) }
 {
     let dst = destination(alloc, member)?;
     let gw = hop(alloc, member, dst.addr.family)?;
@@ -39,7 +39,7 @@ fn route(alloc: Global, member: &Value) -> Result<RouteEntry, ConfError>
 
 #[tactic(auto, using(cni_json::proofs::Steps::steps), unfolding(crate::specs::Routes::destination_at))]
 fn destination(alloc: Global, member: &Value) -> Result<Cidr, ConfError>
-    ensures { Gives is_want_of_memory result (routes.destination_at (view member.now)) }
+    ensures { Gives is_out_of_memory result (routes.destination_at (view member.now)) }
 {
     let Field::Here(text) = field_str(member, "dst") else {
         return Err(wrong(alloc));
@@ -50,13 +50,13 @@ fn destination(alloc: Global, member: &Value) -> Result<Cidr, ConfError>
 }
 
 fn hop(alloc: Global, member: &Value, family: Family) -> Result<Option<Addr>, ConfError>
-    ensures { Gives is_want_of_memory result (routes.hop_at family (view member.now)) }
+    ensures { Gives is_out_of_memory result (routes.hop_at family (view member.now)) }
 {
     addr_if(alloc, member, "routes", "gw", |addr| addr.family == family)
 }
 
 fn wrong(alloc: Global) -> ConfError
-    ensures { TellsAs is_want_of_memory result (refusal.Invalid (codes "routes")) }
+    ensures { TellsAs is_out_of_memory result (refusal.Invalid (codes "routes")) }
 {
     invalid(alloc, "routes")
 }

@@ -6,7 +6,7 @@ ghost use Rattle.serde_json.specs.Data.{array};
 ghost use Rattle.serde_json.specs.Events.{items_len};
 ghost use Rattle.serde_json.specs.View.{view, items_view};
 ghost use Rattle.cni_json.specs.Outcome.{Gives, GivesAs};
-ghost use Rattle.net_conf.specs.Refusals.{is_want_of_memory};
+ghost use Rattle.net_conf.specs.Refusals.{is_out_of_memory};
 ghost use Rattle.net_conf.specs.Sets as wanted;
 
 use crate::apart::share_no_address;
@@ -20,7 +20,7 @@ use std::alloc::Global;
 /// The set that the object's own `subnet` gives, and then those of its `ranges`.
 #[tactic(auto, using(cni_json::proofs::Steps::steps))]
 pub fn sets(alloc: Global, object: &Value) -> Result<RangeSets, ConfError>
-    ensures { Gives is_want_of_memory result (wanted.sets_at (view object.now)) }
+    ensures { Gives is_out_of_memory result (wanted.sets_at (view object.now)) }
 {
     let sets = own_and_listed(alloc, object)?;
     Ok(RangeSets::of_items(sets))
@@ -28,7 +28,7 @@ pub fn sets(alloc: Global, object: &Value) -> Result<RangeSets, ConfError>
 
 #[tactic(auto, using(cni_json::proofs::Steps::steps), unfolding(crate::specs::Sets::sets_at))]
 fn own_and_listed(alloc: Global, object: &Value) -> Result<Items<RangeSet>, ConfError>
-    ensures { Gives is_want_of_memory result (wanted.sets_at (view object.now)) }
+    ensures { Gives is_out_of_memory result (wanted.sets_at (view object.now)) }
 {
     let listed = listed(alloc, object)?;
     let has_own = has_subnet(object);
@@ -41,7 +41,7 @@ fn own_and_listed(alloc: Global, object: &Value) -> Result<Items<RangeSet>, Conf
 
 #[tactic(auto, using(cni_json::proofs::Steps::steps), unfolding(crate::specs::Sets::listed_at))]
 fn listed<'a>(alloc: Global, object: &'a Value) -> Result<&'a [Value], ConfError>
-    ensures { GivesAs is_want_of_memory (λ list. items_view list.now) result
+    ensures { GivesAs is_out_of_memory (λ list. items_view list.now) result
         (wanted.listed_at (view object.entry.now)) }
 {
     match field_list(object, "ranges") {
@@ -59,7 +59,7 @@ fn has_subnet(object: &Value) -> bool
 
 #[tactic(auto, using(cni_json::proofs::Steps::steps, crate::proofs::ValueLemmas::tests))]
 fn well_formed(alloc: Global, has_own: bool, listed: &[Value]) -> Result<(), ConfError>
-    ensures { Gives is_want_of_memory result (wanted.well_formed has_own (items_view listed.now)) }
+    ensures { Gives is_out_of_memory result (wanted.well_formed has_own (items_view listed.now)) }
 {
     (is_set_count(has_own, listed) && all_set_forms(listed))
         .then_some(())
@@ -110,7 +110,7 @@ fn all_objects(ranges: &[Value]) -> bool
 
 #[tactic(auto, using(cni_json::proofs::Steps::steps))]
 fn own_sets(alloc: Global, has_own: bool, object: &Value) -> Result<Items<RangeSet>, ConfError>
-    ensures { Gives is_want_of_memory result (wanted.own_sets_of has_own (view object.now)) }
+    ensures { Gives is_out_of_memory result (wanted.own_sets_of has_own (view object.now)) }
 {
     let mut own = Items::new(alloc);
     if has_own {
@@ -124,7 +124,7 @@ fn own_sets(alloc: Global, has_own: bool, object: &Value) -> Result<Items<RangeS
 
 #[tactic(auto, using(cni_json::proofs::Steps::steps))]
 fn set(alloc: Global, member: &Value) -> Result<RangeSet, ConfError>
-    ensures { Gives is_want_of_memory result (wanted.set_of (view member.now)) }
+    ensures { Gives is_out_of_memory result (wanted.set_of (view member.now)) }
 {
     match member {
         Value::Array(list) => {
@@ -137,7 +137,7 @@ fn set(alloc: Global, member: &Value) -> Result<RangeSet, ConfError>
 
 #[tactic(auto, using(cni_json::proofs::Steps::steps))]
 fn separate(alloc: Global, sets: &[RangeSet]) -> Result<(), ConfError>
-    ensures { Gives is_want_of_memory result (wanted.separate sets.now) }
+    ensures { Gives is_out_of_memory result (wanted.separate sets.now) }
 {
     let mut ranges = ranges_of(alloc, sets)?;
     (share_no_address(&mut ranges) && all_of_one_family(sets))

@@ -3,7 +3,7 @@
 ghost use Rattle.std.specs.Prelude.{◌≡◌, ◌++◌, IfOk};
 ghost use Rattle.serde_json.specs.View.{view};
 ghost use Rattle.cni_json.specs.Outcome.{Gives};
-ghost use Rattle.net_conf.specs.Refusals.{is_want_of_memory};
+ghost use Rattle.net_conf.specs.Refusals.{is_out_of_memory};
 ghost use Rattle.net_conf.specs.Versions as wanted;
 
 use crate::error::{ConfError, invalid, version_refused};
@@ -16,7 +16,7 @@ use std::alloc::Global;
 /// names (CNI specification 1.1.0, section 1). Both keys count alike.
 #[tactic(auto, using(cni_json::proofs::Steps::steps), unfolding(crate::specs::Versions::version_at))]
 pub(crate) fn version(alloc: Global, top: &Value) -> Result<Version, ConfError>
-    ensures { Gives is_want_of_memory result (wanted.version_at (view top.now)) }
+    ensures { Gives is_out_of_memory result (wanted.version_at (view top.now)) }
 {
     let texts = version_texts(alloc, top)?;
     let newest = newest_named(texts.as_slice());
@@ -26,7 +26,7 @@ pub(crate) fn version(alloc: Global, top: &Value) -> Result<Version, ConfError>
 /// The text of `cniVersion`, if there is one, and then those of `cniVersions`.
 #[tactic(auto, using(cni_json::proofs::Steps::steps), unfolding(crate::specs::Versions::version_texts_at))]
 fn version_texts(alloc: Global, top: &Value) -> Result<Items<Text>, ConfError>
-    ensures { Gives is_want_of_memory result (wanted.version_texts_at (view top.now)) }
+    ensures { Gives is_out_of_memory result (wanted.version_texts_at (view top.now)) }
 {
     let single = single_version(alloc, top)?;
     let listed = listed_versions(alloc, top)?;
@@ -34,7 +34,7 @@ fn version_texts(alloc: Global, top: &Value) -> Result<Items<Text>, ConfError>
 }
 
 fn listed_versions(alloc: Global, top: &Value) -> Result<Items<Text>, ConfError>
-    ensures { Gives is_want_of_memory result (wanted.listed_versions_at (view top.now)) }
+    ensures { Gives is_out_of_memory result (wanted.listed_versions_at (view top.now)) }
 {
     read_words(alloc, top, "cniVersions", &|| invalid(alloc, "cniVersions"))
 }
@@ -50,7 +50,7 @@ fn joined(front: Items<Text>, back: Items<Text>) -> Result<Items<Text>, NoMemory
 
 #[tactic(auto, using(cni_json::proofs::Steps::steps), unfolding(crate::specs::Versions::single_version_at))]
 fn single_version(alloc: Global, top: &Value) -> Result<Items<Text>, ConfError>
-    ensures { Gives is_want_of_memory result (wanted.single_version_at (view top.now)) }
+    ensures { Gives is_out_of_memory result (wanted.single_version_at (view top.now)) }
 {
     match field_str(top, "cniVersion") {
         Field::Absent => Ok(Items::new(alloc)),

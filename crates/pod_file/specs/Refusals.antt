@@ -5,9 +5,9 @@ use Rattle.pod_file.specs.declared.error.PodError.TheVariants as refusal
 use Rattle.pod_file.specs.declared.place.CommandPlace.{CommandPlace}
 
 -- the refusal says that memory ran out
-abbrev pub is_want_of_memory : PodError → Bool
-is_want_of_memory refusal.NoMemory = true
-is_want_of_memory refused = false
+abbrev pub is_out_of_memory : PodError → Bool
+is_out_of_memory refusal.NoMemory = true
+is_out_of_memory refused = false
 
 -- the first fault is at this place
 abbrev pub wrong : {A : Type 0} → List ℕ → Result A PodError

@@ -4,7 +4,7 @@ ghost use Rattle.std.specs.Prelude.{◌≡◌, IfOk, IfErr};
 ghost use Rattle.std.proofs.Common.{rules};
 ghost use Rattle.cni_json.specs.Outcome.{TellsAs};
 ghost use Rattle.pod_file.specs.Refusals as paths;
-ghost use Rattle.pod_file.specs.Refusals.{is_want_of_memory, member_path, command_path, key_path};
+ghost use Rattle.pod_file.specs.Refusals.{is_out_of_memory, member_path, command_path, key_path};
 ghost use Rattle.pod_file.specs.declared.error.PodError.TheVariants as refusal;
 
 use crate::place::CommandPlace;
@@ -38,12 +38,12 @@ impl From<NoMemory> for PodError {
 }
 
 impl Refusal for PodError {
-    ghost is_want_of_memory = { is_want_of_memory };
+    ghost is_out_of_memory = { is_out_of_memory };
 
-    ghost tells_want_of_memory = { λ n e is. Prim.search rules };
+    ghost tells_out_of_memory = { λ n e is. Prim.search rules };
 }
 
-/// The refusal of the place whose text was made, or of the want of memory that kept it from being made.
+/// The refusal of the place whose text was made, or out of memory where none could be made.
 fn shape(path: Result<Text, NoMemory>) -> PodError
     ensures made { IfOk path (λ text. result ≡ refusal.Shape text) }
     ensures not_made { IfErr path (λ _. result ≡ refusal.NoMemory) }
@@ -53,7 +53,7 @@ fn shape(path: Result<Text, NoMemory>) -> PodError
 
 /// The refusal of the value at this place.
 pub(crate) fn wrong(alloc: Global, path: &str) -> PodError
-    ensures { TellsAs is_want_of_memory result (refusal.Shape path.now) }
+    ensures { TellsAs is_out_of_memory result (refusal.Shape path.now) }
 {
     shape(Text::of(alloc, path))
 }
@@ -61,7 +61,7 @@ pub(crate) fn wrong(alloc: Global, path: &str) -> PodError
 /// The refusal of a member of the list at this place.
 #[tactic(auto, unfolding(crate::specs::Refusals::member_path))]
 pub(crate) fn wrong_member(alloc: Global, list: &str, index: usize) -> PodError
-    ensures { TellsAs is_want_of_memory result (refusal.Shape (member_path list.now index)) }
+    ensures { TellsAs is_out_of_memory result (refusal.Shape (member_path list.now index)) }
 {
     shape(member_text(alloc, list, index))
 }
@@ -69,7 +69,7 @@ pub(crate) fn wrong_member(alloc: Global, list: &str, index: usize) -> PodError
 /// The refusal of a command.
 #[tactic(auto, unfolding(crate::specs::Refusals::command_path))]
 pub(crate) fn wrong_command(alloc: Global, place: CommandPlace) -> PodError
-    ensures { TellsAs is_want_of_memory result (refusal.Shape (command_path place)) }
+    ensures { TellsAs is_out_of_memory result (refusal.Shape (command_path place)) }
 {
     shape(command_text(alloc, place))
 }
@@ -77,7 +77,7 @@ pub(crate) fn wrong_command(alloc: Global, place: CommandPlace) -> PodError
 /// The refusal of a command's key.
 #[tactic(auto, unfolding(crate::specs::Refusals::key_path))]
 pub(crate) fn wrong_key(alloc: Global, place: CommandPlace, key: &str) -> PodError
-    ensures { TellsAs is_want_of_memory result (refusal.Shape (key_path place key.now)) }
+    ensures { TellsAs is_out_of_memory result (refusal.Shape (key_path place key.now)) }
 {
     shape(key_text(alloc, place, key))
 }

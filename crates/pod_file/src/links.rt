@@ -5,7 +5,7 @@ ghost use Rattle.serde_json.specs.View.{view, items_view};
 ghost use Rattle.cni_json.specs.Each.{each_after};
 ghost use Rattle.cni_json.specs.Outcome.{Gives, TellsAs};
 ghost use Rattle.pod_file.specs.Links as wanted;
-ghost use Rattle.pod_file.specs.Refusals.{is_want_of_memory, member_path};
+ghost use Rattle.pod_file.specs.Refusals.{is_out_of_memory, member_path};
 ghost use Rattle.pod_file.specs.declared.error.PodError.TheVariants as refusal;
 
 use crate::error::{PodError, wrong, wrong_member};
@@ -23,7 +23,7 @@ const KINDS: [LinkKind; 2] = [LinkKind::Device, LinkKind::Bridge];
 /// The links, none where there is no list of them.
 #[tactic(auto, using(cni_json::proofs::Steps::steps), unfolding(crate::specs::Links::listed_at, crate::specs::Links::links_at))]
 pub(crate) fn links(alloc: Global, names: &Names, opening: &Value) -> Result<Items<Link>, PodError>
-    ensures { Gives is_want_of_memory result (wanted.links_at names.now (view opening.now)) }
+    ensures { Gives is_out_of_memory result (wanted.links_at names.now (view opening.now)) }
 {
     match field_list(opening, "links") {
         Field::Absent => Ok(Items::new(alloc)),
@@ -34,7 +34,7 @@ pub(crate) fn links(alloc: Global, names: &Names, opening: &Value) -> Result<Ite
 
 #[tactic(auto, using(cni_json::proofs::Steps::steps))]
 fn all_links(alloc: Global, names: &Names, list: &[Value]) -> Result<Items<Link>, PodError>
-    ensures { Gives is_want_of_memory result
+    ensures { Gives is_out_of_memory result
         (each_after (wanted.next_link names.now) [] (items_view list.now)) }
 {
     let mut links = PlacedLinks::new(alloc);
@@ -51,7 +51,7 @@ fn next_link(
     before: &PlacedLinks,
     member: &Value,
 ) -> Result<Link, PodError>
-    ensures { Gives is_want_of_memory result (wanted.next_link names.now before.now (view member.now)) }
+    ensures { Gives is_out_of_memory result (wanted.next_link names.now before.now (view member.now)) }
 {
     link(alloc, names, before, before.as_slice().len(), member)
 }
@@ -64,7 +64,7 @@ fn link(
     index: usize,
     member: &Value,
 ) -> Result<Link, PodError>
-    ensures { Gives is_want_of_memory result (wanted.link_at names.now before.now index (view member.now)) }
+    ensures { Gives is_out_of_memory result (wanted.link_at names.now before.now index (view member.now)) }
 {
     need_object(member, || wrong_link(alloc, index))?;
     let name = name(alloc, index, member)?;
@@ -87,7 +87,7 @@ fn outside_link(ns: Text, name: Text, kind: LinkKind, mtu: u32) -> Link
 
 #[tactic(auto, using(cni_json::proofs::Steps::steps), unfolding(crate::specs::Links::name_at))]
 fn name(alloc: Global, index: usize, member: &Value) -> Result<Text, PodError>
-    ensures { Gives is_want_of_memory result (wanted.name_at index (view member.now)) }
+    ensures { Gives is_out_of_memory result (wanted.name_at index (view member.now)) }
 {
     match field_str(member, "name") {
         Field::Here(name) if is_interface_name(name) => Ok(Text::of(alloc, name)?),
@@ -97,7 +97,7 @@ fn name(alloc: Global, index: usize, member: &Value) -> Result<Text, PodError>
 
 #[tactic(auto, using(cni_json::proofs::Steps::steps), unfolding(crate::specs::Links::kind_at))]
 fn kind(alloc: Global, index: usize, member: &Value) -> Result<LinkKind, PodError>
-    ensures { Gives is_want_of_memory result (wanted.kind_at index (view member.now)) }
+    ensures { Gives is_out_of_memory result (wanted.kind_at index (view member.now)) }
 {
     match field_str(member, "kind") {
         Field::Absent | Field::WrongKind => Err(wrong_link(alloc, index)),
@@ -116,7 +116,7 @@ fn kind_named(text: &str) -> Option<LinkKind>
 
 #[tactic(auto, using(cni_json::proofs::Steps::steps), unfolding(crate::specs::Links::ns_at))]
 fn ns(alloc: Global, names: &Names, index: usize, member: &Value) -> Result<Text, PodError>
-    ensures { Gives is_want_of_memory result (wanted.ns_at names.now index (view member.now)) }
+    ensures { Gives is_out_of_memory result (wanted.ns_at names.now index (view member.now)) }
 {
     match field_str(member, "ns") {
         Field::Absent => Ok(Text::of(alloc, "")?),
@@ -127,7 +127,7 @@ fn ns(alloc: Global, names: &Names, index: usize, member: &Value) -> Result<Text
 
 #[tactic(auto, using(cni_json::proofs::Steps::steps))]
 fn place_named(alloc: Global, names: &Names, index: usize, ns: &str) -> Result<Text, PodError>
-    ensures { Gives is_want_of_memory result (wanted.place_named names.now index ns.now) }
+    ensures { Gives is_out_of_memory result (wanted.place_named names.now index ns.now) }
 {
     let ns = Text::of(alloc, ns)?;
     if is_place(names, &ns) {
@@ -146,7 +146,7 @@ fn is_place(names: &Names, ns: &Text) -> bool
 
 #[tactic(auto, using(cni_json::proofs::Steps::steps), unfolding(crate::specs::Links::mtu_at))]
 fn mtu(alloc: Global, index: usize, member: &Value) -> Result<u32, PodError>
-    ensures { Gives is_want_of_memory result (wanted.mtu_at index (view member.now)) }
+    ensures { Gives is_out_of_memory result (wanted.mtu_at index (view member.now)) }
 {
     match field_u64(member, "mtu") {
         Field::Absent => Ok(DEFAULT_MTU),
@@ -162,7 +162,7 @@ fn not_taken(
     index: usize,
     place: &(Text, Text),
 ) -> Result<(), PodError>
-    ensures { Gives is_want_of_memory result (wanted.not_taken before.now index place.now.0 place.now.1) }
+    ensures { Gives is_out_of_memory result (wanted.not_taken before.now index place.now.0 place.now.1) }
 {
     (!before.has_at(place))
         .then_some(())
@@ -170,7 +170,7 @@ fn not_taken(
 }
 
 fn wrong_link(alloc: Global, index: usize) -> PodError
-    ensures { TellsAs is_want_of_memory result (refusal.Shape (member_path (codes "opening.links") index)) }
+    ensures { TellsAs is_out_of_memory result (refusal.Shape (member_path (codes "opening.links") index)) }
 {
     wrong_member(alloc, "opening.links", index)
 }

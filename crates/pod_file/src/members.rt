@@ -8,7 +8,7 @@ ghost use Rattle.cni_json.specs.Fields.{object_or};
 ghost use Rattle.cni_json.specs.Outcome.{Gives};
 ghost use Rattle.cni_json.specs.Readers.{IsReader};
 ghost use Rattle.pod_file.specs.Members as wanted;
-ghost use Rattle.pod_file.specs.Refusals.{is_want_of_memory, wrong_key};
+ghost use Rattle.pod_file.specs.Refusals.{is_out_of_memory, wrong_key};
 ghost use Rattle.pod_file.specs.declared.error.PodError.{PodError};
 
 use crate::command::{RawMapping, ValidAtt};
@@ -26,7 +26,7 @@ pub(crate) fn text(
     default: &str,
     command: &Value,
 ) -> Result<Text, PodError>
-    ensures { Gives is_want_of_memory result (wanted.text_at place key.now default.now (view command.now)) }
+    ensures { Gives is_out_of_memory result (wanted.text_at place key.now default.now (view command.now)) }
 {
     inner_text(alloc, place, key, key, default, command)
 }
@@ -41,7 +41,7 @@ fn inner_text(
     default: &str,
     object: &Value,
 ) -> Result<Text, PodError>
-    ensures { Gives is_want_of_memory result
+    ensures { Gives is_out_of_memory result
         (wanted.inner_text_at place outer.now key.now default.now (view object.now)) }
 {
     match field_str(object, key) {
@@ -60,7 +60,7 @@ pub(crate) fn needed_text(
     key: &str,
     object: &Value,
 ) -> Result<Text, PodError>
-    ensures { Gives is_want_of_memory result (wanted.needed_text_at place outer.now key.now (view object.now)) }
+    ensures { Gives is_out_of_memory result (wanted.needed_text_at place outer.now key.now (view object.now)) }
 {
     match field_str(object, key) {
         Field::Absent | Field::WrongKind => Err(wrong_key(alloc, place, outer)),
@@ -78,8 +78,8 @@ pub(crate) fn list<T: Drop, R: Fn(&Value) -> Result<T, PodError>>(
     read: R,
 ) -> Result<Items<T>, PodError>
     requires { R.IsAlwaysCallable read }
-    ensures { (read_as : Data → Result T PodError) → IsReader is_want_of_memory R.Fn read read_as
-        → Gives is_want_of_memory result (wanted.list_at place key.now read_as (view command.now)) }
+    ensures { (read_as : Data → Result T PodError) → IsReader is_out_of_memory R.Fn read read_as
+        → Gives is_out_of_memory result (wanted.list_at place key.now read_as (view command.now)) }
 {
     read_list_or(alloc, command, key, || wrong_key(alloc, place, key), read)
 }
@@ -91,7 +91,7 @@ pub(crate) fn mappings(
     place: CommandPlace,
     command: &Value,
 ) -> Result<Items<RawMapping>, PodError>
-    ensures { Gives is_want_of_memory result (wanted.mappings_at place (view command.now)) }
+    ensures { Gives is_out_of_memory result (wanted.mappings_at place (view command.now)) }
 {
     list(
         alloc,
@@ -104,7 +104,7 @@ pub(crate) fn mappings(
 
 #[tactic(auto, using(cni_json::proofs::Steps::steps), unfolding(crate::specs::Members::mapping_at))]
 fn mapping(alloc: Global, place: CommandPlace, member: &Value) -> Result<RawMapping, PodError>
-    ensures { Gives is_want_of_memory result (wanted.mapping_at place (view member.now)) }
+    ensures { Gives is_out_of_memory result (wanted.mapping_at place (view member.now)) }
 {
     need_object_in(alloc, place, "portMappings", member)?;
     let host_port = port(alloc, place, "hostPort", member)?;
@@ -126,14 +126,14 @@ fn need_object_in(
     outer: &str,
     member: &Value,
 ) -> Result<(), PodError>
-    ensures { Gives is_want_of_memory result (object_or (wrong_key place outer.now) (view member.now)) }
+    ensures { Gives is_out_of_memory result (object_or (wrong_key place outer.now) (view member.now)) }
 {
     need_object(member, || wrong_key(alloc, place, outer))
 }
 
 #[tactic(auto, using(cni_json::proofs::Steps::steps), unfolding(crate::specs::Members::port_at))]
 fn port(alloc: Global, place: CommandPlace, key: &str, mapping: &Value) -> Result<u64, PodError>
-    ensures { Gives is_want_of_memory result (wanted.port_at place key.now (view mapping.now)) }
+    ensures { Gives is_out_of_memory result (wanted.port_at place key.now (view mapping.now)) }
 {
     match field_u64(mapping, key) {
         Field::Absent => Ok(0),
@@ -149,7 +149,7 @@ fn mapping_text(
     key: &str,
     mapping: &Value,
 ) -> Result<Text, PodError>
-    ensures { Gives is_want_of_memory result (wanted.mapping_text_at place key.now (view mapping.now)) }
+    ensures { Gives is_out_of_memory result (wanted.mapping_text_at place key.now (view mapping.now)) }
 {
     inner_text(alloc, place, "portMappings", key, "", mapping)
 }
@@ -161,7 +161,7 @@ pub(crate) fn valid_attachments(
     place: CommandPlace,
     command: &Value,
 ) -> Result<Items<ValidAtt>, PodError>
-    ensures { Gives is_want_of_memory result (wanted.valid_at place (view command.now)) }
+    ensures { Gives is_out_of_memory result (wanted.valid_at place (view command.now)) }
 {
     list(
         alloc,
@@ -178,7 +178,7 @@ fn valid_attachment(
     place: CommandPlace,
     member: &Value,
 ) -> Result<ValidAtt, PodError>
-    ensures { Gives is_want_of_memory result (wanted.valid_attachment_at place (view member.now)) }
+    ensures { Gives is_out_of_memory result (wanted.valid_attachment_at place (view member.now)) }
 {
     let container = needed_text(alloc, place, "valid", "containerID", member)?;
     let ifname = needed_text(alloc, place, "valid", "ifname", member)?;

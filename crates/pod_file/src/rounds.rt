@@ -4,7 +4,7 @@ ghost use Rattle.std.specs.Prelude.{◌≡◌, ◌+◌, ◌≤◌, length, true,
 ghost use Rattle.std.specs.List.{list_any};
 ghost use Rattle.serde_json.specs.View.{view};
 ghost use Rattle.cni_json.specs.Outcome.{Gives};
-ghost use Rattle.pod_file.specs.Refusals.{is_want_of_memory};
+ghost use Rattle.pod_file.specs.Refusals.{is_out_of_memory};
 ghost use Rattle.pod_file.specs.Rounds as wanted;
 
 use crate::command::Command;
@@ -21,7 +21,7 @@ const LIMIT: usize = 65_536;
 /// The rounds, whose commands have no numbers yet.
 #[tactic(auto, using(cni_json::proofs::Steps::steps), unfolding(crate::specs::Rounds::rounds_at))]
 pub(crate) fn rounds(alloc: Global, top: &Value) -> Result<Items<Items<Command>>, PodError>
-    ensures { Gives is_want_of_memory result (wanted.rounds_at (view top.now)) }
+    ensures { Gives is_out_of_memory result (wanted.rounds_at (view top.now)) }
 {
     match field_list(top, "rounds") {
         Field::Here(list) => {
@@ -33,7 +33,7 @@ pub(crate) fn rounds(alloc: Global, top: &Value) -> Result<Items<Items<Command>>
 
 #[tactic(auto, using(cni_json::proofs::Steps::steps))]
 fn round(alloc: Global, index: usize, member: &Value) -> Result<Items<Command>, PodError>
-    ensures { Gives is_want_of_memory result (wanted.round_at index (view member.now)) }
+    ensures { Gives is_out_of_memory result (wanted.round_at index (view member.now)) }
 {
     match member {
         Value::Array(list) => {
@@ -48,7 +48,7 @@ fn round(alloc: Global, index: usize, member: &Value) -> Result<Items<Command>, 
 }
 
 fn command(alloc: Global, round: usize, index: usize, member: &Value) -> Result<Command, PodError>
-    ensures { Gives is_want_of_memory result (wanted.command_in round index (view member.now)) }
+    ensures { Gives is_out_of_memory result (wanted.command_in round index (view member.now)) }
 {
     let place = CommandPlace {
         round,

@@ -1,4 +1,4 @@
-//! The workers of a round with all that they take, so that no memory is wanted once they are started.
+//! The workers of a round with all that they take, so that no memory is needed once they are started.
 
 ghost use Rattle.std.specs.Prelude.{◌≡◌, ◌<◌, ◌≤◌, [], length, sum, IfSome, vec_capacity};
 

@@ -33,7 +33,7 @@ pub struct Rounded<K: Kernel> {
 /// step. What is left open when all workers are done is stepped here in file order. A gate that holds a worker for ever
 /// holds this call for ever.
 ///
-/// An error is want of memory alone, before any worker is started. No clause says that memory is wanting then, so a
+/// The only error is out of memory, before any worker is started. No clause says that memory ran out then, so a
 /// body that always hands the book back would meet them all; that the round is done where memory is ample is tested.
 pub fn round_threads<R: Threads + Wait + Sync, K: Kernel + Send + Drop, G: Gate>(
     rt: &R,

@@ -54,7 +54,7 @@ abbrev pub Reports : SinkSeen → List ℕ → ℕ → ℕ → Type 0
 Reports sink bytes status result = ((result ≡ status) × Wrote sink bytes) ⊎
     ((result ≡ 5) × HasWriteFault sink × WrotePrefix sink bytes)
 
--- why there is no plan was written with this status; want of memory writes nothing
+-- why there is no plan was written with this status; out of memory nothing is written
 abbrev pub ReportsNoPlan : SinkSeen → NoPlan → ℕ → Type 0
 ReportsNoPlan sink Usage result = Reports sink usage_line 2 result
 ReportsNoPlan sink (Line text) result = Reports sink text.items 3 result

@@ -30,7 +30,7 @@ Judged A = Result A (List ℕ)
 abbrev pub limit : ℕ
 limit = 16777216
 
--- What is printed of a file that isn't given. (`file_of` never answers want of memory: that line is printed of no
+-- What is printed of a file that isn't given. (`file_of` never answers out of memory: that line is printed of no
 -- file.)
 abbrev pub fault_line : FileFault → List ℕ → List ℕ
 fault_line fault.Missing file = word_line (codes "missing") file

@@ -17,7 +17,7 @@ pub type NodeKernel = TableKernel;
 
 /// A kernel that may begin with any sound host.
 pub trait FromHost: Kernel {
-    /// The kernel that means this host. Want of memory alone is refused.
+    /// The kernel that means this host. The only error is out of memory.
     fn from_host(alloc: Global, host: Host) -> Result<Self, NoMemory>
         requires { IsSound host }
         ensures { IfOk result (λ kernel. Self.Kernel.host kernel ≡ host) };

@@ -31,7 +31,7 @@ pub(crate) fn generated_plans_are_well_formed()
 }
 
 /// Where the files are told or none is named, and neither count of faults rose, the status of a run is one of what its
-/// words and files come to, or 6, want of memory.
+/// words and files come to, or 6, out of memory.
 pub fn an_undisturbed_status_is_of_its_verdict()
     ensures { EachStatusIsOfItsVerdict }
 {}

@@ -6,9 +6,9 @@
 //! a prefix of it; or memory ran out outside the commands, and nothing was written. What is reported is the text of a
 //! book, or one line: that the words aren't taken, what is refused, or which read failed. Where the files are told, the
 //! book is of the plan that the definition `verdict_of` (`specs/Verdict.antt`) makes of words and files; where pods are
-//! generated, no file is read, and it is of the generator's plan whatever the files. The book has the
-//! guarantee `IsGuaranteed` of `pod_laws`, whatever the threads. Where one thread makes the rounds, the book's commands
-//! go in the order of the file, and words and files determine what is written and the status, want of memory and faults
+//! generated, no file is read, and it is of the generator's plan whatever the files. The book has the guarantee
+//! `IsGuaranteed` of `pod_laws`, whatever the threads. Where one thread makes the rounds, the book's commands go in the
+//! order of the file, and words and files determine what is written and the status, running out of memory and faults
 //! aside (`IsDetermined`).
 //!
 //! ```text
