@@ -1,1 +1,4 @@
-pub mod Shares
+pub mod BridgeLaws
+pub mod PtpLaws
+mod Shares
+mod VethLemmas

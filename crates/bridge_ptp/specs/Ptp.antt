@@ -1,5 +1,5 @@
--- The plan of the `ptp` plugin: a veth pair with routes on both ends and no bridge.
-use Rattle.std.specs.Prelude.{ℕ, Bool, false, List, [], ◌∷◌, ◌++◌, map, flat_map, filter_map, Option, Some, None}
+-- The `ptp` plugin: a veth pair with routes on both ends and no bridge.
+use Rattle.std.specs.Prelude.{ℕ, ◌+◌, ◌*◌, Bool, false, List, [], ◌∷◌, ◌++◌, length, map, flat_map, filter_map, Option, Some, None}
 use Rattle.cni_addr.specs.Network.{whole}
 use Rattle.cni_addr.specs.declared.address.Addr.{Addr}
 use Rattle.net_conf.specs.declared.first.PtpConf.{PtpConf}
@@ -12,10 +12,11 @@ use Rattle.kernel_types.specs.declared.call.Kind.{Kind}
 use Rattle.kernel_types.specs.declared.call.Call.{Call}
 use Rattle.kernel_types.specs.declared.call.Call.TheVariants.{AddrAdd, RouteAdd, RuleAppend}
 use Rattle.cni_addr.specs.Lists.{each_key_once}
+use Rattle.plan_words.specs.Plugins.{FirstPlugin}
 use Rattle.plan_words.specs.Shapes.{host_key, address_at, route_at, address_on, route_by, route_on, masquerade_rules, forward_calls}
-use Rattle.plan_words.specs.Share.{Share, no_objects}
 use Rattle.host_local.specs.Kinds.{interface_kinds}
-use Rattle.bridge_ptp.specs.Veth.{veth_share, veth_pair}
+use Rattle.bridge_ptp.specs.Results.{ptp_result_of}
+use Rattle.bridge_ptp.specs.Veth.{veth_links, veth_pair}
 -- an address or a route, in the order in which they are asked for
 pub use Rattle.bridge_ptp.specs.declared.ptp.AddressOrRoute.{AddressOrRoute}
 pub use Rattle.bridge_ptp.specs.declared.ptp.AddressOrRoute.TheVariants.{Address, Route}
@@ -59,16 +60,6 @@ abbrev pub ptp_objects : PtpConf → Att → List ℕ → List Given → List Ad
 ptp_objects conf att netns given = each_key_once same_key
     (flat_map (ptp_objects_for att netns) given ++ map (λ r. Route (route_on att netns given r)) conf.ipam.routes)
 
-abbrev pub ptp_share_before : PtpConf → Att → List ℕ → Share
-ptp_share_before conf att netns = veth_share att netns None conf.mtu false
-
-abbrev pub ptp_share_after : PtpConf → Att → List ℕ → List Given → Share
-ptp_share_after conf att netns given = record no_objects {
-  addresses = filter_map address_in (ptp_objects conf att netns given);
-  routes = filter_map route_in (ptp_objects conf att netns given);
-  rules = masquerade_rules conf.ip_masq att given;
-}
-
 abbrev pub ptp_calls_before : PtpConf → Att → List ℕ → List Call
 ptp_calls_before conf att netns = veth_pair att netns None conf.mtu false ∷ []
 
@@ -79,3 +70,23 @@ ptp_calls_after conf att netns given = map call_for (ptp_objects conf att netns 
 -- the kinds of objects that DEL takes back
 abbrev pub ptp_kinds_of : PtpConf → List Kind
 ptp_kinds_of conf = interface_kinds conf.ip_masq (Some conf.ipam)
+
+-- ---- the plugin
+
+-- After the leases come at most: on both ends two addresses and three routes a leased address, the configured routes,
+-- a setting a family, and two rules an address.
+abbrev pub ptp_plugin : PtpConf → FirstPlugin
+ptp_plugin conf = record {
+  ipam = Some conf.ipam;
+  calls_before = λ att netns. ptp_calls_before conf att netns;
+  links = λ att netns. veth_links att netns None conf.mtu false;
+  calls_after = λ att netns given. ptp_calls_after conf att netns given;
+  addresses = λ att netns given. filter_map address_in (ptp_objects conf att netns given);
+  routes = λ att netns given. filter_map route_in (ptp_objects conf att netns given);
+  rules = λ att given. masquerade_rules conf.ip_masq att given;
+  result = λ att netns ipam. ptp_result_of conf att netns ipam;
+  kinds = ptp_kinds_of conf;
+  bridge = None;
+  master = None;
+  most_after = λ leases. 5 * leases + length conf.ipam.routes + 2 + 2 * leases;
+}

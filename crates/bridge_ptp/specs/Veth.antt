@@ -1,16 +1,14 @@
 -- The veth pair between a container and the host.
 use Rattle.std.specs.Prelude.{ℕ, Bool, List, [], ◌∷◌, Option}
 use Rattle.kernel_types.specs.declared.object.Att.{Att}
+use Rattle.kernel_types.specs.declared.object.Link.{Link}
 use Rattle.kernel_types.specs.declared.call.Call.{Call}
 use Rattle.kernel_types.specs.declared.call.Call.TheVariants.{VethAdd}
 use Rattle.plan_words.specs.Shapes.{host_end, inner_end}
-use Rattle.plan_words.specs.Share.{Share, no_objects}
 
 -- both ends, the host's under this master
-abbrev pub veth_share : Att → List ℕ → Option (List ℕ) → ℕ → Bool → Share
-veth_share att netns master mtu hairpin = record no_objects {
-  links = host_end att netns master mtu hairpin ∷ inner_end att netns mtu ∷ [];
-}
+abbrev pub veth_links : Att → List ℕ → Option (List ℕ) → ℕ → Bool → List Link
+veth_links att netns master mtu hairpin = host_end att netns master mtu hairpin ∷ inner_end att netns mtu ∷ []
 
 -- the call that makes them
 abbrev pub veth_pair : Att → List ℕ → Option (List ℕ) → ℕ → Bool → Call

@@ -85,7 +85,7 @@ before-leases_none : (list : NetList) (c : Command) → list_all leases_none (be
 before-leases_none list c = all-leases_none (att_of c) (before_of list c) (own-before list.first (att_of c) c.netns)
 
 back-leases_none : (list : NetList) (c : Command) (given : List Addr) → list_all leases_none (back_of list c given) ≡ true
-back-leases_none list c given = all-leases_none (att_of c) (back_of list c given) (own-back list (att_of c) c.netns (mappings_of list c) given).all
+back-leases_none list c given = all-leases_none (att_of c) (back_of list c given) (own-back list (att_of c) c.netns (mappings_of list c) given)
 
 -- ---- a run, from its end to its start
 

@@ -1,5 +1,5 @@
 -- Which phases are over, and how they end.
-use Rattle.std.proofs.Common.{◌≡◌, ℕ, lit<, ◌<◌, ◌≤◌, List, [], ◌∷◌, ◌++◌, length, drop, refl, sym, ap, subst, arith, not, Option, Some, None, inl, inr}
+use Rattle.std.proofs.Common.{◌≡◌, ℕ, ◌<◌, ◌≤◌, List, [], ◌∷◌, ◌++◌, length, drop, refl, sym, ap, ◌∙◌, subst, arith, not, Option, Some, None, inl, inr}
 use Rattle.std.proofs.lemmas.List.{length-append}
 use Rattle.std.specs.Prelude.{◌⊎◌, Bool, true, false, option_map, MatchBool}
 use Rattle.std.specs.Bool.{FalseIff}
@@ -7,7 +7,6 @@ use Rattle.cni_addr.specs.declared.address.Addr.{Addr}
 use Rattle.cni_result.specs.declared.cached.Cached.{Cached}
 use Rattle.cni_result.specs.declared.result.AddResult.{AddResult}
 use Rattle.net_conf.specs.declared.first.First.{First}
-use Rattle.net_conf.specs.declared.first.First.TheVariants as firsts
 use Rattle.net_conf.specs.declared.list.NetList.{NetList}
 use Rattle.pod_file.specs.declared.command.Command.{Command}
 use Rattle.kernel_types.specs.declared.object.Att.{Att}
@@ -15,6 +14,10 @@ use Rattle.kernel_types.specs.declared.call.Kind.{Kind}
 use Rattle.kernel_types.specs.declared.call.Call.{Call}
 use Rattle.kernel_types.specs.declared.call.Call.TheVariants.{CachePut}
 use Rattle.kernel_types.specs.declared.call.Reply.{Reply}
+use Rattle.plan_words.specs.PluginCalls.{has_inner}
+use Rattle.plan_words.specs.Plugins.{added_before}
+use Rattle.plan_words.specs.Share.{Share, no_objects, share_after_calls}
+use Rattle.cni_verbs.specs.Plugins.{plugin_of}
 use Rattle.cni_verbs.specs.Questions.{check_questions}
 use Rattle.cni_verbs.specs.CommandWords.{att_of, mappings_of}
 use Rattle.cni_verbs.specs.Wanted.{sets_of, kinds_of, calls_after, calls_before, result_of_add, all_chained_calls, first_plugin_result, given_by_list, cached_of}
@@ -28,6 +31,7 @@ use Rattle.cni_verbs.specs.declared.phase.Phase.{Phase}
 use Rattle.cni_verbs.specs.declared.phase.Phase.TheVariants as phases
 use Rattle.cni_verbs.proofs.CallsOrOver.{calls_or_over}
 use Rattle.cni_verbs.proofs.PhaseSteps.{left_of, opens}
+use Rattle.cni_verbs.proofs.PluginLaws.{first_laws}
 use Rattle.cni_verbs.proofs.QuestionCounts.{questions-left}
 
 -- what a phase's state is, where it is open or over
@@ -49,14 +53,22 @@ starts-asking (question ∷ questions) h = tt
 ends-with : {X : Type 0} (xs ys : List X) (z : X) → 0 < length (xs ++ (ys ++ z ∷ []))
 ends-with xs ys z = omega (arith, length-append xs (ys ++ z ∷ []), length-append ys (z ∷ []))
 
-some-before : (first : First) (att : Att) (netns : List ℕ) → 0 < length (calls_before first att netns)
-some-before (firsts.Bridge conf) att netns = lit< tt
-some-before (firsts.Ptp conf) att netns = lit< tt
-some-before (firsts.Macvlan conf) att netns = lit< tt
+-- no calls make no links
+none-made : (first : First) (att : Att) (netns : List ℕ) (calls : List Call) → calls_before first att netns ≡ calls → length calls ≡ 0 → ⊥
+none-made first att netns [] is none =
+    let laws = first_laws first in
+    let made : no_objects ≡ added_before (plugin_of first) att netns = ap (share_after_calls no_objects) (sym is) ∙ laws.adds_before att netns no_objects in
+    let links : [] ≡ (plugin_of first).links att netns = ap (λ (s : Share). s.links) made in
+    absurd (let there : has_inner att netns [] ≡ true = ap (has_inner att netns) links ∙ laws.inner att netns in cc)
+none-made first att netns (call ∷ calls) is none = absurd (omega arith)
+
+some-unless : (calls : List Call) → (length calls ≡ 0 → ⊥) → 0 < length calls
+some-unless [] h = absurd (h refl)
+some-unless (call ∷ calls) h = omega arith
 
 -- a link is made before the leases
 pub before-some : (list : NetList) (c : Command) → 0 < length (before_of list c)
-before-some list c = some-before list.first (att_of c) c.netns
+before-some list c = some-unless (before_of list c) (none-made list.first (att_of c) c.netns (before_of list c) refl)
 
 -- the cached entry comes last
 calls-left : (list : NetList) (c : Command) (addrs : List Addr) → 0 < length (back_of list c addrs)

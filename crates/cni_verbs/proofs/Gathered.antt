@@ -1,10 +1,9 @@
 -- The calls of an ADD with the addresses of its cached result make what the cached result says that there is.
-use Rattle.std.proofs.Common.{◌≡◌, List, [], ◌++◌, map, refl}
+use Rattle.std.proofs.Common.{◌≡◌, ℕ, List, [], ◌++◌, map, Option, refl}
 use Rattle.cni_addr.specs.declared.address.Addr.{Addr}
 use Rattle.cni_result.specs.declared.cached.Cached.{Cached}
 use Rattle.cni_result.specs.declared.cached.PortMapping.{PortMapping}
 use Rattle.cni_result.specs.declared.result.Interface.{Interface}
-use Rattle.net_conf.specs.declared.first.First.{First}
 use Rattle.net_conf.specs.declared.list.NetList.{NetList}
 use Rattle.pod_file.specs.declared.command.Command.{Command}
 use Rattle.kernel_types.specs.declared.object.Att.{Att}
@@ -28,7 +27,7 @@ gathered list c cached att addrs leased given mappings before back none made wit
     (makes-wanted list (att_of c) cached.netns cached.mappings (addresses_of_result cached.result))
 
 -- the questions of the bridge and of what was gathered are all that a check asks
-pub checked : (first : First) (listed interfaces : List Interface) (none front all : List Question) (made said : Share)
-    → none ≡ [] → listed ≡ interfaces → front ≡ none ++ bridge_questions first listed → made ≡ said → all ≡ front ++ share_questions made
-    → all ≡ bridge_questions first interfaces ++ share_questions said
-checked first listed interfaces none front all made said is_none is_listed is_front is_made is_all = rw (is_all, is_front, is_none, is_listed, is_made) refl
+pub checked : (bridge named : Option (List ℕ)) (listed interfaces : List Interface) (none front all : List Question) (made said : Share)
+    → named ≡ bridge → none ≡ [] → listed ≡ interfaces → front ≡ none ++ bridge_questions named listed → made ≡ said → all ≡ front ++ share_questions made
+    → all ≡ bridge_questions bridge interfaces ++ share_questions said
+checked bridge named listed interfaces none front all made said is_named is_none is_listed is_front is_made is_all = rw (is_all, is_front, is_none, is_listed, is_made, is_named) refl

@@ -2,6 +2,7 @@ pub mod AddCalls
 pub mod AfterReplies
 pub mod Arguments
 pub mod Asked
+pub mod BackCalls
 pub mod CallsOrOver
 pub mod EarlyEndings
 pub mod Ends
@@ -10,5 +11,6 @@ pub mod GivenAddresses
 pub mod NextCalls
 pub mod OwnCalls
 pub mod PhaseSteps
+pub mod PluginLaws
 pub mod QuestionCounts
 pub mod WantedShare

@@ -1,46 +1,45 @@
 -- How many questions there are.
-use Rattle.std.proofs.Common.{◌≡◌, ℕ, ◌+◌, ◌<◌, Bool, true, false, List, [], ◌∷◌, ◌++◌, map, length, refl, ◌∙◌, arith}
-use Rattle.std.specs.Prelude.{if◌then◌else◌}
+use Rattle.std.proofs.Common.{◌≡◌, ℕ, ◌+◌, ◌<◌, Bool, true, List, [], ◌∷◌, ◌++◌, map, length, refl, sym, ap, ◌∙◌, arith}
+use Rattle.std.specs.List.{list_any}
 use Rattle.std.proofs.lemmas.List.{length-append, length-map}
 use Rattle.cni_addr.specs.declared.range.RangeSet.{RangeSet}
 use Rattle.cni_result.specs.declared.cached.Cached.{Cached}
 use Rattle.net_conf.specs.declared.chained.Chained.{Chained}
-use Rattle.net_conf.specs.declared.chained.Chained.TheVariants.{Portmap, Firewall, Tuning}
-use Rattle.net_conf.specs.declared.first.First.{First}
-use Rattle.net_conf.specs.declared.first.First.TheVariants as firsts
 use Rattle.net_conf.specs.declared.list.NetList.{NetList}
 use Rattle.pod_file.specs.declared.command.Command.{Command}
-use Rattle.kernel_types.specs.Apply.Calls.{set_link}
+use Rattle.kernel_types.specs.Words.{is_link_of}
+use Rattle.kernel_types.specs.declared.object.Tag.TheVariants.{Own}
 use Rattle.kernel_types.specs.declared.object.Att.{Att}
 use Rattle.kernel_types.specs.declared.object.Link.{Link}
 use Rattle.kernel_types.specs.declared.rule.Rule.{Rule}
 use Rattle.pod_file.proofs.CommandFacts.{length-scan}
-use Rattle.plan_words.specs.Share.{Share}
-use Rattle.firewall_tuning.specs.Tuning.{sets_any, tuned}
+use Rattle.plan_words.specs.Share.{Share, no_objects}
+use Rattle.plan_words.proofs.PluginCalls.{later-as_many}
 use Rattle.cni_verbs.specs.CommandWords.{att_of}
 use Rattle.cni_verbs.specs.Questions.{link_question, address_question, route_question, rule_question, rule_questions, setting_question, lease_question, share_questions, bridge_questions, cached_share, check_questions, pool_question, pool_questions}
-use Rattle.cni_verbs.specs.Wanted.{share_before, all_links_after, untuned}
+use Rattle.cni_verbs.specs.Wanted.{all_links_after, bridge_of, chained_calls, links_after, untuned}
+use Rattle.cni_verbs.proofs.PluginLaws.{chained_laws, first_laws}
 
 -- ---- links
 
-length-if : (b : Bool) (f : Link → Link) (links : List Link) → length (if b then map f links else links) ≡ length links
-length-if true f links = length-map links f
-length-if false f links = refl
+-- a chained plugin makes no link
+length-after : (c : Chained) (att : Att) (netns : List ℕ) (links : List Link) → length (links_after c att netns links) ≡ length links
+length-after c att netns links =
+    let s : Share = record no_objects { links = links } in
+    let laws = chained_laws c in
+    ap (λ (t : Share). length t.links) (sym (laws.adds att netns [] [] s)) ∙ later-as_many netns s (chained_calls c att netns [] []) (laws.calls att netns [] []).later
 
--- the chained plugins make no links
 length-links : (cs : List Chained) (att : Att) (netns : List ℕ) (links : List Link) → length (all_links_after cs att netns links) ≡ length links
 length-links [] att netns links = refl
-length-links (Portmap conf ∷ cs) att netns links = length-links cs att netns links
-length-links (Firewall conf ∷ cs) att netns links = length-links cs att netns links
-length-links (Tuning conf ∷ cs) att netns links =
-    length-links cs att netns (tuned conf att netns links)
-    ∙ length-if (sets_any conf) (set_link att (record { ns = netns; name = att.ifname }) conf.mac conf.mtu conf.tx_qlen conf.promisc conf.allmulti) links
+length-links (c ∷ cs) att netns links = length-links cs att netns (links_after c att netns links) ∙ length-after c att netns links
+
+some-of : {X : Type 0} (p : X → Bool) (xs : List X) → list_any p xs ≡ true → 0 < length xs
+some-of p [] h = cc
+some-of p (x ∷ xs) h = omega arith
 
 -- the first plugin makes a link
-first-links : (first : First) (att : Att) (netns : List ℕ) → 0 < length (share_before first att netns).links
-first-links (firsts.Bridge conf) att netns = omega arith
-first-links (firsts.Ptp conf) att netns = omega arith
-first-links (firsts.Macvlan conf) att netns = omega arith
+first-links : (list : NetList) (att : Att) (netns : List ℕ) → 0 < length (untuned list att netns)
+first-links list att netns = some-of (is_link_of netns att.ifname (Own att)) (untuned list att netns) ((first_laws list.first).inner att netns)
 
 -- ---- CHECK
 
@@ -78,10 +77,10 @@ questions-left list c cached =
     let s = cached_share list c cached in
     omega (
       arith,
-      length-append (bridge_questions list.first cached.result.interfaces) (share_questions s),
+      length-append (bridge_questions (bridge_of list.first) cached.result.interfaces) (share_questions s),
       length-share s,
       length-links list.chained att cached.netns (untuned list att cached.netns),
-      first-links list.first att cached.netns,
+      first-links list att cached.netns,
     )
 
 -- ---- STATUS

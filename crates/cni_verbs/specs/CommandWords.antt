@@ -12,12 +12,12 @@ use Rattle.cni_result.specs.declared.cached.Proto.{Proto}
 use Rattle.cni_result.specs.declared.cached.Proto.TheVariants.{Tcp}
 use Rattle.net_conf.specs.Names.{is_container_id, is_interface_name}
 use Rattle.net_conf.specs.declared.chained.Chained.{Chained}
-use Rattle.net_conf.specs.declared.chained.Chained.TheVariants.{Portmap, Firewall, Tuning}
 use Rattle.net_conf.specs.declared.list.NetList.{NetList}
 use Rattle.pod_file.specs.declared.command.Command.{Command}
 use Rattle.pod_file.specs.declared.command.RawMapping.{RawMapping}
 use Rattle.kernel_types.specs.Words.{is_host_ns}
 use Rattle.kernel_types.specs.declared.object.Att.{Att}
+use Rattle.cni_verbs.specs.Plugins.{chained_plugin_of}
 use Rattle.cni_verbs.specs.declared.answer.Cause.{Cause}
 use Rattle.cni_verbs.specs.declared.answer.Cause.TheVariants.{BadWords, IpArgument, BadMapping}
 use Rattle.cni_verbs.specs.declared.answer.WordFaults.{WordFaults}
@@ -83,11 +83,9 @@ mapping_by host_port container_port (Some protocol) (Some host_ip) =
 abbrev pub mapping_of : RawMapping → Option PortMapping
 mapping_of raw = mapping_by raw.host_port raw.container_port (proto_of raw.protocol) (host_ip_of raw.host_ip)
 
--- some `portmap` is handed the mappings
+-- the plugin is handed the mappings
 abbrev pub takes_mappings : Chained → Bool
-takes_mappings (Portmap conf) = conf.mappings
-takes_mappings (Firewall conf) = false
-takes_mappings (Tuning conf) = false
+takes_mappings c = (chained_plugin_of c).takes_mappings
 
 -- the mappings that reach the plugins of the list
 unfoldable pub mappings_of : NetList → Command → List PortMapping

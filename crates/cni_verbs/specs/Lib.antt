@@ -4,6 +4,7 @@ pub mod CommandWords
 pub mod ErrorKinds
 pub mod Laws
 pub mod Phases
+pub mod Plugins
 pub mod Progress
 pub mod Questions
 pub mod Replies

@@ -7,8 +7,6 @@ use Rattle.cni_addr.specs.declared.range.RangeSet.{RangeSet}
 use Rattle.cni_result.specs.declared.cached.Cached.{Cached}
 use Rattle.cni_result.specs.declared.result.AddResult.{AddResult}
 use Rattle.cni_result.specs.declared.result.Interface.{Interface}
-use Rattle.net_conf.specs.declared.first.First.{First}
-use Rattle.net_conf.specs.declared.first.First.TheVariants as firsts
 use Rattle.net_conf.specs.declared.list.NetList.{NetList}
 use Rattle.pod_file.specs.declared.command.Command.{Command}
 use Rattle.kernel_types.specs.declared.object.AddrObj.{AddrObj}
@@ -23,7 +21,7 @@ use Rattle.kernel_types.specs.declared.call.Object.TheVariants as objects
 use Rattle.kernel_types.specs.declared.call.Probe.TheVariants.{Whole, BridgeAt, Master}
 use Rattle.plan_words.specs.Share.{Share}
 use Rattle.cni_verbs.specs.CommandWords.{att_of}
-use Rattle.cni_verbs.specs.Wanted.{sets_of, wanted}
+use Rattle.cni_verbs.specs.Wanted.{bridge_of, master_of, sets_of, wanted}
 use Rattle.cni_verbs.specs.declared.answer.Cause.TheVariants.{NoFreeAddress, MasterAbsent, Missing}
 use Rattle.cni_verbs.specs.declared.answer.Missed.{Missed}
 use Rattle.cni_verbs.specs.declared.answer.Missed.TheVariants as missed
@@ -71,11 +69,10 @@ abbrev pub first_interface : List Interface → List Question
 first_interface [] = []
 first_interface (i ∷ is) = bridge_by_mac i.name i.mac
 
--- the bridge, which the result of `bridge` names first
-abbrev pub bridge_questions : First → List Interface → List Question
-bridge_questions (firsts.Bridge conf) interfaces = first_interface interfaces
-bridge_questions (firsts.Ptp conf) interfaces = []
-bridge_questions (firsts.Macvlan conf) interfaces = []
+-- the bridge, if there is one, which the result names first
+abbrev pub bridge_questions : Option (List ℕ) → List Interface → List Question
+bridge_questions None interfaces = []
+bridge_questions (Some bridge) interfaces = first_interface interfaces
 
 -- the addresses of a result
 abbrev pub addresses_of_result : AddResult → List Addr
@@ -87,7 +84,7 @@ cached_share list c cached = wanted list (att_of c) cached.netns cached.mappings
 
 unfoldable pub check_questions : NetList → Command → Cached → List Question
 check_questions list c cached =
-    bridge_questions list.first cached.result.interfaces ++ share_questions (cached_share list c cached)
+    bridge_questions (bridge_of list.first) cached.result.interfaces ++ share_questions (cached_share list c cached)
 
 -- ---- STATUS: a free address in each range set, and the master
 
@@ -97,11 +94,9 @@ pool_question network number set = record { call = PoolFree network set; lack = 
 abbrev pub pool_questions : List ℕ → ℕ → List RangeSet → List Question
 pool_questions network number sets = scan (λ n set. n + 1) (pool_question network) number sets
 
-abbrev pub master_questions : First → List Question
-master_questions (firsts.Bridge conf) = []
-master_questions (firsts.Ptp conf) = []
-master_questions (firsts.Macvlan conf) =
-    record { call = HasObj (Master conf.master); lack = MasterAbsent conf.master } ∷ []
+abbrev pub master_questions : Option (List ℕ) → List Question
+master_questions None = []
+master_questions (Some master) = record { call = HasObj (Master master); lack = MasterAbsent master } ∷ []
 
 unfoldable pub status_questions : NetList → Command → List Question
-status_questions list c = pool_questions c.network 0 (sets_of list) ++ master_questions list.first
+status_questions list c = pool_questions c.network 0 (sets_of list) ++ master_questions (master_of list.first)

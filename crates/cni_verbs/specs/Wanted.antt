@@ -1,6 +1,6 @@
 -- The calls of an ADD, the objects that it wants, and its result (CNI specification, section 3, "Adding an
 -- attachment").
-use Rattle.std.specs.Prelude.{ℕ, List, [], ◌∷◌, ◌++◌, map, flat_map}
+use Rattle.std.specs.Prelude.{ℕ, Bool, List, [], ◌∷◌, ◌++◌, map, flat_map, Option}
 use Rattle.std.specs.List.{fold}
 use Rattle.cni_addr.specs.declared.address.Addr.{Addr}
 use Rattle.cni_addr.specs.declared.range.RangeSet.{RangeSet}
@@ -9,9 +9,8 @@ use Rattle.cni_result.specs.declared.cached.Cached.{Cached}
 use Rattle.cni_result.specs.declared.result.AddResult.{AddResult}
 use Rattle.cni_result.specs.declared.result.IpEntry.{IpEntry}
 use Rattle.net_conf.specs.declared.first.First.{First}
-use Rattle.net_conf.specs.declared.first.First.TheVariants as firsts
+use Rattle.net_conf.specs.declared.first.HostLocalConf.{HostLocalConf}
 use Rattle.net_conf.specs.declared.chained.Chained.{Chained}
-use Rattle.net_conf.specs.declared.chained.Chained.TheVariants.{Portmap, Firewall, Tuning}
 use Rattle.net_conf.specs.declared.list.NetList.{NetList}
 use Rattle.kernel_types.specs.declared.object.Att.{Att}
 use Rattle.kernel_types.specs.declared.object.Link.{Link}
@@ -24,81 +23,58 @@ use Rattle.kernel_types.specs.declared.call.Kind.TheVariants as kinds
 use Rattle.kernel_types.specs.declared.call.Call.{Call}
 use Rattle.kernel_types.specs.declared.call.Call.TheVariants.{Begin, LinkDel, RuleDel, SettingDel, LeaseDel, CacheDel, CachePut}
 use Rattle.kernel_types.specs.Words.{lease_of}
+use Rattle.plan_words.specs.Plugins.{added_after}
 use Rattle.plan_words.specs.Share.{Share}
-use Rattle.host_local.specs.Conf.{ipam_of, range_sets_of}
+use Rattle.host_local.specs.Conf.{range_sets_of}
 use Rattle.host_local.specs.Leases.{given_of, lease_calls_of}
 use Rattle.host_local.specs.Results.{ipam_result_of}
-use Rattle.bridge_ptp.specs.Bridge.{bridge_share_before, bridge_share_after, bridge_calls_before, bridge_calls_after, bridge_kinds_of}
-use Rattle.bridge_ptp.specs.Ptp.{ptp_share_before, ptp_share_after, ptp_calls_before, ptp_calls_after, ptp_kinds_of}
-use Rattle.bridge_ptp.specs.Results.{bridge_result_of, ptp_result_of}
-use Rattle.macvlan.specs.Macvlan.{macvlan_share_before, macvlan_share_after, macvlan_calls_before, macvlan_calls_after, macvlan_kinds_of, macvlan_result_of}
-use Rattle.portmap.specs.Portmap.{portmap_rules, portmap_calls_of, portmap_kinds}
-use Rattle.firewall_tuning.specs.Firewall.{firewall_rules, firewall_calls_of, firewall_kinds}
-use Rattle.firewall_tuning.specs.Tuning.{tuning_settings, tuned, tuning_calls_of, tuning_result_of, tuning_kinds}
+use Rattle.cni_verbs.specs.Plugins.{chained_plugin_of, plugin_of}
 
 -- ---- the first plugin
 
-abbrev pub share_before : First → Att → List ℕ → Share
-share_before (firsts.Bridge conf) att netns = bridge_share_before conf att netns
-share_before (firsts.Ptp conf) att netns = ptp_share_before conf att netns
-share_before (firsts.Macvlan conf) att netns = macvlan_share_before conf att netns
-
-abbrev pub share_after : First → Att → List ℕ → List Given → Share
-share_after (firsts.Bridge conf) att netns given = bridge_share_after conf att netns given
-share_after (firsts.Ptp conf) att netns given = ptp_share_after conf att netns given
-share_after (firsts.Macvlan conf) att netns given = macvlan_share_after conf att netns given
+abbrev pub ipam_of : First → Option HostLocalConf
+ipam_of first = (plugin_of first).ipam
 
 abbrev pub calls_before : First → Att → List ℕ → List Call
-calls_before (firsts.Bridge conf) att netns = bridge_calls_before conf att netns
-calls_before (firsts.Ptp conf) att netns = ptp_calls_before conf att netns
-calls_before (firsts.Macvlan conf) att netns = macvlan_calls_before conf att netns
+calls_before first att netns = (plugin_of first).calls_before att netns
 
 abbrev pub calls_after : First → Att → List ℕ → List Given → List Call
-calls_after (firsts.Bridge conf) att netns given = bridge_calls_after conf att netns given
-calls_after (firsts.Ptp conf) att netns given = ptp_calls_after conf att netns given
-calls_after (firsts.Macvlan conf) att netns given = macvlan_calls_after conf att netns given
+calls_after first att netns given = (plugin_of first).calls_after att netns given
 
 abbrev pub first_result : First → Att → List ℕ → AddResult → AddResult
-first_result (firsts.Bridge conf) att netns ipam = bridge_result_of conf att netns ipam
-first_result (firsts.Ptp conf) att netns ipam = ptp_result_of conf att netns ipam
-first_result (firsts.Macvlan conf) att netns ipam = macvlan_result_of conf att netns ipam
+first_result first att netns ipam = (plugin_of first).result att netns ipam
 
 abbrev pub first_kinds : First → List Kind
-first_kinds (firsts.Bridge conf) = bridge_kinds_of conf
-first_kinds (firsts.Ptp conf) = ptp_kinds_of conf
-first_kinds (firsts.Macvlan conf) = macvlan_kinds_of conf
+first_kinds first = (plugin_of first).kinds
+
+abbrev pub bridge_of : First → Option (List ℕ)
+bridge_of first = (plugin_of first).bridge
+
+abbrev pub master_of : First → Option (List ℕ)
+master_of first = (plugin_of first).master
 
 -- ---- the chained plugins
 
 abbrev pub rules_of : Chained → Att → List PortMapping → List IpEntry → List Rule
-rules_of (Portmap conf) att mappings ips = portmap_rules conf att mappings ips
-rules_of (Firewall conf) att mappings ips = firewall_rules att ips
-rules_of (Tuning conf) att mappings ips = []
+rules_of c att mappings ips = (chained_plugin_of c).rules att mappings ips
 
 abbrev pub settings_of : Chained → Att → List ℕ → List Setting
-settings_of (Portmap conf) att netns = []
-settings_of (Firewall conf) att netns = []
-settings_of (Tuning conf) att netns = tuning_settings conf att netns
+settings_of c att netns = (chained_plugin_of c).settings att netns
 
 abbrev pub links_after : Chained → Att → List ℕ → List Link → List Link
-links_after (Portmap conf) att netns links = links
-links_after (Firewall conf) att netns links = links
-links_after (Tuning conf) att netns links = tuned conf att netns links
+links_after c att netns links = (chained_plugin_of c).links_after att netns links
 
 abbrev pub chained_calls : Chained → Att → List ℕ → List PortMapping → List IpEntry → List Call
-chained_calls (Portmap conf) att netns mappings ips = portmap_calls_of conf att mappings ips
-chained_calls (Firewall conf) att netns mappings ips = firewall_calls_of att ips
-chained_calls (Tuning conf) att netns mappings ips = tuning_calls_of conf att netns
+chained_calls c att netns mappings ips = (chained_plugin_of c).calls att netns mappings ips
 
 abbrev pub chained_result : Chained → AddResult → AddResult
-chained_result (Portmap conf) prev = prev
-chained_result (Firewall conf) prev = prev
-chained_result (Tuning conf) prev = tuning_result_of conf prev
+chained_result c prev = (chained_plugin_of c).result prev
 
 abbrev pub chained_kinds : Chained → List Kind
-chained_kinds (Portmap conf) = portmap_kinds
-chained_kinds (Firewall conf) = firewall_kinds
-chained_kinds (Tuning conf) = tuning_kinds
+chained_kinds c = (chained_plugin_of c).kinds
+
+abbrev pub sets_links : Chained → Bool
+sets_links c = (chained_plugin_of c).sets_links
 
 -- each is handed the result of the one before
 abbrev pub all_chained_results : List Chained → AddResult → AddResult
@@ -134,14 +110,14 @@ abbrev pub cached_of : NetList → Att → List ℕ → List PortMapping → Lis
 cached_of list att netns mappings addrs =
     record { netns = netns; mappings = mappings; result = result_of_add list att netns addrs }
 
--- the links as they are before `tuning` sets its values
+-- the links as they are before a chained plugin sets values of them
 abbrev pub untuned : NetList → Att → List ℕ → List Link
-untuned list att netns = (share_before list.first att netns).links
+untuned list att netns = (plugin_of list.first).links att netns
 
 -- all objects of the attachment, where these addresses were leased
 abbrev pub wanted : NetList → Att → List ℕ → List PortMapping → List Addr → Share
 wanted list att netns mappings addrs =
-    let first = share_after list.first att netns (given_by_list list addrs) in
+    let first = added_after (plugin_of list.first) att netns (given_by_list list addrs) in
     let ips = (first_plugin_result list att netns addrs).ips in
     record {
       links = all_links_after list.chained att netns (untuned list att netns);

@@ -31,6 +31,7 @@ mod missed;
 mod next;
 mod over;
 mod phase;
+mod plugins;
 mod prepare;
 mod questions;
 pub mod run;

@@ -9,7 +9,8 @@ ghost use Rattle.cni_verbs.specs.Phases.{KeepsPlan, is_prepared, state_in, state
 
 use crate::answer::Question;
 use crate::phase::Phase;
-use crate::wanted::{Back, back_calls, calls_before, deletion, sets_of};
+use crate::plugins::calls_before;
+use crate::wanted::{Back, back_calls, deletion, sets_of};
 use crate::words::{att_of, mappings_of, named_att_of};
 use cni_addr::{Addr, Duplicate, Items, NoMemory};
 use host_local::lease_at;

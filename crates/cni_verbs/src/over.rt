@@ -19,8 +19,8 @@ fn passed_all<T>(items: &[T], passed: usize) -> bool
     passed >= items.len()
 }
 
-/// Whether the run of a list is over. One whose calls before or after the leases or whose questions aren't made yet
-/// isn't: an ADD makes a link and ends with its cached entry, and a CHECK asks for a link at least.
+/// Whether the run of a list is over. One whose calls before or after the leases or whose questions aren't made ahead
+/// yet isn't: an ADD makes a link and ends with its cached entry, and a CHECK asks for a link at least.
 pub(crate) fn is_over(kinds: &[Kind], given: &[Addr], phase: &Phase) -> bool
     ensures { (list : NetList) (c : Command) (room made : ℕ)
         → KeepsPlan list c kinds.now room made given.now phase.now

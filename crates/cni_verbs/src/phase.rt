@@ -12,7 +12,7 @@ use kernel_types::{Call, RefCounted};
 pub(crate) enum Phase {
     /// Nothing was called.
     AtBegin,
-    /// Begin was done, and the calls before the leases aren't made yet.
+    /// Begin was done, and the calls before the leases aren't made ahead yet.
     Begun,
     /// So many calls of the first plugin were made, and some are left before the leases.
     BeforeLeases {
@@ -21,7 +21,7 @@ pub(crate) enum Phase {
     },
     /// Sets are left to lease from.
     Leasing,
-    /// No set is left to lease from, and the calls after the leases aren't made yet.
+    /// No set is left to lease from, and the calls after the leases aren't made ahead yet.
     Leased,
     /// So many of the calls after the leases are behind it, and this is the result at their end.
     AfterLeases {
@@ -35,7 +35,7 @@ pub(crate) enum Phase {
     Deleting(usize, Ending),
     /// The cached entry is read ahead of the questions of a check.
     FindingEntry,
-    /// A CHECK asks about this cached entry, and its questions aren't made yet.
+    /// A CHECK asks about this cached entry, and its questions aren't made ahead yet.
     Found(RefCounted<Cached>),
     /// So many questions were answered with yes.
     Asking {

@@ -13,7 +13,7 @@ use net_conf::NetList;
 use pod_file::Command;
 use std::alloc::Global;
 
-/// Whether the next call or question is made already.
+/// Whether the next call or question is made ahead already.
 pub(crate) fn is_prepared(phase: &Phase) -> bool
     ensures { result ≡ is_prepared phase.now }
 {
@@ -32,8 +32,8 @@ fn shared_calls(alloc: Global, calls: Items<Call>) -> Result<Items<RefCounted<Ca
     Ok(Items::of_vec(shared))
 }
 
-/// Makes the calls before or after the leases or the questions of a CHECK, where they are next and aren't made. The
-/// phase means the same, and out of memory it stays as it is.
+/// Makes the calls before or after the leases or the questions of a CHECK ahead, where they are next and it hasn't yet.
+/// The phase means the same, and out of memory it stays as it is.
 pub(crate) fn prepare_phase(
     alloc: Global,
     list: &NetList,

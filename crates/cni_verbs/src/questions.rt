@@ -4,17 +4,19 @@ ghost use Rattle.std.specs.Prelude.{◌≡◌, ◌+◌, ◌++◌, ◌≤◌, [],
 ghost use Rattle.kernel_types.specs.declared.call.Call.TheVariants as calls;
 ghost use Rattle.cni_verbs.specs.Questions as asked;
 ghost use Rattle.net_conf.specs.Sets.{most_sets};
+ghost use Rattle.std.specs.Option.{option_copied};
 
 use crate::answer::{Cause, Missed, Question};
+use crate::plugins::{bridge_of, calls_before, master_of};
 use crate::share::{Objects, no_objects};
-use crate::wanted::{back_calls, calls_before, sets_of};
+use crate::wanted::{back_calls, sets_of};
 use crate::words::named_att_of;
 use cni_addr::{Addr, Duplicate, Items, Mac, NoMemory, RangeSet, Text};
 use cni_result::{AddResult, Cached, Interface};
 use kernel_types::{
     AddrObj, Call, Lease, Link, Object, Probe, RefCounted, RouteObj, Rule, Setting,
 };
-use net_conf::{First, NetList};
+use net_conf::NetList;
 use pod_file::Command;
 use std::alloc::Global;
 
@@ -205,15 +207,15 @@ fn ask_first_interface(
 
 fn ask_bridge(
     questions: &mut Vec<Question>,
-    first: &First,
+    bridge: Option<&Text>,
     interfaces: &[Interface],
 ) -> Result<(), NoMemory>
-    ensures { OnOk result
-        (questions.new.items ≡ questions.old.items ++ asked.bridge_questions first.now interfaces.now) }
+    ensures { OnOk result (questions.new.items
+        ≡ questions.old.items ++ asked.bridge_questions (option_copied bridge.entry) interfaces.now) }
 {
-    match first {
-        First::Bridge(_) => ask_first_interface(questions, interfaces),
-        First::Ptp(_) | First::Macvlan(_) => Ok(()),
+    match bridge {
+        Some(_) => ask_first_interface(questions, interfaces),
+        None => Ok(()),
     }
 }
 
@@ -265,7 +267,7 @@ pub(crate) fn check_questions(
     let mut questions = Vec::new(alloc);
     ask_bridge(
         &mut questions,
-        &list.first,
+        bridge_of(&list.first),
         cached.result.interfaces.as_slice(),
     )?;
     let share = cached_share(alloc, list, command, cached)?;
@@ -322,21 +324,22 @@ fn master_question(alloc: Global, name: &Text) -> Result<Question, NoMemory>
     })
 }
 
-fn ask_master(questions: &mut Vec<Question>, first: &First) -> Result<(), NoMemory>
-    ensures { OnOk result (questions.new.items ≡ questions.old.items ++ asked.master_questions first.now) }
+fn ask_master(questions: &mut Vec<Question>, master: Option<&Text>) -> Result<(), NoMemory>
+    ensures { OnOk result
+        (questions.new.items ≡ questions.old.items ++ asked.master_questions (option_copied master.entry)) }
 {
-    match first {
-        First::Macvlan(conf) => {
+    match master {
+        Some(master) => {
             let alloc = *questions.allocator();
-            let question = master_question(alloc, &conf.master)?;
+            let question = master_question(alloc, master)?;
             questions.push(question)?;
             Ok(())
         }
-        First::Bridge(_) | First::Ptp(_) => Ok(()),
+        None => Ok(()),
     }
 }
 
-/// The questions of a STATUS: a free address in each range set, then the master of `macvlan`.
+/// The questions of a STATUS: a free address in each range set, then the link of the host that the plugin's is over.
 #[tactic(auto, unfolding(crate::specs::Questions::status_questions))]
 pub(crate) fn status_questions(
     alloc: Global,
@@ -347,6 +350,6 @@ pub(crate) fn status_questions(
 {
     let mut questions = Vec::new(alloc);
     ask_pools(&mut questions, &command.network, sets_of(list))?;
-    ask_master(&mut questions, &list.first)?;
+    ask_master(&mut questions, master_of(&list.first))?;
     Ok(Items::of_vec(questions))
 }

@@ -137,7 +137,8 @@ impl Run {
 
     /// Makes what the next call is looked up in, where it isn't made yet: [`Run::next`] and [`Run::take`] ask for it
     /// after each reply. How far the run has come stays the same, and out of memory the run is as it was: it may be
-    /// prepared again. Linear in the list, the mappings and the leased addresses, once a run.
+    /// prepared again. Linear in the list, the mappings and the leased addresses, once or
+    /// twice a run.
     pub fn prepare(&mut self) -> Result<(), NoMemory>
         ensures same { self.new.progress ≡ self.old.progress }
         ensures ready { OnOk result (self.new.prepared ≡ true) }

@@ -91,8 +91,9 @@ fn first_of_status(alloc: Global, list: &NetList, command: &Command) -> Result<P
     }
 }
 
-/// The phase of a run of this list that was given no reply. Words outside their grammar end an ADD, a CHECK or a DEL
-/// before its first call, and so does a list that is older than STATUS or disables CHECK.
+/// The phase of a run of this list that was given no reply. Fields outside their grammar end an ADD, a CHECK or a DEL
+/// before its first call, an `IP` argument or a mapping that can't be taken ends an ADD, and a list that is older than
+/// STATUS or disables CHECK ends these.
 pub(crate) fn first_phase(
     alloc: Global,
     list: &NetList,

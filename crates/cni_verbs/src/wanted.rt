@@ -2,22 +2,17 @@
 //! it one after another.
 
 ghost use Rattle.std.specs.Prelude.{◌≡◌, ◌++◌, ◌<◌, ◌≤◌, [], length, IfOk, OnOk};
-ghost use Rattle.host_local.specs.Conf.{ipam_of};
 ghost use Rattle.host_local.specs.Results.{ipam_result_of};
 ghost use Rattle.kernel_types.specs.declared.call.Call.TheVariants as call;
 ghost use Rattle.net_conf.specs.Sets.{most_sets};
 ghost use Rattle.cni_verbs.specs.Wanted as wanted;
 
-use bridge_ptp::{
-    bridge_after, bridge_before, bridge_kinds, bridge_result, ptp_after, ptp_before, ptp_kinds,
-    ptp_result,
+use crate::plugins::{
+    calls_after, chained_calls, chained_kinds, chained_result, first_kinds, first_result, ipam_of,
 };
 use cni_addr::{Addr, Duplicate, Items, NoMemory, RangeSet, Text};
 use cni_result::{AddResult, Cached, PortMapping};
-use firewall_tuning::{
-    firewall_calls, firewall_kinds, firewall_result, tuning_calls, tuning_kinds, tuning_result,
-};
-use host_local::{given_of, ipam_of, ipam_result_of};
+use host_local::{given_of, ipam_result_of};
 use kernel_types::{Att, Call, Given, Kind, NamedAtt, RefCounted};
 use net_conf::{Chained, First, NetList};
 use std::alloc::Global;
@@ -28,67 +23,6 @@ fn push_all<T: Drop>(list: &mut Vec<T>, more: Items<T>) -> Result<(), NoMemory>
     let mut more = more.into_vec();
     list.append(&mut more)?;
     Ok(())
-}
-
-// ---- the first plugin
-
-/// The calls of the first plugin before an address is leased: at least the one that makes its link.
-pub fn calls_before(
-    alloc: Global,
-    first: &First,
-    att: &NamedAtt,
-    netns: &Text,
-) -> Result<Items<Call>, NoMemory>
-    ensures calls { IfOk result (λ calls. calls ≡ wanted.calls_before first.now att.now netns.now) }
-    ensures some { IfOk result (λ calls. 0 < length calls) }
-{
-    match first {
-        First::Bridge(conf) => bridge_before(alloc, conf, att, netns),
-        First::Ptp(conf) => ptp_before(alloc, conf, att, netns),
-        First::Macvlan(conf) => macvlan::before(alloc, conf, att, netns),
-    }
-}
-
-fn calls_after(
-    alloc: Global,
-    first: &First,
-    att: &NamedAtt,
-    netns: &Text,
-    given: &[Given],
-) -> Result<Items<Call>, NoMemory>
-    ensures { IfOk result (λ calls. calls ≡ wanted.calls_after first.now att.now netns.now given.now) }
-{
-    match first {
-        First::Bridge(conf) => bridge_after(alloc, conf, att.att(), netns, given),
-        First::Ptp(conf) => ptp_after(alloc, conf, att, netns, given),
-        First::Macvlan(conf) => macvlan::after(alloc, conf, att.att(), netns, given),
-    }
-}
-
-fn first_result(
-    alloc: Global,
-    first: &First,
-    att: &NamedAtt,
-    netns: &Text,
-    ipam: &AddResult,
-) -> Result<AddResult, NoMemory>
-    ensures { IfOk result (λ r. r ≡ wanted.first_result first.now att.now netns.now ipam.now) }
-{
-    match first {
-        First::Bridge(conf) => bridge_result(alloc, conf, att, netns, ipam),
-        First::Ptp(conf) => ptp_result(alloc, conf, att, netns, ipam),
-        First::Macvlan(conf) => macvlan::result(alloc, conf, att, netns, ipam),
-    }
-}
-
-fn first_kinds(alloc: Global, first: &First) -> Result<Items<Kind>, NoMemory>
-    ensures { IfOk result (λ kinds. kinds ≡ wanted.first_kinds first.now) }
-{
-    match first {
-        First::Bridge(conf) => bridge_kinds(alloc, conf),
-        First::Ptp(conf) => ptp_kinds(alloc, conf),
-        First::Macvlan(conf) => macvlan::kinds(alloc, conf),
-    }
 }
 
 // ---- addresses
@@ -112,55 +46,13 @@ fn first_plugin_result(
     given: &[Given],
 ) -> Result<AddResult, NoMemory>
     ensures { IfOk result (λ r. r ≡ wanted.first_result list.now.first att.now netns.now
-        (ipam_result_of (ipam_of list.now.first) given.now list.now.version)) }
+        (ipam_result_of (wanted.ipam_of list.now.first) given.now list.now.version)) }
 {
     let ipam = ipam_result_of(alloc, ipam_of(&list.first), given, list.version)?;
     first_result(alloc, &list.first, att, netns, &ipam)
 }
 
 // ---- the chained plugins
-
-fn chained_calls(
-    alloc: Global,
-    chained: &Chained,
-    att: &Att,
-    netns: &Text,
-    mappings: &[PortMapping],
-    prev: &AddResult,
-) -> Result<Items<Call>, NoMemory>
-    ensures { IfOk result (λ calls.
-        calls ≡ wanted.chained_calls chained.now att.now netns.now mappings.now prev.now.ips) }
-{
-    match chained {
-        Chained::Portmap(conf) => portmap::calls(alloc, conf, att, mappings, prev),
-        Chained::Firewall(_) => firewall_calls(alloc, att, prev),
-        Chained::Tuning(conf) => tuning_calls(alloc, conf, att, netns),
-    }
-}
-
-fn chained_result(alloc: Global, chained: &Chained, prev: AddResult) -> Result<AddResult, NoMemory>
-    ensures { IfOk result (λ r. r ≡ wanted.chained_result chained.now prev) }
-{
-    match chained {
-        Chained::Portmap(_) => Ok(portmap::result(prev)),
-        Chained::Firewall(_) => Ok(firewall_result(prev)),
-        Chained::Tuning(conf) => {
-            let tuned = tuning_result(alloc, conf, &prev);
-            drop(prev);
-            tuned
-        }
-    }
-}
-
-fn chained_kinds(chained: &Chained) -> [Kind; 1]
-    ensures { result ≡ wanted.chained_kinds chained.now }
-{
-    match chained {
-        Chained::Portmap(_) => portmap::kinds(),
-        Chained::Firewall(_) => firewall_kinds(),
-        Chained::Tuning(_) => tuning_kinds(),
-    }
-}
 
 fn all_chained_results(
     alloc: Global,

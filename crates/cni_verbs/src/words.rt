@@ -7,6 +7,7 @@ ghost use Rattle.std.specs.Str.{bytes_eq};
 ghost use Rattle.cni_verbs.specs.CommandWords as words;
 
 use crate::answer::{Cause, WordFaults};
+use crate::plugins::takes_mappings;
 use cni_addr::{Addr, Duplicate, Items, NoMemory, Text, read_addr};
 use cni_result::{PortMapping, Proto, proto_named};
 use kernel_types::words::is_host_ns;
@@ -184,17 +185,7 @@ fn can_be_taken(raw: &RawMapping) -> bool
     mapping_of(raw).is_some()
 }
 
-fn takes_mappings(chained: &Chained) -> bool
-    ensures { result ≡ words.takes_mappings chained.now }
-{
-    match chained {
-        Chained::Portmap(conf) => conf.mappings,
-        Chained::Firewall(_) => false,
-        Chained::Tuning(_) => false,
-    }
-}
-
-/// Whether some `portmap` is handed the mappings.
+/// Whether some plugin is handed the mappings.
 fn some_takes(chained: &[Chained]) -> bool
     ensures { result ≡ list_any words.takes_mappings chained.now }
 {

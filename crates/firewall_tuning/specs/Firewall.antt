@@ -1,6 +1,6 @@
--- The plan of the `firewall` plugin: what is forwarded to and from the container. The rule set is this project's own,
+-- The `firewall` plugin: what is forwarded to and from the container. The rule set is this project's own,
 -- after iptables.
-use Rattle.std.specs.Prelude.{true, List, [], ◌∷◌, map, flat_map, Some}
+use Rattle.std.specs.Prelude.{◌*◌, true, false, List, [], ◌∷◌, map, flat_map, Some}
 use Rattle.cni_addr.specs.Network.{whole}
 use Rattle.cni_addr.specs.declared.address.Addr.{Addr}
 use Rattle.cni_addr.specs.declared.address.Cidr.{Cidr}
@@ -16,6 +16,7 @@ use Rattle.kernel_types.specs.declared.call.Call.TheVariants.{RuleAppend}
 use Rattle.kernel_types.specs.declared.call.Kind.{Kind}
 use Rattle.kernel_types.specs.declared.call.Kind.TheVariants.{Rules}
 use Rattle.cni_addr.specs.Lists.{each_key_once}
+use Rattle.plan_words.specs.Plugins.{ChainedPlugin}
 use Rattle.plan_words.specs.Shapes.{rule_for_all}
 
 -- to the address: what answers it
@@ -39,3 +40,17 @@ firewall_calls_of att ips = map RuleAppend (firewall_rules att ips)
 -- the kinds of objects that DEL takes back
 abbrev pub firewall_kinds : List Kind
 firewall_kinds = Rules ∷ []
+
+-- Two rules an address.
+abbrev pub firewall_plugin : ChainedPlugin
+firewall_plugin = record {
+  takes_mappings = false;
+  calls = λ att netns mappings ips. firewall_calls_of att ips;
+  rules = λ att mappings ips. firewall_rules att ips;
+  settings = λ att netns. [];
+  links_after = λ att netns links. links;
+  sets_links = false;
+  result = λ prev. prev;
+  kinds = firewall_kinds;
+  most = λ mappings addresses. 2 * addresses;
+}

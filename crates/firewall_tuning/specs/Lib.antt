@@ -1,3 +1,2 @@
 pub mod Firewall
-pub mod Shares
 pub mod Tuning

@@ -1,5 +1,5 @@
--- The plan and the result of the `tuning` plugin: kernel settings of the container's namespace, and values of its link.
-use Rattle.std.specs.Prelude.{ℕ, Bool, ◌||◌, List, [], ◌∷◌, ◌++◌, map, is_some, if◌then◌else◌}
+-- The `tuning` plugin: kernel settings of the container's namespace, and values of its link.
+use Rattle.std.specs.Prelude.{ℕ, ◌+◌, Bool, false, ◌||◌, List, [], ◌∷◌, ◌++◌, length, map, is_some, if◌then◌else◌}
 use Rattle.std.specs.Option.{option_or}
 use Rattle.cni_result.specs.Versions.{mtu_since_1_1}
 use Rattle.cni_result.specs.declared.version.Version.{Version}
@@ -17,6 +17,7 @@ use Rattle.kernel_types.specs.declared.call.Call.TheVariants.{LinkSet, SettingSe
 use Rattle.kernel_types.specs.declared.call.Kind.{Kind}
 use Rattle.kernel_types.specs.declared.call.Kind.TheVariants.{Settings}
 use Rattle.cni_addr.specs.Lists.{each_key_once}
+use Rattle.plan_words.specs.Plugins.{ChainedPlugin}
 use Rattle.plan_words.specs.Shapes.{inner_key}
 
 -- ---- settings
@@ -75,3 +76,19 @@ tuning_result_of conf prev =
 -- the kinds of objects that DEL takes back; a link's values go with the link
 abbrev pub tuning_kinds : List Kind
 tuning_kinds = Settings ∷ []
+
+-- ---- the plugin
+
+-- The settings, and one call for the link's values.
+abbrev pub tuning_plugin : TuningConf → ChainedPlugin
+tuning_plugin conf = record {
+  takes_mappings = false;
+  calls = λ att netns mappings ips. tuning_calls_of conf att netns;
+  rules = λ att mappings ips. [];
+  settings = λ att netns. tuning_settings conf att netns;
+  links_after = λ att netns links. tuned conf att netns links;
+  sets_links = sets_any conf;
+  result = λ prev. tuning_result_of conf prev;
+  kinds = tuning_kinds;
+  most = λ mappings addresses. length conf.sysctl + 1;
+}

@@ -19,7 +19,7 @@ pub mod results;
 #[cfg(test)]
 mod tests;
 
-pub use conf::{ipam_of, routes_of};
+pub use conf::routes_of;
 pub use kinds::interface_kinds;
 pub use leases::{given, given_of, lease_at, lease_calls, release_kinds};
 pub use results::{ipam_result, ipam_result_of, ips_of};

@@ -1,5 +1,5 @@
--- The plan and the result of the `macvlan` plugin: a link of the container over a link of the host.
-use Rattle.std.specs.Prelude.{ℕ, false, List, [], ◌∷◌, ◌++◌, map}
+-- The `macvlan` plugin: a link of the container over a link of the host.
+use Rattle.std.specs.Prelude.{ℕ, ◌+◌, false, List, [], ◌∷◌, ◌++◌, length, map, Some, None}
 use Rattle.cni_result.specs.declared.result.AddResult.{AddResult}
 use Rattle.net_conf.specs.declared.first.MacvlanConf.{MacvlanConf}
 use Rattle.kernel_types.specs.declared.object.Att.{Att}
@@ -7,22 +7,11 @@ use Rattle.kernel_types.specs.declared.call.Given.{Given}
 use Rattle.kernel_types.specs.declared.call.Kind.{Kind}
 use Rattle.kernel_types.specs.declared.call.Call.{Call}
 use Rattle.kernel_types.specs.declared.call.Call.TheVariants.{MacvlanAdd, AddrAdd, RouteAdd}
+use Rattle.plan_words.specs.Plugins.{FirstPlugin}
 use Rattle.plan_words.specs.Results.{inner_interface, completed}
 use Rattle.plan_words.specs.Shapes.{macvlan_link, addresses_on, routes_on}
-use Rattle.plan_words.specs.Share.{Share, no_objects}
 use Rattle.host_local.specs.Conf.{routes_of}
 use Rattle.host_local.specs.Kinds.{interface_kinds}
-
-abbrev pub macvlan_share_before : MacvlanConf → Att → List ℕ → Share
-macvlan_share_before conf att netns =
-    record no_objects { links = macvlan_link att netns conf.master conf.mode conf.mtu ∷ [] }
-
-abbrev pub macvlan_share_after : MacvlanConf → Att → List ℕ → List Given → Share
-macvlan_share_after conf att netns given =
-    record no_objects {
-      addresses = addresses_on att netns given;
-      routes = routes_on att netns given (routes_of conf.ipam);
-    }
 
 abbrev pub macvlan_calls_before : MacvlanConf → Att → List ℕ → List Call
 macvlan_calls_before conf att netns = MacvlanAdd (macvlan_link att netns conf.master conf.mode conf.mtu) ∷ []
@@ -38,3 +27,20 @@ macvlan_kinds_of conf = interface_kinds false conf.ipam
 abbrev pub macvlan_result_of : MacvlanConf → Att → List ℕ → AddResult → AddResult
 macvlan_result_of conf att netns ipam = completed ipam
     (inner_interface att netns conf.mtu ipam.version ∷ []) 0 ipam.routes conf.dns
+
+-- After the leases come at most the addresses and the routes.
+abbrev pub macvlan_plugin : MacvlanConf → FirstPlugin
+macvlan_plugin conf = record {
+  ipam = conf.ipam;
+  calls_before = λ att netns. macvlan_calls_before conf att netns;
+  links = λ att netns. macvlan_link att netns conf.master conf.mode conf.mtu ∷ [];
+  calls_after = λ att netns given. macvlan_calls_after conf att netns given;
+  addresses = λ att netns given. addresses_on att netns given;
+  routes = λ att netns given. routes_on att netns given (routes_of conf.ipam);
+  rules = λ att given. [];
+  result = λ att netns ipam. macvlan_result_of conf att netns ipam;
+  kinds = macvlan_kinds_of conf;
+  bridge = None;
+  master = Some conf.master;
+  most_after = λ leases. leases + length (routes_of conf.ipam);
+}

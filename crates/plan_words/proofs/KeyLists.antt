@@ -2,6 +2,7 @@
 use Rattle.std.proofs.Common.{◌≡◌, Bool, true, false, List, [], ◌∷◌, ◌++◌, map, refl, ◌∙◌, arith}
 use Rattle.std.specs.Prelude.{filter, flat_map, if◌then◌else◌}
 use Rattle.std.specs.List.{list_any, list_all}
+use Rattle.std.proofs.lemmas.Bool.{and_parts}
 use Rattle.std.proofs.lemmas.List.Elements.{filter-append}
 pub use Rattle.cni_addr.proofs.Lists.{filter-push_dropped, list_all-append}
 pub use Rattle.cni_addr.proofs.KeyLists.{distinct-each_key_once, length-each_key_once, list_all-each_key_once, list_any-each_key_once}
@@ -43,3 +44,10 @@ list_all-flat p f w (x ∷ xs) = list_all-append p (f x) (flat_map f xs) (w x) (
 pub list_all-if : {X : Type 0} (p : X → Bool) (b : Bool) (xs : List X) → list_all p xs ≡ true → list_all p (if b then xs else []) ≡ true
 list_all-if p true xs h = h
 list_all-if p false xs h = refl
+
+-- where all pass one test, and none that does passes the other, none passes that
+pub none-by : {X : Type 0} (p q : X → Bool) → ((x : X) → p x ≡ true → q x ≡ false) → (xs : List X) → list_all p xs ≡ true → list_any q xs ≡ false
+none-by p q w [] h = refl
+none-by p q w (x ∷ xs) h =
+    let both = and_parts (p x) (list_all p xs) h in
+    grind (arith, w x both.0, none-by p q w xs both.1)

@@ -1,7 +1,10 @@
 pub mod Appends
 pub mod CallLists
+pub mod Counts
 pub mod Deletions
 pub mod KeyLists
 pub mod OtherCalls
 pub mod OwnCalls
+pub mod PluginCalls
 pub mod Refusals
+pub mod ResultLemmas

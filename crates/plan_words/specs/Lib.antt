@@ -2,6 +2,9 @@ pub mod Families
 pub mod KeyLaws
 pub mod KeyWrites
 pub mod PlanCalls
+pub mod PluginCalls
+pub mod PluginLaws
+pub mod Plugins
 pub mod Results
 pub mod Shapes
 pub mod Share

@@ -1,12 +1,18 @@
--- What the calls of a plan are, and that they append a share.
-use Rattle.std.specs.Prelude.{◌≡◌, Bool, true, not, ◌&&◌, ◌||◌, List, [], ◌∷◌, fold, is_some}
+-- What the calls of plugins are, and that they append a share.
+use Rattle.std.specs.Prelude.{◌≡◌, Bool, true, false, not, ◌&&◌, ◌||◌, List, [], ◌∷◌, fold, is_some}
+use Rattle.std.specs.List.{list_any}
+use Rattle.kernel_types.specs.Allowed.{IsVethPair, IsMacvlanLink, HasRangesApart, IsAllowedChange}
 use Rattle.kernel_types.specs.Apply.{apply}
+use Rattle.kernel_types.specs.Codes.{kind_eq}
 use Rattle.kernel_types.specs.Isolation.{names_att, ensures_shared, deletes_for}
 use Rattle.kernel_types.specs.Sound.{IsSound}
+use Rattle.kernel_types.specs.Words.{is_host_ns, is_owned}
 use Rattle.kernel_types.specs.declared.object.Att.{Att}
 use Rattle.kernel_types.specs.declared.object.Host.{Host}
 use Rattle.kernel_types.specs.declared.call.Call.{Call}
-use Rattle.kernel_types.specs.declared.call.Call.TheVariants.{Begin, LeaseNext, CacheGet}
+use Rattle.kernel_types.specs.declared.call.Call.TheVariants.{Begin, VethAdd, MacvlanAdd, AddrAdd, RouteAdd, RuleAppend, SettingSet, LeaseNext, CachePut, CacheGet, PoolFree, NsChange, Outside}
+use Rattle.kernel_types.specs.declared.call.Kind.{Kind}
+use Rattle.kernel_types.specs.declared.call.Kind.TheVariants as kinds
 use Rattle.kernel_types.specs.declared.call.Reply.TheVariants.{Done}
 use Rattle.plan_words.specs.Share.{Share, share_of, share_plus}
 
@@ -25,6 +31,36 @@ is_beside_plans call = is_some (deletes_for call)
 -- the call is one that a plugin plans for this attachment: it makes its objects, or what all attachments share
 abbrev pub is_plan_call_of : Att → Call → Bool
 is_plan_call_of att call = not (is_beside_plans call) && is_call_of att call
+
+-- The call is well formed: what `IsAllowed` asks of its fields alone. (A lease asks besides that the host's last
+-- address of the pool is one of its candidates.)
+abbrev pub IsWellFormedCall : Call → Type 0
+IsWellFormedCall (VethAdd host_end inner_end) = IsVethPair host_end inner_end
+IsWellFormedCall (MacvlanAdd link) = IsMacvlanLink link
+IsWellFormedCall (AddrAdd obj) = is_owned obj.tag ≡ true
+IsWellFormedCall (RouteAdd obj) = is_owned obj.tag ≡ true
+IsWellFormedCall (RuleAppend rule) = is_owned rule.tag ≡ true
+IsWellFormedCall (SettingSet setting) = (is_owned setting.tag ≡ true) × (is_host_ns setting.ns ≡ false)
+IsWellFormedCall (LeaseNext att number set) = HasRangesApart set
+IsWellFormedCall (PoolFree network set) = HasRangesApart set
+IsWellFormedCall (NsChange name add) = is_host_ns name ≡ false
+IsWellFormedCall (Outside change) = IsAllowedChange change
+IsWellFormedCall call = Unit {0}
+
+abbrev pub has_kind : Kind → List Kind → Bool
+has_kind kind ks = list_any (kind_eq kind) ks
+
+-- what the call makes is of these kinds; addresses and routes lie on links, and go with them
+abbrev pub is_of_kinds : List Kind → Call → Bool
+is_of_kinds ks (VethAdd host_end inner_end) = has_kind kinds.Links ks
+is_of_kinds ks (MacvlanAdd link) = has_kind kinds.Links ks
+is_of_kinds ks (AddrAdd obj) = has_kind kinds.Links ks
+is_of_kinds ks (RouteAdd obj) = has_kind kinds.Links ks
+is_of_kinds ks (RuleAppend rule) = has_kind kinds.Rules ks
+is_of_kinds ks (SettingSet setting) = has_kind kinds.Settings ks
+is_of_kinds ks (LeaseNext att number set) = has_kind kinds.Leases ks
+is_of_kinds ks (CachePut att cached) = has_kind kinds.Cached ks
+is_of_kinds ks call = true
 
 -- each of the calls, applied in order, replies Done
 abbrev pub AllDone : Host → List Call → Type 0

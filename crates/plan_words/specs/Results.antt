@@ -1,6 +1,7 @@
 -- What a plugin that makes an interface adds to the address plugin's result (CNI specification, section 4, "IPAM
--- plugins").
-use Rattle.std.specs.Prelude.{ℕ, List, map, Some}
+-- plugins"), and the interfaces that a result names.
+use Rattle.std.specs.Prelude.{ℕ, Bool, true, false, List, [], ◌∷◌, map, Option, Some, None}
+use Rattle.std.specs.Str.{bytes_eq}
 use Rattle.cni_result.specs.Versions.{mtu_since_1_1}
 use Rattle.cni_result.specs.declared.version.Version.{Version}
 use Rattle.cni_result.specs.declared.result.Interface.{Interface}
@@ -33,3 +34,12 @@ completed ipam interfaces index routes dns = record {
   routes = routes;
   dns = dns;
 }
+
+abbrev pub names_of : AddResult → List (List ℕ)
+names_of r = map (λ i. i.name) r.interfaces
+
+-- the bridge, if there is one, is named first
+abbrev pub names_first : Option (List ℕ) → List (List ℕ) → Bool
+names_first None names = true
+names_first (Some bridge) [] = false
+names_first (Some bridge) (name ∷ names) = bytes_eq name bridge

@@ -1,8 +1,10 @@
-//! Words that the plans of all plugins share: an attachment's objects, lists in which each key stands once, the calls
-//! that ask for objects, and how the address plugin's result is completed.
+//! What a plugin is, and the words that all plugins share: an attachment's objects, lists in which each key stands
+//! once, the calls that ask for objects, and how the address plugin's result is completed.
 //!
-//! A plugin's plan defines its objects once. Its share of what an ADD wants (`specs/Share.antt`) and its calls both
-//! cite them, so that "the calls append the share" (`AppendsShare` in `specs/PlanCalls.antt`) is a fact about lists.
+//! A plugin says in one record what it does (`specs/Plugins.antt`): its calls, the objects that they add, its result.
+//! What it owes to the verbs is a record too (`specs/PluginLaws.antt`): above all that its calls add exactly its
+//! objects. Both cite the objects' one definition, so that this is a fact about lists, and
+//! [`plugins_add_their_shares`](laws::plugins_add_their_shares) is what follows in every host.
 //!
 //! ```text
 //! let addresses = addresses_on(alloc, &att, &netns, &given)?; // each given address once, on the container's end
@@ -15,6 +17,7 @@ pub mod each_key_once;
 pub mod families;
 pub mod gateways;
 mod key_writes;
+pub mod laws;
 pub mod results;
 pub mod shapes;
 

@@ -8,7 +8,6 @@ use Rattle.cni_addr.specs.declared.range.RangeSet.{RangeSet}
 use Rattle.host_local.specs.Laws.{AreCandidates}
 use Rattle.ip_pool.specs.NextAddress.{is_candidate}
 use Rattle.net_conf.specs.declared.first.First.{First}
-use Rattle.net_conf.specs.declared.first.First.TheVariants.{Bridge, Ptp, Macvlan}
 use Rattle.net_conf.specs.declared.list.NetList.{NetList}
 use Rattle.pod_file.specs.declared.command.Command.{Command}
 use Rattle.kernel_types.specs.Apply.{apply}
@@ -39,7 +38,7 @@ use Rattle.pod_laws.specs.Moments.{own_entries}
 use Rattle.pod_laws.proofs.Entries.{replies_in}
 use Rattle.pod_laws.proofs.States.{IsAside, IsNoResult, aside-advance, by-aside, by-start, faulted-no_result}
 use Rattle.pod_laws.proofs.Runs.{AfterEntry, IsRunFact, StartsWith, own-state}
-use Rattle.cni_verbs.proofs.WantedShare.{share_with_leases, makes-wanted}
+use Rattle.cni_verbs.proofs.WantedShare.{adds-links, makes-wanted, share_with_leases}
 
 -- the addresses that these entries leased, in order
 abbrev pub leased_in : List Entry → List Addr
@@ -109,9 +108,7 @@ to-leasing list c es past [] given s all fits is was = to-after_leases list c es
 to-leasing list c es past (x ∷ xs) given s all fits is was = (past, all, fits, is, was)
 
 pub no_leases : (first : First) (att : Att) (netns : List ℕ) → share_after_calls no_objects (calls_before first att netns) ≡ record (share_after_calls no_objects (calls_before first att netns)) { leases = [] }
-no_leases (Bridge conf) att netns = refl
-no_leases (Ptp conf) att netns = refl
-no_leases (Macvlan conf) att netns = refl
+no_leases first att netns = adds-links first att netns no_objects ∙ ap (λ (s : Share). record s { leases = [] }) (sym (adds-links first att netns no_objects))
 
 to-before_leases : (list : NetList) (c : Command) (es : List Entry) (made left : List Call) (s : Share) → before_of list c ≡ made ++ left → s ≡ share_after_calls no_objects made → leased_in es ≡ [] → Achieved list c es (before_leases list c left) s
 to-before_leases list c es made [] s all is was =

@@ -10,9 +10,7 @@ use Rattle.std.specs.Str.{bytes_eq}
 use Rattle.std.specs.Cmp.Lexicographic.{nat_list_eq_equiv}
 use Rattle.cni_addr.specs.declared.address.Addr.{Addr}
 use Rattle.cni_addr.specs.declared.range.RangeSet.{RangeSet}
-use Rattle.net_conf.specs.declared.first.BridgeConf.{BridgeConf}
 use Rattle.net_conf.specs.declared.first.First.{First}
-use Rattle.net_conf.specs.declared.first.First.TheVariants.{Bridge, Ptp, Macvlan}
 use Rattle.net_conf.specs.declared.list.NetList.{NetList}
 use Rattle.pod_file.specs.declared.command.Command.{Command}
 use Rattle.kernel_types.specs.Allowed.{IsAllowed}
@@ -38,9 +36,11 @@ use Rattle.kernel_types.specs.declared.call.Reply.{Reply}
 use Rattle.kernel_types.specs.declared.call.Reply.TheVariants.{Done, Taken}
 use Rattle.gc_sweep.proofs.Lists.{any-found}
 use Rattle.plan_words.specs.PlanCalls.{is_call_of}
+use Rattle.plan_words.specs.PluginCalls.{ensures_bridge, is_ensured}
 use Rattle.cni_verbs.specs.CommandWords.{att_of}
 use Rattle.cni_verbs.specs.Script.{State, AtBegin, BeforeLeases, Leasing, AfterLeases, ReadingCache, Deleting, FindingEntry, Asking, Changing, Collecting, Over, Calls, before_of, back_of, after_leases, leasing, before_leases, deleting, at_call_before, advance, turn}
-use Rattle.cni_verbs.specs.Wanted.{sets_of, calls_before, kinds_of, deletion}
+use Rattle.cni_verbs.specs.Wanted.{bridge_of, calls_before, deletion, kinds_of, sets_of}
+use Rattle.cni_verbs.proofs.PluginLaws.{first_laws}
 use Rattle.cni_verbs.specs.declared.answer.Ending.{Ending}
 use Rattle.pod_workers.specs.Legal.{Legal}
 use Rattle.pod_workers.specs.Plans.{Placed, commands_of, list_for}
@@ -59,7 +59,8 @@ use Rattle.pod_laws.proofs.RunFacts.{state_by, state_by-append}
 use Rattle.pod_laws.proofs.Runs.{own-state}
 use Rattle.pod_laws.proofs.Steps.{AllOpen, Changes, GoesOn, IsOpenKept, OpenFact, at_its_place, by-open, no_list_there, on-entry}
 use Rattle.pod_laws.proofs.Turns.{IsTurnOf, alone-outside, turn-of}
-use Rattle.pod_laws.proofs.Tests.{any-filtered, none-by}
+use Rattle.plan_words.proofs.KeyLists.{none-by}
+use Rattle.pod_laws.proofs.Tests.{any-filtered}
 
 -- ---- a bridge of the host stays
 
@@ -113,11 +114,6 @@ call-inside att _ is = refl
 
 -- ---- the bridge of a list
 
-abbrev pub bridge_of : First → Option (List ℕ)
-bridge_of (Bridge conf) = Some conf.bridge
-bridge_of (Ptp conf) = None
-bridge_of (Macvlan conf) = None
-
 -- the bridge, if the list has one, is there
 abbrev pub BridgeIn : First → Host → Type 0
 BridgeIn first host = master_is_bridge_or_none host (bridge_of first) ≡ true
@@ -152,13 +148,9 @@ bridge-entered first w n c list call faulty on there =
 
 -- ---- until it is ensured
 
-abbrev pub ensures_bridge : First → Call → Bool
-ensures_bridge (Bridge conf) (BridgeEnsure name mtu promisc) = bytes_eq name conf.bridge
-ensures_bridge _ _ = false
-
 -- the bridge is there, or is still to be ensured
 abbrev pub BridgeComes : First → List Call → Host → Type 0
-BridgeComes first calls host = (list_any (ensures_bridge first) calls ≡ true) ⊎ BridgeIn first host
+BridgeComes first calls host = (list_any (ensures_bridge (bridge_of first)) calls ≡ true) ⊎ BridgeIn first host
 
 abbrev pub HasBridge : NetList → State → Host → Type 0
 HasBridge list AtBegin host = Unit {0}
@@ -188,25 +180,26 @@ ensured host name (Some link) mtu promisc found done =
     let bridge : is_bridge link.kind ≡ true = done-bridge (is_bridge link.kind) link.tag done in
     any-found (is_host_link name) (is_host_bridge name) host.links link found (grind (arith, there, bridge))
 
-in-bridge : (conf : BridgeConf) (name : List ℕ) (host : Host) → bytes_eq name conf.bridge ≡ true → has_host_bridge host name ≡ true → BridgeIn (Bridge conf) host
-in-bridge conf name host same there = ap (has_host_bridge host) (sym ((bytes_eq-Decides name conf.bridge).0 same)) ∙ there
+in-bridge : (bridge name : List ℕ) (host : Host) → bytes_eq name bridge ≡ true → has_host_bridge host name ≡ true → has_host_bridge host bridge ≡ true
+in-bridge bridge name host same there = ap (has_host_bridge host) (sym ((bytes_eq-Decides name bridge).0 same)) ∙ there
 
-ensured-made : (first : First) (host : Host) (call : Call) → ensures_bridge first call ≡ true → (apply host call).1 ≡ Done → BridgeIn first (apply host call).0
-ensured-made (Bridge conf) host (BridgeEnsure name mtu promisc) is done =
-    in-bridge conf name (apply host (BridgeEnsure name mtu promisc)).0 is (ensured host name (find (is_host_link name) host.links) mtu promisc refl done)
-ensured-made (Bridge conf) host _ is done = cc
-ensured-made (Ptp conf) host call is done = cc
-ensured-made (Macvlan conf) host call is done = cc
+ensured-made : (bridge : Option (List ℕ)) (host : Host) (call : Call) → ensures_bridge bridge call ≡ true → (apply host call).1 ≡ Done → master_is_bridge_or_none (apply host call).0 bridge ≡ true
+ensured-made None host call is done = refl
+ensured-made (Some bridge) host (BridgeEnsure name mtu promisc) is done =
+    in-bridge bridge name (apply host (BridgeEnsure name mtu promisc)).0 is (ensured host name (find (is_host_link name) host.links) mtu promisc refl done)
+ensured-made (Some bridge) host _ is done = cc
 
-ensured-entered : (first : First) (k : Host) (n : ℕ) (call : Call) (faulty : Bool) → ensures_bridge first call ≡ true → reply_to k call faulty ≡ Done → BridgeIn first (after_entry k (entry_of k n call faulty))
+ensured-entered : (first : First) (k : Host) (n : ℕ) (call : Call) (faulty : Bool) → ensures_bridge (bridge_of first) call ≡ true → reply_to k call faulty ≡ Done → BridgeIn first (after_entry k (entry_of k n call faulty))
 ensured-entered first k n call true is done = cc
-ensured-entered first k n call false is done = subst (BridgeIn first) (sym (host-made k n call)) (ensured-made first k call is done)
+ensured-entered first k n call false is done = subst (BridgeIn first) (sym (host-made k n call)) (ensured-made (bridge_of first) k call is done)
 
 -- the calls before the leases ensure it first
+to-come : (bridge : Option (List ℕ)) (calls : List Call) (host : Host) → is_ensured bridge calls ≡ true → (list_any (ensures_bridge bridge) calls ≡ true) ⊎ (master_is_bridge_or_none host bridge ≡ true)
+to-come None calls host h = inr refl
+to-come (Some bridge) calls host h = inl h
+
 comes-before : (first : First) (att : Att) (netns : List ℕ) (host : Host) → BridgeComes first (calls_before first att netns) host
-comes-before (Bridge conf) att netns host = inl (grind (arith, nat_list_eq_equiv.refl conf.bridge))
-comes-before (Ptp conf) att netns host = inr refl
-comes-before (Macvlan conf) att netns host = inr refl
+comes-before first att netns host = to-come (bridge_of first) (calls_before first att netns) host ((first_laws first).before att netns).ensured
 
 -- ---- one entry
 
@@ -234,7 +227,7 @@ bridge-before list c number left _ host h = tt
 comes-done : (first : First) (k : Host) (n : ℕ) (x : Call) (xs : List Call) (faulty : Bool) → (BridgeIn first k → BridgeIn first (after_entry k (entry_of k n x faulty))) → BridgeComes first (x ∷ xs) k → reply_to k x faulty ≡ Done
     → BridgeComes first xs (after_entry k (entry_of k n x faulty))
 comes-done first k n x xs faulty stays (inr there) done = inr (stays there)
-comes-done first k n x xs faulty stays (inl left) done = elim (cases_Bool (ensures_bridge first x)) [
+comes-done first k n x xs faulty stays (inl left) done = elim (cases_Bool (ensures_bridge (bridge_of first) x)) [
   | inl mine ↦ inr (ensured-entered first k n x faulty mine done)
   | inr other ↦ inl (grind (arith, left, other))
 ]

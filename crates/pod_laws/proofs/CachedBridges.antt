@@ -3,7 +3,7 @@ use Rattle.std.proofs.Common.{◌≡◌, ℕ, Bool, true, false, not, List, [], 
 use Rattle.std.proofs.lemmas.Bool.{and_parts, both_ways, cases_Bool, false_from_ne_true}
 use Rattle.std.proofs.lemmas.Option.{same_Some, none-some}
 use Rattle.std.proofs.lemmas.Slice.Eq.{bytes_eq-Decides}
-use Rattle.std.specs.Prelude.{filter, is_some, ◌&&◌}
+use Rattle.std.specs.Prelude.{filter, ◌&&◌}
 use Rattle.std.specs.List.{list_all, list_any}
 use Rattle.std.specs.Option.{option_map}
 use Rattle.std.specs.Str.{bytes_eq}
@@ -12,11 +12,10 @@ use Rattle.cni_addr.specs.declared.address.Addr.{Addr}
 use Rattle.cni_result.specs.declared.cached.Cached.{Cached}
 use Rattle.cni_result.specs.declared.result.AddResult.{AddResult}
 use Rattle.cni_result.specs.declared.result.Interface.{Interface}
-use Rattle.cni_result.specs.declared.version.Version.{Version}
 use Rattle.cni_verbs.specs.CommandWords.{att_of, mappings_of}
 use Rattle.cni_verbs.specs.Script.{State, AtBegin, BeforeLeases, Leasing, AfterLeases, ReadingCache, Deleting, FindingEntry, Asking, Changing, Collecting, Over, Calls, leases_in, turn}
-use Rattle.cni_verbs.specs.Wanted.{all_chained_results, cached_of, calls_before, deletion, first_result, result_of_add}
-use Rattle.firewall_tuning.specs.Tuning.{tuned_interface, tuning_result_of}
+use Rattle.cni_verbs.specs.Wanted.{all_chained_results, bridge_of, cached_of, calls_before, chained_result, deletion, result_of_add}
+use Rattle.cni_verbs.proofs.PluginLaws.{chained_laws, first_laws}
 use Rattle.kernel_types.specs.Allowed.{IsAllowed}
 use Rattle.kernel_types.specs.Apply.{apply}
 use Rattle.kernel_types.specs.Apply.Calls.{goes_with, goes_with_ns, has_peer_in, master_is_bridge_or_none, without_link}
@@ -25,7 +24,7 @@ use Rattle.kernel_types.specs.Isolation.{is_from_outside}
 use Rattle.kernel_types.specs.Sound.{IsSound, peer_fits}
 use Rattle.kernel_types.specs.Words.{cached_in, has_host_bridge, has_named_ns, is_at, is_bridge, is_host_bridge, is_host_link, is_host_ns, is_own, is_peer_at, is_veth, link_at}
 use Rattle.kernel_types.proofs.Isolation.{att_eq-same}
-use Rattle.kernel_types.proofs.ListLemmas.{list_any-kept, passes-find}
+use Rattle.kernel_types.proofs.ListLemmas.{list_all-weaker, list_any-kept, passes-find}
 use Rattle.kernel_types.specs.declared.object.Att.{Att}
 use Rattle.kernel_types.specs.declared.object.CachedObj.{CachedObj}
 use Rattle.kernel_types.specs.declared.object.Host.{Host}
@@ -39,12 +38,11 @@ use Rattle.kernel_types.specs.declared.call.Call.TheVariants.{Begin, CacheGet, C
 use Rattle.kernel_types.specs.declared.call.Change.TheVariants.{DropLink, Flush}
 use Rattle.kernel_types.specs.declared.call.Reply.{Reply}
 use Rattle.net_conf.specs.declared.chained.Chained.{Chained}
-use Rattle.net_conf.specs.declared.chained.Chained.TheVariants.{Portmap, Firewall, Tuning}
-use Rattle.net_conf.specs.declared.chained.TuningConf.{TuningConf}
 use Rattle.net_conf.specs.declared.first.First.{First}
-use Rattle.net_conf.specs.declared.first.First.TheVariants.{Bridge, Ptp, Macvlan}
 use Rattle.net_conf.specs.declared.list.NetList.{NetList}
 use Rattle.plan_words.specs.PlanCalls.{is_plan_call_of}
+use Rattle.plan_words.specs.PluginCalls.{makes_interface}
+use Rattle.plan_words.specs.Results.{names_first, names_of}
 use Rattle.plan_words.specs.Share.{Share, share_after_call, share_of}
 use Rattle.plan_words.proofs.OtherCalls.{share-other}
 use Rattle.plan_words.proofs.OwnCalls.{share-own}
@@ -65,13 +63,14 @@ use Rattle.pod_laws.specs.AskedFor.{AreAmong, HasNothingUnasked}
 use Rattle.pod_laws.specs.Moments.{own_entries}
 use Rattle.pod_laws.proofs.Achieved.{Achieved, achieved-start, achieved-step}
 use Rattle.pod_laws.proofs.Asked.{nothing_is_unasked}
-use Rattle.pod_laws.proofs.Bridges.{BridgeIn, HasBridge, all-bridges, bridge-entered, bridge_of}
+use Rattle.pod_laws.proofs.Bridges.{BridgeIn, HasBridge, all-bridges, bridge-entered}
 use Rattle.pod_laws.proofs.OfKinds.{still_none}
 use Rattle.pod_laws.proofs.Removes.{OnlyRemoves, removes-deletion}
 use Rattle.pod_laws.proofs.Runs.{every-run-now, own-state}
 use Rattle.pod_laws.proofs.States.{LeftFit, asked-is_question, is_question, question-leaves}
 use Rattle.pod_laws.proofs.Steps.{Changes, ChangesKeep, EntriesKeep, GoesOn, by-entries, on-entry}
-use Rattle.pod_laws.proofs.Tests.{middle-passes, none-by}
+use Rattle.plan_words.proofs.KeyLists.{none-by}
+use Rattle.pod_laws.proofs.Tests.{middle-passes}
 use Rattle.pod_laws.proofs.Turns.{AsksOrCollects, change-of, removes-changed, turn-of, work-turn}
 use Rattle.pod_laws.proofs.Within.{list_named-listed, opening-share}
 
@@ -175,10 +174,12 @@ none-planned att k call own h none = elim (done_or_not (apply k call).1) [
   | inr refused ↦ subst (HasNoEntry att) (sym (refused-same att k call own refused)) none
 ]
 
+interface-caches_none : (call : Call) → makes_interface call ≡ true → not (caches call) ≡ true
+interface-caches_none (CachePut att cached) h = cc
+interface-caches_none _ h = refl
+
 before-caches_none : (first : First) (att : Att) (netns : List ℕ) → list_all (λ x. not (caches x)) (calls_before first att netns) ≡ true
-before-caches_none (Bridge conf) att netns = refl
-before-caches_none (Ptp conf) att netns = refl
-before-caches_none (Macvlan conf) att netns = refl
+before-caches_none first att netns = list_all-weaker makes_interface (λ x. not (caches x)) interface-caches_none (calls_before first att netns) ((first_laws first).before att netns).make_interface
 
 -- ---- one call
 
@@ -272,46 +273,25 @@ entries-have_bridges = by-entries EntriesHaveBridges bridges-start bridges-kept 
 
 -- ---- the bridge is the first interface of the list's result
 
-abbrev is_first : List ℕ → List Interface → Bool
-is_first name [] = false
-is_first name (i ∷ is) = bytes_eq i.name name
+names-kept : (cs : List Chained) (r : AddResult) → names_of (all_chained_results cs r) ≡ names_of r
+names-kept [] r = refl
+names-kept (c ∷ cs) r = names-kept cs (chained_result c r) ∙ (chained_laws c).keeps_names r
 
-abbrev names_bridge : First → List Interface → Bool
-names_bridge (Bridge conf) interfaces = is_first conf.bridge interfaces
-names_bridge (Ptp conf) interfaces = true
-names_bridge (Macvlan conf) interfaces = true
-
-first-tuned : (name : List ℕ) (conf : TuningConf) (version : Version) (interfaces : List Interface) → is_first name (map (tuned_interface conf version) interfaces) ≡ is_first name interfaces
-first-tuned name conf version [] = refl
-first-tuned name conf version (i ∷ is) = ap (λ (x : List ℕ). bytes_eq x name) (by_test (λ (t : Interface). t.name ≡ i.name) (is_some i.sandbox) _ _ (λ _. refl) (λ _. refl))
-
-first-chained : (name : List ℕ) (cs : List Chained) (r : AddResult) → is_first name (all_chained_results cs r).interfaces ≡ is_first name r.interfaces
-first-chained name [] r = refl
-first-chained name (Portmap conf ∷ cs) r = first-chained name cs r
-first-chained name (Firewall conf ∷ cs) r = first-chained name cs r
-first-chained name (Tuning conf ∷ cs) r = first-chained name cs (tuning_result_of conf r) ∙ first-tuned name conf r.version r.interfaces
-
-names-chained : (first : First) (cs : List Chained) (att : Att) (netns : List ℕ) (ipam : AddResult) → names_bridge first (all_chained_results cs (first_result first att netns ipam)).interfaces ≡ true
-names-chained (Bridge conf) cs att netns ipam = first-chained conf.bridge cs (first_result (Bridge conf) att netns ipam) ∙ (bytes_eq-Decides conf.bridge conf.bridge).1 refl
-names-chained (Ptp conf) cs att netns ipam = refl
-names-chained (Macvlan conf) cs att netns ipam = refl
-
-result-names : (list : NetList) (att : Att) (netns : List ℕ) (addrs : List Addr) → names_bridge list.first (result_of_add list att netns addrs).interfaces ≡ true
+result-names : (list : NetList) (att : Att) (netns : List ℕ) (addrs : List Addr) → names_first (bridge_of list.first) (names_of (result_of_add list att netns addrs)) ≡ true
 unfolding result_of_add
-result-names list att netns addrs = names-chained list.first list.chained att netns _
+result-names list att netns addrs = ap (names_first (bridge_of list.first)) (names-kept list.chained _) ∙ (first_laws list.first).names_bridge att netns _
 
 -- ---- at every moment
 
--- a bridge of the host has the name of the result's first interface, where the plugin is `bridge`
-abbrev pub has_bridge_named : Host → First → List Interface → Bool
-has_bridge_named host (Bridge conf) (i ∷ is) = has_host_bridge host i.name
-has_bridge_named host first interfaces = true
+-- a bridge of the host has the name of the result's first interface, where the plugin has a bridge
+abbrev pub has_bridge_named : Host → Option (List ℕ) → List Interface → Bool
+has_bridge_named host (Some bridge) (i ∷ is) = has_host_bridge host i.name
+has_bridge_named host bridge interfaces = true
 
-is-named : (host : Host) (first : First) (interfaces : List Interface) → names_bridge first interfaces ≡ true → BridgeIn first host → has_bridge_named host first interfaces ≡ true
-is-named host (Bridge conf) [] names there = refl
-is-named host (Bridge conf) (i ∷ is) names there = ap (has_host_bridge host) ((bytes_eq-Decides i.name conf.bridge).0 names) ∙ there
-is-named host (Ptp conf) interfaces names there = refl
-is-named host (Macvlan conf) interfaces names there = refl
+is-named : (host : Host) (bridge : Option (List ℕ)) (interfaces : List Interface) → names_first bridge (map (λ i. i.name) interfaces) ≡ true → master_is_bridge_or_none host bridge ≡ true → has_bridge_named host bridge interfaces ≡ true
+is-named host None interfaces names there = refl
+is-named host (Some bridge) [] names there = refl
+is-named host (Some bridge) (i ∷ is) names there = ap (has_host_bridge host) ((bytes_eq-Decides i.name bridge).0 names) ∙ there
 
 no-entry : (att : Att) (host : Host) → HasNoEntry att host → cached_in host att ≡ None
 no-entry att host none = ap (option_map (λ (c : CachedObj). c.cached)) (find-first (λ c. is_own att c.tag) host.cached ∙ ap first_of none)
@@ -321,7 +301,7 @@ one-entry [] o cached among is = absurd (none-some cached is)
 one-entry (x ∷ xs) o cached among is = elim among.0 [ inl same ↦ sym (same_Some x.cached cached is) ∙ ap (λ (c : CachedObj). c.cached) same | inr none ↦ absurd none ]
 
 entry-names : (p : Plan) (h : List Entry) (att : Att) (list : NetList) (cached : Cached) → HasNothingUnasked p h att → list_named p.lists att.network ≡ Some list → cached_in (after p.pods.opening h) att ≡ Some cached
-    → names_bridge list.first cached.result.interfaces ≡ true
+    → names_first (bridge_of list.first) (names_of cached.result) ≡ true
 entry-names p h att list cached (inl gone) listed is = absurd (none-some cached (sym (no-entry att (after p.pods.opening h) (ap (λ (s : Share). s.cached) gone)) ∙ is))
 entry-names p h att list cached (inr a) listed is =
     let host = after p.pods.opening h in
@@ -332,18 +312,18 @@ entry-names p h att list cached (inr a) listed is =
     ap (option_map (λ (x : CachedObj). x.cached)) (sym (find-first (λ x. is_own att x.tag) host.cached)) ∙ is in
     let kept : CachedObj = record { cached = cached_of a.list (att_of c) c.netns (mappings_of a.list c) given; tag = Own (att_of c) } in
     let cached_is : cached ≡ kept.cached = one-entry (share_of att host).cached kept cached a.objects.cached found in
-    ap (λ (l : NetList). names_bridge l.first cached.result.interfaces) (sym lists) ∙ ap (λ (x : Cached). names_bridge a.list.first x.result.interfaces) cached_is
+    ap (λ (l : NetList). names_first (bridge_of l.first) (names_of cached.result)) (sym lists) ∙ ap (λ (x : Cached). names_first (bridge_of a.list.first) (names_of x.result)) cached_is
     ∙ result-names a.list (att_of c) c.netns given
 
 -- where the attachment has a cached entry, the bridge that the cached result names is there
 abbrev NamedAreThere : Plan → List Entry → Type 0
 NamedAreThere p h = (att : Att) (list : NetList) (cached : Cached) → list_named p.lists att.network ≡ Some list → cached_in (after p.pods.opening h) att ≡ Some cached
-    → has_bridge_named (after p.pods.opening h) list.first cached.result.interfaces ≡ true
+    → has_bridge_named (after p.pods.opening h) (bridge_of list.first) cached.result.interfaces ≡ true
 
 named-there : (w : World) → Legal w → NamedAreThere w.plan w.history
 named-there w legal att list cached listed is =
     let host = host_of w in
-    is-named host list.first cached.result.interfaces (entry-names w.plan w.history att list cached (nothing_is_unasked w legal att) listed is)
+    is-named host (bridge_of list.first) cached.result.interfaces (entry-names w.plan w.history att list cached (nothing_is_unasked w legal att) listed is)
     (elim (entries-have_bridges w legal att list listed) [
       | inl none ↦ absurd (none-some cached (sym (no-entry att host none) ∙ is))
       | inr there ↦ there

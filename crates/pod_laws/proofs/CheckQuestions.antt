@@ -5,8 +5,6 @@ use Rattle.std.specs.List.{AllByRecursion, list_any, list_all}
 use Rattle.cni_addr.specs.declared.mac.Mac.{Mac}
 use Rattle.cni_result.specs.declared.cached.Cached.{Cached}
 use Rattle.cni_result.specs.declared.result.Interface.{Interface}
-use Rattle.net_conf.specs.declared.first.First.{First}
-use Rattle.net_conf.specs.declared.first.First.TheVariants.{Bridge, Ptp, Macvlan}
 use Rattle.net_conf.specs.declared.list.NetList.{NetList}
 use Rattle.pod_file.specs.declared.command.Command.{Command}
 use Rattle.std.proofs.Math.Bool.{beq, and-true}
@@ -31,11 +29,12 @@ use Rattle.kernel_types.specs.declared.object.Tag.{Tag}
 use Rattle.plan_words.specs.Share.{Share}
 use Rattle.cni_verbs.specs.CommandWords.{att_of}
 use Rattle.cni_verbs.specs.Questions.{addresses_of_result, link_question, address_question, route_question, rule_questions, setting_question, lease_question, share_questions, bridge_by_mac, first_interface, bridge_questions, cached_share, check_questions}
+use Rattle.cni_verbs.specs.Wanted.{bridge_of}
 use Rattle.cni_verbs.specs.declared.answer.Cause.TheVariants.{Missing}
 use Rattle.cni_verbs.specs.declared.answer.Missed.{Missed}
 use Rattle.cni_verbs.specs.declared.answer.Missed.TheVariants as missed
 use Rattle.cni_verbs.specs.declared.answer.Question.{Question}
-use Rattle.pod_laws.specs.Checked.{are_in, has_bridge_by, has_bridge_of, has_first_bridge, has_objects_of, holds_cached}
+use Rattle.pod_laws.specs.Checked.{are_in, has_bridge_by, has_bridge_for, has_first_bridge, has_objects_of, holds_cached}
 use Rattle.pod_laws.specs.Granted.{grants}
 use Rattle.pod_laws.proofs.Asking.{tells}
 use Rattle.pod_workers.proofs.Each.{each-append, each-map_of}
@@ -153,15 +152,14 @@ steady-interfaces : (c : Command) (interfaces : List Interface) → AllByRecursi
 steady-interfaces c [] = tt
 steady-interfaces c (i ∷ is) = steady-mac c i.name i.mac
 
-steady-bridge : (c : Command) (first : First) (interfaces : List Interface) → AllByRecursion (IsSteadyQuestion c) (bridge_questions first interfaces)
-steady-bridge c (Bridge conf) interfaces = steady-interfaces c interfaces
-steady-bridge c (Ptp conf) interfaces = tt
-steady-bridge c (Macvlan conf) interfaces = tt
+steady-bridge : (c : Command) (bridge : Option (List ℕ)) (interfaces : List Interface) → AllByRecursion (IsSteadyQuestion c) (bridge_questions bridge interfaces)
+steady-bridge c None interfaces = tt
+steady-bridge c (Some bridge) interfaces = steady-interfaces c interfaces
 
 pub steady-questions : (list : NetList) (c : Command) (cached : Cached) → AllByRecursion (IsSteadyQuestion c) (check_questions list c cached)
 unfolding check_questions
 steady-questions list c cached =
-    each-append (IsSteadyQuestion c) (bridge_questions list.first cached.result.interfaces) (share_questions (cached_share list c cached)) (steady-bridge c list.first cached.result.interfaces)
+    each-append (IsSteadyQuestion c) (bridge_questions (bridge_of list.first) cached.result.interfaces) (share_questions (cached_share list c cached)) (steady-bridge c (bridge_of list.first) cached.result.interfaces)
     (steady-share c (cached_share list c cached) (own-wanted list (att_of c) cached.netns cached.mappings (addresses_of_result cached.result)))
 
 -- ---- all are granted where the host holds what the cached result says
@@ -192,15 +190,14 @@ granted-interfaces : (host : Host) (interfaces : List Interface) → list_all (g
 granted-interfaces host [] = refl
 granted-interfaces host (i ∷ is) = granted-mac host i.name i.mac
 
-granted-bridge : (host : Host) (first : First) (interfaces : List Interface) → list_all (grants host) (bridge_questions first interfaces) ≡ has_bridge_of host first interfaces
-granted-bridge host (Bridge conf) interfaces = granted-interfaces host interfaces
-granted-bridge host (Ptp conf) interfaces = refl
-granted-bridge host (Macvlan conf) interfaces = refl
+granted-bridge : (host : Host) (bridge : Option (List ℕ)) (interfaces : List Interface) → list_all (grants host) (bridge_questions bridge interfaces) ≡ has_bridge_for host bridge interfaces
+granted-bridge host None interfaces = refl
+granted-bridge host (Some bridge) interfaces = granted-interfaces host interfaces
 
 pub granted-check : (list : NetList) (c : Command) (cached : Cached) (host : Host) → list_all (grants host) (check_questions list c cached) ≡ holds_cached list c cached host
 unfolding check_questions
 granted-check list c cached host =
-    all-parts (grants host) (bridge_questions list.first cached.result.interfaces) (share_questions (cached_share list c cached)) _ _ (granted-bridge host list.first cached.result.interfaces)
+    all-parts (grants host) (bridge_questions (bridge_of list.first) cached.result.interfaces) (share_questions (cached_share list c cached)) _ _ (granted-bridge host (bridge_of list.first) cached.result.interfaces)
     (granted-share host (cached_share list c cached))
 
 -- ---- what stays

@@ -16,6 +16,7 @@ use Rattle.cni_result.specs.declared.cached.Cached.{Cached}
 use Rattle.cni_result.specs.declared.result.Interface.{Interface}
 use Rattle.cni_verbs.specs.CommandWords.{att_of}
 use Rattle.cni_verbs.specs.Questions.{addresses_of_result, cached_share}
+use Rattle.cni_verbs.specs.Wanted.{bridge_of}
 use Rattle.kernel_types.specs.Apply.Calls.{has_object}
 use Rattle.kernel_types.specs.Equal.{addr_obj_eq, lease_eq, link_eq, route_eq, rule_eq, setting_eq, tag_eq}
 use Rattle.kernel_types.specs.Sound.{IsSound}
@@ -27,8 +28,6 @@ use Rattle.kernel_types.specs.declared.object.Host.{Host}
 use Rattle.kernel_types.specs.declared.object.Link.{Link}
 use Rattle.kernel_types.specs.declared.object.Tag.{Tag}
 use Rattle.kernel_types.specs.declared.call.Probe.TheVariants.{BridgeAt}
-use Rattle.net_conf.specs.declared.first.First.{First}
-use Rattle.net_conf.specs.declared.first.First.TheVariants.{Bridge, Ptp, Macvlan}
 use Rattle.net_conf.specs.declared.list.NetList.{NetList}
 use Rattle.plan_words.specs.Share.{Share, share_of}
 use Rattle.pod_file.specs.Commands.{is_of_network}
@@ -40,7 +39,7 @@ use Rattle.pod_workers.specs.declared.plan.Entry.{Entry}
 use Rattle.pod_workers.specs.declared.plan.Plan.{Plan}
 use Rattle.pod_workers.proofs.Histories.{after-append}
 use Rattle.pod_workers.proofs.Listed.{listed_network}
-use Rattle.pod_laws.specs.Checked.{ChecksHoldFromTheirStart, HoldAlike, are_in, has_bridge_by, has_bridge_of, has_objects_of}
+use Rattle.pod_laws.specs.Checked.{ChecksHoldFromTheirStart, HoldAlike, are_in, has_bridge_by, has_bridge_for, has_objects_of}
 use Rattle.pod_laws.specs.Granted.{only_asks}
 use Rattle.pod_laws.specs.Moments.{host_at_end, host_at_start, is_of, own_entries, until_first, until_last}
 use Rattle.pod_laws.proofs.AloneRuns.{until_first-own}
@@ -215,11 +214,10 @@ alike-mac name (Some mac) old new sound keeps there =
     same-truth (has_object old (BridgeAt name mac)) (has_object new (BridgeAt name mac)) (keeps name mac)
     (λ now. let was = bridge-of name old.links there in was.alike mac (one-mac name was.mac mac new.links sound.links.keys (keeps name was.mac was.there) now))
 
-alike-bridge : (first : First) (interfaces : List Interface) (old new : Host) → IsSound new → KeepsBridges old new → has_bridge_named old first interfaces ≡ true → has_bridge_of old first interfaces ≡ has_bridge_of new first interfaces
-alike-bridge (Bridge conf) [] old new sound keeps there = refl
-alike-bridge (Bridge conf) (i ∷ is) old new sound keeps there = alike-mac i.name i.mac old new sound keeps there
-alike-bridge (Ptp conf) interfaces old new sound keeps there = refl
-alike-bridge (Macvlan conf) interfaces old new sound keeps there = refl
+alike-bridge : (bridge : Option (List ℕ)) (interfaces : List Interface) (old new : Host) → IsSound new → KeepsBridges old new → has_bridge_named old bridge interfaces ≡ true → has_bridge_for old bridge interfaces ≡ has_bridge_for new bridge interfaces
+alike-bridge None interfaces old new sound keeps there = refl
+alike-bridge (Some bridge) [] old new sound keeps there = refl
+alike-bridge (Some bridge) (i ∷ is) old new sound keeps there = alike-mac i.name i.mac old new sound keeps there
 
 -- ---- all that it asks for
 
@@ -235,17 +233,17 @@ front-first n (x ∷ xs) = elim (cases_Bool (is_of n x)) [
 
 -- the bridge that the cached entry names is there at the start
 named-at_start : (w : World) → Legal w → (n : ℕ) (c : Placed) (list : NetList) (cached : Cached) → list_for w.plan c.command ≡ Some list → cached_in (host_at_start w n) (att_of c.command) ≡ Some cached
-    → has_bridge_named (host_at_start w n) list.first cached.result.interfaces ≡ true
+    → has_bridge_named (host_at_start w n) (bridge_of list.first) cached.result.interfaces ≡ true
 named-at_start w legal n c list cached listed is =
     let front = front-first n w.history in
     always-named w legal (until_first n w.history) front.0 front.1 (att_of c.command) list cached (list_named-listed w.plan c.command list listed) is
 
-hold-alike : (list : NetList) (c : Command) (start last : Host) → IsSound last → KeepsAsked c start last → ((cached : Cached) → cached_in start (att_of c) ≡ Some cached → has_bridge_named start list.first cached.result.interfaces ≡ true)
+hold-alike : (list : NetList) (c : Command) (start last : Host) → IsSound last → KeepsAsked c start last → ((cached : Cached) → cached_in start (att_of c) ≡ Some cached → has_bridge_named start (bridge_of list.first) cached.result.interfaces ≡ true)
     → HoldAlike list c start last
 hold-alike list c start last sound keeps named = record {
   entry = sym (cached-stays c start last keeps);
   objects = λ cached is.
-      alike-both _ _ _ _ (alike-bridge list.first cached.result.interfaces start last sound keeps.bridges (named cached is))
+      alike-both _ _ _ _ (alike-bridge (bridge_of list.first) cached.result.interfaces start last sound keeps.bridges (named cached is))
       (alike-objects (att_of c) (cached_share list c cached) (own-wanted list (att_of c) cached.netns cached.mappings (addresses_of_result cached.result)) start last keeps.share);
 }
 

@@ -1,58 +1,40 @@
 -- A plan's call finds what it stands on, unless it is `macvlan`'s: its links are there, and so is the list's bridge.
-use Rattle.std.proofs.Common.{◌≡◌, ℕ, Bool, true, false, List, [], ◌∷◌, Option, Some, None, refl, sym, ◌∙◌, subst, arith}
+use Rattle.std.proofs.Common.{◌≡◌, ℕ, Bool, true, false, List, [], ◌∷◌, Option, Some, None, refl, ◌∙◌}
 use Rattle.std.specs.Prelude.{find, if◌then◌else◌}
 use Rattle.std.specs.List.{list_any, list_all}
 use Rattle.std.specs.Option.{option_map, option_or}
-use Rattle.std.specs.Cmp.Lexicographic.{nat_list_eq_equiv}
-use Rattle.std.proofs.lemmas.Bool.{both_ways}
+use Rattle.std.proofs.lemmas.Bool.{and_parts, both_ways}
 use Rattle.cni_addr.specs.declared.address.Addr.{Addr}
 use Rattle.cni_addr.specs.declared.mac.Mac.{Mac}
 use Rattle.cni_result.proofs.ReadAgain.{each_of}
 use Rattle.cni_result.specs.declared.cached.PortMapping.{PortMapping}
-use Rattle.net_conf.specs.BridgeModes as bridge_modes
-use Rattle.net_conf.specs.declared.first.PtpConf.{PtpConf}
 use Rattle.net_conf.specs.declared.first.First.{First}
-use Rattle.net_conf.specs.declared.first.First.TheVariants.{Bridge, Ptp, Macvlan}
-use Rattle.net_conf.specs.declared.chained.Chained.{Chained}
-use Rattle.net_conf.specs.declared.chained.Chained.TheVariants.{Portmap, Firewall, Tuning}
 use Rattle.net_conf.specs.declared.list.NetList.{NetList}
 use Rattle.kernel_types.specs.Apply.{apply}
 use Rattle.kernel_types.specs.Apply.Calls.{append_unless_taken, bridge_or_new, new_bridge, master_is_bridge_or_none, has_link_of, is_own_at, is_same_addr, is_same_route, is_same_setting, set_link, with_values, new_gateway, new_forward}
 use Rattle.kernel_types.specs.Equal.{rule_eq}
-use Rattle.kernel_types.specs.Names.{host_name_of}
 use Rattle.kernel_types.specs.Words.{is_own, is_host_link, is_bridge, is_link_of, has_named_ns, has_host_bridge, link_at}
 use Rattle.cni_addr.proofs.Cases.{by_test}
-use Rattle.kernel_types.proofs.Cases.{tag_eq-refl, tag_eq-own}
-use Rattle.kernel_types.proofs.ListLemmas.{list_any-append_left, list_any-map, list_any-same_test, list_any-weaker}
+use Rattle.kernel_types.proofs.ListLemmas.{list_all-weaker, list_any-append_left, list_any-map, list_any-same_test}
 use Rattle.kernel_types.specs.declared.object.Att.{Att}
 use Rattle.kernel_types.specs.declared.object.Host.{Host}
 use Rattle.kernel_types.specs.declared.object.Link.{Link}
 use Rattle.kernel_types.specs.declared.object.LinkKey.{LinkKey}
 use Rattle.kernel_types.specs.declared.object.Tag.{Tag}
-use Rattle.kernel_types.specs.declared.object.Tag.TheVariants.{Own}
 use Rattle.kernel_types.specs.declared.call.Call.{Call}
 use Rattle.kernel_types.specs.declared.call.Call.TheVariants.{BridgeEnsure, GatewayEnsure, ForwardEnsure, VethAdd, MacvlanAdd, LinkSet, AddrAdd, RouteAdd, RuleAppend, SettingSet, CachePut}
 use Rattle.kernel_types.specs.declared.call.Reply.{Reply}
 use Rattle.kernel_types.specs.declared.call.Reply.TheVariants.{Done, NoLink, Taken}
 use Rattle.plan_words.specs.PlanCalls.{is_plan_call_of}
-use Rattle.plan_words.specs.Shapes.{host_end, inner_end, macvlan_link}
+use Rattle.plan_words.specs.PluginCalls.{bridge_for, is_none_or, lies_on, makes_interface, stands_on}
+use Rattle.plan_words.proofs.PluginCalls.{interface-lies}
 use Rattle.plan_words.specs.Share.{Share, share_of, share_after_call, share_after_calls}
-use Rattle.cni_verbs.specs.Wanted.{share_before, calls_before, back_calls, untuned}
-use Rattle.pod_workers.proofs.BackCalls.{PassesChained, PassesFirst, passes-back}
+use Rattle.cni_verbs.specs.Wanted.{back_calls, bridge_of, calls_after, calls_before, chained_calls, untuned}
+use Rattle.cni_verbs.proofs.BackCalls.{PassesChained, passes-back}
+use Rattle.cni_verbs.proofs.PluginLaws.{chained_laws, first_laws}
 use Rattle.pod_laws.proofs.Tests.{any-filtered}
 
 -- ---- what a call stands on
-
-abbrev pub lies_on : List Link → Call → Bool
-lies_on links (AddrAdd obj) = list_any (is_link_of obj.ns obj.link obj.tag) links
-lies_on links (RouteAdd obj) = list_any (is_link_of obj.ns obj.link obj.tag) links
-lies_on links (LinkSet att key mac mtu tx_qlen promisc allmulti) = list_any (is_own_at att key) links
-lies_on links _ = true
-
-abbrev pub bridge_for : Call → Option (List ℕ)
-bridge_for (VethAdd h i) = h.master
-bridge_for (GatewayEnsure bridge cidr) = Some bridge
-bridge_for _ = None
 
 abbrev NeverNoLink : Host × Reply → Type 0
 NeverNoLink step = step.1 ≡ NoLink → ⊥
@@ -146,68 +128,21 @@ lies-host att host (RouteAdd obj) h = any-filtered (is_link_of obj.ns obj.link o
 lies-host att host (LinkSet own key mac mtu tx_qlen promisc allmulti) h = any-filtered (is_own_at own key) (λ l. is_own att l.tag) host.links h
 lies-host att host _ h = refl
 
--- ---- the calls of each plugin lie on its links
+-- ---- the calls of plugins lie on the links that were made before the leases
 
--- the container's end
-abbrev HasInner : Att → List ℕ → List Link → Type 0
-HasInner att netns links = list_any (is_link_of netns att.ifname (Own att)) links ≡ true
+stands-lies : (links : List Link) (bridge : Option (List ℕ)) (call : Call) → stands_on links bridge call ≡ true → lies_on links call ≡ true
+stands-lies links bridge call h = (and_parts (lies_on links call) (is_none_or (bridge_for call) bridge) h).0
 
-link-there : (ns name : List ℕ) (tag : Tag) (l : Link) → l.ns ≡ ns → l.name ≡ name → l.tag ≡ tag → is_link_of ns name tag l ≡ true
-link-there ns name tag l a b t =
-    rw (a, b, t) (grind (arith, nat_list_eq_equiv.refl ns, nat_list_eq_equiv.refl name, tag_eq-refl tag))
-
-pair-inner : (att : Att) (netns : List ℕ) (h i : Link) → is_link_of netns att.ifname (Own att) i ≡ true → HasInner att netns (h ∷ i ∷ [])
-pair-inner att netns h i there = grind (arith, there)
-
-inner-there : (first : First) (att : Att) (netns : List ℕ) → HasInner att netns (share_before first att netns).links
-inner-there (Bridge conf) att netns = pair-inner att netns (host_end att netns (Some conf.bridge) conf.mtu (bridge_modes.hairpin conf.mode)) (inner_end att netns conf.mtu) (link-there netns att.ifname (Own att) (inner_end att netns conf.mtu) refl refl refl)
-inner-there (Ptp conf) att netns = pair-inner att netns (host_end att netns None conf.mtu false) (inner_end att netns conf.mtu) (link-there netns att.ifname (Own att) (inner_end att netns conf.mtu) refl refl refl)
-inner-there (Macvlan conf) att netns =
-    let there = link-there netns att.ifname (Own att) (macvlan_link att netns conf.master conf.mode conf.mtu) refl refl refl in
-    grind (arith, there)
-
--- the host's end of a `ptp` pair
-abbrev HasOuter : Att → List Link → Type 0
-HasOuter att links = list_any (is_link_of [] (host_name_of att) (Own att)) links ≡ true
-
-host-there : (conf : PtpConf) (att : Att) (netns : List ℕ) → HasOuter att (share_before (Ptp conf) att netns).links
-host-there conf att netns =
-    let there = link-there [] (host_name_of att) (Own att) (host_end att netns None conf.mtu false) refl refl refl in
-    grind (arith, there)
-
-lie-first : (first : First) (att : Att) (netns : List ℕ) → PassesFirst (lies_on (share_before first att netns).links) first att netns
-lie-first first att netns =
-    let inner = inner-there first att netns in
-    let outer : (conf : PtpConf) → first ≡ Ptp conf → HasOuter att (share_before first att netns).links =
-    λ conf is. subst (λ f. HasOuter att (share_before f att netns).links) (sym is) (host-there conf att netns) in
-    record {
-      address = λ g. inner;
-      route = λ dst gw. inner;
-      host_address = λ conf is gateway. outer conf is;
-      host_route = λ conf is addr. outer conf is;
-      gateway = λ conf is cidr. refl;
-      forward = λ family. refl;
-      rule = λ there rule. refl;
-    }
-
--- an own link at the place is an own link of that tag
-own-at : (att : Att) (ns name : List ℕ) (links : List Link) → list_any (is_link_of ns name (Own att)) links ≡ true → list_any (is_own_at att (record { ns = ns; name = name })) links ≡ true
-own-at att ns name links h = list_any-weaker (is_link_of ns name (Own att)) (is_own_at att (record { ns = ns; name = name })) (λ l t. let e = tag_eq-own att l.tag in grind (arith, t, e)) links h
-
-lie-chained : (att : Att) (netns : List ℕ) (links : List Link) → HasInner att netns links → (c : Chained) → PassesChained (lies_on links) att netns c
-lie-chained att netns links there (Portmap conf) = λ rule. refl
-lie-chained att netns links there (Firewall conf) = λ rule. refl
-lie-chained att netns links there (Tuning conf) = (λ s. refl, own-at att netns att.ifname links there)
-
--- each call after the leases lies on the links that were made before them
+-- each call after the leases
 pub lie-back : (list : NetList) (att : Att) (netns : List ℕ) (mappings : List PortMapping) (addrs : List Addr) → list_all (lies_on (untuned list att netns)) (back_calls list att netns mappings addrs) ≡ true
 lie-back list att netns mappings addrs =
     let links = untuned list att netns in
-    passes-back (lies_on links) list att netns mappings addrs (lie-first list.first att netns)
-    (each_of (PassesChained (lies_on links) att netns) list.chained (lie-chained att netns links (inner-there list.first att netns))) (λ cached. refl)
+    let laws = first_laws list.first in
+    passes-back (lies_on links) list att netns mappings addrs
+    (λ given. list_all-weaker (stands_on links (bridge_of list.first)) (lies_on links) (stands-lies links (bridge_of list.first)) (calls_after list.first att netns given) (laws.after att netns given).stand)
+    (each_of (PassesChained (lies_on links) att netns mappings) list.chained
+    (λ c ips. list_all-weaker (stands_on links None) (lies_on links) (stands-lies links None) (chained_calls c att netns mappings ips) (((chained_laws c).calls att netns mappings ips).stand links (laws.inner att netns)))) (λ cached. refl)
 
 -- those before them lie on none
 pub lie-before : (first : First) (att : Att) (netns : List ℕ) (links : List Link) → list_all (lies_on links) (calls_before first att netns) ≡ true
-lie-before (Bridge conf) att netns links = refl
-lie-before (Ptp conf) att netns links = refl
-lie-before (Macvlan conf) att netns links = refl
+lie-before first att netns links = list_all-weaker makes_interface (lies_on links) (interface-lies links) (calls_before first att netns) ((first_laws first).before att netns).make_interface

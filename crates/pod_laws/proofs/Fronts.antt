@@ -8,7 +8,6 @@ use Rattle.std.specs.List.{list_all}
 use Rattle.cni_addr.specs.declared.address.Addr.{Addr}
 use Rattle.cni_result.proofs.ReadAgain.{everywhere}
 use Rattle.net_conf.specs.declared.first.First.{First}
-use Rattle.net_conf.specs.declared.first.First.TheVariants.{Bridge, Ptp, Macvlan}
 use Rattle.net_conf.specs.declared.list.NetList.{NetList}
 use Rattle.pod_file.specs.declared.command.Command.{Command}
 use Rattle.kernel_types.specs.Apply.Calls.{set_link}
@@ -20,16 +19,19 @@ use Rattle.kernel_types.specs.declared.object.Host.{Host}
 use Rattle.kernel_types.specs.declared.object.Tag.TheVariants.{Own}
 use Rattle.kernel_types.specs.declared.call.Call.{Call}
 use Rattle.kernel_types.specs.declared.call.Call.TheVariants.{VethAdd, MacvlanAdd, LinkSet, AddrAdd, RouteAdd, RuleAppend, SettingSet, CachePut}
+use Rattle.kernel_types.proofs.ListLemmas.{list_all-weaker}
+use Rattle.plan_words.specs.PluginCalls.{makes_interface}
 use Rattle.plan_words.specs.Share.{Share, share_of, no_objects, share_after_call, share_after_calls}
 use Rattle.plan_words.proofs.CallLists.{share_after_calls-append}
 use Rattle.cni_verbs.specs.CommandWords.{att_of, mappings_of}
 use Rattle.cni_verbs.specs.Script.{before_of, back_of}
-use Rattle.cni_verbs.specs.Wanted.{calls_before, share_before, untuned}
+use Rattle.cni_verbs.specs.Wanted.{calls_before, untuned}
 use Rattle.pod_laws.specs.Apart.{GrowsAtEnd}
 use Rattle.pod_laws.specs.AskedFor.{AreAmong, links_after_part, AreLinksOf, AreAskedFor}
 use Rattle.pod_laws.proofs.Achieved.{with_leases, wanted_by, no_leases}
 use Rattle.pod_laws.proofs.Removes.{OnlyRemoves}
-use Rattle.cni_verbs.proofs.WantedShare.{made-before, makes-wanted}
+use Rattle.cni_verbs.proofs.PluginLaws.{first_laws}
+use Rattle.cni_verbs.proofs.WantedShare.{adds-links, makes-wanted}
 
 -- ---- lists
 
@@ -155,7 +157,7 @@ asked-front list c given s links front = record {
 }
 
 pub untuned-links : (list : NetList) (c : Command) (given : List Addr) → (with_leases list c given).links ≡ untuned list (att_of c) c.netns
-untuned-links list c given = ap (λ (u : Share). u.links) (made-before list.first (att_of c) c.netns)
+untuned-links list c given = ap (λ (u : Share). u.links) (adds-links list.first (att_of c) c.netns no_objects)
 
 -- after the leases
 pub asked-after_leases : (list : NetList) (c : Command) (given : List Addr) (made left : List Call) → back_of list c given ≡ made ++ left → AreAskedFor list c given (share_after_calls (with_leases list c given) made)
@@ -178,17 +180,19 @@ links-appended_all s (x ∷ xs) h =
     let both = and_parts (appends_links x) (list_all appends_links xs) h in
     grows-on s.links (share_after_call s x).links (share_after_calls (share_after_call s x) xs).links (links-appended s x both.0) (links-appended_all (share_after_call s x) xs both.1)
 
+interface-appends : (call : Call) → makes_interface call ≡ true → appends_links call ≡ true
+interface-appends (LinkSet att key mac mtu tx_qlen promisc allmulti) h = cc
+interface-appends _ h = refl
+
 before-appends : (first : First) (att : Att) (netns : List ℕ) → list_all appends_links (calls_before first att netns) ≡ true
-before-appends (Bridge conf) att netns = refl
-before-appends (Ptp conf) att netns = refl
-before-appends (Macvlan conf) att netns = refl
+before-appends first att netns = list_all-weaker makes_interface appends_links interface-appends (calls_before first att netns) ((first_laws first).before att netns).make_interface
 
 pub asked-before_leases : (list : NetList) (c : Command) (made left : List Call) → before_of list c ≡ made ++ left → AreAskedFor list c [] (share_after_calls no_objects made)
 asked-before_leases list c made left part =
     let s = share_after_calls no_objects made in
     let all : list_all appends_links (made ++ left) ≡ true = ap (list_all appends_links) (sym part) ∙ before-appends list.first (att_of c) c.netns in
     let appends : list_all appends_links left ≡ true = (and_parts (list_all appends_links made) (list_all appends_links left) (sym (list_all-append appends_links made left) ∙ all)).1 in
-    let whole : share_after_calls s left ≡ share_before list.first (att_of c) c.netns = sym (share_after_calls-append no_objects made left) ∙ ap (share_after_calls no_objects) (sym part) ∙ made-before list.first (att_of c) c.netns in
+    let whole : share_after_calls s left ≡ record no_objects { links = untuned list (att_of c) c.netns } = sym (share_after_calls-append no_objects made left) ∙ ap (share_after_calls no_objects) (sym part) ∙ adds-links list.first (att_of c) c.netns no_objects in
     let links : GrowsAtEnd s.links (untuned list (att_of c) c.netns) = subst (λ (t : Share). GrowsAtEnd s.links t.links) whole (links-appended_all s left appends) in
     asked-front list c [] s
     (record { made = []; left = back_of list c []; part = refl; among = among-front (untuned list (att_of c) c.netns) s.links links })

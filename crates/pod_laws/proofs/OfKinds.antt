@@ -15,7 +15,7 @@ use Rattle.kernel_types.specs.declared.call.Call.TheVariants.{VethAdd, MacvlanAd
 use Rattle.plan_words.specs.Share.{Share, share_of, no_objects, share_after_call}
 use Rattle.plan_words.proofs.Deletions.{empty_none}
 use Rattle.gc_sweep.proofs.Lists.{list_all-drops}
-use Rattle.pod_workers.specs.PlanCalls.{has_kind, is_of_kinds}
+use Rattle.plan_words.specs.PlanCalls.{has_kind, is_of_kinds}
 use Rattle.pod_laws.proofs.Removes.{OnlyRemoves}
 
 -- ---- a share within kinds

@@ -1,18 +1,13 @@
 -- Each call that a run makes finds the links and the bridge that it stands on.
-use Rattle.std.proofs.Common.{◌≡◌, ℕ, Bool, true, false, List, [], ◌∷◌, ◌++◌, length, Option, Some, None, refl, sym, ◌∙◌, ap, subst, inl, inr, ◌⊎◌, arith}
+use Rattle.std.proofs.Common.{◌≡◌, ℕ, Bool, true, not, List, [], ◌∷◌, ◌++◌, length, Option, Some, None, refl, sym, ◌∙◌, ap, subst, inl, inr, ◌⊎◌}
+use Rattle.std.proofs.lemmas.Bool.{and_parts, both_ways, not-true}
 use Rattle.std.proofs.lemmas.Slice.Eq.{bytes_eq-Decides}
+use Rattle.std.specs.Prelude.{◌&&◌, ◌||◌, is_none}
 use Rattle.std.specs.List.{list_any, list_all}
-use Rattle.std.specs.Cmp.Lexicographic.{nat_list_eq_equiv}
-use Rattle.std.specs.Str.{bytes_eq}
 use Rattle.cni_addr.specs.declared.address.Addr.{Addr}
 use Rattle.cni_result.proofs.ReadAgain.{each_of}
 use Rattle.cni_result.specs.declared.cached.PortMapping.{PortMapping}
-use Rattle.net_conf.specs.BridgeModes.{hairpin, promisc}
-use Rattle.net_conf.specs.declared.first.BridgeConf.{BridgeConf}
 use Rattle.net_conf.specs.declared.first.First.{First}
-use Rattle.net_conf.specs.declared.first.First.TheVariants.{Bridge, Ptp, Macvlan}
-use Rattle.net_conf.specs.declared.chained.Chained.{Chained}
-use Rattle.net_conf.specs.declared.chained.Chained.TheVariants.{Portmap, Firewall, Tuning}
 use Rattle.net_conf.specs.declared.list.NetList.{NetList}
 use Rattle.pod_file.specs.declared.command.Command.{Command}
 use Rattle.kernel_types.specs.Apply.{apply}
@@ -20,26 +15,28 @@ use Rattle.kernel_types.specs.Apply.Calls.{master_is_bridge_or_none}
 use Rattle.kernel_types.specs.Words.{has_host_bridge}
 use Rattle.kernel_types.specs.declared.object.Att.{Att}
 use Rattle.kernel_types.specs.declared.object.Host.{Host}
+use Rattle.kernel_types.specs.declared.object.Link.{Link}
+use Rattle.kernel_types.proofs.ListLemmas.{list_all-weaker}
 use Rattle.kernel_types.specs.declared.call.Call.{Call}
-use Rattle.kernel_types.specs.declared.call.Call.TheVariants.{Begin, BridgeEnsure, VethAdd, MacvlanAdd, LeaseNext, CacheGet, HasObj, OwnersOf, PoolFree}
+use Rattle.kernel_types.specs.declared.call.Call.TheVariants.{Begin, LeaseNext, CacheGet, HasObj, OwnersOf, PoolFree}
 use Rattle.kernel_types.specs.declared.call.Kind.{Kind}
 use Rattle.kernel_types.specs.declared.call.Kind.TheVariants as kinds
 use Rattle.kernel_types.specs.declared.call.Reply.TheVariants.{NoLink}
 use Rattle.plan_words.specs.PlanCalls.{is_plan_call_of}
-use Rattle.plan_words.specs.Shapes.{host_end, inner_end, macvlan_link}
+use Rattle.plan_words.specs.PluginCalls.{bridge_for, ensures_bridge, is_ensured_first, is_none_or, lies_on, stands_on}
 use Rattle.plan_words.specs.Share.{Share, share_of}
 use Rattle.cni_verbs.specs.CommandWords.{att_of, mappings_of}
 use Rattle.cni_verbs.specs.Script.{State, AtBegin, BeforeLeases, Leasing, AfterLeases, ReadingCache, Deleting, FindingEntry, Asking, Changing, Collecting, Over, Calls, turn}
-use Rattle.cni_verbs.specs.Wanted.{calls_before, back_calls, deletion, untuned}
+use Rattle.cni_verbs.specs.Wanted.{back_calls, bridge_of, calls_after, calls_before, chained_calls, deletion, untuned}
+use Rattle.cni_verbs.proofs.BackCalls.{PassesChained, passes-back}
+use Rattle.cni_verbs.proofs.PluginLaws.{chained_laws, first_laws}
 use Rattle.pod_workers.specs.Plans.{Placed}
 use Rattle.pod_workers.specs.World.{World, host_of}
 use Rattle.pod_workers.specs.declared.plan.Entry.{Entry}
-use Rattle.pod_workers.proofs.BackCalls.{PassesChained, PassesFirst, passes-back}
-use Rattle.pod_workers.proofs.Splits.{cons_parts, split_nil}
 use Rattle.pod_laws.specs.Moments.{own_entries}
 use Rattle.pod_laws.proofs.Achieved.{Achieved, achieved-start, achieved-step, with_leases}
-use Rattle.pod_laws.proofs.Bridges.{BridgeIn, BridgeComes, HasBridge, bridge_of, ensures_bridge, all-bridges}
-use Rattle.pod_laws.proofs.Footing.{IsMacvlan, bridge_for, lies_on, lies-calls, lies-host, lie-back, lie-before, no_link-macvlan}
+use Rattle.pod_laws.proofs.Bridges.{BridgeIn, BridgeComes, HasBridge, all-bridges}
+use Rattle.pod_laws.proofs.Footing.{IsMacvlan, lies-calls, lies-host, lie-back, lie-before, no_link-macvlan}
 use Rattle.pod_laws.proofs.Fronts.{untuned-links}
 use Rattle.pod_laws.proofs.States.{LeftFit, is_question, asked-is_question}
 use Rattle.pod_laws.proofs.RunFacts.{state_by}
@@ -50,72 +47,52 @@ use Rattle.pod_laws.proofs.Tests.{middle-passes}
 
 -- ---- the bridge that a call names is the list's
 
-abbrev names_bridge : Option (List ℕ) → Option (List ℕ) → Bool
-names_bridge None o = true
-names_bridge (Some name) None = false
-names_bridge (Some name) (Some bridge) = bytes_eq name bridge
-
 abbrev is_bridged : First → Call → Bool
-is_bridged first call = names_bridge (bridge_for call) (bridge_of first)
+is_bridged first call = is_none_or (bridge_for call) (bridge_of first)
 
-named : (host : Host) (o bridge : Option (List ℕ)) → names_bridge o bridge ≡ true → master_is_bridge_or_none host bridge ≡ true → master_is_bridge_or_none host o ≡ true
+named : (host : Host) (o bridge : Option (List ℕ)) → is_none_or o bridge ≡ true → master_is_bridge_or_none host bridge ≡ true → master_is_bridge_or_none host o ≡ true
 named host None bridge h there = refl
 named host (Some name) None h there = cc
 named host (Some name) (Some bridge) h there = ap (has_host_bridge host) ((bytes_eq-Decides name bridge).0 h) ∙ there
 
-bridged-first : (first : First) (att : Att) (netns : List ℕ) → PassesFirst (is_bridged first) first att netns
-bridged-first first att netns = record {
-  address = λ g. refl;
-  route = λ dst gw. refl;
-  host_address = λ conf is gateway. refl;
-  host_route = λ conf is addr. refl;
-  gateway = λ conf is cidr. subst (λ f. names_bridge (Some conf.bridge) (bridge_of f) ≡ true) (sym is) (nat_list_eq_equiv.refl conf.bridge);
-  forward = λ family. refl;
-  rule = λ there rule. refl;
-}
+none-bridge : (o bridge : Option (List ℕ)) → is_none_or o None ≡ true → is_none_or o bridge ≡ true
+none-bridge None bridge h = refl
+none-bridge (Some name) bridge h = cc
 
-bridged-chained : (first : First) (att : Att) (netns : List ℕ) (c : Chained) → PassesChained (is_bridged first) att netns c
-bridged-chained first att netns (Portmap conf) = λ rule. refl
-bridged-chained first att netns (Firewall conf) = λ rule. refl
-bridged-chained first att netns (Tuning conf) = (λ s. refl, refl)
+-- what stands under no bridge but this, or under none
+stands-bridged : (links : List Link) (bridge : Option (List ℕ)) (call : Call) → stands_on links bridge call ≡ true → is_none_or (bridge_for call) bridge ≡ true
+stands-bridged links bridge call h = (and_parts (lies_on links call) (is_none_or (bridge_for call) bridge) h).1
 
 bridged-back : (list : NetList) (att : Att) (netns : List ℕ) (mappings : List PortMapping) (addrs : List Addr) → list_all (is_bridged list.first) (back_calls list att netns mappings addrs) ≡ true
 bridged-back list att netns mappings addrs =
-    passes-back (is_bridged list.first) list att netns mappings addrs (bridged-first list.first att netns)
-    (each_of (PassesChained (is_bridged list.first) att netns) list.chained (bridged-chained list.first att netns)) (λ cached. refl)
-
--- ---- one of a list
-
-one-or-none : {X : Type 0} (a b x : X) (made xs : List X) → a ∷ b ∷ [] ≡ made ++ x ∷ xs → (x ≡ a) ⊎ ((x ≡ b) × (xs ≡ []))
-one-or-none a b x [] xs e = inl cc
-one-or-none a b x (m ∷ []) xs e = inr (cc, cc)
-one-or-none a b x (m ∷ k ∷ ms) xs e = absurd (split_nil ms xs x (cons_parts b k [] (ms ++ x ∷ xs) (cons_parts a m (b ∷ []) (k ∷ (ms ++ x ∷ xs)) e).1).1)
-
-only-one : {X : Type 0} (a x : X) (made xs : List X) → a ∷ [] ≡ made ++ x ∷ xs → x ≡ a
-only-one a x [] xs e = cc
-only-one a x (m ∷ ms) xs e = absurd (split_nil ms xs x (cons_parts a m [] (ms ++ x ∷ xs) e).1)
+    let links = untuned list att netns in
+    let bridge = bridge_of list.first in
+    let laws = first_laws list.first in
+    passes-back (is_bridged list.first) list att netns mappings addrs
+    (λ given. list_all-weaker (stands_on links bridge) (is_bridged list.first) (stands-bridged links bridge) (calls_after list.first att netns given) (laws.after att netns given).stand)
+    (each_of (PassesChained (is_bridged list.first) att netns mappings) list.chained
+    (λ c ips. list_all-weaker (stands_on links None) (is_bridged list.first) (λ call h. none-bridge (bridge_for call) bridge (stands-bridged links None call h)) (chained_calls c att netns mappings ips)
+    (((chained_laws c).calls att netns mappings ips).stand links (laws.inner att netns)))) (λ cached. refl)
 
 -- ---- the bridge of a call before the leases
 
-no-ensure : (conf : BridgeConf) (x v : Call) (xs : List Call) → x ≡ v → xs ≡ [] → ensures_bridge (Bridge conf) v ≡ false → list_any (ensures_bridge (Bridge conf)) (x ∷ xs) ≡ false
-no-ensure conf x v xs is none not = rw (is, none) (grind (arith, not))
+first-rest : (bridge : Option (List ℕ)) (made xs : List Call) → is_ensured_first bridge (made ++ xs) ≡ true → is_ensured_first bridge xs ≡ true
+first-rest bridge [] xs h = h
+first-rest bridge (m ∷ ms) xs h =
+    first-rest bridge ms xs (and_parts (is_none (bridge_for m) || (is_none_or (bridge_for m) bridge && not (list_any (ensures_bridge bridge) (m ∷ (ms ++ xs))))) (is_ensured_first bridge (ms ++ xs)) h).1
 
-after-ensure : (conf : BridgeConf) (host : Host) (x v : Call) (xs : List Call) → x ≡ v → xs ≡ [] → ensures_bridge (Bridge conf) v ≡ false → BridgeComes (Bridge conf) (x ∷ xs) host → has_host_bridge host conf.bridge ≡ true
-after-ensure conf host x v xs is none not (inr there) = there
-after-ensure conf host x v xs is none not (inl left) = absurd (let e : true ≡ false = sym left ∙ no-ensure conf x v xs is none not in cc)
+-- it stands under none, or under this, which nothing is left to ensure
+under : (host : Host) (o bridge : Option (List ℕ)) (left : Bool) → (is_none o || (is_none_or o bridge && not left)) ≡ true → (left ≡ true) ⊎ (master_is_bridge_or_none host bridge ≡ true) → master_is_bridge_or_none host o ≡ true
+under host None bridge left h comes = refl
+under host (Some name) bridge left h (inr there) = named host (Some name) bridge (and_parts (is_none_or (Some name) bridge) (not left) h).0 there
+under host (Some name) bridge left h (inl is) = absurd (both_ways left (not-true left (and_parts (is_none_or (Some name) bridge) (not left) h).1) is)
 
 bridge-first : (first : First) (att : Att) (netns : List ℕ) (host : Host) (made xs : List Call) (x : Call) → calls_before first att netns ≡ made ++ x ∷ xs → BridgeComes first (x ∷ xs) host → master_is_bridge_or_none host (bridge_for x) ≡ true
-bridge-first (Bridge conf) att netns host made xs x part comes =
-    let ensure = BridgeEnsure conf.bridge conf.mtu (promisc conf.mode) in
-    let veth = VethAdd (host_end att netns (Some conf.bridge) conf.mtu (hairpin conf.mode)) (inner_end att netns conf.mtu) in
-    elim (one-or-none ensure veth x made xs part) [
-      | inl is ↦ ap (λ j. master_is_bridge_or_none host (bridge_for j)) is
-      | inr is ↦ ap (λ j. master_is_bridge_or_none host (bridge_for j)) is.0 ∙ after-ensure conf host x veth xs is.0 is.1 refl comes
-    ]
-bridge-first (Ptp conf) att netns host made xs x part comes =
-    ap (λ j. master_is_bridge_or_none host (bridge_for j)) (only-one (VethAdd (host_end att netns None conf.mtu false) (inner_end att netns conf.mtu)) x made xs part)
-bridge-first (Macvlan conf) att netns host made xs x part comes =
-    ap (λ j. master_is_bridge_or_none host (bridge_for j)) (only-one (MacvlanAdd (macvlan_link att netns conf.master conf.mode conf.mtu)) x made xs part)
+bridge-first first att netns host made xs x part comes =
+    let bridge = bridge_of first in
+    let ordered : is_ensured_first bridge (x ∷ xs) ≡ true = first-rest bridge made (x ∷ xs) (ap (is_ensured_first bridge) (sym part) ∙ ((first_laws first).before att netns).in_order) in
+    let left = list_any (ensures_bridge bridge) (x ∷ xs) in
+    under host (bridge_for x) bridge left (and_parts (is_none (bridge_for x) || (is_none_or (bridge_for x) bridge && not left)) (is_ensured_first bridge xs) ordered).0 comes
 
 -- ---- every call of a run
 

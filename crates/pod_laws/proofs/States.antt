@@ -3,6 +3,7 @@ use Rattle.std.proofs.Common.{◌≡◌, ℕ, Bool, true, false, List, [], ◌�
 use Rattle.std.specs.Prelude.{if◌then◌else◌}
 use Rattle.std.specs.List.{list_all}
 use Rattle.std.proofs.lemmas.Bool.{and_parts}
+use Rattle.plan_words.specs.PlanCalls.{is_of_kinds}
 use Rattle.pod_workers.proofs.Asked.{AreQuestionsOf, IsQuestionOf, check-asks, status-asks}
 use Rattle.pod_workers.proofs.Replies.{StaysTrue, by-either, by-entry, by-question, by-unless, by-unless_early, by-unless_old, true-after}
 use Rattle.cni_addr.specs.declared.address.Addr.{Addr}
@@ -26,7 +27,6 @@ use Rattle.cni_verbs.specs.declared.answer.Ending.{Ending}
 use Rattle.cni_verbs.specs.declared.answer.Ending.TheVariants.{Added, Yes, Skipped, Versions, Refused}
 use Rattle.cni_verbs.specs.declared.answer.Question.{Question}
 use Rattle.cni_verbs.specs.declared.answer.Skip.TheVariants as skips
-use Rattle.pod_workers.specs.PlanCalls.{is_of_kinds}
 use Rattle.pod_workers.proofs.PlanCalls.{of_kinds-before, of_kinds-back}
 
 -- ---- questions

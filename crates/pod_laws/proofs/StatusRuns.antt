@@ -1,5 +1,5 @@
 -- A STATUS asks of one host, and its answer is what that host has to give.
-use Rattle.std.proofs.Common.{◌≡◌, ℕ, ◌+◌, Bool, true, false, List, [], ◌∷◌, ◌++◌, length, refl, sym, ◌∙◌, ap, subst}
+use Rattle.std.proofs.Common.{◌≡◌, ℕ, ◌+◌, Bool, true, false, List, [], ◌∷◌, ◌++◌, length, refl, sym, ◌∙◌, ap, subst, Option, Some, None}
 use Rattle.std.proofs.Math.Bool.{and-true}
 use Rattle.std.specs.Prelude.{◌&&◌, MatchBool}
 use Rattle.std.specs.List.{AllByRecursion, list_all}
@@ -7,8 +7,6 @@ use Rattle.std.proofs.lemmas.List.Folds.{list_all-append}
 use Rattle.std.proofs.lemmas.List.{length_push}
 use Rattle.cni_addr.specs.declared.range.RangeSet.{RangeSet}
 use Rattle.cni_result.specs.Versions.{is_before_1_1}
-use Rattle.net_conf.specs.declared.first.First.{First}
-use Rattle.net_conf.specs.declared.first.First.TheVariants.{Bridge, Ptp, Macvlan}
 use Rattle.net_conf.specs.declared.list.NetList.{NetList}
 use Rattle.pod_file.specs.Commands.{is_exclusive_verb}
 use Rattle.pod_file.specs.declared.command.Command.{Command}
@@ -22,7 +20,7 @@ use Rattle.kernel_types.proofs.Replies.{IsReplyOf-apply}
 use Rattle.kernel_types.specs.declared.object.Host.{Host}
 use Rattle.cni_verbs.specs.Questions.{master_questions, pool_questions, status_questions}
 use Rattle.cni_verbs.specs.Script.{State, Asking, Over, Calls, advance, asking, at_question, start_of, turn, old_ending, unless_ended}
-use Rattle.cni_verbs.specs.Wanted.{sets_of}
+use Rattle.cni_verbs.specs.Wanted.{master_of, sets_of}
 use Rattle.cni_verbs.specs.declared.answer.Cause.TheVariants as causes
 use Rattle.cni_verbs.specs.declared.answer.Ending.{Ending}
 use Rattle.cni_verbs.specs.declared.answer.Ending.TheVariants.{Refused}
@@ -30,7 +28,7 @@ use Rattle.cni_verbs.specs.declared.answer.Question.{Question}
 use Rattle.cni_verbs.proofs.EarlyEndings.{old_ending-cases, too_old}
 use Rattle.pod_workers.specs.World.{entry_of, host_of, reply_to}
 use Rattle.pod_workers.specs.declared.plan.Entry.{Entry}
-use Rattle.pod_laws.specs.Available.{EndsStatus, IsUnavailable, LacksService, WasAvailable, has_master_of, is_available}
+use Rattle.pod_laws.specs.Available.{EndsStatus, IsUnavailable, LacksService, WasAvailable, has_master, is_available}
 use Rattle.pod_laws.specs.Granted.{grants, only_asks}
 use Rattle.pod_laws.specs.Moments.{has_fault, host_at_end, own_entries}
 use Rattle.pod_laws.specs.Answers.{EndsByFault, EndsByTest}
@@ -52,31 +50,29 @@ service-pools : (network : List ℕ) (number : ℕ) (sets : List RangeSet) → A
 service-pools network number [] = tt
 service-pools network number (s ∷ ss) = ((refl, refl), service-pools network (number + 1) ss)
 
-service-master : (first : First) → AllByRecursion IsServiceQuestion (master_questions first)
-service-master (Bridge conf) = tt
-service-master (Ptp conf) = tt
-service-master (Macvlan conf) = ((refl, refl), tt)
+service-master : (master : Option (List ℕ)) → AllByRecursion IsServiceQuestion (master_questions master)
+service-master None = tt
+service-master (Some master) = ((refl, refl), tt)
 
 service-questions : (list : NetList) (c : Command) → AllByRecursion IsServiceQuestion (status_questions list c)
 unfolding status_questions
-service-questions list c = each-append IsServiceQuestion (pool_questions c.network 0 (sets_of list)) (master_questions list.first) (service-pools c.network 0 (sets_of list)) (service-master list.first)
+service-questions list c = each-append IsServiceQuestion (pool_questions c.network 0 (sets_of list)) (master_questions (master_of list.first)) (service-pools c.network 0 (sets_of list)) (service-master (master_of list.first))
 
 -- all are granted where the network is available
 granted-pools : (host : Host) (network : List ℕ) (number : ℕ) (sets : List RangeSet) → list_all (grants host) (pool_questions network number sets) ≡ list_all (λ set. has_free_of set (leased_addresses host network)) sets
 granted-pools host network number [] = refl
 granted-pools host network number (s ∷ ss) = ap (λ b. has_free_of s (leased_addresses host network) && b) (granted-pools host network (number + 1) ss)
 
-granted-master : (host : Host) (first : First) → list_all (grants host) (master_questions first) ≡ has_master_of host first
-granted-master host (Bridge conf) = refl
-granted-master host (Ptp conf) = refl
-granted-master host (Macvlan conf) = and-true _
+granted-master : (host : Host) (master : Option (List ℕ)) → list_all (grants host) (master_questions master) ≡ has_master host master
+granted-master host None = refl
+granted-master host (Some master) = and-true _
 
 granted-status : (list : NetList) (c : Command) (host : Host) → list_all (grants host) (status_questions list c) ≡ is_available list c host
 unfolding status_questions
 granted-status list c host =
-    list_all-append (grants host) (pool_questions c.network 0 (sets_of list)) (master_questions list.first)
-    ∙ ap (λ b. b && list_all (grants host) (master_questions list.first)) (granted-pools host c.network 0 (sets_of list))
-    ∙ ap (λ b. list_all (λ set. has_free_of set (leased_addresses host c.network)) (sets_of list) && b) (granted-master host list.first)
+    list_all-append (grants host) (pool_questions c.network 0 (sets_of list)) (master_questions (master_of list.first))
+    ∙ ap (λ b. b && list_all (grants host) (master_questions (master_of list.first))) (granted-pools host c.network 0 (sets_of list))
+    ∙ ap (λ b. list_all (λ set. has_free_of set (leased_addresses host c.network)) (sets_of list) && b) (granted-master host (master_of list.first))
 
 -- ---- every run
 

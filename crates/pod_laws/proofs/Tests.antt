@@ -1,21 +1,15 @@
 -- Tests of one and of many.
-use Rattle.std.proofs.Common.{◌≡◌, Bool, true, false, List, [], ◌∷◌, ◌++◌, sym, ◌∙◌, ap, arith}
+use Rattle.std.proofs.Common.{◌≡◌, Bool, true, List, [], ◌∷◌, ◌++◌, sym, ◌∙◌, ap, arith}
 use Rattle.std.proofs.lemmas.Bool.{and_parts, both_ways}
 use Rattle.std.proofs.lemmas.List.Folds.{list_all-append}
 use Rattle.std.specs.Prelude.{filter}
 use Rattle.std.specs.List.{list_all, list_any}
-use Rattle.kernel_types.proofs.ListLemmas.{filter_never}
-use Rattle.plan_words.proofs.Deletions.{empty_none}
 use Rattle.pod_laws.specs.Answers.{IsFirstToFail}
 
 -- what passes among some passes among all
 pub any-filtered : {X : Type 0} (p q : X → Bool) (xs : List X) → list_any p (filter q xs) ≡ true → list_any p xs ≡ true
 any-filtered p q [] h = h
 any-filtered p q (x ∷ xs) h = grind (arith, h, any-filtered p q xs)
-
--- where all pass one test, and none that does passes the other, none passes that
-pub none-by : {X : Type 0} (q r : X → Bool) → ((x : X) → q x ≡ true → r x ≡ false) → (xs : List X) → list_all q xs ≡ true → list_any r xs ≡ false
-none-by q r w xs h = empty_none r xs (filter_never r q w xs h)
 
 -- one of a list of which all pass
 pub middle-passes : {X : Type 0} (p : X → Bool) (xs : List X) (y : X) (ys : List X) → list_all p (xs ++ y ∷ ys) ≡ true → p y ≡ true

@@ -6,8 +6,6 @@ use Rattle.cni_addr.specs.declared.address.Addr.{Addr}
 use Rattle.cni_addr.specs.declared.mac.Mac.{Mac}
 use Rattle.cni_result.specs.declared.cached.Cached.{Cached}
 use Rattle.cni_result.specs.declared.result.Interface.{Interface}
-use Rattle.net_conf.specs.declared.first.First.{First}
-use Rattle.net_conf.specs.declared.first.First.TheVariants.{Bridge, Ptp, Macvlan}
 use Rattle.net_conf.specs.declared.list.NetList.{NetList}
 use Rattle.pod_file.specs.Commands.{is_of_network}
 use Rattle.pod_file.specs.declared.command.Command.{Command}
@@ -20,7 +18,7 @@ use Rattle.plan_words.specs.Share.{Share}
 use Rattle.cni_verbs.specs.CommandWords.{add_refusal, att_of, del_refusal}
 use Rattle.cni_verbs.specs.Questions.{bridge_by_mac, bridge_questions, cached_share, check_questions, first_interface, master_questions, pool_questions, share_questions, status_questions}
 use Rattle.cni_verbs.specs.Script.{State, AtBegin, ReadingCache, FindingEntry, Over, advance, asking, at_entry, checking, start_of, start_state}
-use Rattle.cni_verbs.specs.Wanted.{kinds_of, sets_of}
+use Rattle.cni_verbs.specs.Wanted.{bridge_of, kinds_of, master_of, sets_of}
 use Rattle.cni_verbs.specs.declared.answer.Ending.{Ending}
 use Rattle.cni_verbs.specs.declared.answer.Ending.TheVariants.{Yes, Skipped, Refused}
 use Rattle.cni_verbs.specs.declared.answer.Question.{Question}
@@ -50,30 +48,28 @@ length-interfaces : (interfaces : List Interface) → length (first_interface in
 length-interfaces [] = omega arith
 length-interfaces (i ∷ is) = length-mac i.name i.mac
 
-length-bridge : (first : First) (interfaces : List Interface) → length (bridge_questions first interfaces) ≤ 1
-length-bridge (Bridge conf) interfaces = length-interfaces interfaces
-length-bridge (Ptp conf) interfaces = omega arith
-length-bridge (Macvlan conf) interfaces = omega arith
+length-bridge : (bridge : Option (List ℕ)) (interfaces : List Interface) → length (bridge_questions bridge interfaces) ≤ 1
+length-bridge None interfaces = omega arith
+length-bridge (Some bridge) interfaces = length-interfaces interfaces
 
 length-check : (list : NetList) (c : Command) (cached : Cached) → length (check_questions list c cached) ≤ 1 + asked_of (cached_share list c cached)
 unfolding check_questions
 length-check list c cached =
-    let a = length-append (bridge_questions list.first cached.result.interfaces) (share_questions (cached_share list c cached)) in
-    let b = length-bridge list.first cached.result.interfaces in
+    let a = length-append (bridge_questions (bridge_of list.first) cached.result.interfaces) (share_questions (cached_share list c cached)) in
+    let b = length-bridge (bridge_of list.first) cached.result.interfaces in
     let d = length-share (cached_share list c cached) in
     omega arith
 
-length-master : (first : First) → length (master_questions first) ≤ 1
-length-master (Bridge conf) = omega arith
-length-master (Ptp conf) = omega arith
-length-master (Macvlan conf) = omega arith
+length-master : (master : Option (List ℕ)) → length (master_questions master) ≤ 1
+length-master None = omega arith
+length-master (Some master) = omega arith
 
 length-status : (list : NetList) (c : Command) → length (status_questions list c) ≤ length (sets_of list) + 1
 unfolding status_questions
 length-status list c =
-    let a = length-append (pool_questions c.network 0 (sets_of list)) (master_questions list.first) in
+    let a = length-append (pool_questions c.network 0 (sets_of list)) (master_questions (master_of list.first)) in
     let b = length-pools c.network 0 (sets_of list) in
-    let d = length-master list.first in
+    let d = length-master (master_of list.first) in
     omega arith
 
 -- ---- what a start leaves

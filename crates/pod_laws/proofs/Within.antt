@@ -21,7 +21,7 @@ use Rattle.kernel_types.specs.declared.call.Kind.{Kind}
 use Rattle.kernel_types.specs.declared.call.Kind.TheVariants as kinds
 use Rattle.kernel_types.specs.declared.call.Call.{Call}
 use Rattle.kernel_types.specs.declared.call.Call.TheVariants.{Begin, LeaseNext, CacheGet}
-use Rattle.plan_words.specs.PlanCalls.{is_plan_call_of}
+use Rattle.plan_words.specs.PlanCalls.{has_kind, is_of_kinds, is_plan_call_of}
 use Rattle.plan_words.specs.Share.{share_of, no_objects}
 use Rattle.plan_words.proofs.OtherCalls.{share-other}
 use Rattle.plan_words.proofs.OwnCalls.{share-own, share-lease}
@@ -32,7 +32,6 @@ use Rattle.cni_verbs.specs.Wanted.{kinds_of, deletion}
 use Rattle.pod_file.specs.WellFormed.{IsOpening}
 use Rattle.pod_workers.specs.Legal.{Legal}
 use Rattle.pod_file.specs.Commands.{is_of_network}
-use Rattle.pod_workers.specs.PlanCalls.{has_kind, is_of_kinds}
 use Rattle.pod_workers.specs.Plans.{Placed, IsWellFormed, list_for, list_named}
 use Rattle.pod_workers.specs.World.{World, entry_of, host_of, after_entry, own_replies}
 use Rattle.pod_workers.specs.declared.plan.Entry.{Entry}

@@ -19,7 +19,7 @@ use Rattle.pod_laws.specs.Moments.{host_at_end, own_entries}
 use Rattle.pod_laws.specs.Refused.{NothingRefuses}
 
 -- It was leased one address a range set, no two the same, and these decide its result. At its last entry its attachment
--- has exactly the objects that they ask for, list by list, in order. Neither its words nor an entry refused it.
+-- has exactly the objects that they ask for, list by list, in order. Neither its fields nor an entry refused it.
 pub record HasMade (w : World) (n : ℕ) (c : Command) (list : NetList) (r : AddResult) : Type 0 where
   pub verb : c.verb ≡ verbs.Add
   pub unrefused : NothingRefuses c (own_entries n w.history)

@@ -31,7 +31,7 @@ is_cut_off answer = false
 abbrev pub IsRefusedAnswer : Answer → Type 0
 IsRefusedAnswer a = (error : CniError) × (a ≡ answers.Refused error)
 
--- by its words, before any call
+-- by its fields, before any call
 pub record IsRefusedByWords (refusal : Option Cause) (entries : List Entry) (cause : Cause) : Type 0 where
   pub words : refusal ≡ Some cause
   pub no_entry : entries ≡ []

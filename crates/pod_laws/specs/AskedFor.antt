@@ -1,21 +1,20 @@
 -- Each object that an attachment has is one that an ADD of it asked for.
-use Rattle.std.specs.Prelude.{◌≡◌, ℕ, ◌+◌, ◌⊎◌, Bool, true, false, ◌&&◌, not, List, [], ◌∷◌, ◌++◌, Option, Some, None, slice_get, if◌then◌else◌}
-use Rattle.std.specs.List.{list_any, AllByRecursion}
+use Rattle.std.specs.Prelude.{◌≡◌, ℕ, ◌+◌, ◌⊎◌, Bool, true, false, ◌&&◌, List, [], ◌∷◌, ◌++◌, Option, Some, None, slice_get, if◌then◌else◌}
+use Rattle.std.specs.List.{AllByRecursion}
 use Rattle.std.specs.Option.{option_or}
 use Rattle.cni_addr.specs.declared.address.Addr.{Addr}
 use Rattle.cni_verbs.specs.AddCalls.{is_done}
 use Rattle.cni_verbs.specs.CommandWords.{att_of, mappings_of}
 use Rattle.cni_verbs.specs.Script.{leases_in}
-use Rattle.cni_verbs.specs.Wanted.{back_calls, untuned, wanted}
+use Rattle.cni_verbs.specs.Wanted.{back_calls, sets_links, untuned, wanted}
 use Rattle.kernel_types.specs.Equal.{att_eq}
 use Rattle.cni_addr.specs.Lists.{IsAmong}
 use Rattle.kernel_types.specs.declared.object.Att.{Att}
 use Rattle.kernel_types.specs.declared.object.Link.{Link}
 use Rattle.kernel_types.specs.declared.call.Call.{Call}
 use Rattle.kernel_types.specs.declared.call.Call.TheVariants.{Begin}
-use Rattle.net_conf.specs.Plugins.{is_of_type}
 use Rattle.net_conf.specs.declared.list.NetList.{NetList}
-use Rattle.net_conf.specs.declared.plugin_type.PluginType.TheVariants.{Tuning}
+use Rattle.plan_words.specs.PluginCalls.{at_most_one}
 use Rattle.plan_words.specs.Share.{Share, no_objects, share_after_calls}
 use Rattle.pod_file.specs.declared.command.Command.{Command}
 use Rattle.pod_file.specs.declared.command.Verb.TheVariants as verbs
@@ -50,7 +49,7 @@ last_begun att (e ∷ es) = option_or (last_begun att es) (if begins att e then 
 -- ---- what it asks for
 
 -- the links of an ADD as a first part of its calls after the leases leaves them: as they were made, or with the values
--- of `tuning`
+-- that a chained plugin sets
 abbrev pub links_after_part : NetList → Command → List Call → List Link
 links_after_part list c made =
     (share_after_calls (record no_objects { links = untuned list (att_of c) c.netns }) made).links
@@ -93,19 +92,15 @@ NothingIsUnasked = (w : World) → Legal w → (att : Att) → HasNothingUnasked
 
 -- ---- links
 
-abbrev pub at_most_one : {X : Type 0} → (X → Bool) → List X → Bool
-at_most_one test [] = true
-at_most_one test (x ∷ xs) = if test x then not (list_any test xs) else at_most_one test xs
-
--- all are as they were made, or all are as they are wanted: with the values of `tuning`
+-- all are as they were made, or all are as they are wanted: with the values that a chained plugin sets
 abbrev pub AreMadeOrWanted : NetList → Command → List Addr → List Link → Type 0
 AreMadeOrWanted list c given links = AreAmong links (untuned list (att_of c) c.netns) ⊎ AreAmong links
     (wanted list (att_of c) c.netns (mappings_of list c) given).links
 
--- so it is with the links of an ADD where `tuning` comes at most once in its list
+-- so it is with the links of an ADD where at most one plugin of its list sets values of them
 abbrev pub EachLinkIsWanted : Type 0
 EachLinkIsWanted = (list : NetList) (c : Command) (given : List Addr) (links : List Link)
-    → at_most_one (is_of_type Tuning) list.chained ≡ true → AreLinksOf list c given links
+    → at_most_one sets_links list.chained ≡ true → AreLinksOf list c given links
     → AreMadeOrWanted list c given links
 
 -- and with those of every attachment after these entries
@@ -113,6 +108,6 @@ abbrev pub EachHasLinksMadeOrWanted : Plan → List Entry → Type 0
 EachHasLinksMadeOrWanted p h = (att : Att) (a : IsAskedFor p h att)
     → AreMadeOrWanted a.list a.by.command (leases_in (replies_of a.place h)) (objects_after p att h).links
 
--- at every moment, since in each list of a plan it comes at most once
+-- at every moment, since in each list of a plan each plugin comes at most once
 abbrev pub LinksAreMadeOrWanted : Type 0
 LinksAreMadeOrWanted = (w : World) → Legal w → EachHasLinksMadeOrWanted w.plan w.history

@@ -1,10 +1,10 @@
 -- What a STATUS is answered (CNI specification, section 3, "Status").
-use Rattle.std.specs.Prelude.{◌≡◌, ◌&&◌, Bool, true, MatchBool, List, []}
+use Rattle.std.specs.Prelude.{◌≡◌, ℕ, ◌&&◌, Bool, true, MatchBool, List, [], Option, Some, None}
 use Rattle.std.specs.List.{list_all}
 use Rattle.cni_result.specs.Versions.{is_before_1_1}
 use Rattle.cni_verbs.specs.Answers.{code_of}
 use Rattle.cni_verbs.specs.Questions.{status_questions}
-use Rattle.cni_verbs.specs.Wanted.{sets_of}
+use Rattle.cni_verbs.specs.Wanted.{master_of, sets_of}
 use Rattle.cni_verbs.specs.declared.answer.Cause.{Cause}
 use Rattle.cni_verbs.specs.declared.answer.Cause.TheVariants as causes
 use Rattle.cni_verbs.specs.declared.answer.Ending.{Ending}
@@ -13,8 +13,6 @@ use Rattle.ip_pool.specs.Pool.{has_free_of}
 use Rattle.kernel_types.specs.Apply.Calls.{has_object, leased_addresses}
 use Rattle.kernel_types.specs.declared.object.Host.{Host}
 use Rattle.kernel_types.specs.declared.call.Probe.TheVariants.{Master}
-use Rattle.net_conf.specs.declared.first.First.{First}
-use Rattle.net_conf.specs.declared.first.First.TheVariants as firsts
 use Rattle.net_conf.specs.declared.list.NetList.{NetList}
 use Rattle.pod_file.specs.declared.command.Command.{Command}
 use Rattle.pod_file.specs.declared.command.Verb.TheVariants as verbs
@@ -23,16 +21,15 @@ use Rattle.pod_laws.specs.Granted.{EndsByDenied}
 use Rattle.pod_laws.specs.Moments.{has_fault}
 use Rattle.pod_laws.specs.Answers.{EachEnding, EndsByFault, EndsByTest}
 
--- the master of `macvlan` is a link of the host that no attachment owns
-abbrev pub has_master_of : Host → First → Bool
-has_master_of host (firsts.Bridge conf) = true
-has_master_of host (firsts.Ptp conf) = true
-has_master_of host (firsts.Macvlan conf) = has_object host (Master conf.master)
+-- the master, if the plugin has one, is a link of the host that no attachment owns
+abbrev pub has_master : Host → Option (List ℕ) → Bool
+has_master host None = true
+has_master host (Some master) = has_object host (Master master)
 
 -- the network can serve an ADD: each range set has a free address, and the master is there
 abbrev pub is_available : NetList → Command → Host → Bool
 is_available list c host = list_all (λ set. has_free_of set (leased_addresses host c.network))
-    (sets_of list) && has_master_of host list.first
+    (sets_of list) && has_master host (master_of list.first)
 
 abbrev pub IsUnavailable : Cause → Type 0
 IsUnavailable cause = code_of cause ≡ 50

@@ -6,6 +6,7 @@ use Rattle.cni_result.specs.declared.cached.Cached.{Cached}
 use Rattle.cni_result.specs.declared.result.Interface.{Interface}
 use Rattle.cni_verbs.specs.CommandWords.{att_of, del_refusal}
 use Rattle.cni_verbs.specs.Questions.{cached_share, check_questions}
+use Rattle.cni_verbs.specs.Wanted.{bridge_of}
 use Rattle.cni_verbs.specs.declared.answer.Cause.{Cause}
 use Rattle.cni_verbs.specs.declared.answer.Cause.TheVariants as causes
 use Rattle.cni_verbs.specs.declared.answer.Ending.{Ending}
@@ -17,8 +18,6 @@ use Rattle.kernel_types.specs.Equal.{link_eq, addr_obj_eq, route_eq, rule_eq, se
 use Rattle.kernel_types.specs.Words.{cached_in}
 use Rattle.kernel_types.specs.declared.object.Host.{Host}
 use Rattle.kernel_types.specs.declared.call.Probe.TheVariants.{BridgeAt}
-use Rattle.net_conf.specs.declared.first.First.{First}
-use Rattle.net_conf.specs.declared.first.First.TheVariants as firsts
 use Rattle.net_conf.specs.declared.list.NetList.{NetList}
 use Rattle.plan_words.specs.Share.{Share}
 use Rattle.pod_file.specs.declared.command.Command.{Command}
@@ -45,11 +44,10 @@ abbrev pub has_first_bridge : Host → List Interface → Bool
 has_first_bridge host [] = true
 has_first_bridge host (i ∷ is) = has_bridge_by host i.name i.mac
 
--- a bridge of the host has the name and the MAC address of the result's first interface, where the plugin is `bridge`
-abbrev pub has_bridge_of : Host → First → List Interface → Bool
-has_bridge_of host (firsts.Bridge conf) interfaces = has_first_bridge host interfaces
-has_bridge_of host (firsts.Ptp conf) interfaces = true
-has_bridge_of host (firsts.Macvlan conf) interfaces = true
+-- a bridge of the host has the name and the MAC address of the result's first interface, where the plugin has a bridge
+abbrev pub has_bridge_for : Host → Option (List ℕ) → List Interface → Bool
+has_bridge_for host None interfaces = true
+has_bridge_for host (Some bridge) interfaces = has_first_bridge host interfaces
 
 -- each object is in the host as it is here; the cached entry is not asked for
 abbrev pub has_objects_of : Host → Share → Bool
@@ -62,8 +60,8 @@ has_objects_of host s =
 
 -- the host holds all that the cached result says that there is
 abbrev pub holds_cached : NetList → Command → Cached → Host → Bool
-holds_cached list c cached host = has_bridge_of host list.first cached.result.interfaces && has_objects_of host
-    (cached_share list c cached)
+holds_cached list c cached host = has_bridge_for host (bridge_of list.first) cached.result.interfaces
+    && has_objects_of host (cached_share list c cached)
 
 -- ---- the ending
 
@@ -87,7 +85,7 @@ EndsByList list c entries host true ending = (entries ≡ []) × (ending ≡ Ski
 EndsByList list c entries host false ending = EndsByFault entries (has_fault entries) ending
     (EndsByEntry list c host (cached_in host (att_of c)) ending)
 
--- how a CHECK ends: by its words, by the list, by a fault, and else by what the host holds
+-- how a CHECK ends: by its fields, by the list, by a fault, and else by what the host holds
 abbrev pub EndsCheck : NetList → Command → List Entry → Host → Option Cause → Ending → Type 0
 EndsCheck list c entries host (Some cause) ending = (entries ≡ []) × (ending ≡ Refused cause)
 EndsCheck list c entries host None ending = EndsByList list c entries host list.disable_check ending

@@ -17,7 +17,7 @@ use Rattle.pod_laws.specs.Moments.{has_fault, host_at_end, own_entries}
 use Rattle.pod_laws.specs.Answers.{EachAnswer, EachIsOrRefused, EachIsWhere, EachRefusal, IsRefusedByWords}
 use Rattle.pod_laws.specs.Single.{EachEntry, ByVerb}
 
--- its words are good, and no entry is a fault
+-- its fields are good, and no entry is a fault
 abbrev pub NothingFails : Command → List Entry → Type 0
 NothingFails c entries = (del_refusal c ≡ None) × (has_fault entries ≡ false)
 
@@ -45,7 +45,7 @@ pub record IsUndeletedByFault (c : Command) (entries : List Entry) (cause : Caus
   pub fault : by.reply ≡ Fault
   pub number : cause ≡ causes.Fault (length calm + 1)
 
--- or by its words
+-- or by its fields
 abbrev pub IsUndeletedFor : Command → List Entry → Cause → Type 0
 IsUndeletedFor c entries cause = IsRefusedByWords (del_refusal c) entries cause ⊎ IsUndeletedByFault c entries cause
 

@@ -51,7 +51,7 @@ pub record FirstRefusal (entries : List Entry) (cause : Cause) : Type 0 where
   pub refuses : IsFirstToFail lets_go_on entries by
   pub decides : IsCause (length refuses.past + 1) by.call by.reply cause
 
--- ---- by its words, or in one of two ways by its entries and what its attachment has at the last of them
+-- ---- by its fields, or in one of two ways by its entries and what its attachment has at the last of them
 
 -- at Begin, which is its only entry
 pub record IsRefusedAtBegin (c : Command) (entries : List Entry) (cause : Cause) : Type 0 where
@@ -89,10 +89,10 @@ IsResult a = (result : AddResult) × (a ≡ answers.Added result)
 abbrev pub AnswersOfAdd : Type 0
 AnswersOfAdd = EachIsOrRefused verbs.Add IsResult
 
--- neither its words nor an entry
+-- neither its fields nor an entry
 abbrev pub NothingRefuses : Command → List Entry → Type 0
 NothingRefuses c entries = (add_refusal c ≡ None) × (list_all lets_go_on entries ≡ true)
 
--- so one that was neither refused memory nor stopped is refused exactly where its words or an entry refuse it
+-- so one that was neither refused memory nor stopped is refused exactly where its fields or an entry refuse it
 abbrev pub UnrefusedIsAdded : Type 0
 UnrefusedIsAdded = EachIsWhere verbs.Add NothingRefuses IsResult

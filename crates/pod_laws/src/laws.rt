@@ -26,9 +26,9 @@ pub fn an_added_attachment_is_made()
     ensures { WasAdded }
 {}
 
-/// An ADD is refused by its words, with no call made, or by its first entry that is not granted, which decides the code
-/// and its details. Where that is Begin it is the only entry. Else nothing of the attachment is left at the last entry,
-/// unless a later entry is a fault.
+/// An ADD is refused by its fields, with no call made, or by its first entry that is not granted, which decides the
+/// code and its details. Where that is Begin it is the only entry. Else nothing of the attachment is left at the last
+/// entry, unless a later entry is a fault.
 pub fn a_refused_attachment_is_undone()
     ensures { WasRefused }
 {}
@@ -43,7 +43,7 @@ pub fn every_add_is_answered()
     ensures { AnswersOfAdd }
 {}
 
-/// An ADD with good words and no refusing entry is answered with a result, unless memory was refused or it was
+/// An ADD with good fields and no refusing entry is answered with a result, unless memory was refused or it was
 /// stopped.
 pub fn an_unrefused_add_is_answered_with_a_result()
     ensures { UnrefusedIsAdded }
@@ -51,12 +51,12 @@ pub fn an_unrefused_add_is_answered_with_a_result()
 
 // ---- DEL
 
-/// A DEL that was answered `ok` had good words and no fault, and nothing of its attachment is left at its last entry.
+/// A DEL that was answered `ok` had good fields and no fault, and nothing of its attachment is left at its last entry.
 pub fn a_deleted_attachment_is_gone()
     ensures { WasDeleted }
 {}
 
-/// A DEL is refused by its words, with no call made, or at its first fault.
+/// A DEL is refused by its fields, with no call made, or at its first fault.
 pub fn a_deletion_fails_by_words_or_fault()
     ensures { WasNotDeleted }
 {}
@@ -67,7 +67,7 @@ pub fn every_del_is_answered()
     ensures { AnswersOfDel }
 {}
 
-/// A DEL with good words and no fault is answered `ok`, unless memory was refused or it was stopped.
+/// A DEL with good fields and no fault is answered `ok`, unless memory was refused or it was stopped.
 pub fn a_calm_del_is_answered_without_error()
     ensures { CalmIsDeleted }
 {}
@@ -131,13 +131,14 @@ pub fn a_gone_attachment_stays_gone()
     ensures { GoneStaysGone }
 {}
 
-/// Where a list has `tuning` at most once, the links that an ADD asks for at a moment are all as they were made, or all
-/// as they are wanted, with the values of `tuning`.
+/// Where one plugin of a list at most sets values of links, the links that an ADD asks for at a moment are all as they
+/// were made, or all as they are wanted, with those values.
 pub fn each_link_is_wanted()
     ensures { EachLinkIsWanted }
 {}
 
-/// So are the links of every attachment at every moment: each list of a plan has `tuning` at most once.
+/// So are the links of every attachment at every moment: `tuning` alone sets such values, and each list of a plan has
+/// it at most once.
 pub fn links_are_as_made_or_as_wanted()
     ensures { LinksAreMadeOrWanted }
 {}
@@ -196,7 +197,7 @@ pub fn each_version_is_the_lists()
     ensures { VersionsAreTheLists }
 {}
 
-/// NSADD, NSDEL, DROP and FLUSH are refused by their words (code 4), with no call made, or make the one change that
+/// NSADD, NSDEL, DROP and FLUSH are refused by their fields (code 4), with no call made, or make the one change that
 /// they ask for, whose reply decides: the namespace isn't there (code 100), a namespace of the name is (code 101), the
 /// call was a fault (code 103), or what was to be taken away isn't there (code 105); any other reply is answered `ok`.
 /// A FLUSH that names no table makes no call and is answered `ok`. So it is unless memory was refused or the command
@@ -220,7 +221,7 @@ pub fn a_status_tells_what_is_available()
     ensures { WasAvailable }
 {}
 
-/// Bad words refuse a CHECK (code 4), and with good ones a list that disables it skips it, both with no call made.
+/// Bad fields refuse a CHECK (code 4), and with good ones a list that disables it skips it, both with no call made.
 /// Where its list doesn't disable it, it ends at a fault (code 103). Without one it is answered `ok` where its
 /// attachment has a cached entry, and the host at its last entry holds all that the cached result says that there is.
 /// With no cached entry the attachment is unknown (code 3); else the first object that isn't there is named (code 110):

@@ -8,13 +8,11 @@ use Rattle.cni_result.specs.declared.result.Interface.{Interface}
 use Rattle.kernel_types.specs.declared.rule.Rule.{Rule}
 use Rattle.kernel_types.specs.declared.call.Call.{Call}
 use Rattle.kernel_types.specs.declared.call.Call.TheVariants.{HasObj, PoolFree}
-use Rattle.net_conf.specs.declared.first.First.{First}
-use Rattle.net_conf.specs.declared.first.First.TheVariants.{Bridge, Ptp, Macvlan}
 use Rattle.net_conf.specs.declared.list.NetList.{NetList}
 use Rattle.pod_file.specs.declared.command.Command.{Command}
 use Rattle.plan_words.specs.Share.{Share}
 use Rattle.cni_verbs.specs.Questions.{address_question, bridge_by_mac, bridge_questions, cached_share, check_questions, first_interface, lease_question, link_question, master_questions, pool_questions, route_question, rule_questions, setting_question, share_questions, status_questions}
-use Rattle.cni_verbs.specs.Wanted.{sets_of}
+use Rattle.cni_verbs.specs.Wanted.{bridge_of, master_of, sets_of}
 use Rattle.cni_verbs.specs.declared.answer.Question.{Question}
 use Rattle.pod_workers.proofs.Each.{each-append, each-map}
 use Rattle.pod_workers.proofs.Elements.{slice_get-middle}
@@ -53,15 +51,14 @@ asked-first : (list : NetList) (interfaces : List Interface) → AreQuestionsOf 
 asked-first list [] = tt
 asked-first list (i ∷ is) = asked-by_mac list i.name i.mac
 
-asked-bridge : (list : NetList) (first : First) (interfaces : List Interface) → AreQuestionsOf list (bridge_questions first interfaces)
-asked-bridge list (Bridge conf) interfaces = asked-first list interfaces
-asked-bridge list (Ptp conf) interfaces = tt
-asked-bridge list (Macvlan conf) interfaces = tt
+asked-bridge : (list : NetList) (bridge : Option (List ℕ)) (interfaces : List Interface) → AreQuestionsOf list (bridge_questions bridge interfaces)
+asked-bridge list None interfaces = tt
+asked-bridge list (Some bridge) interfaces = asked-first list interfaces
 
 pub check-asks : (list : NetList) (c : Command) (cached : Cached) → AreQuestionsOf list (check_questions list c cached)
 unfolding check_questions
 check-asks list c cached =
-    each-append (IsAskedOf list) (bridge_questions list.first cached.result.interfaces) (share_questions (cached_share list c cached)) (asked-bridge list list.first cached.result.interfaces)
+    each-append (IsAskedOf list) (bridge_questions (bridge_of list.first) cached.result.interfaces) (share_questions (cached_share list c cached)) (asked-bridge list (bridge_of list.first) cached.result.interfaces)
     (asked-share list (cached_share list c cached))
 
 -- ---- a status
@@ -73,12 +70,11 @@ asked-pools list network number past (s ∷ ss) all = (
   asked-pools list network (number + 1) (past ++ s ∷ []) ss (all ∙ sym (append_assoc past (s ∷ []) ss)),
 )
 
-asked-master : (list : NetList) (first : First) → AreQuestionsOf list (master_questions first)
-asked-master list (Bridge conf) = tt
-asked-master list (Ptp conf) = tt
-asked-master list (Macvlan conf) = (tt, tt)
+asked-master : (list : NetList) (master : Option (List ℕ)) → AreQuestionsOf list (master_questions master)
+asked-master list None = tt
+asked-master list (Some master) = (tt, tt)
 
 pub status-asks : (list : NetList) (c : Command) → AreQuestionsOf list (status_questions list c)
 unfolding status_questions
 status-asks list c =
-    each-append (IsAskedOf list) (pool_questions c.network 0 (sets_of list)) (master_questions list.first) (asked-pools list c.network 0 [] (sets_of list) refl) (asked-master list list.first)
+    each-append (IsAskedOf list) (pool_questions c.network 0 (sets_of list)) (master_questions (master_of list.first)) (asked-pools list c.network 0 [] (sets_of list) refl) (asked-master list (master_of list.first))

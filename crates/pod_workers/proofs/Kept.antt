@@ -234,7 +234,7 @@ pub over-here : (host host' : Host) (slots : List (Option RunView)) (places : Li
 over-here host host' slots places before w n c s cut h' b h cut_is d =
     over-by host host' slots places before w n c h' b _ h.kept h.ready refl (done-at host host' w n c.command (begun_by w.plan.lists c.command s) cut h' (step.Answered b) h.run cut_is d)
 
--- want of memory answers, and leaves the host
+-- running out of memory answers, and leaves the host
 pub refused-here : (host host' : Host) (slots : List (Option RunView)) (places : List Place) (before : ℕ) (w : World) (n : ℕ) (c : Placed) (s : Option RunView) (h' : List Entry) → IsHere host slots places before w n c s
     → host' ≡ host → h' ≡ w.history → IsKept host' (slice_set slots n None) places before (world_with w h' (slice_set w.answers n (Some OutOfMemory)))
 refused-here host host' slots places before w n c s h' h same_host same_history =

@@ -12,7 +12,6 @@ pub mod Stopped
 pub mod Alone
 pub mod Appended
 pub mod Asked
-pub mod BackCalls
 pub mod CallsLeft
 pub mod Clauses
 pub mod Collected

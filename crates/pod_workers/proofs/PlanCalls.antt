@@ -1,6 +1,7 @@
 -- What the calls of an ADD are: its attachment's, well formed, of the kinds that its list's plugins name, and together
 -- what makes the wanted objects.
-use Rattle.std.proofs.Common.{◌≡◌, ℕ, ◌+◌, Bool, true, false, not, List, [], ◌∷◌, ◌++◌, Option, Some, None, refl, arith}
+use Rattle.std.proofs.Common.{◌≡◌, ℕ, ◌+◌, Bool, true, not, List, [], ◌∷◌, ◌++◌, Option, Some, None, refl, sym, ap, ◌∙◌}
+use Rattle.std.specs.Prelude.{is_some}
 use Rattle.std.specs.List.{AllByRecursion, list_all}
 use Rattle.std.proofs.lemmas.Bool.{and_from, and_parts}
 use Rattle.cni_addr.specs.declared.address.Addr.{Addr}
@@ -8,30 +9,31 @@ use Rattle.cni_addr.specs.declared.range.RangeSet.{RangeSet}
 use Rattle.cni_result.specs.declared.cached.PortMapping.{PortMapping}
 use Rattle.ip_pool.specs.Pool.{are_apart}
 use Rattle.net_conf.specs.declared.first.First.{First}
-use Rattle.net_conf.specs.declared.first.First.TheVariants.{Bridge, Ptp, Macvlan}
 use Rattle.net_conf.specs.declared.first.HostLocalConf.{HostLocalConf}
 use Rattle.net_conf.specs.declared.chained.Chained.{Chained}
-use Rattle.net_conf.specs.declared.chained.Chained.TheVariants.{Portmap, Firewall, Tuning}
 use Rattle.net_conf.specs.declared.list.NetList.{NetList}
 use Rattle.kernel_types.proofs.Cases.{att_eq-refl}
-use Rattle.kernel_types.proofs.ListLemmas.{list_any-append_left, list_any-append_right}
+use Rattle.kernel_types.proofs.ListLemmas.{list_all-weaker, list_any-append_left, list_any-append_right}
 use Rattle.kernel_types.specs.Codes.{kind_eq}
 use Rattle.kernel_types.specs.declared.object.Att.{Att}
 use Rattle.kernel_types.specs.declared.call.Kind.{Kind}
 use Rattle.kernel_types.specs.declared.call.Kind.TheVariants as kinds
 use Rattle.kernel_types.specs.declared.call.Call.{Call}
-use Rattle.plan_words.specs.PlanCalls.{is_beside_plans, is_call_of, is_plan_call_of}
+use Rattle.kernel_types.specs.declared.call.Call.TheVariants.{VethAdd, MacvlanAdd, AddrAdd, RouteAdd, RuleAppend, SettingSet, LeaseNext, CachePut}
+use Rattle.plan_words.specs.PlanCalls.{IsWellFormedCall, has_kind, is_beside_plans, is_call_of, is_of_kinds, is_plan_call_of}
+use Rattle.plan_words.specs.PluginCalls.{makes_interface}
 use Rattle.plan_words.specs.Share.{Share, no_objects, share_after_calls}
 use Rattle.plan_words.proofs.CallLists.{share_after_calls-then}
 use Rattle.plan_words.proofs.KeyLists.{list_all-append}
-use Rattle.host_local.specs.Conf.{ipam_of, range_sets_of}
+use Rattle.plan_words.proofs.PluginCalls.{interface-kinds}
+use Rattle.host_local.specs.Conf.{range_sets_of}
 use Rattle.host_local.specs.Leases.{lease_calls_from, lease_calls_of}
-use Rattle.host_local.specs.Kinds.{rule_kinds, lease_kinds}
-use Rattle.cni_verbs.specs.Wanted.{back_calls, calls_before, chained_kinds, chained_kinds_reversed, first_kinds, kinds_of, sets_of, wanted}
+use Rattle.cni_verbs.specs.Wanted.{back_calls, calls_after, calls_before, chained_calls, chained_kinds, chained_kinds_reversed, first_kinds, ipam_of, kinds_of, sets_of, wanted}
+use Rattle.cni_verbs.proofs.BackCalls.{PassesChained, passes-back}
 use Rattle.cni_verbs.proofs.OwnCalls.{own-back, own-before}
-use Rattle.cni_verbs.proofs.WantedShare.{makes-wanted, share_with_leases}
-use Rattle.pod_workers.specs.PlanCalls.{AddCallsArePlanned, IsWellFormedCall, has_kind, is_of_kinds, only_leases}
-use Rattle.pod_workers.proofs.BackCalls.{PassesChained, PassesFirst, passes-back}
+use Rattle.cni_verbs.proofs.PluginLaws.{chained_laws, first_laws}
+use Rattle.cni_verbs.proofs.WantedShare.{adds-links, makes-wanted, share_with_leases}
+use Rattle.pod_workers.specs.PlanCalls.{AddCallsArePlanned, only_leases}
 use Rattle.pod_workers.proofs.Each.{each-append}
 use Rattle.pod_workers.proofs.PlannedCalls.{AllPlanned, planned-back, planned-before}
 use Rattle.pod_workers.proofs.Splits.{split_nil}
@@ -82,66 +84,44 @@ chained-among list = λ k h. has-left k (chained_kinds_reversed list.chained) (f
 cached-among : (list : NetList) → has_kind kinds.Cached (kinds_of list) ≡ true
 cached-among list = has-right kinds.Cached (chained_kinds_reversed list.chained) (first_kinds list.first ++ kinds.Cached ∷ []) (has-right kinds.Cached (first_kinds list.first) (kinds.Cached ∷ []) refl)
 
-first-links : (first : First) → has_kind kinds.Links (first_kinds first) ≡ true
-first-links (Bridge conf) = refl
-first-links (Ptp conf) = refl
-first-links (Macvlan conf) = refl
+kinds-more : (some all : List Kind) → Among some all → (call : Call) → is_of_kinds some call ≡ true → is_of_kinds all call ≡ true
+kinds-more some all among (VethAdd h i) is = among kinds.Links is
+kinds-more some all among (MacvlanAdd l) is = among kinds.Links is
+kinds-more some all among (AddrAdd obj) is = among kinds.Links is
+kinds-more some all among (RouteAdd obj) is = among kinds.Links is
+kinds-more some all among (RuleAppend rule) is = among kinds.Rules is
+kinds-more some all among (SettingSet s) is = among kinds.Settings is
+kinds-more some all among (LeaseNext att number set) is = among kinds.Leases is
+kinds-more some all among (CachePut att cached) is = among kinds.Cached is
+kinds-more some all among _ is = refl
 
-kinds-before : (ks : List Kind) (first : First) (att : Att) (netns : List ℕ) → has_kind kinds.Links ks ≡ true → list_all (is_of_kinds ks) (calls_before first att netns) ≡ true
-kinds-before ks (Bridge conf) att netns links = grind (arith, links)
-kinds-before ks (Ptp conf) att netns links = grind (arith, links)
-kinds-before ks (Macvlan conf) att netns links = grind (arith, links)
-
-kinds-first : (ks : List Kind) (first : First) (att : Att) (netns : List ℕ) → Among (first_kinds first) ks → PassesFirst (is_of_kinds ks) first att netns
-kinds-first ks first att netns among =
-    let links : has_kind kinds.Links ks ≡ true = among kinds.Links (first-links first) in
-    record {
-      address = λ g. links;
-      route = λ dst gw. links;
-      host_address = λ conf is gateway. links;
-      host_route = λ conf is addr. links;
-      gateway = λ conf is cidr. refl;
-      forward = λ family. refl;
-      rule = λ there rule. among kinds.Rules there;
-    }
-
-kinds-chained : (ks : List Kind) (c : Chained) (att : Att) (netns : List ℕ) → Among (chained_kinds c) ks → PassesChained (is_of_kinds ks) att netns c
-kinds-chained ks (Portmap conf) att netns among = λ rule. among kinds.Rules refl
-kinds-chained ks (Firewall conf) att netns among = λ rule. among kinds.Rules refl
-kinds-chained ks (Tuning conf) att netns among = (λ s. among kinds.Settings refl, refl)
-
-kinds-all_chained : (ks : List Kind) (cs : List Chained) (att : Att) (netns : List ℕ) → Among (chained_kinds_reversed cs) ks → AllByRecursion (PassesChained (is_of_kinds ks) att netns) cs
-kinds-all_chained ks [] att netns among = tt
-kinds-all_chained ks (c ∷ cs) att netns among = (
-  kinds-chained ks c att netns (λ k h. among k (has-right k (chained_kinds_reversed cs) (chained_kinds c) h)),
-  kinds-all_chained ks cs att netns (λ k h. among k (has-left k (chained_kinds_reversed cs) (chained_kinds c) h)),
+kinds-all_chained : (ks : List Kind) (cs : List Chained) (att : Att) (netns : List ℕ) (mappings : List PortMapping) → Among (chained_kinds_reversed cs) ks → AllByRecursion (PassesChained (is_of_kinds ks) att netns mappings) cs
+kinds-all_chained ks [] att netns mappings among = tt
+kinds-all_chained ks (c ∷ cs) att netns mappings among = (
+  λ ips. list_all-weaker (is_of_kinds (chained_kinds c)) (is_of_kinds ks) (kinds-more (chained_kinds c) ks (λ k h. among k (has-right k (chained_kinds_reversed cs) (chained_kinds c) h)))
+      (chained_calls c att netns mappings ips) ((chained_laws c).calls att netns mappings ips).of_kinds,
+  kinds-all_chained ks cs att netns mappings (λ k h. among k (has-left k (chained_kinds_reversed cs) (chained_kinds c) h)),
 )
 
 pub of_kinds-before : (list : NetList) (att : Att) (netns : List ℕ) → list_all (is_of_kinds (kinds_of list)) (calls_before list.first att netns) ≡ true
-of_kinds-before list att netns = kinds-before (kinds_of list) list.first att netns (first-among list kinds.Links (first-links list.first))
+of_kinds-before list att netns =
+    let laws = first_laws list.first in
+    list_all-weaker makes_interface (is_of_kinds (kinds_of list)) (interface-kinds (kinds_of list) (first-among list kinds.Links laws.takes_links)) (calls_before list.first att netns) (laws.before att netns).make_interface
 
 pub of_kinds-back : (list : NetList) (att : Att) (netns : List ℕ) (mappings : List PortMapping) (addrs : List Addr) → list_all (is_of_kinds (kinds_of list)) (back_calls list att netns mappings addrs) ≡ true
 of_kinds-back list att netns mappings addrs =
-    passes-back (is_of_kinds (kinds_of list)) list att netns mappings addrs (kinds-first (kinds_of list) list.first att netns (first-among list)) (kinds-all_chained (kinds_of list) list.chained att netns (chained-among list))
-    (λ cached. cached-among list)
+    passes-back (is_of_kinds (kinds_of list)) list att netns mappings addrs
+    (λ given. list_all-weaker (is_of_kinds (first_kinds list.first)) (is_of_kinds (kinds_of list)) (kinds-more (first_kinds list.first) (kinds_of list) (first-among list)) (calls_after list.first att netns given) ((first_laws list.first).after att netns given).of_kinds)
+    (kinds-all_chained (kinds_of list) list.chained att netns mappings (chained-among list)) (λ cached. cached-among list)
 
 -- a list that leases names the kind of leases
 
-leases-lease_kinds : (o : Option HostLocalConf) (past left : List RangeSet) (next : RangeSet) → range_sets_of o ≡ past ++ next ∷ left → has_kind kinds.Leases (lease_kinds o) ≡ true
-leases-lease_kinds None past left next e = absurd (split_nil past left next e)
-leases-lease_kinds (Some ipam) past left next e = refl
-
-behind-rules : (b : Bool) (rest : List Kind) → has_kind kinds.Leases rest ≡ true → has_kind kinds.Leases (kinds.Links ∷ (rule_kinds b ++ rest)) ≡ true
-behind-rules true rest h = h
-behind-rules false rest h = h
-
-leases-first_kinds : (first : First) (past left : List RangeSet) (next : RangeSet) → range_sets_of (ipam_of first) ≡ past ++ next ∷ left → has_kind kinds.Leases (first_kinds first) ≡ true
-leases-first_kinds (Bridge conf) past left next e = behind-rules conf.ip_masq (lease_kinds conf.ipam) (leases-lease_kinds conf.ipam past left next e)
-leases-first_kinds (Ptp conf) past left next e = behind-rules conf.ip_masq (kinds.Leases ∷ []) refl
-leases-first_kinds (Macvlan conf) past left next e = leases-lease_kinds conf.ipam past left next e
+sets-some : (o : Option HostLocalConf) (past left : List RangeSet) (next : RangeSet) → range_sets_of o ≡ past ++ next ∷ left → is_some o ≡ true
+sets-some None past left next e = absurd (split_nil past left next e)
+sets-some (Some ipam) past left next e = refl
 
 pub leases-kinds_of : (list : NetList) (past left : List RangeSet) (next : RangeSet) → sets_of list ≡ past ++ next ∷ left → has_kind kinds.Leases (kinds_of list) ≡ true
-leases-kinds_of list past left next e = first-among list kinds.Leases (leases-first_kinds list.first past left next e)
+leases-kinds_of list past left next e = first-among list kinds.Leases ((first_laws list.first).takes_leases (sets-some (ipam_of list.first) past left next e))
 
 kinds-leases : (ks : List Kind) (att : Att) (number : ℕ) (sets : List RangeSet) → has_kind kinds.Leases ks ≡ true → list_all (is_of_kinds ks) (lease_calls_from att number sets) ≡ true
 kinds-leases ks att number [] there = refl
@@ -158,9 +138,8 @@ leases-add_none s att number [] = refl
 leases-add_none s att number (set ∷ sets) = leases-add_none s att (number + 1) sets
 
 adds-before : (first : First) (att : Att) (netns : List ℕ) (given : List Addr) → share_after_calls (only_leases att given) (calls_before first att netns) ≡ record (share_after_calls no_objects (calls_before first att netns)) { leases = (only_leases att given).leases }
-adds-before (Bridge conf) att netns given = refl
-adds-before (Ptp conf) att netns given = refl
-adds-before (Macvlan conf) att netns given = refl
+adds-before first att netns given =
+    adds-links first att netns (only_leases att given) ∙ ap (λ (s : Share). record s { leases = (only_leases att given).leases }) (sym (adds-links first att netns no_objects))
 
 adds-all : (list : NetList) (att : Att) (netns : List ℕ) (mappings : List PortMapping) (given : List Addr)
     → share_after_calls (only_leases att given) (calls_before list.first att netns ++ (lease_calls_of (sets_of list) att ++ back_calls list att netns mappings given)) ≡ wanted list att netns mappings given
@@ -186,7 +165,7 @@ are_planned list att netns mappings given =
     let leases = lease_calls_of (sets_of list) att in
     let back = back_calls list att netns mappings given in
     let plan_before = own-before list.first att netns in
-    let plan_back = (own-back list att netns mappings given).all in
+    let plan_back = own-back list att netns mappings given in
     record {
       own = and_from _ _ (att_eq-refl att) (in-parts (is_call_of att) list att netns mappings given (own-plan att before plan_before) (own-leases att 0 (sets_of list)) (own-plan att back plan_back));
       planned = list_all-append (is_plan_call_of att) before back plan_before plan_back;

@@ -1,32 +1,27 @@
--- The calls that an ADD's plugins plan: each is its attachment's or ensures what all share, and is well formed.
-use Rattle.std.proofs.Common.{◌≡◌, ℕ, Bool, true, false, not, List, [], ◌∷◌, Option, Some, None, refl, ap, arith}
+-- The calls that an ADD's plugins make: each is its attachment's or ensures what all share, and is well formed.
+use Rattle.std.proofs.Common.{◌≡◌, ℕ, Bool, true, false, not, List, [], ◌∷◌, refl, ap, ◌∙◌}
 use Rattle.std.proofs.lemmas.Bool.{and_parts, not-true}
 use Rattle.std.specs.List.{AllByRecursion, list_all}
-use Rattle.std.specs.Cmp.Lexicographic.{nat_list_eq_equiv}
+use Rattle.std.proofs.lemmas.Slice.Eq.{bytes_eq-Decides}
 use Rattle.cni_addr.specs.declared.address.Addr.{Addr}
 use Rattle.cni_result.proofs.ReadAgain.{each_of}
 use Rattle.cni_result.specs.declared.cached.PortMapping.{PortMapping}
-use Rattle.net_conf.specs.BridgeModes as bridge_modes
 use Rattle.net_conf.specs.declared.first.First.{First}
-use Rattle.net_conf.specs.declared.first.First.TheVariants.{Bridge, Ptp, Macvlan}
-use Rattle.net_conf.specs.declared.chained.Chained.{Chained}
-use Rattle.net_conf.specs.declared.chained.Chained.TheVariants.{Portmap, Firewall, Tuning}
 use Rattle.net_conf.specs.declared.list.NetList.{NetList}
-use Rattle.kernel_types.specs.Allowed.{IsVethPair}
-use Rattle.kernel_types.specs.Names.{host_name_of}
 use Rattle.kernel_types.specs.Words.{is_host_ns, is_own, is_owned}
-use Rattle.kernel_types.proofs.Cases.{att_eq-refl}
 use Rattle.kernel_types.proofs.Isolation.{is_own-one}
+use Rattle.kernel_types.proofs.ListLemmas.{list_all-weaker}
 use Rattle.kernel_types.specs.declared.object.Att.{Att}
 use Rattle.kernel_types.specs.declared.object.Tag.{Tag}
 use Rattle.kernel_types.specs.declared.call.Call.{Call}
 use Rattle.kernel_types.specs.declared.call.Call.TheVariants.{VethAdd, MacvlanAdd, AddrAdd, RouteAdd, RuleAppend, SettingSet, LeaseNext, PoolFree, NsChange, Outside}
-use Rattle.plan_words.specs.PlanCalls.{is_plan_call_of}
-use Rattle.plan_words.specs.Shapes.{host_end, inner_end}
+use Rattle.plan_words.specs.PlanCalls.{IsWellFormedCall, is_plan_call_of}
+use Rattle.plan_words.specs.PluginCalls.{is_later_call}
+use Rattle.cni_verbs.proofs.BackCalls.{PassesChained, passes-back}
 use Rattle.cni_verbs.proofs.OwnCalls.{own-back}
-use Rattle.cni_verbs.specs.Wanted.{calls_before, back_calls}
-use Rattle.pod_workers.specs.PlanCalls.{IsWellFormedCall}
-use Rattle.pod_workers.proofs.BackCalls.{PassesChained, PassesFirst, passes-back}
+use Rattle.cni_verbs.proofs.PluginLaws.{chained_laws, first_laws}
+use Rattle.cni_verbs.specs.Wanted.{back_calls, calls_after, calls_before, chained_calls}
+use Rattle.pod_workers.proofs.Each.{each-both}
 
 -- ---- one call
 
@@ -38,25 +33,10 @@ AllPlanned att calls = AllByRecursion (IsPlanned att) calls
 
 -- ---- the calls before the leases
 
-pair : (att : Att) (netns : List ℕ) (master : Option (List ℕ)) (mtu : ℕ) (hairpin : Bool) → is_host_ns netns ≡ false → IsVethPair (host_end att netns master mtu hairpin) (inner_end att netns mtu)
-pair att netns master mtu hairpin place = record {
-  host_kind = refl;
-  inner_kind = refl;
-  owned = refl;
-  same_tag = refl;
-  to_inner = grind (arith, nat_list_eq_equiv.refl netns, nat_list_eq_equiv.refl att.ifname);
-  to_host = grind (arith, nat_list_eq_equiv.refl (host_name_of att));
-  outer = refl;
-  inner = place;
-}
-
-planned-veth : (att : Att) (netns : List ℕ) (master : Option (List ℕ)) (mtu : ℕ) (hairpin : Bool) → is_host_ns netns ≡ false → IsPlanned att (VethAdd (host_end att netns master mtu hairpin) (inner_end att netns mtu))
-planned-veth att netns master mtu hairpin place = (grind (arith, att_eq-refl att), pair att netns master mtu hairpin place)
-
 pub planned-before : (first : First) (att : Att) (netns : List ℕ) → is_host_ns netns ≡ false → AllPlanned att (calls_before first att netns)
-planned-before (Bridge c) att netns place = ((refl, tt), (planned-veth att netns (Some c.bridge) c.mtu (bridge_modes.hairpin c.mode) place, tt))
-planned-before (Ptp c) att netns place = (planned-veth att netns None c.mtu false place, tt)
-planned-before (Macvlan c) att netns place = ((att_eq-refl att, record { kind = refl; owned = refl; over = refl; alone = refl; inner = place }), tt)
+planned-before first att netns place =
+    let before = (first_laws first).before att netns in
+    each-both (λ x. is_plan_call_of att x) IsWellFormedCall (calls_before first att netns) before.own (before.well_formed place)
 
 -- ---- the calls after them make no link, and set nothing of the host's
 
@@ -82,21 +62,11 @@ well_formed-plain att (NsChange name add) own plain = cc
 well_formed-plain att (Outside change) own plain = absurd cc
 well_formed-plain att _ own plain = tt
 
-plain-first : (first : First) (att : Att) (netns : List ℕ) → PassesFirst is_plain first att netns
-plain-first first att netns = record {
-  address = λ g. refl;
-  route = λ dst gw. refl;
-  host_address = λ conf is gateway. refl;
-  host_route = λ conf is addr. refl;
-  gateway = λ conf is cidr. refl;
-  forward = λ family. refl;
-  rule = λ there rule. refl;
-}
-
-plain-chained : (att : Att) (netns : List ℕ) → is_host_ns netns ≡ false → (c : Chained) → PassesChained is_plain att netns c
-plain-chained att netns place (Portmap conf) = λ rule. refl
-plain-chained att netns place (Firewall conf) = λ rule. refl
-plain-chained att netns place (Tuning conf) = (λ s. ap not place, refl)
+later-plain : (netns : List ℕ) → is_host_ns netns ≡ false → (call : Call) → is_later_call netns call ≡ true → is_plain call ≡ true
+later-plain netns place (SettingSet s) later = ap (λ ns. not (is_host_ns ns)) ((bytes_eq-Decides s.ns netns).0 later) ∙ ap not place
+later-plain netns place (VethAdd h i) later = cc
+later-plain netns place (MacvlanAdd l) later = cc
+later-plain netns place _ later = refl
 
 planned-plain : (att : Att) (calls : List Call) → list_all (is_plan_call_of att) calls ≡ true → list_all is_plain calls ≡ true → AllPlanned att calls
 planned-plain att [] own plain = tt
@@ -107,5 +77,7 @@ planned-plain att (x ∷ xs) own plain =
 
 pub planned-back : (list : NetList) (att : Att) (netns : List ℕ) (mappings : List PortMapping) (addrs : List Addr) → is_host_ns netns ≡ false → AllPlanned att (back_calls list att netns mappings addrs)
 planned-back list att netns mappings addrs place =
-    planned-plain att (back_calls list att netns mappings addrs) (own-back list att netns mappings addrs).all
-    (passes-back is_plain list att netns mappings addrs (plain-first list.first att netns) (each_of (PassesChained is_plain att netns) list.chained (plain-chained att netns place)) (λ cached. refl))
+    let plain : (calls : List Call) → list_all (is_later_call netns) calls ≡ true → list_all is_plain calls ≡ true = list_all-weaker (is_later_call netns) is_plain (later-plain netns place) in
+    planned-plain att (back_calls list att netns mappings addrs) (own-back list att netns mappings addrs)
+    (passes-back is_plain list att netns mappings addrs (λ given. plain (calls_after list.first att netns given) ((first_laws list.first).after att netns given).later)
+    (each_of (PassesChained is_plain att netns mappings) list.chained (λ c ips. plain (chained_calls c att netns mappings ips) ((chained_laws c).calls att netns mappings ips).later)) (λ cached. refl))

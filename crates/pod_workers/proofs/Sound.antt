@@ -36,7 +36,7 @@ use Rattle.kernel_types.specs.declared.call.Kind.{Kind}
 use Rattle.kernel_types.specs.declared.call.Kind.TheVariants as kinds
 use Rattle.kernel_types.specs.declared.call.Reply.{Reply}
 use Rattle.kernel_types.specs.declared.call.Reply.TheVariants.{Leased}
-use Rattle.plan_words.specs.PlanCalls.{is_plan_call_of}
+use Rattle.plan_words.specs.PlanCalls.{IsWellFormedCall, is_plan_call_of}
 use Rattle.cni_verbs.specs.CommandWords.{att_of}
 use Rattle.cni_verbs.specs.declared.answer.Answer.{Answer}
 use Rattle.cni_verbs.specs.declared.answer.Answer.TheVariants.{Stopped}
@@ -47,7 +47,6 @@ use Rattle.cni_verbs.specs.Wanted.{sets_of, deletion}
 use Rattle.pod_workers.specs.Lasts.{AreLastsOfSets, IsLastOfSet}
 use Rattle.pod_workers.specs.Legal.{Legal, IsBegun, starts, steps, refused_memory, turns}
 use Rattle.pod_file.specs.Commands.{is_of_network}
-use Rattle.pod_workers.specs.PlanCalls.{IsWellFormedCall}
 use Rattle.pod_workers.specs.Plans.{Placed, IsWellFormed, list_for, list_in, list_named}
 use Rattle.pod_workers.specs.World.{World, IsReady, after, host_of, own_replies, next_by, next_of, is_cut, is_faulty, is_stop, entry_of, done}
 use Rattle.pod_workers.specs.declared.plan.Next.{Next}

@@ -125,7 +125,7 @@ left-by : {host host' : Host} (b : Bool) → host' ≡ host → (if b then host 
 left-by true left = refl
 left-by false left = left
 
--- a reply that a run can't take for want of memory is a fault or holds a text or a list
+-- a reply that a run can't take when memory runs out is a fault or holds a text or a list
 why-refused : (fault holds : Bool) → (fault ≡ false → holds ≡ false → ⊥) → (holds ≡ true) ⊎ (fault ≡ true)
 why-refused true holds frees = inr refl
 why-refused false true frees = inl refl

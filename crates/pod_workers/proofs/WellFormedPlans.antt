@@ -7,11 +7,10 @@ use Rattle.std.proofs.lemmas.List.{length-map, map-append}
 use Rattle.std.proofs.lemmas.List.Elements.{All-drop, All-get_or}
 use Rattle.std.proofs.lemmas.Option.{slice_get-map}
 use Rattle.cni_addr.specs.declared.range.RangeSet.{RangeSet}
-use Rattle.host_local.specs.Conf.{ipam_of, range_sets_of}
+use Rattle.host_local.specs.Conf.{range_sets_of}
 use Rattle.ip_pool.specs.Pool.{are_apart}
 use Rattle.net_conf.specs.WellFormed.{IsWellFormedFirst, IsWellFormedIpam, IsWellFormedList, IsWellFormedSet}
 use Rattle.net_conf.specs.declared.first.First.{First}
-use Rattle.net_conf.specs.declared.first.First.TheVariants as first
 use Rattle.net_conf.specs.declared.first.HostLocalConf.{HostLocalConf}
 use Rattle.net_conf.specs.declared.list.NetList.{NetList}
 use Rattle.pod_file.specs.Rounds.{file_limit, in_file_order}
@@ -19,7 +18,8 @@ use Rattle.pod_file.specs.WellFormed.{AreWellFormedRounds, IsWellFormedPods}
 use Rattle.pod_file.specs.declared.command.Command.{Command}
 use Rattle.pod_workers.specs.Plans.{IsWellFormed, Placed, commands_of, in_round, placed_from}
 use Rattle.pod_workers.specs.declared.plan.Plan.{Plan}
-use Rattle.cni_verbs.specs.Wanted.{sets_of}
+use Rattle.cni_verbs.specs.Wanted.{ipam_of, sets_of}
+use Rattle.cni_verbs.proofs.PluginLaws.{formed_ipam}
 use Rattle.pod_workers.proofs.Alone.{AreAlone, are_alone}
 
 -- the ranges of each set share no address
@@ -41,10 +41,8 @@ ipam_apart : (ipam : Option HostLocalConf) → IsWellFormedIpam ipam → list_al
 ipam_apart None formed = refl
 ipam_apart (Some conf) formed = each_apart conf.sets formed.sets
 
-pub first_apart : (plugin : First) → IsWellFormedFirst plugin → list_all (λ set. are_apart set.ranges) (range_sets_of (ipam_of plugin)) ≡ true
-first_apart (first.Bridge conf) formed = ipam_apart conf.ipam formed.ipam
-first_apart (first.Ptp conf) formed = each_apart conf.ipam.sets formed.ipam.sets
-first_apart (first.Macvlan conf) formed = ipam_apart conf.ipam formed.ipam
+pub first_apart : (first : First) → IsWellFormedFirst first → list_all (λ set. are_apart set.ranges) (range_sets_of (ipam_of first)) ≡ true
+first_apart first formed = ipam_apart (ipam_of first) (formed_ipam first formed)
 
 -- ---- the commands
 

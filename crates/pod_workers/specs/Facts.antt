@@ -79,7 +79,7 @@ IsAtItsStop w n c = c.command.stop ≡ Some (length (own_replies w n))
 abbrev pub IsStopped : World → ℕ → Placed → Answer → Type 0
 IsStopped w n c a = IsStopOf w n c a × (IsAtItsStop w n c ⊎ EntryIsInRound w.plan w.history w.plan.stop_at c.round)
 
--- the command is over: by its script, by its own `stop`, or for want of memory, and not with its round
+-- the command is over: by its script, by its own `stop`, or out of memory, and not with its round
 abbrev pub IsDone : World → ℕ → Placed → Type 0
 IsDone w n c =
     (a : Answer) × (slice_get w.answers n ≡ Some (Some a))
@@ -150,7 +150,7 @@ pub record Stops (w : World) : Type 0 where
 
 -- ---- answers
 
--- a command's answer is its script's, a stop, or want of memory
+-- a command's answer is its script's, a stop, or out of memory
 abbrev pub IsDue : World → ℕ → Placed → Answer → Type 0
 IsDue w n c a = IsScripts w n c a ⊎ (IsStopped w n c a ⊎ (a ≡ OutOfMemory))
 

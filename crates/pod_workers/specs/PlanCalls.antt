@@ -1,55 +1,16 @@
 -- What the calls of an ADD are, whatever the host (CNI specification, section 3, "Adding an attachment").
-use Rattle.std.specs.Prelude.{◌≡◌, ℕ, Bool, true, false, List, ◌++◌, map}
-use Rattle.std.specs.List.{AllByRecursion, list_any, list_all}
+use Rattle.std.specs.Prelude.{◌≡◌, ℕ, true, false, List, ◌++◌, map}
+use Rattle.std.specs.List.{AllByRecursion, list_all}
 use Rattle.cni_addr.specs.declared.address.Addr.{Addr}
 use Rattle.cni_result.specs.declared.cached.PortMapping.{PortMapping}
-use Rattle.kernel_types.specs.Allowed.{IsVethPair, IsMacvlanLink, HasRangesApart, IsAllowedChange}
-use Rattle.kernel_types.specs.Codes.{kind_eq}
-use Rattle.kernel_types.specs.Words.{is_host_ns, is_owned, lease_of}
+use Rattle.kernel_types.specs.Words.{is_host_ns, lease_of}
 use Rattle.kernel_types.specs.declared.object.Att.{Att}
 use Rattle.kernel_types.specs.declared.call.Call.{Call}
-use Rattle.kernel_types.specs.declared.call.Call.TheVariants.{VethAdd, MacvlanAdd, AddrAdd, RouteAdd, RuleAppend, SettingSet, LeaseNext, CachePut, PoolFree, NsChange, Outside}
-use Rattle.kernel_types.specs.declared.call.Kind.{Kind}
-use Rattle.kernel_types.specs.declared.call.Kind.TheVariants as kinds
 use Rattle.net_conf.specs.WellFormed.{IsWellFormedList}
 use Rattle.net_conf.specs.declared.list.NetList.{NetList}
-use Rattle.plan_words.specs.PlanCalls.{is_call_of, is_plan_call_of}
+use Rattle.plan_words.specs.PlanCalls.{IsWellFormedCall, is_call_of, is_of_kinds, is_plan_call_of}
 use Rattle.plan_words.specs.Share.{Share, no_objects, share_after_calls}
 use Rattle.cni_verbs.specs.Wanted.{add_calls, back_calls, calls_before, kinds_of, wanted}
-
--- ---- one call
-
--- The call is well formed: what `IsAllowed` asks of its fields alone. (A lease asks besides that the host's last
--- address of the pool is one of its candidates.)
-abbrev pub IsWellFormedCall : Call → Type 0
-IsWellFormedCall (VethAdd host_end inner_end) = IsVethPair host_end inner_end
-IsWellFormedCall (MacvlanAdd link) = IsMacvlanLink link
-IsWellFormedCall (AddrAdd obj) = is_owned obj.tag ≡ true
-IsWellFormedCall (RouteAdd obj) = is_owned obj.tag ≡ true
-IsWellFormedCall (RuleAppend rule) = is_owned rule.tag ≡ true
-IsWellFormedCall (SettingSet setting) = (is_owned setting.tag ≡ true) × (is_host_ns setting.ns ≡ false)
-IsWellFormedCall (LeaseNext att number set) = HasRangesApart set
-IsWellFormedCall (PoolFree network set) = HasRangesApart set
-IsWellFormedCall (NsChange name add) = is_host_ns name ≡ false
-IsWellFormedCall (Outside change) = IsAllowedChange change
-IsWellFormedCall call = Unit {0}
-
-abbrev pub has_kind : Kind → List Kind → Bool
-has_kind kind ks = list_any (kind_eq kind) ks
-
--- what the call makes is of these kinds; addresses and routes lie on links, and go with them
-abbrev pub is_of_kinds : List Kind → Call → Bool
-is_of_kinds ks (VethAdd host_end inner_end) = has_kind kinds.Links ks
-is_of_kinds ks (MacvlanAdd link) = has_kind kinds.Links ks
-is_of_kinds ks (AddrAdd obj) = has_kind kinds.Links ks
-is_of_kinds ks (RouteAdd obj) = has_kind kinds.Links ks
-is_of_kinds ks (RuleAppend rule) = has_kind kinds.Rules ks
-is_of_kinds ks (SettingSet setting) = has_kind kinds.Settings ks
-is_of_kinds ks (LeaseNext att number set) = has_kind kinds.Leases ks
-is_of_kinds ks (CachePut att cached) = has_kind kinds.Cached ks
-is_of_kinds ks call = true
-
--- ---- all calls of an ADD
 
 -- those that the plugins plan: all but the Begin and the leases
 abbrev pub plan_calls : NetList → Att → List ℕ → List PortMapping → List Addr → List Call

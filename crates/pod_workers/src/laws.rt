@@ -44,7 +44,7 @@ pub fn every_entry_follows()
     ensures { EveryEntryFollows }
 {}
 
-/// Each answer is the script's, a stop by the command's own number of calls or with its round, or want of memory.
+/// Each answer is the script's, a stop by the command's own number of calls or with its round, or out of memory.
 #[tactic(auto, using(crate::proofs::AnswersDue::answer_is_due))]
 pub fn every_answer_is_due()
     ensures { EveryAnswerIsDue }

@@ -1,2 +1,1 @@
 pub mod Portmap
-pub mod Share

@@ -1,6 +1,6 @@
--- The plan of the `portmap` plugin: ports of the host that lead to the container. The rule sets are this project's own,
+-- The `portmap` plugin: ports of the host that lead to the container. The rule sets are this project's own,
 -- after iptables.
-use Rattle.std.specs.Prelude.{◌+◌, ◌*◌, ◌^◌, Bool, true, List, [], ◌∷◌, ◌++◌, map, flat_map, Option, Some, None, option_map, if◌then◌else◌}
+use Rattle.std.specs.Prelude.{◌+◌, ◌*◌, ◌^◌, Bool, true, false, List, [], ◌∷◌, ◌++◌, map, flat_map, Option, Some, None, option_map, if◌then◌else◌}
 use Rattle.cni_addr.specs.Codes.{family_eq}
 use Rattle.cni_addr.specs.Network.{whole, network_of}
 use Rattle.cni_addr.specs.declared.address.Family.{Family}
@@ -22,6 +22,7 @@ use Rattle.kernel_types.specs.declared.call.Kind.{Kind}
 use Rattle.kernel_types.specs.declared.call.Kind.TheVariants.{Rules}
 use Rattle.cni_addr.specs.Lists.{each_key_once}
 use Rattle.plan_words.specs.Families.{first_of_family}
+use Rattle.plan_words.specs.Plugins.{ChainedPlugin}
 use Rattle.plan_words.specs.Shapes.{rule_for_all}
 
 -- `127.0.0.1/32`
@@ -83,3 +84,17 @@ portmap_calls_of conf att mappings ips = map RuleAppend (portmap_rules conf att 
 -- the kinds of objects that DEL takes back
 abbrev pub portmap_kinds : List Kind
 portmap_kinds = Rules ∷ []
+
+-- At most three rules a mapping and family.
+abbrev pub portmap_plugin : PortmapConf → ChainedPlugin
+portmap_plugin conf = record {
+  takes_mappings = conf.mappings;
+  calls = λ att netns mappings ips. portmap_calls_of conf att mappings ips;
+  rules = λ att mappings ips. portmap_rules conf att mappings ips;
+  settings = λ att netns. [];
+  links_after = λ att netns links. links;
+  sets_links = false;
+  result = λ prev. prev;
+  kinds = portmap_kinds;
+  most = λ mappings addresses. 6 * mappings;
+}

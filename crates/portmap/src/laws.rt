@@ -1,21 +1,12 @@
-//! What the calls of `portmap` make of a host, carried by a function that does nothing.
+//! What `portmap` owes to the verbs, carried by a function that does nothing.
 
-ghost use Rattle.plan_words.specs.PlanCalls.{AppendsShare};
-ghost use Rattle.portmap.specs.Portmap.{portmap_calls_of};
-ghost use Rattle.portmap.specs.Share.{portmap_share_of};
+ghost use Rattle.plan_words.specs.PluginLaws.{ChainedLaws};
+ghost use Rattle.portmap.specs.Portmap.{portmap_plugin};
 
-use cni_result::{AddResult, PortMapping};
-use kernel_types::Att;
 use net_conf::PortmapConf;
 
-/// In every sound host in which each call of `portmap` is done, the calls append the rules of its mappings, in order,
-/// for the addresses of the result that it is handed.
-pub fn portmap_appends_its_share(
-    conf: &PortmapConf,
-    att: &Att,
-    mappings: &[PortMapping],
-    prev: &AddResult,
-)
-    ensures { AppendsShare att.now (portmap_calls_of conf.now att.now mappings.now prev.now.ips)
-        (portmap_share_of conf.now att.now mappings.now prev.now.ips) }
+/// `portmap` keeps the laws of a chained plugin (`plan_words/specs/PluginLaws.antt`).
+#[tactic(auto, using(crate::proofs::PortmapLaws::portmap_laws))]
+pub fn portmap_keeps_its_laws(conf: &PortmapConf)
+    ensures { ChainedLaws (portmap_plugin conf.now) }
 {}

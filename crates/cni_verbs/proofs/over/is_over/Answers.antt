@@ -30,3 +30,6 @@ returns-in-AtBegin-5 c = λ list command room made kept. early-open list command
 
 pub returns-in-AtBegin-8 : goal.returns-in-AtBegin-8
 returns-in-AtBegin-8 c = λ list command room made kept. early-open list command c.args.kinds.now room made c.args.given.now c.args.phase.now kept c.in-AtBegin.is
+
+pub returns-in-AtBegin-2 : goal.returns-in-AtBegin-2
+returns-in-AtBegin-2 c = λ list command room made kept. early-open list command c.args.kinds.now room made c.args.given.now c.args.phase.now kept c.in-AtBegin.is

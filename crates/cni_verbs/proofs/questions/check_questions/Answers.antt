@@ -1,5 +1,6 @@
 use Rattle.std.proofs.Common.{◌∙◌}
 use Rattle.cni_verbs.specs.Questions.{check_questions, cached_share}
+use Rattle.cni_verbs.specs.Wanted.{bridge_of}
 use Rattle.cni_verbs.proofs.Gathered.{checked}
 use Rattle.cni_verbs.proofs.questions.check_questions.Goals as goal
 
@@ -7,5 +8,5 @@ pub returns : goal.returns
 unfolding check_questions
 returns c =
     c.of_vec.ensures
-    ∙ checked c.args.list.now.first _ c.args.cached.now.result.interfaces _ _ _ _ (cached_share c.args.list.now c.args.command.now c.args.cached.now)
-    c.new-questions.ensures.items c.as_slice.ensures c.in_ok-ask_bridge.ensures c.in_ok-share.ensures c.in_ok-ask_share.ensures
+    ∙ checked (bridge_of c.args.list.now.first) _ _ c.args.cached.now.result.interfaces _ _ _ _ (cached_share c.args.list.now c.args.command.now c.args.cached.now)
+    c.bridge_of.ensures c.new-questions.ensures.items c.as_slice.ensures c.in_ok-ask_bridge.ensures c.in_ok-share.ensures c.in_ok-ask_share.ensures

@@ -1,4 +1,4 @@
-use Rattle.std.proofs.Common.{sym, ◌∙◌}
+use Rattle.std.proofs.Common.{sym}
 use Rattle.host_local.proofs.LeaseLemmas.{candidate-given}
 use Rattle.host_local.proofs.leases.given_by_set.Goals as goal
 

@@ -1,0 +1,23 @@
+-- What each plugin does, by its configuration: with the laws that it keeps (`proofs/PluginLaws.antt`) and its code
+-- (`src/plugins.rt`) all that tells the plugins apart.
+use Rattle.net_conf.specs.declared.chained.Chained.{Chained}
+use Rattle.net_conf.specs.declared.chained.Chained.TheVariants.{Portmap, Firewall, Tuning}
+use Rattle.net_conf.specs.declared.first.First.{First}
+use Rattle.net_conf.specs.declared.first.First.TheVariants.{Bridge, Ptp, Macvlan}
+use Rattle.plan_words.specs.Plugins.{ChainedPlugin, FirstPlugin}
+use Rattle.bridge_ptp.specs.Bridge.{bridge_plugin}
+use Rattle.bridge_ptp.specs.Ptp.{ptp_plugin}
+use Rattle.firewall_tuning.specs.Firewall.{firewall_plugin}
+use Rattle.firewall_tuning.specs.Tuning.{tuning_plugin}
+use Rattle.macvlan.specs.Macvlan.{macvlan_plugin}
+use Rattle.portmap.specs.Portmap.{portmap_plugin}
+
+unfoldable pub plugin_of : First → FirstPlugin
+plugin_of (Bridge conf) = bridge_plugin conf
+plugin_of (Ptp conf) = ptp_plugin conf
+plugin_of (Macvlan conf) = macvlan_plugin conf
+
+unfoldable pub chained_plugin_of : Chained → ChainedPlugin
+chained_plugin_of (Portmap conf) = portmap_plugin conf
+chained_plugin_of (Firewall conf) = firewall_plugin
+chained_plugin_of (Tuning conf) = tuning_plugin conf
