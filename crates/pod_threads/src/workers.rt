@@ -9,7 +9,15 @@ use kernel_model::Kernel;
 use pod_workers::StepEnd;
 use std::alloc::Global;
 use std::sync::ledger::{Ledger, Share};
-use std::sync::{Mutex, Wait};
+use std::sync::{Mutex, MutexGuard, Wait};
+use std::thread::Parker;
+use std::time::Duration;
+
+/// How often a worker naps for the lock before it sleeps until it is woken: some 25 milliseconds in all.
+const NAPS: u64 = 50;
+
+/// By how many microseconds each nap is longer than the one before. The first one takes none.
+const LONGER: u64 = 20;
 
 /// A worker's place: one part of the ledger, whose amount is the number of entries that the worker made.
 #[derive(Drop)]
@@ -63,11 +71,24 @@ fn step<J: Origin, L: Ledger, R: Wait, K: Kernel + Drop>(
     command: u32,
 ) -> StepEnd {
     let Worker { share, count } = worker;
-    let end = shared.lock(rt).step(command, share);
+    let end = lock(rt, shared).step(command, share);
     if let StepEnd::Went = end {
         *count += 1;
     }
     end
+}
+
+/// Takes the lock. One who sleeps until it is woken costs whoever leaves the lock a call, and soon has the lock handed
+/// over, which takes longer than a step. So a worker that finds the lock taken naps, for longer each time, and the
+/// one that has it makes many steps in a row meanwhile.
+fn lock<'a, T, R: Wait>(rt: &R, shared: &'a Mutex<T>) -> MutexGuard<'a, T> {
+    for naps in 0..NAPS {
+        if let Some(guard) = shared.try_lock() {
+            return guard;
+        }
+        Parker::new().park_timeout(rt, Duration::from_micros(naps * LONGER));
+    }
+    shared.lock(rt)
 }
 
 /// A place for each worker, with one part of the ledger each, and the share that is left.
