@@ -6,9 +6,10 @@
 Each file that a document names in backticks is there. Each `crate::item` is an item of that crate, each `crate/edit` an
 edit that must be refused, and each bare name in the documents on the code stands in some crate. docs/GUARANTEES.md
 names every law, and every edit beside its crate. The picture of docs/ARCHITECTURE.md has every crate above those that
-it stands on. Each definition of docs/DEFINITIONS.md stands in the file beside it. docs/INDEX.md is what index.py finds.
-examples/first is as the data of crates/cnitool, and examples/plugins as the pages of the plugins. Some command of the
-documents makes each picture. With a program, the documents' sessions and examples are run by examples.py.
+it stands on, and the page names every file that tells plugins apart. Each definition of docs/DEFINITIONS.md stands in
+the file beside it. docs/INDEX.md is what index.py finds. examples/first is as the data of crates/cnitool, and
+examples/plugins as the pages of the plugins. Some command of the documents makes each picture. With a program, the
+documents' sessions and examples are run by examples.py.
 """
 
 import os
@@ -28,6 +29,10 @@ EDITS = {name: {it.stem for it in (crate / "must-fail").glob("*.edit")} for name
 SUFFIXES = (".antt", ".rt", ".md", ".json", ".py", ".txt", ".edit")
 # a crate with its edits, over one line or more
 EDITS_OF = re.compile(r"^- `(\w+)`: (.*(?:\n  .*)*)$", re.MULTILINE)
+# a variant of a configuration or of a type of plugins
+TELLS_APART = re.compile(r"\.(?:First|Chained|PluginType)\.TheVariants\b|\b(?:First|Chained|PluginType)::[A-Z]")
+# they name what the lists of a test, or the generated ones, have
+OF_LISTS = ("tests", "generated_list", "Generator", "GeneratedListFacts")
 ON_THE_CODE = ("ARCHITECTURE.md", "DECISIONS.md", "DEFINITIONS.md", "GUARANTEES.md")
 
 
@@ -116,6 +121,20 @@ def wrong_picture(text):
         yield from (f"the picture has {name} at {it}" for it in below if row.get(it, len(rows)) <= row.get(name, 0))
 
 
+def wrong_plugin_files(text):
+    """Each file that names a variant of a plugin is named on the page, but for tests and the generated lists."""
+    start = text.index("**A plugin.**")
+    section = text[start : text.index("\n**", start + 2)]
+    named = {word for word in re.findall(r"`([^`\s]+)`", section) if "/" in word and word.endswith((".antt", ".rt"))}
+    for crate in CRATES.values():
+        for path in [*index.files_of(crate), *sorted((crate / "proofs").rglob("*.antt"))]:
+            place = str(path.relative_to(TOP / "crates"))
+            if place in named or path.stem in OF_LISTS:
+                continue
+            if TELLS_APART.search(path.read_text(encoding="utf-8")):
+                yield f"{place} tells plugins apart and isn't named"
+
+
 def missing_definitions(text):
     """Where a row of a table names a file that isn't there, or a definition that isn't in the files beside it. A file
     without a folder is in the folder of the one before it."""
@@ -150,6 +169,7 @@ def wrong_in(path, sources, program):
     if path.name == "ARCHITECTURE.md":
         yield from missing_in_crates(text)
         yield from wrong_picture(text)
+        yield from wrong_plugin_files(text)
     if path.name == "GUARANTEES.md":
         yield from missing_laws(text)
         yield from wrong_edits(text)
