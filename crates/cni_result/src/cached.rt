@@ -78,7 +78,7 @@ impl Duplicate for PortMapping {
     }
 }
 
-/// A cached entry: the namespace and the mappings that the ADD was given, and its result.
+/// A cached result: the namespace and the mappings that the ADD was given, and its result.
 #[derive(PartialEq, Eq, Drop)]
 pub struct Cached {
     pub netns: Text,

@@ -5,7 +5,6 @@ use Rattle.std.proofs.lemmas.Bool.Decides.{nat_tests}
 use Rattle.std.proofs.lemmas.List.Folds.{list_any-append, list_all-append}
 use Rattle.std.proofs.lemmas.List.Sums.{sum_by-cons, sum_by-append}
 use Rattle.cni_addr.specs.declared.address.Addr.{Addr}
-use Rattle.cni_addr.specs.Codes.{family_eq}
 use Rattle.cni_addr.specs.Equal.{addr_eq}
 use Rattle.ip_pool.specs.declared.runs.Run.{Run}
 use Rattle.ip_pool.specs.AddrSets.{is_lower}
@@ -290,9 +289,6 @@ without_addr-absent a [] absent = refl
 without_addr-absent a (r ∷ rs) absent = grind (arith, without_addr-absent a rs)
 
 -- ---- that they are runs
-
-part-before : (t r p : Run) → is_before t r ≡ true → family_eq p.last.family r.last.family ≡ true → r.first ≤ p.first → is_before t p ≡ true
-part-before t r p before same above = grind (arith, nat_tests)
 
 part_below-before : (a : Addr) (u r : Run) → is_before u r ≡ true → is_in_run a r ≡ true → list_all (is_before u) (part_below a r) ≡ true
 part_below-before a u r before here = before_step (nat_lt r.first a.bits)

@@ -5,7 +5,6 @@ use Rattle.std.specs.List.{list_any}
 use Rattle.std.specs.Option.{option_copied, option_map_or}
 use Rattle.std.specs.Str.{bytes_eq}
 use Rattle.std.specs.Cmp.Lexicographic.{nat_list_eq_equiv}
-use Rattle.std.proofs.lemmas.Bool.Decides.{nat_tests}
 use Rattle.std.proofs.lemmas.Slice.Eq.{bytes_eq-Decides}
 use Rattle.cni_addr.specs.declared.address.Addr.{Addr}
 use Rattle.cni_addr.specs.Equal.{addr_eq}
@@ -25,9 +24,6 @@ use Rattle.kernel_tables.specs.Leased.{kept_for, AreLeased}
 pub kept-chosen : (o : Option (Bor AddrSet)) (none : Bor AddrSet) → none.now.addresses ≡ [] → (unwrap_or o none).now.addresses ≡ option_map_or (λ set. set.addresses) (option_copied o) []
 kept-chosen None none h = h
 kept-chosen (Some set) none h = refl
-
-addr_eq-symm : (a b : Addr) → addr_eq a b ≡ addr_eq b a
-addr_eq-symm a b = grind (arith, nat_tests)
 
 -- ---- one goes
 

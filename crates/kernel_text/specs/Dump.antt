@@ -132,7 +132,7 @@ lease_data lease = object (no_members
     ▷ put (codes "network") (text_data lease.network)
     ▷ put_tag lease.tag)
 
--- a cached entry
+-- a cached result
 unfoldable pub cached_data : CachedObj → Data
 cached_data entry = object (no_members
     ▷ put_kind (codes "cached")

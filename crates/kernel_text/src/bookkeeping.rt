@@ -1,4 +1,4 @@
-//! Leases, cached entries and the addresses that were leased last as lines of the dump.
+//! Leases, cached results and the addresses that were leased last as lines of the dump.
 
 ghost use Rattle.kernel_text.specs.Dump.{lease_data, cached_data, last_data};
 

@@ -1,5 +1,5 @@
 -- Ranges in the order of their starts share no address exactly where each ends before the next starts.
-use Rattle.std.proofs.Common.{◌≡◌, ◌≢◌, ℕ, zero, suc, ◌<◌, ◌≤◌, ◌⊎◌, inl, inr, ◌+◌, List, [], ◌∷◌, length, get_or, drop, filter, swap, Bool, true, false, not, Option, Some, None, All, IsPermutation, refl, sym, ap, ap₂, ◌∙◌, arith}
+use Rattle.std.proofs.Common.{◌≡◌, ◌≢◌, ℕ, zero, suc, ◌<◌, ◌≤◌, ◌⊎◌, inl, inr, List, [], ◌∷◌, length, get_or, filter, swap, Bool, true, false, not, None, All, IsPermutation, refl, sym, ap, ap₂, ◌∙◌, arith}
 use Rattle.std.specs.Prelude.{◌&&◌, ◌||◌, ◌==◌, nat_lt, nat_le, min, max}
 use Rattle.std.specs.Cmp.{both_ways}
 use Rattle.std.specs.List.{list_all}
@@ -8,7 +8,6 @@ use Rattle.std.proofs.lemmas.Bool.{cases_eq, cases_Bool, and_parts, or_from, or_
 use Rattle.std.proofs.lemmas.Bool.Decides.{nat_tests}
 use Rattle.std.proofs.lemmas.List.Edits.{Swapped, swapped_from_swap, length-swap}
 use Rattle.std.proofs.lemmas.List.Sums.{AllPass-from_list_all, list_all-from_AllPass}
-use Rattle.std.proofs.lemmas.List.{drop_more}
 use Rattle.std.proofs.lemmas.List.Elements.{filter_passes}
 use Rattle.std.proofs.lemmas.List.Kept.{IsNonDecreasingBy-filter}
 use Rattle.std.proofs.lemmas.List.Sorted.{IsPermutation-keeps, IsPermutation-sym}
@@ -17,7 +16,7 @@ use Rattle.cni_addr.specs.declared.address.Family.{Family}
 use Rattle.cni_addr.specs.declared.address.Family.TheVariants.{V4, V6}
 use Rattle.cni_addr.specs.declared.range.Range.{Range}
 use Rattle.ip_pool.specs.Pool.{is_apart, are_apart}
-use Rattle.net_conf.specs.Apart.{has_address_of, starts_after, ascend_after}
+use Rattle.net_conf.specs.Apart.{has_address_of, ascend_after}
 
 -- ---- two ranges
 
@@ -240,15 +239,3 @@ module _ (xs ys : List Range) (moved : IsPermutation xs ys) (order : IsNonDecrea
 
   pub not_in_first : four ≡ false → four ≡ are_apart xs
   not_in_first is = is ∙ sym (ap (λ b. b && ascend_after None (filter (has_address_of V6) ys)) is) ∙ in_both (ascend_after None (filter (has_address_of V6) ys)) refl
-
--- ---- one range after the other
-
-pub ascend-passed : (p : Range → Bool) (end : Option ℕ) (rs : List Range) (i : ℕ) (r : Range) → i < length rs → r ≡ get_or rs i r → p r ≡ false
-    → ascend_after end (filter p (drop i rs)) ≡ ascend_after end (filter p (drop (i + 1) rs))
-ascend-passed p end rs i r within is other =
-    ap (λ l. ascend_after end (filter p l)) (drop_more rs i r within ∙ ap (λ x. x ∷ drop (i + 1) rs) (sym is)) ∙ rw other refl
-
-pub ascend-taken : (p : Range → Bool) (end : Option ℕ) (rs : List Range) (i : ℕ) (r : Range) → i < length rs → r ≡ get_or rs i r → p r ≡ true
-    → ascend_after end (filter p (drop i rs)) ≡ (starts_after end r && ascend_after (Some r.end.bits) (filter p (drop (i + 1) rs)))
-ascend-taken p end rs i r within is one =
-    ap (λ l. ascend_after end (filter p l)) (drop_more rs i r within ∙ ap (λ x. x ∷ drop (i + 1) rs) (sym is)) ∙ rw one refl
