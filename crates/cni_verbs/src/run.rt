@@ -28,7 +28,7 @@ use std::marker::Model;
 /// The run of one command. It keeps how far it has come and what it was leased, and no replies.
 #[derive(Drop)]
 pub struct Run {
-    list: Option<NetList>,
+    list: Option<RefCounted<NetList>>,
     command: Command,
     made: u64,
     phase: Phase,
@@ -62,11 +62,14 @@ impl Run {
     /// The run of a command of this list, or of a command of no network, before its first call. A garbage collection
     /// isn't a run: it keeps owners and sweeps.
     ///
-    /// It copies the list and the command, and keeps the copies until it is dropped. Texts are shared, so that takes
-    /// time and memory in proportion to the ranges, routes and settings of the list, and to the mappings and valid
-    /// attachments of the command. Whatever the verb, it makes besides the kinds of a DEL and room for an address of
-    /// each range set, both in proportion to the list.
-    pub fn start(alloc: Global, list: Option<&NetList>, command: &Command) -> Result<Run, NoMemory>
+    /// It shares the list, copies the command, and keeps both until it is dropped. Texts are shared too, so that takes
+    /// time and memory in proportion to the mappings and valid attachments of the command. Whatever the verb, it makes
+    /// besides the kinds of a DEL and room for an address of each range set, both in proportion to the list.
+    pub fn start(
+        alloc: Global,
+        list: Option<&RefCounted<NetList>>,
+        command: &Command,
+    ) -> Result<Run, NoMemory>
         requires { is_gc command.now.verb ≡ false }
         ensures { IfOk result (λ run. run.progress ≡ progress (option_copied list.entry) command.now []) }
     {
@@ -76,20 +79,25 @@ impl Run {
         }
     }
 
-    fn of_list(alloc: Global, list: &NetList, command: &Command) -> Result<Run, NoMemory>
+    fn of_list(
+        alloc: Global,
+        list: &RefCounted<NetList>,
+        command: &Command,
+    ) -> Result<Run, NoMemory>
         requires { is_gc command.now.verb ≡ false }
         ensures { IfOk result (λ run. run.progress ≡ progress (Some list.now) command.now []) }
     {
-        let kinds = kinds_of(alloc, list)?;
-        let given = Vec::with_capacity(alloc, sets_of(list).len())?;
+        let conf = list.get();
+        let kinds = kinds_of(alloc, conf)?;
+        let given = Vec::with_capacity(alloc, sets_of(conf).len())?;
         let list_copy = list.copy()?;
         let command_copy = command.copy()?;
-        let phase = first_phase(alloc, list, command)?;
+        let phase = first_phase(alloc, conf, command)?;
         Ok(Run::begun(list_copy, command_copy, phase, kinds, given))
     }
 
     fn begun(
-        list: NetList,
+        list: RefCounted<NetList>,
         command: Command,
         phase: Phase,
         kinds: Items<Kind>,
@@ -135,10 +143,9 @@ impl Run {
         run
     }
 
-    /// Makes what the next call is looked up in, where it isn't made yet: [`Run::next`] and [`Run::take`] ask for it
+    /// Makes ahead what the next call is looked up in, where it isn't yet: [`Run::next`] and [`Run::take`] ask for it
     /// after each reply. How far the run has come stays the same, and out of memory the run is as it was: it may be
-    /// prepared again. Linear in the list, the mappings and the leased addresses, once or
-    /// twice a run.
+    /// prepared again. Linear in the list, the mappings and the leased addresses, once or twice a run.
     pub fn prepare(&mut self) -> Result<(), NoMemory>
         ensures same { self.new.progress ≡ self.old.progress }
         ensures ready { OnOk result (self.new.prepared ≡ true) }
@@ -159,7 +166,7 @@ impl Run {
         }
     }
 
-    // Apart from `prepare`, so that a step doesn't clear a stack for what is made once or twice a run.
+    // Apart from `prepare`, so that a step doesn't clear a stack for what is made ahead once or twice a run.
     #[inline(never)]
     fn make_ahead(&mut self) -> Result<(), NoMemory>
         ensures same { self.new.progress ≡ self.old.progress }
@@ -169,13 +176,13 @@ impl Run {
         let alloc = *self.given.allocator();
         if let Some(list) = &self.list {
             let given = self.given.as_slice();
-            prepare_phase(alloc, list, &self.command, given, &mut self.phase)?;
+            prepare_phase(alloc, list.get(), &self.command, given, &mut self.phase)?;
         }
         Ok(())
     }
 
-    /// The call to make next, or none where the run is over. A planned call is shared with the plan, and each other is
-    /// made here, linear in that call alone.
+    /// The call to make next, or none where the run is over. A call that is made ahead is shared, and each other is
+    /// built here, linear in that call alone.
     pub fn next(&self) -> Result<Option<RefCounted<Call>>, NoMemory>
         requires prepared { self.now.prepared ≡ true }
         ensures { IfOk result (λ call. call ≡ next_call self.now.progress.command self.now.progress.state) }
@@ -184,7 +191,7 @@ impl Run {
         match &self.list {
             Some(list) => next_of(
                 alloc,
-                list,
+                list.get(),
                 &self.command,
                 self.kinds.as_slice(),
                 self.given.as_slice(),
@@ -221,7 +228,7 @@ impl Run {
         ensures frees { holds_text_or_list reply.now ≡ false → IsOk result }
     {
         let sets = match &self.list {
-            Some(list) => sets_of(list).len(),
+            Some(list) => sets_of(list.get()).len(),
             None => unreachable!(),
         };
         after(&mut self.phase, &mut self.given, sets, self.made, reply)?;
@@ -270,7 +277,7 @@ impl Run {
         match &self.list {
             Some(list) => answer_in(
                 alloc,
-                list,
+                list.get(),
                 &self.command,
                 self.kinds.as_slice(),
                 self.given.as_slice(),

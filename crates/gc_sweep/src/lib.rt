@@ -1,7 +1,7 @@
 //! Garbage collection of a network, a call at a time, and what it leaves.
 //!
 //! A [`GcRun`] follows the script of a collection (`specs/Sweep.antt` and `specs/Script.antt` of the crate
-//! `cni_verbs`): a deletion for each owner of a cached entry that the valid list doesn't name, then, kind by kind,
+//! `cni_verbs`): a deletion for each owner of a cached result that the valid list doesn't name, then, kind by kind,
 //! what such owners still have. A fault ends the part that it stands in and never the collection, and the answer
 //! names each.
 //!

@@ -22,7 +22,7 @@ use std::marker::Model;
 /// The run of one collection. It keeps the owners of the sweep at hand and the numbers of its faults, and no replies.
 #[derive(Drop)]
 pub struct GcRun {
-    list: NetList,
+    list: RefCounted<NetList>,
     command: Command,
     made: u64,
     kinds: Items<Kind>,
@@ -46,17 +46,20 @@ impl Model for GcRun {
 impl GcRun {
     /// The run of a collection of this list's network, before its first call.
     ///
-    /// It copies the list and the command, and keeps the copies until it is dropped. Texts are shared, so that takes
-    /// time and memory in proportion to the ranges, routes and settings of the list, and to the valid attachments of
-    /// the command. Besides it indexes those, and makes the kinds of a DEL, of which each plugin of the list has three
-    /// at most.
-    pub fn start(alloc: Global, list: &NetList, command: &Command) -> Result<GcRun, NoMemory>
+    /// It shares the list, copies the command, and keeps both until it is dropped. Texts are shared too, so that takes
+    /// time and memory in proportion to the valid attachments of the command. Besides it indexes those, and makes the
+    /// kinds of a DEL, of which each plugin of the list has three at most.
+    pub fn start(
+        alloc: Global,
+        list: &RefCounted<NetList>,
+        command: &Command,
+    ) -> Result<GcRun, NoMemory>
         requires { is_gc command.now.verb ≡ true }
         ensures { IfOk result (λ run. run ≡ progress (Some list.now) command.now []) }
     {
         let list_copy = list.copy()?;
         let command_copy = command.copy()?;
-        let kinds = kinds_of(alloc, list)?;
+        let kinds = kinds_of(alloc, list.get())?;
         let valid = ValidIndex::of(alloc, command.valid.as_slice())?;
         Ok(GcRun {
             list: list_copy,
@@ -73,7 +76,7 @@ impl GcRun {
     pub fn next(&self) -> Result<Option<RefCounted<Call>>, NoMemory>
         ensures { IfOk result (λ call. call ≡ next_call self.now.command self.now.state) }
     {
-        if is_early(&self.list) {
+        if is_early(self.list.get()) {
             Ok(None)
         } else {
             let alloc = *self.place.owners.allocator();
@@ -113,7 +116,7 @@ impl GcRun {
     pub fn over(&self) -> bool
         ensures { FalseIff result (IsOpen self.now.state) }
     {
-        is_early(&self.list) || self.place.is_done()
+        is_early(self.list.get()) || self.place.is_done()
     }
 
     /// What the command is answered, where the run is over. A fault doesn't end a collection: the error names each call
@@ -125,7 +128,7 @@ impl GcRun {
         match self.ending()? {
             Some(ending) => Ok(Some(plain_answer(
                 alloc,
-                self.list.version,
+                self.list.get().version,
                 &self.command,
                 &ending,
             )?)),
@@ -137,7 +140,7 @@ impl GcRun {
     fn ending(&self) -> Result<Option<Ending>, NoMemory>
         ensures { IfOk result (λ ending. ending ≡ ending_in self.now.state) }
     {
-        match early_ending(&self.list) {
+        match early_ending(self.list.get()) {
             Some(ending) => Ok(Some(ending)),
             None => {
                 if self.place.is_done() {

@@ -42,8 +42,8 @@ use Rattle.net_conf.specs.declared.first.HostLocalConf.{HostLocalConf}
 use Rattle.net_conf.specs.declared.first.MacvlanConf.{MacvlanConf}
 use Rattle.net_conf.specs.declared.first.PtpConf.{PtpConf}
 use Rattle.net_conf.specs.declared.ipam.Addressing.{Addressing}
-use Rattle.net_conf.specs.declared.plugin_type.PluginType.{PluginType}
-use Rattle.net_conf.specs.declared.plugin_type.PluginType.TheVariants as plugin
+use Rattle.net_conf.specs.declared.plugins.PluginType.{PluginType}
+use Rattle.net_conf.specs.declared.plugins.PluginType.TheVariants as plugin
 use Rattle.net_conf.specs.declared.plugins.PluginChain.{PluginChain}
 
 -- ---- members that several plugins have

@@ -5,9 +5,9 @@ use Rattle.std.specs.List.{IsDistinct}
 use Rattle.std.specs.Str.{bytes_eq}
 use Rattle.net_conf.specs.declared.chained.Chained.{Chained}
 use Rattle.net_conf.specs.declared.chained.Chained.TheVariants as later
-use Rattle.net_conf.specs.declared.plugin_type.TheConstants.PluginType.{ALL}
-use Rattle.net_conf.specs.declared.plugin_type.PluginType.{PluginType}
-use Rattle.net_conf.specs.declared.plugin_type.PluginType.TheVariants as plugin
+use Rattle.net_conf.specs.declared.plugins.TheConstants.PluginType.{ALL}
+use Rattle.net_conf.specs.declared.plugins.PluginType.{PluginType}
+use Rattle.net_conf.specs.declared.plugins.PluginType.TheVariants as plugin
 
 -- a type as a plugin's object names it
 abbrev pub type_text : PluginType → List ℕ

@@ -22,8 +22,8 @@ use Rattle.net_conf.specs.declared.error.ConfError.TheVariants as refusal
 use Rattle.net_conf.specs.declared.first.First.{First}
 use Rattle.net_conf.specs.declared.first.First.TheVariants as first
 use Rattle.net_conf.specs.declared.plugins.PluginChain.{PluginChain}
-use Rattle.net_conf.specs.declared.plugin_type.PluginType.{PluginType}
-use Rattle.net_conf.specs.declared.plugin_type.PluginType.TheVariants as plugin
+use Rattle.net_conf.specs.declared.plugins.PluginType.{PluginType}
+use Rattle.net_conf.specs.declared.plugins.PluginType.TheVariants as plugin
 
 abbrev pub wrong_plugins : {A : Type 0} → Result A ConfError
 wrong_plugins = invalid (codes "plugins")

@@ -3,7 +3,7 @@
 ghost use Rattle.std.specs.Prelude.{◌≡◌};
 ghost use Rattle.net_conf.specs.PluginTypes.{HaveTypesOnce};
 
-use cni_addr::{Duplicate, Items, Mac, NoMemory, Text};
+use cni_addr::{Items, Mac, Text};
 use std::marker::Model;
 
 /// The configuration of `portmap`: whether the runtime hands it the port mappings (its `capabilities`), and whether
@@ -80,13 +80,5 @@ impl ChainedPlugins {
         ensures { result.now ≡ self.now }
     {
         self.plugins.as_slice()
-    }
-}
-
-impl Duplicate for ChainedPlugins {
-    fn copy(&self) -> Result<ChainedPlugins, NoMemory> {
-        Ok(ChainedPlugins {
-            plugins: self.plugins.copy()?,
-        })
     }
 }

@@ -4,7 +4,7 @@ ghost use Rattle.std.specs.Prelude.{◌≡◌, ◌≤◌, IsTrue, length};
 ghost use Rattle.ip_pool.specs.Pool.{are_apart};
 ghost use Rattle.net_conf.specs.Sets.{most_sets, ranges_of};
 
-use cni_addr::{Duplicate, Items, NoMemory, RangeSet};
+use cni_addr::{Items, RangeSet};
 use std::marker::Model;
 
 /// The most sets that a configuration has.
@@ -48,13 +48,5 @@ impl RangeSets {
         ensures apart { IsTrue (are_apart (ranges_of result.now)) }
     {
         self.sets.as_slice()
-    }
-}
-
-impl Duplicate for RangeSets {
-    fn copy(&self) -> Result<RangeSets, NoMemory> {
-        Ok(RangeSets {
-            sets: self.sets.copy()?,
-        })
     }
 }

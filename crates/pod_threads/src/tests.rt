@@ -8,6 +8,7 @@ ghost use Rattle.pod_workers.specs.Plans.{IsWellFormed};
 use crate::{Gate, OpenGate, Rounded, round_threads};
 use cni_addr::{Duplicate, Items};
 use kernel_model::{Kernel, ListKernel};
+use kernel_types::RefCounted;
 use net_conf::{NetList, network_list_laws, read_list};
 use pod_file::{Pods, pod_file_laws, read_pods};
 use pod_workers::{Book, Plan, joined_plans_are_well_formed};
@@ -65,17 +66,17 @@ fn list_of(alloc: Global) -> Result<NetList, Fail>
 }
 
 #[tactic(auto, using(crate::proofs::Formed::one_is_formed))]
-fn lists_of(alloc: Global) -> Result<Items<NetList>, Fail>
+fn lists_of(alloc: Global) -> Result<Items<RefCounted<NetList>>, Fail>
     ensures formed { IfOk result (λ lists. All IsWellFormedList lists) }
     ensures few { IfOk result (λ lists. length lists < 2 ^ 32) }
 {
     let list = list_of(alloc)?;
     let mut lists = Items::new(alloc);
-    lists.push(list)?;
+    lists.push(RefCounted::of(alloc, list)?)?;
     Ok(lists)
 }
 
-fn joined(lists: Items<NetList>, pods: Pods) -> Result<Plan, Fail>
+fn joined(lists: Items<RefCounted<NetList>>, pods: Pods) -> Result<Plan, Fail>
     requires lists { All IsWellFormedList lists }
     requires few { length lists < 2 ^ 32 }
     requires pods { IsWellFormedPods pods }

@@ -10,6 +10,7 @@ ghost use Rattle.pod_workers.specs.Plans.{has_list, lacks_list, list_in, list_na
 
 use crate::plan::{Plan, PlanError};
 use cni_addr::{Items, Text};
+use kernel_types::RefCounted;
 use net_conf::NetList;
 use pod_file::{Command, Pods};
 
@@ -17,7 +18,11 @@ impl Plan {
     /// The plan of these lists and this pod file. Refused are, in this order, the first list that has the name of an
     /// earlier one, and the first command of a network that no list has.
     #[tactic(auto, unfolding(crate::specs::Join::joined))]
-    pub fn join(lists: Items<NetList>, pods: Pods, stop_at: Option<u32>) -> Result<Plan, PlanError>
+    pub fn join(
+        lists: Items<RefCounted<NetList>>,
+        pods: Pods,
+        stop_at: Option<u32>,
+    ) -> Result<Plan, PlanError>
         requires { length lists < 2 ^ 32 }
         ensures { result ≡ joined (record { lists = lists; pods = pods; stop_at = stop_at }) }
     {
@@ -38,14 +43,20 @@ pub fn joined_plans_are_well_formed()
     ensures { JoinedPlansAreWellFormed }
 {}
 
-fn list_named<'a>(lists: &'a [NetList], network: &Text) -> Option<&'a NetList>
+fn list_named<'a>(
+    lists: &'a [RefCounted<NetList>],
+    network: &Text,
+) -> Option<&'a RefCounted<NetList>>
     ensures { option_copied result ≡ list_named lists.now network.now }
 {
-    lists.iter().find(|list| list.name == *network)
+    lists.iter().find(|list| list.get().name == *network)
 }
 
 /// The list of a command's network, where its verb speaks of one.
-pub(crate) fn list_in<'a>(lists: &'a [NetList], command: &Command) -> Option<&'a NetList>
+pub(crate) fn list_in<'a>(
+    lists: &'a [RefCounted<NetList>],
+    command: &Command,
+) -> Option<&'a RefCounted<NetList>>
     ensures { option_copied result ≡ list_in lists.now command.now }
 {
     if command.verb.is_of_network() {
@@ -55,20 +66,20 @@ pub(crate) fn list_in<'a>(lists: &'a [NetList], command: &Command) -> Option<&'a
     }
 }
 
-fn has_list(lists: &[NetList], name: &Text) -> bool
+fn has_list(lists: &[RefCounted<NetList>], name: &Text) -> bool
     ensures { result ≡ has_list lists.now name.now }
 {
     list_named(lists, name).is_some()
 }
 
-fn lacks_list(lists: &[NetList], command: &Command) -> bool
+fn lacks_list(lists: &[RefCounted<NetList>], command: &Command) -> bool
     ensures { result ≡ lacks_list lists.now command.now }
 {
     command.verb.is_of_network() && !has_list(lists, &command.network)
 }
 
 /// Why these make no plan, if they don't.
-fn refusal(lists: &[NetList], rounds: &[Items<Command>]) -> Option<PlanError>
+fn refusal(lists: &[RefCounted<NetList>], rounds: &[Items<Command>]) -> Option<PlanError>
     requires few_lists { length lists.now < 2 ^ 32 }
     requires few_commands { length (placed_from 0 rounds.now) ≤ file_limit }
     ensures { result ≡ refusal_of lists.now rounds.now }
@@ -82,7 +93,7 @@ fn refusal(lists: &[NetList], rounds: &[Items<Command>]) -> Option<PlanError>
     None
 }
 
-fn without_list_in(lists: &[NetList], commands: &[Command]) -> Option<usize>
+fn without_list_in(lists: &[RefCounted<NetList>], commands: &[Command]) -> Option<usize>
     ensures { result ≡ position (λ c. lacks_list lists.now c) commands.now }
 {
     commands
@@ -91,7 +102,7 @@ fn without_list_in(lists: &[NetList], commands: &[Command]) -> Option<usize>
 }
 
 /// The place of the first command of a network that no list has.
-fn first_without_list(lists: &[NetList], rounds: &[Items<Command>]) -> Option<u32>
+fn first_without_list(lists: &[RefCounted<NetList>], rounds: &[Items<Command>]) -> Option<u32>
     requires { length (placed_from 0 rounds.now) ≤ file_limit }
     ensures { result ≡ first_without_list lists.now rounds.now }
 {
@@ -107,12 +118,12 @@ fn first_without_list(lists: &[NetList], rounds: &[Items<Command>]) -> Option<u3
 }
 
 /// The place of the first list that has the name of an earlier one.
-fn first_repeat(lists: &[NetList]) -> Option<u32>
+fn first_repeat(lists: &[RefCounted<NetList>]) -> Option<u32>
     requires { length lists.now < 2 ^ 32 }
     ensures { result ≡ first_repeat_after [] 0 lists.now }
 {
     for (place, list) in lists.iter().enumerate() {
-        if has_list(&lists[..place], &list.name) {
+        if has_list(&lists[..place], &list.get().name) {
             return Some(place as u32);
         }
     }

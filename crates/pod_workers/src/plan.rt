@@ -9,7 +9,8 @@ use pod_file::Pods;
 /// Network lists and a pod file, and the number of the history's entry after which its round is stopped.
 #[derive(PartialEq, Eq, Drop)]
 pub struct Plan {
-    pub lists: Items<NetList>,
+    /// Each shared by the runs of its commands.
+    pub lists: Items<RefCounted<NetList>>,
     pub pods: Pods,
     pub stop_at: Option<u32>,
 }

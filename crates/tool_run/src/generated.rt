@@ -7,6 +7,7 @@ ghost use Rattle.tool_run.specs.Verdict.{generated_plan};
 
 use crate::laws::generated_plans_are_well_formed;
 use cni_addr::{Items, NoMemory};
+use kernel_types::RefCounted;
 use pod_file::{Generated, generate};
 use pod_workers::Plan;
 use std::alloc::Global;
@@ -26,7 +27,7 @@ pub(crate) fn generated_plan(
     generated_plans_are_well_formed();
     let Generated { list, pods } = generate(alloc, count)?;
     let mut lists = Items::new(alloc);
-    lists.push(list)?;
+    lists.push(RefCounted::of(alloc, list)?)?;
     Ok(Plan {
         lists,
         pods,

@@ -1,4 +1,6 @@
 use Rattle.std.proofs.Common.{◌≡◌, ◌∙◌, ap, sym, subst, Some, None}
+use Rattle.net_conf.specs.declared.list.NetList.{NetList}
+use Rattle.cni_verbs.specs.Answers.{plain_answer}
 use Rattle.cni_verbs.specs.Progress.{Progress}
 use Rattle.cni_verbs.specs.Wanted.{kinds_of}
 use Rattle.gc_sweep.specs.View.{ending_in, work_of}
@@ -10,7 +12,9 @@ returns-in_ok-plain_answer-in-Some c =
     let r = c.self.inside in
     let is = subst (λ (p : Progress). Some c.in-Some.ending ≡ ending_in p.state) (sym c.self.view_is) (sym c.in-Some.is ∙ c.in_ok-ending.ensures) in
     rw (← c.self.view_is)
-    (ap Some c.in_ok-plain_answer-in-Some.ensures ∙ answers r.list r.command (work_of (kinds_of r.list) r.place) r.faults (Some c.in-Some.ending) is)
+    (ap Some c.in_ok-plain_answer-in-Some.ensures
+    ∙ ap (λ (l : NetList). Some (plain_answer l.version r.command c.in-Some.ending)) c.get.ensures
+    ∙ answers r.list r.command (work_of (kinds_of r.list) r.place) r.faults (Some c.in-Some.ending) is)
 
 pub returns-in-None : goal.returns-in-None
 returns-in-None c =
