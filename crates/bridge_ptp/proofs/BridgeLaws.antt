@@ -35,7 +35,7 @@ use Rattle.bridge_ptp.proofs.VethLemmas.{veth-inner, veth-own, veth-well_formed}
 bridge-before : (conf : BridgeConf) (att : Att) (netns : List ℕ) → AreCallsBefore (bridge_plugin conf) att netns
 bridge-before conf att netns = record {
   own = grind (arith, veth-own att netns (Some conf.bridge) conf.mtu (hairpin conf.mode));
-  make_interface = refl;
+  make_interface = grind (arith, nat_list_eq_equiv.refl conf.bridge);
   well_formed = λ place. (tt, (veth-well_formed att netns (Some conf.bridge) conf.mtu (hairpin conf.mode) place, tt));
   ensured = grind (arith, nat_list_eq_equiv.refl conf.bridge);
   in_order = grind (arith, nat_list_eq_equiv.refl conf.bridge);
@@ -121,6 +121,8 @@ bridge_laws conf = record {
   before = bridge-before conf;
   after = bridge-after conf;
   inner = λ att netns. veth-inner att netns (Some conf.bridge) conf.mtu (hairpin conf.mode);
+  under = λ att netns. refl;
+  over = λ att netns. refl;
   adds_before = λ att netns s. sym (share_plus-links s (veth_links att netns (Some conf.bridge) conf.mtu (hairpin conf.mode)));
   adds_after = share-bridge_after conf;
   takes_links = refl;

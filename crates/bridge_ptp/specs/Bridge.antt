@@ -1,5 +1,4 @@
--- The `bridge` plugin: the container's end of a veth pair, whose other end has a bridge of the host as
--- master.
+-- The `bridge` plugin: the container's end of a veth pair, whose other end has a bridge of the host as master.
 use Rattle.std.specs.Prelude.{ℕ, ◌+◌, ◌*◌, List, [], ◌∷◌, ◌++◌, length, map, Some, None, if◌then◌else◌}
 use Rattle.cni_result.specs.declared.result.RouteEntry.{RouteEntry}
 use Rattle.net_conf.specs.BridgeModes.{is_gateway, is_default, hairpin, promisc}

@@ -6,7 +6,7 @@ use Rattle.net_conf.specs.declared.chained.Chained.{Chained}
 use Rattle.net_conf.specs.declared.chained.Chained.TheVariants.{Portmap, Firewall, Tuning}
 use Rattle.net_conf.specs.declared.first.First.{First}
 use Rattle.net_conf.specs.declared.first.First.TheVariants.{Bridge, Ptp, Macvlan}
-use Rattle.net_conf.specs.declared.plugin_type.PluginType.TheVariants as types
+use Rattle.net_conf.specs.declared.plugins.PluginType.TheVariants as types
 use Rattle.plan_words.specs.PluginLaws.{ChainedLaws, FirstLaws}
 use Rattle.bridge_ptp.proofs.BridgeLaws.{bridge_laws}
 use Rattle.bridge_ptp.proofs.PtpLaws.{ptp_laws}

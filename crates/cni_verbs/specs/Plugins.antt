@@ -1,5 +1,5 @@
 -- What each plugin does, by its configuration: with the laws that it keeps (`proofs/PluginLaws.antt`) and its code
--- (`src/plugins.rt`) all that tells the plugins apart.
+-- (`src/plugins.rt`) all that tells plugins apart above `net_conf`.
 use Rattle.net_conf.specs.declared.chained.Chained.{Chained}
 use Rattle.net_conf.specs.declared.chained.Chained.TheVariants.{Portmap, Firewall, Tuning}
 use Rattle.net_conf.specs.declared.first.First.{First}

@@ -1,5 +1,5 @@
--- The `firewall` plugin: what is forwarded to and from the container. The rule set is this project's own,
--- after iptables.
+-- The `firewall` plugin: what is forwarded to and from the container. The rule set is this project's own, after
+-- iptables.
 use Rattle.std.specs.Prelude.{◌*◌, true, false, List, [], ◌∷◌, map, flat_map, Some}
 use Rattle.cni_addr.specs.Network.{whole}
 use Rattle.cni_addr.specs.declared.address.Addr.{Addr}

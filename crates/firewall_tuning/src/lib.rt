@@ -2,7 +2,8 @@
 //! of its link.
 //!
 //! To the verbs each promises its calls, its result, which is that of `firewall` the one before, and the kinds of
-//! objects that DEL takes back. They are those of `specs/Firewall.antt` and `specs/Tuning.antt`.
+//! objects that DEL takes back. They are those of its record, `firewall_plugin` (`specs/Firewall.antt`) or
+//! `tuning_plugin` (`specs/Tuning.antt`), which keeps the laws of a chained plugin ([`laws`]).
 //!
 //! ```text
 //! firewall_calls(alloc, &att, &prev)?       // two RuleAppend for each address

@@ -1,7 +1,8 @@
 //! The `macvlan` plugin: a link of the container over a link of the host.
 //!
 //! To the verbs it promises the calls before an address is leased, the calls after it, the result, and the kinds of
-//! objects that DEL takes back. They are those of `specs/Macvlan.antt`.
+//! objects that DEL takes back. They are those of its record, `macvlan_plugin` (`specs/Macvlan.antt`), which keeps the
+//! laws of a plugin that makes the interface ([`laws`]).
 //!
 //! ```text
 //! macvlan::before(alloc, &conf, &att, &netns)?        // MacvlanAdd

@@ -27,7 +27,7 @@ use Rattle.plan_words.proofs.OwnCalls.{share-own}
 -- ---- from the calls to the host
 
 -- what calls of the attachment that are all done make of its share
-pub share-applied : (att : Att) (host : Host) (calls : List Call) → list_all (is_plan_call_of att) calls ≡ true → AllDone host calls → share_of att (applied host calls) ≡ share_after_calls (share_of att host) calls
+share-applied : (att : Att) (host : Host) (calls : List Call) → list_all (is_plan_call_of att) calls ≡ true → AllDone host calls → share_of att (applied host calls) ≡ share_after_calls (share_of att host) calls
 share-applied att host [] own done = refl
 share-applied att host (c ∷ cs) own done =
     let both = and_parts (is_plan_call_of att c) (list_all (is_plan_call_of att) cs) own in

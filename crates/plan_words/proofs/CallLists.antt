@@ -64,8 +64,5 @@ pub share_plus-laid_on : (s : Share) (addresses : List AddrObj) (routes : List R
     → share_plus s (record no_objects { addresses = addresses; routes = routes; rules = rules }) ≡ record s { addresses = s.addresses ++ addresses; routes = s.routes ++ routes; rules = s.rules ++ rules }
 share_plus-laid_on s addresses routes rules = rw (append-nil s.links, append-nil s.settings, append-nil s.leases, append-nil s.cached) refl
 
-pub share_plus-rules : (s : Share) (rules : List Rule) → share_plus s (record no_objects { rules = rules }) ≡ record s { rules = s.rules ++ rules }
-share_plus-rules s rules = rw (append-nil s.links, append-nil s.addresses, append-nil s.routes, append-nil s.settings, append-nil s.leases, append-nil s.cached) refl
-
 pub share_plus-links : (s : Share) (links : List Link) → share_plus s (record no_objects { links = links }) ≡ record s { links = s.links ++ links }
 share_plus-links s links = rw (append-nil s.addresses, append-nil s.routes, append-nil s.rules, append-nil s.settings, append-nil s.leases, append-nil s.cached) refl

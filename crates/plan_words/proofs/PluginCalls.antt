@@ -80,7 +80,7 @@ pub fits-route : (ks : List Kind) (links : List Link) (bridge : Option (List ℕ
     → (dst : Cidr) (gw : Option Addr) → fits ks links bridge att netns (RouteAdd (route_at att key dst gw)) ≡ true
 fits-route ks links bridge att netns key kind there dst gw = grind (arith, att_eq-refl att, kind, there)
 
-pub fits-rule : (ks : List Kind) (links : List Link) (bridge : Option (List ℕ)) (att : Att) (netns : List ℕ) → has_kind kinds.Rules ks ≡ true → (rule : Rule) → is_own att rule.tag ≡ true → fits ks links bridge att netns (RuleAppend rule) ≡ true
+fits-rule : (ks : List Kind) (links : List Link) (bridge : Option (List ℕ)) (att : Att) (netns : List ℕ) → has_kind kinds.Rules ks ≡ true → (rule : Rule) → is_own att rule.tag ≡ true → fits ks links bridge att netns (RuleAppend rule) ≡ true
 fits-rule ks links bridge att netns kind rule own = grind (arith, kind, own)
 
 pub fits-gateway : (ks : List Kind) (links : List Link) (bridge : Option (List ℕ)) (att : Att) (netns name : List ℕ) → is_none_or (Some name) bridge ≡ true → (cidr : Cidr) → fits ks links bridge att netns (GatewayEnsure name cidr) ≡ true
@@ -108,7 +108,7 @@ fit-forward ks links bridge att netns given =
     let p = fits ks links bridge att netns in
     list_all-append p (forward_for V4 given) (forward_for V6 given) (list_all-if p (has_family V4 given) (ForwardEnsure V4 ∷ []) refl) (list_all-if p (has_family V6 given) (ForwardEnsure V6 ∷ []) refl)
 
-pub fit-rules : (ks : List Kind) (links : List Link) (bridge : Option (List ℕ)) (att : Att) (netns : List ℕ) (rules : List Rule) → has_kind kinds.Rules ks ≡ true → list_all (λ x. is_own att x.tag) rules ≡ true
+fit-rules : (ks : List Kind) (links : List Link) (bridge : Option (List ℕ)) (att : Att) (netns : List ℕ) (rules : List Rule) → has_kind kinds.Rules ks ≡ true → list_all (λ x. is_own att x.tag) rules ≡ true
     → list_all (fits ks links bridge att netns) (map RuleAppend rules) ≡ true
 fit-rules ks links bridge att netns rules kind own = list_all-mapped (fits ks links bridge att netns) RuleAppend (λ x. is_own att x.tag) (fits-rule ks links bridge att netns kind) rules own
 
@@ -127,7 +127,7 @@ at_most-none [] h = refl
 at_most-none (x ∷ xs) h = at_most-one_step (changes_links x) xs (grind (arith, h)) (at_most-none xs (grind (arith, h)))
 
 -- calls that set no link do so once at most
-pub set-never : (sets : Bool) (calls : List Call) → list_any changes_links calls ≡ false → set_links_once sets calls ≡ true
+set-never : (sets : Bool) (calls : List Call) → list_any changes_links calls ≡ false → set_links_once sets calls ≡ true
 set-never true calls h = at_most-none calls h
 set-never false calls h = grind (arith, h)
 
@@ -162,17 +162,17 @@ own-at att ns name links h = list_any-weaker (is_link_of ns name (Own att)) (is_
 -- ---- what follows: before the leases
 
 -- no call that makes the interface lies on a link, and what it makes is a link
-pub interface-lies : (links : List Link) (call : Call) → makes_interface call ≡ true → lies_on links call ≡ true
-interface-lies links (BridgeEnsure name mtu promisc) h = refl
-interface-lies links (VethAdd host_end inner_end) h = refl
-interface-lies links (MacvlanAdd link) h = refl
-interface-lies links _ h = cc
+pub interface-lies : (links : List Link) (bridge : Option (List ℕ)) (call : Call) → makes_interface bridge call ≡ true → lies_on links call ≡ true
+interface-lies links bridge (BridgeEnsure name mtu promisc) h = refl
+interface-lies links bridge (VethAdd host_end inner_end) h = refl
+interface-lies links bridge (MacvlanAdd link) h = refl
+interface-lies links bridge _ h = cc
 
-pub interface-kinds : (ks : List Kind) → has_kind kinds.Links ks ≡ true → (call : Call) → makes_interface call ≡ true → is_of_kinds ks call ≡ true
-interface-kinds ks there (BridgeEnsure name mtu promisc) h = refl
-interface-kinds ks there (VethAdd host_end inner_end) h = there
-interface-kinds ks there (MacvlanAdd link) h = there
-interface-kinds ks there _ h = cc
+pub interface-kinds : (ks : List Kind) → has_kind kinds.Links ks ≡ true → (bridge : Option (List ℕ)) (call : Call) → makes_interface bridge call ≡ true → is_of_kinds ks call ≡ true
+interface-kinds ks there bridge (BridgeEnsure name mtu promisc) h = refl
+interface-kinds ks there bridge (VethAdd host_end inner_end) h = there
+interface-kinds ks there bridge (MacvlanAdd link) h = there
+interface-kinds ks there bridge _ h = cc
 
 -- ---- what follows: after them
 

@@ -1,4 +1,4 @@
--- What the calls of plugins are, and that they append a share.
+-- Whose a plugin's call is, whether it is well formed, and what calls append.
 use Rattle.std.specs.Prelude.{◌≡◌, Bool, true, false, not, ◌&&◌, ◌||◌, List, [], ◌∷◌, fold, is_some}
 use Rattle.std.specs.List.{list_any}
 use Rattle.kernel_types.specs.Allowed.{IsVethPair, IsMacvlanLink, HasRangesApart, IsAllowedChange}

@@ -1,23 +1,29 @@
--- What the calls of a plugin are, and what they stand on.
-use Rattle.std.specs.Prelude.{ℕ, Bool, true, false, not, ◌&&◌, ◌||◌, List, [], ◌∷◌, Option, Some, None, is_none, if◌then◌else◌}
+-- What a plugin's call makes, lies on and stands under.
+use Rattle.std.specs.Prelude.{ℕ, Bool, true, false, not, ◌&&◌, ◌||◌, List, [], ◌∷◌, filter, filter_map, Option, Some, None, is_none, if◌then◌else◌}
 use Rattle.std.specs.List.{list_any}
 use Rattle.std.specs.Str.{bytes_eq}
 use Rattle.kernel_types.specs.Apply.Calls.{is_own_at}
 use Rattle.kernel_types.specs.Words.{is_link_of}
 use Rattle.kernel_types.specs.declared.object.Att.{Att}
 use Rattle.kernel_types.specs.declared.object.Link.{Link}
+use Rattle.kernel_types.specs.declared.object.LinkKind.{LinkKind}
 use Rattle.kernel_types.specs.declared.object.Tag.TheVariants.{Own}
 use Rattle.kernel_types.specs.declared.call.Call.{Call}
 use Rattle.kernel_types.specs.declared.call.Call.TheVariants.{BridgeEnsure, GatewayEnsure, VethAdd, MacvlanAdd, LinkSet, AddrAdd, RouteAdd, SettingSet, CachePut}
 
 -- ---- before the leases, and after them
 
+-- it ensures this bridge
+abbrev pub ensures_bridge : Option (List ℕ) → Call → Bool
+ensures_bridge (Some bridge) (BridgeEnsure name mtu promisc) = bytes_eq name bridge
+ensures_bridge _ _ = false
+
 -- it makes links, or ensures the bridge that they are under
-abbrev pub makes_interface : Call → Bool
-makes_interface (BridgeEnsure name mtu promisc) = true
-makes_interface (VethAdd host_end inner_end) = true
-makes_interface (MacvlanAdd link) = true
-makes_interface call = false
+abbrev pub makes_interface : Option (List ℕ) → Call → Bool
+makes_interface bridge (BridgeEnsure name mtu promisc) = ensures_bridge bridge (BridgeEnsure name mtu promisc)
+makes_interface bridge (VethAdd host_end inner_end) = true
+makes_interface bridge (MacvlanAdd link) = true
+makes_interface bridge call = false
 
 -- it makes no link and keeps no result, and a setting that it makes is of this namespace
 abbrev pub is_later_call : List ℕ → Call → Bool
@@ -32,6 +38,10 @@ is_later_call netns call = true
 -- the container's end is there
 abbrev pub has_inner : Att → List ℕ → List Link → Bool
 has_inner att netns links = list_any (is_link_of netns att.ifname (Own att)) links
+
+-- the masters of the links of a kind
+abbrev pub masters_of : (LinkKind → Bool) → List Link → List (List ℕ)
+masters_of is_kind links = filter_map (λ l. l.master) (filter (λ l. is_kind l.kind) links)
 
 -- what the call lies on is there
 abbrev pub lies_on : List Link → Call → Bool
@@ -71,10 +81,6 @@ is_none_or (Some name) (Some bridge) = bytes_eq name bridge
 -- it lies on these links, and stands under no bridge but this
 abbrev pub stands_on : List Link → Option (List ℕ) → Call → Bool
 stands_on links bridge call = lies_on links call && is_none_or (bridge_for call) bridge
-
-abbrev pub ensures_bridge : Option (List ℕ) → Call → Bool
-ensures_bridge (Some bridge) (BridgeEnsure name mtu promisc) = bytes_eq name bridge
-ensures_bridge _ _ = false
 
 -- some call ensures the bridge, if there is one
 abbrev pub is_ensured : Option (List ℕ) → List Call → Bool

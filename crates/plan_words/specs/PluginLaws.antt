@@ -1,35 +1,37 @@
 -- What a plugin owes to the verbs and to the laws of every history.
-use Rattle.std.specs.Prelude.{◌≡◌, ◌≤◌, ℕ, true, false, List, length, map, None, is_some}
+use Rattle.std.specs.Prelude.{◌≡◌, ◌≤◌, ℕ, true, false, List, length, map, None, is_some, option_to_list}
 use Rattle.std.specs.List.{AllByRecursion, list_any, list_all}
 use Rattle.cni_result.specs.declared.cached.PortMapping.{PortMapping}
 use Rattle.cni_result.specs.declared.result.AddResult.{AddResult}
 use Rattle.cni_result.specs.declared.result.IpEntry.{IpEntry}
 use Rattle.kernel_types.specs.Sound.{IsSound}
-use Rattle.kernel_types.specs.Words.{is_host_ns}
+use Rattle.kernel_types.specs.Words.{is_host_ns, is_macvlan, is_veth}
 use Rattle.kernel_types.specs.declared.object.Att.{Att}
 use Rattle.kernel_types.specs.declared.object.Host.{Host}
 use Rattle.kernel_types.specs.declared.object.Link.{Link}
 use Rattle.kernel_types.specs.declared.call.Given.{Given}
 use Rattle.kernel_types.specs.declared.call.Kind.TheVariants as kinds
 use Rattle.plan_words.specs.PlanCalls.{AllDone, AppendsShare, IsWellFormedCall, applied, has_kind, is_of_kinds, is_plan_call_of}
-use Rattle.plan_words.specs.PluginCalls.{changes_links, has_inner, is_ensured, is_ensured_first, is_later_call, makes_interface, set_links_once, stands_on}
+use Rattle.plan_words.specs.PluginCalls.{changes_links, has_inner, is_ensured, is_ensured_first, is_later_call, makes_interface, masters_of, set_links_once, stands_on}
 use Rattle.plan_words.specs.Plugins.{ChainedPlugin, FirstPlugin, added_after, added_before, changed_by}
 use Rattle.plan_words.specs.Results.{names_first, names_of}
 use Rattle.plan_words.specs.Share.{Share, share_after_calls, share_of, share_plus}
 
 -- ---- the plugin that makes the interface
 
--- its calls before the leases: the attachment's own or for all; none but what makes the interface; each well formed,
--- where the namespace isn't the host's; and the bridge first, if there is one
+-- its calls before the leases: each is the attachment's own, or ensures what all attachments share; each makes links
+-- or ensures its bridge; each is well formed, where the namespace isn't the host's; the bridge, if there is one, is
+-- ensured before all calls that stand under it, and they stand under no other
 pub record AreCallsBefore (p : FirstPlugin) (att : Att) (netns : List ℕ) : Type 0 where
   pub own : list_all (is_plan_call_of att) (p.calls_before att netns) ≡ true
-  pub make_interface : list_all makes_interface (p.calls_before att netns) ≡ true
+  pub make_interface : list_all (makes_interface p.bridge) (p.calls_before att netns) ≡ true
   pub well_formed : is_host_ns netns ≡ false → AllByRecursion IsWellFormedCall (p.calls_before att netns)
   pub ensured : is_ensured p.bridge (p.calls_before att netns) ≡ true
   pub in_order : is_ensured_first p.bridge (p.calls_before att netns) ≡ true
 
--- its calls after them: the attachment's own or for all; they make no link; what they make is of its kinds; each lies
--- on its links and stands under its bridge; none sets a link
+-- its calls after them: each is the attachment's own, or ensures what all attachments share; they make no link, keep no
+-- result, and add settings of the namespace alone; what they make is of its kinds; each lies on its links, and stands
+-- under no bridge but its own; none sets values of a link
 pub record AreCallsAfter (p : FirstPlugin) (att : Att) (netns : List ℕ) (given : List Given) : Type 0 where
   pub own : list_all (is_plan_call_of att) (p.calls_after att netns given) ≡ true
   pub later : list_all (is_later_call netns) (p.calls_after att netns given) ≡ true
@@ -42,6 +44,9 @@ pub record FirstLaws (p : FirstPlugin) : Type 0 where
   pub after : (att : Att) (netns : List ℕ) (given : List Given) → AreCallsAfter p att netns given
   -- the container's end is among its links
   pub inner : (att : Att) (netns : List ℕ) → has_inner att netns (p.links att netns) ≡ true
+  -- its bridge is what its veth pair is under, and its master what its macvlan link is over
+  pub under : (att : Att) (netns : List ℕ) → masters_of is_veth (p.links att netns) ≡ option_to_list p.bridge
+  pub over : (att : Att) (netns : List ℕ) → masters_of is_macvlan (p.links att netns) ≡ option_to_list p.master
   -- its calls add exactly its objects
   pub adds_before : (att : Att) (netns : List ℕ) (s : Share)
       → share_after_calls s (p.calls_before att netns) ≡ share_plus s (added_before p att netns)
@@ -50,18 +55,20 @@ pub record FirstLaws (p : FirstPlugin) : Type 0 where
   -- DEL takes back links, and leases where addresses are given
   pub takes_links : has_kind kinds.Links p.kinds ≡ true
   pub takes_leases : is_some p.ipam ≡ true → has_kind kinds.Leases p.kinds ≡ true
-  -- the result has the given addresses, and names the bridge first
+  -- the result has the addresses of its address management, and names the bridge first, if there is one. (The name
+  -- alone is owed, though CHECK asks for the bridge by its MAC too.)
   pub keeps_addresses : (att : Att) (netns : List ℕ) (ipam : AddResult)
       → map (λ ip. ip.address) (p.result att netns ipam).ips ≡ map (λ ip. ip.address) ipam.ips
   pub names_bridge : (att : Att) (netns : List ℕ) (ipam : AddResult)
       → names_first p.bridge (names_of (p.result att netns ipam)) ≡ true
+  -- no more calls than it says
   pub few : (att : Att) (netns : List ℕ) (given : List Given) (leases : ℕ) → length given ≤ leases
       → length (p.calls_after att netns given) ≤ p.most_after leases
 
 -- ---- a chained plugin
 
--- its calls, likewise: they lie on the container's end, wherever it is, and stand under no bridge; they set links once
--- at most, and only where the plugin says so
+-- its calls, likewise: what they lie on is there wherever the container's end is, and they stand under no bridge; one
+-- at most sets values of a link, and only where the plugin says so
 pub record AreChainedCalls (p : ChainedPlugin) (att : Att) (netns : List ℕ) (mappings : List PortMapping)
     (ips : List IpEntry) : Type 0 where
   pub own : list_all (is_plan_call_of att) (p.calls att netns mappings ips) ≡ true
@@ -77,9 +84,10 @@ pub record ChainedLaws (p : ChainedPlugin) : Type 0 where
   -- they make of an attachment's objects exactly what the plugin says
   pub adds : (att : Att) (netns : List ℕ) (mappings : List PortMapping) (ips : List IpEntry) (s : Share)
       → share_after_calls s (p.calls att netns mappings ips) ≡ changed_by p att netns mappings ips s
-  -- the result keeps the addresses and the names of the interfaces
+  -- the result keeps the addresses, and the names of the interfaces. (The names alone: a MAC may be set anew.)
   pub keeps_ips : (prev : AddResult) → (p.result prev).ips ≡ prev.ips
   pub keeps_names : (prev : AddResult) → names_of (p.result prev) ≡ names_of prev
+  -- no more calls than it says
   pub few : (att : Att) (netns : List ℕ) (mappings : List PortMapping) (ips : List IpEntry) (addresses : ℕ)
       → length ips ≤ addresses → length (p.calls att netns mappings ips) ≤ p.most (length mappings) addresses
 

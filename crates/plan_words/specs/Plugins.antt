@@ -17,23 +17,31 @@ use Rattle.plan_words.specs.Share.{Share, no_objects}
 
 -- ---- the plugin that makes the interface, the first of a list
 
--- Its address management. Of an attachment and a namespace: its calls before the leases, and the links that they make;
--- its calls after them, by the leased addresses, and the addresses, routes and rules that they lay on; its result, by
--- that of the addresses. The kinds of objects that DEL takes back. The bridge that its link is under, for which CHECK
--- asks, and the link of the host that its link is over, for which STATUS asks. How many calls it makes at most after so
--- many leases.
+-- what it does, by the attachment, its namespace and the leased addresses
 pub record FirstPlugin : Type 0 where
+  -- its address management, if it has any
   pub ipam : Option HostLocalConf
+  -- its calls before the leases
   pub calls_before : Att → List ℕ → List Call
+  -- the links that these make
   pub links : Att → List ℕ → List Link
+  -- its calls after the leases
   pub calls_after : Att → List ℕ → List Given → List Call
+  -- the addresses that these add
   pub addresses : Att → List ℕ → List Given → List AddrObj
+  -- the routes that they add
   pub routes : Att → List ℕ → List Given → List RouteObj
+  -- the rules that they append
   pub rules : Att → List Given → List Rule
+  -- its result, by that of its address management
   pub result : Att → List ℕ → AddResult → AddResult
+  -- the kinds of objects that DEL takes back
   pub kinds : List Kind
+  -- the bridge that its link is under, for which CHECK asks
   pub bridge : Option (List ℕ)
+  -- the link of the host that its link is over, for which STATUS asks
   pub master : Option (List ℕ)
+  -- how many calls it makes at most after so many leases
   pub most_after : ℕ → ℕ
 
 -- the objects that its calls before the leases add, and those after them
@@ -49,19 +57,25 @@ added_after p att netns given = record no_objects {
 
 -- ---- a plugin chained after it
 
--- Whether it is handed the port mappings. Of an attachment and a namespace, by the mappings and the addresses of the
--- result before: its calls, the rules and settings that they add, and what becomes of the links. Whether it sets values
--- of a link. Its result, by the one before. The kinds of objects that DEL takes back. How many calls it makes at most
--- for so many mappings and addresses.
+-- what it does, by the attachment, its namespace, the port mappings and the addresses of the result before
 pub record ChainedPlugin : Type 0 where
+  -- whether it asks for the port mappings: where one plugin of a list does, all are handed them
   pub takes_mappings : Bool
+  -- its calls
   pub calls : Att → List ℕ → List PortMapping → List IpEntry → List Call
+  -- the rules that they append
   pub rules : Att → List PortMapping → List IpEntry → List Rule
+  -- the settings that they add
   pub settings : Att → List ℕ → List Setting
+  -- what they make of the attachment's links
   pub links_after : Att → List ℕ → List Link → List Link
+  -- whether they set values of a link
   pub sets_links : Bool
+  -- its result, by the one before
   pub result : AddResult → AddResult
+  -- the kinds of objects that DEL takes back
   pub kinds : List Kind
+  -- how many calls it makes at most for so many mappings and addresses
   pub most : ℕ → ℕ → ℕ
 
 -- what its calls make of an attachment's objects

@@ -1,5 +1,5 @@
--- The `portmap` plugin: ports of the host that lead to the container. The rule sets are this project's own,
--- after iptables.
+-- The `portmap` plugin: ports of the host that lead to the container. The rule sets are this project's own, after
+-- iptables.
 use Rattle.std.specs.Prelude.{◌+◌, ◌*◌, ◌^◌, Bool, true, false, List, [], ◌∷◌, ◌++◌, map, flat_map, Option, Some, None, option_map, if◌then◌else◌}
 use Rattle.cni_addr.specs.Codes.{family_eq}
 use Rattle.cni_addr.specs.Network.{whole, network_of}

@@ -1,7 +1,8 @@
 //! The `portmap` plugin: ports of the host that lead to the container.
 //!
 //! To the verbs it promises its calls, its result, which is the one before, and the kinds of objects that DEL takes
-//! back. They are those of `specs/Portmap.antt`.
+//! back. They are those of its record, `portmap_plugin` (`specs/Portmap.antt`), which keeps the laws of a chained
+//! plugin ([`laws`]).
 //!
 //! ```text
 //! portmap::calls(alloc, &conf, &att, &mappings, &prev)? // a mapping: up to 3 RuleAppend for IPv4, 2 for IPv6
