@@ -5,7 +5,6 @@ use Rattle.std.specs.Prelude.{◌⊎◌, Bool, true, false, option_map, MatchBoo
 use Rattle.std.specs.Bool.{FalseIff}
 use Rattle.cni_addr.specs.declared.address.Addr.{Addr}
 use Rattle.cni_result.specs.declared.cached.Cached.{Cached}
-use Rattle.cni_result.specs.declared.result.AddResult.{AddResult}
 use Rattle.net_conf.specs.declared.first.First.{First}
 use Rattle.net_conf.specs.declared.list.NetList.{NetList}
 use Rattle.pod_file.specs.declared.command.Command.{Command}
@@ -82,7 +81,7 @@ calls-left list c addrs =
 
 -- a phase whose work isn't done, or isn't made yet
 abbrev is_early : Phase → Bool
-is_early (phases.AfterLeases calls passed added) = false
+is_early (phases.AfterLeases calls passed cached) = false
 is_early (phases.Deleting passed ending) = false
 is_early (phases.Asking questions passed) = false
 is_early (phases.Over ending) = false
@@ -119,7 +118,7 @@ open-where list c kinds room made addrs (phases.BeforeLeases calls passed) kept 
 open-where list c kinds room made addrs phases.Leasing kept early =
     subst (λ sets. IsOpen (script.leasing list c sets addrs)) (sym (left_of (sets_of list) (length addrs) kept.stands).1.1) tt
 open-where list c kinds room made addrs phases.Leased kept early = starts-after (back_of list c addrs) addrs (calls-left list c addrs)
-open-where list c kinds room made addrs (phases.AfterLeases calls passed added) kept early = absurd cc
+open-where list c kinds room made addrs (phases.AfterLeases calls passed cached) kept early = absurd cc
 open-where list c kinds room made addrs (phases.ReadingCache ending) kept early = tt
 open-where list c kinds room made addrs (phases.Deleting passed ending) kept early = absurd cc
 open-where list c kinds room made addrs phases.FindingEntry kept early = tt
@@ -137,9 +136,9 @@ over-listed : {X : Type 0} (state : List X → State) (items : List X) (passed :
 over-listed state items passed true ends starts h = λ opened. let lt = opens state items passed ends opened in omega arith
 over-listed state items passed false ends starts h = subst (λ left. IsOpen (state left)) (sym (left_of items passed h).1.1) (starts _ _)
 
-pub after-leases-over : (list : NetList) (c : Command) (passed : ℕ) (calls read : List Call) (added : AddResult) (addrs : List Addr) (phase : Phase) (over : Bool) → phase ≡ phases.AfterLeases calls passed added
+pub after-leases-over : (list : NetList) (c : Command) (passed : ℕ) (calls read : List Call) (cached : Cached) (addrs : List Addr) (phase : Phase) (over : Bool) → phase ≡ phases.AfterLeases calls passed cached
     → read ≡ calls → MatchBool over (length read ≤ passed) (passed < length read) → IsOverIf over (state_in list c addrs phase)
-after-leases-over list c passed calls read added addrs phase over is same h =
+after-leases-over list c passed calls read cached addrs phase over is same h =
     subst (λ p. IsOverIf over (state_in list c addrs p)) (sym is)
     (subst (λ cs. IsOverIf over (script.after_leases (drop passed cs) addrs)) same
     (over-listed (λ left. script.after_leases left addrs) read passed over (λ opened. opened) (λ call left. tt) h))
@@ -183,10 +182,10 @@ finish-listed : {A X : Type 0} (state : List X → State) (items : List X) (fini
 finish-listed state [] finish f ends starts over = sym (ap (option_map f) ends)
 finish-listed state (item ∷ left) finish f ends starts over = absurd (over (starts item left))
 
-pub after-finish : {A : Type 0} (list : NetList) (c : Command) (passed : ℕ) (calls : List Call) (added : AddResult) (addrs : List Addr) (phase : Phase) (f : Finish → A) → phase ≡ phases.AfterLeases calls passed added
+pub after-finish : {A : Type 0} (list : NetList) (c : Command) (passed : ℕ) (calls : List Call) (cached : Cached) (addrs : List Addr) (phase : Phase) (f : Finish → A) → phase ≡ phases.AfterLeases calls passed cached
     → (IsOpen (state_in list c addrs phase) → ⊥) → Some (f (record { ending = Added; given = addrs })) ≡ option_map f (finish_of (state_in list c addrs phase))
 unfolding finish_of
-after-finish list c passed calls added addrs phase f is over =
+after-finish list c passed calls cached addrs phase f is over =
     subst (λ p. Some (f (record { ending = Added; given = addrs })) ≡ option_map f (finish_of (state_in list c addrs p))) (sym is)
     (finish-listed (λ left. script.after_leases left addrs) (drop passed calls) (record { ending = Added; given = addrs }) f refl (λ call left. tt)
     (subst (λ p. IsOpen (state_in list c addrs p) → ⊥) is over))
@@ -213,8 +212,8 @@ unfolding finish_of
 over-finish list c ending addrs phase f is = sym (ap (λ p. option_map f (finish_of (state_in list c addrs p))) is)
 
 -- the result that is kept is the answer of an ADD that is over
-pub added-answer : (list : NetList) (c : Command) (calls : List Call) (passed : ℕ) (added : AddResult) (addrs : List Addr) (phase : Phase) → phase ≡ phases.AfterLeases calls passed added
-    → KeepsResult list c addrs phase → added ≡ result_of_add list (att_of c) c.netns addrs
-added-answer list c calls passed added addrs phase is keeps =
+pub added-answer : (list : NetList) (c : Command) (calls : List Call) (passed : ℕ) (cached : Cached) (addrs : List Addr) (phase : Phase) → phase ≡ phases.AfterLeases calls passed cached
+    → KeepsResult list c addrs phase → cached.result ≡ result_of_add list (att_of c) c.netns addrs
+added-answer list c calls passed cached addrs phase is keeps =
     let K : Phase → Type 0 = λ p. KeepsResult list c addrs p in
     subst K is keeps

@@ -3,7 +3,6 @@ use Rattle.std.proofs.Common.{◌≡◌, ℕ, ◌+◌, ◌<◌, ◌≤◌, List,
 use Rattle.std.specs.Prelude.{◌⊎◌, slice_get, option_map, IfOk, Ok, Err}
 use Rattle.cni_addr.specs.declared.address.Addr.{Addr}
 use Rattle.cni_result.specs.declared.cached.Cached.{Cached}
-use Rattle.cni_result.specs.declared.result.AddResult.{AddResult}
 use Rattle.net_conf.specs.declared.list.NetList.{NetList}
 use Rattle.pod_file.specs.declared.command.Command.{Command}
 use Rattle.kernel_types.specs.declared.call.Kind.{Kind}
@@ -73,10 +72,10 @@ next_listed c state call_of items passed over calls =
       | inr w ↦ ap call_of w.0 ∙ over ∙ sym (ap (λ left. next_call c (state left)) w.1)
     ]
 
-pub next_after : (list : NetList) (c : Command) (passed : ℕ) (calls : List Call) (added : AddResult) (addrs : List Addr) (phase : Phase) → phase ≡ phases.AfterLeases calls passed added
+pub next_after : (list : NetList) (c : Command) (passed : ℕ) (calls : List Call) (cached : Cached) (addrs : List Addr) (phase : Phase) → phase ≡ phases.AfterLeases calls passed cached
     → slice_get calls passed ≡ next_call c (state_in list c addrs phase)
 unfolding next_call
-next_after list c passed calls added addrs phase is =
+next_after list c passed calls cached addrs phase is =
     next_listed c (λ left. script.after_leases left addrs) (λ call. call) calls passed refl (λ call left. refl)
     ∙ sym (ap (λ p. next_call c (state_in list c addrs p)) is)
 

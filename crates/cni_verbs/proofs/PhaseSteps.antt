@@ -6,7 +6,7 @@ use Rattle.std.proofs.lemmas.List.{drop_all}
 use Rattle.std.proofs.lemmas.Option.{slice_get_cases}
 use Rattle.std.proofs.lemmas.Bool.{cases_lt}
 use Rattle.cni_addr.specs.declared.address.Addr.{Addr}
-use Rattle.cni_result.specs.declared.result.AddResult.{AddResult}
+use Rattle.cni_result.specs.declared.cached.Cached.{Cached}
 use Rattle.net_conf.specs.declared.list.NetList.{NetList}
 use Rattle.pod_file.specs.declared.command.Command.{Command}
 use Rattle.kernel_types.specs.declared.call.Kind.{Kind}
@@ -172,16 +172,16 @@ goes_lease list c sets made old new phase r next is stands all h =
     subst F (sym is) (at_state list c (made + 1) new next (steps_lease list c (made + 1) old r lt) h)
 
 -- the result that is kept
-pub kept_result : (list : NetList) (c : Command) (passed : ℕ) (calls : List Call) (added : AddResult) (addrs : List Addr) (phase : Phase)
-    → phase ≡ phases.AfterLeases calls passed added → KeepsResult list c addrs phase → added ≡ result_of_add list (att_of c) c.netns addrs
-kept_result list c passed calls added addrs phase is keeps =
+pub kept_result : (list : NetList) (c : Command) (passed : ℕ) (calls : List Call) (cached : Cached) (addrs : List Addr) (phase : Phase)
+    → phase ≡ phases.AfterLeases calls passed cached → KeepsResult list c addrs phase → cached.result ≡ result_of_add list (att_of c) c.netns addrs
+kept_result list c passed calls cached addrs phase is keeps =
     let K : Phase → Type 0 = λ p. KeepsResult list c addrs p in
     subst K is keeps
 
-pub goes_after : (list : NetList) (c : Command) (made passed : ℕ) (calls : List Call) (added : AddResult) (addrs : List Addr) (phase : Phase) (r : Reply) (next : Phase)
-    → phase ≡ phases.AfterLeases calls passed added → IsOpen (state_in list c addrs phase)
+pub goes_after : (list : NetList) (c : Command) (made passed : ℕ) (calls : List Call) (cached : Cached) (addrs : List Addr) (phase : Phase) (r : Reply) (next : Phase)
+    → phase ≡ phases.AfterLeases calls passed cached → IsOpen (state_in list c addrs phase)
     → IsPhaseOf list c (made + 1) addrs next (script.at_call_after (made + 1) (drop (passed + 1) calls) addrs r) → Goes list c made addrs addrs phase r next
-goes_after list c made passed calls added addrs phase r next is opens h =
+goes_after list c made passed calls cached addrs phase r next is opens h =
     let O : Phase → Type 0 = λ p. IsOpen (state_in list c addrs p) in
     let F : Phase → Type 0 = λ p. Goes list c made addrs addrs p r next in
     subst F (sym is) (at_state list c (made + 1) addrs next (steps_after list c (made + 1) passed calls addrs r (subst O is opens)) h)
@@ -238,7 +238,7 @@ awaits list c addrs phases.Begun h is = cc
 awaits list c addrs (phases.BeforeLeases calls passed) h is = tt
 awaits list c addrs phases.Leasing h is = tt
 awaits list c addrs phases.Leased h is = cc
-awaits list c addrs (phases.AfterLeases calls passed added) h is = opens (λ left. script.after_leases left addrs) calls passed (λ h. h) h
+awaits list c addrs (phases.AfterLeases calls passed cached) h is = opens (λ left. script.after_leases left addrs) calls passed (λ h. h) h
 awaits list c addrs (phases.ReadingCache ending) h is = tt
 awaits list c addrs (phases.Deleting passed ending) h is = tt
 awaits list c addrs phases.FindingEntry h is = tt

@@ -17,7 +17,7 @@ use Rattle.plan_words.specs.Share.{Share, no_objects}
 use Rattle.plan_words.proofs.PluginCalls.{later-as_many}
 use Rattle.cni_verbs.specs.CommandWords.{att_of}
 use Rattle.cni_verbs.specs.Questions.{link_question, address_question, route_question, rule_question, rule_questions, setting_question, lease_question, share_questions, bridge_questions, cached_share, check_questions, pool_question, pool_questions}
-use Rattle.cni_verbs.specs.Wanted.{all_links_after, bridge_of, chained_calls, links_after, untuned}
+use Rattle.cni_verbs.specs.Wanted.{all_links_after, bridge_of, chained_calls, links_after, links_made}
 use Rattle.cni_verbs.proofs.PluginLaws.{chained_laws, first_laws}
 
 -- ---- links
@@ -38,8 +38,8 @@ some-of p [] h = cc
 some-of p (x ∷ xs) h = omega arith
 
 -- the first plugin makes a link
-first-links : (list : NetList) (att : Att) (netns : List ℕ) → 0 < length (untuned list att netns)
-first-links list att netns = some-of (is_link_of netns att.ifname (Own att)) (untuned list att netns) ((first_laws list.first).inner att netns)
+first-links : (list : NetList) (att : Att) (netns : List ℕ) → 0 < length (links_made list att netns)
+first-links list att netns = some-of (is_link_of netns att.ifname (Own att)) (links_made list att netns) ((first_laws list.first).inner att netns)
 
 -- ---- CHECK
 
@@ -79,7 +79,7 @@ questions-left list c cached =
       arith,
       length-append (bridge_questions (bridge_of list.first) cached.result.interfaces) (share_questions s),
       length-share s,
-      length-links list.chained att cached.netns (untuned list att cached.netns),
+      length-links list.chained att cached.netns (links_made list att cached.netns),
       first-links list att cached.netns,
     )
 

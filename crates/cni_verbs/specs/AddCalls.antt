@@ -48,7 +48,7 @@ pub record MakesInTurn (list : NetList) (c : Command) (calls : List Call) (repli
       → turn_by (Some list) c (take made replies) ≡ Calls call
   pub ends : turn_by (Some list) c replies ≡ Finishes (added (leases_in replies))
 
--- an ADD that its words don't refuse makes just its calls, where each of them is granted
+-- an ADD that its fields don't refuse makes just its calls, where each of them is granted
 abbrev pub AddMakesItsCalls : Type 0
 AddMakesItsCalls = (list : NetList) (c : Command) (replies : List Reply) → c.verb ≡ verbs.Add → add_refusal c ≡ None
     → AreGranted (calls_of_add list c (leases_in replies)) replies

@@ -60,7 +60,7 @@ code_of cause = error_kind_code (kind_of cause)
 abbrev pub named_if : Bool → List ℕ → List (List ℕ)
 named_if fault name = if fault then name ∷ [] else []
 
--- the environment variables of the words that are outside their grammar
+-- the environment variables of the fields that are outside their grammar
 abbrev pub variables_of : WordFaults → List (List ℕ)
 variables_of faults =
     named_if faults.container (codes "CNI_CONTAINERID")

@@ -1,4 +1,4 @@
--- What a verb asks of its command's words, before its first call (CNI specification, section 2, "Parameters"; error
+-- What a verb asks of its command's fields, before its first call (CNI specification, section 2, "Parameters"; error
 -- codes of section 5).
 use Rattle.std.specs.Prelude.{ℕ, Bool, true, false, not, ◌&&◌, ◌||◌, ◌==◌, nat_lt, List, [], ◌∷◌, length, find, filter_map, codes, Option, Some, None, option_map, is_some, if◌then◌else◌}
 use Rattle.std.specs.List.{list_any, list_all, slice_split}
@@ -83,7 +83,7 @@ mapping_by host_port container_port (Some protocol) (Some host_ip) =
 abbrev pub mapping_of : RawMapping → Option PortMapping
 mapping_of raw = mapping_by raw.host_port raw.container_port (proto_of raw.protocol) (host_ip_of raw.host_ip)
 
--- the plugin is handed the mappings
+-- the plugin asks for the mappings; where one of a list does, all are handed them
 abbrev pub takes_mappings : Chained → Bool
 takes_mappings c = (chained_plugin_of c).takes_mappings
 
@@ -118,18 +118,18 @@ abbrev pub by_ip_argument : Command → Option (List ℕ) → Option Cause
 by_ip_argument c (Some value) = Some (IpArgument value)
 by_ip_argument c None = by_mappings (list_all (λ raw. is_some (mapping_of raw)) c.mappings)
 
--- why an ADD refuses its words, if it does
+-- why an ADD refuses its fields, if it does
 unfoldable pub add_refusal : Command → Option Cause
 add_refusal c = option_or (refusal_by (add_faults c)) (by_ip_argument c (value_of_argument (codes "IP") c.args))
 
--- why a DEL or a CHECK refuses its words, if it does
+-- why a DEL or a CHECK refuses its fields, if it does
 unfoldable pub del_refusal : Command → Option Cause
 del_refusal c = refusal_by (del_faults c)
 
--- why a change of a namespace refuses its words, if it does
+-- why a change of a namespace refuses its fields, if it does
 unfoldable pub netns_refusal : Command → Option Cause
 netns_refusal c = refusal_by (record no_faults { netns = is_host_ns c.netns })
 
--- why the loss of a link refuses its words, if it does
+-- why the loss of a link refuses its fields, if it does
 unfoldable pub drop_refusal : Command → Option Cause
 drop_refusal c = refusal_by (record no_faults { netns = is_host_ns c.netns; ifname = not (is_interface_name c.ifname) })

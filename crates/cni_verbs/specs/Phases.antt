@@ -1,4 +1,4 @@
--- What a run keeps in place of its script's state: how many of each list of the plan are behind it.
+-- What a run keeps in place of its script's state: how many of each list that is made ahead are behind it.
 use Rattle.std.specs.Prelude.{◌≡◌, ℕ, ◌<◌, ◌≤◌, Bool, true, false, List, [], length, drop, Option, Some, None, ⊤}
 use Rattle.cni_addr.specs.declared.address.Addr.{Addr}
 use Rattle.net_conf.specs.declared.list.NetList.{NetList}
@@ -22,7 +22,7 @@ state_in list c given phases.Begun = before_leases list c (before_of list c)
 state_in list c given (phases.BeforeLeases calls passed) = before_leases list c (drop passed calls)
 state_in list c given phases.Leasing = leasing list c (drop (length given) (sets_of list)) given
 state_in list c given phases.Leased = after_leases (back_of list c given) given
-state_in list c given (phases.AfterLeases calls passed added) = after_leases (drop passed calls) given
+state_in list c given (phases.AfterLeases calls passed cached) = after_leases (drop passed calls) given
 state_in list c given (phases.ReadingCache ending) = states.ReadingCache ending
 state_in list c given (phases.Deleting passed ending) = deleting (drop passed (kinds_of list)) ending
 state_in list c given phases.FindingEntry = states.FindingEntry
@@ -49,17 +49,19 @@ Stands sets made given phases.AtBegin = given ≡ []
 Stands sets made given phases.Begun = given ≡ []
 Stands sets made given (phases.BeforeLeases calls passed) = (passed < length calls) × (given ≡ [])
 Stands sets made given phases.Leasing = length given < sets
-Stands sets made given (phases.AfterLeases calls passed added) = passed ≤ made
+Stands sets made given (phases.AfterLeases calls passed cached) = passed ≤ made
 Stands sets made given (phases.Deleting passed ending) = passed ≤ made
 Stands sets made given (phases.Asking questions passed) = passed ≤ made
 Stands sets made given phase = ⊤
 
--- the result that is kept is that of the ADD
+-- the result of the cached entry that is kept is that of the ADD
 abbrev pub KeepsResult : NetList → Command → List Addr → Phase → Type 0
-KeepsResult list c given (phases.AfterLeases calls passed added) = added ≡ result_of_add list (att_of c) c.netns given
+KeepsResult list c given (phases.AfterLeases calls passed cached) =
+    cached.result ≡ result_of_add list (att_of c) c.netns given
 KeepsResult list c given phase = ⊤
 
--- what the next call is looked up in is made: the calls before the leases and after them, the questions of a CHECK
+-- what the next call is looked up in is made ahead: the calls before the leases and after them, the questions of a
+-- CHECK
 abbrev pub is_prepared : Phase → Bool
 is_prepared phases.Begun = false
 is_prepared phases.Leased = false
@@ -70,11 +72,11 @@ abbrev pub is_prepared_by : Option NetList → Phase → Bool
 is_prepared_by None phase = true
 is_prepared_by (Some list) phase = is_prepared phase
 
--- a reply may come: one of the calls or questions that are made is left
+-- a reply may come: one of the calls or questions that are made ahead is left
 abbrev pub Awaits : Phase → Type 0
 Awaits phases.Begun = ⊥
 Awaits phases.Leased = ⊥
-Awaits (phases.AfterLeases calls passed added) = passed < length calls
+Awaits (phases.AfterLeases calls passed cached) = passed < length calls
 Awaits (phases.Found cached) = ⊥
 Awaits (phases.Asking questions passed) = passed < length questions
 Awaits (phases.Over ending) = ⊥
@@ -100,7 +102,7 @@ pub record IsPhaseOf
   pub stands : Stands (length (sets_of list)) made given phase
   pub keeps : KeepsResult list c given phase
 
--- the phase means the same, and its list may be made
+-- the phase means the same, and its list may be made ahead
 pub record IsSameButPrepared (list : NetList) (c : Command) (given : List Addr) (old new : Phase) : Type 0 where
   pub state : state_in list c given new ≡ state_in list c given old
   pub stands : (sets made : ℕ) → Stands sets made given old → Stands sets made given new

@@ -46,7 +46,7 @@ pub data State : Type 0 where
   Collecting : (work : Work) (faults : List ℕ) → State
   Over : (ending : Ending) (given : List Addr) → State
 
--- ---- the parts of a command's plan
+-- ---- the calls of an ADD before its first lease and after its last
 
 abbrev pub before_of : NetList → Command → List Call
 before_of list c = calls_before list.first (att_of c) c.netns

@@ -80,7 +80,7 @@ start_work gc = record { jobs = []; sweeps = all_sweeps gc.kinds }
 abbrev pub job_of : Sweep → Att → Job
 job_of s att = record { att = att; step = s.step; more = s.more }
 
--- the owners that are not valid
+-- a job for each owner that is not valid
 abbrev pub jobs_of : List ValidAtt → Sweep → List Att → List Job
 jobs_of valid s owners = map (job_of s) (filter (λ a. not (is_valid valid a)) owners)
 

@@ -111,8 +111,8 @@ cached_of list att netns mappings addrs =
     record { netns = netns; mappings = mappings; result = result_of_add list att netns addrs }
 
 -- the links as they are before a chained plugin sets values of them
-abbrev pub untuned : NetList → Att → List ℕ → List Link
-untuned list att netns = (plugin_of list.first).links att netns
+abbrev pub links_made : NetList → Att → List ℕ → List Link
+links_made list att netns = (plugin_of list.first).links att netns
 
 -- all objects of the attachment, where these addresses were leased
 abbrev pub wanted : NetList → Att → List ℕ → List PortMapping → List Addr → Share
@@ -120,7 +120,7 @@ wanted list att netns mappings addrs =
     let first = added_after (plugin_of list.first) att netns (given_by_list list addrs) in
     let ips = (first_plugin_result list att netns addrs).ips in
     record {
-      links = all_links_after list.chained att netns (untuned list att netns);
+      links = all_links_after list.chained att netns (links_made list att netns);
       addresses = first.addresses;
       routes = first.routes;
       rules = first.rules ++ flat_map (λ c. rules_of c att mappings ips) list.chained;

@@ -5,7 +5,7 @@
 ghost use Rattle.std.specs.Prelude.{◌≡◌, ℕ, ◌+◌, ◌<◌, ◌≤◌, ◌^◌, [], ◌∷◌, List, length, drop, slice_get, Some, vec_capacity, false, IfOk, IsOk, OnErr, OnOk};
 ghost use Rattle.std.specs.Option.{unwrap_or};
 ghost use Rattle.cni_addr.specs.declared.address.Addr.{Addr};
-ghost use Rattle.cni_result.specs.declared.result.AddResult.{AddResult};
+ghost use Rattle.cni_result.specs.declared.cached.Cached.{Cached};
 ghost use Rattle.net_conf.specs.declared.list.NetList.{NetList};
 ghost use Rattle.pod_file.specs.declared.command.Command.{Command};
 ghost use Rattle.kernel_types.specs.Replies.{holds_text_or_list};
@@ -180,10 +180,10 @@ fn after_call_after(
     reply: &Reply,
 ) -> Result<Option<Phase>, NoMemory>
     requires { passed.old < number }
-    ensures ok { (list : NetList) (c : Command) (addrs : List Addr) (calls : List Call) (added : AddResult)
-        → added ≡ result_of_add list (att_of c) c.netns addrs
+    ensures ok { (list : NetList) (c : Command) (addrs : List Addr) (calls : List Call) (cached : Cached)
+        → cached.result ≡ result_of_add list (att_of c) c.netns addrs
         → IfOk result (λ next. IsPhaseOf list c number addrs
-        (unwrap_or next (Phase.AfterLeases calls passed.new added))
+        (unwrap_or next (Phase.AfterLeases calls passed.new cached))
         (script.at_call_after number (drop (passed.old + 1) calls) addrs reply.now)) }
     ensures err { OnErr result (passed.new ≡ passed.old) }
     ensures frees { holds_text_or_list reply.now ≡ false → IsOk result }

@@ -30,7 +30,7 @@ pub enum Answer {
     Stopped { calls: u32 },
 }
 
-/// Which of a command's words are outside their grammar.
+/// Which of a command's fields are outside their grammar.
 #[derive(Clone, Copy, PartialEq, Eq)]
 pub struct WordFaults {
     pub container: bool,

@@ -84,7 +84,7 @@ fn answer_at_end(
         Some answer ≡ answer_in (Some list.now) command.now (state_in list.now command.now given.now phase.now)) }
 {
     match phase {
-        Phase::AfterLeases { added, .. } => Ok(Answer::Added(added.copy()?)),
+        Phase::AfterLeases { cached, .. } => Ok(Answer::Added(cached.get().result.copy()?)),
         Phase::Deleting(_, ending) => ended(alloc, list, command, ending, &[]),
         Phase::Asking { .. } => ended(alloc, list, command, &Ending::Yes, &[]),
         Phase::Over(ending) => ended(alloc, list, command, ending, &[]),

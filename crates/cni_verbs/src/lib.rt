@@ -1,6 +1,6 @@
 //! What a verb calls and what it answers.
 //!
-//! To the book above it promises definitions: what a verb asks of its command's words (`specs/CommandWords.antt`), the
+//! To the book above it promises definitions: what a verb asks of its command's fields (`specs/CommandWords.antt`), the
 //! calls of an ADD, the objects that it wants and its result (`specs/Wanted.antt`), the questions of a CHECK and of a
 //! STATUS (`specs/Questions.antt`), the next call or the end as a function of all replies so far (`specs/Script.antt`),
 //! and the errors (`specs/Answers.antt`), whose codes and titles every error of the program has from here
@@ -38,7 +38,7 @@ pub mod run;
 mod share;
 mod start;
 pub mod wanted;
-pub mod words;
+mod words;
 
 pub use answer::{Answer, Cause, Ending, Missed, Question, Skip, WordFaults};
 pub use ending::plain_answer;

@@ -19,7 +19,7 @@ use net_conf::NetList;
 use pod_file::Command;
 use std::alloc::Global;
 
-// ---- the parts of a command's plan
+// ---- the calls that are made ahead
 
 /// The calls of an ADD between Begin and its first lease.
 pub(crate) fn before_of(
@@ -43,7 +43,7 @@ pub(crate) fn back_of(
 ) -> Result<Back, NoMemory>
     ensures calls { IfOk result (λ back. back.calls ≡ back_of list.now command.now given.now) }
     ensures added { IfOk result (λ back.
-        back.added ≡ result_of_add list.now (att_of command.now) command.now.netns given.now) }
+        back.cached.result ≡ result_of_add list.now (att_of command.now) command.now.netns given.now) }
 {
     let att = named_att_of(alloc, command)?;
     let mappings = mappings_of(alloc, list, command)?;
@@ -52,7 +52,7 @@ pub(crate) fn back_of(
 
 // ---- the next call
 //
-// Each call is made in a function of its own, so that a step doesn't clear a stack for all of them.
+// Each call is built in a function of its own, so that a step doesn't clear a stack for all of them.
 
 #[inline(never)]
 fn begin(alloc: Global, command: &Command) -> Result<Option<RefCounted<Call>>, NoMemory>

@@ -4,10 +4,10 @@ ghost use Rattle.std.specs.Prelude.{◌≡◌};
 
 use crate::answer::{Cause, Ending, Question};
 use cni_addr::Items;
-use cni_result::{AddResult, Cached};
+use cni_result::Cached;
 use kernel_types::{Call, RefCounted};
 
-/// What a run does next. The numbers say how much of a list of its plan is behind it.
+/// What a run does next. The numbers say how much of a list that is made ahead is behind it.
 #[derive(Drop)]
 pub(crate) enum Phase {
     /// Nothing was called.
@@ -23,11 +23,12 @@ pub(crate) enum Phase {
     Leasing,
     /// No set is left to lease from, and the calls after the leases aren't made ahead yet.
     Leased,
-    /// So many of the calls after the leases are behind it, and this is the result at their end.
+    /// So many of the calls after the leases are behind it, and this is the cached entry that the last of them puts:
+    /// its result is the ADD's.
     AfterLeases {
         calls: Items<RefCounted<Call>>,
         passed: usize,
-        added: AddResult,
+        cached: RefCounted<Cached>,
     },
     /// The cached entry is read ahead of the deletions.
     ReadingCache(Ending),

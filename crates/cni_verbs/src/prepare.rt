@@ -53,12 +53,12 @@ pub(crate) fn prepare_phase(
             Ok(())
         }
         Phase::Leased => {
-            let Back { calls, added } = back_of(alloc, list, command, given)?;
+            let Back { calls, cached } = back_of(alloc, list, command, given)?;
             let calls = shared_calls(alloc, calls)?;
             *phase = Phase::AfterLeases {
                 calls,
                 passed: 0,
-                added,
+                cached,
             };
             Ok(())
         }

@@ -9,7 +9,7 @@ ghost use Rattle.std.specs.Option.{option_copied};
 use crate::answer::{Cause, Missed, Question};
 use crate::plugins::{bridge_of, calls_before, master_of};
 use crate::share::{Objects, no_objects};
-use crate::wanted::{back_calls, sets_of};
+use crate::wanted::{plugin_calls, sets_of};
 use crate::words::named_att_of;
 use cni_addr::{Addr, Duplicate, Items, Mac, NoMemory, RangeSet, Text};
 use cni_result::{AddResult, Cached, Interface};
@@ -234,23 +234,26 @@ fn addresses_of_result(alloc: Global, added: &AddResult) -> Result<Vec<Addr>, No
     )
 }
 
+/// What a check asks of what the cached entry says that there is: all of it but the entry itself, which was just read.
 fn cached_share(
     alloc: Global,
     list: &NetList,
     command: &Command,
     cached: &Cached,
 ) -> Result<Objects, NoMemory>
-    ensures { IfOk result (λ share. share ≡ asked.cached_share list.now command.now cached.now) }
+    ensures { IfOk result (λ share.
+        asked.share_questions share
+        ≡ asked.share_questions (asked.cached_share list.now command.now cached.now)) }
 {
     let att = named_att_of(alloc, command)?;
     let addrs = addresses_of_result(alloc, &cached.result)?;
-    let mappings = cached.mappings.copy()?;
     let mut share = no_objects(alloc);
     let before = calls_before(alloc, &list.first, &att, &cached.netns)?;
     share.take_calls(before)?;
     share.take_leases(alloc, att.att(), addrs.as_slice())?;
-    let back = back_calls(alloc, list, &att, &cached.netns, mappings, addrs.as_slice())?;
-    share.take_calls(back.calls)?;
+    let mappings = cached.mappings.as_slice();
+    let made = plugin_calls(alloc, list, &att, &cached.netns, mappings, addrs.as_slice())?;
+    share.take_calls(made.calls)?;
     Ok(share)
 }
 

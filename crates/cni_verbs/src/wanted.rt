@@ -1,7 +1,7 @@
 //! The calls of an ADD, its result, and the kinds of objects that a DEL takes back, each as the plugins of a list make
 //! it one after another.
 
-ghost use Rattle.std.specs.Prelude.{◌≡◌, ◌++◌, ◌<◌, ◌≤◌, [], length, IfOk, OnOk};
+ghost use Rattle.std.specs.Prelude.{◌≡◌, ◌∷◌, ◌++◌, ◌<◌, ◌≤◌, [], length, IfOk, OnOk};
 ghost use Rattle.host_local.specs.Results.{ipam_result_of};
 ghost use Rattle.kernel_types.specs.declared.call.Call.TheVariants as call;
 ghost use Rattle.net_conf.specs.Sets.{most_sets};
@@ -28,7 +28,7 @@ fn push_all<T: Drop>(list: &mut Vec<T>, more: Items<T>) -> Result<(), NoMemory>
 // ---- addresses
 
 /// The range sets of the list, of each of which an ADD leases one address. Takes no memory.
-pub fn sets_of(list: &NetList) -> &[RangeSet]
+pub(crate) fn sets_of(list: &NetList) -> &[RangeSet]
     ensures all { result.now ≡ wanted.sets_of list.now }
     ensures few { length result.now ≤ most_sets }
 {
@@ -97,7 +97,7 @@ fn push_chained(
 
 /// The result of an ADD that was leased these addresses, the k-th of the k-th set: that of the last plugin.
 #[tactic(auto, unfolding(crate::specs::Wanted::result_of_add))]
-pub fn result_of_add(
+pub(crate) fn result_of_add(
     alloc: Global,
     list: &NetList,
     att: &NamedAtt,
@@ -113,40 +113,82 @@ pub fn result_of_add(
 
 // ---- the calls
 
-fn cache_put(
+fn cached_entry(
     alloc: Global,
-    att: &Att,
     netns: &Text,
     mappings: Items<PortMapping>,
     last: AddResult,
-) -> Result<Call, NoMemory>
-    ensures { IfOk result (λ put.
-        put ≡ call.CachePut att.now (record { netns = netns.now; mappings = mappings; result = last })) }
+) -> Result<RefCounted<Cached>, NoMemory>
+    ensures { IfOk result (λ cached.
+        cached ≡ record { netns = netns.now; mappings = mappings; result = last }) }
 {
     let netns = netns.copy()?;
-    let cached = Cached {
+    RefCounted::of(
+        alloc,
+        Cached {
+            netns,
+            mappings,
+            result: last,
+        },
+    )
+}
+
+/// What the plugins of an ADD make after its last lease.
+#[derive(Drop)]
+pub(crate) struct PluginCalls {
+    /// The calls of the first plugin and those of each chained one.
+    pub(crate) calls: Items<Call>,
+    /// The result of the last plugin.
+    pub(crate) result: AddResult,
+}
+
+/// The calls that the plugins of an ADD make after its last lease, where it was leased these addresses: all but that
+/// of the cached entry. Linear in the addresses, the routes, settings and plugins of the list, and the mappings.
+#[tactic(auto, unfolding(crate::specs::Wanted::result_of_add))]
+pub(crate) fn plugin_calls(
+    alloc: Global,
+    list: &NetList,
+    att: &NamedAtt,
+    netns: &Text,
+    mappings: &[PortMapping],
+    addrs: &[Addr],
+) -> Result<PluginCalls, NoMemory>
+    ensures calls { IfOk result (λ made.
+        made.calls ++ call.CachePut att.now (wanted.cached_of list.now att.now netns.now mappings.now addrs.now) ∷ []
+        ≡ wanted.back_calls list.now att.now netns.now mappings.now addrs.now) }
+    ensures last { IfOk result (λ made. made.result ≡ wanted.result_of_add list.now att.now netns.now addrs.now) }
+{
+    let given = given_of(alloc, sets_of(list), addrs)?;
+    let first = first_plugin_result(alloc, list, att, netns, given.as_slice())?;
+    let after = calls_after(alloc, &list.first, att, netns, given.as_slice())?;
+    let mut calls = after.into_vec();
+    let result = push_chained(
+        alloc,
+        &mut calls,
+        list.chained.as_slice(),
+        att.att(),
         netns,
         mappings,
-        result: last,
-    };
-    let cached = RefCounted::of(alloc, cached)?;
-    let att = att.copy()?;
-    Ok(Call::CachePut { att, cached })
+        first,
+    )?;
+    Ok(PluginCalls {
+        calls: Items::of_vec(calls),
+        result,
+    })
 }
 
 /// What an ADD makes after its last lease.
 #[derive(Drop)]
-pub struct Back {
-    /// The calls of the first plugin, those of each chained one, and the cached entry.
-    pub calls: Items<Call>,
-    /// The result of the last plugin.
-    pub added: AddResult,
+pub(crate) struct Back {
+    /// The calls of the plugins, and the one that puts the cached entry.
+    pub(crate) calls: Items<Call>,
+    /// The cached entry, which holds the result of the last plugin.
+    pub(crate) cached: RefCounted<Cached>,
 }
 
-/// The calls of an ADD after its last lease, where it was leased these addresses, and its result. Linear in the
-/// addresses, the routes, settings and plugins of the list, and the mappings.
-#[tactic(auto, unfolding(crate::specs::Wanted::result_of_add))]
-pub fn back_calls(
+/// The calls of an ADD after its last lease, where it was leased these addresses, and its cached entry. As linear as
+/// [`plugin_calls`].
+pub(crate) fn back_calls(
     alloc: Global,
     list: &NetList,
     att: &NamedAtt,
@@ -156,26 +198,19 @@ pub fn back_calls(
 ) -> Result<Back, NoMemory>
     ensures calls { IfOk result (λ back.
         back.calls ≡ wanted.back_calls list.now att.now netns.now mappings addrs.now) }
-    ensures added { IfOk result (λ back. back.added ≡ wanted.result_of_add list.now att.now netns.now addrs.now) }
+    ensures added { IfOk result (λ back.
+        back.cached.result ≡ wanted.result_of_add list.now att.now netns.now addrs.now) }
 {
-    let given = given_of(alloc, sets_of(list), addrs)?;
-    let first = first_plugin_result(alloc, list, att, netns, given.as_slice())?;
-    let after = calls_after(alloc, &list.first, att, netns, given.as_slice())?;
-    let mut calls = after.into_vec();
-    let added = push_chained(
-        alloc,
-        &mut calls,
-        list.chained.as_slice(),
-        att.att(),
-        netns,
-        mappings.as_slice(),
-        first,
-    )?;
-    let cached = added.copy()?;
-    calls.push(cache_put(alloc, att.att(), netns, mappings, cached)?)?;
+    let made = plugin_calls(alloc, list, att, netns, mappings.as_slice(), addrs)?;
+    let cached = cached_entry(alloc, netns, mappings, made.result)?;
+    let mut calls = made.calls.into_vec();
+    calls.push(Call::CachePut {
+        att: att.att().copy()?,
+        cached: cached.copy()?,
+    })?;
     Ok(Back {
         calls: Items::of_vec(calls),
-        added,
+        cached,
     })
 }
 

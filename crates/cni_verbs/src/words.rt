@@ -1,4 +1,4 @@
-//! What a verb asks of its command's words, before its first call.
+//! What a verb asks of its command's fields, before its first call.
 
 ghost use Rattle.std.specs.Prelude.{◌≡◌, ◌==◌, ◌&&◌, not, length, Some, None, is_some, find, filter_map, option_map, option_to_list, IfOk};
 ghost use Rattle.std.specs.List.{list_all, list_any, slice_split};
@@ -79,7 +79,7 @@ fn all_arguments(text: &str) -> bool
 /// Whether the text is nothing, or `KEY=VALUE` pairs that `;` joins (CNI specification, section 2, `CNI_ARGS`). No key
 /// is empty, and `=` stands once in each pair. Takes no memory.
 #[tactic(auto, unfolding(crate::specs::CommandWords::are_arguments))]
-pub fn are_arguments(text: &str) -> bool
+fn are_arguments(text: &str) -> bool
     ensures { result ≡ words.are_arguments text.now }
 {
     text.is_empty() || all_arguments(text)
@@ -97,7 +97,7 @@ fn value_if<'a>(key: &str, piece: &'a str) -> Option<&'a str>
 }
 
 /// The value of the first pair with this key, if there is one. What isn't a pair is passed over. Takes no memory.
-pub fn value_of_argument<'a>(key: &str, text: &'a str) -> Option<&'a str>
+fn value_of_argument<'a>(key: &str, text: &'a str) -> Option<&'a str>
     ensures { option_copied result ≡ words.value_of_argument key.now text.now }
 {
     let mut rest = text;
@@ -171,7 +171,7 @@ fn mapping_by(
 /// The mapping, where both ports are 1 to 65535, the protocol is `tcp`, `udp`, `sctp` or not given, and the address is
 /// one or not given (the `portMappings` capability). `0.0.0.0` and `::` restrict no more than no address does. Takes no
 /// memory.
-pub fn mapping_of(raw: &RawMapping) -> Option<PortMapping>
+fn mapping_of(raw: &RawMapping) -> Option<PortMapping>
     ensures { result ≡ words.mapping_of raw.now }
 {
     let protocol = proto_of(raw.protocol.as_str())?;
@@ -202,8 +202,8 @@ fn all_mappings(alloc: Global, raws: &[RawMapping]) -> Result<Vec<PortMapping>, 
     )
 }
 
-/// What the command gives of the mappings that reach the plugins of the list: nothing where no `portmap` is handed
-/// them. Takes no memory.
+/// What the command gives of the mappings that reach the plugins of the list: nothing where no plugin asks for them.
+/// Takes no memory.
 #[tactic(auto, unfolding(crate::specs::CommandWords::mappings_of))]
 fn raw_mappings<'a>(list: &NetList, command: &'a Command) -> &'a [RawMapping]
     ensures { filter_map words.mapping_of result.now ≡ words.mappings_of list.now command.now }
@@ -215,8 +215,8 @@ fn raw_mappings<'a>(list: &NetList, command: &'a Command) -> &'a [RawMapping]
     }
 }
 
-/// The mappings that reach the plugins of the list: none where no `portmap` is handed them.
-pub fn mappings_of(
+/// The mappings that reach the plugins of the list: none where no plugin asks for them.
+pub(crate) fn mappings_of(
     alloc: Global,
     list: &NetList,
     command: &Command,
@@ -282,10 +282,10 @@ fn mapping_refusal(command: &Command) -> Option<Cause>
     }
 }
 
-/// Why an ADD refuses its words, if it does: words outside their grammar come before the argument `IP`, and that before
-/// the mappings.
+/// Why an ADD refuses its fields, if it does: fields outside their grammar come before the argument `IP`, and that
+/// before the mappings.
 #[tactic(auto, unfolding(crate::specs::CommandWords::add_refusal))]
-pub fn add_refusal(alloc: Global, command: &Command) -> Result<Option<Cause>, NoMemory>
+pub(crate) fn add_refusal(alloc: Global, command: &Command) -> Result<Option<Cause>, NoMemory>
     ensures { IfOk result (λ cause. cause ≡ words.add_refusal command.now) }
 {
     if let Some(cause) = refusal_by(add_faults(command)) {
@@ -307,17 +307,17 @@ fn refusal_by(faults: WordFaults) -> Option<Cause>
     }
 }
 
-/// Why a DEL or a CHECK refuses its words, if it does. They need neither a namespace nor arguments. Takes no memory.
+/// Why a DEL or a CHECK refuses its fields, if it does. They need neither a namespace nor arguments. Takes no memory.
 #[tactic(auto, unfolding(crate::specs::CommandWords::del_refusal))]
-pub fn del_refusal(command: &Command) -> Option<Cause>
+pub(crate) fn del_refusal(command: &Command) -> Option<Cause>
     ensures { result ≡ words.del_refusal command.now }
 {
     refusal_by(del_faults(command))
 }
 
-/// Why a change of a namespace refuses its words, if it does: it needs the namespace. Takes no memory.
+/// Why a change of a namespace refuses its fields, if it does: it needs the namespace. Takes no memory.
 #[tactic(auto, unfolding(crate::specs::CommandWords::netns_refusal))]
-pub fn netns_refusal(command: &Command) -> Option<Cause>
+pub(crate) fn netns_refusal(command: &Command) -> Option<Cause>
     ensures { result ≡ words.netns_refusal command.now }
 {
     refusal_by(WordFaults {
@@ -326,9 +326,9 @@ pub fn netns_refusal(command: &Command) -> Option<Cause>
     })
 }
 
-/// Why the loss of a link refuses its words, if it does: it needs the namespace and the link's name. Takes no memory.
+/// Why the loss of a link refuses its fields, if it does: it needs the namespace and the link's name. Takes no memory.
 #[tactic(auto, unfolding(crate::specs::CommandWords::drop_refusal))]
-pub fn drop_refusal(command: &Command) -> Option<Cause>
+pub(crate) fn drop_refusal(command: &Command) -> Option<Cause>
     ensures { result ≡ words.drop_refusal command.now }
 {
     refusal_by(WordFaults {

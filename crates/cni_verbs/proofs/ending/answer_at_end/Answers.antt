@@ -1,4 +1,5 @@
 use Rattle.std.proofs.Common.{◌∙◌, Some, ap}
+use Rattle.cni_result.specs.declared.cached.Cached.{Cached}
 use Rattle.cni_verbs.specs.Answers.{answer_of}
 use Rattle.cni_verbs.specs.Progress as progress
 use Rattle.cni_verbs.specs.declared.answer.Answer.TheVariants as answers
@@ -10,7 +11,7 @@ pub returns-in_ok-copy-in-AfterLeases : goal.returns-in_ok-copy-in-AfterLeases
 unfolding answer_of
 returns-in_ok-copy-in-AfterLeases c =
     ap (λ added. Some (answers.Added added))
-    (c.in_ok-copy-in-AfterLeases.ensures ∙ added-answer c.args.list.now c.args.command.now _ _ _ c.args.given.now c.args.phase.now c.in-AfterLeases.is c.requires.kept.3.keeps)
+    (c.in_ok-copy-in-AfterLeases.ensures ∙ ap (λ (cached : Cached). cached.result) c.get.ensures ∙ added-answer c.args.list.now c.args.command.now _ _ _ c.args.given.now c.args.phase.now c.in-AfterLeases.is c.requires.kept.3.keeps)
     ∙ (after-finish c.args.list.now c.args.command.now _ _ _ c.args.given.now c.args.phase.now (progress.answer_by (Some c.args.list.now) c.args.command.now) c.in-AfterLeases.is c.requires.over)
 
 pub returns-in-Deleting : goal.returns-in-Deleting
