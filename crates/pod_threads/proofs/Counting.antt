@@ -6,8 +6,8 @@ use Rattle.std.proofs.lemmas.List.{length-append}
 use Rattle.std.proofs.lemmas.List.Elements.{All-head, All-tail}
 use Rattle.std.proofs.lemmas.List.Sums.{sum_by-append, sum_by-cons}
 use Rattle.pod_workers.proofs.RoundDone.{extends_trans}
-use Rattle.pod_workers.specs.Extends.{Extends, IsOfRound, Rounds, is_of_round}
-use Rattle.pod_workers.specs.World.{World}
+use Rattle.pod_workers.specs.Extends.{Extends, IsOfRound, Rounds}
+use Rattle.pod_workers.specs.World.{World, is_of_round}
 use Rattle.pod_workers.specs.declared.plan.Entry.{Entry}
 use Rattle.pod_workers.specs.declared.plan.Plan.{Plan}
 use Rattle.pod_threads.specs.Counted.{entries_of_round}

@@ -7,10 +7,10 @@ use Rattle.std.proofs.lemmas.List.Elements.{All-append, All-cons, All-head, All-
 use Rattle.std.proofs.lemmas.List.Sums.{sum_by-cons}
 use Rattle.std.proofs.lemmas.Option.{same_Some, none-some, slice_get_cases}
 use Rattle.std.proofs.lemmas.Bool.Decides.{eqb_tells}
-use Rattle.pod_workers.specs.Extends.{IsOfRound, is_of_round}
+use Rattle.pod_workers.specs.Extends.{IsOfRound}
 use Rattle.pod_workers.specs.Legal.{Legal, starts, steps, refused_memory, turns}
 use Rattle.pod_workers.specs.Plans.{Placed, commands_of}
-use Rattle.pod_workers.specs.World.{World, IsReady, answered, done, entry_of, host_of, is_in_round, next_of, next_round, own_replies}
+use Rattle.pod_workers.specs.World.{World, IsReady, answered, done, entry_of, host_of, next_of, next_round, own_replies, is_of_round}
 use Rattle.pod_workers.specs.declared.plan.Entry.{Entry}
 use Rattle.pod_workers.specs.declared.plan.Next.{Next}
 use Rattle.pod_workers.specs.declared.plan.Next.TheVariants as next
@@ -20,6 +20,7 @@ use Rattle.cni_verbs.specs.declared.answer.Answer.{Answer}
 use Rattle.cni_verbs.specs.declared.answer.Answer.TheVariants.{OutOfMemory}
 use Rattle.pod_threads.specs.Counted.{entries_of_round, is_current}
 use Rattle.pod_threads.proofs.Counting.{count-all, count-append}
+use Rattle.pod_workers.proofs.Rounds.{is_in_round}
 
 -- the entry is of no round from this one on
 abbrev NoneFrom : Plan → ℕ → Entry → Type 0
@@ -80,7 +81,7 @@ recent : (w : World) → Legal w → Recent w
 recent _ (starts w begun) = record {
   older = [];
   own = [];
-  is = begun.empty;
+  is = ap (λ (v : World). v.history) begun.is;
   none = All-nil (NoneFrom w.plan w.round);
   all = All-nil (IsOfRound w.plan w.round);
   none_later = All-nil (NoneFrom w.plan (w.round + 1));

@@ -15,14 +15,16 @@ use Rattle.pod_file.specs.declared.command.Command.{Command}
 use Rattle.pod_workers.specs.Facts.{EachFollows, EntryIsInRound, IsScripts, IsStopped, AnswerIsDue, IsDue}
 use Rattle.pod_workers.specs.Legal.{Legal, starts, steps, refused_memory, turns}
 use Rattle.pod_workers.specs.Plans.{Placed, commands_of, list_for}
-use Rattle.pod_workers.specs.World.{World, IsReady, IsUpToStop, own_replies, host_of, is_faulty, is_stop, is_cut, is_cut_at, is_in_round, last_entry, done, answered, with_entry, entry_of, next_of, next_by, at_number}
+use Rattle.pod_workers.specs.World.{World, IsReady, IsUpToStop, own_replies, host_of, is_faulty, is_stop, is_cut, is_cut_at, last_entry, done, answered, with_entry, entry_of, next_of, next_by, at_number}
 use Rattle.pod_workers.specs.declared.plan.Plan.{Plan}
 use Rattle.pod_workers.specs.declared.plan.Entry.{Entry}
 use Rattle.pod_workers.specs.declared.plan.Next.{Next}
 use Rattle.pod_workers.specs.declared.plan.Next.TheVariants as next
+use Rattle.pod_workers.proofs.Order.{none_answered}
 use Rattle.pod_workers.proofs.Elements.{at_number-is}
 use Rattle.pod_workers.proofs.Facts.{each_follows, keeps_stop}
 use Rattle.pod_workers.proofs.Histories.{slice_get-set_same, slice_get-set_other, replies_of-other, last_entry-splits}
+use Rattle.pod_workers.proofs.Rounds.{is_in_round}
 
 -- ---- a cut
 
@@ -125,7 +127,7 @@ due_done v n c (next.Answer b) legal due ready is = due_answered v n c b due rea
 due_done v n c (next.Call call faulty) legal due ready is = due_entered v n c (entry_of (host_of v) n call faulty) due ready refl
 
 pub answer_is_due : (w : World) → Legal w → AnswerIsDue w
-answer_is_due _ (starts w begun) = λ n c there a at. absurd (none-some a (sym (begun.unanswered n (Some a) at)))
+answer_is_due _ (starts w begun) = λ n c there a at. absurd (none_answered w n a begun at)
 answer_is_due _ (steps v w n c legal ready is) = subst AnswerIsDue (sym is) (due_done v n c (next_of v c.command (own_replies v n)) legal (answer_is_due v legal) ready refl)
 answer_is_due _ (refused_memory v w n c legal ready is) = subst AnswerIsDue (sym is) (due_answered v n c OutOfMemory (answer_is_due v legal) ready (inr (inr refl)))
 answer_is_due _ (turns v w legal less over is) = subst AnswerIsDue (sym is) (answer_is_due v legal)

@@ -1,5 +1,5 @@
 -- A legal world meets each clause.
-use Rattle.std.proofs.Common.{ℕ, ◌+◌, ◌≤◌, length, sym, subst, arith}
+use Rattle.std.proofs.Common.{◌≡◌, ℕ, ◌+◌, ◌≤◌, length, sym, ap, subst, arith}
 use Rattle.pod_workers.specs.Facts.{IsLegalByClauses}
 use Rattle.pod_workers.specs.Legal.{Legal, starts, steps, refused_memory, turns}
 use Rattle.pod_workers.specs.World.{World, own_replies, done, next_of}
@@ -19,7 +19,7 @@ within_done v n (next.Answer a) is = is
 within_done v n (next.Call call faulty) is = is
 
 round_within_plan : (w : World) → Legal w → w.round ≤ length w.plan.pods.rounds
-round_within_plan _ (starts w begun) = let first = begun.round in omega arith
+round_within_plan _ (starts w begun) = let first : w.round ≡ 0 = ap (λ (v : World). v.round) begun.is in omega arith
 round_within_plan _ (steps v w n c legal ready is) = subst IsWithinPlan (sym is) (within_done v n (next_of v c.command (own_replies v n)) (round_within_plan v legal))
 round_within_plan _ (refused_memory v w n c legal ready is) = subst IsWithinPlan (sym is) (round_within_plan v legal)
 round_within_plan _ (turns v w legal less over is) = subst IsWithinPlan (sym is) (let more : v.round + 1 ≤ length v.plan.pods.rounds = omega arith in more)

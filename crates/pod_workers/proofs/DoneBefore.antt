@@ -93,7 +93,7 @@ whole_done w n c (next.Call call faulty) legal each ready is =
     (λ m d less at besides. (besides.0 ∙ ready.current, before_ready w m n d c (in_order w legal) ready less at besides.0 besides.1)) (goes_in w n c.command call faulty is).no_cut refl
 
 pub whole : (w : World) → Legal w → EachIsDoneBefore w AreOfOneContainer
-whole _ (starts w begun) = λ m n d c less at_m at_n besides. inl (ap (replies_of n) begun.empty)
+whole _ (starts w begun) = λ m n d c less at_m at_n besides. inl (ap (replies_of n) (ap (λ (v : World). v.history) begun.is))
 whole _ (steps v w n c legal ready is) =
     subst (λ u. EachIsDoneBefore u AreOfOneContainer) (sym is) (whole_done v n c (next_of v c.command (own_replies v n)) legal (whole v legal) ready refl)
 whole _ (refused_memory v w n c legal ready is) = subst (λ u. EachIsDoneBefore u AreOfOneContainer) (sym is) (done_before_answered v n c OutOfMemory AreOfOneContainer (whole v legal) ready)

@@ -9,7 +9,7 @@ use Rattle.kernel_types.specs.declared.call.Call.{Call}
 use Rattle.pod_workers.specs.Facts.{Follows, EachFollows, IsEntryOf, EachTwo, EntryIsInRound, AreInRoundOrder, AreOfOneContainer, AreInContainerOrder, GoesByRounds, KeepsStop, IsAfterStop, Stops}
 use Rattle.pod_workers.specs.Legal.{Legal, starts, steps, refused_memory, turns}
 use Rattle.pod_workers.specs.Plans.{Placed, commands_of}
-use Rattle.pod_workers.specs.World.{World, IsReady, IsUpToStop, replies_of, own_replies, reply_to, host_of, is_stop, is_cut, is_cut_at, is_in_round, last_entry, done, entry_of, next_of, at_number}
+use Rattle.pod_workers.specs.World.{World, IsReady, IsUpToStop, replies_of, own_replies, reply_to, host_of, is_stop, is_cut, is_cut_at, last_entry, done, entry_of, next_of, at_number}
 use Rattle.pod_workers.specs.declared.plan.Plan.{Plan}
 use Rattle.pod_workers.specs.declared.plan.Entry.{Entry}
 use Rattle.pod_workers.specs.declared.plan.Next.{Next}
@@ -19,6 +19,7 @@ use Rattle.pod_workers.proofs.Histories.{replies_of-own, replies_of-other, has_r
 use Rattle.pod_workers.proofs.Order.{IsInOrder, in_order, not_both, other_number}
 use Rattle.pod_workers.proofs.Sound.{allowed_next, goes_in}
 use Rattle.pod_workers.proofs.Splits.{split_nil, split_snoc, two_snoc}
+use Rattle.pod_workers.proofs.Rounds.{is_in_round}
 
 -- ---- each entry follows
 
@@ -46,7 +47,7 @@ each_done v n c (next.Call call faulty) legal each ready is = λ before rest e a
     ]
 
 pub each_follows : (w : World) → Legal w → EachFollows w.plan w.history
-each_follows _ (starts w begun) = λ before rest e at. absurd (split_nil before rest e (sym begun.empty ∙ at))
+each_follows _ (starts w begun) = λ before rest e at. absurd (split_nil before rest e (sym (ap (λ (v : World). v.history) begun.is) ∙ at))
 each_follows _ (steps v w n c legal ready is) = subst (λ (u : World). EachFollows u.plan u.history) (sym is) (each_done v n c (next_of v c.command (own_replies v n)) legal (each_follows v legal) ready refl)
 each_follows _ (refused_memory v w n c legal ready is) = subst (λ (u : World). EachFollows u.plan u.history) (sym is) (each_follows v legal)
 each_follows _ (turns v w legal less over is) = subst (λ (u : World). EachFollows u.plan u.history) (sym is) (each_follows v legal)
@@ -152,9 +153,9 @@ none_two w Fit none = λ before between rest e f m n d c at of_e of_f. absurd (s
 
 pub two_entries : (w : World) → Legal w → TwoEntries w
 two_entries _ (starts w begun) = record {
-  rounds = none_two w AreInRoundOrder begun.empty;
-  containers = none_two w AreInContainerOrder begun.empty;
-  cut = none_two w (IsAfterStop w.plan) begun.empty;
+  rounds = none_two w AreInRoundOrder (ap (λ (v : World). v.history) begun.is);
+  containers = none_two w AreInContainerOrder (ap (λ (v : World). v.history) begun.is);
+  cut = none_two w (IsAfterStop w.plan) (ap (λ (v : World). v.history) begun.is);
 }
 two_entries _ (steps v w n c legal ready is) =
     subst TwoEntries (sym is) (two_done v n c (next_of v c.command (own_replies v n)) (in_order v legal) (each_follows v legal) (two_entries v legal) ready refl)
@@ -197,7 +198,7 @@ stop_done v n c (next.Call call faulty) keeps ready is = λ m d at.
     ]
 
 pub keeps_stop : (w : World) → Legal w → KeepsStop w
-keeps_stop _ (starts w begun) = λ n c at. rw (ap (replies_of n) begun.empty) (none-made c.command.stop)
+keeps_stop _ (starts w begun) = λ n c at. rw (ap (replies_of n) (ap (λ (v : World). v.history) begun.is)) (none-made c.command.stop)
 keeps_stop _ (steps v w n c legal ready is) = subst KeepsStop (sym is) (stop_done v n c (next_of v c.command (own_replies v n)) (keeps_stop v legal) ready refl)
 keeps_stop _ (refused_memory v w n c legal ready is) = subst KeepsStop (sym is) (keeps_stop v legal)
 keeps_stop _ (turns v w legal less over is) = subst KeepsStop (sym is) (keeps_stop v legal)

@@ -12,7 +12,7 @@ use Rattle.pod_workers.specs.Index.{IsIndex}
 use Rattle.pod_workers.specs.Legal.{IsBegun, starts}
 use Rattle.pod_workers.specs.Plans.{IsWellFormed, Placed, commands_of, placed_from}
 use Rattle.pod_workers.specs.Slots.{Fits, IsKept}
-use Rattle.pod_workers.specs.World.{AllNone, begun}
+use Rattle.pod_workers.specs.World.{begun}
 use Rattle.pod_workers.specs.declared.index.Place.{Place}
 use Rattle.pod_workers.specs.declared.plan.Entry.{Entry}
 use Rattle.pod_workers.specs.declared.plan.Plan.{Plan}
@@ -26,11 +26,8 @@ blanks-of : (xs : List Placed) → replicate {A = Option Answer} (length xs) Non
 blanks-of [] = refl
 blanks-of (x ∷ xs) = ap (λ (os : List (Option Answer)). None ∷ os) (blanks-of xs)
 
-all-none : (xs : List Placed) → AllNone {T = Answer} (map (λ (c : Placed). None) xs)
-all-none xs n o is = replicate-none (length xs) n o (ap (λ os. slice_get os n) (blanks-of xs) ∙ is)
-
 is-begun : (p : Plan) → IsWellFormed p → IsBegun (begun p)
-is-begun p well = record { plan = well; empty = refl; long = length-map (commands_of p) _; unanswered = all-none (commands_of p); round = refl }
+is-begun p well = record { plan = well; is = refl }
 
 blank-answers : (xs : List Placed) (n : ℕ) → n ≡ length xs → replicate {A = Option Answer} n None ≡ map (λ (c : Placed). None) xs
 blank-answers xs n is = ap (λ k. replicate k None) is ∙ blanks-of xs

@@ -1,7 +1,7 @@
 -- the lemmas of the laws, for the crates above
 pub mod AnswersDue
 pub mod Facts
-pub mod Fronts
+pub mod Prefixes
 pub mod Listed
 pub mod OneOutcome
 pub mod PlanCalls

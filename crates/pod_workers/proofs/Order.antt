@@ -1,7 +1,7 @@
 -- In which order commands go: round after round, and in a round one after another in each container.
-use Rattle.std.proofs.Common.{◌≡◌, ◌≢◌, ℕ, ◌+◌, ◌<◌, true, List, [], length, Option, Some, None, slice_get, refl, sym, ◌∙◌, ap, subst, inl, inr, ◌⊎◌, arith}
+use Rattle.std.proofs.Common.{◌≡◌, ◌≢◌, ℕ, zero, suc, ◌+◌, ◌<◌, true, List, [], ◌∷◌, length, map, Option, Some, None, slice_get, refl, sym, ◌∙◌, ap, subst, inl, inr, ◌⊎◌, arith}
 use Rattle.std.specs.Str.{bytes_eq}
-use Rattle.std.proofs.lemmas.List.{length-set}
+use Rattle.std.proofs.lemmas.List.{length-map, length-set}
 use Rattle.std.proofs.lemmas.Option.{same_Some, none-some, slice_get_within, slice_get-get_or}
 use Rattle.std.proofs.lemmas.Bool.{cases_Bool, cases_order}
 use Rattle.std.proofs.lemmas.Bool.Decides.{eqb_tells}
@@ -12,7 +12,7 @@ use Rattle.pod_file.specs.Rounds.{is_exclusive}
 use Rattle.pod_workers.specs.Facts.{EachWaits, IsUntouched, LaterAreUntouched, PastAreAnswered}
 use Rattle.pod_workers.specs.Legal.{Legal, IsBegun, starts, steps, refused_memory, turns}
 use Rattle.pod_workers.specs.Plans.{Placed, commands_of}
-use Rattle.pod_workers.specs.World.{World, IsAnswered, IsReady, IsRoundOver, replies_of, own_replies, answered, with_entry, entry_of, host_of, done, next_of, next_round}
+use Rattle.pod_workers.specs.World.{World, IsAnswered, IsReady, IsRoundOver, own_replies, answered, with_entry, entry_of, host_of, done, next_of, next_round}
 use Rattle.pod_workers.specs.declared.plan.Entry.{Entry}
 use Rattle.pod_workers.specs.declared.plan.Next.{Next}
 use Rattle.pod_workers.specs.declared.plan.Next.TheVariants as next
@@ -127,17 +127,35 @@ order_next_round w order over = record {
 
 -- ---- every legal world
 
+abbrev blanks : List Placed → List (Option Answer)
+blanks xs = map (λ (c : Placed). None) xs
+
+blank_at : (xs : List Placed) (n : ℕ) (c : Placed) → slice_get xs n ≡ Some c → slice_get (blanks xs) n ≡ Some None
+blank_at [] n c at = absurd (none-some c at)
+blank_at (x ∷ xs) zero c at = refl
+blank_at (x ∷ xs) (suc n) c at = blank_at xs n c at
+
+blank_nowhere : (xs : List Placed) (n : ℕ) (a : Answer) → slice_get (blanks xs) n ≡ Some (Some a) → ⊥
+blank_nowhere [] n a at = none-some (Some a) at
+blank_nowhere (x ∷ xs) zero a at = none-some a (same_Some None (Some a) at)
+blank_nowhere (x ∷ xs) (suc n) a at = blank_nowhere xs n a at
+
+-- no command of a world that is begun has an answer
+pub none_answered : (w : World) (n : ℕ) (a : Answer) → IsBegun w → slice_get w.answers n ≡ Some (Some a) → ⊥
+none_answered w n a b at = blank_nowhere (commands_of w.plan) n a (sym (ap (λ (v : World). slice_get v.answers n) b.is) ∙ at)
+
 untouched_begun : (w : World) (n : ℕ) (c : Placed) → IsBegun w → slice_get (commands_of w.plan) n ≡ Some c → IsUntouched w n
-untouched_begun w n c begun at =
-    let is = slice_get-get_or w.answers n None (rw begun.long (slice_get_within (commands_of w.plan) n c at)) in
-    record { no_reply = ap (replies_of n) begun.empty; no_answer = is ∙ ap Some (begun.unanswered n _ is) }
+untouched_begun w n c b at = record {
+  no_reply = ap (λ (v : World). own_replies v n) b.is;
+  no_answer = ap (λ (v : World). slice_get v.answers n) b.is ∙ blank_at (commands_of w.plan) n c at;
+}
 
 order_begun : (w : World) → IsBegun w → IsInOrder w
-order_begun w begun = record {
-  long = begun.long;
-  past = λ n c at less. absurd (let zero_round = begun.round in omega arith);
-  later = λ n c at more. untouched_begun w n c begun at;
-  first = λ m n d c less at_m at_n besides. inl (untouched_begun w n c begun at_n);
+order_begun w b = record {
+  long = ap (λ (v : World). length v.answers) b.is ∙ length-map (commands_of w.plan) _;
+  past = λ n c at less. absurd (let none : w.round ≡ 0 = ap (λ (v : World). v.round) b.is in omega arith);
+  later = λ n c at more. untouched_begun w n c b at;
+  first = λ m n d c less at_m at_n besides. inl (untouched_begun w n c b at_n);
 }
 
 pub in_order : (w : World) → Legal w → IsInOrder w

@@ -28,7 +28,7 @@ use Rattle.plan_words.proofs.KeyLists.{list_all-append}
 use Rattle.plan_words.proofs.PluginCalls.{interface-kinds}
 use Rattle.host_local.specs.Conf.{range_sets_of}
 use Rattle.host_local.specs.Leases.{lease_calls_from, lease_calls_of}
-use Rattle.cni_verbs.specs.Wanted.{back_calls, calls_after, calls_before, chained_calls, chained_kinds, chained_kinds_reversed, first_kinds, ipam_of, kinds_of, sets_of, wanted}
+use Rattle.cni_verbs.specs.Wanted.{back_calls, bridge_of, calls_after, calls_before, chained_calls, chained_kinds, chained_kinds_reversed, first_kinds, ipam_of, kinds_of, sets_of, wanted}
 use Rattle.cni_verbs.proofs.BackCalls.{PassesChained, passes-back}
 use Rattle.cni_verbs.proofs.OwnCalls.{own-back, own-before}
 use Rattle.cni_verbs.proofs.PluginLaws.{chained_laws, first_laws}
@@ -106,7 +106,7 @@ kinds-all_chained ks (c ∷ cs) att netns mappings among = (
 pub of_kinds-before : (list : NetList) (att : Att) (netns : List ℕ) → list_all (is_of_kinds (kinds_of list)) (calls_before list.first att netns) ≡ true
 of_kinds-before list att netns =
     let laws = first_laws list.first in
-    list_all-weaker makes_interface (is_of_kinds (kinds_of list)) (interface-kinds (kinds_of list) (first-among list kinds.Links laws.takes_links)) (calls_before list.first att netns) (laws.before att netns).make_interface
+    list_all-weaker (makes_interface (bridge_of list.first)) (is_of_kinds (kinds_of list)) (interface-kinds (kinds_of list) (first-among list kinds.Links laws.takes_links) (bridge_of list.first)) (calls_before list.first att netns) (laws.before att netns).make_interface
 
 pub of_kinds-back : (list : NetList) (att : Att) (netns : List ℕ) (mappings : List PortMapping) (addrs : List Addr) → list_all (is_of_kinds (kinds_of list)) (back_calls list att netns mappings addrs) ≡ true
 of_kinds-back list att netns mappings addrs =

@@ -1,5 +1,5 @@
 -- Each world that meets the clauses is reached by allowed steps: event after event is taken back.
-use Rattle.std.proofs.Common.{◌≡◌, ◌≢◌, ℕ, zero, suc, ◌+◌, ◌<◌, ◌≤◌, List, [], ◌∷◌, ◌++◌, length, Option, Some, None, slice_get, slice_set, refl, sym, ◌∙◌, ap, subst, inl, inr, ◌⊎◌, arith}
+use Rattle.std.proofs.Common.{◌≡◌, ◌≢◌, ℕ, zero, suc, ◌+◌, ◌<◌, ◌≤◌, List, [], ◌∷◌, ◌++◌, length, map, Option, Some, None, slice_get, slice_set, refl, sym, ◌∙◌, ap, subst, inl, inr, ◌⊎◌, arith}
 use Rattle.std.proofs.lemmas.Option.{same_Some, none-some, slice_get_within}
 use Rattle.std.proofs.lemmas.Bool.Decides.{eqb_tells}
 use Rattle.std.proofs.lemmas.List.{length_push}
@@ -7,7 +7,7 @@ use Rattle.cni_verbs.specs.declared.answer.Answer.{Answer}
 use Rattle.pod_workers.specs.Facts.{IsEntryOf, IsUntouched, AreOfOneContainer, IsLegalByClauses}
 use Rattle.pod_workers.specs.Legal.{Legal, IsBegun, starts}
 use Rattle.pod_workers.specs.Plans.{Placed, commands_of}
-use Rattle.pod_workers.specs.World.{World, IsAnswered, own_replies, replies_of, answered, with_entry, next_round}
+use Rattle.pod_workers.specs.World.{World, IsAnswered, own_replies, replies_of, answered, begun, with_entry, next_round}
 use Rattle.pod_workers.specs.declared.plan.Entry.{Entry}
 use Rattle.pod_workers.proofs.Facts.{one_command}
 use Rattle.pod_workers.proofs.Histories.{slice_get-set_same, slice_get-set_other, has_reply, set-back, entry_or_none, empty_or_last}
@@ -182,20 +182,32 @@ untouched_at_first w k fresh is n c at = elim (eqb_tells c.round w.round) [
   | inr f ↦ k.rounds.later n c at (let other = f.1 in omega arith)
 ]
 
+-- a world where nothing was done is begun
+blanks : (xs : List Placed) (os : List (Option Answer)) → length os ≡ length xs → ((n : ℕ) (o : Option Answer) → slice_get os n ≡ Some o → o ≡ None) → os ≡ map (λ (c : Placed). None) xs
+blanks [] [] long none = refl
+blanks [] (o ∷ os) long none = absurd (omega arith)
+blanks (x ∷ xs) [] long none = absurd (omega arith)
+blanks (x ∷ xs) (o ∷ os) long none = ap (λ (p : Option Answer). p ∷ os) (none 0 o refl) ∙ ap (λ (ps : List (Option Answer)). None ∷ ps) (blanks xs os (omega arith) (λ n q at. none (suc n) q at))
+
+blank_world : (w : World) → w.history ≡ [] → w.answers ≡ map (λ (c : Placed). None) (commands_of w.plan) → w.round ≡ 0 → w ≡ begun w.plan
+blank_world w empty blank first =
+    let world : List Entry → List (Option Answer) → ℕ → World = λ h os r. record { plan = w.plan; history = h; answers = os; round = r } in
+    ap (λ (h : List Entry). world h w.answers w.round) empty ∙ ap (λ (os : List (Option Answer)). world [] os w.round) blank ∙ ap (world [] (map (λ (c : Placed). None) (commands_of w.plan))) first
+
 by_round : (w : World) (round : ℕ) → w.round ≡ round → IsLegalByClauses w → IsFresh w → IsBegun w ⊎ TakenBack w
 by_round w zero is k fresh = inl (record {
   plan = k.plan;
-  empty = elim (empty_or_last w.history) [
-    | inl none ↦ none
-    | inr last ↦ absurd (
-        let follows = k.entries last.0 [] last.1 last.2 in
-        has_reply follows.place w.history last.0 [] last.1 last.2 follows.of.number (untouched_at_first w k fresh is follows.place follows.by follows.of.there).no_reply)
-  ];
-  long = k.long;
-  unanswered = λ n o at.
+  is = blank_world w
+      (elim (empty_or_last w.history) [
+        | inl none ↦ none
+        | inr last ↦ absurd (
+            let follows = k.entries last.0 [] last.1 last.2 in
+            has_reply follows.place w.history last.0 [] last.1 last.2 follows.of.number (untouched_at_first w k fresh is follows.place follows.by follows.of.there).no_reply)
+      ])
+      (blanks (commands_of w.plan) w.answers k.long (λ n o at.
       let c = command_at w.plan n (let within = slice_get_within w.answers n o at in let long = k.long in omega arith) in
-      same_Some o None (sym at ∙ (untouched_at_first w k fresh is n c.0 c.1).no_answer);
-  round = is;
+      same_Some o None (sym at ∙ (untouched_at_first w k fresh is n c.0 c.1).no_answer)))
+      is;
 })
 by_round w (suc round) is k fresh =
     let v : World = record { plan = w.plan; history = w.history; answers = w.answers; round = round } in

@@ -2,21 +2,21 @@
 use Rattle.std.proofs.Common.{◌≡◌, ◌≢◌, ℕ, ◌+◌, ◌-◌, ◌<◌, ◌==◌, Bool, true, false, List, [], ◌∷◌, length, get_or, Option, Some, None, slice_get, refl, sym, ◌∙◌, ap, subst, arith, inl, inr}
 use Rattle.std.specs.Prelude.{MatchBool, ◌&&◌, is_some, if◌then◌else◌}
 use Rattle.std.proofs.lemmas.Bool.{false≢true, and_parts, cases_order, eqb-true, eq-eqb}
-use Rattle.std.specs.Option.{option_flatten}
+use Rattle.std.specs.Option.{option_flatten, option_map_or}
 use Rattle.std.proofs.lemmas.Option.{same_Some, none-some, slice_get-get_or, slice_get_within}
 use Rattle.cni_verbs.specs.Progress.{RunView}
 use Rattle.cni_verbs.specs.declared.answer.Answer.{Answer}
 use Rattle.kernel_types.specs.declared.object.Host.{Host}
 use Rattle.pod_file.specs.declared.command.Command.{Command}
-use Rattle.pod_workers.specs.Extends.{is_of_round}
-use Rattle.pod_workers.specs.Index.{IsIndex, IsLatest, IsPlaced, is_cut_by, is_open, lets_through, may_step_by}
+use Rattle.pod_workers.specs.Index.{IsIndex, IsLatest, IsPlaced, is_cut_after, is_cut_by, is_entry_in, is_open, lets_through, may_step_by}
 use Rattle.pod_workers.specs.Plans.{Placed, commands_of, IsOf}
 use Rattle.pod_workers.specs.Slots.{IsKept}
-use Rattle.pod_workers.specs.World.{World, Blocks, IsAnswered, IsReady, IsReadyNumber, at_number, cuts_round, is_cut, is_cut_at, is_entry_in, is_in_round, is_there_in, last_entry}
+use Rattle.pod_workers.specs.World.{World, Blocks, IsAnswered, IsReady, IsReadyNumber, at_number, is_cut, is_cut_at, last_entry, is_of_round}
 use Rattle.pod_workers.specs.declared.index.Place.{Place}
 use Rattle.pod_workers.specs.declared.plan.Entry.{Entry}
 use Rattle.pod_workers.proofs.Elements.{at_number-is, numbered}
 use Rattle.pod_workers.proofs.Order.{IsInOrder, in_order, not_both}
+use Rattle.pod_workers.proofs.Rounds.{is_in_round}
 
 is-open : (o : Option (Option Answer)) → is_open o ≡ true → o ≡ Some None
 is-open None h = absurd (false≢true h)
@@ -129,7 +129,10 @@ ready-nowhere host slots places before w v number kept same none ready =
 
 -- ---- where a round is stopped
 
-place-in-round : (rounds : List (List Command)) (commands : List Placed) (places : List Place) (round k : ℕ) → IsIndex rounds commands places → (o : Option Placed) → slice_get commands k ≡ o → (q : Option Place) → slice_get places k ≡ q → is_there_in (λ (p : Place). p.round) round q ≡ is_in_round round o
+abbrev is_there : ℕ → Option Place → Bool
+is_there round p = option_map_or (λ (p : Place). p.round == round) p false
+
+place-in-round : (rounds : List (List Command)) (commands : List Placed) (places : List Place) (round k : ℕ) → IsIndex rounds commands places → (o : Option Placed) → slice_get commands k ≡ o → (q : Option Place) → slice_get places k ≡ q → is_there round q ≡ is_in_round round o
 place-in-round rounds commands places round k index (Some c) at_k (Some p) place_k = ap (λ r. r == round) (sym (index.each k c p at_k place_k).round_is)
 place-in-round rounds commands places round k index None at_k None place_k = refl
 place-in-round rounds commands places round k index (Some c) at_k None place_k =
@@ -137,24 +140,24 @@ place-in-round rounds commands places round k index (Some c) at_k None place_k =
 place-in-round rounds commands places round k index None at_k (Some p) place_k =
     absurd (let within = slice_get_within places k p place_k in let short : k < length commands = rw (sym index.long) within in none-some _ (sym at_k ∙ slice_get-get_or commands k (placed-default commands k short) short))
 
-where-numbered : (b : Bool) (o : Option Placed) (q : Option Place) (round : ℕ) → is_there_in (λ (p : Place). p.round) round q ≡ is_in_round round o
-    → is_there_in (λ (p : Place). p.round) round (if b then None else q) ≡ is_in_round round (if b then None else o)
+where-numbered : (b : Bool) (o : Option Placed) (q : Option Place) (round : ℕ) → is_there round q ≡ is_in_round round o
+    → is_there round (if b then None else q) ≡ is_in_round round (if b then None else o)
 where-numbered true o q round same = refl
 where-numbered false o q round same = same
 
 entry-in-round : (rounds : List (List Command)) (commands : List Placed) (places : List Place) (round : ℕ) (e : Entry) → IsIndex rounds commands places
-    → is_entry_in (λ (p : Place). p.round) places round e ≡ is_entry_in (λ (c : Placed). c.round) commands round e
+    → is_entry_in places round e ≡ is_in_round round (at_number commands e.command)
 entry-in-round rounds commands places round e index =
     where-numbered (e.command == 0) (slice_get commands (e.command - 1)) (slice_get places (e.command - 1)) round
     (place-in-round rounds commands places round (e.command - 1) index (slice_get commands (e.command - 1)) refl (slice_get places (e.command - 1)) refl)
 
 -- whether an entry is of the current round
 pub round-tells : (b : Bool) (host : Host) (slots : List (Option RunView)) (places : List Place) (before : ℕ) (w v : World) (e : Entry) → IsKept host slots places before w → w ≡ v
-    → b ≡ is_entry_in (λ (p : Place). p.round) places w.round e → b ≡ is_of_round v.plan v.round e
+    → b ≡ is_entry_in places w.round e → b ≡ is_of_round v.plan v.round e
 round-tells b host slots places before w v e kept same tells =
     subst (λ u. b ≡ is_of_round u.plan u.round e) same (tells ∙ entry-in-round w.plan.pods.rounds (commands_of w.plan) places w.round e kept.index)
 
-cut-at : (w : World) (places : List Place) (stop_at : Option ℕ) (last : Option Entry) → IsIndex w.plan.pods.rounds (commands_of w.plan) places → cuts_round (λ (p : Place). p.round) places w.round w.history stop_at last ≡ is_cut_at stop_at w last
+cut-at : (w : World) (places : List Place) (stop_at : Option ℕ) (last : Option Entry) → IsIndex w.plan.pods.rounds (commands_of w.plan) places → is_cut_after stop_at w.history places w.round last ≡ is_cut_at stop_at w last
 cut-at w places None last index = refl
 cut-at w places (Some number) None index = refl
 cut-at w places (Some number) (Some e) index =

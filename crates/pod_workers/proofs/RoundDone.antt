@@ -18,7 +18,7 @@ use Rattle.pod_workers.specs.Legal.{Legal, turns}
 use Rattle.pod_workers.specs.Order.{EarlierAreAnswered, IsInFileOrder}
 use Rattle.pod_workers.specs.Plans.{Placed, commands_of, in_round, placed_from}
 use Rattle.pod_workers.specs.Slots.{AreNumbersOf, IsKept}
-use Rattle.pod_workers.specs.World.{World, IsAnswered, IsReady, IsReadyNumber, IsRoundOver, RunsOut, StepsTo, answered, done, entry_of, host_of, is_in_round, next_of, next_round, own_replies}
+use Rattle.pod_workers.specs.World.{World, IsAnswered, IsReady, IsReadyNumber, IsRoundOver, RunsOut, StepsTo, answered, done, entry_of, host_of, next_of, next_round, own_replies}
 use Rattle.pod_workers.specs.declared.index.Place.{Place}
 use Rattle.pod_workers.specs.declared.plan.Entry.{Entry}
 use Rattle.pod_workers.specs.declared.plan.Next.{Next}
@@ -28,7 +28,7 @@ use Rattle.pod_workers.specs.declared.plan.StepEnd.{StepEnd}
 use Rattle.pod_workers.proofs.FileOrder.{file_order_answered, file_order_next_round, file_order_stepped}
 use Rattle.pod_workers.proofs.Histories.{slice_get-set_other}
 use Rattle.pod_workers.proofs.Order.{in_order, not_both, open_or_answered, other_round}
-use Rattle.pod_workers.proofs.Rounds.{placed-fits, placed_from-more, placed_from-front, round-of, rounds-before}
+use Rattle.pod_workers.proofs.Rounds.{is_in_round, placed-fits, placed_from-more, placed_from-front, round-of, rounds-before}
 use Rattle.pod_workers.proofs.Elements.{at_number-is, slice_get-right, slice_get-before}
 use Rattle.pod_workers.proofs.Sound.{fine}
 use Rattle.pod_workers.proofs.WellFormedPlans.{few_commands}

@@ -1,5 +1,6 @@
 -- The commands of a plan, round by round.
-use Rattle.std.proofs.Common.{◌≡◌, ℕ, zero, suc, ◌+◌, ◌<◌, ◌≤◌, ◌⊎◌, List, [], ◌∷◌, ◌++◌, length, map, take, Some, slice_get, refl, sym, ◌∙◌, ap, arith, inl, inr}
+use Rattle.std.proofs.Common.{◌≡◌, ◌==◌, ℕ, Bool, false, Option, zero, suc, ◌+◌, ◌<◌, ◌≤◌, ◌⊎◌, List, [], ◌∷◌, ◌++◌, length, map, take, Some, slice_get, refl, sym, ◌∙◌, ap, arith, inl, inr}
+use Rattle.std.specs.Option.{option_map_or}
 use Rattle.std.proofs.lemmas.List.{append-nil, append_assoc, length-append, length-map, length-take}
 use Rattle.std.proofs.Math.Nat.{min-le_left}
 use Rattle.std.proofs.lemmas.Option.{same_Some, none-some}
@@ -7,6 +8,10 @@ use Rattle.pod_file.specs.declared.command.Command.{Command}
 use Rattle.pod_workers.specs.Index.{AreBefore}
 use Rattle.pod_workers.specs.Plans.{Placed, in_round, placed_from}
 use Rattle.pod_workers.proofs.Elements.{slice_get-map_some}
+
+-- the command is there, and of this round
+abbrev pub is_in_round : ℕ → Option Placed → Bool
+is_in_round round c = option_map_or (λ (c : Placed). c.round == round) c false
 
 -- the commands of so many rounds, and those of the next
 pub placed_from-more : (r i : ℕ) (rounds : List (List Command)) (cs : List Command) → slice_get rounds i ≡ Some cs

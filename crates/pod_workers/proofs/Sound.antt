@@ -48,7 +48,7 @@ use Rattle.pod_workers.specs.Lasts.{AreLastsOfSets, IsLastOfSet}
 use Rattle.pod_workers.specs.Legal.{Legal, IsBegun, starts, steps, refused_memory, turns}
 use Rattle.pod_file.specs.Commands.{is_of_network}
 use Rattle.pod_workers.specs.Plans.{Placed, IsWellFormed, list_for, list_in, list_named}
-use Rattle.pod_workers.specs.World.{World, IsReady, after, host_of, own_replies, next_by, next_of, is_cut, is_faulty, is_stop, entry_of, done}
+use Rattle.pod_workers.specs.World.{World, IsReady, host_of, own_replies, next_by, next_of, is_cut, is_faulty, is_stop, entry_of, done}
 use Rattle.pod_workers.specs.declared.plan.Next.{Next}
 use Rattle.pod_workers.specs.declared.plan.Next.TheVariants as next
 use Rattle.pod_workers.specs.declared.plan.Plan.{Plan}
@@ -335,7 +335,7 @@ fine-done w n c (next.Call call faulty) fine is =
 
 fine-begun : (w : World) → IsBegun w → IsFine w
 fine-begun w begun =
-    let still : host_of w ≡ w.plan.pods.opening = ap (λ h. after w.plan.pods.opening h) begun.empty in
+    let still : host_of w ≡ w.plan.pods.opening = ap host_of begun.is in
     record {
       plan = begun.plan;
       sound = subst IsSound (sym still) begun.plan.pods.opening.sound;

@@ -10,7 +10,7 @@ use Rattle.cni_verbs.specs.declared.answer.Answer.TheVariants.{Stopped}
 use Rattle.pod_workers.specs.Facts.{Follows, IsEntryOf, EachTwo, EntryIsInRound, IsUntouched, AreInRoundOrder, AreOfOneContainer, AreInContainerOrder, IsAfterStop, IsScripts, IsStopOf, IsDone, IsLegalByClauses, IsDue}
 use Rattle.pod_workers.specs.Legal.{Legal, steps, refused_memory, turns}
 use Rattle.pod_workers.specs.Plans.{Placed, commands_of, list_for}
-use Rattle.pod_workers.specs.World.{World, IsReady, IsAnswered, IsUpToStop, own_replies, host_of, is_faulty, is_stop, is_cut, is_cut_at, is_in_round, last_entry, answered, with_entry, entry_of, next_of, next_by, next_round, done, at_number}
+use Rattle.pod_workers.specs.World.{World, IsReady, IsAnswered, IsUpToStop, own_replies, host_of, is_faulty, is_stop, is_cut, is_cut_at, last_entry, answered, with_entry, entry_of, next_of, next_by, next_round, done, at_number}
 use Rattle.pod_workers.specs.declared.plan.Plan.{Plan}
 use Rattle.pod_workers.specs.declared.plan.Entry.{Entry}
 use Rattle.pod_workers.specs.declared.plan.Next.TheVariants as next
@@ -20,6 +20,7 @@ use Rattle.pod_workers.proofs.Facts.{one_command, uncut_at}
 use Rattle.pod_workers.proofs.Histories.{slice_get-set_same, slice_get-set_other, replies_of-own, replies_of-other, has_reply, last_entry-append, same_entry}
 use Rattle.pod_workers.proofs.Order.{not_both, other_number, other_round}
 use Rattle.pod_workers.proofs.Splits.{split_snoc}
+use Rattle.pod_workers.proofs.Rounds.{is_in_round}
 
 -- ---- an answer
 

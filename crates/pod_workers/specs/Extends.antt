@@ -1,27 +1,19 @@
 -- One world goes on from another.
-use Rattle.std.specs.Prelude.{◌≡◌, ℕ, Bool, true, List, ◌++◌, Option, Some, slice_get}
+use Rattle.std.specs.Prelude.{◌≡◌, ℕ, true, List, ◌++◌, Option, Some, slice_get}
 use Rattle.std.specs.List.{All}
 use Rattle.cni_verbs.specs.declared.answer.Answer.{Answer}
 use Rattle.pod_workers.specs.Legal.{Legal}
-use Rattle.pod_workers.specs.Plans.{Placed, commands_of}
-use Rattle.pod_workers.specs.World.{World, EachCommand, IsRoundOver, is_entry_in, next_round}
+use Rattle.pod_workers.specs.World.{World, EachCommand, IsRoundOver, is_of_round, next_round}
 use Rattle.pod_workers.specs.declared.plan.Entry.{Entry}
 use Rattle.pod_workers.specs.declared.plan.Plan.{Plan}
 
 -- the entry is of a command of this round
-abbrev pub is_of_round : Plan → ℕ → Entry → Bool
-is_of_round p round e = is_entry_in (λ (c : Placed). c.round) (commands_of p) round e
-
 abbrev pub IsOfRound : Plan → ℕ → Entry → Type 0
 IsOfRound p round e = is_of_round p round e ≡ true
 
 -- what is new, behind what was there, fits
 abbrev pub Appends : {X : Type 0} → List X → List X → (List X → Type 0) → Type 0
 Appends {X} old new Fit = (rest : List X) × (new ≡ old ++ rest) × Fit rest
-
--- it is of this round
-abbrev pub GrowsInRound : Plan → ℕ → List Entry → List Entry → Type 0
-GrowsInRound p round long short = Appends short long (All (IsOfRound p round))
 
 -- each answer that was given stands
 abbrev pub KeepsAnswers : List (Option Answer) → List (Option Answer) → Type 0
@@ -36,12 +28,11 @@ KeepsOtherRounds from w =
 pub record Extends (from w : World) : Type 0 where
   pub plan_is : w.plan ≡ from.plan
   pub round_is : w.round ≡ from.round
-  pub entries : GrowsInRound from.plan from.round w.history from.history
+  pub entries : Appends from.history w.history (All (IsOfRound from.plan from.round))
   pub answers_stand : KeepsAnswers from.answers w.answers
   pub others : KeepsOtherRounds from w
 
--- the current round of this world was done, and the next is current: no command of it has made an entry or has an
--- answer
+-- the current round of this world was done, and the next is current
 pub record Rounds (from w : World) : Type 0 where
   pub last : World
   pub legal : Legal last

@@ -173,53 +173,53 @@ EachStopIsCounted = (w : World) → Legal w → EachCommand w.plan (λ n c. (mad
 -- ---- moments
 
 -- a legal world of the same plan with this history, whose answers stand later
-pub record HasFront (w : World) (before : List Entry) : Type 0 where
-  pub front : World
-  pub legal : Legal front
-  pub plan_is : front.plan ≡ w.plan
-  pub history_is : front.history ≡ before
-  pub answers_stand : KeepsAnswers front.answers w.answers
-  pub round : front.round ≤ w.round
+pub record HasPrefix (w : World) (before : List Entry) : Type 0 where
+  pub world : World
+  pub legal : Legal world
+  pub plan_is : world.plan ≡ w.plan
+  pub history_is : world.history ≡ before
+  pub answers_stand : KeepsAnswers world.answers w.answers
+  pub round : world.round ≤ w.round
 
 -- what is true of every legal world is true at every moment of a history
-abbrev pub EachFront : Type 0
-EachFront = (w : World) → Legal w → (before rest : List Entry) → w.history ≡ before ++ rest → HasFront w before
+abbrev pub EachPrefix : Type 0
+EachPrefix = (w : World) → Legal w → (before rest : List Entry) → w.history ≡ before ++ rest → HasPrefix w before
 
--- the front in which this entry was made, by a command that was ready and so had no answer
+-- the prefix in which this entry was made, by a command that was ready and so had no answer
 pub record IsMadeAt (w : World) (before : List Entry) (e : Entry) : Type 0 where
-  pub at : HasFront w before
+  pub at : HasPrefix w before
   pub place : ℕ
   pub by : Placed
   pub number : e.command ≡ place + 1
-  pub ready : IsReady at.front place by
-  pub makes : with_entry at.front e ≡ stepped at.front place by.command
-  pub goes : next_of at.front by.command (own_replies at.front place)
-      ≡ next.Call e.call (is_faulty by.command (length (own_replies at.front place)))
+  pub ready : IsReady at.world place by
+  pub makes : with_entry at.world e ≡ stepped at.world place by.command
+  pub goes : next_of at.world by.command (own_replies at.world place)
+      ≡ next.Call e.call (is_faulty by.command (length (own_replies at.world place)))
 
 abbrev pub EachEntryIsMade : Type 0
 EachEntryIsMade = (w : World) → Legal w → EachOne w.history (IsMadeAt w)
 
--- the front right after this entry, in which its command has no answer yet
+-- the prefix right after this entry, in which its command has no answer yet
 pub record IsOpenAfter (w : World) (before : List Entry) (e : Entry) : Type 0 where
-  pub at : HasFront w (before ++ e ∷ [])
+  pub at : HasPrefix w (before ++ e ∷ [])
   pub place : ℕ
   pub by : Placed
   pub of : IsEntryOf w.plan e place by
-  pub unanswered : slice_get at.front.answers place ≡ Some None
+  pub unanswered : slice_get at.world.answers place ≡ Some None
 
 abbrev pub EachCommandIsOpenAfterItsEntry : Type 0
 EachCommandIsOpenAfterItsEntry = (w : World) → Legal w → EachOne w.history (IsOpenAfter w)
 
--- the front in which this answer was given, with all calls that the command ever made
+-- the prefix in which this answer was given, with all calls that the command ever made
 pub record IsAnsweredAt (w : World) (n : ℕ) (a : Answer) : Type 0 where
   pub before : List Entry
   pub rest : List Entry
   pub split : w.history ≡ before ++ rest
-  pub at : HasFront w before
+  pub at : HasPrefix w before
   pub by : Placed
-  pub ready : IsReady at.front n by
-  pub replies_are : own_replies w n ≡ own_replies at.front n
-  pub due : (next_of at.front by.command (own_replies at.front n) ≡ next.Answer a) ⊎ (a ≡ OutOfMemory)
+  pub ready : IsReady at.world n by
+  pub replies_are : own_replies w n ≡ own_replies at.world n
+  pub due : (next_of at.world by.command (own_replies at.world n) ≡ next.Answer a) ⊎ (a ≡ OutOfMemory)
 
 abbrev pub EachAnswerIsGiven : Type 0
 EachAnswerIsGiven = (w : World) → Legal w → (n : ℕ) (a : Answer) → slice_get w.answers n ≡ Some (Some a)

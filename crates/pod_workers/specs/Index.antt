@@ -5,7 +5,7 @@ use Rattle.std.specs.Option.{option_flatten, option_map_or}
 use Rattle.cni_verbs.specs.declared.answer.Answer.{Answer}
 use Rattle.pod_file.specs.declared.command.Command.{Command}
 use Rattle.pod_workers.specs.Plans.{Placed, IsOf}
-use Rattle.pod_workers.specs.World.{cuts_round, last_entry}
+use Rattle.pod_workers.specs.World.{at_number, last_entry}
 use Rattle.pod_workers.specs.declared.index.Place.{Place}
 use Rattle.pod_workers.specs.declared.plan.Entry.{Entry}
 
@@ -57,5 +57,15 @@ may_step_by p answers round n = p.round == round && (is_open (slice_get answers 
 
 -- ---- where the plan stops a round, by the index
 
+-- the entry is of this round, by its command's place
+abbrev pub is_entry_in : List Place → ℕ → Entry → Bool
+is_entry_in places round e = option_map_or (λ (p : Place). p.round == round) (at_number places e.command) false
+
+-- the last entry is the one that `stop_at` names, and it is of this round
+abbrev pub is_cut_after : Option ℕ → List Entry → List Place → ℕ → Option Entry → Bool
+is_cut_after None h places round last = false
+is_cut_after (Some number) h places round None = false
+is_cut_after (Some number) h places round (Some e) = length h == number && is_entry_in places round e
+
 abbrev pub is_cut_by : Option ℕ → List Entry → List Place → ℕ → Bool
-is_cut_by stop_at h places round = cuts_round (λ (p : Place). p.round) places round h stop_at (last_entry h)
+is_cut_by stop_at h places round = is_cut_after stop_at h places round (last_entry h)

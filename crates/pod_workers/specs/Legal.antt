@@ -1,15 +1,12 @@
 -- The worlds that allowed steps can reach.
-use Rattle.std.specs.Prelude.{◌≡◌, ℕ, ◌<◌, [], length}
+use Rattle.std.specs.Prelude.{◌≡◌, ℕ, ◌<◌, length}
 use Rattle.cni_verbs.specs.declared.answer.Answer.TheVariants.{OutOfMemory}
-use Rattle.pod_workers.specs.Plans.{Placed, IsWellFormed, commands_of}
-use Rattle.pod_workers.specs.World.{World, AllNone, IsReady, IsRoundOver, stepped, answered, next_round}
+use Rattle.pod_workers.specs.Plans.{Placed, IsWellFormed}
+use Rattle.pod_workers.specs.World.{World, IsReady, IsRoundOver, answered, begun, next_round, stepped}
 
 pub record IsBegun (w : World) : Type 0 where
   pub plan : IsWellFormed w.plan
-  pub empty : w.history ≡ []
-  pub long : length w.answers ≡ length (commands_of w.plan)
-  pub unanswered : AllNone w.answers
-  pub round : w.round ≡ 0
+  pub is : w ≡ begun w.plan
 
 -- a book is begun; a ready command makes its step, or is refused memory for it; a round that is over gives way to the
 -- next

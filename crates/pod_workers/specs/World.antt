@@ -102,26 +102,17 @@ last_entry h = slice_get h (length h - 1)
 abbrev pub at_number : {X : Type 0} → List X → ℕ → Option X
 at_number xs number = if number == 0 then None else slice_get xs (number - 1)
 
--- something is there, and it is of this round
-abbrev pub is_there_in : {X : Type 0} → (X → ℕ) → ℕ → Option X → Bool
-is_there_in round_of round o = option_map_or (λ x. round_of x == round) o false
+-- the entry is of a command of this round
+abbrev pub is_of_round : Plan → ℕ → Entry → Bool
+is_of_round p round e = option_map_or (λ (c : Placed). c.round == round) (at_number (commands_of p) e.command) false
 
-abbrev pub is_in_round : ℕ → Option Placed → Bool
-is_in_round round c = is_there_in (λ (c : Placed). c.round) round c
-
--- the entry is of this round, by what stands at its command's number
-abbrev pub is_entry_in : {X : Type 0} → (X → ℕ) → List X → ℕ → Entry → Bool
-is_entry_in round_of items round e = is_there_in round_of round (at_number items e.command)
-
--- the last entry is the one that the plan's `stop_at` names, and it is of this round
-abbrev pub cuts_round : {X : Type 0} → (X → ℕ) → List X → ℕ → List Entry → Option ℕ → Option Entry → Bool
-cuts_round round_of items round h None last = false
-cuts_round round_of items round h (Some number) None = false
-cuts_round round_of items round h (Some number) (Some e) = length h == number && is_entry_in round_of items round e
-
+-- the last entry is the one that `stop_at` names, and it is of the current round
 abbrev pub is_cut_at : Option ℕ → World → Option Entry → Bool
-is_cut_at stop w last = cuts_round (λ (c : Placed). c.round) (commands_of w.plan) w.round w.history stop last
+is_cut_at None w last = false
+is_cut_at (Some number) w None = false
+is_cut_at (Some number) w (Some e) = length w.history == number && is_of_round w.plan w.round e
 
+-- so the plan stops the round here
 abbrev pub is_cut : World → Bool
 is_cut w = is_cut_at w.plan.stop_at w (last_entry w.history)
 
@@ -181,9 +172,6 @@ next_round w = record { plan = w.plan; history = w.history; answers = w.answers;
 
 abbrev pub IsAnswered : World → ℕ → Type 0
 IsAnswered w n = (a : Answer) × (slice_get w.answers n ≡ Some (Some a))
-
-abbrev pub AllNone : {T : Type 0} → List (Option T) → Type 0
-AllNone {T} xs = (n : ℕ) (o : Option T) → slice_get xs n ≡ Some o → o ≡ None
 
 -- a command of this round and container that has no answer (CNI specification, section 3, "Lifecycle & Ordering")
 abbrev pub Blocks : Placed → Option Answer → ℕ → List ℕ → Type 0

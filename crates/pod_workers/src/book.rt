@@ -2,14 +2,13 @@
 
 ghost use Rattle.std.specs.Prelude.{◌≡◌, ◌+◌, ◌<◌, ◌^◌, ℕ, Some, slice_get, length, nat_le, All, IfOk, IsTrue, OnErr, MatchBool};
 ghost use Rattle.std.specs.Option.{option_copied};
-ghost use Rattle.pod_workers.specs.Extends.{Appends, Extends, Rounds, is_of_round};
-ghost use Rattle.pod_workers.specs.Index.{is_cut_by};
+ghost use Rattle.pod_workers.specs.Extends.{Appends, Extends, Rounds};
+ghost use Rattle.pod_workers.specs.Index.{is_cut_by, is_entry_in};
 ghost use Rattle.pod_workers.specs.Legal.{Legal};
 ghost use Rattle.pod_workers.specs.Order.{AppendsInFileOrder, EarlierAreAnswered, IsEntryBy, IsInFileOrder};
 ghost use Rattle.pod_workers.specs.Plans.{IsWellFormed};
 ghost use Rattle.pod_workers.specs.Slots.{AreNumbersOf};
-ghost use Rattle.pod_workers.specs.World.{IsReadyNumber, IsRoundOver, RunsOut, StepsTo, answer_for, at_number, begun, host_of, is_entry_in, next_round};
-ghost use Rattle.pod_workers.specs.declared.index.Place.{Place};
+ghost use Rattle.pod_workers.specs.World.{IsReadyNumber, IsRoundOver, RunsOut, StepsTo, answer_for, at_number, begun, host_of, is_of_round, next_round};
 
 use crate::index::{Place, command_at, index_of, may_step, place_at, round_at};
 use crate::plan::{Entry, Plan, StepEnd};
@@ -108,10 +107,10 @@ impl<K: Kernel + Drop> Book<K> {
     }
 
     /// The answer of the command of this number, from 1, where it has one.
-    pub fn answer(&self, command: u32) -> Option<&Answer>
-        ensures { option_copied result ≡ answer_for self.now command }
+    pub fn answer(&self, number: u32) -> Option<&Answer>
+        ensures { option_copied result ≡ answer_for self.now number }
     {
-        match at_number(self.answers.as_slice(), command) {
+        match at_number(self.answers.as_slice(), number) {
             None => None,
             Some(answer) => answer.as_ref(),
         }
@@ -154,13 +153,13 @@ impl<K: Kernel + Drop> Book<K> {
 
     /// Whether the command of this number, from 1, may step: it is of the current round and has no answer, and the
     /// command before it of its container in the round has one. A number that is no command's may not.
-    pub fn ready(&self, command: u32) -> bool
-        ensures { MatchBool result (IsReadyNumber self.now command) (IsReadyNumber self.now command → ⊥) }
+    pub fn ready(&self, number: u32) -> bool
+        ensures { MatchBool result (IsReadyNumber self.now number) (IsReadyNumber self.now number → ⊥) }
     {
-        match at_number(self.places.as_slice(), command) {
+        match at_number(self.places.as_slice(), number) {
             None => false,
             Some(place) => {
-                let n = (command - 1) as usize;
+                let n = (number - 1) as usize;
                 may_step(*place, self.answers.as_slice(), self.round, n)
             }
         }
@@ -168,12 +167,12 @@ impl<K: Kernel + Drop> Book<K> {
 
     /// One step of the command of this number: a call, or its answer. Where memory is refused, host and history stay as
     /// they were, and the command is answered so.
-    pub fn step(&mut self, command: u32) -> Result<StepEnd, NoMemory>
-        requires { IsReadyNumber self.old command }
-        ensures ok { IfOk result (StepsTo self.old self.new command) }
-        ensures err { OnErr result (RunsOut self.old self.new command) }
+    pub fn step(&mut self, number: u32) -> Result<StepEnd, NoMemory>
+        requires { IsReadyNumber self.old number }
+        ensures ok { IfOk result (StepsTo self.old self.new number) }
+        ensures err { OnErr result (RunsOut self.old self.new number) }
     {
-        let n = (command - 1) as usize;
+        let n = (number - 1) as usize;
         let place = place_at(self.places.as_slice(), n);
         let cut = is_cut(
             self.plan.stop_at,
@@ -226,17 +225,17 @@ impl<K: Kernel + Drop> Book<K> {
         self.next_round();
     }
 
-    /// Steps a command until it may step no more.
-    fn finish(&mut self, command: u32)
+    /// Steps the command of this number until it may step no more.
+    fn finish(&mut self, number: u32)
         ensures extends { Extends self.old self.new }
-        ensures over { IsReadyNumber self.new command → ⊥ }
-        ensures own { Appends self.old.history self.new.history (All (IsEntryBy command)) }
-        ensures order { ((n : ℕ) → command ≡ n + 1 → EarlierAreAnswered self.old n)
+        ensures over { IsReadyNumber self.new number → ⊥ }
+        ensures own { Appends self.old.history self.new.history (All (IsEntryBy number)) }
+        ensures order { ((n : ℕ) → number ≡ n + 1 → EarlierAreAnswered self.old n)
             → IsInFileOrder self.old → IsInFileOrder self.new }
     {
-        while self.ready(command) {
+        while self.ready(number) {
             self.is_legal();
-            let _ = self.step(command);
+            let _ = self.step(number);
         }
     }
 
@@ -294,7 +293,7 @@ fn is_cut(stop_at: Option<u32>, history: &[Entry], places: &[Place], round: u32)
 
 /// Whether the entry is of this round.
 fn is_entry_in(places: &[Place], round: u32, entry: &Entry) -> bool
-    ensures { result ≡ is_entry_in (λ (p : Place). p.round) places.now round entry.now }
+    ensures { result ≡ is_entry_in places.now round entry.now }
 {
     match at_number(places, entry.command) {
         None => false,

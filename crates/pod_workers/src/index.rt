@@ -14,14 +14,14 @@ use std::collections::HashMap;
 
 /// A command's round and its place in it, and the place of the command before it of its container in the round.
 #[derive(Clone, Copy)]
-pub struct Place {
+pub(crate) struct Place {
     pub round: u32,
     pub within: u32,
     pub previous: Option<u32>,
 }
 
 /// The places of all commands, in file order.
-pub fn index_of(alloc: Global, rounds: &[Items<Command>]) -> Result<Vec<Place>, NoMemory>
+pub(crate) fn index_of(alloc: Global, rounds: &[Items<Command>]) -> Result<Vec<Place>, NoMemory>
     requires few_rounds { length rounds.now ≤ file_limit }
     requires few_commands { length (placed_from 0 rounds.now) ≤ file_limit }
     ensures { IfOk result (λ places. IsIndex rounds.now (placed_from 0 rounds.now) places.items) }
@@ -33,7 +33,7 @@ pub fn index_of(alloc: Global, rounds: &[Items<Command>]) -> Result<Vec<Place>, 
     Ok(places)
 }
 
-/// Puts the places of one round's commands at the end.
+/// Appends the places of one round's commands.
 fn index_round(
     alloc: Global,
     round: u32,
@@ -76,7 +76,7 @@ pub(crate) fn round_at(rounds: &[Items<Command>], round: u32) -> &[Command]
 }
 
 /// The command of this place.
-pub fn command_at(rounds: &[Items<Command>], place: Place) -> &Command
+pub(crate) fn command_at(rounds: &[Items<Command>], place: Place) -> &Command
     requires { IsSome (command_at_place rounds.now place) }
     ensures { command_at_place rounds.now place ≡ Some result.now }
 {
@@ -96,7 +96,7 @@ fn lets_through(answers: &[Option<Answer>], previous: Option<u32>) -> bool
 }
 
 /// Whether the command of this place may step.
-pub fn may_step(place: Place, answers: &[Option<Answer>], round: u32, n: usize) -> bool
+pub(crate) fn may_step(place: Place, answers: &[Option<Answer>], round: u32, n: usize) -> bool
     requires { n < length answers.now }
     ensures { result ≡ may_step_by place answers.now round n }
 {

@@ -1,6 +1,6 @@
 //! Laws over every legal history, each carried by a function that does nothing.
 
-ghost use Rattle.pod_workers.specs.Facts.{EachAnswerIsGiven, EachCommandIsOpenAfterItsEntry, EachEntryIsMade, EachFront, EachStopIsCounted, EachWorldOfTheClausesIsLegal, EveryAnswerIsDue, EveryEntryFollows, LegalWorldsMeetEachClause};
+ghost use Rattle.pod_workers.specs.Facts.{EachAnswerIsGiven, EachCommandIsOpenAfterItsEntry, EachEntryIsMade, EachPrefix, EachStopIsCounted, EachWorldOfTheClausesIsLegal, EveryAnswerIsDue, EveryEntryFollows, LegalWorldsMeetEachClause};
 ghost use Rattle.pod_workers.specs.Laws.{EachNetworkCommandHasItsList, EveryCallMayBeMade, EveryHostIsSound, NoAddressIsLeasedTwice};
 ghost use Rattle.pod_workers.specs.Order.{FileOrderIsKept, OneOutcome};
 ghost use Rattle.pod_workers.specs.PlanCalls.{AddCallsArePlanned};
@@ -57,27 +57,27 @@ pub fn each_stop_is_counted()
     ensures { EachStopIsCounted }
 {}
 
-/// Each front of a history is the history of a legal world whose answers stand later, so what is true of every legal
+/// Each prefix of a history is the history of a legal world whose answers stand later, so what is true of every legal
 /// world was true at every moment.
-#[tactic(auto, using(crate::proofs::Fronts::each_front))]
-pub fn each_front_is_legal()
-    ensures { EachFront }
+#[tactic(auto, using(crate::proofs::Prefixes::each_prefix))]
+pub fn each_prefix_is_legal()
+    ensures { EachPrefix }
 {}
 
-/// Each entry was made by a command that was ready in the front before it.
-#[tactic(auto, using(crate::proofs::Fronts::each_made))]
+/// Each entry was made by a command that was ready in the prefix before it.
+#[tactic(auto, using(crate::proofs::Prefixes::each_made))]
 pub fn each_entry_is_made()
     ensures { EachEntryIsMade }
 {}
 
 /// Right after each of its entries a command has no answer.
-#[tactic(auto, using(crate::proofs::Fronts::each_open_after))]
+#[tactic(auto, using(crate::proofs::Prefixes::each_open_after))]
 pub fn each_command_is_open_after_its_entry()
     ensures { EachCommandIsOpenAfterItsEntry }
 {}
 
-/// Each answer was given in a front that has all entries of its command.
-#[tactic(auto, using(crate::proofs::Fronts::each_answered))]
+/// Each answer was given in a prefix that has all entries of its command.
+#[tactic(auto, using(crate::proofs::Prefixes::each_answered))]
 pub fn each_answer_is_given()
     ensures { EachAnswerIsGiven }
 {}

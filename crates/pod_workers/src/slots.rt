@@ -6,7 +6,7 @@ use cni_addr::NoMemory;
 use std::alloc::Global;
 
 /// As many places as are asked for, with nothing in them.
-pub fn blanks<T: Drop>(alloc: Global, count: usize) -> Result<Vec<Option<T>>, NoMemory>
+pub(crate) fn blanks<T: Drop>(alloc: Global, count: usize) -> Result<Vec<Option<T>>, NoMemory>
     ensures { IfOk result (λ blanks. blanks.items ≡ replicate count None) }
 {
     let mut blanks = Vec::with_capacity(alloc, count)?;
@@ -17,7 +17,7 @@ pub fn blanks<T: Drop>(alloc: Global, count: usize) -> Result<Vec<Option<T>>, No
 }
 
 /// Takes out what lies at a place.
-pub fn take_at<T: Drop>(items: &mut Vec<Option<T>>, n: usize) -> Option<T>
+pub(crate) fn take_at<T: Drop>(items: &mut Vec<Option<T>>, n: usize) -> Option<T>
     requires { n < length items.old.items }
     ensures taken { slice_get items.old.items n ≡ Some result }
     ensures left { items.new.items ≡ slice_set items.old.items n None }

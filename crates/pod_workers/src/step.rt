@@ -22,16 +22,16 @@ use std::alloc::Global;
 
 /// What a step came to: a call was made and the task goes on, or the command is answered.
 #[derive(Drop)]
-pub enum Stepped {
+pub(crate) enum Stepped {
     Called(Task),
     Answered(Answer),
 }
 
 /// One step of one command, by its task where it is begun. Its memory is taken before host and history change.
-pub fn step_command<K: Kernel>(
+pub(crate) fn step_command<K: Kernel>(
     kernel: &mut K,
     history: &mut Vec<Entry>,
-    lists: &[NetList],
+    lists: &[RefCounted<NetList>],
     command: &Command,
     cut: bool,
     task: Option<Task>,
@@ -51,7 +51,7 @@ pub fn step_command<K: Kernel>(
 #[tactic(auto, unfolding(crate::specs::Slots::begun_by))]
 fn begin_task(
     alloc: Global,
-    lists: &[NetList],
+    lists: &[RefCounted<NetList>],
     command: &Command,
     task: Option<Task>,
 ) -> Result<Task, NoMemory>

@@ -19,7 +19,7 @@ use pod_file::{Command, Verb};
 use std::alloc::Global;
 use std::marker::Model;
 
-/// A collection goes over the owners of a whole network, every other verb over one attachment.
+/// A garbage collection has a run of its own: it keeps owners, and no leases. Each other command is a `Run`.
 #[derive(Drop)]
 enum Carried {
     Verb(Run),
@@ -35,7 +35,7 @@ struct Begun {
 
 /// The run of a command, of whichever verb: how far its script has come, and whether it is prepared for what is next.
 #[derive(Drop)]
-pub struct Task {
+pub(crate) struct Task {
     // Boxed, since a book has a place for the task of each command and a step hands it from one function to the next.
     begun: Box<Begun>,
 }
@@ -52,11 +52,15 @@ impl Model for Task {
 }
 
 impl Task {
-    // What is done once a run is kept out of the step, which would clear a stack for it each time.
+    // `start` and `answer` are called once a run. Inlined, they would have each step clear their stack.
 
     /// The run of a command before its first call. A collection has a list.
     #[inline(never)]
-    pub fn start(alloc: Global, list: Option<&NetList>, command: &Command) -> Result<Task, NoMemory>
+    pub fn start(
+        alloc: Global,
+        list: Option<&RefCounted<NetList>>,
+        command: &Command,
+    ) -> Result<Task, NoMemory>
         requires { is_gc command.now.verb ≡ true → is_some list ≡ true }
         ensures { IfOk result (λ task. task.progress ≡ progress (option_copied list.entry) command.now []) }
     {
@@ -83,7 +87,7 @@ impl Task {
 
     fn of_collection(
         alloc: Global,
-        list: &NetList,
+        list: &RefCounted<NetList>,
         command: &Command,
         faults: Faults,
     ) -> Result<Task, NoMemory>
@@ -99,6 +103,7 @@ impl Task {
     pub fn prepare(&mut self) -> Result<(), NoMemory>
         ensures same { self.new.progress ≡ self.old.progress }
         ensures ready { OnOk result (self.new.prepared ≡ true) }
+        ensures left { OnErr result (self.new.prepared ≡ self.old.prepared) }
     {
         match &mut self.begun.run {
             Carried::Verb(run) => run.prepare(),

@@ -8,9 +8,9 @@ use Rattle.pod_workers.proofs.book.Book.finish.Given as goal
 abbrev pub invariant-loop-self : goal.invariant-loop-self
 invariant-loop-self g l = record {
   extends : Extends l.fn.self l.self;
-  own : AppendsOwn l.fn.self l.self l.command;
-  order : ((n : ℕ) → l.command ≡ n + 1 → EarlierAreAnswered l.fn.self n) → IsInFileOrder l.fn.self → IsInFileOrder l.self;
+  own : AppendsOwn l.fn.self l.self l.number;
+  order : ((n : ℕ) → l.number ≡ n + 1 → EarlierAreAnswered l.fn.self n) → IsInFileOrder l.fn.self → IsInFileOrder l.self;
 }
 
 abbrev pub decreases-loop-self : goal.decreases-loop-self
-decreases-loop-self g l = steps_left l.self l.command
+decreases-loop-self g l = steps_left l.self l.number

@@ -14,7 +14,7 @@ world g c = record { plan = c.self.inside.plan; history = c.self.inside.history.
 
 -- what the step has read: the command that is ready, with its run, and whether the round is stopped
 seen : (g : Over) (c : After-command_at-wanted g)
-    → IsFound (g.K.Kernel.host c.self.inside.kernel) c.self.inside.slots.items c.self.inside.places.items c.self.inside.before (world g c) c.args.command (c.args.command - 1) c.take_at-task.result c.command_at-wanted.result.now
+    → IsFound (g.K.Kernel.host c.self.inside.kernel) c.self.inside.slots.items c.self.inside.places.items c.self.inside.before (world g c) c.args.number (c.args.number - 1) c.take_at-task.result c.command_at-wanted.result.now
     × (c.is_cut-cut.result ≡ is_cut_by c.self.inside.plan.stop_at c.self.inside.history.items c.self.inside.places.items c.self.inside.round)
 seen g c = (
   found c.self.invariant c.self.view_is c.requires c.as_slice.ensures.value c.place_at-place.ensures c.as_slice-4.ensures c.command_at-wanted.ensures c.take_at-task.ensures.taken,
@@ -29,7 +29,7 @@ take_at-task-requires g c = (number-within _ _ _ _ _ _ _ c.self.invariant c.self
 
 pub command_at-wanted-requires : goal.command_at-wanted-requires
 command_at-wanted-requires g c = rw c.as_slice-4.ensures (number-command _ _ _ _ _ _ _ _ c.self.invariant c.self.view_is c.requires
-    (ap (λ ps. slice_get ps (c.args.command - 1)) (sym c.as_slice.ensures.value) ∙ c.place_at-place.ensures))
+    (ap (λ ps. slice_get ps (c.args.number - 1)) (sym c.as_slice.ensures.value) ∙ c.place_at-place.ensures))
 
 pub put_at-requires : goal.put_at-requires
 put_at-requires g c = (number-within _ _ _ _ _ _ _ c.self.invariant c.self.view_is c.requires).3

@@ -1,4 +1,4 @@
--- The moments of a legal history: each front is the history of a legal world.
+-- The moments of a legal history: each prefix is the history of a legal world.
 use Rattle.std.proofs.Common.{◌≡◌, ◌≢◌, ℕ, ◌+◌, ◌≤◌, Bool, List, [], ◌∷◌, ◌++◌, Some, None, slice_get, slice_set, refl, sym, ◌∙◌, ap, subst, inl, inr, ◌⊎◌, arith}
 use Rattle.std.proofs.lemmas.List.{append-nil, append_assoc}
 use Rattle.std.proofs.lemmas.Option.{same_Some, none-some, slice_get_within}
@@ -7,13 +7,14 @@ use Rattle.cni_verbs.specs.declared.answer.Answer.{Answer}
 use Rattle.cni_verbs.specs.declared.answer.Answer.TheVariants.{OutOfMemory}
 use Rattle.kernel_types.specs.declared.call.Call.{Call}
 use Rattle.pod_workers.specs.Extends.{KeepsAnswers}
-use Rattle.pod_workers.specs.Facts.{HasFront, IsMadeAt, IsOpenAfter, IsAnsweredAt}
+use Rattle.pod_workers.specs.Facts.{HasPrefix, IsMadeAt, IsOpenAfter, IsAnsweredAt}
 use Rattle.pod_workers.specs.Legal.{Legal, starts, steps, refused_memory, turns}
 use Rattle.pod_workers.specs.Plans.{Placed, commands_of}
 use Rattle.pod_workers.specs.World.{World, IsReady, own_replies, host_of, done, answered, with_entry, entry_of, next_of, next_round}
 use Rattle.pod_workers.specs.declared.plan.Entry.{Entry}
 use Rattle.pod_workers.specs.declared.plan.Next.{Next}
 use Rattle.pod_workers.specs.declared.plan.Next.TheVariants as next
+use Rattle.pod_workers.proofs.Order.{none_answered}
 use Rattle.pod_workers.proofs.Histories.{slice_get-set_same, slice_get-set_other, replies_of-other}
 use Rattle.pod_workers.proofs.Splits.{split_nil, split_snoc}
 use Rattle.pod_workers.proofs.Sound.{goes_in}
@@ -41,9 +42,9 @@ on_done v n (next.Call call faulty) is = record { plan_is = refl; answers_stand 
 on_next_round : (v : World) → GoesOn v (next_round v)
 on_next_round v = record { plan_is = refl; answers_stand = λ m a at. at; round = omega arith }
 
-abbrev later_front : (v w : World) (before : List Entry) → GoesOn v w → HasFront v before → HasFront w before
-later_front v w before on f = record {
-  front = f.front;
+abbrev later_prefix : (v w : World) (before : List Entry) → GoesOn v w → HasPrefix v before → HasPrefix w before
+later_prefix v w before on f = record {
+  world = f.world;
   legal = f.legal;
   plan_is = f.plan_is ∙ sym on.plan_is;
   history_is = f.history_is;
@@ -51,15 +52,15 @@ later_front v w before on f = record {
   round = let one = f.round in let two = on.round in omega arith;
 }
 
--- a legal world is its own front
-abbrev own_front : (w : World) → Legal w → HasFront w w.history
-own_front w legal = record { front = w; legal = legal; plan_is = refl; history_is = refl; answers_stand = λ n a at. at; round = omega arith }
+-- a legal world, with its whole history
+abbrev own_prefix : (w : World) → Legal w → HasPrefix w w.history
+own_prefix w legal = record { world = w; legal = legal; plan_is = refl; history_is = refl; answers_stand = λ n a at. at; round = omega arith }
 
--- ---- the front in which an entry was made
+-- ---- the prefix in which an entry was made
 
 later_made : (v w : World) (before : List Entry) (e : Entry) → GoesOn v w → IsMadeAt v before e → IsMadeAt w before e
 later_made v w before e on m = record {
-  at = later_front v w before on m.at;
+  at = later_prefix v w before on m.at;
   place = m.place;
   by = m.by;
   number = m.number;
@@ -71,7 +72,7 @@ later_made v w before e on m = record {
 made_now : (v : World) (n : ℕ) (c : Placed) (call : Call) (faulty : Bool) → Legal v → IsReady v n c → next_of v c.command (own_replies v n) ≡ next.Call call faulty
     → IsMadeAt (with_entry v (entry_of (host_of v) n call faulty)) v.history (entry_of (host_of v) n call faulty)
 made_now v n c call faulty legal ready is = record {
-  at = later_front v (with_entry v (entry_of (host_of v) n call faulty)) v.history (on_done v n (next.Call call faulty) ready.unanswered) (own_front v legal);
+  at = later_prefix v (with_entry v (entry_of (host_of v) n call faulty)) v.history (on_done v n (next.Call call faulty) ready.unanswered) (own_prefix v legal);
   place = n;
   by = c;
   number = refl;
@@ -91,7 +92,7 @@ made_done v n c (next.Call call faulty) before rest e legal ready is earlier at 
     ]
 
 pub each_made : (w : World) → Legal w → (before rest : List Entry) (e : Entry) → w.history ≡ before ++ e ∷ rest → IsMadeAt w before e
-each_made _ (starts w begun) before rest e at = absurd (split_nil before rest e (sym begun.empty ∙ at))
+each_made _ (starts w begun) before rest e at = absurd (split_nil before rest e (sym (ap (λ (v : World). v.history) begun.is) ∙ at))
 each_made _ (steps v w n c legal ready is) before rest e at =
     subst (λ u. IsMadeAt u before e) (sym is)
     (made_done v n c (next_of v c.command (own_replies v n)) before rest e legal ready refl (λ more at_v. each_made v legal before more e at_v) (ap (λ (u : World). u.history) (sym is) ∙ at))
@@ -102,9 +103,9 @@ each_made _ (turns v w legal less over is) before rest e at =
     subst (λ u. IsMadeAt u before e) (sym is)
     (later_made v (next_round v) before e (on_next_round v) (each_made v legal before rest e (ap (λ (u : World). u.history) (sym is) ∙ at)))
 
-pub each_front : (w : World) → Legal w → (before rest : List Entry) → w.history ≡ before ++ rest → HasFront w before
-each_front w legal before [] at = subst (HasFront w) (at ∙ append-nil before) (own_front w legal)
-each_front w legal before (e ∷ rest) at = (each_made w legal before rest e at).at
+pub each_prefix : (w : World) → Legal w → (before rest : List Entry) → w.history ≡ before ++ rest → HasPrefix w before
+each_prefix w legal before [] at = subst (HasPrefix w) (at ∙ append-nil before) (own_prefix w legal)
+each_prefix w legal before (e ∷ rest) at = (each_made w legal before rest e at).at
 
 -- ---- right after an entry
 
@@ -113,8 +114,8 @@ each_open_after w legal before rest e at =
     let m = each_made w legal before rest e at in
     record {
       at = record {
-        front = with_entry m.at.front e;
-        legal = steps m.at.front (with_entry m.at.front e) m.place m.by m.at.legal m.ready m.makes;
+        world = with_entry m.at.world e;
+        legal = steps m.at.world (with_entry m.at.world e) m.place m.by m.at.legal m.ready m.makes;
         plan_is = m.at.plan_is;
         history_is = ap (λ h. h ++ e ∷ []) m.at.history_is;
         answers_stand = m.at.answers_stand;
@@ -126,14 +127,14 @@ each_open_after w legal before rest e at =
       unanswered = m.ready.unanswered;
     }
 
--- ---- the front in which an answer was given
+-- ---- the prefix in which an answer was given
 
 later_answered : (v w : World) (n : ℕ) (a : Answer) (more : List Entry) → GoesOn v w → w.history ≡ v.history ++ more → own_replies w n ≡ own_replies v n → IsAnsweredAt v n a → IsAnsweredAt w n a
 later_answered v w n a more on grown same g = record {
   before = g.before;
   rest = g.rest ++ more;
   split = grown ∙ ap (λ h. h ++ more) g.split ∙ append_assoc g.before g.rest more;
-  at = later_front v w g.before on g.at;
+  at = later_prefix v w g.before on g.at;
   by = g.by;
   ready = g.ready;
   replies_are = same ∙ g.replies_are;
@@ -151,7 +152,7 @@ answered_now v n c b m a legal ready due earlier at = elim (eqb_tells m n) [
         before = v.history;
         rest = [];
         split = sym (append-nil v.history);
-        at = later_front v (answered v n b) v.history (on_answered v n b ready.unanswered) (own_front v legal);
+        at = later_prefix v (answered v n b) v.history (on_answered v n b ready.unanswered) (own_prefix v legal);
         by = c;
         ready = ready;
         replies_are = refl;
@@ -172,7 +173,7 @@ answered_done v n c (next.Call call faulty) m a legal ready is earlier at =
     later_answered v (with_entry v e) m a (e ∷ []) (on_done v n (next.Call call faulty) ready.unanswered) refl (replies_of-other m v.history e other) (earlier at)
 
 pub each_answered : (w : World) → Legal w → (n : ℕ) (a : Answer) → slice_get w.answers n ≡ Some (Some a) → IsAnsweredAt w n a
-each_answered _ (starts w begun) n a at = absurd (none-some a (sym (begun.unanswered n (Some a) at)))
+each_answered _ (starts w begun) n a at = absurd (none_answered w n a begun at)
 each_answered _ (steps v w k c legal ready is) n a at =
     subst (λ u. IsAnsweredAt u n a) (sym is)
     (answered_done v k c (next_of v c.command (own_replies v k)) n a legal ready refl (each_answered v legal n a) (ap (λ (u : World). slice_get u.answers n) (sym is) ∙ at))
