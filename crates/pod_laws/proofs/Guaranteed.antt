@@ -13,19 +13,20 @@ use Rattle.pod_workers.specs.Plans.{Placed, commands_of, list_for}
 use Rattle.pod_workers.specs.World.{World}
 use Rattle.pod_workers.specs.declared.plan.Entry.{Entry}
 use Rattle.pod_workers.specs.declared.plan.Plan.{Plan}
-use Rattle.pod_workers.proofs.Fronts.{each_front}
+use Rattle.pod_workers.proofs.Prefixes.{each_prefix}
 use Rattle.pod_workers.proofs.Listed.{listed_network}
 use Rattle.pod_workers.proofs.Sound.{no_address_twice, sound_host}
 use Rattle.pod_laws.specs.Answers.{is_cut_off}
-use Rattle.pod_laws.specs.Guaranteed.{AreAnswers, EveryLegalHistoryIsGuaranteed, IsAnswerOfAdd, IsAnswerOfCheck, IsAnswerOfDel, IsAnswerOfGc, IsWellKept}
-use Rattle.pod_laws.proofs.Asked.{nothing_is_unasked}
-use Rattle.pod_laws.proofs.CheckRuns.{was_checked}
-use Rattle.pod_laws.proofs.CheckStarts.{checks_hold_from_their_start}
-use Rattle.pod_laws.proofs.Collected.{collections_are_answered, collections_are_bounded}
+use Rattle.pod_laws.specs.Collected.{IsAnswerOfGc}
+use Rattle.pod_laws.specs.Guaranteed.{AreAnswers, EveryLegalHistoryIsGuaranteed, IsAnswerOfAdd, IsAnswerOfCheck, IsAnswerOfDel, IsWellKept}
+use Rattle.pod_laws.proofs.AskedFor.Moments.{nothing_is_unasked}
+use Rattle.pod_laws.proofs.Checked.Runs.{was_checked}
+use Rattle.pod_laws.proofs.Checked.Starts.{checks_hold_from_their_start}
+use Rattle.pod_laws.proofs.Collected.Answered.{collections_are_answered, collections_are_bounded}
 use Rattle.pod_laws.proofs.LastAddresses.{each_last_is_candidate}
-use Rattle.pod_laws.proofs.OfAnswers.{answers_of_add, answers_of_del, was_added, was_deleted, was_not_deleted, was_refused}
-use Rattle.pod_laws.proofs.RepeatedEntries.{repeated_deletions_leave}
-use Rattle.pod_laws.proofs.TunedLinks.{links_are_made_or_wanted}
+use Rattle.pod_laws.proofs.Given.OfRuns.{answers_of_add, answers_of_del, was_added, was_deleted, was_not_deleted, was_refused}
+use Rattle.pod_laws.proofs.Deleted.Repeated.{repeated_deletions_leave}
+use Rattle.pod_laws.proofs.AskedFor.MadeLinks.{links_are_made_or_wanted}
 
 -- ---- moments
 
@@ -40,8 +41,8 @@ well_kept w legal = record {
 
 always_well_kept : (w : World) → Legal w → (before rest : List Entry) → w.history ≡ before ++ rest → IsWellKept w.plan before
 always_well_kept w legal before rest at =
-    let f = each_front w legal before rest at in
-    subst (λ (p : Plan). IsWellKept p before) f.plan_is (subst (IsWellKept f.front.plan) f.history_is (well_kept f.front f.legal))
+    let f = each_prefix w legal before rest at in
+    subst (λ (p : Plan). IsWellKept p before) f.plan_is (subst (IsWellKept f.world.plan) f.history_is (well_kept f.world f.legal))
 
 -- ---- answers
 

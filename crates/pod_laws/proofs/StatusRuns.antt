@@ -32,13 +32,13 @@ use Rattle.pod_laws.specs.Available.{EndsStatus, IsUnavailable, LacksService, Wa
 use Rattle.pod_laws.specs.Granted.{grants, only_asks}
 use Rattle.pod_laws.specs.Moments.{has_fault, host_at_end, own_entries}
 use Rattle.pod_laws.specs.Answers.{EndsByFault, EndsByTest}
-use Rattle.pod_laws.proofs.Asking.{EndsAsked, HasAsked, IsAsking, asked-all, asked-none, asked-reply, by-asked, calm-more, fault-last, tells}
+use Rattle.pod_laws.proofs.Questions.Asking.{EndsAsked, HasAsked, IsAsking, asked-all, asked-none, asked-reply, by-asked, no_fault-more, fault-last, tells}
 use Rattle.pod_workers.proofs.Each.{each-append, each-at}
-use Rattle.pod_laws.proofs.CutOff.{over-by, answered-by}
-use Rattle.pod_laws.proofs.RunFacts.{HostFact, IsHostFact, StartsOn, each-run}
-use Rattle.pod_laws.proofs.QuestionRuns.{question-entered}
-use Rattle.pod_laws.proofs.Runs.{own-state}
-use Rattle.pod_laws.proofs.SteadyHosts.{KeepsAsked, asked-kept}
+use Rattle.pod_laws.proofs.Given.CutOff.{over-by, answered-by}
+use Rattle.pod_laws.proofs.Histories.RunFacts.{HostFact, IsHostFact, StartsOn, each-run}
+use Rattle.pod_laws.proofs.Questions.Entries.{question-entered}
+use Rattle.pod_laws.proofs.Histories.Runs.{own-state}
+use Rattle.pod_laws.proofs.Questions.SteadyHosts.{KeepsAsked, asked-kept}
 
 -- ---- its questions
 
@@ -79,7 +79,7 @@ granted-status list c host =
 -- its version has the verb, and no entry is a fault
 pub record HasStatus (list : NetList) (c : Command) (es : List Entry) (host : Host) (left : List Question) : Type 0 where
   pub version : is_before_1_1 list.version ≡ false
-  pub calm : has_fault es ≡ false
+  pub no_fault : has_fault es ≡ false
   pub asked : HasAsked host (status_questions list c) left
 
 abbrev StatusAt : NetList → Command → List Entry → State → Host → Type 0
@@ -95,17 +95,17 @@ since_1_1 : (list : NetList) (c : Command) (es : List Entry) (host : Host) (endi
 since_1_1 list c es host ending version ends = subst (λ b. MatchBool b ((es ≡ []) × (ending ≡ Refused (causes.TooOld list.version))) (AnswersStatus list c es host ending)) (sym version) ends
 
 status-ends : (list : NetList) (c : Command) (es : List Entry) (host : Host) (ending : Ending) → is_before_1_1 list.version ≡ false → has_fault es ≡ false → EndsAsked host (status_questions list c) ending → EndsStatus list c es host ending
-status-ends list c es host ending version calm ends =
+status-ends list c es host ending version no_fault ends =
     let tested : EndsByTest (is_available list c host) ending (LacksService list c host ending) =
     by-asked host (status_questions list c) IsUnavailable (is_available list c host) ending (granted-status list c host)
     (λ q d. let of_service : IsServiceQuestion q = each-at IsServiceQuestion d.past q d.later (subst (AllByRecursion IsServiceQuestion) d.are (service-questions list c)) in of_service.1) ends in
     since_1_1 list c es host ending version
-    (subst (λ b. EndsByFault es b ending (EndsByTest (is_available list c host) ending (LacksService list c host ending))) (sym calm) tested)
+    (subst (λ b. EndsByFault es b ending (EndsByTest (is_available list c host) ending (LacksService list c host ending))) (sym no_fault) tested)
 
 status-asked : (list : NetList) (c : Command) (es : List Entry) (host : Host) (st : State) → is_before_1_1 list.version ≡ false → has_fault es ≡ false → IsAsking host (status_questions list c) st → StatusAt list c es st host
-status-asked list c es host (Asking q qs) version calm a = record { version = version; calm = calm; asked = a }
-status-asked list c es host (Over ending given) version calm a = (a.0, status-ends list c es host ending version calm a.1)
-status-asked list c es host _ version calm a = absurd a
+status-asked list c es host (Asking q qs) version no_fault a = record { version = version; no_fault = no_fault; asked = a }
+status-asked list c es host (Over ending given) version no_fault a = (a.0, status-ends list c es host ending version no_fault a.1)
+status-asked list c es host _ version no_fault a = absurd a
 
 status-fault : (list : NetList) (c : Command) (es : List Entry) (host : Host) (number : ℕ) → is_before_1_1 list.version ≡ false → has_fault es ≡ true → number ≡ length es → EndsStatus list c es host (Refused (causes.Fault number))
 status-fault list c es host number version fault is =
@@ -143,9 +143,9 @@ status-reply list c es e q qs host true is a =
 status-reply list c es e q qs host false is a =
     let d = a.asked in
     let of_service : IsServiceQuestion q = each-at IsServiceQuestion d.past q qs (subst (AllByRecursion IsServiceQuestion) d.are (service-questions list c)) in
-    let calm : has_fault (es ++ e ∷ []) ≡ false = calm-more es e a.calm (ap is_fault is ∙ (IsReplyOf-apply host q.call).no_fault) in
+    let no_fault : has_fault (es ++ e ∷ []) ≡ false = no_fault-more es e a.no_fault (ap is_fault is ∙ (IsReplyOf-apply host q.call).no_fault) in
     subst (λ r. StatusAt list c (es ++ e ∷ []) (at_question (length es + 1) q qs r) host) (sym is)
-    (status-asked list c (es ++ e ∷ []) host (at_question (length es + 1) q qs (apply host q.call).1) a.version calm (asked-reply host (status_questions list c) (length es + 1) q qs of_service.0 d))
+    (status-asked list c (es ++ e ∷ []) host (at_question (length es + 1) q qs (apply host q.call).1) a.version no_fault (asked-reply host (status_questions list c) (length es + 1) q qs of_service.0 d))
 
 status-own : (list : NetList) (c : Command) (es : List Entry) (e : Entry) (st : State) (host : Host) (faulty : Bool) → e.reply ≡ reply_to host e.call faulty → turn c st ≡ Calls e.call → StatusAt list c es st host
     → StatusAt list c (es ++ e ∷ []) (advance list c (length es + 1) st e.reply) host

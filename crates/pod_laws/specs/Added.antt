@@ -9,13 +9,12 @@ use Rattle.cni_verbs.specs.Wanted.{result_of_add, sets_of, wanted}
 use Rattle.cni_verbs.specs.declared.answer.Answer.TheVariants as answers
 use Rattle.host_local.specs.Laws.{AreCandidates}
 use Rattle.net_conf.specs.declared.list.NetList.{NetList}
-use Rattle.plan_words.specs.Share.{share_of}
 use Rattle.pod_file.specs.declared.command.Command.{Command}
 use Rattle.pod_file.specs.declared.command.Verb.TheVariants as verbs
 use Rattle.pod_workers.specs.Legal.{Legal}
 use Rattle.pod_workers.specs.Plans.{Placed, commands_of, list_for}
 use Rattle.pod_workers.specs.World.{World, own_replies}
-use Rattle.pod_laws.specs.Moments.{host_at_end, own_entries}
+use Rattle.pod_laws.specs.Moments.{objects_at_end, own_entries}
 use Rattle.pod_laws.specs.Refused.{NothingRefuses}
 
 -- It was leased one address a range set, no two the same, and these decide its result. At its last entry its attachment
@@ -26,7 +25,7 @@ pub record HasMade (w : World) (n : ℕ) (c : Command) (list : NetList) (r : Add
   pub leased : AreCandidates (sets_of list) (leases_in (own_replies w n))
   pub apart : distinct addr_eq (leases_in (own_replies w n)) ≡ true
   pub result : r ≡ result_of_add list (att_of c) c.netns (leases_in (own_replies w n))
-  pub objects : share_of (att_of c) (host_at_end w n)
+  pub objects : objects_at_end w n c
       ≡ wanted list (att_of c) c.netns (mappings_of list c) (leases_in (own_replies w n))
 
 -- whatever was interleaved, stopped, faulted or refused memory

@@ -4,7 +4,6 @@ use Rattle.std.specs.Prelude.{◌≡◌, ℕ, ◌⊎◌, Bool, true, false, List
 use Rattle.std.specs.List.{list_all}
 use Rattle.cni_result.specs.declared.error.CniError.{CniError}
 use Rattle.cni_verbs.specs.Answers.{answer_of_ending, error_of}
-use Rattle.cni_verbs.specs.CommandWords.{att_of}
 use Rattle.cni_verbs.specs.declared.answer.Answer.{Answer}
 use Rattle.cni_verbs.specs.declared.answer.Answer.TheVariants as answers
 use Rattle.cni_verbs.specs.declared.answer.Cause.{Cause}
@@ -13,14 +12,14 @@ use Rattle.cni_verbs.specs.declared.answer.Ending.{Ending}
 use Rattle.cni_verbs.specs.declared.answer.Ending.TheVariants.{Yes, Refused}
 use Rattle.kernel_types.specs.declared.object.Host.{Host}
 use Rattle.net_conf.specs.declared.list.NetList.{NetList}
-use Rattle.plan_words.specs.Share.{Share, share_of}
+use Rattle.plan_words.specs.Share.{Share}
 use Rattle.pod_file.specs.declared.command.Command.{Command}
 use Rattle.pod_file.specs.declared.command.Verb.{Verb}
 use Rattle.pod_workers.specs.Legal.{Legal}
 use Rattle.pod_workers.specs.Plans.{Placed, commands_of, list_for}
 use Rattle.pod_workers.specs.World.{World}
 use Rattle.pod_workers.specs.declared.plan.Entry.{Entry}
-use Rattle.pod_laws.specs.Moments.{host_at_end, own_entries}
+use Rattle.pod_laws.specs.Moments.{host_at_end, objects_at_end, own_entries}
 
 -- the book gave the answer without the script: memory was refused, or the command was stopped
 abbrev pub is_cut_off : Answer → Bool
@@ -32,8 +31,8 @@ abbrev pub IsRefusedAnswer : Answer → Type 0
 IsRefusedAnswer a = (error : CniError) × (a ≡ answers.Refused error)
 
 -- by its fields, before any call
-pub record IsRefusedByWords (refusal : Option Cause) (entries : List Entry) (cause : Cause) : Type 0 where
-  pub words : refusal ≡ Some cause
+pub record IsRefusedByFields (refusal : Option Cause) (entries : List Entry) (cause : Cause) : Type 0 where
+  pub fields : refusal ≡ Some cause
   pub no_entry : entries ≡ []
 
 -- it is so, unless memory was refused or the command was stopped
@@ -65,11 +64,14 @@ EachIsOrRefused verb Is = EachAnswer verb (λ w n c a. OrCutOff Is a ⊎ IsRefus
 abbrev pub EachIsWhere : Verb → (Command → List Entry → Type 0) → (Answer → Type 0) → Type 0
 EachIsWhere verb AreGood Is = EachAnswer verb (λ w n c a. AreGood c (own_entries n w.history) → OrCutOff Is a)
 
+-- the error tells a cause, of which this holds
+abbrev pub TellsCause : NetList → Command → CniError → (Cause → Type 0) → Type 0
+TellsCause list c error IsFor = (cause : Cause) × (error ≡ error_of list.version c cause) × IsFor cause
+
 -- a refusal names a cause, which is so of its command, its entries and what its attachment has at the last of them
 abbrev pub EachRefusal : Verb → (Command → List Entry → Share → Cause → Type 0) → Type 0
 EachRefusal verb IsFor = EachListAnswer verb (λ w n c list a. (error : CniError) → a ≡ answers.Refused error
-    → (cause : Cause) × (error ≡ error_of list.version c cause)
-    × IsFor c (own_entries n w.history) (share_of (att_of c) (host_at_end w n)) cause)
+    → TellsCause list c error (IsFor c (own_entries n w.history) (objects_at_end w n c)))
 
 -- it is by an ending, unless it was cut off, which is so of its command's entries and of the host at the last of them
 abbrev pub EachEnding : Verb → (NetList → Command → List Entry → Host → Ending → Type 0) → Type 0

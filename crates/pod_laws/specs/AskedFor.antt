@@ -6,7 +6,7 @@ use Rattle.cni_addr.specs.declared.address.Addr.{Addr}
 use Rattle.cni_verbs.specs.AddCalls.{is_done}
 use Rattle.cni_verbs.specs.CommandWords.{att_of, mappings_of}
 use Rattle.cni_verbs.specs.Script.{leases_in}
-use Rattle.cni_verbs.specs.Wanted.{back_calls, sets_links, untuned, wanted}
+use Rattle.cni_verbs.specs.Wanted.{back_calls, sets_links, links_made, wanted}
 use Rattle.kernel_types.specs.Equal.{att_eq}
 use Rattle.cni_addr.specs.Lists.{IsAmong}
 use Rattle.kernel_types.specs.declared.object.Att.{Att}
@@ -52,7 +52,7 @@ last_begun att (e ∷ es) = option_or (last_begun att es) (if begins att e then 
 -- that a chained plugin sets
 abbrev pub links_after_part : NetList → Command → List Call → List Link
 links_after_part list c made =
-    (share_after_calls (record no_objects { links = untuned list (att_of c) c.netns }) made).links
+    (share_after_calls (record no_objects { links = links_made list (att_of c) c.netns }) made).links
 
 pub record AreLinksOf (list : NetList) (c : Command) (given : List Addr) (links : List Link) : Type 0 where
   pub made : List Call
@@ -94,7 +94,7 @@ NothingIsUnasked = (w : World) → Legal w → (att : Att) → HasNothingUnasked
 
 -- all are as they were made, or all are as they are wanted: with the values that a chained plugin sets
 abbrev pub AreMadeOrWanted : NetList → Command → List Addr → List Link → Type 0
-AreMadeOrWanted list c given links = AreAmong links (untuned list (att_of c) c.netns) ⊎ AreAmong links
+AreMadeOrWanted list c given links = AreAmong links (links_made list (att_of c) c.netns) ⊎ AreAmong links
     (wanted list (att_of c) c.netns (mappings_of list c) given).links
 
 -- so it is with the links of an ADD where at most one plugin of its list sets values of them
@@ -108,6 +108,6 @@ abbrev pub EachHasLinksMadeOrWanted : Plan → List Entry → Type 0
 EachHasLinksMadeOrWanted p h = (att : Att) (a : IsAskedFor p h att)
     → AreMadeOrWanted a.list a.by.command (leases_in (replies_of a.place h)) (objects_after p att h).links
 
--- at every moment, since in each list of a plan each plugin comes at most once
+-- at every moment, since `tuning` alone sets values of links, and each list of a plan has it at most once
 abbrev pub LinksAreMadeOrWanted : Type 0
 LinksAreMadeOrWanted = (w : World) → Legal w → EachHasLinksMadeOrWanted w.plan w.history

@@ -41,7 +41,7 @@ pub record IsCleanCollection (list : NetList) (c : Command) (entries : List Entr
     (a : Answer) : Type 0 where
   pub collected : IsCollected list
   pub called : entries ≢ []
-  pub calm : has_fault entries ≡ false
+  pub no_fault : has_fault entries ≡ false
   pub leaves : new ≡ keep c.network c.valid old
   pub answer : a ≡ answers.Yes
 
@@ -57,11 +57,14 @@ abbrev pub IsCollectionAnswer : NetList → Command → List Entry → Host → 
 IsCollectionAnswer list c entries old new a = IsTooOld list c entries a ⊎
     (IsDisabled list entries a ⊎ (IsCleanCollection list c entries old new a ⊎ IsFaultyCollection list c entries new a))
 
--- each answer of a collection is of one of these kinds, from the host right before its first entry to the one right
--- after its last, unless it was cut off
+-- it is of one of these kinds, from the host right before its first entry to the one right after its last, unless it
+-- was cut off
+abbrev pub IsAnswerOfGc : World → ℕ → Command → NetList → Answer → Type 0
+IsAnswerOfGc w n c list =
+    OrCutOff (IsCollectionAnswer list c (own_entries n w.history) (host_at_start w n) (host_at_end w n))
+
 abbrev pub CollectionsAreAnswered : Type 0
-CollectionsAreAnswered = EachListAnswer verbs.Gc
-    (λ w n c list. OrCutOff (IsCollectionAnswer list c (own_entries n w.history) (host_at_start w n) (host_at_end w n)))
+CollectionsAreAnswered = EachListAnswer verbs.Gc IsAnswerOfGc
 
 -- ---- whatever it is answered
 

@@ -13,8 +13,8 @@ use Rattle.plan_words.specs.Share.{Share, share_of, no_objects}
 use Rattle.pod_file.specs.declared.command.Command.{Command}
 use Rattle.pod_file.specs.declared.command.Verb.TheVariants as verbs
 use Rattle.pod_workers.specs.declared.plan.Entry.{Entry}
-use Rattle.pod_laws.specs.Moments.{has_fault, host_at_end, own_entries}
-use Rattle.pod_laws.specs.Answers.{EachAnswer, EachIsOrRefused, EachIsWhere, EachRefusal, IsRefusedByWords}
+use Rattle.pod_laws.specs.Moments.{has_fault, objects_at_end, own_entries}
+use Rattle.pod_laws.specs.Answers.{EachAnswer, EachIsOrRefused, EachIsWhere, EachRefusal, IsRefusedByFields}
 use Rattle.pod_laws.specs.Single.{EachEntry, ByVerb}
 
 -- its fields are good, and no entry is a fault
@@ -23,7 +23,7 @@ NothingFails c entries = (del_refusal c ≡ None) × (has_fault entries ≡ fals
 
 -- and nothing of the attachment is left at its last entry
 pub record HasDeleted (c : Command) (entries : List Entry) (objects : Share) : Type 0 where
-  pub calm : NothingFails c entries
+  pub unfailed : NothingFails c entries
   pub gone : objects ≡ no_objects
 
 abbrev pub IsYes : Answer → Type 0
@@ -31,23 +31,23 @@ IsYes a = a ≡ answers.Yes
 
 abbrev pub WasDeleted : Type 0
 WasDeleted = EachAnswer verbs.Del
-    (λ w n c a. IsYes a → HasDeleted c (own_entries n w.history) (share_of (att_of c) (host_at_end w n)))
+    (λ w n c a. IsYes a → HasDeleted c (own_entries n w.history) (objects_at_end w n c))
 
 -- ---- refusals
 
 -- by a fault, which is the first one and its last entry
 pub record IsUndeletedByFault (c : Command) (entries : List Entry) (cause : Cause) : Type 0 where
-  pub words : del_refusal c ≡ None
-  pub calm : List Entry
+  pub fields : del_refusal c ≡ None
+  pub past : List Entry
   pub by : Entry
-  pub are : entries ≡ calm ++ by ∷ []
-  pub no_fault : has_fault calm ≡ false
+  pub are : entries ≡ past ++ by ∷ []
+  pub no_fault : has_fault past ≡ false
   pub fault : by.reply ≡ Fault
-  pub number : cause ≡ causes.Fault (length calm + 1)
+  pub number : cause ≡ causes.Fault (length past + 1)
 
 -- or by its fields
 abbrev pub IsUndeletedFor : Command → List Entry → Cause → Type 0
-IsUndeletedFor c entries cause = IsRefusedByWords (del_refusal c) entries cause ⊎ IsUndeletedByFault c entries cause
+IsUndeletedFor c entries cause = IsRefusedByFields (del_refusal c) entries cause ⊎ IsUndeletedByFault c entries cause
 
 abbrev pub WasNotDeleted : Type 0
 WasNotDeleted = EachRefusal verbs.Del (λ c entries objects. IsUndeletedFor c entries)
@@ -57,8 +57,8 @@ WasNotDeleted = EachRefusal verbs.Del (λ c entries objects. IsUndeletedFor c en
 abbrev pub AnswersOfDel : Type 0
 AnswersOfDel = EachIsOrRefused verbs.Del IsYes
 
-abbrev pub CalmIsDeleted : Type 0
-CalmIsDeleted = EachIsWhere verbs.Del NothingFails IsYes
+abbrev pub UnfailedIsDeleted : Type 0
+UnfailedIsDeleted = EachIsWhere verbs.Del NothingFails IsYes
 
 -- ---- single entries
 

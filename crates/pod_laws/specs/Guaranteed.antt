@@ -1,17 +1,14 @@
 -- What is guaranteed of a plan that is carried out, however its commands are interleaved, stopped, meet faults or are
 -- refused memory: at every moment, and of every answer.
 use Rattle.std.specs.Prelude.{◌≡◌, ℕ, true, List, [], ◌++◌}
-use Rattle.cni_result.specs.declared.error.CniError.{CniError}
-use Rattle.cni_verbs.specs.Answers.{answer_of_ending, error_of}
-use Rattle.cni_verbs.specs.CommandWords.{att_of, del_refusal}
+use Rattle.cni_verbs.specs.Answers.{answer_of_ending}
+use Rattle.cni_verbs.specs.CommandWords.{del_refusal}
 use Rattle.cni_verbs.specs.declared.answer.Answer.{Answer}
 use Rattle.cni_verbs.specs.declared.answer.Answer.TheVariants as answers
-use Rattle.cni_verbs.specs.declared.answer.Cause.{Cause}
 use Rattle.cni_verbs.specs.declared.answer.Ending.{Ending}
 use Rattle.kernel_types.specs.Sound.{IsSound, NoAddressTwice}
 use Rattle.kernel_types.specs.declared.object.Att.{Att}
 use Rattle.net_conf.specs.declared.list.NetList.{NetList}
-use Rattle.plan_words.specs.Share.{Share, share_of}
 use Rattle.pod_file.specs.declared.command.Command.{Command}
 use Rattle.pod_file.specs.declared.command.Verb.{Verb}
 use Rattle.pod_file.specs.declared.command.Verb.TheVariants as verbs
@@ -21,12 +18,12 @@ use Rattle.pod_workers.specs.World.{World, after}
 use Rattle.pod_workers.specs.declared.plan.Entry.{Entry}
 use Rattle.pod_workers.specs.declared.plan.Plan.{Plan}
 use Rattle.pod_laws.specs.Added.{HasMade}
-use Rattle.pod_laws.specs.Answers.{EachAnswerIn, HoldsOfItsList, OrCutOff, is_cut_off}
+use Rattle.pod_laws.specs.Answers.{EachAnswerIn, HoldsOfItsList, OrCutOff, TellsCause, is_cut_off}
 use Rattle.pod_laws.specs.AskedFor.{EachHasLinksMadeOrWanted, HasNothingUnasked}
 use Rattle.pod_laws.specs.Checked.{EndsCheck, HoldsFromItsStart}
-use Rattle.pod_laws.specs.Collected.{IsBoundedCollection, IsCollectionAnswer}
+use Rattle.pod_laws.specs.Collected.{IsAnswerOfGc, IsBoundedCollection}
 use Rattle.pod_laws.specs.Deleted.{HasDeleted, IsUndeletedFor}
-use Rattle.pod_laws.specs.Moments.{EachCalling, host_at_end, host_at_start, own_entries}
+use Rattle.pod_laws.specs.Moments.{EachCalling, host_at_end, objects_at_end, own_entries}
 use Rattle.pod_laws.specs.Refused.{IsRefusedFor}
 use Rattle.pod_laws.specs.Repeated.{RepeatsLeave}
 
@@ -43,14 +40,6 @@ pub record IsWellKept (p : Plan) (h : List Entry) : Type 0 where
   pub lasts : AreLastsOfSets p (after p.pods.opening h).lasts
 
 -- ---- one answer, of the command c at place n, with the list of its network
-
--- the error tells a cause, of which this holds
-abbrev pub TellsCause : NetList → Command → CniError → (Cause → Type 0) → Type 0
-TellsCause list c error IsFor = (cause : Cause) × (error ≡ error_of list.version c cause) × IsFor cause
-
--- what its attachment has at its last entry
-abbrev pub objects_at_end : World → ℕ → Command → Share
-objects_at_end w n c = share_of (att_of c) (host_at_end w n)
 
 -- an ADD has made what its list asks for, or is refused for a named cause and has taken back what it made; or it was
 -- cut off
@@ -71,12 +60,6 @@ abbrev pub IsAnswerOfCheck : World → ℕ → Command → NetList → Answer �
 IsAnswerOfCheck w n c list =
     OrCutOff (λ a. (ending : Ending) × (a ≡ answer_of_ending list c ending [])
     × EndsCheck list c (own_entries n w.history) (host_at_end w n) (del_refusal c) ending)
-
--- a GC leaves what is to be kept of the host right before its first entry, or names the faults that it met, unless it
--- was cut off
-abbrev pub IsAnswerOfGc : World → ℕ → Command → NetList → Answer → Type 0
-IsAnswerOfGc w n c list =
-    OrCutOff (IsCollectionAnswer list c (own_entries n w.history) (host_at_start w n) (host_at_end w n))
 
 -- each answer of the verb is so, with the list of its network
 abbrev pub AreAnswers : World → Verb → (ℕ → Command → NetList → Answer → Type 0) → Type 0

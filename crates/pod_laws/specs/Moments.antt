@@ -3,10 +3,12 @@
 use Rattle.std.specs.Prelude.{◌≡◌, ◌≢◌, ℕ, Bool, false, List, [], ◌∷◌, nat_lt, Option, Some, slice_get, if◌then◌else◌}
 use Rattle.std.specs.List.{list_any}
 use Rattle.std.specs.Option.{option_map_or}
+use Rattle.cni_verbs.specs.CommandWords.{att_of}
 use Rattle.kernel_types.specs.Replies.{is_fault}
 use Rattle.kernel_types.specs.declared.object.Att.{Att}
 use Rattle.kernel_types.specs.declared.object.Host.{Host}
 use Rattle.plan_words.specs.Share.{Share, share_of, no_objects}
+use Rattle.pod_file.specs.declared.command.Command.{Command}
 use Rattle.pod_file.specs.declared.command.Verb.{Verb}
 use Rattle.pod_workers.specs.Plans.{Placed, commands_of}
 use Rattle.pod_workers.specs.World.{World, after, at_number}
@@ -22,6 +24,10 @@ until_last n (e ∷ es) = if list_any (is_of n) (e ∷ es) then e ∷ until_last
 -- the host right after the last entry of the command at place n
 abbrev pub host_at_end : World → ℕ → Host
 host_at_end w n = after w.plan.pods.opening (until_last n w.history)
+
+-- what its attachment has then
+abbrev pub objects_at_end : World → ℕ → Command → Share
+objects_at_end w n c = share_of (att_of c) (host_at_end w n)
 
 -- this holds of each command of the verb that made a call, stopped or not, at place n
 abbrev pub EachCalling : World → Verb → (ℕ → Placed → Type 0) → Type 0

@@ -23,7 +23,7 @@ use Rattle.pod_file.specs.declared.command.Verb.TheVariants as verbs
 use Rattle.pod_workers.specs.World.{after_entry}
 use Rattle.pod_workers.specs.declared.plan.Entry.{Entry}
 use Rattle.pod_laws.specs.Moments.{has_fault}
-use Rattle.pod_laws.specs.Answers.{EachIsOrRefused, EachIsWhere, EachRefusal, IsFirstToFail, IsRefusedByWords}
+use Rattle.pod_laws.specs.Answers.{EachIsOrRefused, EachIsWhere, EachRefusal, IsFirstToFail, IsRefusedByFields}
 
 -- ---- the first refusal
 
@@ -55,7 +55,7 @@ pub record FirstRefusal (entries : List Entry) (cause : Cause) : Type 0 where
 
 -- at Begin, which is its only entry
 pub record IsRefusedAtBegin (c : Command) (entries : List Entry) (cause : Cause) : Type 0 where
-  pub words : add_refusal c ≡ None
+  pub fields : add_refusal c ≡ None
   pub by : Entry
   pub alone : entries ≡ by ∷ []
   pub begin_call : by.call ≡ Begin (att_of c) c.netns
@@ -63,13 +63,13 @@ pub record IsRefusedAtBegin (c : Command) (entries : List Entry) (cause : Cause)
 
 -- at a later call: nothing of the attachment is left, or a later entry is a fault
 pub record IsRefusedLater (c : Command) (entries : List Entry) (objects : Share) (cause : Cause) : Type 0 where
-  pub words : add_refusal c ≡ None
+  pub fields : add_refusal c ≡ None
   pub first : FirstRefusal entries cause
   pub begun : first.refuses.past ≢ []
   pub undone : (objects ≡ no_objects) ⊎ (has_fault first.refuses.later ≡ true)
 
 abbrev pub IsRefusedFor : Command → List Entry → Share → Cause → Type 0
-IsRefusedFor c entries objects cause = IsRefusedByWords (add_refusal c) entries cause ⊎
+IsRefusedFor c entries objects cause = IsRefusedByFields (add_refusal c) entries cause ⊎
     (IsRefusedAtBegin c entries cause ⊎ IsRefusedLater c entries objects cause)
 
 -- an ADD is refused in no other way

@@ -11,7 +11,7 @@ ghost use Rattle.pod_laws.specs.Bounded.{EachAddHasMost, EachChangeIsOneCall, Ea
 ghost use Rattle.pod_laws.specs.Changed.{ChangesAreAnswered, VersionsAreTheLists};
 ghost use Rattle.pod_laws.specs.Checked.{ChecksHoldFromTheirStart, WasChecked};
 ghost use Rattle.pod_laws.specs.Collected.{CollectionsAreAnswered, CollectionsAreBounded, CollectionsAreShort, CollectionsFillTheirRounds, CollectionsInARowKeep};
-ghost use Rattle.pod_laws.specs.Deleted.{AnswersOfDel, CalmIsDeleted, EachDeletionIsOwn, WasDeleted, WasNotDeleted};
+ghost use Rattle.pod_laws.specs.Deleted.{AnswersOfDel, UnfailedIsDeleted, EachDeletionIsOwn, WasDeleted, WasNotDeleted};
 ghost use Rattle.pod_laws.specs.Granted.{EachQuestionLeavesTheHost};
 ghost use Rattle.pod_laws.specs.Guaranteed.{EveryLegalHistoryIsGuaranteed};
 ghost use Rattle.pod_laws.specs.Lasts.{EachLastIsCandidate};
@@ -57,7 +57,7 @@ pub fn a_deleted_attachment_is_gone()
 {}
 
 /// A DEL is refused by its fields, with no call made, or at its first fault.
-pub fn a_deletion_fails_by_words_or_fault()
+pub fn a_deletion_fails_by_fields_or_fault()
     ensures { WasNotDeleted }
 {}
 
@@ -68,8 +68,8 @@ pub fn every_del_is_answered()
 {}
 
 /// A DEL with good fields and no fault is answered `ok`, unless memory was refused or it was stopped.
-pub fn a_calm_del_is_answered_without_error()
-    ensures { CalmIsDeleted }
+pub fn an_unfailed_del_is_answered_without_error()
+    ensures { UnfailedIsDeleted }
 {}
 
 /// Each entry of a DEL removes own objects alone, and leaves the host where there are none.
@@ -173,19 +173,19 @@ pub fn each_last_is_a_candidate()
 /// isn't refused, whatever addresses it is leased, and c the kinds of a DEL of its list, an ADD makes at most
 /// 2p + c + 1; a DEL c + 1 and one an object of its attachment at its first call, a pair of links as one, with what
 /// lies on them; a CHECK 2 and one an object of its cached share; a STATUS 1 and one a range set; a VERSION none.
-#[tactic(auto, using(crate::proofs::VerbBounds::run_is_bounded))]
+#[tactic(auto, using(crate::proofs::Bounded::Verbs::run_is_bounded))]
 pub fn each_run_is_bounded()
     ensures { EachRunIsBounded }
 {}
 
 /// Such a p is `most_calls`: what the list and the command's port mappings have room for.
-#[tactic(auto, using(crate::proofs::VerbBounds::each_add_has_most))]
+#[tactic(auto, using(crate::proofs::Bounded::Verbs::each_add_has_most))]
 pub fn each_add_has_most_calls()
     ensures { EachAddHasMost }
 {}
 
 /// A change from outside makes at most one call.
-#[tactic(auto, using(crate::proofs::VerbBounds::change_is_one_call))]
+#[tactic(auto, using(crate::proofs::Bounded::Verbs::change_is_one_call))]
 pub fn each_change_is_one_call()
     ensures { EachChangeIsOneCall }
 {}

@@ -22,14 +22,14 @@
 pub mod laws;
 
 pub use laws::{
-    a_calm_del_is_answered_without_error, a_check_holds_from_its_start,
-    a_check_tells_what_the_host_holds, a_collection_makes_few_calls, a_deleted_attachment_is_gone,
-    a_deletion_fails_by_words_or_fault, a_deletion_removes_own_objects,
-    a_gone_attachment_stays_gone, a_refused_attachment_is_undone,
+    a_check_holds_from_its_start, a_check_tells_what_the_host_holds, a_collection_makes_few_calls,
+    a_deleted_attachment_is_gone, a_deletion_fails_by_fields_or_fault,
+    a_deletion_removes_own_objects, a_gone_attachment_stays_gone, a_refused_attachment_is_undone,
     a_repeated_deletion_leaves_the_host, a_second_collection_finishes_the_first,
     a_status_tells_what_is_available, an_added_attachment_is_made,
-    an_unrefused_add_is_answered_with_a_result, begin_leaves_the_host, each_add_has_most_calls,
-    each_change_is_answered_by_its_reply, each_change_is_one_call, each_collection_fills_its_round,
+    an_unfailed_del_is_answered_without_error, an_unrefused_add_is_answered_with_a_result,
+    begin_leaves_the_host, each_add_has_most_calls, each_change_is_answered_by_its_reply,
+    each_change_is_one_call, each_collection_fills_its_round,
     each_collection_takes_the_stale_alone, each_entry_keeps_the_rest, each_entry_leaves_others,
     each_last_is_a_candidate, each_link_is_wanted, each_question_leaves_the_host,
     each_run_is_bounded, each_version_is_the_lists, every_add_is_answered,

@@ -1,4 +1,4 @@
-use Rattle.pod_laws.proofs.RepeatedEntries.{gone_stays_gone}
+use Rattle.pod_laws.proofs.Deleted.Repeated.{gone_stays_gone}
 use Rattle.pod_laws.proofs.laws.a_gone_attachment_stays_gone.Goals as goal
 
 pub returns : goal.returns

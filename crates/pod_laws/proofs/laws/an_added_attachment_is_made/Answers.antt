@@ -1,4 +1,4 @@
-use Rattle.pod_laws.proofs.OfAnswers.{was_added}
+use Rattle.pod_laws.proofs.Given.OfRuns.{was_added}
 use Rattle.pod_laws.proofs.laws.an_added_attachment_is_made.Goals as goal
 
 pub returns : goal.returns

@@ -1,4 +1,4 @@
-use Rattle.pod_laws.proofs.OfAnswers.{begin_leaves_the_host}
+use Rattle.pod_laws.proofs.Given.OfRuns.{begin_leaves_the_host}
 use Rattle.pod_laws.proofs.laws.begin_leaves_the_host.Goals as goal
 
 pub returns : goal.returns

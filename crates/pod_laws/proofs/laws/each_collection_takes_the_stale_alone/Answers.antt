@@ -1,4 +1,4 @@
-use Rattle.pod_laws.proofs.Collections.{each_collection_takes_the_stale_alone}
+use Rattle.pod_laws.proofs.Apart.Collections.{each_collection_takes_the_stale_alone}
 use Rattle.pod_laws.proofs.laws.each_collection_takes_the_stale_alone.Goals as goal
 
 pub returns : goal.returns

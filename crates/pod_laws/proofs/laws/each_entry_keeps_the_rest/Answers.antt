@@ -1,4 +1,4 @@
-use Rattle.pod_laws.proofs.Rest.{each_entry_keeps_the_rest}
+use Rattle.pod_laws.proofs.Apart.Rest.{each_entry_keeps_the_rest}
 use Rattle.pod_laws.proofs.laws.each_entry_keeps_the_rest.Goals as goal
 
 pub returns : goal.returns

@@ -1,4 +1,4 @@
-use Rattle.pod_laws.proofs.OtherEntries.{each_entry_leaves_others}
+use Rattle.pod_laws.proofs.Apart.Others.{each_entry_leaves_others}
 use Rattle.pod_laws.proofs.laws.each_entry_leaves_others.Goals as goal
 
 pub returns : goal.returns

@@ -1,4 +1,4 @@
-use Rattle.pod_laws.proofs.OfAnswers.{answers_of_add}
+use Rattle.pod_laws.proofs.Given.OfRuns.{answers_of_add}
 use Rattle.pod_laws.proofs.laws.every_add_is_answered.Goals as goal
 
 pub returns : goal.returns

@@ -1,4 +1,4 @@
-use Rattle.pod_laws.proofs.Asked.{nothing_is_unasked}
+use Rattle.pod_laws.proofs.AskedFor.Moments.{nothing_is_unasked}
 use Rattle.pod_laws.proofs.laws.nothing_is_unasked.Goals as goal
 
 pub returns : goal.returns

@@ -1,0 +1,6 @@
+-- What an ADD makes, call by call.
+pub mod Achieved
+pub mod Bridges
+pub mod Footing
+pub mod Prefixes
+pub mod Stands

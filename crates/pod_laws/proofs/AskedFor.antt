@@ -1,0 +1,4 @@
+-- That an attachment has only what an ADD of it asked for.
+pub mod MadeLinks
+pub mod Moments
+pub mod Quiet

@@ -1,0 +1,335 @@
+-- At every moment an attachment with a cached entry has the bridge that the cached result names first.
+use Rattle.std.proofs.Common.{◌≡◌, ℕ, Bool, true, false, not, List, [], ◌∷◌, ◌++◌, map, Option, Some, None, refl, sym, ◌∙◌, ap, subst, inl, inr, ◌⊎◌, arith}
+use Rattle.std.proofs.lemmas.Bool.{and_parts, both_ways, cases_Bool, false_from_ne_true}
+use Rattle.std.proofs.lemmas.Option.{same_Some, none-some}
+use Rattle.std.proofs.lemmas.Slice.Eq.{bytes_eq-Decides}
+use Rattle.std.specs.Prelude.{filter, ◌&&◌}
+use Rattle.std.specs.List.{list_all, list_any}
+use Rattle.std.specs.Option.{option_map}
+use Rattle.std.specs.Str.{bytes_eq}
+use Rattle.cni_addr.proofs.Cases.{by_test}
+use Rattle.cni_addr.specs.declared.address.Addr.{Addr}
+use Rattle.cni_result.specs.declared.cached.Cached.{Cached}
+use Rattle.cni_result.specs.declared.result.AddResult.{AddResult}
+use Rattle.cni_result.specs.declared.result.Interface.{Interface}
+use Rattle.cni_verbs.specs.CommandWords.{att_of, mappings_of}
+use Rattle.cni_verbs.specs.Script.{State, AtBegin, BeforeLeases, Leasing, AfterLeases, ReadingCache, Deleting, FindingEntry, Asking, Changing, Collecting, Over, Calls, leases_in, turn}
+use Rattle.cni_verbs.specs.Wanted.{all_chained_results, bridge_of, cached_of, calls_before, chained_result, deletion, result_of_add}
+use Rattle.cni_verbs.proofs.PluginLaws.{chained_laws, first_laws}
+use Rattle.kernel_types.specs.Allowed.{IsAllowed}
+use Rattle.kernel_types.specs.Apply.{apply}
+use Rattle.kernel_types.specs.Apply.Calls.{goes_with, goes_with_ns, has_peer_in, master_is_bridge_or_none, without_link}
+use Rattle.kernel_types.specs.Equal.{att_eq}
+use Rattle.kernel_types.specs.Isolation.{is_from_outside}
+use Rattle.kernel_types.specs.Sound.{IsSound, peer_fits}
+use Rattle.kernel_types.specs.Words.{cached_in, has_host_bridge, has_named_ns, is_at, is_bridge, is_host_bridge, is_host_link, is_host_ns, is_own, is_peer_at, is_veth, link_at}
+use Rattle.kernel_types.proofs.Isolation.{att_eq-same}
+use Rattle.kernel_types.proofs.ListLemmas.{list_all-weaker, list_any-kept, passes-find}
+use Rattle.kernel_types.specs.declared.object.Att.{Att}
+use Rattle.kernel_types.specs.declared.object.CachedObj.{CachedObj}
+use Rattle.kernel_types.specs.declared.object.Host.{Host}
+use Rattle.kernel_types.specs.declared.object.Link.{Link}
+use Rattle.kernel_types.specs.declared.object.LinkKey.{LinkKey}
+use Rattle.kernel_types.specs.declared.object.LinkKind.{LinkKind}
+use Rattle.kernel_types.specs.declared.object.LinkKind.TheVariants as link_kinds
+use Rattle.kernel_types.specs.declared.object.Tag.TheVariants.{Own}
+use Rattle.kernel_types.specs.declared.call.Call.{Call}
+use Rattle.kernel_types.specs.declared.call.Call.TheVariants.{Begin, CacheGet, CachePut, NsChange, Outside}
+use Rattle.kernel_types.specs.declared.call.Change.TheVariants.{DropLink, Flush}
+use Rattle.kernel_types.specs.declared.call.Reply.{Reply}
+use Rattle.net_conf.specs.declared.chained.Chained.{Chained}
+use Rattle.net_conf.specs.declared.first.First.{First}
+use Rattle.net_conf.specs.declared.list.NetList.{NetList}
+use Rattle.plan_words.specs.PlanCalls.{is_plan_call_of}
+use Rattle.plan_words.specs.PluginCalls.{makes_interface}
+use Rattle.plan_words.specs.Results.{names_first, names_of}
+use Rattle.plan_words.specs.Share.{Share, share_after_call, share_of}
+use Rattle.plan_words.proofs.OtherCalls.{share-other}
+use Rattle.plan_words.proofs.OwnCalls.{share-own}
+use Rattle.plan_words.proofs.Refusals.{refused-same}
+use Rattle.pod_file.specs.declared.command.Command.{Command}
+use Rattle.pod_workers.specs.Legal.{Legal}
+use Rattle.pod_workers.specs.Plans.{Placed, IsWellFormed, list_named}
+use Rattle.pod_workers.specs.World.{World, after, after_entry, entry_of, host_of, replies_of}
+use Rattle.pod_workers.specs.declared.plan.Entry.{Entry}
+use Rattle.pod_workers.specs.declared.plan.Plan.{Plan}
+use Rattle.pod_workers.proofs.Deletable.{done_or_not}
+use Rattle.pod_workers.proofs.Elements.{find-first, first_of}
+use Rattle.pod_workers.proofs.Prefixes.{each_prefix}
+use Rattle.pod_workers.proofs.Histories.{after-append}
+use Rattle.pod_workers.proofs.Planned.{LeftArePlanned}
+use Rattle.pod_workers.proofs.Sound.{sound_host}
+use Rattle.pod_laws.specs.AskedFor.{AreAmong, HasNothingUnasked}
+use Rattle.pod_laws.specs.Moments.{own_entries}
+use Rattle.pod_laws.proofs.Added.Achieved.{Achieved, achieved-start, achieved-step}
+use Rattle.pod_laws.proofs.AskedFor.Moments.{nothing_is_unasked}
+use Rattle.pod_laws.proofs.Added.Bridges.{BridgeIn, HasBridge, all-bridges, bridge-entered}
+use Rattle.pod_laws.proofs.Shares.OfKinds.{still_none}
+use Rattle.pod_laws.proofs.Shares.Removes.{OnlyRemoves, removes-deletion}
+use Rattle.pod_laws.proofs.Histories.Runs.{every-run-now, own-state}
+use Rattle.pod_laws.proofs.Histories.States.{LeftFit, asked-is_question, is_question, question-leaves}
+use Rattle.pod_laws.proofs.Histories.Steps.{Changes, ChangesKeep, EntriesKeep, GoesOn, by-entries, on-entry}
+use Rattle.plan_words.proofs.KeyLists.{none-by}
+use Rattle.pod_laws.proofs.Tests.{middle-passes}
+use Rattle.pod_laws.proofs.Histories.Turns.{AsksOrCollects, change-of, removes-changed, turn-of, work-turn}
+use Rattle.pod_laws.proofs.Shares.Within.{list_named-listed, opening-share}
+
+-- ---- the world outside takes no bridge of the host
+
+bridge-no_veth : (k : LinkKind) → is_bridge k ≡ true → is_veth k ≡ false
+bridge-no_veth link_kinds.Device h = refl
+bridge-no_veth link_kinds.Bridge h = refl
+bridge-no_veth link_kinds.Veth h = cc
+bridge-no_veth (link_kinds.Macvlan mode) h = refl
+
+bridge-alone : (links : List Link) (l : Link) (o : Option LinkKey) → peer_fits links l o ≡ true → is_bridge l.kind ≡ true → o ≡ None
+bridge-alone links l None fits bridge = refl
+bridge-alone links l (Some key) fits bridge = let apart = bridge-no_veth l.kind bridge in grind (arith, fits, apart)
+
+-- links go, and none of them stands in the host without a peer
+stays-beside : (name : List ℕ) (gone : Link → Bool) (host : Host) → IsSound host → ((l : Link) → is_host_ns l.ns ≡ true → l.peer ≡ None → gone l ≡ false) → has_host_bridge host name ≡ true
+    → list_any (is_host_bridge name) (filter (λ l. not (gone l)) host.links) ≡ true
+stays-beside name gone host sound stays there =
+    let none : list_any (λ l. is_host_bridge name l && not (not (gone l))) host.links ≡ false =
+    none-by (λ l. peer_fits host.links l l.peer) (λ l. is_host_bridge name l && not (not (gone l)))
+    (λ l fits. elim (cases_Bool (is_host_bridge name l)) [
+      | inl is ↦
+          let parts = and_parts (is_host_link name l) (is_bridge l.kind) is in
+          let kept : gone l ≡ false = stays l (and_parts (is_host_ns l.ns) (bytes_eq l.name name) parts.0).0 (bridge-alone host.links l l.peer fits parts.1) in
+          grind (arith, is, kept)
+      | inr other ↦ grind (arith, other)
+    ])
+    host.links sound.links.peers in
+    list_any-kept (is_host_bridge name) (λ l. not (gone l)) host.links there none
+
+-- a place outside the host isn't that of a link in it
+apart-places : (a b : List ℕ) → is_host_ns a ≡ true → is_host_ns b ≡ false → bytes_eq a b ≡ false
+apart-places a b outer inner = false_from_ne_true (bytes_eq a b) (λ same. both_ways (is_host_ns b) inner (ap is_host_ns (sym ((bytes_eq-Decides a b).0 same)) ∙ outer))
+
+stays-in_ns : (ns : List ℕ) → is_host_ns ns ≡ false → (l : Link) → is_host_ns l.ns ≡ true → l.peer ≡ None → goes_with_ns ns l ≡ false
+stays-in_ns ns inner l outer alone =
+    let apart : bytes_eq l.ns ns ≡ false = apart-places l.ns ns outer inner in
+    let no_peer : has_peer_in ns l.peer ≡ false = ap (has_peer_in ns) alone in
+    grind (arith, apart, no_peer)
+
+stays-at : (ns name : List ℕ) → is_host_ns ns ≡ false → (l : Link) → is_host_ns l.ns ≡ true → l.peer ≡ None → goes_with ns name l ≡ false
+stays-at ns name inner l outer alone =
+    let apart : bytes_eq l.ns ns ≡ false = apart-places l.ns ns outer inner in
+    let no_peer : is_peer_at ns name l.peer ≡ false = ap (is_peer_at ns name) alone in
+    grind (arith, apart, no_peer)
+
+stays-dropped : (name : List ℕ) (host : Host) (key : LinkKey) (o : Option Link) → link_at host key.ns key.name ≡ o → is_host_ns key.ns ≡ false → IsSound host → has_host_bridge host name ≡ true
+    → has_host_bridge (without_link host o).0 name ≡ true
+stays-dropped name host key None found inner sound there = there
+stays-dropped name host key (Some link) found inner sound there =
+    let at : is_at key.ns key.name link ≡ true = passes-find (is_at key.ns key.name) host.links link found in
+    let place : link.ns ≡ key.ns = (bytes_eq-Decides link.ns key.ns).0 (and_parts (bytes_eq link.ns key.ns) (bytes_eq link.name key.name) at).0 in
+    stays-beside name (goes_with link.ns link.name) host sound (stays-at link.ns link.name (ap is_host_ns place ∙ inner)) there
+
+stays-outside : (name : List ℕ) (host : Host) (call : Call) → IsSound host → IsAllowed host call → is_from_outside call ≡ true → has_host_bridge host name ≡ true → has_host_bridge (apply host call).0 name ≡ true
+stays-outside name host (NsChange ns true) sound allowed from there = by_test (λ (step : Host × Reply). has_host_bridge step.0 name ≡ true) (has_named_ns host ns) _ _ (λ _. there) (λ _. there)
+stays-outside name host (NsChange ns false) sound allowed from there =
+    by_test (λ (step : Host × Reply). has_host_bridge step.0 name ≡ true) (has_named_ns host ns) _ _ (λ _. stays-beside name (goes_with_ns ns) host sound (stays-in_ns ns allowed) there) (λ _. there)
+stays-outside name host (Outside (DropLink key)) sound allowed from there =
+    by_test (λ (step : Host × Reply). has_host_bridge step.0 name ≡ true) (has_named_ns host key.ns) _ _ (λ _. stays-dropped name host key (link_at host key.ns key.name) refl allowed sound there) (λ _. there)
+stays-outside name host (Outside (Flush table)) sound allowed from there = there
+stays-outside name host _ sound allowed from there = cc
+
+bridge-outside : (o : Option (List ℕ)) (host : Host) (call : Call) → IsSound host → IsAllowed host call → is_from_outside call ≡ true → master_is_bridge_or_none host o ≡ true → master_is_bridge_or_none (apply host call).0 o ≡ true
+bridge-outside None host call sound allowed from there = refl
+bridge-outside (Some name) host call sound allowed from there = stays-outside name host call sound allowed from there
+
+bridge-changed : (first : First) (w : World) (n : ℕ) (c : Placed) (call : Call) (faulty : Bool) → Changes w n c call faulty → BridgeIn first (host_of w) → BridgeIn first (after_entry (host_of w) (entry_of (host_of w) n call faulty))
+bridge-changed first w n c call faulty on there =
+    on-entry (BridgeIn first) (host_of w) n call faulty there
+    (λ f. bridge-outside (bridge_of first) (host_of w) call (sound_host w on.legal) (on.allowed f) (change-of w n c call faulty on).call_is there)
+
+-- ---- calls that cache nothing
+
+abbrev HasNoEntry : Att → Host → Type 0
+HasNoEntry att host = (share_of att host).cached ≡ []
+
+abbrev HasNoneAfter : Att → Host → Call → Type 0
+HasNoneAfter att k call = HasNoEntry att (apply k call).0
+
+none-removes : (att : Att) (old new : Host) → OnlyRemoves old new → HasNoEntry att old → HasNoEntry att new
+none-removes att old new removes none = still_none (λ c. is_own att c.tag) (λ c. true) old.cached new.cached removes.cached none
+
+none-aside : (att : Att) (c : Command) (k : Host) (call : Call) → IsSound k → AsksOrCollects c call → HasNoEntry att k → HasNoneAfter att k call
+none-aside att c k call sound (inl asked) none = subst (HasNoEntry att) (sym (question-leaves k call asked)) none
+none-aside att c k call sound (inr collected) none =
+    subst (HasNoneAfter att k) collected.deletes (none-removes att k (apply k (deletion collected.att collected.kind)).0 (removes-deletion collected.att k collected.kind sound) none)
+
+abbrev caches : Call → Bool
+caches (CachePut att cached) = true
+caches call = false
+
+entries-same : (s : Share) (call : Call) → not (caches call) ≡ true → (share_after_call s call).cached ≡ s.cached
+entries-same s (CachePut att cached) h = cc
+entries-same s _ h = refl
+
+none-planned : (att : Att) (k : Host) (call : Call) → is_plan_call_of att call ≡ true → not (caches call) ≡ true → HasNoEntry att k → HasNoneAfter att k call
+none-planned att k call own h none = elim (done_or_not (apply k call).1) [
+  | inl done ↦ ap (λ (s : Share). s.cached) (share-own att k call own done) ∙ entries-same (share_of att k) call h ∙ none
+  | inr refused ↦ subst (HasNoEntry att) (sym (refused-same att k call own refused)) none
+]
+
+interface-caches_none : (bridge : Option (List ℕ)) (call : Call) → makes_interface bridge call ≡ true → not (caches call) ≡ true
+interface-caches_none bridge (CachePut att cached) h = cc
+interface-caches_none bridge _ h = refl
+
+before-caches_none : (first : First) (att : Att) (netns : List ℕ) → list_all (λ x. not (caches x)) (calls_before first att netns) ≡ true
+before-caches_none first att netns = list_all-weaker (makes_interface (bridge_of first)) (λ x. not (caches x)) (interface-caches_none (bridge_of first)) (calls_before first att netns) ((first_laws first).before att netns).make_interface
+
+-- ---- one call
+
+-- a run's own call caches nothing, or the bridge of its list is there
+own-call : (list : NetList) (c : Command) (es : List Entry) (st : State) (k : Host) (call : Call) → LeftArePlanned list c st → LeftFit list c st → IsSound k → turn c st ≡ Calls call → Achieved list c es st (share_of (att_of c) k) → HasBridge list st k
+    → HasNoEntry (att_of c) k → HasNoneAfter (att_of c) k call ⊎ BridgeIn list.first k
+unfolding turn
+own-call list c es AtBegin k call left fit sound is ach bridge none = inl (subst (HasNoneAfter (att_of c) k) (let e : Begin (att_of c) c.netns ≡ call = cc in e) none)
+own-call list c es (BeforeLeases x xs) k call left fit sound is ach bridge none =
+    let caches_none = middle-passes (λ y. not (caches y)) ach.0 x xs (ap (list_all (λ y. not (caches y))) (sym ach.1) ∙ before-caches_none list.first (att_of c) c.netns) in
+    inl (subst (HasNoneAfter (att_of c) k) (let e : x ≡ call = cc in e) (none-planned (att_of c) k x left.0.0.0 caches_none none))
+own-call list c es (Leasing set sets given) k call left fit sound is ach bridge none = inr bridge
+own-call list c es (AfterLeases x xs given) k call left fit sound is ach bridge none = inr bridge
+own-call list c es (ReadingCache ending) k call left fit sound is ach bridge none = inl (subst (HasNoneAfter (att_of c) k) (let e : CacheGet (att_of c) ≡ call = cc in e) none)
+own-call list c es (Deleting kind ks ending) k call left fit sound is ach bridge none =
+    inl (subst (HasNoneAfter (att_of c) k) (let e : deletion (att_of c) kind ≡ call = cc in e) (none-removes (att_of c) k (apply k (deletion (att_of c) kind)).0 (removes-deletion (att_of c) k kind sound) none))
+own-call list c es FindingEntry k call left fit sound is ach bridge none = inl (subst (HasNoneAfter (att_of c) k) (let e : CacheGet (att_of c) ≡ call = cc in e) none)
+own-call list c es (Asking q qs) k call left fit sound is ach bridge none =
+    inl (none-aside (att_of c) c k call sound (inl (subst (λ j. is_question j ≡ true) (let e : q.call ≡ call = cc in e) (asked-is_question list q.call fit.0))) none)
+own-call list c es (Changing change) k call left fit sound is ach bridge none = absurd fit
+own-call list c es (Collecting work faults) k call left fit sound is ach bridge none = inl (none-aside (att_of c) c k call sound (work-turn c work.jobs work.sweeps faults call fit is) none)
+own-call list c es (Over ending given) k call left fit sound is ach bridge none = cc
+
+-- ---- one entry
+
+-- the attachment has no cached entry, or the bridge, if the list has one, is there
+abbrev NoneOrBridge : Att → NetList → Host → Type 0
+NoneOrBridge att list host = HasNoEntry att host ⊎ BridgeIn list.first host
+
+own-entered : (w : World) (n : ℕ) (c : Placed) (list : NetList) (call : Call) (faulty : Bool) → GoesOn w n c list call faulty → HasNoEntry (att_of c.command) (host_of w)
+    → NoneOrBridge (att_of c.command) list (after_entry (host_of w) (entry_of (host_of w) n call faulty))
+own-entered w n c list call faulty on none =
+    let k = host_of w in
+    let own = own-state w n c list call faulty on in
+    let bridge = all-bridges w on.legal n c on.ready.there on.ready.unanswered list on.listed in
+    let ach = every-run-now Achieved achieved-start achieved-step w n c list call faulty on in
+    elim (on-entry (λ j. HasNoEntry (att_of c.command) j ⊎ BridgeIn list.first k) k n call faulty (inl none)
+    (λ f. own-call list c.command (own_entries n w.history) _ k call own.planned own.fits (sound_host w on.legal) own.turn_is ach bridge none)) [
+      | inl still ↦ inl still
+      | inr there ↦ inr (bridge-entered list.first w n c list call faulty on there)
+    ]
+
+other-entered : (w : World) (n : ℕ) (c : Placed) (list : NetList) (call : Call) (faulty : Bool) (att : Att) → GoesOn w n c list call faulty → att_eq (att_of c.command) att ≡ false → HasNoEntry att (host_of w)
+    → HasNoEntry att (after_entry (host_of w) (entry_of (host_of w) n call faulty))
+other-entered w n c list call faulty att on apart none =
+    let sound = sound_host w on.legal in
+    on-entry (HasNoEntry att) (host_of w) n call faulty none
+    (λ f. elim (turn-of w n c list call faulty on) [
+      | inl own ↦ ap (λ (s : Share). s.cached) (share-other (att_of c.command) att (host_of w) call apart sound (on.allowed f) own) ∙ none
+      | inr aside ↦ none-aside att c.command (host_of w) call sound aside none
+    ])
+
+-- ---- every history
+
+-- each attachment of a list's network that has a cached entry has the list's bridge
+abbrev EntriesHaveBridges : Plan → List Entry → Type 0
+EntriesHaveBridges p h = (att : Att) (list : NetList) → list_named p.lists att.network ≡ Some list → NoneOrBridge att list (after p.pods.opening h)
+
+bridges-start : (p : Plan) → IsWellFormed p → EntriesHaveBridges p []
+bridges-start p well = λ att list listed. inl (ap (λ (s : Share). s.cached) (opening-share att p.pods.opening well.pods.opening))
+
+bridges-kept : EntriesKeep EntriesHaveBridges
+bridges-kept w n c list call faulty on was = λ att other listed.
+    let e = entry_of (host_of w) n call faulty in
+    let k = after_entry (host_of w) e in
+    subst (NoneOrBridge att other) (sym (after-append w.plan.pods.opening w.history e))
+    (elim (was att other listed) [
+      | inl none ↦ elim (cases_Bool (att_eq (att_of c.command) att)) [
+        | inl same ↦
+            let atts : att_of c.command ≡ att = att_eq-same (att_of c.command) att same in
+            let found : list_named w.plan.lists (att_of c.command).network ≡ Some list = list_named-listed w.plan c.command list on.listed in
+            let lists : list ≡ other = same_Some list other (sym found ∙ ap (λ (a : Att). list_named w.plan.lists a.network) atts ∙ listed) in
+            let mine = own-entered w n c list call faulty on (subst (λ a. HasNoEntry a (host_of w)) (sym atts) none) in
+            subst (λ a. NoneOrBridge a other k) atts (subst (λ l. NoneOrBridge (att_of c.command) l k) lists mine)
+        | inr apart ↦ inl (other-entered w n c list call faulty att on apart none)
+      ]
+      | inr there ↦ inr (bridge-entered other.first w n c list call faulty on there)
+    ])
+
+bridges-changed : ChangesKeep EntriesHaveBridges
+bridges-changed w n c call faulty on was = λ att other listed.
+    let e = entry_of (host_of w) n call faulty in
+    subst (NoneOrBridge att other) (sym (after-append w.plan.pods.opening w.history e))
+    (elim (was att other listed) [
+      | inl none ↦ inl (none-removes att (host_of w) (after_entry (host_of w) e) (removes-changed w n c call faulty on) none)
+      | inr there ↦ inr (bridge-changed other.first w n c call faulty on there)
+    ])
+
+entries-have_bridges : (w : World) → Legal w → EntriesHaveBridges w.plan w.history
+entries-have_bridges = by-entries EntriesHaveBridges bridges-start bridges-kept bridges-changed
+
+-- ---- the bridge is the first interface of the list's result
+
+names-kept : (cs : List Chained) (r : AddResult) → names_of (all_chained_results cs r) ≡ names_of r
+names-kept [] r = refl
+names-kept (c ∷ cs) r = names-kept cs (chained_result c r) ∙ (chained_laws c).keeps_names r
+
+result-names : (list : NetList) (att : Att) (netns : List ℕ) (addrs : List Addr) → names_first (bridge_of list.first) (names_of (result_of_add list att netns addrs)) ≡ true
+unfolding result_of_add
+result-names list att netns addrs = ap (names_first (bridge_of list.first)) (names-kept list.chained _) ∙ (first_laws list.first).names_bridge att netns _
+
+-- ---- at every moment
+
+-- a bridge of the host has the name of the result's first interface, where the plugin has a bridge
+abbrev pub has_bridge_named : Host → Option (List ℕ) → List Interface → Bool
+has_bridge_named host (Some bridge) (i ∷ is) = has_host_bridge host i.name
+has_bridge_named host bridge interfaces = true
+
+is-named : (host : Host) (bridge : Option (List ℕ)) (interfaces : List Interface) → names_first bridge (map (λ i. i.name) interfaces) ≡ true → master_is_bridge_or_none host bridge ≡ true → has_bridge_named host bridge interfaces ≡ true
+is-named host None interfaces names there = refl
+is-named host (Some bridge) [] names there = refl
+is-named host (Some bridge) (i ∷ is) names there = ap (has_host_bridge host) ((bytes_eq-Decides i.name bridge).0 names) ∙ there
+
+no-entry : (att : Att) (host : Host) → HasNoEntry att host → cached_in host att ≡ None
+no-entry att host none = ap (option_map (λ (c : CachedObj). c.cached)) (find-first (λ c. is_own att c.tag) host.cached ∙ ap first_of none)
+
+one-entry : (objects : List CachedObj) (o : CachedObj) (cached : Cached) → AreAmong objects (o ∷ []) → option_map (λ (c : CachedObj). c.cached) (first_of objects) ≡ Some cached → cached ≡ o.cached
+one-entry [] o cached among is = absurd (none-some cached is)
+one-entry (x ∷ xs) o cached among is = elim among.0 [ inl same ↦ sym (same_Some x.cached cached is) ∙ ap (λ (c : CachedObj). c.cached) same | inr none ↦ absurd none ]
+
+entry-names : (p : Plan) (h : List Entry) (att : Att) (list : NetList) (cached : Cached) → HasNothingUnasked p h att → list_named p.lists att.network ≡ Some list → cached_in (after p.pods.opening h) att ≡ Some cached
+    → names_first (bridge_of list.first) (names_of cached.result) ≡ true
+entry-names p h att list cached (inl gone) listed is = absurd (none-some cached (sym (no-entry att (after p.pods.opening h) (ap (λ (s : Share). s.cached) gone)) ∙ is))
+entry-names p h att list cached (inr a) listed is =
+    let host = after p.pods.opening h in
+    let c = a.by.command in
+    let given = leases_in (replies_of a.place h) in
+    let lists : a.list ≡ list = same_Some a.list list (sym (list_named-listed p c a.list a.listed) ∙ ap (λ (x : Att). list_named p.lists x.network) a.attachment ∙ listed) in
+    let found : option_map (λ (x : CachedObj). x.cached) (first_of (share_of att host).cached) ≡ Some cached =
+    ap (option_map (λ (x : CachedObj). x.cached)) (sym (find-first (λ x. is_own att x.tag) host.cached)) ∙ is in
+    let kept : CachedObj = record { cached = cached_of a.list (att_of c) c.netns (mappings_of a.list c) given; tag = Own (att_of c) } in
+    let cached_is : cached ≡ kept.cached = one-entry (share_of att host).cached kept cached a.objects.cached found in
+    ap (λ (l : NetList). names_first (bridge_of l.first) (names_of cached.result)) (sym lists) ∙ ap (λ (x : Cached). names_first (bridge_of a.list.first) (names_of x.result)) cached_is
+    ∙ result-names a.list (att_of c) c.netns given
+
+-- where the attachment has a cached entry, the bridge that the cached result names is there
+abbrev NamedAreThere : Plan → List Entry → Type 0
+NamedAreThere p h = (att : Att) (list : NetList) (cached : Cached) → list_named p.lists att.network ≡ Some list → cached_in (after p.pods.opening h) att ≡ Some cached
+    → has_bridge_named (after p.pods.opening h) (bridge_of list.first) cached.result.interfaces ≡ true
+
+named-there : (w : World) → Legal w → NamedAreThere w.plan w.history
+named-there w legal att list cached listed is =
+    let host = host_of w in
+    is-named host (bridge_of list.first) cached.result.interfaces (entry-names w.plan w.history att list cached (nothing_is_unasked w legal att) listed is)
+    (elim (entries-have_bridges w legal att list listed) [
+      | inl none ↦ absurd (none-some cached (sym (no-entry att host none) ∙ is))
+      | inr there ↦ there
+    ])
+
+pub always-named : (w : World) → Legal w → (before rest : List Entry) → w.history ≡ before ++ rest → NamedAreThere w.plan before
+always-named w legal before rest at =
+    let f = each_prefix w legal before rest at in
+    subst (λ (p : Plan). NamedAreThere p before) f.plan_is (subst (NamedAreThere f.world.plan) f.history_is (named-there f.world f.legal))

@@ -1,0 +1,83 @@
+-- The first entry of an ADD is its Begin, and no other follows one that was not done.
+use Rattle.std.proofs.Common.{◌≡◌, ◌≢◌, ℕ, Bool, true, List, [], ◌∷◌, ◌++◌, slice_get, Some, refl, sym, ◌∙◌, ap, subst, inl, inr, ◌⊎◌}
+use Rattle.std.proofs.lemmas.Bool.{and_parts}
+use Rattle.std.specs.List.{list_all}
+use Rattle.net_conf.specs.declared.list.NetList.{NetList}
+use Rattle.pod_file.specs.declared.command.Command.{Command}
+use Rattle.pod_file.specs.declared.command.Verb.TheVariants as verbs
+use Rattle.kernel_types.specs.declared.call.Call.{Call}
+use Rattle.kernel_types.specs.declared.call.Call.TheVariants.{Begin}
+use Rattle.plan_words.specs.Share.{Share, share_of}
+use Rattle.cni_verbs.specs.AddCalls.{is_done}
+use Rattle.cni_verbs.specs.CommandWords.{att_of}
+use Rattle.cni_verbs.specs.Script.{State, AtBegin, BeforeLeases, Leasing, AfterLeases, ReadingCache, Deleting, Over, Calls, turn}
+use Rattle.cni_verbs.specs.declared.answer.Ending.{Ending}
+use Rattle.cni_verbs.specs.declared.answer.Ending.TheVariants.{Added, Yes, Skipped, Versions, Refused}
+use Rattle.pod_workers.specs.Legal.{Legal}
+use Rattle.pod_file.specs.Commands.{is_of_network}
+use Rattle.pod_workers.specs.Plans.{Placed, commands_of}
+use Rattle.pod_workers.specs.World.{World, entry_of, host_of, reply_to}
+use Rattle.pod_workers.specs.declared.plan.Entry.{Entry}
+use Rattle.pod_workers.proofs.Listed.{listed_network}
+use Rattle.pod_workers.proofs.Splits.{cons_parts}
+use Rattle.pod_laws.specs.Moments.{own_entries}
+use Rattle.pod_laws.specs.Refused.{lets_go_on}
+use Rattle.pod_laws.proofs.Histories.Begins.{first-call, granted-done}
+use Rattle.pod_laws.proofs.Refused.Causes.{IsPlanReply, begin-may}
+use Rattle.pod_laws.proofs.Histories.Runs.{IsRunFact, StartsWith, every-run, every-run-now, own-state}
+use Rattle.pod_laws.proofs.Histories.States.{IsOtherVerb, not-both}
+use Rattle.pod_laws.proofs.Refused.Undoing.{Leads, Undoing, undone-start, undone-step}
+
+-- ---- the first entry of an ADD that goes on was granted
+
+front-granted : (granted later : List Entry) (by y : Entry) (ys : List Entry) → granted ≢ [] → y ∷ ys ≡ granted ++ by ∷ later → list_all lets_go_on granted ≡ true → lets_go_on y ≡ true
+front-granted [] later by y ys some are go_on = absurd (some refl)
+front-granted (z ∷ zs) later by y ys some are go_on = ap lets_go_on (cons_parts y z ys (zs ++ by ∷ later) are).0 ∙ (and_parts (lets_go_on z) (list_all lets_go_on zs) go_on).0
+
+lead-granted : (c : Command) (y : Entry) (ys : List Entry) (ending : Ending) → c.verb ≡ verbs.Add → Leads c (y ∷ ys) ending → lets_go_on y ≡ true
+lead-granted c y ys Added verb h = absurd h
+lead-granted c y ys Yes verb h = absurd (not-both c verb h.verb)
+lead-granted c y ys (Skipped skip) verb h = absurd h
+lead-granted c y ys Versions verb h = absurd h
+lead-granted c y ys (Refused cause) verb h = let f = h.first.refuses in front-granted f.past f.later h.first.by y ys h.begun f.are f.pass
+
+first-granted : (list : NetList) (c : Command) (y : Entry) (ys : List Entry) (st : State) (s : Share) (call : Call) → c.verb ≡ verbs.Add → turn c st ≡ Calls call → Undoing list c (y ∷ ys) st s → lets_go_on y ≡ true
+unfolding turn
+first-granted list c y ys AtBegin s call verb is was = let none = was.none in cc
+first-granted list c y ys (BeforeLeases x xs) s call verb is was = (and_parts (lets_go_on y) (list_all lets_go_on ys) was.go_on).0
+first-granted list c y ys (Leasing set sets given) s call verb is was = (and_parts (lets_go_on y) (list_all lets_go_on ys) was.go_on).0
+first-granted list c y ys (AfterLeases x xs given) s call verb is was = (and_parts (lets_go_on y) (list_all lets_go_on ys) was.go_on).0
+first-granted list c y ys (ReadingCache ending) s call verb is was = lead-granted c y ys ending verb was
+first-granted list c y ys (Deleting kind ks ending) s call verb is was = lead-granted c y ys ending verb was.0
+first-granted list c y ys (Over ending given) s call verb is was = cc
+first-granted list c y ys _ s call verb is was = absurd (subst IsOtherVerb verb was)
+
+-- ---- every run
+
+-- the first is a Begin, and the only one where it was not done
+abbrev pub BeginsFirst : Command → List Entry → Type 0
+BeginsFirst c [] = Unit {0}
+BeginsFirst c (e ∷ es) = (e.call ≡ Begin (att_of c) c.netns) × IsPlanReply e.reply × ((is_done e.reply ≡ true) ⊎ (es ≡ []))
+
+abbrev AddBegins : NetList → Command → List Entry → State → Share → Type 0
+AddBegins list c es st s = c.verb ≡ verbs.Add → BeginsFirst c es
+
+begins-more : (list : NetList) (c : Command) (n : ℕ) (w : World) (es : List Entry) (st : State) (s : Share) (call : Call) (faulty : Bool) → c.verb ≡ verbs.Add → turn c st ≡ Calls call → Undoing list c es st s → BeginsFirst c es
+    → BeginsFirst c (es ++ entry_of (host_of w) n call faulty ∷ [])
+begins-more list c n w [] st s call faulty verb is un was =
+    let first : call ≡ Begin (att_of c) c.netns = first-call list c [] st s call verb refl is un in
+    (first, subst (λ j. IsPlanReply (reply_to (host_of w) j faulty)) (sym first) (begin-may (att_of c) c.netns (host_of w) faulty), inr refl)
+begins-more list c n w (y ∷ ys) st s call faulty verb is un was = (was.0, was.1, inl (granted-done y.reply was.1 (first-granted list c y ys st s call verb is un)))
+
+begins-step : IsRunFact AddBegins
+begins-step w n c list call faulty on was = λ verb.
+    begins-more list c.command n w (own_entries n w.history) _ (share_of (att_of c.command) (host_of w)) call faulty verb (own-state w n c list call faulty on).turn_is
+    (every-run-now Undoing undone-start undone-step w n c list call faulty on) (was verb)
+
+begins-start : StartsWith AddBegins
+begins-start list c s = λ verb. tt
+
+pub begins_first : (w : World) → Legal w → (n : ℕ) (c : Placed) → slice_get (commands_of w.plan) n ≡ Some c → c.command.verb ≡ verbs.Add → BeginsFirst c.command (own_entries n w.history)
+begins_first w legal n c at verb =
+    let found = listed_network w legal n c at (ap is_of_network verb) in
+    every-run AddBegins begins-start begins-step w legal n c found.0 at found.1 verb

@@ -1,0 +1,149 @@
+-- What a run calls: its attachment, a question, or for a garbage collection; and what the world outside calls.
+use Rattle.std.proofs.Common.{◌≡◌, ◌≢◌, ℕ, Bool, true, false, List, [], ◌∷◌, length, Some, None, slice_get, refl, ap, subst, inl, inr, ◌⊎◌, arith}
+use Rattle.std.proofs.lemmas.Bool.{cases_Bool}
+use Rattle.std.proofs.lemmas.Slice.Eq.{bytes_eq-Decides}
+use Rattle.net_conf.specs.declared.list.NetList.{NetList}
+use Rattle.pod_file.specs.declared.command.Command.{Command}
+use Rattle.pod_file.specs.declared.command.Verb.{Verb}
+use Rattle.pod_file.specs.declared.command.Verb.TheVariants as verbs
+use Rattle.kernel_types.specs.Equal.{att_eq}
+use Rattle.kernel_types.specs.Isolation.{is_from_outside}
+use Rattle.kernel_types.proofs.Cases.{att_eq-refl}
+use Rattle.kernel_types.specs.declared.object.Att.{Att}
+use Rattle.kernel_types.specs.declared.object.Host.{Host}
+use Rattle.kernel_types.specs.declared.call.Call.{Call}
+use Rattle.kernel_types.specs.declared.call.Call.TheVariants.{Begin, LeaseNext, CacheGet, OwnersOf, NsChange, Outside}
+use Rattle.kernel_types.specs.declared.call.Kind.{Kind}
+use Rattle.kernel_types.specs.declared.call.Kind.TheVariants as kinds
+use Rattle.plan_words.specs.PlanCalls.{is_call_of}
+use Rattle.plan_words.specs.Share.{share_of}
+use Rattle.plan_words.proofs.OtherCalls.{share-other, call-plan}
+use Rattle.cni_verbs.specs.CommandWords.{att_of}
+use Rattle.cni_verbs.specs.Script.{State, AtBegin, BeforeLeases, Leasing, AfterLeases, ReadingCache, Deleting, FindingEntry, Asking, Changing, Collecting, Over, Calls, turn, turn_of_work}
+use Rattle.cni_verbs.specs.Sweep.{Job, Step, AskCached, Delete, Sweep, step_call}
+use Rattle.cni_verbs.specs.Wanted.{deletion}
+use Rattle.pod_file.specs.Commands.{is_of_network, is_exclusive_verb}
+use Rattle.pod_workers.specs.Plans.{Placed, commands_of}
+use Rattle.pod_workers.specs.World.{World, after_entry, host_of, own_replies, entry_of}
+use Rattle.pod_workers.proofs.Order.{alone_apart}
+use Rattle.pod_workers.proofs.Planned.{IsOutside, LeftArePlanned, LeftIsOutside, left-are-planned, left-is-outside}
+use Rattle.pod_workers.proofs.Sound.{sound_host}
+use Rattle.pod_laws.proofs.Shares.Removes.{OnlyRemoves, removes-nothing, removes-outside}
+use Rattle.pod_laws.proofs.Histories.States.{LeftFit, is_question, left-fit, question-leaves, asked-is_question}
+use Rattle.pod_laws.proofs.Histories.Steps.{Changes, GoesOn, on-entry}
+
+-- ---- what a run calls
+
+own-deletion : (att : Att) (kind : Kind) → is_call_of att (deletion att kind) ≡ true
+own-deletion att kinds.Links = att_eq-refl att
+own-deletion att kinds.Rules = att_eq-refl att
+own-deletion att kinds.Settings = att_eq-refl att
+own-deletion att kinds.Leases = att_eq-refl att
+own-deletion att kinds.Cached = att_eq-refl att
+
+-- a garbage collection deletes of any attachment
+pub record IsDeletionOfCollection (c : Command) (call : Call) : Type 0 where
+  pub verb : c.verb ≡ verbs.Gc
+  pub att : Att
+  pub kind : Kind
+  pub deletes : deletion att kind ≡ call
+
+-- a question, or a deletion of a collection
+abbrev pub AsksOrCollects : Command → Call → Type 0
+AsksOrCollects c call = (is_question call ≡ true) ⊎ IsDeletionOfCollection c call
+
+-- or a call of the attachment
+abbrev pub IsTurnOf : Command → Call → Type 0
+IsTurnOf c call = (is_call_of (att_of c) call ≡ true) ⊎ AsksOrCollects c call
+
+step-turn : (c : Command) (att : Att) (step : Step) → c.verb ≡ verbs.Gc → AsksOrCollects c (step_call att step)
+step-turn c att AskCached gc = inl refl
+step-turn c att (Delete kind) gc = inr (record { verb = gc; att = att; kind = kind; deletes = refl })
+
+pub work-turn : (c : Command) (jobs : List Job) (sweeps : List Sweep) (faults : List ℕ) (call : Call) → c.verb ≡ verbs.Gc → turn_of_work c.network jobs sweeps faults ≡ Calls call → AsksOrCollects c call
+work-turn c [] [] faults call gc is = cc
+work-turn c [] (s ∷ sweeps) faults call gc is = subst (AsksOrCollects c) (let e : OwnersOf c.network s.kind ≡ call = cc in e) (inl refl)
+work-turn c (j ∷ jobs) sweeps faults call gc is = subst (AsksOrCollects c) (let e : step_call j.att j.step ≡ call = cc in e) (step-turn c j.att j.step gc)
+
+own-turn : (list : NetList) (c : Command) (st : State) (call : Call) → LeftArePlanned list c st → LeftFit list c st → turn c st ≡ Calls call → IsTurnOf c call
+unfolding turn
+own-turn list c AtBegin call left fit is = subst (IsTurnOf c) (let e : Begin (att_of c) c.netns ≡ call = cc in e) (inl (att_eq-refl (att_of c)))
+own-turn list c (BeforeLeases x xs) call left fit is = subst (IsTurnOf c) (let e : x ≡ call = cc in e) (inl (call-plan (att_of c) x left.0.0.0))
+own-turn list c (Leasing set sets given) call left fit is = subst (IsTurnOf c) (let e : LeaseNext (att_of c) (length given) set ≡ call = cc in e) (inl (att_eq-refl (att_of c)))
+own-turn list c (AfterLeases x xs given) call left fit is = subst (IsTurnOf c) (let e : x ≡ call = cc in e) (inl (call-plan (att_of c) x left.0.0))
+own-turn list c (ReadingCache ending) call left fit is = subst (IsTurnOf c) (let e : CacheGet (att_of c) ≡ call = cc in e) (inl (att_eq-refl (att_of c)))
+own-turn list c (Deleting kind ks ending) call left fit is = subst (IsTurnOf c) (let e : deletion (att_of c) kind ≡ call = cc in e) (inl (own-deletion (att_of c) kind))
+own-turn list c FindingEntry call left fit is = subst (IsTurnOf c) (let e : CacheGet (att_of c) ≡ call = cc in e) (inl (att_eq-refl (att_of c)))
+own-turn list c (Asking q qs) call left fit is = subst (IsTurnOf c) (let e : q.call ≡ call = cc in e) (inr (inl (asked-is_question list q.call fit.0)))
+own-turn list c (Changing change) call left fit is = absurd fit
+own-turn list c (Collecting work faults) call left fit is = inr (work-turn c work.jobs work.sweeps faults call fit is)
+own-turn list c (Over ending given) call left fit is = cc
+
+pub turn-of : (w : World) (n : ℕ) (c : Placed) (list : NetList) (call : Call) (faulty : Bool) → GoesOn w n c list call faulty → IsTurnOf c.command call
+turn-of w n c list call faulty on = own-turn list c.command _ call (left-are-planned list c.command (own_replies w n)) (left-fit list c.command (own_replies w n)) on.turn_is
+
+-- ---- what the world outside calls
+
+pub record IsFromOutside (c : Command) (call : Call) : Type 0 where
+  pub call_is : is_from_outside call ≡ true
+  pub verb_is : is_of_network c.verb ≡ false
+
+outside-call : (call : Call) → IsOutside call → is_from_outside call ≡ true
+outside-call (NsChange name add) h = refl
+outside-call (Outside change) h = refl
+outside-call _ h = absurd h
+
+outside-turn : (c : Command) (s : State) (call : Call) → LeftIsOutside c s → turn c s ≡ Calls call → IsFromOutside c call
+unfolding turn
+outside-turn c (Changing change) call h is = subst (IsFromOutside c) (let e : change ≡ call = cc in e) (record { call_is = outside-call change h.0; verb_is = h.1 })
+outside-turn c (Over ending given) call h is = cc
+outside-turn c _ call h is = absurd h
+
+pub change-of : (w : World) (n : ℕ) (c : Placed) (call : Call) (faulty : Bool) → Changes w n c call faulty → IsFromOutside c.command call
+change-of w n c call faulty on = outside-turn c.command _ call (left-is-outside c.command (own_replies w n)) on.turn_is
+
+-- it only removes
+pub removes-changed : (w : World) (n : ℕ) (c : Placed) (call : Call) (faulty : Bool) → Changes w n c call faulty → OnlyRemoves (host_of w) (after_entry (host_of w) (entry_of (host_of w) n call faulty))
+removes-changed w n c call faulty on =
+    on-entry (OnlyRemoves (host_of w)) (host_of w) n call faulty (removes-nothing (host_of w)) (λ f. removes-outside (host_of w) call (sound_host w on.legal) (on.allowed f) (change-of w n c call faulty on).call_is)
+
+exclusive-outside : (v : Verb) → is_of_network v ≡ false → is_exclusive_verb v ≡ true
+exclusive-outside verbs.Add is = cc
+exclusive-outside verbs.Check is = cc
+exclusive-outside verbs.Del is = cc
+exclusive-outside verbs.Gc is = cc
+exclusive-outside verbs.Status is = cc
+exclusive-outside verbs.Version is = cc
+exclusive-outside verbs.NsAdd is = refl
+exclusive-outside verbs.NsDel is = refl
+exclusive-outside verbs.Drop is = refl
+exclusive-outside verbs.Flush is = refl
+
+-- beside the world outside no open command has made a call
+pub alone-outside : (w : World) (n m : ℕ) (c d : Placed) (call : Call) (faulty : Bool) → Changes w n c call faulty → m ≢ n → slice_get (commands_of w.plan) m ≡ Some d → slice_get w.answers m ≡ Some None → own_replies w m ≡ []
+alone-outside w n m c d call faulty on far at is_open =
+    alone_apart w on.legal m n d c on.ready far at is_open (inl (exclusive-outside c.command.verb (change-of w n c call faulty on).verb_is))
+
+-- nor beside a garbage collection
+pub alone-collecting : (w : World) (n m : ℕ) (c d : Placed) (list : NetList) (call : Call) (faulty : Bool) → GoesOn w n c list call faulty → c.command.verb ≡ verbs.Gc → m ≢ n → slice_get (commands_of w.plan) m ≡ Some d → slice_get w.answers m ≡ Some None
+    → own_replies w m ≡ []
+alone-collecting w n m c d list call faulty on gc far at is_open = alone_apart w on.legal m n d c on.ready far at is_open (inl (ap is_exclusive_verb gc))
+
+-- ---- other attachments
+
+pub other_att : (a b : Att) → a.container ≢ b.container → att_eq a b ≡ false
+other_att a b far = elim (cases_Bool (att_eq a b)) [
+  | inl same ↦ absurd (far ((bytes_eq-Decides a.container b.container).0 (grind (arith, same))))
+  | inr other ↦ other
+]
+
+-- an entry of one attachment leaves the share of every other, but for a garbage collection's
+pub other-entered : (w : World) (n : ℕ) (c : Placed) (list : NetList) (call : Call) (faulty : Bool) (other : Att) → GoesOn w n c list call faulty → att_eq (att_of c.command) other ≡ false
+    → (c.command.verb ≡ verbs.Gc) ⊎ (share_of other (after_entry (host_of w) (entry_of (host_of w) n call faulty)) ≡ share_of other (host_of w))
+other-entered w n c list call faulty other on differ =
+    let P : Host → Type 0 = λ k. share_of other k ≡ share_of other (host_of w) in
+    elim (turn-of w n c list call faulty on) [
+      | inl own ↦ inr (on-entry P (host_of w) n call faulty refl (λ f. share-other (att_of c.command) other (host_of w) call differ (sound_host w on.legal) (on.allowed f) own))
+      | inr (inl asked) ↦ inr (on-entry P (host_of w) n call faulty refl (λ f. ap (share_of other) (question-leaves (host_of w) call asked)))
+      | inr (inr collected) ↦ inl collected.verb
+    ]

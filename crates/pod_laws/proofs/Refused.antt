@@ -1,0 +1,3 @@
+-- Why an ADD is refused, and what it takes back.
+pub mod Causes
+pub mod Undoing

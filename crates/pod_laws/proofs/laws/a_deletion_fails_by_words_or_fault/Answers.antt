@@ -1,5 +1,0 @@
-use Rattle.pod_laws.proofs.OfAnswers.{was_not_deleted}
-use Rattle.pod_laws.proofs.laws.a_deletion_fails_by_words_or_fault.Goals as goal
-
-pub returns : goal.returns
-returns c = was_not_deleted
