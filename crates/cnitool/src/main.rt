@@ -6,7 +6,7 @@
 //!
 //! What it does is `tool_run`'s [`run`], with a gate that holds no thread; here are its words, its files and its
 //! output. It ends with the status of that call. Where the system doesn't give the words, nothing is written, and the
-//! status is 6 out of memory and 7 else, as for a word that isn't UTF-8.
+//! status is 6 if memory ran out, and 7 if not, as for a word that isn't UTF-8.
 #![tactic(auto)]
 
 use cni_addr::{Items, NoMemory, Text};

@@ -90,7 +90,7 @@ where_asked asked lines = if asked then lines else []
 
 -- ---- the text
 
--- what stands of the commands
+-- what is printed of the commands
 abbrev pub command_part : CommandPart → World → List ℕ
 command_part Lines w = command_lines w
 command_part Summary w = summary_line w

@@ -15,8 +15,8 @@ use pod_file::{Command, verb_text};
 use serde_json::Value;
 use std::alloc::Global;
 
-/// The key of the network list that disables the verb. Takes no memory.
-pub fn skip_text(skip: Skip) -> &'static str
+/// The key of the network list that disables the verb.
+fn skip_text(skip: Skip) -> &'static str
     ensures { result.now ≡ skip_text skip }
 {
     match skip {
@@ -35,7 +35,7 @@ fn versions_value(alloc: Global, version: Version) -> Result<Value, NoMemory>
     Ok(object.into_value())
 }
 
-fn put_answer(object: &mut JsonObject, alloc: Global, answer: &Answer) -> Result<(), NoMemory>
+fn put_answer(alloc: Global, answer: &Answer, object: &mut JsonObject) -> Result<(), NoMemory>
     ensures { OnOk result (members_of object.new ≡ put_answer answer.now (members_of object.old)) }
 {
     match answer {
@@ -56,12 +56,16 @@ fn put_answer(object: &mut JsonObject, alloc: Global, answer: &Answer) -> Result
 
 /// The command's number and verb with its answer, as JSON. It takes time and memory in proportion to the answer.
 #[tactic(auto, using(crate::proofs::Whole::answer_is_whole), unfolding(crate::specs::Lines::answer_data))]
-pub fn answer_value(alloc: Global, command: &Command, answer: &Answer) -> Result<Value, NoMemory>
+pub(crate) fn answer_value(
+    alloc: Global,
+    command: &Command,
+    answer: &Answer,
+) -> Result<Value, NoMemory>
     ensures json { IfOk result (λ v. view v ≡ answer_data command.now answer.now) }
     ensures numbers { IfOk result (λ v. has_float (view v) ≡ false) }
 {
     let mut object = JsonObject::new(alloc);
-    put_answer(&mut object, alloc, answer)?;
+    put_answer(alloc, answer, &mut object)?;
     object.put("n", &command.number)?;
     object.put_text("verb", verb_text(command.verb))?;
     Ok(object.into_value())

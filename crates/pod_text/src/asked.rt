@@ -1,6 +1,6 @@
-//! What the text of a book is to have.
+//! What is asked for in the text of a book.
 
-/// What stands of the commands.
+/// What is printed of the commands.
 #[derive(Clone, Copy, Debug, PartialEq, Eq)]
 pub enum CommandPart {
     /// A line for each command that has an answer, in file order.

@@ -14,16 +14,15 @@
 //! ```
 #![tactic(auto)]
 
-pub mod answers;
+mod answers;
 pub mod asked;
 pub mod parts;
 pub mod statuses;
 mod summary;
 
-pub use answers::{answer_value, skip_text};
 pub use asked::{Asked, CommandPart};
 pub use parts::text;
 pub use statuses::{
     COMMAND_MEMORY_STATUS, FAILURE_STATUS, MEMORY_STATUS, NO_WORDS_STATUS, READ_STATUS,
-    REFUSED_STATUS, SUCCESS_STATUS, USAGE_STATUS, WRITE_STATUS, answers_status, status,
+    REFUSED_STATUS, SUCCESS_STATUS, USAGE_STATUS, WRITE_STATUS, status,
 };

@@ -74,8 +74,8 @@ fn push_commands<K: Kernel + Drop>(
 
 fn push_command_part<K: Kernel + Drop>(
     alloc: Global,
-    part: CommandPart,
     book: &Book<K>,
+    part: CommandPart,
     lines: &mut Vec<u8>,
 ) -> Result<(), NoMemory>
     ensures { OnOk result (lines.new.items ≡ lines.old.items ++ command_part part book.now) }
@@ -109,8 +109,8 @@ fn push_entries(alloc: Global, history: &[Entry], lines: &mut Vec<u8>) -> Result
 
 fn push_trace<K: Kernel + Drop>(
     alloc: Global,
-    asked: bool,
     book: &Book<K>,
+    asked: bool,
     lines: &mut Vec<u8>,
 ) -> Result<(), NoMemory>
     ensures { OnOk result (lines.new.items ≡ lines.old.items ++ where_asked asked (trace_lines book.now)) }
@@ -123,8 +123,8 @@ fn push_trace<K: Kernel + Drop>(
 
 fn push_host<K: Kernel + Drop>(
     alloc: Global,
-    asked: bool,
     book: &Book<K>,
+    asked: bool,
     lines: &mut Vec<u8>,
 ) -> Result<(), NoMemory>
     ensures { OnOk result (lines.new.items ≡ lines.old.items ++ where_asked asked (dump_of (host_of book.now))) }
@@ -148,8 +148,8 @@ pub fn text<K: Kernel + Drop>(
     ensures { IfOk result (λ bytes. bytes.items ≡ text_of book.now asked) }
 {
     let mut lines = Vec::new(alloc);
-    push_command_part(alloc, asked.commands, book, &mut lines)?;
-    push_trace(alloc, asked.trace, book, &mut lines)?;
-    push_host(alloc, asked.dump, book, &mut lines)?;
+    push_command_part(alloc, book, asked.commands, &mut lines)?;
+    push_trace(alloc, book, asked.trace, &mut lines)?;
+    push_host(alloc, book, asked.dump, &mut lines)?;
     Ok(lines)
 }

@@ -59,8 +59,7 @@ fn any_failure(answers: &[Option<Answer>]) -> bool
     answers.iter().any(|answer| is_failure(answer))
 }
 
-/// The status by the answers. A command without an answer counts as done. Takes no memory.
-pub fn answers_status(answers: &[Option<Answer>]) -> u8
+fn answers_status(answers: &[Option<Answer>]) -> u8
     ensures { result ≡ status_of answers.now }
 {
     if any_memory(answers) {
@@ -72,7 +71,7 @@ pub fn answers_status(answers: &[Option<Answer>]) -> u8
     }
 }
 
-/// The status by the answers that the book has so far.
+/// The status by the answers that the book has so far. A command without one counts as done.
 pub fn status<K: Kernel + Drop>(book: &Book<K>) -> u8
     ensures { result ≡ status_of book.now.answers }
 {

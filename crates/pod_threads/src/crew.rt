@@ -5,7 +5,7 @@ ghost use Rattle.std.specs.Prelude.{◌≡◌, ◌<◌, ◌≤◌, [], length, s
 use crate::gate::Gate;
 use crate::owners::{Owned, share_out};
 use crate::shared::{Origin, Shared};
-use crate::workers::{Worker, gather, places, work};
+use crate::workers::{Worker, gather, make_workers, work};
 use kernel_model::Kernel;
 use pod_workers::Book;
 use std::alloc::Global;
@@ -42,7 +42,7 @@ impl<L: Ledger> Crew<L> {
         ensures { IfSome result (λ crew. length crew.workers.items ≡ n) }
     {
         let owned = share_out(alloc, book, n)?;
-        let (workers, rest) = places(alloc, n, all)?;
+        let (workers, rest) = make_workers(alloc, n, all)?;
         let counts = Vec::with_capacity(alloc, n as usize).ok()?;
         Some(Crew {
             owned,

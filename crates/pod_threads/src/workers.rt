@@ -1,4 +1,4 @@
-//! The workers: their places, and what each does.
+//! The workers, and what each does.
 
 ghost use Rattle.std.specs.Prelude.{◌≡◌, ◌≤◌, [], length, sum, IfSome, vec_capacity};
 
@@ -19,7 +19,7 @@ const NAPS: u64 = 50;
 /// By how many microseconds each nap is longer than the one before. The first one takes none.
 const LONGER: u64 = 20;
 
-/// A worker's place: one part of the ledger, whose amount is the number of entries that the worker made.
+/// A worker has one part of the ledger, whose amount is the number of entries that it made.
 #[derive(Drop)]
 pub(crate) struct Worker<L: Ledger> {
     share: Share<L>,
@@ -28,17 +28,17 @@ pub(crate) struct Worker<L: Ledger> {
     ghost counted: { share.amount ≡ count },
 }
 
-/// Steps the commands that are this worker's, each to its answer.
+/// Steps the commands that the worker of this number owns, each to its answer.
 pub(crate) fn work<J: Origin, L: Ledger, R: Wait, K: Kernel + Drop, G: Gate>(
     rt: &R,
     shared: &Mutex<Shared<J, L, K>>,
     worker: &mut Worker<L>,
-    place: usize,
+    number: usize,
     owned: &[Owned],
     gate: &G,
 ) {
     for one in owned {
-        if one.worker == place {
+        if one.worker == number {
             run_command(rt, shared, worker, one.command, gate);
         }
     }
@@ -91,8 +91,8 @@ fn lock<'a, T, R: Wait>(rt: &R, shared: &'a Mutex<T>) -> MutexGuard<'a, T> {
     shared.lock(rt)
 }
 
-/// A place for each worker, with one part of the ledger each, and the share that is left.
-pub(crate) fn places<L: Ledger>(
+/// So many workers, with one part of the ledger each, and the share that is left.
+pub(crate) fn make_workers<L: Ledger>(
     alloc: Global,
     n: u8,
     mut all: Share<L>,
@@ -105,12 +105,12 @@ pub(crate) fn places<L: Ledger>(
     let mut workers = Vec::new(alloc);
     for _made in 0..n {
         let share = all.split_off(1, 0);
-        workers.push(place(share)).ok()?;
+        workers.push(new_worker(share)).ok()?;
     }
     Some((workers, all))
 }
 
-fn place<L: Ledger>(share: Share<L>) -> Worker<L>
+fn new_worker<L: Ledger>(share: Share<L>) -> Worker<L>
     requires parts { share.parts ≡ 1 }
     requires amount { share.amount ≡ 0 }
 {

@@ -11,7 +11,7 @@ use Rattle.tool_words.specs.Words.{words_given}
 use Rattle.tool_words.specs.declared.source.Source.{Source}
 use Rattle.tool_words.specs.declared.source.Source.TheVariants.{PodFile, Generator}
 use Rattle.tool_words.specs.declared.words.Words.{Words}
-use Rattle.tool_run.specs.Causes.{AreFilesFor, GivesPlan, IsUnread, Steps, files_named, files_of}
+use Rattle.tool_run.specs.Causes.{AreFilesFor, GivesPlan, GivesStored, IsUnread, files_named, files_of}
 use Rattle.tool_run.specs.Reports.{CarriesOut, ComesToNoPlan, IsDueOf, Settles}
 use Rattle.tool_run.specs.Seen.{FilesSeen}
 use Rattle.tool_run.specs.Statuses.{AreFiles, AskForOneThread, ComesTo}
@@ -31,14 +31,14 @@ told : (by : Words) (file : List ℕ) (files : FilesSeen) (stored : StoredFiles)
 told by file files stored is (inl at) = at
 told by file files stored is (inr none) = absurd (let named = ap (λ (s : Source). files_of s by.lists) (sym is) ∙ none in cc)
 
--- what the steps over a pod file and its lists give
+-- what the reads of a pod file and its lists give
 pub of_files : (by : Words) (file : List ℕ) (files : FilesSeen) (r : Result Plan NoPlan) → by.source ≡ PodFile file
-    → Steps {X = Plan} (λ plan. plan) files.stored files.faults_before files.faults_now (file ∷ by.lists) (λ stored. plan_of_files stored by file) r → GivesPlan by files r
-of_files by file files (Ok plan) is steps = λ stored at. ap (plan_from_source stored by) is ∙ steps stored (told by file files stored is at)
-of_files by file files (Err Usage) is steps = steps
-of_files by file files (Err (Line text)) is steps = λ stored at. ap (plan_from_source stored by) is ∙ steps stored (told by file files stored is at)
-of_files by file files (Err (Unread text)) is steps = subst (λ (s : Source). IsUnread (files_of s by.lists) files.faults_before files.faults_now text.items) (sym is) steps
-of_files by file files (Err NoMemory) is steps = tt
+    → GivesStored {X = Plan} (λ plan. plan) files.stored files.faults_before files.faults_now (file ∷ by.lists) (λ stored. plan_of_files stored by file) r → GivesPlan by files r
+of_files by file files (Ok plan) is gives = λ stored at. ap (plan_from_source stored by) is ∙ gives stored (told by file files stored is at)
+of_files by file files (Err Usage) is gives = gives
+of_files by file files (Err (Line text)) is gives = λ stored at. ap (plan_from_source stored by) is ∙ gives stored (told by file files stored is at)
+of_files by file files (Err (Unread text)) is gives = subst (λ (s : Source). IsUnread (files_of s by.lists) files.faults_before files.faults_now text.items) (sym is) gives
+of_files by file files (Err NoMemory) is gives = tt
 
 -- what the generator gives, whatever the files
 pub of_generator : (by : Words) (count : ℕ) (files : FilesSeen) (plan : Plan) → by.source ≡ Generator count → plan ≡ generated_plan by.stop_at count → GivesPlan by files (Ok plan)

@@ -7,7 +7,7 @@ use Rattle.net_conf.specs.declared.list.NetList.{NetList}
 use Rattle.pod_file.specs.declared.pods.Pods.{Pods}
 use Rattle.pod_workers.specs.declared.plan.Plan.{Plan}
 use Rattle.tool_words.specs.declared.words.Words.{Words}
-use Rattle.tool_run.specs.Causes.{Steps, WhereTold}
+use Rattle.tool_run.specs.Causes.{GivesStored, WhereTold}
 use Rattle.tool_run.specs.Verdict.{Judged, stored_list, stored_lists, plan_of_files, stored_pods, judged_plan}
 use Rattle.tool_run.specs.declared.plan.NoPlan.{NoPlan}
 use Rattle.tool_run.specs.declared.plan.NoPlan.TheVariants.{Usage, Line, Unread, NoMemory}
@@ -46,26 +46,26 @@ rest-next files names front i name list lt at rest read = λ stored told.
 -- the lists stop the plan, behind the pod file
 pub plan-stops : (files later : Option StoredFiles) (start before now : ℕ) (words : Words) (file : List ℕ) (pods : Pods) (none : NoPlan) → later ≡ files
     → WhereTold files (λ stored. stored_pods stored file ≡ Ok pods) → start ≤ before
-    → Steps {X = List NetList} (λ lists. lists) later before now words.lists (λ stored. stored_lists stored words.lists) (Err none)
-    → Steps {X = Plan} (λ plan. plan) files start now (file ∷ words.lists) (λ stored. plan_of_files stored words file) (Err none)
+    → GivesStored {X = List NetList} (λ lists. lists) later before now words.lists (λ stored. stored_lists stored words.lists) (Err none)
+    → GivesStored {X = Plan} (λ plan. plan) files start now (file ∷ words.lists) (λ stored. plan_of_files stored words file) (Err none)
 unfolding plan_of_files
-plan-stops files later start before now words file pods Usage same first up steps = absurd steps
-plan-stops files later start before now words file pods (Line line) same first up steps = λ stored told.
+plan-stops files later start before now words file pods Usage same first up gives = absurd gives
+plan-stops files later start before now words file pods (Line line) same first up gives = λ stored told.
     ap (λ (t : Judged Pods). t >>= (λ (p : Pods). stored_lists stored words.lists >>= judged_plan words file p)) (first stored told)
-    ∙ ap (λ (t : Judged (List NetList)). t >>= judged_plan words file pods) (steps stored (same ∙ told))
-plan-stops files later start before now words file pods (Unread line) same first up steps = record {
-  file = steps.file;
-  named = (suc steps.named.0, omega arith, steps.named.2);
-  rose = Rose-from_start start before now up steps.rose;
-  says = steps.says;
+    ∙ ap (λ (t : Judged (List NetList)). t >>= judged_plan words file pods) (gives stored (same ∙ told))
+plan-stops files later start before now words file pods (Unread line) same first up gives = record {
+  file = gives.file;
+  named = (suc gives.named.0, omega arith, gives.named.2);
+  rose = Rose-from_start start before now up gives.rose;
+  says = gives.says;
 }
-plan-stops files later start before now words file pods NoMemory same first up steps = tt
+plan-stops files later start before now words file pods NoMemory same first up gives = tt
 
 -- the same of names that are equal to those of the words
 pub plan-stops-at : (files later : Option StoredFiles) (start before now : ℕ) (words : Words) (file : List ℕ) (names : List (List ℕ)) (pods : Pods) (none : NoPlan)
     → names ≡ words.lists → later ≡ files → WhereTold files (λ stored. stored_pods stored file ≡ Ok pods) → start ≤ before
-    → Steps {X = List NetList} (λ lists. lists) later before now names (λ stored. stored_lists stored names) (Err none)
-    → Steps {X = Plan} (λ plan. plan) files start now (file ∷ words.lists) (λ stored. plan_of_files stored words file) (Err none)
-plan-stops-at files later start before now words file names pods none names_are same first up steps =
+    → GivesStored {X = List NetList} (λ lists. lists) later before now names (λ stored. stored_lists stored names) (Err none)
+    → GivesStored {X = Plan} (λ plan. plan) files start now (file ∷ words.lists) (λ stored. plan_of_files stored words file) (Err none)
+plan-stops-at files later start before now words file names pods none names_are same first up gives =
     plan-stops files later start before now words file pods none same first up
-    (subst (λ (ns : List (List ℕ)). Steps {X = List NetList} (λ lists. lists) later before now ns (λ stored. stored_lists stored ns) (Err none)) names_are steps)
+    (subst (λ (ns : List (List ℕ)). GivesStored {X = List NetList} (λ lists. lists) later before now ns (λ stored. stored_lists stored ns) (Err none)) names_are gives)

@@ -16,7 +16,7 @@ use Rattle.tool_run.specs.Verdict.{Judged, plan_of}
 use Rattle.tool_run.specs.declared.plan.NoPlan.{NoPlan}
 use Rattle.tool_run.specs.declared.plan.NoPlan.TheVariants.{Usage, Line, Unread, NoMemory}
 
--- of the files, where they are told
+-- this holds of the files, where they are told
 abbrev pub WhereTold : Option StoredFiles → (StoredFiles → Type 0) → Type 0
 WhereTold files P = (stored : StoredFiles) → files ≡ Some stored → P stored
 
@@ -27,16 +27,18 @@ pub record IsUnread (names : List (List ℕ)) (before now : ℕ) (line : List �
   pub rose : Rose before now
   pub says : line ≡ unread_line file
 
--- A step gives what told files want; or the line that they want; or a read of a named file failed; or memory ran out.
-abbrev pub Steps : {X Y : Type 0} → (X → Y) → Option StoredFiles → ℕ → ℕ → List (List ℕ) → (StoredFiles → Judged Y)
-    → Result X NoPlan → Type 0
-Steps view files before now names wanted (Ok x) = WhereTold files (λ stored. wanted stored ≡ Ok (view x))
-Steps view files before now names wanted (Err Usage) = ⊥
-Steps view files before now names wanted (Err (Line line)) = WhereTold files (λ stored. wanted stored ≡ Err line.items)
-Steps view files before now names wanted (Err (Unread line)) = IsUnread names before now line.items
-Steps view files before now names wanted (Err NoMemory) = ⊤
+-- A step that reads files gives what is wanted of the files, where they are told; or the line that is wanted of them;
+-- or a read of a named file failed; or memory ran out.
+abbrev pub GivesStored : {X Y : Type 0} → (X → Y) → Option StoredFiles → ℕ → ℕ → List (List ℕ)
+    → (StoredFiles → Judged Y) → Result X NoPlan → Type 0
+GivesStored view files before now names wanted (Ok x) = WhereTold files (λ stored. wanted stored ≡ Ok (view x))
+GivesStored view files before now names wanted (Err Usage) = ⊥
+GivesStored view files before now names wanted (Err (Line line)) =
+    WhereTold files (λ stored. wanted stored ≡ Err line.items)
+GivesStored view files before now names wanted (Err (Unread line)) = IsUnread names before now line.items
+GivesStored view files before now names wanted (Err NoMemory) = ⊤
 
--- a step that reads no file
+-- the same of a step that reads no file
 abbrev pub GivesJudged : {X : Type 0} → Result X NoPlan → Judged X → Type 0
 GivesJudged (Ok x) wanted = wanted ≡ Ok x
 GivesJudged (Err Usage) wanted = ⊥
@@ -52,11 +54,11 @@ files_of (Generator count) lists = []
 abbrev pub files_named : Words → List (List ℕ)
 files_named words = files_of words.source words.lists
 
--- these are the files, as far as the words want any: they are told, or the words name none
+-- these are the files, as far as the words name any: they are told, or the words name none
 abbrev pub AreFilesFor : Words → FilesSeen → StoredFiles → Type 0
 AreFilesFor words files stored = (files.stored ≡ Some stored) ⊎ (files_named words ≡ [])
 
--- the plan of the words over all such files; or the line that tells why there is none; or a read of a named file
+-- with any such files the words have this plan, or this line that tells why there is none; or a read of a named file
 -- failed; or memory ran out
 abbrev pub GivesPlan : Words → FilesSeen → Result Plan NoPlan → Type 0
 GivesPlan words files (Ok plan) = (stored : StoredFiles) → AreFilesFor words files stored
@@ -67,7 +69,7 @@ GivesPlan words files (Err (Line line)) = (stored : StoredFiles) → AreFilesFor
 GivesPlan words files (Err (Unread line)) = IsUnread (files_named words) files.faults_before files.faults_now line.items
 GivesPlan words files (Err NoMemory) = ⊤
 
--- the list was read, whether its file is told or not
+-- the list was read from some bytes
 abbrev pub IsReadList : NetList → Type 0
 IsReadList list = (bytes : List ℕ) × (list_of bytes ≡ Ok list)
 

@@ -1,4 +1,4 @@
--- The lines that stand in place of a text.
+-- The lines that are written where there is no book.
 use Rattle.std.specs.Prelude.{ℕ, List, codes}
 use Rattle.serde_json.specs.Data.{Data, object, no_members, put}
 use Rattle.cni_json.specs.Json.{line_of}
@@ -15,11 +15,11 @@ file_data error file = object (no_members
     ▷ put (codes "error") error
     ▷ put (codes "file") (text_data file))
 
--- a word on a file, as in `{"error":"missing","file":"net.json"}`
+-- a word about a file, as in `{"error":"missing","file":"net.json"}`
 abbrev pub word_line : List ℕ → List ℕ → List ℕ
 word_line word file = line_of (file_data (text_data word) file)
 
--- an error on a file
+-- an error about a file
 abbrev pub error_line : CniError → List ℕ → List ℕ
 error_line error file = line_of (file_data (error_data error) file)
 

@@ -1,4 +1,4 @@
--- What stands to be reported, and how a report ends.
+-- What is to be reported, and how a report ends.
 use Rattle.std.specs.Prelude.{◌≡◌, ◌≤◌, ◌⊎◌, ℕ, List, length, Some, None, Result, Ok, Err, ⊤}
 use Rattle.pod_text.specs.Lines.{text_of}
 use Rattle.pod_text.specs.Statuses.{status_of}
@@ -17,14 +17,14 @@ use Rattle.tool_run.specs.declared.top.Ended.{Ended}
 
 -- ---- before it is reported
 
--- words and files come to this, if the files are told
+-- the words are taken, and words and files come to this plan
 pub record IsDueOf (words : List (List ℕ)) (files : FilesSeen) (due : Due) : Type 0 where
   pub words_are : words_given words ≡ Some due.words
   pub comes : ComesTo words files (carry due.plan (asked_by due.words))
   pub well_formed : IsWellFormed due.plan
   pub limits : IsWithinLimits due.words
 
--- or to no plan, for this cause
+-- words and files come to no plan, for this cause
 abbrev pub ComesToNoPlan : List (List ℕ) → FilesSeen → NoPlan → Type 0
 ComesToNoPlan words files Usage = words_given words ≡ None
 ComesToNoPlan words files (Line text) = IsRefusal words files text.items
@@ -49,18 +49,19 @@ Settles words files (Err none) = ComesToNoPlan words files none
 
 -- ---- once it is reported
 
--- the bytes were written and this is the status; or it is 5, and the sink gave up behind a prefix of them
+-- the bytes were written, and this is the status; or the status is 5, and the sink gave up after a prefix of them
 abbrev pub Reports : SinkSeen → List ℕ → ℕ → ℕ → Type 0
 Reports sink bytes status result = ((result ≡ status) × Wrote sink bytes) ⊎
     ((result ≡ 5) × HasWriteFault sink × WrotePrefix sink bytes)
 
--- why there is no plan was written with this status; out of memory nothing is written
+-- why there is no plan was written, and the status says it too; where memory ran out, nothing was written
 abbrev pub ReportsNoPlan : SinkSeen → NoPlan → ℕ → Type 0
 ReportsNoPlan sink Usage result = Reports sink usage_line 2 result
 ReportsNoPlan sink (Line text) result = Reports sink text.items 3 result
 ReportsNoPlan sink (Unread text) result = Reports sink text.items 4 result
 ReportsNoPlan sink NoMemory result = (result ≡ 6) × WroteNothing sink
 
+-- what was to be reported was reported, and the book is handed out
 abbrev pub Reported : {K : Type 0} → SinkSeen → Result (CarriedOut K) NoPlan → Ended K → Type 0
 Reported sink (Ok made) outcome = (outcome.book ≡ Some made.book)
     × Reports sink made.text.items (status_of made.book.answers) outcome.status

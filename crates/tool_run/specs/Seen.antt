@@ -27,9 +27,10 @@ sink_seen written faults old new = record {
   faults_now = faults new;
 }
 
--- a read failed, and a write
+-- a read failed
 abbrev pub HasReadFault : FilesSeen → Type 0
 HasReadFault files = Rose files.faults_before files.faults_now
 
+-- a write failed
 abbrev pub HasWriteFault : SinkSeen → Type 0
 HasWriteFault sink = Rose sink.faults_before sink.faults_now

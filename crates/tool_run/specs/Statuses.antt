@@ -17,16 +17,16 @@ use Rattle.tool_run.specs.Verdict.{Verdict, usage, line, carry, asked_by, verdic
 
 -- ---- what is written
 
--- no write was tried: the sink has what it had, and its count of faults stands
+-- nothing was written: the sink has what it had, and its count of faults is as it was
 pub record WroteNothing (sink : SinkSeen) : Type 0 where
   pub bytes : sink.bytes_now ≡ sink.bytes_before
   pub faults : sink.faults_now ≡ sink.faults_before
 
--- exactly these bytes were appended, where the sink tells
+-- exactly these bytes were appended, where the sink tells what it has
 abbrev pub Wrote : SinkSeen → List ℕ → Type 0
 Wrote sink bytes = sink.bytes_now ≡ append_known sink.bytes_before bytes
 
--- a prefix of these bytes was appended, where the sink tells
+-- a prefix of these bytes was appended, where the sink tells what it has
 abbrev pub WrotePrefix : SinkSeen → List ℕ → Type 0
 WrotePrefix sink bytes = (n : ℕ) × Wrote sink (take n bytes)
 
@@ -36,11 +36,11 @@ WrotePrefix sink bytes = (n : ℕ) × Wrote sink (take n bytes)
 abbrev pub NameNoFile : List (List ℕ) → Type 0
 NameNoFile words = (by : Words) × (words_given words ≡ Some by) × (files_named by ≡ [])
 
--- these are the files, as far as the words want any: they are told, or the words name none
+-- these are the files, as far as the words name any: they are told, or the words name none
 abbrev pub AreFiles : List (List ℕ) → FilesSeen → StoredFiles → Type 0
 AreFiles words files stored = (files.stored ≡ Some stored) ⊎ NameNoFile words
 
--- over all such files, the words come to this
+-- with any such files, the words come to this
 abbrev pub ComesTo : List (List ℕ) → FilesSeen → Verdict → Type 0
 ComesTo words files verdict = (stored : StoredFiles) → AreFiles words files stored → verdict_of words stored ≡ verdict
 
@@ -114,9 +114,9 @@ pub record ReportsWorld (words : List (List ℕ)) (sink : SinkSeen) (status : �
   pub status_is : status ≡ status_of w.answers
   pub text : (bytes : List ℕ) → IsTextOf words w bytes → Wrote sink bytes
 
--- Where the files are told or none is named, an undisturbed run has the status and wrote the text of every world that
--- the words and the files come to, whose commands went in the order of the file, all rounds over, and with memory. So
--- words and files alone determine both.
+-- Where the files are told or none is named, an undisturbed run has the status, and wrote the text, of every world that
+-- the words and the files come to in which every round is over, the commands went in the order of the file, and none
+-- ran out of memory. So words and files alone determine both.
 abbrev pub IsDetermined : List (List ℕ) → FilesSeen → SinkSeen → ℕ → Type 0
 IsDetermined words files sink status = (stored : StoredFiles) → AreFiles words files stored
     → IsUndisturbed files sink status → (w : World) → IsCarriedOut words files w → IsDoneInFileOrder w
@@ -124,21 +124,21 @@ IsDetermined words files sink status = (stored : StoredFiles) → AreFiles words
 
 -- ---- laws
 
--- the statuses of what words and files come to
+-- a status that a run may have where words and files come to this
 abbrev pub IsStatusOf : Verdict → ℕ → Type 0
 IsStatusOf usage status = status ≡ 2
 IsStatusOf (line bytes) status = status ≡ 3
 IsStatusOf (carry plan asked) status = IsAmong status (0 ∷ 1 ∷ 8 ∷ [])
 
--- where the files are told or none is named, and neither count of faults rose, a status is one of what words and files
--- come to, or 6
+-- where the files are told or none is named, and neither count of faults rose, the status is one of those for what
+-- words and files come to, or 6
 abbrev pub EachStatusIsOfItsVerdict : Type 0
 EachStatusIsOfItsVerdict = (words : List (List ℕ)) (files : FilesSeen) (sink : SinkSeen) (status : ℕ)
     (book : Option World) → Ends words files sink status book
     → (stored : StoredFiles) → AreFiles words files stored → (HasReadFault files → ⊥) → (HasWriteFault sink → ⊥)
     → IsStatusOf (verdict_of words stored) status ⊎ (status ≡ 6)
 
--- of words that aren't taken it is told so, unless the sink gave up or memory ran out
+-- a run whose words aren't taken says so, unless the sink gave up or memory ran out
 abbrev pub RefusedWordsAreTold : Type 0
 RefusedWordsAreTold = (words : List (List ℕ)) (files : FilesSeen) (sink : SinkSeen) (status : ℕ) (book : Option World)
     → Ends words files sink status book

@@ -26,12 +26,11 @@ use Rattle.tool_run.specs.Refusals.{list_error, pods_error, plan_error, file_at_
 abbrev pub Judged : Type 0 → Type 0
 Judged A = Result A (List ℕ)
 
--- the most bytes of a file
-abbrev pub limit : ℕ
-limit = 16777216
+-- the most bytes that a file may have
+abbrev pub most_bytes : ℕ
+most_bytes = 16777216
 
--- What is printed of a file that isn't given. (`file_of` never answers out of memory: that line is printed of no
--- file.)
+-- What is printed of a file that can't be read. (`file_of` never gives `NoMemory`, so no file has that line.)
 abbrev pub fault_line : FileFault → List ℕ → List ℕ
 fault_line fault.Missing file = word_line (codes "missing") file
 fault_line (fault.TooLarge most) file = word_line (codes "too large") file
@@ -44,7 +43,7 @@ judged line (Ok x) = Ok x
 judged line (Err e) = Err (line e)
 
 abbrev pub stored_bytes : StoredFiles → List ℕ → Judged (List ℕ)
-stored_bytes files file = judged (λ e. fault_line e file) (file_of files limit file)
+stored_bytes files file = judged (λ e. fault_line e file) (file_of files most_bytes file)
 
 -- what the bytes of a file are read as, or the line of the error
 abbrev pub judged_by : {A E : Type 0} → (List ℕ → Result A E) → (E → CniError) → List ℕ → List ℕ → Judged A
@@ -73,7 +72,7 @@ stored_lists files (name ∷ names) = do
 abbrev pub plan_from : Words → Pods → List NetList → Plan
 plan_from words pods lists = record { lists = lists; pods = pods; stop_at = words.stop_at }
 
--- the plan of pods that a file of this name gave
+-- the plan of pods that were read from the file of this name
 unfoldable pub judged_plan : Words → List ℕ → Pods → List NetList → Judged Plan
 judged_plan words file pods lists = judged (λ e. error_line (plan_error e) (file_at_fault file words.lists e))
     (joined (plan_from words pods lists))
@@ -93,7 +92,7 @@ generated_plan stop_at count = let made = generated count in record {
   stop_at = stop_at;
 }
 
--- the plan of a pod file, or of generated pods, which no file says anything on
+-- the plan of a pod file, or of generated pods, on which no file has a say
 abbrev pub plan_from_source : StoredFiles → Words → Source → Judged Plan
 plan_from_source files words (PodFile file) = plan_of_files files words file
 plan_from_source files words (Generator count) = Ok (generated_plan words.stop_at count)
@@ -101,7 +100,7 @@ plan_from_source files words (Generator count) = Ok (generated_plan words.stop_a
 abbrev pub plan_of : StoredFiles → Words → Judged Plan
 plan_of files words = plan_from_source files words words.source
 
--- what is printed of the commands: generated ones are many, and have a line of numbers
+-- what is printed of the commands: generated ones are many, and have one line of numbers
 abbrev pub command_part_of : Source → CommandPart
 command_part_of (PodFile file) = Lines
 command_part_of (Generator count) = Summary
@@ -114,7 +113,7 @@ asked_by words = record {
   dump = words.flags.dump;
 }
 
--- the words aren't taken; a line tells what is refused; or a plan is carried out, and so much of it printed
+-- the words aren't taken; or a line tells what is refused; or a plan is carried out, and this is printed of it
 pub data Verdict : Type 0 where
   usage : Verdict
   line : List ℕ → Verdict

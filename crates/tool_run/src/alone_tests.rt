@@ -22,7 +22,7 @@ const SIX: &str = "\
 [{\"verb\":\"ADD\",\"network\":\"small\",\"container\":\"c5\",\"netns\":\"/ns/e\"}],\
 [{\"verb\":\"ADD\",\"network\":\"small\",\"container\":\"c6\",\"netns\":\"/ns/f\"}]]}";
 
-/// The bytes that a run on them prints, and those of its first line.
+/// How many bytes a run on them prints, and how many its first line has.
 const WHOLE: usize = 1655;
 
 const FIRST_LINE: usize = 311;

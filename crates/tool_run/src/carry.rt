@@ -1,4 +1,4 @@
-//! A plan that is carried out, a round after another, and printed.
+//! Carries out a plan, one round after another, and makes its text.
 
 ghost use Rattle.std.specs.Prelude.{◌≡◌, ◌≤◌, IfOk};
 ghost use Rattle.pod_text.specs.Lines.{text_of};
@@ -28,7 +28,7 @@ pub(crate) struct CarriedOut<K: Kernel + Drop> {
     pub(crate) text: Vec<u8>,
 }
 
-/// Carries out the plan, each round by as many threads as the words ask for.
+/// Carries out the plan, each round by at most as many threads as the words ask for.
 #[tactic(auto, using(crate::proofs::Dues::carries_out, crate::proofs::Dues::in_order))]
 pub(crate) fn carry_out<K: FromHost + Send + Drop, R: Threads + Wait + Sync, G: Gate>(
     rt: &R,

@@ -38,7 +38,7 @@ pub(crate) fn read_due<F: Files>(
     }
 }
 
-/// The same of words that are taken.
+/// The same, once the words are taken.
 fn read_due_of<F: Files>(
     alloc: Global,
     given: &[Text],
@@ -54,7 +54,7 @@ fn read_due_of<F: Files>(
     Ok(Due { words, plan })
 }
 
-/// The plan that the words ask for: one of files, or of generated pods.
+/// The plan that the words ask for, from files or of generated pods.
 fn plan_for<F: Files>(alloc: Global, files: &mut F, words: &Words) -> Result<Plan, NoPlan>
     requires { IsWithinLimits words.now }
     ensures gives { GivesPlan words.now (files_seen F.files F.faults files.old files.new) result }

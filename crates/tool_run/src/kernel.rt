@@ -1,4 +1,4 @@
-//! The kernel that plans are carried out on. To have another one, name it here.
+//! The kernel that plans are carried out on. To use another one, name it here.
 
 ghost use Rattle.std.specs.Prelude.{◌≡◌, IfOk};
 ghost use Rattle.kernel_types.specs.Sound.{IsSound};
@@ -15,9 +15,9 @@ use std::alloc::Global;
 /// The kernel of a node.
 pub type NodeKernel = TableKernel;
 
-/// A kernel that may begin with any sound host.
+/// A kernel that can begin with any sound host.
 pub trait FromHost: Kernel {
-    /// The kernel that means this host. The only error is out of memory.
+    /// A kernel with this host. The only error is out of memory.
     fn from_host(alloc: Global, host: Host) -> Result<Self, NoMemory>
         requires { IsSound host }
         ensures { IfOk result (λ kernel. Self.Kernel.host kernel ≡ host) };

@@ -1,4 +1,4 @@
-//! Laws of how a run ends, and of what lists and pods that were read make. A law is a function that does nothing: a
+//! Laws on how a run ends, and on the plans of lists and pods that were read. A law is a function that does nothing: a
 //! caller gets it by calling it.
 
 ghost use Rattle.std.specs.Prelude.{◌≡◌, ◌≤◌, ℕ, All, Ok, Option};
@@ -14,7 +14,7 @@ use net_conf::network_list_laws;
 use pod_file::{generator_laws, pod_file_laws};
 use pod_workers::joined_plans_are_well_formed;
 
-/// Lists and pods that were read make a well-formed plan where they make one.
+/// Where lists and pods that were read make a plan, it is well formed.
 pub(crate) fn read_plans_are_well_formed()
     ensures { (p q : Plan) → All IsReadList p.lists → IsReadPods p.pods → joined p ≡ Ok q → IsWellFormed q }
 {
@@ -30,13 +30,13 @@ pub(crate) fn generated_plans_are_well_formed()
     generator_laws();
 }
 
-/// Where the files are told or none is named, and neither count of faults rose, the status of a run is one of what its
-/// words and files come to, or 6, out of memory.
+/// Where the files are told or none is named, and neither count of faults rose, the status of a run is one of those for
+/// what its words and files come to, or 6 (out of memory).
 pub fn an_undisturbed_status_is_of_its_verdict()
     ensures { EachStatusIsOfItsVerdict }
 {}
 
-/// Of words that aren't taken it is told so (2), unless the sink gave up (5) or memory ran out (6).
+/// A run whose words aren't taken says so (2), unless the sink gave up (5) or memory ran out (6).
 pub fn refused_words_are_told()
     ensures { RefusedWordsAreTold }
 {}

@@ -1,15 +1,15 @@
-//! The top call of the program `cnitool`: words, files, a plan that is carried out on the modelled kernel, and the
-//! text.
+//! The top call of the program `cnitool`: it reads words and files, carries out the plan that they come to on the
+//! modelled kernel, and writes the text.
 //!
-//! What it promises above: [`run`] by several threads, if it returns, and [`run_alone`] by one end in one of the ways
-//! of `Ends` (`specs/Statuses.antt`): what was to be reported was written, with its status; or the sink gave up, behind
-//! a prefix of it; or memory ran out outside the commands, and nothing was written. What is reported is the text of a
-//! book, or one line: that the words aren't taken, what is refused, or which read failed. Where the files are told, the
-//! book is of the plan that the definition `verdict_of` (`specs/Verdict.antt`) makes of words and files; where pods are
-//! generated, no file is read, and it is of the generator's plan whatever the files. The book has the guarantee
-//! `IsGuaranteed` of `pod_laws`, whatever the threads. Where one thread makes the rounds, the book's commands go in the
-//! order of the file, and words and files determine what is written and the status, running out of memory and faults
-//! aside (`IsDetermined`).
+//! What it promises above: [`run`], by several threads and if it returns, and [`run_alone`], by one, end in one of the
+//! ways of `Ends` (`specs/Statuses.antt`): what was to be reported was written, with its status; or the sink gave up
+//! after a prefix of it; or memory ran out outside the commands, and nothing was written. What is reported is the text
+//! of a book, or one line: that the words aren't taken, what is refused, or which read failed. Where the files are
+//! told, the book is of the plan that the definition `verdict_of` (`specs/Verdict.antt`) makes of words and files; where
+//! pods are generated, no file is read, and it is of the generator's plan whatever the files. The book has the
+//! guarantee `IsGuaranteed` of `pod_laws`, whatever the threads. Where one thread makes the rounds, the commands go in
+//! the order of the file, and words and files determine what is written and the status, faults and running out of
+//! memory aside (`IsDetermined`).
 //!
 //! ```text
 //! // words: --threads 4 pods.json net.json

@@ -1,4 +1,4 @@
-//! The lines that stand in place of a text.
+//! The lines that are written where there is no book.
 
 ghost use Rattle.std.specs.Prelude.{◌≡◌, IfOk, false};
 ghost use Rattle.serde_json.specs.View.{view};
@@ -15,14 +15,14 @@ use std::alloc::Global;
 /// The words aren't taken.
 pub(crate) const USAGE: &[u8] = b"{\"error\":\"usage\"}\n";
 
-/// A word on a file.
+/// A word about a file.
 pub(crate) fn word_line(alloc: Global, word: &str, file: &str) -> Result<Vec<u8>, NoMemory>
     ensures { IfOk result (λ line. line.items ≡ word_line word.now file.now) }
 {
     file_line(alloc, Value::try_from_str(alloc, word)?, file)
 }
 
-/// An error on a file.
+/// An error about a file.
 pub(crate) fn error_line(alloc: Global, error: &CniError, file: &str) -> Result<Vec<u8>, NoMemory>
     ensures { IfOk result (λ line. line.items ≡ error_line error.now file.now) }
 {

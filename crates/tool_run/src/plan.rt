@@ -3,7 +3,7 @@
 ghost use Rattle.std.specs.Prelude.{◌≡◌, ◌≤◌, ◌<◌, ◌^◌, ◌∷◌, [], IfOk, All, length};
 ghost use Rattle.pod_workers.specs.Plans.{IsWellFormed};
 ghost use Rattle.tool_words.specs.Command.{most_lists};
-ghost use Rattle.tool_run.specs.Causes.{GivesJudged, IsReadList, IsReadPods, Steps};
+ghost use Rattle.tool_run.specs.Causes.{GivesJudged, GivesStored, IsReadList, IsReadPods};
 ghost use Rattle.tool_run.specs.Verdict.{stored_bytes, stored_list, stored_lists, plan_of_files, stored_pods, judged_list, judged_plan, judged_pods};
 
 use crate::laws::read_plans_are_well_formed;
@@ -11,14 +11,15 @@ use crate::lines::{error_line, word_line};
 use crate::refusals::{file_at_fault, list_error, plan_error, pods_error};
 use cni_addr::{Items, NoMemory, Text};
 use cni_io::{FileFault, Files};
+use kernel_types::RefCounted;
 use net_conf::{ConfError, NetList};
 use pod_file::{PodError, Pods};
 use pod_workers::Plan;
 use std::alloc::Global;
 use tool_words::Words;
 
-/// The most bytes of a file.
-const LIMIT: u64 = 16_777_216;
+/// The most bytes that a file may have.
+const MOST_BYTES: u64 = 16_777_216;
 
 /// Why there is nothing to carry out.
 #[derive(Drop)]
@@ -43,7 +44,7 @@ impl From<NoMemory> for NoPlan {
     }
 }
 
-/// Reads the pod file of this name, then each network list of the words in order, and joins them.
+/// Reads the pod file of this name, then each network list that the words name, in order, and joins them.
 #[tactic(auto, using(crate::proofs::Stopping::stopping), unfolding(crate::specs::Verdict::plan_of_files))]
 pub(crate) fn read_plan<F: Files>(
     alloc: Global,
@@ -52,7 +53,7 @@ pub(crate) fn read_plan<F: Files>(
     file: &str,
 ) -> Result<Plan, NoPlan>
     requires { length words.now.lists ≤ most_lists }
-    ensures gives { Steps (λ plan. plan) (F.files files.old) (F.faults files.old) (F.faults files.new)
+    ensures gives { GivesStored (λ plan. plan) (F.files files.old) (F.faults files.old) (F.faults files.new)
         (file.now ∷ words.now.lists) (λ stored. plan_of_files stored words.now file.now) result }
     ensures well_formed { IfOk result IsWellFormed }
     ensures keeps { F.files files.new ≡ F.files files.old }
@@ -70,7 +71,7 @@ fn join(
     words: &Words,
     file: &str,
     pods: Pods,
-    lists: Items<NetList>,
+    lists: Items<RefCounted<NetList>>,
 ) -> Result<Plan, NoPlan>
     requires few { length lists ≤ most_lists }
     requires pods_read { IsReadPods pods }
@@ -90,7 +91,7 @@ fn join(
 
 #[tactic(auto, using(crate::proofs::Stopping::stopping), unfolding(crate::specs::Verdict::stored_pods))]
 fn read_pods<F: Files>(alloc: Global, files: &mut F, file: &str) -> Result<Pods, NoPlan>
-    ensures gives { Steps (λ pods. pods) (F.files files.old) (F.faults files.old) (F.faults files.new)
+    ensures gives { GivesStored (λ pods. pods) (F.files files.old) (F.faults files.old) (F.faults files.new)
         (file.now ∷ []) (λ stored. stored_pods stored file.now) result }
     ensures read { IfOk result IsReadPods }
     ensures keeps { F.files files.new ≡ F.files files.old }
@@ -117,8 +118,8 @@ fn read_lists<F: Files>(
     alloc: Global,
     files: &mut F,
     names: &[Text],
-) -> Result<Items<NetList>, NoPlan>
-    ensures gives { Steps (λ lists. lists) (F.files files.old) (F.faults files.old) (F.faults files.new)
+) -> Result<Items<RefCounted<NetList>>, NoPlan>
+    ensures gives { GivesStored (λ lists. lists) (F.files files.old) (F.faults files.old) (F.faults files.new)
         names.now (λ stored. stored_lists stored names.now) result }
     ensures read { IfOk result (All IsReadList) }
     ensures count { IfOk result (λ lists. length lists ≡ length names.now) }
@@ -129,14 +130,14 @@ fn read_lists<F: Files>(
     let mut lists = Items::new(alloc);
     for name in names {
         let list = read_list(alloc, files, name.as_str())?;
-        lists.push(list)?;
+        lists.push(RefCounted::of(alloc, list)?)?;
     }
     Ok(lists)
 }
 
 #[tactic(auto, using(crate::proofs::Stopping::stopping), unfolding(crate::specs::Verdict::stored_list))]
 fn read_list<F: Files>(alloc: Global, files: &mut F, file: &str) -> Result<NetList, NoPlan>
-    ensures gives { Steps (λ list. list) (F.files files.old) (F.faults files.old) (F.faults files.new)
+    ensures gives { GivesStored (λ list. list) (F.files files.old) (F.faults files.old) (F.faults files.new)
         (file.now ∷ []) (λ stored. stored_list stored file.now) result }
     ensures read { IfOk result IsReadList }
     ensures keeps { F.files files.new ≡ F.files files.old }
@@ -161,13 +162,13 @@ fn list_of_bytes(alloc: Global, bytes: &[u8], file: &str) -> Result<NetList, NoP
 
 #[tactic(auto, using(crate::proofs::Stopping::stopping))]
 fn read_bytes<F: Files>(alloc: Global, files: &mut F, file: &str) -> Result<Vec<u8>, NoPlan>
-    ensures gives { Steps (λ bytes. bytes.items) (F.files files.old) (F.faults files.old) (F.faults files.new)
+    ensures gives { GivesStored (λ bytes. bytes.items) (F.files files.old) (F.faults files.old) (F.faults files.new)
         (file.now ∷ []) (λ stored. stored_bytes stored file.now) result }
     ensures keeps { F.files files.new ≡ F.files files.old }
     ensures later { F.faults files.old ≤ F.faults files.new }
     ensures bounded { F.faults files.new < 2 ^ 64 }
 {
-    match files.read(alloc, file, LIMIT) {
+    match files.read(alloc, file, MOST_BYTES) {
         Ok(bytes) => Ok(bytes),
         Err(FileFault::Missing) => Err(NoPlan::Line(word_line(alloc, "missing", file)?)),
         Err(FileFault::TooLarge { .. }) => Err(NoPlan::Line(word_line(alloc, "too large", file)?)),

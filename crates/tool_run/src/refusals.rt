@@ -57,7 +57,7 @@ pub(crate) fn plan_error(alloc: Global, error: PlanError) -> Result<CniError, No
     }
 }
 
-/// The file that makes the plan fail: a list whose name an earlier one has, and else the pod file.
+/// The file at fault: the network list that has the name of an earlier one, or else the pod file.
 pub(crate) fn file_at_fault<'a>(pods: &'a str, lists: &'a [Text], error: PlanError) -> &'a str
     ensures { result.now ≡ file_at_fault pods.entry.now lists.entry.now error }
 {

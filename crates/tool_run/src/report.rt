@@ -1,4 +1,4 @@
-//! What a run writes, and the status that it answers.
+//! What a run writes, and the status that it ends with.
 
 ghost use Rattle.tool_run.specs.Reports.{Reported, Reports, ReportsNoPlan};
 ghost use Rattle.tool_run.specs.Seen.{sink_seen};
@@ -30,7 +30,7 @@ pub(crate) fn report<K: Kernel + Drop, S: Sink>(
     }
 }
 
-/// Writes why there is no plan, and answers the status.
+/// Writes why there is no plan, and returns the status.
 fn report_no_plan<S: Sink>(sink: &mut S, none: NoPlan) -> u8
     ensures { ReportsNoPlan (sink_seen S.written S.faults sink.old sink.new) none result }
 {
@@ -42,7 +42,7 @@ fn report_no_plan<S: Sink>(sink: &mut S, none: NoPlan) -> u8
     }
 }
 
-/// Writes the bytes, and answers the status, or [`WRITE_STATUS`] where the sink gave up.
+/// Writes the bytes, and returns the status, or [`WRITE_STATUS`] where the sink gave up.
 fn write<S: Sink>(sink: &mut S, bytes: &[u8], status: u8) -> u8
     ensures { Reports (sink_seen S.written S.faults sink.old sink.new) bytes.now status result }
 {

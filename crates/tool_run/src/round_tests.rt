@@ -15,12 +15,12 @@ const PUBLISHED: &str = "{\"cniVersion\":\"1.1.0\",\"name\":\"gen\",\"plugins\":
 {\"type\":\"bridge\",\"isGateway\":true,\"ipMasq\":true,\"ipam\":{\"type\":\"host-local\",\"subnet\":\"10.0.0.0/8\"}},\
 {\"type\":\"portmap\",\"capabilities\":{\"portMappings\":true}},{\"type\":\"firewall\"}]}";
 
-/// An ADD of that list, up to how it is stopped or which of its calls are faults.
+/// A pod file with an ADD on that list, up to where it says how the ADD is stopped or which of its calls are faults.
 const MAPPED: &str = "{\"opening\":{\"namespaces\":[\"/ns/a\"]},\"rounds\":[[\
 {\"verb\":\"ADD\",\"network\":\"gen\",\"container\":\"c1\",\"netns\":\"/ns/a\",\
 \"portMappings\":[{\"hostPort\":8080,\"containerPort\":80,\"protocol\":\"tcp\"}],";
 
-/// Three ADDs and a collection of everything, up to how it is stopped or which of its calls are faults.
+/// A pod file with three ADDs and a collection of everything, up to where it says the same of the collection.
 const THREE: &str = "{\"opening\":{\"namespaces\":[\"/ns/a\",\"/ns/b\",\"/ns/c\"]},\"rounds\":[\
 [{\"verb\":\"ADD\",\"network\":\"pods\",\"container\":\"c1\",\"netns\":\"/ns/a\"}],\
 [{\"verb\":\"ADD\",\"network\":\"pods\",\"container\":\"c2\",\"netns\":\"/ns/b\"}],\
@@ -180,7 +180,7 @@ fn faulty_add(alloc: Global, fault: u32) -> Result<Seen, Fail> {
     make_rounds::<NodeKernel>(alloc, PUBLISHED, pods.as_str(), 1, 1)
 }
 
-/// A collection that is cut short as these words say, and another behind it.
+/// A collection that is cut short as these words say, and another after it.
 fn two_collections(alloc: Global, cut: &str) -> Result<Seen, Fail> {
     let again = "}],[{\"verb\":\"GC\",\"network\":\"pods\",\"valid\":[]}]]}";
     let pods = format!(in alloc; "{THREE}{cut}{again}")?;
@@ -226,7 +226,7 @@ fn an_add_with_a_fault_takes_back_what_it_made(rt: HostRuntime) -> Result<(), Fa
     Ok(())
 }
 
-/// A collection that meets a fault, or is stopped, is finished by the one behind it.
+/// A collection that meets a fault, or is stopped, is finished by the one after it.
 #[test]
 fn a_collection_that_is_cut_short_is_finished(rt: HostRuntime) -> Result<(), Fail> {
     for call in 1..28u32 {

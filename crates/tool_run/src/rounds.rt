@@ -1,18 +1,19 @@
-//! How a round is made: by the calling thread, or by several.
+//! How a round is made: by the calling thread alone, or by several threads.
 
 ghost use Rattle.std.specs.Prelude.{◌≡◌, ◌<◌, ◌≤◌, length};
 ghost use Rattle.pod_workers.specs.Extends.{Rounds};
 ghost use Rattle.pod_workers.specs.Order.{IsInFileOrder};
 
 use kernel_model::Kernel;
+use pod_file::Command;
 use pod_threads::{Gate, Rounded, round_threads};
 use pod_workers::Book;
 use std::alloc::Global;
 use std::sync::Wait;
 use std::thread::Threads;
 
-/// The book with its current round made by so many threads. One thread is the calling one, which passes no gate, and
-/// so is the one that makes the round where memory is refused for several.
+/// The book with its current round made by so many threads at most. Where one is enough, or memory is refused for
+/// several, the calling thread makes the round, and passes no gate.
 pub(crate) fn make_round<K: Kernel + Send + Drop, R: Threads + Wait + Sync, G: Gate>(
     rt: &R,
     alloc: Global,
@@ -25,12 +26,26 @@ pub(crate) fn make_round<K: Kernel + Send + Drop, R: Threads + Wait + Sync, G: G
     ensures rounds { Rounds book result }
     ensures order { threads ≡ 1 → IsInFileOrder book → IsInFileOrder result }
 {
-    if threads == 1 {
+    let workers = worker_count(book.current_round(), threads);
+    if workers == 1 {
         return make_round_alone(book);
     }
-    match round_threads(rt, alloc, book, threads, gate) {
+    match round_threads(rt, alloc, book, workers, gate) {
         Ok(Rounded { book, counts: _ }) => book,
         Err(book) => make_round_alone(book),
+    }
+}
+
+/// One thread for each command of the round, but no more than so many.
+fn worker_count(commands: &[Command], threads: u8) -> u8
+    requires { 1 ≤ threads }
+    ensures some { 1 ≤ result }
+    ensures most { result ≤ threads }
+{
+    if commands.len() < threads as usize {
+        (commands.len() as u8).max(1)
+    } else {
+        threads
     }
 }
 

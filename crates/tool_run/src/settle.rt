@@ -17,7 +17,7 @@ use std::alloc::Global;
 use std::sync::Wait;
 use std::thread::Threads;
 
-/// What the words and the files come to, carried out by as many threads as the words ask for.
+/// What the words and the files come to, carried out by at most as many threads as the words ask for.
 pub(crate) fn settle<K: FromHost + Send + Drop, R: Threads + Wait + Sync, F: Files, G: Gate>(
     rt: &R,
     alloc: Global,

@@ -12,7 +12,7 @@ use std::sync::atomic::{AtomicBool, Ordering};
 use std::test::Fail;
 use std::thread::Threads;
 
-/// The most turns that a worker is held.
+/// For how many turns a worker is held at most.
 const TURNS: u64 = 1_000_000_000;
 
 /// The beginning of a pod file, up to its first round.
@@ -31,7 +31,7 @@ const ADDED: &str = "\
 {\"verb\":\"ADD\",\"network\":\"pods\",\"container\":\"c7\",\"netns\":\"/ns/7\"},\
 {\"verb\":\"ADD\",\"network\":\"pods\",\"container\":\"c8\",\"netns\":\"/ns/8\"}]";
 
-/// A round behind it, which deletes them.
+/// The next round, which deletes them.
 const DELETED: &str = "\
 ,[\
 {\"verb\":\"DEL\",\"network\":\"pods\",\"container\":\"c1\",\"netns\":\"/ns/1\"},\

@@ -1,4 +1,4 @@
-//! The top call: words, files, a plan that is carried out, and one text or line that is written.
+//! The top call: it reads words and files, carries out the plan that they come to, and writes one text or line.
 
 ghost use Rattle.std.specs.Prelude.{◌≡◌, IfSome};
 ghost use Rattle.pod_laws.specs.Guaranteed.{IsGuaranteed};
@@ -24,7 +24,7 @@ use std::thread::Threads;
 pub struct Ended<K: Kernel + Drop> {
     /// The exit status, one of those that [`pod_text::statuses`] names.
     pub status: u8,
-    /// The plan that was carried out, with what it came to.
+    /// The book of the plan, where one was carried out.
     pub book: Option<Book<K>>,
 }
 
@@ -92,11 +92,11 @@ pub fn run_alone_over<K: FromHost + Drop, F: Files, S: Sink>(
 /// Carries out the plan that the words and the files come to, and writes its text.
 ///
 /// The words are those of the program without its name. With `--threads` above 1 each round is made by so many threads
-/// at most: the commands of one container all go to one of them, which passes the gate before each of their steps, and
-/// which thread steps when is left to the machine. With one thread, and where memory is refused for the threads of a
-/// round, the calling thread steps each command of the round whole, in file order, and passes no gate. What is promised
-/// is promised if the call returns: no proof says that a thread gets on, and a gate that holds one for ever holds this
-/// call for ever.
+/// at most, and by no more than it has commands: the commands of one container all go to one thread, which passes the
+/// gate before each of their steps, and which thread steps when is left to the machine. With one thread, in a round of
+/// one command, and where memory is refused for the threads of a round, the calling thread steps each command of the
+/// round to its answer, in file order, and passes no gate. What is promised is promised if the call returns: no proof
+/// says that a thread gets on, and a gate that holds one for ever holds this call for ever.
 pub fn run<R: Threads + Wait + Sync, F: Files, S: Sink, G: Gate>(
     rt: &R,
     alloc: Global,
@@ -120,8 +120,8 @@ pub fn run<R: Threads + Wait + Sync, F: Files, S: Sink, G: Gate>(
     run_over(rt, alloc, words, files, sink, gate)
 }
 
-/// The same on the calling thread alone: the number of threads is read and not used, and each command runs whole, in
-/// file order. It always returns.
+/// The same on the calling thread alone: the number of threads is read and not used, and the commands are carried out
+/// one after another, in file order. It always returns.
 pub fn run_alone<F: Files, S: Sink>(
     alloc: Global,
     words: &[Text],
