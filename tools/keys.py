@@ -1,5 +1,5 @@
 #!/usr/bin/env python3
-"""Lists the keys of network lists and pod files that no page of docs/ names: the program passes them over.
+"""Lists the keys of network lists and pod files that no page of docs/ names where they stand: the program ignores them.
 
     tools/keys.py FILE ..
 
@@ -41,8 +41,8 @@ def pod_keys():
 
 
 def ipam_keys():
-    keys = keys_of(section("plugins/host-local.md", "Keys"))
-    return {**keys, "ranges": keys}
+    text = section("plugins/host-local.md", "Keys")
+    return {**keys_of(text), "ranges": keys_of(text.split("A range:")[1].split("Accepted and not acted on")[0])}
 
 
 def plugin_keys(name):
@@ -51,7 +51,8 @@ def plugin_keys(name):
         return None
     keys = keys_of(section(f"plugins/{name}.md", "Keys"))
     dns = keys_of(section("plugins/bridge.md", "Keys"))["dns"]
-    return {**keys, "type": {}, "dns": dns, "ipam": ipam_keys(), "sysctl": None}
+    inside = {"dns": dns, "ipam": ipam_keys(), "sysctl": None}
+    return {**keys, "type": {}, **{key: inside[key] for key in inside if key in keys}}
 
 
 def unnamed(value, keys, place=""):
@@ -89,7 +90,7 @@ def lines_of(file):
         yield str(error)
         return
     for place, near in unnamed_in(value):
-        yield f"{place} is passed over" + "".join(f"; the nearest name is {it}" for it in near)
+        yield f"{place} is ignored" + "".join(f"; the nearest name is {it}" for it in near)
 
 
 def main():

@@ -5,11 +5,11 @@
 
 Each file that a document names in backticks is there. Each `crate::item` is an item of that crate, each `crate/edit` an
 edit that must be refused, and each bare name in the documents on the code stands in some crate. docs/GUARANTEES.md
-names every law, and every edit beside its crate. The picture of docs/ARCHITECTURE.md has every crate above those that
-it stands on, and the page names every file that tells plugins apart. Each definition of docs/DEFINITIONS.md stands in
-the file beside it. docs/INDEX.md is what index.py finds. examples/first is as the data of crates/cnitool, and
-examples/plugins as the pages of the plugins. Some command of the documents makes each picture. With a program, the
-documents' sessions and examples are run by examples.py.
+names every law. The picture of docs/ARCHITECTURE.md has every crate above those that it stands on, and the page names
+every file that tells plugins apart. Each definition of docs/DEFINITIONS.md stands in the file beside it. docs/INDEX.md
+is what index.py finds. examples/first is as the data of crates/cnitool, and examples/plugins as the pages of the
+plugins. Some command of the documents makes each picture. With a program, the documents' sessions and examples are run
+by examples.py.
 """
 
 import os
@@ -27,8 +27,6 @@ from written import is_other
 CRATES = {it.name: it for it in index.crates()}
 EDITS = {name: {it.stem for it in (crate / "must-fail").glob("*.edit")} for name, crate in CRATES.items()}
 SUFFIXES = (".antt", ".rt", ".md", ".json", ".py", ".txt", ".edit")
-# a crate with its edits, over one line or more
-EDITS_OF = re.compile(r"^- `(\w+)`: (.*(?:\n  .*)*)$", re.MULTILINE)
 # a variant of a configuration or of a type of plugins
 TELLS_APART = re.compile(r"\.(?:First|Chained|PluginType)\.TheVariants\b|\b(?:First|Chained|PluginType)::[A-Z]")
 # they name what the lists of a test, or the generated ones, have
@@ -85,19 +83,9 @@ def missing_laws(text):
     for name, crate in CRATES.items():
         laws = crate / "src" / "laws.rt"
         for law in re.findall(r"^pub fn (\w+)", laws.read_text(encoding="utf-8") if laws.exists() else "", re.MULTILINE):
-            if not re.search(rf"(?:`|::){law}`", text):
+            # a plugin's is said of all plugins by cni_verbs
+            if not (re.search(rf"(?:`|::){law}`", text) or law.endswith("_keeps_its_laws")):
                 yield f"the law {law} of {name} isn't named"
-
-
-def wrong_edits(text):
-    """Where the list of edits isn't the crates' edits."""
-    section = text.split("## Wrong bodies that are refused")[1].split("\n## ")[0]
-    named = {crate: set(re.findall(r"`(\w+)`", edits)) for crate, edits in EDITS_OF.findall(section)}
-    for crate, edits in EDITS.items():
-        for name in sorted(named.pop(crate, set()) ^ edits):
-            yield f"the edits of {crate}: {name}"
-    for crate in named:
-        yield f"no crate {crate}"
 
 
 def missing_in_crates(text):
@@ -172,7 +160,6 @@ def wrong_in(path, sources, program):
         yield from wrong_plugin_files(text)
     if path.name == "GUARANTEES.md":
         yield from missing_laws(text)
-        yield from wrong_edits(text)
     if path.name == "DEFINITIONS.md":
         yield from missing_definitions(text)
     if program:

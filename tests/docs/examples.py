@@ -24,7 +24,9 @@ from written import is_other
 EXAMPLE = re.compile(r"^```json\n(.*?)^```\n(?:\n((?:    (?!\$ )[^\n]*\n)+))?", re.MULTILINE | re.DOTALL)
 PICTURE = re.compile(r"!\[[^]]*\]\(([^)]*)\)")
 PICTURES = TOP / "docs" / "pictures"
-FIRST = ("bridge", "ptp", "macvlan")
+README = (TOP / "README.md").read_text(encoding="utf-8")
+# the plugins that may stand first in a list
+FIRST = re.findall(r"`(\w+)`", re.search(r"^\| Plugins that make a link \|([^|]*)", README, re.MULTILINE)[1])
 # each file of examples/first, and the file of crates/cnitool that says the same
 TWICE = {"net.json": "data/net.json", "pods.json": "data/pods.json", "output.txt": "stdout"}
 

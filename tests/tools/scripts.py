@@ -3,7 +3,7 @@
 
     scripts.py [PROGRAM]
 
-- passed_over: keys that no page names are listed, by their places, and no other; files of any form are read;
+- ignored: keys that no page names are listed, by their places, and no other; files of any form are read;
 - table:       objects of one kind, in columns;
 - changes:     what the calls of a run changed, one after another, leads from the opening to the last dump;
 - pictures:    each is XML, the same twice, and says each name and address; frames are within one another or apart;
@@ -46,24 +46,26 @@ LIST = {
     "runtimeConfig": {},
     "plugins": [
         {"type": "bridge", "isgateway": True, "subnet": "10.0.0.0/8", "dns": {"nameserver": []}},
-        {"type": "ptp", "ipam": {"type": "host-local", "ranges": [[{"rangestart": ""}]], "routes": [{"mtu": 5}]}},
-        {"type": "tuning", "sysctl": {"net.core.somaxconn": "1"}, "txqlen": 1},
+        {"type": "ptp", "ipam": {"type": "host-local", "ranges": [[{"rangestart": "", "resolvConf": ""}]], "routes": [{"mtu": 5}]}},
+        {"type": "tuning", "sysctl": {"net.core.somaxconn": "1"}, "txqlen": 1, "dns": {}},
         {"type": "portmap", "capabilities": {"portMappings": True}, "conditionsV4": []},
         {"type": "loopback", "any": 1},
     ],
 }
 NO_JSON = b'{"rounds":[],\n}'
-PASSED_OVER = """\
-pods.json: opening.links[0].mut is passed over; the nearest name is mtu
-pods.json: rounds[0][0].vaild is passed over; the nearest name is valid
-pods.json: rounds[1][0].portMappings[0].hostport is passed over; the nearest name is hostPort
-net.json: runtimeConfig is passed over
-net.json: plugins[0].isgateway is passed over; the nearest name is isGateway
-net.json: plugins[0].subnet is passed over
-net.json: plugins[0].dns.nameserver is passed over; the nearest name is nameservers
-net.json: plugins[1].ipam.ranges[0][0].rangestart is passed over; the nearest name is rangeStart
-net.json: plugins[1].ipam.routes[0].mtu is passed over
-net.json: plugins[2].txqlen is passed over; the nearest name is txQLen
+IGNORED = """\
+pods.json: opening.links[0].mut is ignored; the nearest name is mtu
+pods.json: rounds[0][0].vaild is ignored; the nearest name is valid
+pods.json: rounds[1][0].portMappings[0].hostport is ignored; the nearest name is hostPort
+net.json: runtimeConfig is ignored
+net.json: plugins[0].isgateway is ignored; the nearest name is isGateway
+net.json: plugins[0].subnet is ignored
+net.json: plugins[0].dns.nameserver is ignored; the nearest name is nameservers
+net.json: plugins[1].ipam.ranges[0][0].rangestart is ignored; the nearest name is rangeStart
+net.json: plugins[1].ipam.ranges[0][0].resolvConf is ignored
+net.json: plugins[1].ipam.routes[0].mtu is ignored
+net.json: plugins[2].txqlen is ignored; the nearest name is txQLen
+net.json: plugins[2].dns is ignored
 bad.json: Expecting property name enclosed in double quotes: line 2 column 1 (char 14)
 """
 DUMP = """\
@@ -84,10 +86,10 @@ def output_of(tool, words, given=""):
     return ended.stdout, ended.returncode
 
 
-def passed_over(_):
+def ignored(_):
     with in_folder({"pods.json": PODS, "net.json": LIST, "bad.json": NO_JSON}) as folder:
         ended = run(TOOLS / "keys.py", ["pods.json", "net.json", "bad.json"], folder)
-    if (ended.stdout.decode("utf-8"), ended.returncode) != (PASSED_OVER, 1):
+    if (ended.stdout.decode("utf-8"), ended.returncode) != (IGNORED, 1):
         yield f"status {ended.returncode}: {ended.stdout.decode('utf-8')}"
     good = [str(it) for it in (TOP / "examples").rglob("*.json") if it.name != "misspelt.json"]
     if output_of("keys.py", good) != ("", 0):
@@ -183,7 +185,7 @@ def completion(_):
 
 def main():
     program = program_of(sys.argv[1:])
-    failed = count_failed((it.__name__, list(it(program))) for it in (passed_over, table, changes, pictures, completion))
+    failed = count_failed((it.__name__, list(it(program))) for it in (ignored, table, changes, pictures, completion))
     print(f"tools: {failed} wrong")
     return 1 if failed else 0
 
