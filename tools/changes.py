@@ -49,7 +49,7 @@ def changes(calls, pods, program, lists):
 
 
 def main():
-    if len(sys.argv) < 3:
+    if len(sys.argv) < 3 or sys.argv[2].startswith(("-", "gen:")):
         sys.exit(__doc__)
     program, file, *lists = sys.argv[1:]
     whole = run([program, "--trace", file, *lists])

@@ -73,7 +73,7 @@ def unnamed_in(value):
     """The places of a list or a pod file, which may be of any form, as those that the program refuses are."""
     if not isinstance(value, dict):
         return
-    if "rounds" in value:
+    if "rounds" in value or "plugins" not in value:
         yield from unnamed(value, pod_keys())
         return
     yield from unnamed(value, {**keys_of(section("FORMATS.md", "Network lists")), "plugins": None})
@@ -94,6 +94,8 @@ def lines_of(file):
 
 
 def main():
+    if len(sys.argv) < 2:
+        sys.exit(__doc__)
     lines = [f"{file}: {it}" for file in sys.argv[1:] for it in lines_of(file)]
     print("".join(f"{it}\n" for it in lines), end="")
     return 1 if lines else 0

@@ -28,6 +28,8 @@ def main():
         sys.exit(__doc__)
     kind, *keys = sys.argv[1:]
     objects = [value for value in map(json.loads, sys.stdin) if value.pop("kind", None) == kind]
+    if not objects:
+        print(f"table.py: no {kind} in what was given; is it a dump?", file=sys.stderr)
     keys = keys or list(dict.fromkeys(key for it in objects for key in it))
     print("\n".join(table(objects, keys)))
 
