@@ -15,7 +15,7 @@ pub enum Skip {
 #[derive(PartialEq, Eq, Drop)]
 pub enum Answer {
     /// An ADD made its attachment.
-    Added(AddResult),
+    Added(RefCounted<AddResult>),
     /// The verb did what it was asked.
     Yes,
     /// The list disables the verb.
@@ -103,7 +103,7 @@ pub enum Cause {
     /// What was to be taken away isn't there (code 105).
     NothingThere,
     /// An object that the cached result names isn't there (code 110).
-    Missing(Missed),
+    Missing(RefCounted<Missed>),
 }
 
 /// A call that asks something, and why the verb refuses where the answer is no.

@@ -15,7 +15,7 @@ use crate::wanted::result_of_add;
 use crate::words::named_att_of;
 use cni_addr::{Addr, Duplicate, NoMemory};
 use cni_result::Version;
-use kernel_types::Kind;
+use kernel_types::{Kind, RefCounted};
 use net_conf::NetList;
 use pod_file::Command;
 use std::alloc::Global;
@@ -50,7 +50,7 @@ fn added(
 {
     let att = named_att_of(alloc, command)?;
     let added = result_of_add(alloc, list, &att, &command.netns, given)?;
-    Ok(Answer::Added(added))
+    Ok(Answer::Added(RefCounted::of(alloc, added)?))
 }
 
 fn ended(
@@ -84,7 +84,10 @@ fn answer_at_end(
         Some answer ≡ answer_in (Some list.now) command.now (state_in list.now command.now given.now phase.now)) }
 {
     match phase {
-        Phase::AfterLeases { cached, .. } => Ok(Answer::Added(cached.get().result.copy()?)),
+        Phase::AfterLeases { cached, .. } => {
+            let added = cached.get().result.copy()?;
+            Ok(Answer::Added(RefCounted::of(alloc, added)?))
+        }
         Phase::Deleting(_, ending) => ended(alloc, list, command, ending, &[]),
         Phase::Asking { .. } => ended(alloc, list, command, &Ending::Yes, &[]),
         Phase::Over(ending) => ended(alloc, list, command, ending, &[]),

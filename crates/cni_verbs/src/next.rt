@@ -128,11 +128,10 @@ fn deletion_at(
 }
 
 #[inline(never)]
-fn change_of(alloc: Global, change: &Call) -> Result<Option<RefCounted<Call>>, NoMemory>
+fn change_of(change: &RefCounted<Call>) -> Result<Option<RefCounted<Call>>, NoMemory>
     ensures { IfOk result (λ next. next ≡ Some change.now) }
 {
-    let change = change.copy()?;
-    Ok(Some(RefCounted::of(alloc, change)?))
+    Ok(Some(change.copy()?))
 }
 
 /// The call that the run of this list makes next.
@@ -157,7 +156,7 @@ pub(crate) fn next_of(
         Phase::ReadingCache(_) | Phase::FindingEntry => cache_get(alloc, command),
         Phase::Deleting(passed, _) => deletion_at(alloc, command, kinds, *passed),
         Phase::Asking { questions, passed } => call_asked(questions.as_slice(), *passed),
-        Phase::Changing(change) => change_of(alloc, change),
+        Phase::Changing(change) => change_of(change),
         Phase::Over(_) => Ok(None),
         Phase::Begun | Phase::Leased | Phase::Found(_) => unreachable!(),
     }
@@ -173,7 +172,7 @@ pub(crate) fn next_outside(
     ensures { IfOk result (λ next. next ≡ next_call command.now (state_outside phase.now)) }
 {
     match phase {
-        Phase::Changing(change) => change_of(alloc, change),
+        Phase::Changing(change) => change_of(change),
         _ => Ok(None),
     }
 }

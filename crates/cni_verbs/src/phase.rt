@@ -44,7 +44,7 @@ pub(crate) enum Phase {
         passed: usize,
     },
     /// A change from outside is made by this call.
-    Changing(Call),
+    Changing(RefCounted<Call>),
     Over(Ending),
 }
 

@@ -40,7 +40,7 @@ fn asks_for(alloc: Global, object: Object, missed: Missed) -> Result<Question, N
     let probe = Probe::Whole(object);
     Ok(Question {
         call: RefCounted::of(alloc, Call::HasObj { probe })?,
-        lack: Cause::Missing(missed),
+        lack: Cause::Missing(RefCounted::of(alloc, missed)?),
     })
 }
 
@@ -171,7 +171,7 @@ fn bridge_question(alloc: Global, name: &Text, mac: Mac) -> Result<Question, NoM
     let probe = Probe::BridgeAt { name: bridge, mac };
     Ok(Question {
         call: RefCounted::of(alloc, Call::HasObj { probe })?,
-        lack: Cause::Missing(Missed::Bridge(missed)),
+        lack: Cause::Missing(RefCounted::of(alloc, Missed::Bridge(missed))?),
     })
 }
 

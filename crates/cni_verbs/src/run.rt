@@ -124,7 +124,7 @@ impl Run {
         ensures { IfOk result (λ run. run.progress ≡ progress None command.now []) }
     {
         let twin = command.copy()?;
-        let phase = first_outside(command)?;
+        let phase = first_outside(alloc, command)?;
         Ok(Run::begun_outside(alloc, twin, phase))
     }
 

@@ -18,7 +18,7 @@ use crate::questions::status_questions;
 use crate::words::{add_refusal, del_refusal, drop_refusal, netns_refusal};
 use cni_addr::{Duplicate, NoMemory};
 use cni_result::Version;
-use kernel_types::{Call, Change, LinkKey, Table};
+use kernel_types::{Call, Change, LinkKey, RefCounted, Table};
 use net_conf::NetList;
 use pod_file::{Command, Verb};
 use std::alloc::Global;
@@ -115,20 +115,26 @@ pub(crate) fn first_phase(
 
 // ---- changes from outside
 
-fn change_of_namespace(command: &Command, add: bool) -> Result<Phase, NoMemory>
+fn changing(alloc: Global, change: Call) -> Result<Phase, NoMemory>
+    ensures { IfOk result (λ phase. state_outside phase ≡ Changing change) }
+{
+    Ok(Phase::Changing(RefCounted::of(alloc, change)?))
+}
+
+fn change_of_namespace(alloc: Global, command: &Command, add: bool) -> Result<Phase, NoMemory>
     ensures { IfOk result (λ phase. state_outside phase
         ≡ unless_refused (netns_refusal command.now) (Changing (call.NsChange command.now.netns add))) }
 {
     match netns_refusal(command) {
         Some(cause) => Ok(Phase::refused(cause)),
-        None => Ok(Phase::Changing(Call::NsChange {
-            name: command.netns.copy()?,
-            add,
-        })),
+        None => {
+            let name = command.netns.copy()?;
+            changing(alloc, Call::NsChange { name, add })
+        }
     }
 }
 
-fn loss_of_link(command: &Command) -> Result<Phase, NoMemory>
+fn loss_of_link(alloc: Global, command: &Command) -> Result<Phase, NoMemory>
     ensures { IfOk result (λ phase. state_outside phase
         ≡ unless_refused (drop_refusal command.now)
         (Changing (call.Outside
@@ -141,33 +147,33 @@ fn loss_of_link(command: &Command) -> Result<Phase, NoMemory>
                 ns: command.netns.copy()?,
                 name: command.ifname.copy()?,
             };
-            Ok(Phase::Changing(Call::Outside {
-                change: Change::DropLink(key),
-            }))
+            let change = Change::DropLink(key);
+            changing(alloc, Call::Outside { change })
         }
     }
 }
 
-fn flush_of(table: Option<Table>) -> Phase
-    ensures { state_outside result ≡ flush_by table }
+fn flush_of(alloc: Global, table: Option<Table>) -> Result<Phase, NoMemory>
+    ensures { IfOk result (λ phase. state_outside phase ≡ flush_by table) }
 {
     match table {
-        Some(table) => Phase::Changing(Call::Outside {
-            change: Change::Flush(table),
-        }),
-        None => Phase::Over(Ending::Yes),
+        Some(table) => {
+            let change = Change::Flush(table);
+            changing(alloc, Call::Outside { change })
+        }
+        None => Ok(Phase::Over(Ending::Yes)),
     }
 }
 
 /// The phase of a run of no network before its call. Words outside their grammar end it there.
-pub(crate) fn first_outside(command: &Command) -> Result<Phase, NoMemory>
+pub(crate) fn first_outside(alloc: Global, command: &Command) -> Result<Phase, NoMemory>
     ensures { IfOk result (λ phase. state_outside phase ≡ outside_start command.now) }
 {
     match command.verb {
-        Verb::NsAdd => change_of_namespace(command, true),
-        Verb::NsDel => change_of_namespace(command, false),
-        Verb::Drop => loss_of_link(command),
-        Verb::Flush => Ok(flush_of(command.table)),
+        Verb::NsAdd => change_of_namespace(alloc, command, true),
+        Verb::NsDel => change_of_namespace(alloc, command, false),
+        Verb::Drop => loss_of_link(alloc, command),
+        Verb::Flush => flush_of(alloc, command.table),
         Verb::Add | Verb::Check | Verb::Del | Verb::Gc | Verb::Status | Verb::Version => {
             Ok(Phase::Over(Ending::Yes))
         }

@@ -39,7 +39,7 @@ fn put_answer(alloc: Global, answer: &Answer, object: &mut JsonObject) -> Result
     ensures { OnOk result (members_of object.new ≡ put_answer answer.now (members_of object.old)) }
 {
     match answer {
-        Answer::Added(added) => object.put_value("result", to_value(alloc, added)?),
+        Answer::Added(added) => object.put_value("result", to_value(alloc, added.get())?),
         Answer::Yes => object.put("ok", &true),
         Answer::Skipped(skip) => object.put_text("skipped", skip_text(*skip)),
         Answer::Versions(version) => {

@@ -7,11 +7,11 @@ use Rattle.cni_verbs.proofs.Ends.{added-answer, early-open, after-finish, deleti
 use Rattle.cni_verbs.proofs.NextCalls.{ok_some_by}
 use Rattle.cni_verbs.proofs.ending.answer_at_end.Goals as goal
 
-pub returns-in_ok-copy-in-AfterLeases : goal.returns-in_ok-copy-in-AfterLeases
+pub returns-in_ok-of-in-AfterLeases : goal.returns-in_ok-of-in-AfterLeases
 unfolding answer_of
-returns-in_ok-copy-in-AfterLeases c =
+returns-in_ok-of-in-AfterLeases c =
     ap (λ added. Some (answers.Added added))
-    (c.in_ok-copy-in-AfterLeases.ensures ∙ ap (λ (cached : Cached). cached.result) c.get.ensures ∙ added-answer c.args.list.now c.args.command.now _ _ _ c.args.given.now c.args.phase.now c.in-AfterLeases.is c.requires.kept.3.keeps)
+    (c.in_ok-of-in-AfterLeases.ensures ∙ c.in_ok-added-in-AfterLeases.ensures ∙ ap (λ (cached : Cached). cached.result) c.get.ensures ∙ added-answer c.args.list.now c.args.command.now _ _ _ c.args.given.now c.args.phase.now c.in-AfterLeases.is c.requires.kept.3.keeps)
     ∙ (after-finish c.args.list.now c.args.command.now _ _ _ c.args.given.now c.args.phase.now (progress.answer_by (Some c.args.list.now) c.args.command.now) c.in-AfterLeases.is c.requires.over)
 
 pub returns-in-Deleting : goal.returns-in-Deleting
