@@ -128,7 +128,7 @@ class Dump:
 
 
 def match_of(rule):
-    """What a rule matches, in the words of iptables."""
+    """What a rule matches, in the terms of iptables."""
     words = [f"-p {rule['protocol']}"] if "protocol" in rule else []
     words += [f"-s {rule['src']}"] if "src" in rule else []
     words += [("! " if "not_dst" in rule else "") + f"-d {rule['dst']}"] if "dst" in rule else []

@@ -1,4 +1,4 @@
--- `bridge` keeps the laws of a plugin that makes the interface.
+-- `bridge` keeps the laws of a first plugin.
 use Rattle.std.proofs.Common.{◌≡◌, ℕ, ◌+◌, ◌*◌, ◌≤◌, Bool, true, List, ◌++◌, map, length, Option, Some, None, refl, sym, arith}
 use Rattle.std.specs.Prelude.{option_map, option_to_list}
 use Rattle.std.specs.List.{list_all}
@@ -12,14 +12,14 @@ use Rattle.net_conf.specs.declared.first.BridgeConf.{BridgeConf}
 use Rattle.kernel_types.specs.declared.object.Att.{Att}
 use Rattle.kernel_types.specs.declared.call.Call.TheVariants.{AddrAdd, RouteAdd, RuleAppend}
 use Rattle.kernel_types.specs.declared.call.Given.{Given}
-use Rattle.plan_words.specs.Families.{first_of_family}
-use Rattle.plan_words.specs.PluginLaws.{AreCallsAfter, AreCallsBefore, FirstLaws}
-use Rattle.plan_words.specs.Shapes.{addresses_on, forward_calls, masquerade_rules, routes_on}
-use Rattle.plan_words.proofs.CallLists.{share_plus-links}
-use Rattle.plan_words.proofs.Counts.{length-addresses, length-forward, length-if, length-masquerades, length-routes}
-use Rattle.plan_words.proofs.KeyLists.{length-each_key_once, list_all-append, list_all-if}
-use Rattle.plan_words.proofs.PluginCalls.{calls-after, fit-addresses, fit-forward, fit-masquerades, fit-routes, fits, fits-gateway, passes-once}
-use Rattle.plan_words.proofs.ResultLemmas.{addresses-at}
+use Rattle.plugin_base.specs.Families.{first_of_family}
+use Rattle.plugin_base.specs.PluginLaws.{AreCallsAfter, AreCallsBefore, FirstLaws}
+use Rattle.plugin_base.specs.Shapes.{addresses_on, forward_calls, masquerade_rules, routes_on}
+use Rattle.plugin_base.proofs.CallLists.{share_plus-links}
+use Rattle.plugin_base.proofs.Counts.{length-addresses, length-forward, length-if, length-masquerades, length-routes}
+use Rattle.plugin_base.proofs.KeyLists.{length-each_key_once, list_all-append, list_all-if}
+use Rattle.plugin_base.proofs.PluginCalls.{calls-after, fit-addresses, fit-forward, fit-masquerades, fit-routes, fits, fits-gateway, passes-once}
+use Rattle.plugin_base.proofs.ResultLemmas.{addresses-at}
 use Rattle.host_local.specs.Conf.{routes_of}
 use Rattle.host_local.specs.Results.{ip_of}
 use Rattle.host_local.proofs.KindLemmas.{interface_kinds-leases, interface_kinds-rules}

@@ -8,11 +8,11 @@ use Rattle.net_conf.specs.declared.first.PtpConf.{PtpConf}
 use Rattle.kernel_types.specs.declared.object.Att.{Att}
 use Rattle.kernel_types.specs.declared.call.Call.TheVariants.{AddrAdd, RouteAdd, RuleAppend}
 use Rattle.kernel_types.specs.declared.call.Given.{Given}
-use Rattle.plan_words.specs.Plugins.{added_after}
-use Rattle.plan_words.specs.Shapes.{addresses_on, routes_on, masquerade_rules, forward_calls}
-use Rattle.plan_words.specs.Share.{Share, share_after_call, share_after_calls, share_plus}
-use Rattle.plan_words.proofs.Appends.{share-laid_on}
-use Rattle.plan_words.proofs.CallLists.{share_after_calls-then, share_after_calls-forward, share_after_calls-if, share_after_calls-shared_rules, share_plus-laid_on}
+use Rattle.plugin_base.specs.Plugins.{added_after}
+use Rattle.plugin_base.specs.Shapes.{addresses_on, routes_on, masquerade_rules, forward_calls}
+use Rattle.plugin_base.specs.Share.{Share, share_after_call, share_after_calls, share_plus}
+use Rattle.plugin_base.proofs.Appends.{share-laid_on}
+use Rattle.plugin_base.proofs.CallLists.{share_after_calls-then, share_after_calls-forward, share_after_calls-if, share_after_calls-shared_rules, share_plus-laid_on}
 use Rattle.bridge_ptp.specs.Bridge.{bridge_calls_after, bridge_entries, bridge_plugin, gateway_calls}
 use Rattle.bridge_ptp.specs.declared.bridge.Gateway.{Gateway}
 use Rattle.bridge_ptp.specs.Gateways.{gateway_call, gateways_on}

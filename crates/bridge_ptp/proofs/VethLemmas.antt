@@ -8,13 +8,13 @@ use Rattle.kernel_types.specs.Words.{is_host_ns, is_link_of}
 use Rattle.kernel_types.proofs.Cases.{att_eq-refl}
 use Rattle.kernel_types.specs.declared.object.Att.{Att}
 use Rattle.kernel_types.specs.declared.object.Tag.TheVariants.{Own}
-use Rattle.plan_words.specs.PlanCalls.{is_plan_call_of}
-use Rattle.plan_words.specs.PluginCalls.{has_inner}
-use Rattle.plan_words.specs.Shapes.{host_end, inner_end}
-use Rattle.plan_words.proofs.PluginCalls.{link-there}
+use Rattle.plugin_base.specs.Calls.{is_plugin_call_of}
+use Rattle.plugin_base.specs.PluginCalls.{has_inner}
+use Rattle.plugin_base.specs.Shapes.{host_end, inner_end}
+use Rattle.plugin_base.proofs.PluginCalls.{link-there}
 use Rattle.bridge_ptp.specs.Veth.{veth_links, veth_pair}
 
-pub veth-own : (att : Att) (netns : List ℕ) (master : Option (List ℕ)) (mtu : ℕ) (hairpin : Bool) → is_plan_call_of att (veth_pair att netns master mtu hairpin) ≡ true
+pub veth-own : (att : Att) (netns : List ℕ) (master : Option (List ℕ)) (mtu : ℕ) (hairpin : Bool) → is_plugin_call_of att (veth_pair att netns master mtu hairpin) ≡ true
 veth-own att netns master mtu hairpin = grind (arith, att_eq-refl att)
 
 pub veth-well_formed : (att : Att) (netns : List ℕ) (master : Option (List ℕ)) (mtu : ℕ) (hairpin : Bool) → is_host_ns netns ≡ false → IsVethPair (host_end att netns master mtu hairpin) (inner_end att netns mtu)

@@ -8,8 +8,8 @@ use Rattle.kernel_types.specs.declared.call.Given.{Given}
 use Rattle.kernel_types.specs.declared.call.Kind.{Kind}
 use Rattle.kernel_types.specs.declared.call.Call.{Call}
 use Rattle.kernel_types.specs.declared.call.Call.TheVariants.{BridgeEnsure, AddrAdd, RouteAdd, RuleAppend}
-use Rattle.plan_words.specs.Plugins.{FirstPlugin}
-use Rattle.plan_words.specs.Shapes.{addresses_on, routes_on, masquerade_rules, forward_calls}
+use Rattle.plugin_base.specs.Plugins.{FirstPlugin}
+use Rattle.plugin_base.specs.Shapes.{addresses_on, routes_on, masquerade_rules, forward_calls}
 use Rattle.host_local.specs.Conf.{routes_of}
 use Rattle.host_local.specs.Results.{ip_of}
 use Rattle.bridge_ptp.specs.Gateways.{gateway_call, gateways_on}

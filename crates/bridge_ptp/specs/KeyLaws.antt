@@ -3,8 +3,8 @@ use Rattle.std.specs.Prelude.{◌≡◌, true, refl}
 use Rattle.std.proofs.Common.{sym, true≢false}
 use Rattle.std.specs.Cmp.{IsEquivalence, on_equiv}
 use Rattle.std.specs.Hash.{Alike, HashWrites, on_Alike}
-use Rattle.plan_words.specs.KeyLaws.{addr_alike, addr_key-alike, addr_key-laws, addr_laws, route_key-alike, route_key-laws}
-use Rattle.plan_words.specs.KeyWrites.{addr_writes, cidr_writes}
+use Rattle.plugin_base.specs.KeyLaws.{addr_alike, addr_key-alike, addr_key-laws, addr_laws, route_key-alike, route_key-laws}
+use Rattle.plugin_base.specs.KeyWrites.{addr_writes, cidr_writes}
 use Rattle.bridge_ptp.specs.Gateways.{is_same_gateway}
 use Rattle.bridge_ptp.specs.Ptp.{AddressOrRoute, Address, Route, same_key}
 use Rattle.bridge_ptp.specs.declared.bridge.Gateway.{Gateway}

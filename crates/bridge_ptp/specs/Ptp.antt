@@ -12,8 +12,8 @@ use Rattle.kernel_types.specs.declared.call.Kind.{Kind}
 use Rattle.kernel_types.specs.declared.call.Call.{Call}
 use Rattle.kernel_types.specs.declared.call.Call.TheVariants.{AddrAdd, RouteAdd, RuleAppend}
 use Rattle.cni_addr.specs.Lists.{each_key_once}
-use Rattle.plan_words.specs.Plugins.{FirstPlugin}
-use Rattle.plan_words.specs.Shapes.{host_key, address_at, route_at, address_on, route_by, route_on, masquerade_rules, forward_calls}
+use Rattle.plugin_base.specs.Plugins.{FirstPlugin}
+use Rattle.plugin_base.specs.Shapes.{host_key, address_at, route_at, address_on, route_by, route_on, masquerade_rules, forward_calls}
 use Rattle.host_local.specs.Kinds.{interface_kinds}
 use Rattle.bridge_ptp.specs.Results.{ptp_result_of}
 use Rattle.bridge_ptp.specs.Veth.{veth_links, veth_pair}

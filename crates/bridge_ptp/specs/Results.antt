@@ -16,9 +16,9 @@ use Rattle.net_conf.specs.declared.first.BridgeConf.{BridgeConf}
 use Rattle.net_conf.specs.declared.first.PtpConf.{PtpConf}
 use Rattle.kernel_types.specs.Names.{host_name_of, host_mac_of, link_mac_of}
 use Rattle.kernel_types.specs.declared.object.Att.{Att}
-use Rattle.plan_words.specs.Families.{first_of_family}
-use Rattle.plan_words.specs.Results.{inner_interface, completed}
-use Rattle.plan_words.specs.Shapes.{default_route}
+use Rattle.plugin_base.specs.Families.{first_of_family}
+use Rattle.plugin_base.specs.Results.{inner_interface, completed}
+use Rattle.plugin_base.specs.Shapes.{default_route}
 
 -- ---- interfaces
 

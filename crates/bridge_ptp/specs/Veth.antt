@@ -4,7 +4,7 @@ use Rattle.kernel_types.specs.declared.object.Att.{Att}
 use Rattle.kernel_types.specs.declared.object.Link.{Link}
 use Rattle.kernel_types.specs.declared.call.Call.{Call}
 use Rattle.kernel_types.specs.declared.call.Call.TheVariants.{VethAdd}
-use Rattle.plan_words.specs.Shapes.{host_end, inner_end}
+use Rattle.plugin_base.specs.Shapes.{host_end, inner_end}
 
 -- both ends, the host's under this master
 abbrev pub veth_links : Att → List ℕ → Option (List ℕ) → ℕ → Bool → List Link

@@ -1,7 +1,7 @@
 //! The `bridge` plugin.
 
 ghost use Rattle.std.specs.Prelude.{◌≡◌, ◌++◌, Some, IfOk, OnOk};
-ghost use Rattle.plan_words.specs.Families.{first_of_family};
+ghost use Rattle.plugin_base.specs.Families.{first_of_family};
 ghost use Rattle.bridge_ptp.specs.Bridge as plan;
 ghost use Rattle.bridge_ptp.specs.Gateways as gateways;
 ghost use Rattle.bridge_ptp.specs.Results as results;
@@ -13,7 +13,7 @@ use cni_result::{AddResult, IpEntry, RouteEntry};
 use host_local::{interface_kinds, ips_of, routes_of};
 use kernel_types::{Att, Call, Given, Kind, NamedAtt};
 use net_conf::BridgeConf;
-use plan_words::{
+use plugin_base::{
     Asked, EachKeyOnce, addresses_on, ask_all, ask_forward, completed, default_route,
     first_of_family, masquerade_rules, routes_on,
 };
@@ -154,7 +154,7 @@ pub struct Gateway {
 }
 
 impl Asked for Gateway {
-    ghost use Rattle.plan_words.specs.KeyWrites.{addr_writes};
+    ghost use Rattle.plugin_base.specs.KeyWrites.{addr_writes};
     ghost use Rattle.bridge_ptp.specs.Gateways as gateways;
     ghost use Rattle.bridge_ptp.specs.KeyLaws.{gateway_key-laws, gateway_key-alike};
 

@@ -6,7 +6,7 @@ ghost use Rattle.bridge_ptp.specs.Results as results;
 use cni_addr::{Duplicate, Items, NoMemory, Text};
 use cni_result::{Interface, Version, mtu_since_1_1};
 use kernel_types::{NamedAtt, link_mac};
-use plan_words::inner_interface;
+use plugin_base::inner_interface;
 
 /// A bridge of the host.
 pub(crate) fn bridge_interface(name: &Text) -> Result<Interface, NoMemory>

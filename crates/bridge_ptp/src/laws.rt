@@ -1,12 +1,12 @@
 //! What `bridge` and `ptp` owe to the verbs, each law carried by a function that does nothing.
 
-ghost use Rattle.plan_words.specs.PluginLaws.{FirstLaws};
+ghost use Rattle.plugin_base.specs.PluginLaws.{FirstLaws};
 ghost use Rattle.bridge_ptp.specs.Bridge.{bridge_plugin};
 ghost use Rattle.bridge_ptp.specs.Ptp.{ptp_plugin};
 
 use net_conf::{BridgeConf, PtpConf};
 
-/// `bridge` keeps the laws of a plugin that makes the interface (`plan_words/specs/PluginLaws.antt`).
+/// `bridge` keeps the laws of a first plugin (`plugin_base/specs/PluginLaws.antt`).
 pub fn bridge_keeps_its_laws(conf: &BridgeConf)
     ensures { FirstLaws (bridge_plugin conf.now) }
 {}

@@ -2,7 +2,7 @@
 //!
 //! To the verbs each promises the calls before an address is leased, the calls after it, the result, and the kinds of
 //! objects that DEL takes back. They are those of its record, `bridge_plugin` (`specs/Bridge.antt`) or `ptp_plugin`
-//! (`specs/Ptp.antt`), which keeps the laws of a plugin that makes the interface ([`laws`]).
+//! (`specs/Ptp.antt`), which keeps the laws of a first plugin ([`laws`]).
 //!
 //! ```text
 //! bridge_before(alloc, &conf, &att, &netns)?        // BridgeEnsure, VethAdd

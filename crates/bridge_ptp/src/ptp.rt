@@ -2,7 +2,7 @@
 
 ghost use Rattle.std.specs.Prelude.{◌≡◌, map, flat_map, fold, IfOk, OnOk};
 ghost use Rattle.cni_addr.specs.Lists.{each_key_once, push_unless_there};
-ghost use Rattle.plan_words.specs.Shapes as shapes;
+ghost use Rattle.plugin_base.specs.Shapes as shapes;
 ghost use Rattle.bridge_ptp.specs.Ptp as plan;
 ghost use Rattle.bridge_ptp.specs.Results as results;
 
@@ -13,14 +13,14 @@ use cni_result::{AddResult, RouteEntry};
 use host_local::interface_kinds;
 use kernel_types::{AddrObj, Att, Call, Given, Kind, LinkKey, NamedAtt, RouteObj};
 use net_conf::PtpConf;
-use plan_words::{
+use plugin_base::{
     Asked, EachKeyOnce, Gateways, address_at, address_on, ask_all, ask_forward, completed,
     host_key, masquerade_rules, route_at, route_by, route_on,
 };
 use std::alloc::Global;
 use std::hash::Hasher;
 
-/// An address or a route: the plan asks for both in one order.
+/// An address or a route: both are asked for in one order.
 #[derive(Drop)]
 pub enum AddressOrRoute {
     Address(AddrObj),

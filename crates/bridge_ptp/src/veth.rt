@@ -5,7 +5,7 @@ ghost use Rattle.bridge_ptp.specs.Veth as veth;
 
 use cni_addr::{NoMemory, Text};
 use kernel_types::{Call, NamedAtt};
-use plan_words::{host_end, inner_end};
+use plugin_base::{host_end, inner_end};
 use std::alloc::Global;
 
 /// The call that makes the attachment's pair, with the host's end under this master.

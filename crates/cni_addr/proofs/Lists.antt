@@ -1,4 +1,4 @@
--- Laws of the words on lists that every crate uses. Nearly each is an induction that one call of `grind` closes.
+-- Laws of the definitions on lists that every crate uses. Nearly each is an induction that one call of `grind` closes.
 use Rattle.std.proofs.Common.{◌≡◌, Bool, true, false, not, List, [], ◌∷◌, ◌++◌, refl, ◌∙◌, arith}
 use Rattle.std.specs.Prelude.{filter, map}
 use Rattle.std.specs.List.{list_any, list_all}

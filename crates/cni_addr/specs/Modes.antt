@@ -1,4 +1,4 @@
--- The modes of a macvlan link by their words (the `mode` of the reference plugin `macvlan`).
+-- The modes of a macvlan link by their names (the `mode` of the reference plugin `macvlan`).
 use Rattle.std.specs.Prelude.{ℕ, List, codes, Option, find}
 use Rattle.std.specs.Str.{bytes_eq}
 use Rattle.cni_addr.specs.declared.macvlan.TheConstants.MacvlanMode.{ALL}
@@ -12,6 +12,6 @@ mode_text Private = codes "private"
 mode_text Vepa = codes "vepa"
 mode_text Passthru = codes "passthru"
 
--- the mode whose word the text is
+-- the mode that the text names
 abbrev pub mode_named : List ℕ → Option MacvlanMode
 mode_named text = find (λ mode. bytes_eq text (mode_text mode)) ALL

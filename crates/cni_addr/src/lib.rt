@@ -1,4 +1,4 @@
-//! Texts, lists and network addresses: the words that every other crate of the runtime speaks in.
+//! Texts, lists and network addresses, which every other crate uses.
 //!
 //! What it promises above:
 //!

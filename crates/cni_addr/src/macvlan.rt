@@ -1,4 +1,4 @@
-//! The modes of a macvlan link, and their words.
+//! The modes of a macvlan link, and their names.
 
 ghost use Rattle.std.specs.Prelude.{◌≡◌, Some};
 ghost use Rattle.cni_addr.specs.Modes.{mode_text, mode_named};
@@ -35,7 +35,7 @@ pub fn mode_text(mode: MacvlanMode) -> &'static str
     }
 }
 
-/// The mode whose word the text is. Takes no memory.
+/// The mode that the text names. Takes no memory.
 pub fn mode_named(text: &str) -> Option<MacvlanMode>
     ensures { result ≡ mode_named text.now }
 {

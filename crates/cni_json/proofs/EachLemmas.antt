@@ -1,4 +1,4 @@
--- Lists that are read by functions that are told of a member's place alone, or of nothing before it.
+-- Lists that are read by functions that are given a member's place alone, or nothing before it.
 use Rattle.std.proofs.Common.{◌≡◌, ℕ, ◌+◌, List, [], ◌∷◌, ◌++◌, length, Result, Ok, Err, refl, sym, ap, ◌∙◌, append_assoc, append-nil}
 use Rattle.std.proofs.lemmas.List.{length-append}
 use Rattle.serde_json.specs.Data.{Data, Items, no_items, item}

@@ -13,14 +13,14 @@ pub record IsReader {R T E : Type 0} (is_out_of_memory : E → Bool)
   pub gives : (member : Bor Value) (r : Result T E) → calls.post read (member, tt) r
       → Gives is_out_of_memory r (wanted (view member.now))
 
--- the same, of a function that is told the member's place too
+-- the same, of a function that is given the member's place too
 pub record IsPlacedReader {R T E : Type 0} (is_out_of_memory : E → Bool)
     (calls : Shared R (ℕ × (Bor Value × Unit {0})) (Result T E)) (read : R)
     (wanted : ℕ → Data → Result T E) : Type 0 where
   pub gives : (place : ℕ) (member : Bor Value) (r : Result T E) → calls.post read (place, (member, tt)) r
       → Gives is_out_of_memory r (wanted place (view member.now))
 
--- the same, of a function that is told what was read before the member
+-- the same, of a function that is given what was read before the member
 pub record IsReaderAfter {R T E : Type 0} (is_out_of_memory : E → Bool)
     (calls : Shared R (Bor (List T) × (Bor Value × Unit {0})) (Result T E)) (read : R)
     (wanted : List T → Data → Result T E) : Type 0 where

@@ -9,18 +9,18 @@
 //!   reading, and `Number` exactly where a number of the reading is neither a `u64` nor an `i64`.
 //! - `field_str` and its kin give `text_field` and its kin of the value, and take no memory.
 //! - `read_each` gives `each` of what its function gives of a member, up to the first refusal; `read_each_placed` gives
-//!   `each_from` of a function that is told the member's place too, and `read_each_after` gives `each_after` of one
-//!   that is told what stands before the member. `read_list_or` gives `list_or` of the list under a key, and
+//!   `each_from` of a function that is given the member's place too, and `read_each_after` gives `each_after` of one
+//!   that is given what stands before the member. `read_list_or` gives `list_or` of the list under a key, and
 //!   `need_object` `object_or` of a value.
 //! - An object that `JsonObject` builds has the members that were put into it, in ascending byte order of their keys.
 //! - `line` writes `line_of` of the value.
 //! - What a line was written for is what it is read as (`a_line_is_read_again`), and the keys of
 //!   each object that is read ascend (`keys_ascend`).
 //!
-//! Each of these words is a definition in `specs/` that computes on literals, under `unfolding
-//! cni_json_on_literals`. `Gives` of `specs/Outcome.antt` says that an outcome is the wanted one
-//! or out of memory. Each enum of errors can use it, by its own test of which of its errors mean
-//! out of memory, which [`Refusal`] has for readers that serve any of them.
+//! Each of these terms is a definition in `specs/` that computes on literals, under `unfolding cni_json_on_literals`.
+//! `Gives` of `specs/Outcome.antt` says that an outcome is the wanted one or out of memory. Each enum of errors can use
+//! it, by its own test of which of its errors mean out of memory, which [`Refusal`] has for readers that serve any of
+//! them.
 //!
 //! ```text
 //! let list = read(alloc, b"{\"name\":\"pods\",\"mtu\":1500,\"dns\":null}")?;

@@ -112,7 +112,7 @@ up_to_gateway ip = up_to_address ip ▷ put_if addr_data (codes "gateway") ip.ga
 abbrev up_to_interface : IpEntry → Members
 up_to_interface ip = up_to_gateway ip ▷ put_if number_data (codes "interface") ip.interface
 
--- the IP version that is told of the address
+-- the IP version that is written of the address
 abbrev told_of : Version → IpEntry → Option (List ℕ)
 told_of version ip = ip_version_before_1_0 version ip.address.addr.family
 

@@ -1,5 +1,5 @@
 -- The configuration of name resolution under `dns`, of a result as of a plugin's object (CNI specification 1.1.0,
--- sections 1 and 5). A member that is null is as an absent one, and unnamed members are passed over.
+-- sections 1 and 5). A member that is null is as an absent one, and unnamed members are ignored.
 use Rattle.std.specs.Prelude.{ℕ, List, [], codes, Result, Ok, Err}
 use Rattle.serde_json.specs.Data.{Data, string, Items}
 use Rattle.cni_json.specs.Each.{list_or}

@@ -1,4 +1,4 @@
--- Protocols by their words, and published ports as JSON.
+-- Protocols by their names, and published ports as JSON.
 use Rattle.std.specs.Prelude.{ℕ, List, codes, Option, find}
 use Rattle.std.specs.Str.{bytes_eq}
 use Rattle.serde_json.specs.Data.{Data, object, no_members, put}
@@ -14,7 +14,7 @@ proto_text Tcp = codes "tcp"
 proto_text Udp = codes "udp"
 proto_text Sctp = codes "sctp"
 
--- the protocol whose word the text is
+-- the protocol that the text names
 abbrev pub proto_named : List ℕ → Option Proto
 proto_named text = find (λ protocol. bytes_eq text (proto_text protocol)) ALL
 

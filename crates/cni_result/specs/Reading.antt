@@ -1,5 +1,5 @@
 -- Results as they are read (CNI specification 1.1.0, section 5). A member that is null is as an absent one, and unnamed
--- members are passed over.
+-- members are ignored.
 use Rattle.std.specs.Prelude.{ℕ, List, [], codes, length, Bool, true, nat_lt, if◌then◌else◌, Option, Some, None, Result, Ok, Err, ok_or, ⊤}
 use Rattle.std.specs.List.{list_all}
 use Rattle.std.specs.Str.{bytes_eq}
@@ -68,7 +68,7 @@ mac_if_at blamed key d = optional blamed mac_of_text (text_field key d)
 unfoldable pub number_if_at : List ℕ → List ℕ → Data → Result (Option ℕ) ResultError
 number_if_at blamed key d = optional blamed Some (u32_field key d)
 
--- `mtu` is passed over where the version doesn't tell it
+-- `mtu` is ignored where the version doesn't tell it
 abbrev pub mtu_if_at : Version → Data → Result (Option ℕ) ResultError
 mtu_if_at version d = if is_before_1_1 version then Ok None else number_if_at (codes "interfaces") (codes "mtu") d
 
@@ -89,7 +89,7 @@ abbrev pub ip_version_of : List ℕ → Field (List ℕ) → Result ⊤ ResultEr
 ip_version_of told f =
     member_or (Ok tt) (invalid (codes "ips")) (λ text. if bytes_eq text told then Ok tt else invalid (codes "ips")) f
 
--- the IP version of an address, which may be absent, is the one that is told of it, where one is told
+-- the IP version of an address, which may be absent, is the given one, where one is given
 abbrev pub ip_version_at : Option (List ℕ) → Data → Result ⊤ ResultError
 ip_version_at None d = Ok tt
 ip_version_at (Some told) d = ip_version_of told (text_field (codes "version") d)

@@ -32,7 +32,7 @@ pub fn proto_text(protocol: Proto) -> &'static str
     }
 }
 
-/// The protocol whose word the text is. Takes no memory.
+/// The protocol that the text names. Takes no memory.
 pub fn proto_named(text: &str) -> Option<Proto>
     ensures { result ≡ proto_named text.now }
 {

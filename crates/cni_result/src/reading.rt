@@ -17,8 +17,8 @@ use std::alloc::Global;
 
 /// The result that the bytes are as JSON.
 ///
-/// A list that is absent is empty, a member that is null is as an absent one, and unnamed members are passed over, as
-/// are `mtu` before 1.1.0 and the IP version of an address from 1.0.0 on. It refuses what isn't a result by the first
+/// A list that is absent is empty, a member that is null is as an absent one, and unnamed members are ignored, as are
+/// `mtu` before 1.1.0 and the IP version of an address from 1.0.0 on. It refuses what isn't a result by the first
 /// cause: no JSON text; a number without 64 bits (`number`); no object (`result`); the version; the first of
 /// `interfaces`, `ips`, `routes` and `dns` that is wrong; and an address on an interface that isn't in the list
 /// (`interface`). It takes time and memory in proportion to the bytes.

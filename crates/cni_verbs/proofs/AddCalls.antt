@@ -16,9 +16,9 @@ use Rattle.kernel_types.specs.declared.call.Reply.TheVariants.{Done, Leased}
 use Rattle.net_conf.specs.declared.list.NetList.{NetList}
 use Rattle.pod_file.specs.declared.command.Command.{Command}
 use Rattle.pod_file.specs.declared.command.Verb.TheVariants as verbs
-use Rattle.plan_words.specs.PlanCalls.{is_plan_call_of}
+use Rattle.plugin_base.specs.Calls.{is_plugin_call_of}
 use Rattle.cni_verbs.specs.AddCalls.{AddMakesItsCalls, AddMayBeGranted, AreGranted, added, calls_of_add, is_done, is_granted_by}
-use Rattle.cni_verbs.specs.CommandWords.{att_of, mappings_of, add_refusal}
+use Rattle.cni_verbs.specs.CommandFields.{att_of, mappings_of, add_refusal}
 use Rattle.cni_verbs.specs.Script.{State, AtBegin, BeforeLeases, Leasing, AfterLeases, Finish, Calls, Finishes, before_of, back_of, after_leases, leasing, before_leases, advance, start_of, start_state, state_from, turn, unless_refused, leased_by, leases_in}
 use Rattle.cni_verbs.specs.Wanted.{sets_of}
 use Rattle.cni_verbs.proofs.OwnCalls.{own-before, own-back}
@@ -71,15 +71,15 @@ none-leased (x ∷ xs) (r ∷ rs) none all =
     let both = and_parts (leases_none x) (list_all leases_none xs) none in
     ap (λ q. leases_in (q ∷ rs)) (granted-done x r both.0 all.0) ∙ none-leased xs rs both.1 all.1
 
-plan-leases_none : (att : Att) (call : Call) → is_plan_call_of att call ≡ true → leases_none call ≡ true
-plan-leases_none att (LeaseNext a number set) own = own
-plan-leases_none att _ own = refl
+plugin-leases_none : (att : Att) (call : Call) → is_plugin_call_of att call ≡ true → leases_none call ≡ true
+plugin-leases_none att (LeaseNext a number set) own = own
+plugin-leases_none att _ own = refl
 
-all-leases_none : (att : Att) (calls : List Call) → list_all (is_plan_call_of att) calls ≡ true → list_all leases_none calls ≡ true
+all-leases_none : (att : Att) (calls : List Call) → list_all (is_plugin_call_of att) calls ≡ true → list_all leases_none calls ≡ true
 all-leases_none att [] own = refl
 all-leases_none att (x ∷ xs) own =
-    let both = and_parts (is_plan_call_of att x) (list_all (is_plan_call_of att) xs) own in
-    grind (arith, plan-leases_none att x both.0, all-leases_none att xs both.1)
+    let both = and_parts (is_plugin_call_of att x) (list_all (is_plugin_call_of att) xs) own in
+    grind (arith, plugin-leases_none att x both.0, all-leases_none att xs both.1)
 
 before-leases_none : (list : NetList) (c : Command) → list_all leases_none (before_of list c) ≡ true
 before-leases_none list c = all-leases_none (att_of c) (before_of list c) (own-before list.first (att_of c) c.netns)

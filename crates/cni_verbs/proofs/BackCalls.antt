@@ -12,7 +12,7 @@ use Rattle.kernel_types.specs.declared.object.Att.{Att}
 use Rattle.kernel_types.specs.declared.call.Call.{Call}
 use Rattle.kernel_types.specs.declared.call.Call.TheVariants.{CachePut}
 use Rattle.kernel_types.specs.declared.call.Given.{Given}
-use Rattle.plan_words.proofs.KeyLists.{list_all-append}
+use Rattle.plugin_base.proofs.KeyLists.{list_all-append}
 use Rattle.cni_verbs.specs.Wanted.{all_chained_calls, back_calls, cached_of, calls_after, chained_calls, chained_result, first_plugin_result, given_by_list}
 
 -- the calls of a chained plugin pass, whatever addresses it is handed

@@ -13,16 +13,16 @@ use Rattle.kernel_types.specs.declared.call.Kind.{Kind}
 use Rattle.kernel_types.specs.declared.call.Call.{Call}
 use Rattle.kernel_types.specs.declared.call.Call.TheVariants.{CachePut}
 use Rattle.kernel_types.specs.declared.call.Reply.{Reply}
-use Rattle.plan_words.specs.PluginCalls.{has_inner}
-use Rattle.plan_words.specs.Plugins.{added_before}
-use Rattle.plan_words.specs.Share.{Share, no_objects, share_after_calls}
+use Rattle.plugin_base.specs.PluginCalls.{has_inner}
+use Rattle.plugin_base.specs.Plugins.{added_before}
+use Rattle.plugin_base.specs.Share.{Share, no_objects, share_after_calls}
 use Rattle.cni_verbs.specs.Plugins.{plugin_of}
 use Rattle.cni_verbs.specs.Questions.{check_questions}
-use Rattle.cni_verbs.specs.CommandWords.{att_of, mappings_of}
+use Rattle.cni_verbs.specs.CommandFields.{att_of, mappings_of}
 use Rattle.cni_verbs.specs.Wanted.{sets_of, kinds_of, calls_after, calls_before, result_of_add, all_chained_calls, first_plugin_result, given_by_list, cached_of}
 use Rattle.cni_verbs.specs.Script.{State, Finish, IsOpen, before_of, back_of, finish_of}
 use Rattle.cni_verbs.specs.Script as script
-use Rattle.cni_verbs.specs.Phases.{KeepsPlan, KeepsResult, state_in, state_outside, state_by_phase}
+use Rattle.cni_verbs.specs.Phases.{KeepsOfList, KeepsResult, state_in, state_outside, state_by_phase}
 use Rattle.cni_verbs.specs.declared.answer.Ending.{Ending}
 use Rattle.cni_verbs.specs.declared.answer.Ending.TheVariants.{Added, Yes}
 use Rattle.cni_verbs.specs.declared.answer.Question.{Question}
@@ -69,7 +69,7 @@ some-unless (call ∷ calls) h = omega arith
 pub before-some : (list : NetList) (c : Command) → 0 < length (before_of list c)
 before-some list c = some-unless (before_of list c) (none-made list.first (att_of c) c.netns (before_of list c) refl)
 
--- the cached entry comes last
+-- the cached result comes last
 calls-left : (list : NetList) (c : Command) (addrs : List Addr) → 0 < length (back_of list c addrs)
 calls-left list c addrs =
     let att = att_of c in
@@ -110,7 +110,7 @@ told-early phase (inr (inr (inr (inr (inr (inr (inr (inl w)))))))) = ap is_early
 told-early phase (inr (inr (inr (inr (inr (inr (inr (inr w)))))))) = ap is_early w.1
 
 open-where : (list : NetList) (c : Command) (kinds : List Kind) (room made : ℕ) (addrs : List Addr) (phase : Phase)
-    → KeepsPlan list c kinds room made addrs phase → is_early phase ≡ true → IsOpen (state_in list c addrs phase)
+    → KeepsOfList list c kinds room made addrs phase → is_early phase ≡ true → IsOpen (state_in list c addrs phase)
 open-where list c kinds room made addrs phases.AtBegin kept early = tt
 open-where list c kinds room made addrs phases.Begun kept early = starts-before list c (before_of list c) (before-some list c)
 open-where list c kinds room made addrs (phases.BeforeLeases calls passed) kept early =
@@ -128,7 +128,7 @@ open-where list c kinds room made addrs (phases.Changing change) kept early = tt
 open-where list c kinds room made addrs (phases.Over ending) kept early = absurd cc
 
 pub early-open : (list : NetList) (c : Command) (kinds : List Kind) (room made : ℕ) (addrs : List Addr) (phase : Phase)
-    → KeepsPlan list c kinds room made addrs phase → IsEarly phase → IsOpen (state_in list c addrs phase)
+    → KeepsOfList list c kinds room made addrs phase → IsEarly phase → IsOpen (state_in list c addrs phase)
 early-open list c kinds room made addrs phase kept early = open-where list c kinds room made addrs phase kept (told-early phase early)
 
 over-listed : {X : Type 0} (state : List X → State) (items : List X) (passed : ℕ) (over : Bool) → (IsOpen (state []) → ⊥) → ((item : X) (left : List X) → IsOpen (state (item ∷ left)))

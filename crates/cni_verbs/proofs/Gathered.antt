@@ -10,15 +10,15 @@ use Rattle.kernel_types.specs.declared.object.Att.{Att}
 use Rattle.kernel_types.specs.declared.call.Call.{Call}
 use Rattle.kernel_types.specs.declared.call.Call.TheVariants.{CachePut}
 use Rattle.kernel_types.specs.Words.{lease_of}
-use Rattle.plan_words.specs.Share.{Share, no_objects, share_after_calls}
-use Rattle.plan_words.proofs.CallLists.{share_after_calls-append}
-use Rattle.cni_verbs.specs.CommandWords.{att_of}
+use Rattle.plugin_base.specs.Share.{Share, no_objects, share_after_calls}
+use Rattle.plugin_base.proofs.CallLists.{share_after_calls-append}
+use Rattle.cni_verbs.specs.CommandFields.{att_of}
 use Rattle.cni_verbs.specs.Questions.{bridge_questions, share_questions, addresses_of_result, cached_share}
 use Rattle.cni_verbs.specs.Wanted.{calls_before, back_calls, cached_of}
 use Rattle.cni_verbs.specs.declared.answer.Question.{Question}
 use Rattle.cni_verbs.proofs.WantedShare.{makes-wanted}
 
--- a cached entry is none of the objects that a check asks for
+-- a cached result is none of the objects that a check asks for
 asked-without_cached : (s : Share) (calls : List Call) (att : Att) (cached : Cached)
     → share_questions (share_after_calls s calls) ≡ share_questions (share_after_calls s (calls ++ CachePut att cached ∷ []))
 asked-without_cached s calls att cached = sym (ap share_questions (share_after_calls-append s calls (CachePut att cached ∷ [])))

@@ -8,11 +8,11 @@ use Rattle.pod_file.specs.declared.command.Command.{Command}
 use Rattle.kernel_types.specs.declared.call.Kind.{Kind}
 use Rattle.kernel_types.specs.declared.call.Call.{Call}
 use Rattle.kernel_types.specs.declared.call.Call.TheVariants.{Begin, LeaseNext, CacheGet}
-use Rattle.cni_verbs.specs.CommandWords.{att_of}
+use Rattle.cni_verbs.specs.CommandFields.{att_of}
 use Rattle.cni_verbs.specs.Wanted.{sets_of, kinds_of, deletion}
 use Rattle.cni_verbs.specs.Script as script
 use Rattle.cni_verbs.specs.Script.{State, next_call}
-use Rattle.cni_verbs.specs.Phases.{Stands, KeepsPlan, KeepsPlanBy, KeepsResult, IsPhaseOf, IsSameButPrepared, is_prepared, state_in, state_outside, state_by_phase}
+use Rattle.cni_verbs.specs.Phases.{Stands, KeepsOfList, KeepsOfListBy, KeepsResult, IsPhaseOf, IsSameButPrepared, is_prepared, state_in, state_outside, state_by_phase}
 use Rattle.cni_verbs.specs.Progress.{answer_in}
 use Rattle.cni_verbs.specs.declared.answer.Ending.{Ending}
 use Rattle.cni_verbs.specs.declared.answer.Question.{Question}
@@ -41,7 +41,7 @@ at_before list c passed calls h =
     left.1.0 ∙ sym (ap (λ calls. next_call c (script.before_leases list c calls)) left.1.1)
 
 pub next_before : (list : NetList) (c : Command) (kinds : List Kind) (room made passed : ℕ) (calls : List Call) (addrs : List Addr) (phase : Phase)
-    → KeepsPlan list c kinds room made addrs phase → phase ≡ phases.BeforeLeases calls passed → slice_get calls passed ≡ next_call c (state_in list c addrs phase)
+    → KeepsOfList list c kinds room made addrs phase → phase ≡ phases.BeforeLeases calls passed → slice_get calls passed ≡ next_call c (state_in list c addrs phase)
 next_before list c kinds room made passed calls addrs phase kept is =
     let S : Phase → Type 0 = λ p. Stands (length (sets_of list)) made addrs p in
     let here : (passed < length calls) × (addrs ≡ []) = subst S is kept.stands in
@@ -56,7 +56,7 @@ at_lease list c addrs h =
     ∙ sym (ap (λ sets. next_call c (script.leasing list c sets addrs)) left.1.1)
 
 pub next_lease : (list : NetList) (c : Command) (kinds : List Kind) (room made : ℕ) (addrs : List Addr) (phase : Phase)
-    → KeepsPlan list c kinds room made addrs phase → phase ≡ phases.Leasing
+    → KeepsOfList list c kinds room made addrs phase → phase ≡ phases.Leasing
     → option_map (LeaseNext (att_of c) (length addrs)) (slice_get (sets_of list) (length addrs)) ≡ next_call c (state_in list c addrs phase)
 next_lease list c kinds room made addrs phase kept is =
     let S : Phase → Type 0 = λ p. Stands (length (sets_of list)) made addrs p in
@@ -86,7 +86,7 @@ next_cache list c addrs phase (inl w) = sym (ap (λ p. next_call c (state_in lis
 next_cache list c addrs phase (inr is) = sym (ap (λ p. next_call c (state_in list c addrs p)) is)
 
 pub next_deletion : (list : NetList) (c : Command) (kinds : List Kind) (room made passed : ℕ) (ending : Ending) (addrs : List Addr) (phase : Phase)
-    → KeepsPlan list c kinds room made addrs phase → phase ≡ phases.Deleting passed ending
+    → KeepsOfList list c kinds room made addrs phase → phase ≡ phases.Deleting passed ending
     → option_map (deletion (att_of c)) (slice_get kinds passed) ≡ next_call c (state_in list c addrs phase)
 unfolding next_call
 next_deletion list c kinds room made passed ending addrs phase kept is =
@@ -118,7 +118,7 @@ is-prepared phase h (inr (inr w)) = let e = ap is_prepared w.1 in cc
 
 pub kept_at_start : (list : NetList) (c : Command) (kinds : List Kind) (room : ℕ) (given : List Addr) (phase : Phase)
     → IsPhaseOf list c 0 [] phase (script.start_state list c) → kinds ≡ kinds_of list
-    → length (sets_of list) ≤ room → given ≡ [] → KeepsPlan list c kinds room 0 given phase
+    → length (sets_of list) ≤ room → given ≡ [] → KeepsOfList list c kinds room 0 given phase
 kept_at_start list c kinds room given phase starts kinds_is room_is none =
     let G : List Addr → Type 0 = λ addrs. Stands (length (sets_of list)) 0 addrs phase in
     let K : List Addr → Type 0 = λ addrs. KeepsResult list c addrs phase in
@@ -145,12 +145,12 @@ starts_for l k c d phase same_list same h =
 -- the invariant holds on where the phase means the same
 pub kept_prepared : (list : Option NetList) (l : NetList) (c : Command) (kinds : List Kind) (room made : ℕ) (given addrs : List Addr) (old new : Phase)
     → list ≡ Some l → addrs ≡ given → IsSameButPrepared l c addrs old new
-    → KeepsPlanBy list c kinds room made given old → KeepsPlanBy list c kinds room made given new
+    → KeepsOfListBy list c kinds room made given old → KeepsOfListBy list c kinds room made given new
 kept_prepared list l c kinds room made given addrs old new is seen same kept =
-    let O : Option NetList → Type 0 = λ o. KeepsPlanBy o c kinds room made given old in
-    let N : Option NetList → Type 0 = λ o. KeepsPlanBy o c kinds room made given new in
+    let O : Option NetList → Type 0 = λ o. KeepsOfListBy o c kinds room made given old in
+    let N : Option NetList → Type 0 = λ o. KeepsOfListBy o c kinds room made given new in
     let A : List Addr → Type 0 = λ a. IsSameButPrepared l c a old new in
-    let before_that : KeepsPlan l c kinds room made given old = subst O is kept in
+    let before_that : KeepsOfList l c kinds room made given old = subst O is kept in
     let goes_on : IsSameButPrepared l c given old new = subst A seen same in
     subst N (sym is) (record {
       kinds_is = before_that.kinds_is;

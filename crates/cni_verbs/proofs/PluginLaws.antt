@@ -7,7 +7,7 @@ use Rattle.net_conf.specs.declared.chained.Chained.TheVariants.{Portmap, Firewal
 use Rattle.net_conf.specs.declared.first.First.{First}
 use Rattle.net_conf.specs.declared.first.First.TheVariants.{Bridge, Ptp, Macvlan}
 use Rattle.net_conf.specs.declared.plugins.PluginType.TheVariants as types
-use Rattle.plan_words.specs.PluginLaws.{ChainedLaws, FirstLaws}
+use Rattle.plugin_base.specs.PluginLaws.{ChainedLaws, FirstLaws}
 use Rattle.bridge_ptp.proofs.BridgeLaws.{bridge_laws}
 use Rattle.bridge_ptp.proofs.PtpLaws.{ptp_laws}
 use Rattle.firewall_tuning.proofs.FirewallLaws.{firewall_laws}

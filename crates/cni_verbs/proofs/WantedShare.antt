@@ -19,15 +19,15 @@ use Rattle.kernel_types.specs.declared.object.Tag.TheVariants.{Own}
 use Rattle.kernel_types.specs.declared.call.Given.{Given}
 use Rattle.kernel_types.specs.declared.call.Call.TheVariants.{CachePut}
 use Rattle.kernel_types.specs.Words.{lease_of}
-use Rattle.plan_words.specs.Plugins.{added_after, changed_by}
-use Rattle.plan_words.specs.Share.{Share, no_objects, share_after_calls}
-use Rattle.plan_words.proofs.CallLists.{share_after_calls-append, share_plus-laid_on, share_plus-links}
+use Rattle.plugin_base.specs.Plugins.{added_after, changed_by}
+use Rattle.plugin_base.specs.Share.{Share, no_objects, share_after_calls}
+use Rattle.plugin_base.proofs.CallLists.{share_after_calls-append, share_plus-laid_on, share_plus-links}
 use Rattle.cni_verbs.specs.Plugins.{chained_plugin_of, plugin_of}
 use Rattle.cni_verbs.specs.Wanted.{calls_before, calls_after, rules_of, settings_of, links_after, chained_calls, chained_result, all_chained_calls, all_links_after, given_by_list, first_plugin_result, cached_of, wanted, back_calls}
 use Rattle.cni_verbs.proofs.GivenAddresses.{chained-ips}
 use Rattle.cni_verbs.proofs.PluginLaws.{chained_laws, first_laws}
 
--- ---- the plugin that makes the interface
+-- ---- the first plugin
 
 -- its calls before the leases add its links alone
 pub adds-links : (first : First) (att : Att) (netns : List ℕ) (s : Share) → share_after_calls s (calls_before first att netns) ≡ record s { links = s.links ++ (plugin_of first).links att netns }

@@ -19,24 +19,24 @@ use Rattle.pod_file.specs.Commands.{verb_text}
 use Rattle.kernel_text.specs.Words.{attachment_text, tag_text, chain_text}
 use Rattle.kernel_types.specs.Texts.{table_text}
 use Rattle.kernel_types.specs.Words.{is_host_ns}
-use Rattle.cni_verbs.specs.CommandWords.{att_of}
+use Rattle.cni_verbs.specs.CommandFields.{att_of}
 use Rattle.cni_verbs.specs.ErrorKinds.{error_kind_code, error_kind_title, message_about, message_of_field}
 use Rattle.cni_verbs.specs.Script.{Finish}
 use Rattle.cni_verbs.specs.Wanted.{result_of_add}
 use Rattle.cni_verbs.specs.declared.answer.Answer.{Answer}
 use Rattle.cni_verbs.specs.declared.answer.Answer.TheVariants as answers
 use Rattle.cni_verbs.specs.declared.answer.Cause.{Cause}
-use Rattle.cni_verbs.specs.declared.answer.Cause.TheVariants.{BadWords, IpArgument, BadMapping, NoNamespace, NameTaken, PoolEmpty, NoMaster, Fault, Faults, TooOld, Unknown, NoFreeAddress, MasterAbsent, NothingThere, Missing}
+use Rattle.cni_verbs.specs.declared.answer.Cause.TheVariants.{BadFields, IpArgument, BadMapping, NoNamespace, NameTaken, PoolEmpty, NoMaster, Fault, Faults, TooOld, Unknown, NoFreeAddress, MasterAbsent, NothingThere, Missing}
 use Rattle.cni_verbs.specs.declared.answer.Ending.{Ending}
 use Rattle.cni_verbs.specs.declared.answer.Ending.TheVariants.{Added, Yes, Skipped, Versions, Refused}
 use Rattle.cni_verbs.specs.declared.answer.Missed.{Missed}
 use Rattle.cni_verbs.specs.declared.answer.Missed.TheVariants as missed
-use Rattle.cni_verbs.specs.declared.answer.WordFaults.{WordFaults}
+use Rattle.cni_verbs.specs.declared.answer.WrongFields.{WrongFields}
 use Rattle.cni_verbs.specs.declared.error_kind.ErrorKind.{ErrorKind}
 use Rattle.cni_verbs.specs.declared.error_kind.ErrorKind.TheVariants as kinds
 
 abbrev pub kind_of : Cause → ErrorKind
-kind_of (BadWords faults) = kinds.InvalidVariables
+kind_of (BadFields wrong) = kinds.InvalidVariables
 kind_of (IpArgument value) = kinds.UnsupportedField
 kind_of BadMapping = kinds.InvalidList
 kind_of NoNamespace = kinds.NamespaceMissing
@@ -61,18 +61,18 @@ abbrev pub named_if : Bool → List ℕ → List (List ℕ)
 named_if fault name = if fault then name ∷ [] else []
 
 -- the environment variables of the fields that are outside their grammar
-abbrev pub variables_of : WordFaults → List (List ℕ)
-variables_of faults =
-    named_if faults.container (codes "CNI_CONTAINERID")
-    ++ named_if faults.netns (codes "CNI_NETNS")
-    ++ named_if faults.ifname (codes "CNI_IFNAME")
-    ++ named_if faults.args (codes "CNI_ARGS")
+abbrev pub variables_of : WrongFields → List (List ℕ)
+variables_of wrong =
+    named_if wrong.container (codes "CNI_CONTAINERID")
+    ++ named_if wrong.netns (codes "CNI_NETNS")
+    ++ named_if wrong.ifname (codes "CNI_IFNAME")
+    ++ named_if wrong.args (codes "CNI_ARGS")
 
 abbrev pub joined_by_comma : List (List ℕ) → List ℕ
 joined_by_comma texts = join_by (λ text. text) (codes ", ") texts
 
 abbrev pub message_of : Cause → List ℕ
-message_of (BadWords faults) = message_about kinds.InvalidVariables (joined_by_comma (variables_of faults))
+message_of (BadFields wrong) = message_about kinds.InvalidVariables (joined_by_comma (variables_of wrong))
 message_of (IpArgument value) = message_of_field (codes "IP") (compact_text (string value))
 message_of BadMapping = message_about kinds.InvalidList (codes "portMappings")
 message_of NoMaster = message_about kinds.InvalidList (codes "master")
@@ -95,11 +95,11 @@ set_text set = codes "set " ++ decimal set
 abbrev pub spaced : List ℕ → List ℕ → List ℕ
 spaced word text = word ++ (codes " " ++ text)
 
--- what has a name of its own in a namespace, after the word for what it is
+-- what has a name of its own in a namespace, after the term for what it is
 abbrev pub named_text : List ℕ → List ℕ → List ℕ → List ℕ
 named_text word ns name = spaced word (spaced (place_text ns) name)
 
--- what a link has of a network, after the word for what it is
+-- what a link has of a network, after the term for what it is
 abbrev pub on_link_text : List ℕ → List ℕ → List ℕ → Cidr → List ℕ
 on_link_text word ns link cidr = named_text word ns (spaced link (cidr_text cidr))
 
@@ -115,7 +115,7 @@ missed_text (missed.Setting ns key) = named_text (codes "setting") ns key
 missed_text (missed.Lease addr) = spaced (codes "lease") (addr_text addr)
 
 abbrev pub details_of : Command → Cause → List ℕ
-details_of c (BadWords faults) = []
+details_of c (BadFields wrong) = []
 details_of c (IpArgument value) = []
 details_of c BadMapping = []
 details_of c NoNamespace = c.netns

@@ -2,7 +2,7 @@
 use Rattle.std.specs.Prelude.{◌≡◌, ◌⊎◌, Some, None}
 use Rattle.net_conf.specs.declared.chained.Chained.{Chained}
 use Rattle.net_conf.specs.declared.first.First.{First}
-use Rattle.plan_words.specs.PluginLaws.{ChainedLaws, FirstLaws}
+use Rattle.plugin_base.specs.PluginLaws.{ChainedLaws, FirstLaws}
 use Rattle.cni_verbs.specs.Plugins.{chained_plugin_of, plugin_of}
 use Rattle.cni_verbs.specs.Script.{State, Finish, Calls, Finishes, IsOpen, turn, next_call, finish_of}
 use Rattle.kernel_types.specs.declared.call.Call.{Call}

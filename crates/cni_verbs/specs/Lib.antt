@@ -1,6 +1,6 @@
 pub mod AddCalls
 pub mod Answers
-pub mod CommandWords
+pub mod CommandFields
 pub mod ErrorKinds
 pub mod Laws
 pub mod Phases

@@ -4,7 +4,7 @@ use Rattle.cni_addr.specs.declared.address.Addr.{Addr}
 use Rattle.net_conf.specs.declared.list.NetList.{NetList}
 use Rattle.pod_file.specs.declared.command.Command.{Command}
 use Rattle.kernel_types.specs.declared.call.Kind.{Kind}
-use Rattle.cni_verbs.specs.CommandWords.{att_of}
+use Rattle.cni_verbs.specs.CommandFields.{att_of}
 use Rattle.cni_verbs.specs.Wanted.{sets_of, kinds_of, result_of_add}
 use Rattle.cni_verbs.specs.Questions.{check_questions}
 use Rattle.cni_verbs.specs.Script.{State, Over, before_of, back_of, after_leases, leasing, before_leases, deleting, asking}
@@ -54,7 +54,7 @@ Stands sets made given (phases.Deleting passed ending) = passed ≤ made
 Stands sets made given (phases.Asking questions passed) = passed ≤ made
 Stands sets made given phase = ⊤
 
--- the result of the cached entry that is kept is that of the ADD
+-- the cached result that is kept is that of the ADD
 abbrev pub KeepsResult : NetList → Command → List Addr → Phase → Type 0
 KeepsResult list c given (phases.AfterLeases calls passed cached) =
     cached.result ≡ result_of_add list (att_of c) c.netns given
@@ -83,7 +83,7 @@ Awaits (phases.Over ending) = ⊥
 Awaits phase = ⊤
 
 -- a run of this list keeps the kinds of a DEL and the result of an ADD, and has room for an address of each set
-pub record KeepsPlan
+pub record KeepsOfList
     (list : NetList) (c : Command) (kinds : List Kind) (room made : ℕ) (given : List Addr) (phase : Phase)
     : Type 0 where
   pub kinds_is : kinds ≡ kinds_of list
@@ -91,9 +91,9 @@ pub record KeepsPlan
   pub stands : Stands (length (sets_of list)) made given phase
   pub keeps : KeepsResult list c given phase
 
-abbrev pub KeepsPlanBy : Option NetList → Command → List Kind → ℕ → ℕ → List Addr → Phase → Type 0
-KeepsPlanBy None c kinds room made given phase = ⊤
-KeepsPlanBy (Some list) c kinds room made given phase = KeepsPlan list c kinds room made given phase
+abbrev pub KeepsOfListBy : Option NetList → Command → List Kind → ℕ → ℕ → List Addr → Phase → Type 0
+KeepsOfListBy None c kinds room made given phase = ⊤
+KeepsOfListBy (Some list) c kinds room made given phase = KeepsOfList list c kinds room made given phase
 
 -- the phase stands for this state
 pub record IsPhaseOf

@@ -4,7 +4,7 @@ use Rattle.net_conf.specs.declared.chained.Chained.{Chained}
 use Rattle.net_conf.specs.declared.chained.Chained.TheVariants.{Portmap, Firewall, Tuning}
 use Rattle.net_conf.specs.declared.first.First.{First}
 use Rattle.net_conf.specs.declared.first.First.TheVariants.{Bridge, Ptp, Macvlan}
-use Rattle.plan_words.specs.Plugins.{ChainedPlugin, FirstPlugin}
+use Rattle.plugin_base.specs.Plugins.{ChainedPlugin, FirstPlugin}
 use Rattle.bridge_ptp.specs.Bridge.{bridge_plugin}
 use Rattle.bridge_ptp.specs.Ptp.{ptp_plugin}
 use Rattle.firewall_tuning.specs.Firewall.{firewall_plugin}

@@ -19,8 +19,8 @@ use Rattle.kernel_types.specs.declared.call.Call.TheVariants.{HasObj, PoolFree}
 use Rattle.kernel_types.specs.declared.call.Object.{Object}
 use Rattle.kernel_types.specs.declared.call.Object.TheVariants as objects
 use Rattle.kernel_types.specs.declared.call.Probe.TheVariants.{Whole, BridgeAt, Master}
-use Rattle.plan_words.specs.Share.{Share}
-use Rattle.cni_verbs.specs.CommandWords.{att_of}
+use Rattle.plugin_base.specs.Share.{Share}
+use Rattle.cni_verbs.specs.CommandFields.{att_of}
 use Rattle.cni_verbs.specs.Wanted.{bridge_of, master_of, sets_of, wanted}
 use Rattle.cni_verbs.specs.declared.answer.Cause.TheVariants.{NoFreeAddress, MasterAbsent, Missing}
 use Rattle.cni_verbs.specs.declared.answer.Missed.{Missed}
@@ -41,7 +41,7 @@ address_question a = asks_for (objects.Address a) (missed.Address a.ns a.link a.
 abbrev pub route_question : RouteObj → Question
 route_question r = asks_for (objects.Route r) (missed.Route r.ns r.link r.dst)
 
--- rules have no names: they are told by their place, from 1
+-- rules have no names: they are named by their place, from 1
 abbrev pub rule_question : ℕ → Rule → Question
 rule_question number r = asks_for (objects.Rule r) (missed.Rule r.table r.chain number)
 
@@ -78,7 +78,7 @@ bridge_questions (Some bridge) interfaces = first_interface interfaces
 abbrev pub addresses_of_result : AddResult → List Addr
 addresses_of_result r = map (λ ip. ip.address.addr) r.ips
 
--- what the cached entry says that there is
+-- what the cached result says that there is
 abbrev pub cached_share : NetList → Command → Cached → Share
 cached_share list c cached = wanted list (att_of c) cached.netns cached.mappings (addresses_of_result cached.result)
 

@@ -19,7 +19,7 @@ use Rattle.kernel_types.specs.declared.rule.Table.{Table}
 use Rattle.kernel_types.specs.Replies.{is_fault}
 use Rattle.kernel_types.specs.declared.call.Reply.{Reply}
 use Rattle.kernel_types.specs.declared.call.Reply.TheVariants.{Done, NoNs, NoLink, Taken, Empty, Leased, Gone, Has, Entry, Fault}
-use Rattle.cni_verbs.specs.CommandWords.{att_of, mappings_of, add_refusal, del_refusal, netns_refusal, drop_refusal}
+use Rattle.cni_verbs.specs.CommandFields.{att_of, mappings_of, add_refusal, del_refusal, netns_refusal, drop_refusal}
 use Rattle.cni_verbs.specs.Questions.{check_questions, status_questions}
 use Rattle.cni_verbs.specs.Sweep.{Gc, Job, Sweep, Work, start_work, step_call, work_after}
 use Rattle.cni_verbs.specs.Wanted.{sets_of, calls_before, back_calls, kinds_of, deletion}
@@ -31,7 +31,7 @@ use Rattle.cni_verbs.specs.declared.answer.Question.{Question}
 use Rattle.cni_verbs.specs.declared.answer.Skip.TheVariants as skips
 
 -- What is left to do: Begin and all after it; the calls before the leases; sets to lease from; the calls after the
--- leases; the cached entry to read, ahead of the deletions; kinds to delete; the cached entry to read, ahead of the
+-- leases; the cached result to read, ahead of the deletions; kinds to delete; the cached result to read, ahead of the
 -- questions of a check; questions; one change from outside; the work of a collection, with its faults so far; nothing.
 pub data State : Type 0 where
   AtBegin : State
@@ -90,7 +90,7 @@ cause_of set number (Taken tag) = causes.NameTaken tag
 cause_of set number Empty = causes.PoolEmpty set
 cause_of set number r = causes.Fault number
 
--- a fault among the deletions is told where nothing was refused before it
+-- a fault among the deletions is answered where nothing was refused before it
 abbrev pub faulted : ℕ → Ending → Ending
 faulted number (Refused cause) = Refused cause
 faulted number ending = Refused (causes.Fault number)
@@ -98,7 +98,7 @@ faulted number ending = Refused (causes.Fault number)
 abbrev pub refused : Cause → State
 refused cause = Over (Refused cause) []
 
--- what was made is taken back, beginning with the cached entry
+-- what was made is taken back, beginning with the cached result
 abbrev pub undoing : ℕ → ℕ → Reply → State
 undoing set number r = ReadingCache (Refused (cause_of set number r))
 
@@ -130,7 +130,7 @@ at_deletion number kind left ending (Gone false) = deleting left ending
 at_deletion number kind left ending Fault = Over (faulted number ending) []
 at_deletion number kind left ending r = Deleting kind left ending
 
--- the questions of a check, where the attachment has a cached entry
+-- the questions of a check, where the attachment has a cached result
 abbrev pub checking : NetList → Command → Option Cached → State
 checking list c None = refused causes.Unknown
 checking list c (Some cached) = asking (check_questions list c cached)

@@ -22,7 +22,7 @@ is_named att v = bytes_eq v.container att.container && bytes_eq v.ifname att.ifn
 abbrev pub is_valid : List ValidAtt → Att → Bool
 is_valid valid att = list_any (is_named att) valid
 
--- a collection: the network, the attachments of it that stay, and the kinds of a DEL, the cached entry last
+-- a collection: the network, the attachments of it that stay, and the kinds of a DEL, the cached result last
 pub record Gc : Type 0 where
   pub network : List ℕ
   pub valid : List ValidAtt
@@ -30,7 +30,7 @@ pub record Gc : Type 0 where
 
 -- ---- work
 
--- one step for one owner: its cached entry is read, or a kind is deleted until nothing of it is left
+-- one step for one owner: its cached result is read, or a kind is deleted until nothing of it is left
 pub data Step : Type 0 where
   AskCached : Step
   Delete : (kind : Kind) → Step
@@ -56,7 +56,7 @@ abbrev pub step_call : Att → Step → Call
 step_call att AskCached = CacheGet att
 step_call att (Delete kind) = deletion att kind
 
--- a DEL for each owner of a cached entry
+-- a DEL for each owner of a cached result
 abbrev pub first_sweep : List Kind → Sweep
 first_sweep kinds_of_del = record { kind = kinds.Cached; step = AskCached; more = map Delete kinds_of_del }
 

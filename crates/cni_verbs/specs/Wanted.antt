@@ -23,8 +23,8 @@ use Rattle.kernel_types.specs.declared.call.Kind.TheVariants as kinds
 use Rattle.kernel_types.specs.declared.call.Call.{Call}
 use Rattle.kernel_types.specs.declared.call.Call.TheVariants.{Begin, LinkDel, RuleDel, SettingDel, LeaseDel, CacheDel, CachePut}
 use Rattle.kernel_types.specs.Words.{lease_of}
-use Rattle.plan_words.specs.Plugins.{added_after}
-use Rattle.plan_words.specs.Share.{Share}
+use Rattle.plugin_base.specs.Plugins.{added_after}
+use Rattle.plugin_base.specs.Share.{Share}
 use Rattle.host_local.specs.Conf.{range_sets_of}
 use Rattle.host_local.specs.Leases.{given_of, lease_calls_of}
 use Rattle.host_local.specs.Results.{ipam_result_of}
@@ -152,7 +152,7 @@ abbrev pub chained_kinds_reversed : List Chained → List Kind
 chained_kinds_reversed [] = []
 chained_kinds_reversed (c ∷ cs) = chained_kinds_reversed cs ++ chained_kinds c
 
--- the kinds of all plugins, the last plugin's first, and the cached entry
+-- the kinds of all plugins, the last plugin's first, and the cached result
 abbrev pub kinds_of : NetList → List Kind
 kinds_of list = chained_kinds_reversed list.chained ++ (first_kinds list.first ++ kinds.Cached ∷ [])
 

@@ -1,6 +1,6 @@
 //! The phase after a reply. Where the reply grants what was asked in the midst of a list, the phase stays in its place
 //! and a number in it goes up. Memory is taken for copies alone: of the tag in the way, which the error names, and of
-//! the cached entry that a CHECK asks about.
+//! the cached result that a CHECK asks about.
 
 ghost use Rattle.std.specs.Prelude.{◌≡◌, ℕ, ◌+◌, ◌<◌, ◌≤◌, ◌^◌, [], ◌∷◌, List, length, drop, slice_get, Some, vec_capacity, false, IfOk, IsOk, OnErr, OnOk};
 ghost use Rattle.std.specs.Option.{unwrap_or};
@@ -11,7 +11,7 @@ ghost use Rattle.pod_file.specs.declared.command.Command.{Command};
 ghost use Rattle.kernel_types.specs.Replies.{holds_text_or_list};
 ghost use Rattle.kernel_types.specs.declared.call.Call.{Call};
 ghost use Rattle.kernel_types.specs.declared.call.Kind.{Kind};
-ghost use Rattle.cni_verbs.specs.CommandWords.{att_of};
+ghost use Rattle.cni_verbs.specs.CommandFields.{att_of};
 ghost use Rattle.cni_verbs.specs.Wanted.{sets_of, kinds_of, result_of_add};
 ghost use Rattle.cni_verbs.specs.Script.{IsOpen};
 ghost use Rattle.cni_verbs.specs.Script as script;
@@ -47,7 +47,7 @@ fn cause_of(set: u32, number: u64, reply: &Reply) -> Result<Cause, NoMemory>
     }
 }
 
-/// Reads the cached entry ahead of the deletions, of a run that this reply refuses.
+/// Reads the cached result ahead of the deletions, of a run that this reply refuses.
 fn undoing(set: u32, number: u64, refusal: &Reply) -> Result<Phase, NoMemory>
     ensures ok { IfOk result (λ next. next
         ≡ Phase.ReadingCache (Ending.Refused (script.cause_of set number refusal.now))) }

@@ -32,7 +32,7 @@ pub enum Answer {
 
 /// Which of a command's fields are outside their grammar.
 #[derive(Clone, Copy, PartialEq, Eq)]
-pub struct WordFaults {
+pub struct WrongFields {
     pub container: bool,
     pub netns: bool,
     pub ifname: bool,
@@ -74,8 +74,8 @@ pub enum Missed {
 /// Why a verb refuses.
 #[derive(PartialEq, Eq, Drop)]
 pub enum Cause {
-    /// Words of the command are outside their grammar (code 4).
-    BadWords(WordFaults),
+    /// Fields of the command are outside their grammar (code 4).
+    BadFields(WrongFields),
     /// The argument `IP` was given this value (code 2).
     IpArgument(Text),
     /// A port mapping can't be taken (code 7).

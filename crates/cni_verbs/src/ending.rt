@@ -5,14 +5,14 @@ ghost use Rattle.kernel_types.specs.declared.call.Kind.{Kind};
 ghost use Rattle.cni_verbs.specs.Script.{IsOpen};
 ghost use Rattle.cni_verbs.specs.Answers.{answer_of_ending, plain_answer};
 ghost use Rattle.cni_verbs.specs.Progress.{answer_in};
-ghost use Rattle.cni_verbs.specs.Phases.{KeepsPlan, state_in, state_outside};
+ghost use Rattle.cni_verbs.specs.Phases.{KeepsOfList, state_in, state_outside};
 
 use crate::answer::{Answer, Ending};
 use crate::errors::refused;
+use crate::fields::named_att_of;
 use crate::over::{is_over, is_over_outside};
 use crate::phase::Phase;
 use crate::wanted::result_of_add;
-use crate::words::named_att_of;
 use cni_addr::{Addr, Duplicate, NoMemory};
 use cni_result::Version;
 use kernel_types::{Kind, RefCounted};
@@ -78,7 +78,7 @@ fn answer_at_end(
     phase: &Phase,
 ) -> Result<Answer, NoMemory>
     requires kept { (kinds : List Kind) × (room : ℕ) × (made : ℕ)
-        × KeepsPlan list.now command.now kinds room made given.now phase.now }
+        × KeepsOfList list.now command.now kinds room made given.now phase.now }
     requires over { IsOpen (state_in list.now command.now given.now phase.now) → ⊥ }
     ensures { IfOk result (λ answer.
         Some answer ≡ answer_in (Some list.now) command.now (state_in list.now command.now given.now phase.now)) }
@@ -113,7 +113,7 @@ pub(crate) fn answer_in(
     phase: &Phase,
 ) -> Result<Option<Answer>, NoMemory>
     requires { (room : ℕ) × (made : ℕ)
-        × KeepsPlan list.now command.now kinds.now room made given.now phase.now }
+        × KeepsOfList list.now command.now kinds.now room made given.now phase.now }
     ensures { IfOk result (λ answer.
         answer ≡ answer_in (Some list.now) command.now (state_in list.now command.now given.now phase.now)) }
 {

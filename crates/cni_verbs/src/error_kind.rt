@@ -18,7 +18,7 @@ pub enum ErrorKind {
     UnsupportedField,
     /// An attachment without a cached result (code 3).
     ContainerUnknown,
-    /// Words of a command outside their grammar (code 4).
+    /// Fields of a command outside their grammar (code 4).
     InvalidVariables,
     /// Bytes that are no JSON text (code 6).
     DecodingFailed,

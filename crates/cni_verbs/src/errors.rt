@@ -5,10 +5,10 @@ ghost use Rattle.serde_json.specs.Data.{string};
 ghost use Rattle.serde_json.specs.Written.{compact_text};
 ghost use Rattle.cni_verbs.specs.Answers as answers;
 
-use crate::answer::{Answer, Cause, WordFaults};
+use crate::answer::{Answer, Cause, WrongFields};
 use crate::error_kind::{ErrorKind, message_of_field};
+use crate::fields::att_of;
 use crate::missed::{missed_text, spaced};
-use crate::words::att_of;
 use cni_addr::{Duplicate, Items, NoMemory, Text};
 use cni_result::{CniError, Version, version_text};
 use kernel_text::{attachment_text, tag_text};
@@ -20,7 +20,7 @@ fn kind_of(cause: &Cause) -> ErrorKind
     ensures { result ≡ answers.kind_of cause.now }
 {
     match cause {
-        Cause::BadWords(_) => ErrorKind::InvalidVariables,
+        Cause::BadFields(_) => ErrorKind::InvalidVariables,
         Cause::IpArgument(_) => ErrorKind::UnsupportedField,
         Cause::BadMapping | Cause::NoMaster => ErrorKind::InvalidList,
         Cause::NoNamespace => ErrorKind::NamespaceMissing,
@@ -46,14 +46,14 @@ fn push_if(alloc: Global, names: &mut Items<Text>, fault: bool, name: &str) -> R
     Ok(())
 }
 
-fn variables_of(alloc: Global, faults: WordFaults) -> Result<Items<Text>, NoMemory>
-    ensures { IfOk result (λ names. names ≡ answers.variables_of faults) }
+fn variables_of(alloc: Global, wrong: WrongFields) -> Result<Items<Text>, NoMemory>
+    ensures { IfOk result (λ names. names ≡ answers.variables_of wrong) }
 {
     let mut names = Items::new(alloc);
-    push_if(alloc, &mut names, faults.container, "CNI_CONTAINERID")?;
-    push_if(alloc, &mut names, faults.netns, "CNI_NETNS")?;
-    push_if(alloc, &mut names, faults.ifname, "CNI_IFNAME")?;
-    push_if(alloc, &mut names, faults.args, "CNI_ARGS")?;
+    push_if(alloc, &mut names, wrong.container, "CNI_CONTAINERID")?;
+    push_if(alloc, &mut names, wrong.netns, "CNI_NETNS")?;
+    push_if(alloc, &mut names, wrong.ifname, "CNI_IFNAME")?;
+    push_if(alloc, &mut names, wrong.args, "CNI_ARGS")?;
     Ok(names)
 }
 
@@ -64,10 +64,10 @@ fn joined(alloc: Global, names: &[Text]) -> Result<Text, NoMemory>
     Text::of(alloc, names.join(alloc, ", ")?.as_str())
 }
 
-fn words_message(alloc: Global, faults: WordFaults) -> Result<Text, NoMemory>
-    ensures { IfOk result (λ msg. msg ≡ answers.message_of (Cause.BadWords faults)) }
+fn fields_message(alloc: Global, wrong: WrongFields) -> Result<Text, NoMemory>
+    ensures { IfOk result (λ msg. msg ≡ answers.message_of (Cause.BadFields wrong)) }
 {
-    let names = variables_of(alloc, faults)?;
+    let names = variables_of(alloc, wrong)?;
     let names = joined(alloc, names.as_slice())?;
     ErrorKind::InvalidVariables.message_about(alloc, names.as_str())
 }
@@ -91,7 +91,7 @@ fn message_of(alloc: Global, cause: &Cause) -> Result<Text, NoMemory>
     ensures { IfOk result (λ msg. msg ≡ answers.message_of cause.now) }
 {
     match cause {
-        Cause::BadWords(faults) => words_message(alloc, *faults),
+        Cause::BadFields(wrong) => fields_message(alloc, *wrong),
         Cause::IpArgument(value) => argument_message(alloc, value),
         Cause::BadMapping => ErrorKind::InvalidList.message_about(alloc, "portMappings"),
         Cause::NoMaster => ErrorKind::InvalidList.message_about(alloc, "master"),
@@ -147,7 +147,7 @@ fn details_of(alloc: Global, command: &Command, cause: &Cause) -> Result<Text, N
         Cause::MasterAbsent(name) => spaced(alloc, "master", name.as_str()),
         Cause::NothingThere => command.ifname.copy(),
         Cause::Missing(missed) => missed_text(alloc, missed.get()),
-        Cause::BadWords(_) | Cause::IpArgument(_) | Cause::BadMapping | Cause::NoMaster => {
+        Cause::BadFields(_) | Cause::IpArgument(_) | Cause::BadMapping | Cause::NoMaster => {
             Text::of(alloc, "")
         }
     }

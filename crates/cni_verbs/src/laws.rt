@@ -10,7 +10,7 @@ pub fn a_run_calls_or_is_over()
     ensures { EachStateCallsOrIsOver }
 {}
 
-/// An ADD that its words don't refuse makes just `add_calls`, in their order, and is then answered with its result,
+/// An ADD that its fields don't refuse makes just `add_calls`, in their order, and is then answered with its result,
 /// where each call is granted: each lease with an address, and each other call with Done.
 #[tactic(auto, using(crate::proofs::AddCalls::add_makes_its_calls))]
 pub fn an_add_makes_its_calls()
@@ -23,8 +23,8 @@ pub fn an_add_may_be_granted()
     ensures { AddMayBeGranted }
 {}
 
-/// Each plugin keeps what it owes (`plan_words/specs/PluginLaws.antt`), the one that makes the interface and the
-/// chained ones, however they are configured.
+/// Each plugin keeps what it owes (`plugin_base/specs/PluginLaws.antt`), the one that comes first and the chained ones,
+/// however they are configured.
 #[tactic(auto, using(crate::proofs::PluginLaws::chained_laws))]
 pub fn each_plugin_keeps_its_laws()
     ensures firsts { FirstsKeepTheirLaws }

@@ -23,7 +23,7 @@ pub(crate) fn spaced(alloc: Global, word: &str, text: &str) -> Result<Text, NoMe
     Text::of(alloc, format!(in alloc; "{word} {text}")?.as_str())
 }
 
-/// What has a name of its own in a namespace, after the word for what it is.
+/// What has a name of its own in a namespace, after the term for what it is.
 fn named_text(alloc: Global, word: &str, ns: &Text, name: &Text) -> Result<Text, NoMemory>
     ensures { IfOk result (λ text. text ≡ answers.named_text word.now ns.now name.now) }
 {
@@ -31,7 +31,7 @@ fn named_text(alloc: Global, word: &str, ns: &Text, name: &Text) -> Result<Text,
     spaced(alloc, word, there.as_str())
 }
 
-/// What a link has of a network, after the word for what it is.
+/// What a link has of a network, after the term for what it is.
 fn on_link_text(
     alloc: Global,
     word: &str,

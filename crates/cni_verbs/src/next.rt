@@ -2,16 +2,16 @@
 
 ghost use Rattle.std.specs.Prelude.{◌≡◌, ℕ, ◌<◌, true, Some, length, slice_get, option_map, IfOk};
 ghost use Rattle.kernel_types.specs.declared.call.Call.TheVariants as call;
-ghost use Rattle.cni_verbs.specs.CommandWords.{att_of};
+ghost use Rattle.cni_verbs.specs.CommandFields.{att_of};
 ghost use Rattle.cni_verbs.specs.Wanted.{deletion, result_of_add, sets_of};
 ghost use Rattle.cni_verbs.specs.Script.{before_of, back_of, next_call};
-ghost use Rattle.cni_verbs.specs.Phases.{KeepsPlan, is_prepared, state_in, state_outside};
+ghost use Rattle.cni_verbs.specs.Phases.{KeepsOfList, is_prepared, state_in, state_outside};
 
 use crate::answer::Question;
+use crate::fields::{att_of, mappings_of, named_att_of};
 use crate::phase::Phase;
 use crate::plugins::calls_before;
 use crate::wanted::{Back, back_calls, deletion, sets_of};
-use crate::words::{att_of, mappings_of, named_att_of};
 use cni_addr::{Addr, Duplicate, Items, NoMemory};
 use host_local::lease_at;
 use kernel_types::{Call, Kind, RefCounted};
@@ -144,7 +144,7 @@ pub(crate) fn next_of(
     phase: &Phase,
 ) -> Result<Option<RefCounted<Call>>, NoMemory>
     requires kept { (room : ℕ) × (made : ℕ)
-        × KeepsPlan list.now command.now kinds.now room made given.now phase.now }
+        × KeepsOfList list.now command.now kinds.now room made given.now phase.now }
     requires prepared { is_prepared phase.now ≡ true }
     ensures { IfOk result (λ next. next ≡ next_call command.now (state_in list.now command.now given.now phase.now)) }
 {

@@ -7,7 +7,7 @@ ghost use Rattle.pod_file.specs.declared.command.Command.{Command};
 ghost use Rattle.kernel_types.specs.declared.call.Call.{Call};
 ghost use Rattle.kernel_types.specs.declared.call.Reply.{Reply};
 ghost use Rattle.cni_verbs.specs.Script.{IsOpen, outside_advance};
-ghost use Rattle.cni_verbs.specs.Phases.{KeepsPlan, state_in, state_outside};
+ghost use Rattle.cni_verbs.specs.Phases.{KeepsOfList, state_in, state_outside};
 
 use crate::phase::Phase;
 use cni_addr::Addr;
@@ -20,10 +20,10 @@ fn passed_all<T>(items: &[T], passed: usize) -> bool
 }
 
 /// Whether the run of a list is over. One whose calls before or after the leases or whose questions aren't made ahead
-/// yet isn't: an ADD makes a link and ends with its cached entry, and a CHECK asks for a link at least.
+/// yet isn't: an ADD makes a link and ends with its cached result, and a CHECK asks for a link at least.
 pub(crate) fn is_over(kinds: &[Kind], given: &[Addr], phase: &Phase) -> bool
     ensures { (list : NetList) (c : Command) (room made : ℕ)
-        → KeepsPlan list c kinds.now room made given.now phase.now
+        → KeepsOfList list c kinds.now room made given.now phase.now
         → FalseIff result (IsOpen (state_in list c given.now phase.now)) }
 {
     match phase {

@@ -23,20 +23,20 @@ pub(crate) enum Phase {
     Leasing,
     /// No set is left to lease from, and the calls after the leases aren't made ahead yet.
     Leased,
-    /// So many of the calls after the leases are behind it, and this is the cached entry that the last of them puts:
+    /// So many of the calls after the leases are behind it, and this is the cached result that the last of them puts:
     /// its result is the ADD's.
     AfterLeases {
         calls: Items<RefCounted<Call>>,
         passed: usize,
         cached: RefCounted<Cached>,
     },
-    /// The cached entry is read ahead of the deletions.
+    /// The cached result is read ahead of the deletions.
     ReadingCache(Ending),
     /// Nothing is left of so many kinds.
     Deleting(usize, Ending),
-    /// The cached entry is read ahead of the questions of a check.
+    /// The cached result is read ahead of the questions of a check.
     FindingEntry,
-    /// A CHECK asks about this cached entry, and its questions aren't made ahead yet.
+    /// A CHECK asks about this cached result, and its questions aren't made ahead yet.
     Found(RefCounted<Cached>),
     /// So many questions were answered with yes.
     Asking {

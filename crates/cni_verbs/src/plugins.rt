@@ -17,7 +17,7 @@ use kernel_types::{Att, Call, Given, Kind, NamedAtt};
 use net_conf::{Chained, First, HostLocalConf};
 use std::alloc::Global;
 
-// ---- the plugin that makes the interface
+// ---- the first plugin
 
 /// What it asks of `host-local`, if it does.
 #[tactic(auto, unfolding(crate::specs::Plugins::plugin_of))]

@@ -7,10 +7,10 @@ ghost use Rattle.net_conf.specs.Sets.{most_sets};
 ghost use Rattle.std.specs.Option.{option_copied};
 
 use crate::answer::{Cause, Missed, Question};
+use crate::fields::named_att_of;
 use crate::plugins::{bridge_of, calls_before, master_of};
 use crate::share::{Objects, no_objects};
 use crate::wanted::{plugin_calls, sets_of};
-use crate::words::named_att_of;
 use cni_addr::{Addr, Duplicate, Items, Mac, NoMemory, RangeSet, Text};
 use cni_result::{AddResult, Cached, Interface};
 use kernel_types::{
@@ -234,7 +234,8 @@ fn addresses_of_result(alloc: Global, added: &AddResult) -> Result<Vec<Addr>, No
     )
 }
 
-/// What a check asks of what the cached entry says that there is: all of it but the entry itself, which was just read.
+/// What a check asks of what the cached result says that there is: all of it but the result itself, which was just
+/// read.
 fn cached_share(
     alloc: Global,
     list: &NetList,

@@ -39,7 +39,7 @@ pub struct Run {
 
 impl Model for Run {
     ghost use Rattle.std.specs.Prelude.{vec_capacity};
-    ghost use Rattle.cni_verbs.specs.Phases.{KeepsPlanBy, is_prepared_by, state_by_phase};
+    ghost use Rattle.cni_verbs.specs.Phases.{KeepsOfListBy, is_prepared_by, state_by_phase};
     ghost use Rattle.cni_verbs.specs.Progress.{RunView};
 
     ghost Value = { RunView };
@@ -55,7 +55,7 @@ impl Model for Run {
     } };
 
     ghost invariant = { λ r.
-        KeepsPlanBy r.list r.command r.kinds (vec_capacity r.given) r.made r.given.items r.phase };
+        KeepsOfListBy r.list r.command r.kinds (vec_capacity r.given) r.made r.given.items r.phase };
 }
 
 impl Run {

@@ -1,7 +1,7 @@
 //! The objects of an attachment, gathered from the calls that make them.
 
 ghost use Rattle.std.specs.Prelude.{◌≡◌, ◌++◌, ◌∷◌, [], map, OnOk};
-ghost use Rattle.plan_words.specs.Share.{no_objects, share_after_call, share_after_calls};
+ghost use Rattle.plugin_base.specs.Share.{no_objects, share_after_call, share_after_calls};
 ghost use Rattle.kernel_types.specs.Words.{lease_of};
 
 use cni_addr::{Addr, Items, NoMemory};
@@ -26,7 +26,7 @@ pub(crate) struct Objects {
 }
 
 impl Model for Objects {
-    ghost use Rattle.plan_words.specs.Share.{Share};
+    ghost use Rattle.plugin_base.specs.Share.{Share};
 
     ghost Value = { Share };
 

@@ -4,7 +4,7 @@ ghost use Rattle.std.specs.Prelude.{◌≡◌, false, [], IfOk};
 ghost use Rattle.net_conf.specs.declared.list.NetList.{NetList};
 ghost use Rattle.kernel_types.specs.declared.call.Call.TheVariants as call;
 ghost use Rattle.kernel_types.specs.declared.call.Change.TheVariants as change;
-ghost use Rattle.cni_verbs.specs.CommandWords.{add_refusal, del_refusal, netns_refusal, drop_refusal};
+ghost use Rattle.cni_verbs.specs.CommandFields.{add_refusal, del_refusal, netns_refusal, drop_refusal};
 ghost use Rattle.cni_verbs.specs.Questions.{status_questions};
 ghost use Rattle.cni_verbs.specs.Script.{AtBegin, ReadingCache, Changing, start_of, start_state, outside_start, flush_by, unless_refused, unless_ended, asking};
 ghost use Rattle.cni_verbs.specs.Script as script;
@@ -13,9 +13,9 @@ ghost use Rattle.cni_verbs.specs.declared.answer.Ending.TheVariants as ending;
 ghost use Rattle.cni_verbs.specs.Phases.{IsPhaseOf, state_outside};
 
 use crate::answer::{Cause, Ending, Skip};
+use crate::fields::{add_refusal, del_refusal, drop_refusal, netns_refusal};
 use crate::phase::Phase;
 use crate::questions::status_questions;
-use crate::words::{add_refusal, del_refusal, drop_refusal, netns_refusal};
 use cni_addr::{Duplicate, NoMemory};
 use cni_result::Version;
 use kernel_types::{Call, Change, LinkKey, RefCounted, Table};
@@ -165,7 +165,7 @@ fn flush_of(alloc: Global, table: Option<Table>) -> Result<Phase, NoMemory>
     }
 }
 
-/// The phase of a run of no network before its call. Words outside their grammar end it there.
+/// The phase of a run of no network before its call. Fields outside their grammar end it there.
 pub(crate) fn first_outside(alloc: Global, command: &Command) -> Result<Phase, NoMemory>
     ensures { IfOk result (λ phase. state_outside phase ≡ outside_start command.now) }
 {

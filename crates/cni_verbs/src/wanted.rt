@@ -113,7 +113,7 @@ pub(crate) fn result_of_add(
 
 // ---- the calls
 
-fn cached_entry(
+fn cached_result(
     alloc: Global,
     netns: &Text,
     mappings: Items<PortMapping>,
@@ -142,8 +142,8 @@ pub(crate) struct PluginCalls {
     pub(crate) result: AddResult,
 }
 
-/// The calls that the plugins of an ADD make after its last lease, where it was leased these addresses: all but that
-/// of the cached entry. Linear in the addresses, the routes, settings and plugins of the list, and the mappings.
+/// The calls that the plugins of an ADD make after its last lease, where it was leased these addresses: all but that of
+/// the cached result. Linear in the addresses, the routes, settings and plugins of the list, and the mappings.
 #[tactic(auto, unfolding(crate::specs::Wanted::result_of_add))]
 pub(crate) fn plugin_calls(
     alloc: Global,
@@ -180,13 +180,13 @@ pub(crate) fn plugin_calls(
 /// What an ADD makes after its last lease.
 #[derive(Drop)]
 pub(crate) struct Back {
-    /// The calls of the plugins, and the one that puts the cached entry.
+    /// The calls of the plugins, and the one that puts the cached result.
     pub(crate) calls: Items<Call>,
-    /// The cached entry, which holds the result of the last plugin.
+    /// The cached result, which holds that of the last plugin.
     pub(crate) cached: RefCounted<Cached>,
 }
 
-/// The calls of an ADD after its last lease, where it was leased these addresses, and its cached entry. As linear as
+/// The calls of an ADD after its last lease, where it was leased these addresses, and its cached result. As linear as
 /// [`plugin_calls`].
 pub(crate) fn back_calls(
     alloc: Global,
@@ -202,7 +202,7 @@ pub(crate) fn back_calls(
         back.cached.result ≡ wanted.result_of_add list.now att.now netns.now addrs.now) }
 {
     let made = plugin_calls(alloc, list, att, netns, mappings.as_slice(), addrs)?;
-    let cached = cached_entry(alloc, netns, mappings, made.result)?;
+    let cached = cached_result(alloc, netns, mappings, made.result)?;
     let mut calls = made.calls.into_vec();
     calls.push(Call::CachePut {
         att: att.att().copy()?,
@@ -227,7 +227,7 @@ fn chained_kinds_reversed(alloc: Global, chained: &[Chained]) -> Result<Vec<Kind
     Ok(kinds)
 }
 
-/// The kinds of objects that are taken back, the last plugin's first, and the cached entry at the end. A kind may come
+/// The kinds of objects that are taken back, the last plugin's first, and the cached result at the end. A kind may come
 /// twice. Linear in the plugins.
 pub fn kinds_of(alloc: Global, list: &NetList) -> Result<Items<Kind>, NoMemory>
     ensures { IfOk result (λ kinds. kinds ≡ wanted.kinds_of list.now) }

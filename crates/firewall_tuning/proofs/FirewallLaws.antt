@@ -9,11 +9,11 @@ use Rattle.kernel_types.specs.Words.{is_own}
 use Rattle.kernel_types.proofs.Cases.{att_eq-refl}
 use Rattle.kernel_types.specs.declared.object.Att.{Att}
 use Rattle.kernel_types.specs.declared.call.Call.TheVariants.{RuleAppend}
-use Rattle.plan_words.specs.PluginLaws.{ChainedLaws}
-use Rattle.plan_words.proofs.CallLists.{share_after_calls-rules}
-use Rattle.plan_words.proofs.Counts.{length-each}
-use Rattle.plan_words.proofs.KeyLists.{length-each_key_once, list_all-flat, list_all-each_key_once}
-use Rattle.plan_words.proofs.PluginCalls.{rule-calls}
+use Rattle.plugin_base.specs.PluginLaws.{ChainedLaws}
+use Rattle.plugin_base.proofs.CallLists.{share_after_calls-rules}
+use Rattle.plugin_base.proofs.Counts.{length-each}
+use Rattle.plugin_base.proofs.KeyLists.{length-each_key_once, list_all-flat, list_all-each_key_once}
+use Rattle.plugin_base.proofs.PluginCalls.{rule-calls}
 use Rattle.firewall_tuning.specs.Firewall.{firewall_calls_of, firewall_plugin, firewall_rules, forward_of}
 
 -- each rule is its attachment's

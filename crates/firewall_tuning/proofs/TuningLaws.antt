@@ -16,16 +16,16 @@ use Rattle.kernel_types.specs.declared.object.Att.{Att}
 use Rattle.kernel_types.specs.declared.object.Link.{Link}
 use Rattle.kernel_types.specs.declared.call.Call.{Call}
 use Rattle.kernel_types.specs.declared.call.Call.TheVariants.{LinkSet, SettingSet}
-use Rattle.plan_words.specs.PlanCalls.{is_of_kinds, is_plan_call_of}
-use Rattle.plan_words.specs.PluginCalls.{at_most_one, changes_links, is_later_call, set_links_once, stands_on}
-use Rattle.plan_words.specs.PluginLaws.{AreChainedCalls, ChainedLaws}
-use Rattle.plan_words.specs.Plugins.{changed_by}
-use Rattle.plan_words.specs.Shapes.{inner_key}
-use Rattle.plan_words.specs.Share.{Share, share_after_call, share_after_calls}
-use Rattle.plan_words.proofs.CallLists.{share_after_calls-settings, share_after_calls-then}
-use Rattle.plan_words.proofs.Counts.{length-if}
-use Rattle.plan_words.proofs.KeyLists.{length-each_key_once, list_all-append, list_all-if}
-use Rattle.plan_words.proofs.PluginCalls.{none-every, own-at, passes-once}
+use Rattle.plugin_base.specs.Calls.{is_of_kinds, is_plugin_call_of}
+use Rattle.plugin_base.specs.PluginCalls.{at_most_one, changes_links, is_later_call, set_links_once, stands_on}
+use Rattle.plugin_base.specs.PluginLaws.{AreChainedCalls, ChainedLaws}
+use Rattle.plugin_base.specs.Plugins.{changed_by}
+use Rattle.plugin_base.specs.Shapes.{inner_key}
+use Rattle.plugin_base.specs.Share.{Share, share_after_call, share_after_calls}
+use Rattle.plugin_base.proofs.CallLists.{share_after_calls-settings, share_after_calls-then}
+use Rattle.plugin_base.proofs.Counts.{length-if}
+use Rattle.plugin_base.proofs.KeyLists.{length-each_key_once, list_all-append, list_all-if}
+use Rattle.plugin_base.proofs.PluginCalls.{none-every, own-at, passes-once}
 use Rattle.firewall_tuning.specs.Tuning.{link_set_calls, setting_of, sets_any, tuned, tuned_interface, tuning_calls_of, tuning_kinds, tuning_plugin, tuning_settings}
 
 -- ---- the calls
@@ -51,7 +51,7 @@ once false settings set none is = ap (λ calls. not (list_any changes_links call
 
 tuning-calls : (conf : TuningConf) (att : Att) (netns : List ℕ) (mappings : List PortMapping) (ips : List IpEntry) → AreChainedCalls (tuning_plugin conf) att netns mappings ips
 tuning-calls conf att netns mappings ips = record {
-  own = passes (is_plan_call_of att) conf att netns (λ x. att_eq-refl att) (att_eq-refl att);
+  own = passes (is_plugin_call_of att) conf att netns (λ x. att_eq-refl att) (att_eq-refl att);
   later = passes (is_later_call netns) conf att netns (λ x. nat_list_eq_equiv.refl netns) refl;
   of_kinds = passes (is_of_kinds tuning_kinds) conf att netns (λ x. refl) refl;
   stand = λ links there. passes (stands_on links None) conf att netns (λ x. refl) (grind (arith, own-at att netns att.ifname links there));

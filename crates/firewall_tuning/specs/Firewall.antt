@@ -16,8 +16,8 @@ use Rattle.kernel_types.specs.declared.call.Call.TheVariants.{RuleAppend}
 use Rattle.kernel_types.specs.declared.call.Kind.{Kind}
 use Rattle.kernel_types.specs.declared.call.Kind.TheVariants.{Rules}
 use Rattle.cni_addr.specs.Lists.{each_key_once}
-use Rattle.plan_words.specs.Plugins.{ChainedPlugin}
-use Rattle.plan_words.specs.Shapes.{rule_for_all}
+use Rattle.plugin_base.specs.Plugins.{ChainedPlugin}
+use Rattle.plugin_base.specs.Shapes.{rule_for_all}
 
 -- to the address: what answers it
 abbrev pub accept_replies_to : Att → Addr → Rule

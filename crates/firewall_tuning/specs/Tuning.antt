@@ -17,8 +17,8 @@ use Rattle.kernel_types.specs.declared.call.Call.TheVariants.{LinkSet, SettingSe
 use Rattle.kernel_types.specs.declared.call.Kind.{Kind}
 use Rattle.kernel_types.specs.declared.call.Kind.TheVariants.{Settings}
 use Rattle.cni_addr.specs.Lists.{each_key_once}
-use Rattle.plan_words.specs.Plugins.{ChainedPlugin}
-use Rattle.plan_words.specs.Shapes.{inner_key}
+use Rattle.plugin_base.specs.Plugins.{ChainedPlugin}
+use Rattle.plugin_base.specs.Shapes.{inner_key}
 
 -- ---- settings
 

@@ -6,7 +6,7 @@ ghost use Rattle.firewall_tuning.specs.Firewall as plan;
 use cni_addr::{Addr, Items, NoMemory, whole};
 use cni_result::{AddResult, IpEntry};
 use kernel_types::{Att, Call, Chain, Kind, Rule, Table, Target};
-use plan_words::{EachKeyOnce, ask_all, rule_for_all};
+use plugin_base::{EachKeyOnce, ask_all, rule_for_all};
 use std::alloc::Global;
 
 /// What answers the address is let through.

@@ -9,7 +9,7 @@ use cni_addr::{Duplicate, Items, NoMemory, Text};
 use cni_result::{AddResult, Interface, Version, mtu_since_1_1};
 use kernel_types::{Att, Call, Kind, Setting, Tag};
 use net_conf::{Sysctl, TuningConf};
-use plan_words::{EachKeyOnce, ask_all, inner_key};
+use plugin_base::{EachKeyOnce, ask_all, inner_key};
 use std::alloc::Global;
 
 // ---- settings

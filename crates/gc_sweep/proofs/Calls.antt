@@ -32,7 +32,7 @@ use Rattle.kernel_types.proofs.Cases.{att_eq-refl}
 use Rattle.kernel_types.proofs.Isolation.{att_eq-laws, att_eq-same}
 use Rattle.kernel_types.proofs.ListLemmas.{distinct-filter, list_all-filter}
 use Rattle.kernel_types.proofs.TouchRemoval.{by_bool, list_all-both}
-use Rattle.plan_words.proofs.KeyLists.{distinct-each_key_once, list_all-each_key_once}
+use Rattle.plugin_base.proofs.KeyLists.{distinct-each_key_once, list_all-each_key_once}
 use Rattle.pod_file.specs.declared.command.ValidAtt.{ValidAtt}
 use Rattle.cni_verbs.specs.Replies.{host_after, reply_to}
 use Rattle.cni_verbs.specs.Script.{call_of_work, gc_of}

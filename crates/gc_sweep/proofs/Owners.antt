@@ -20,7 +20,7 @@ use Rattle.gc_sweep.specs.Keep.{goes}
 use Rattle.gc_sweep.specs.Bound.{stale_owners}
 use Rattle.kernel_types.proofs.ListLemmas.{list_all-kept, list_all-weaker}
 use Rattle.kernel_types.proofs.TouchRemoval.{by_bool}
-use Rattle.plan_words.proofs.KeyLists.{list_all-each_key_once, list_any-each_key_once}
+use Rattle.plugin_base.proofs.KeyLists.{list_all-each_key_once, list_any-each_key_once}
 
 -- the attachment is of the network and outside the valid list
 abbrev pub is_stale : List ℕ → List ValidAtt → Att → Bool

@@ -15,7 +15,7 @@ use cni_verbs::wanted::deletion;
 use kernel_types::{Att, Call, Kind, RefCounted, Reply};
 use std::alloc::Global;
 
-/// The sweep at hand: none yet, that of the cached entries, or that of a kind.
+/// The sweep at hand: none yet, that of the cached results, or that of a kind.
 #[derive(Clone, Copy, Drop)]
 pub(crate) enum Stage {
     Start,
@@ -23,7 +23,7 @@ pub(crate) enum Stage {
     Of(Kind),
 }
 
-/// What is done about one owner (the script's `Step`): its cached entry is read, or a kind is deleted until nothing of
+/// What is done about one owner (the script's `Step`): its cached result is read, or a kind is deleted until nothing of
 /// it is left.
 #[derive(Clone, Copy, Drop)]
 pub(crate) enum OwnerStep {

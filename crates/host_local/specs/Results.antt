@@ -1,5 +1,4 @@
--- The result of `host-local`, which the plugin that makes the interface completes (CNI specification, section 4, "IPAM
--- plugins").
+-- The result of `host-local`, which the first plugin completes (CNI specification, section 4, "IPAM plugins").
 use Rattle.std.specs.Prelude.{List, [], map, Option, Some, None}
 use Rattle.cni_result.specs.declared.version.Version.{Version}
 use Rattle.cni_result.specs.declared.result.IpEntry.{IpEntry}

@@ -42,8 +42,8 @@ fn result_with(
     })
 }
 
-/// The given addresses with their gateways, and the configured routes: what the plugin that makes the interface
-/// completes (CNI specification, section 4, "IPAM"). Linear in both.
+/// The given addresses with their gateways, and the configured routes: what the first plugin completes (CNI
+/// specification, section 4, "IPAM"). Linear in both.
 pub fn ipam_result(
     alloc: Global,
     conf: &HostLocalConf,

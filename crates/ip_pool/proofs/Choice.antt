@@ -128,7 +128,7 @@ pub none_free-where_exhausted : (set : RangeSet) (taken : List Addr) → (has_fr
 none_free-where_exhausted set taken =
     (none_free-exhausted set taken, exhausted-none_free set taken (has_free_of set taken) refl)
 
--- in the words of the test's contract
+-- in the terms of the test's contract
 pub has_free-matches : (set : RangeSet) (taken : List Addr) (b : Bool) → b ≡ has_free_of set taken → MatchBool b (HasFree set taken) (IsExhausted set taken)
 has_free-matches set taken true is = free-has_free set taken (sym is)
 has_free-matches set taken false is = none_free-exhausted set taken (sym is)

@@ -23,7 +23,7 @@ find-candidates_between P r low high below =
     let more : high - low ≡ suc (high - (low + 1)) = omega arith in
     rw more (find-filter_step P (not (addr_eq (address_at r low) r.gateway)) (address_at r low) (candidates_between r (low + 1) high))
 
--- in the words of the loop
+-- in the terms of the loop
 pub find-stretch_hit : (P : Addr → Bool) (r : Range) (low high : ℕ) (a : Addr) → low < high → a ≡ address_at r low → (not (addr_eq a r.gateway) && P a) ≡ true → find P (candidates_between r low high) ≡ Some a
 find-stretch_hit P r low high a below is hit =
     let here = rw is at hit in

@@ -1,4 +1,4 @@
--- The next address as a relation, in the words of who configures a pool (the `host-local` plugin leases round robin).
+-- The next address as a relation, in the terms of who configures a pool (the `host-local` plugin leases round robin).
 use Rattle.std.specs.Prelude.{◌≡◌, ℕ, Bool, true, false, if◌then◌else◌, not, ◌&&◌, ◌||◌, ◌==◌, nat_lt, nat_le, List, Option, Some, None}
 use Rattle.std.specs.List.{list_any, position_or_len}
 use Rattle.cni_addr.specs.declared.address.Addr.{Addr}

@@ -1,4 +1,5 @@
--- A list in which each key stands once: what is free for each of its elements, and which lists of a sound host are such.
+-- A list in which each key stands once: what is free for each of its elements, and which lists of a sound host are
+-- such.
 use Rattle.std.proofs.Common.{◌≡◌, ◌<◌, ℕ, ◌+◌, Bool, true, false, true≢false, List, [], ◌∷◌, ◌++◌, Option, Some, None, refl, sym, ◌∙◌, ap, subst, length, get_or, set, suc, take, drop, arith}
 use Rattle.std.specs.Prelude.{not, ◌&&◌, ◌||◌, if◌then◌else◌}
 use Rattle.std.specs.List.{list_any}

@@ -214,8 +214,8 @@ inside-push n (c ∷ cs) h =
     let more : nat_lt c (n + 1) ≡ true = grind (arith, nat_tests, here) in
     grind (arith, inside-push n cs, more)
 
--- The candidates of a key when there is one more place: the same, where the row there hasn't the key, or the new place behind
--- candidates that were as good.
+-- The candidates of a key when there is one more place: the same, where the row there hasn't the key, or the new place
+-- behind candidates that were as good.
 abbrev pub Notes : {T : Type 0} → (T → Bool) → List ℕ → List ℕ → List (Option T) → Option T → Type 0
 Notes t cs new places o =
     ((new ≡ cs) × (passes t o ≡ false))

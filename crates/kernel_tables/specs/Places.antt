@@ -44,7 +44,7 @@ abbrev pub passing : {T : Type 0} → (T → Bool) → List (Option T) → List 
 passing test places candidates = filter (λ p. passes test (row_at places p)) candidates
 
 -- For each key there are candidates, among them each place whose row has the key, in order. What is no such place is
--- passed over.
+-- ignored.
 pub record Finds {K T : Type 0} (test : K → T → Bool) (candidates : K → List ℕ) (places : List (Option T))
     : Type 0 where
   pub inside : (k : K) → list_all (λ p. nat_lt p (length places)) (candidates k) ≡ true

@@ -17,7 +17,7 @@ use std::hash::Hash;
 use std::marker::Model;
 
 /// Rows at places, which they keep, with indexes of their places. A row that goes leaves its place empty, and the
-/// indexes as they are: what they say of an empty place is passed over.
+/// indexes as they are: what they say of an empty place is ignored.
 #[derive(Drop)]
 pub(crate) struct Table<
     K: Eq + Hash + Drop,
@@ -137,7 +137,7 @@ impl<K: Eq + Hash + Drop, L: Eq + Hash + Drop, O: Eq + Hash + Drop, T: Row<K, L,
         Ok(())
     }
 
-    /// Whether a row is this owner's. What the owner's earlier rows have left is passed over, and forgotten.
+    /// Whether a row is this owner's. What the owner's earlier rows have left is ignored, and forgotten.
     pub(crate) fn has_owned(&mut self, owner: &O) -> bool
         ensures found { result ≡ list_any (has_key O.eq T.owner_of owner.now) self.old }
         ensures same { self.new ≡ self.old }

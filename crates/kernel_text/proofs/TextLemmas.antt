@@ -3,13 +3,13 @@ use Rattle.std.proofs.Common.{◌≡◌, ℕ, ◌≤◌, List, ◌∷◌, ◌++�
 use Rattle.std.proofs.lemmas.List.{length-take, take-take}
 use Rattle.std.proofs.Math.Seq.{take-append_seam}
 
--- the front of a front is a front
+-- the prefix of a prefix is a prefix
 pub front_of_front : (a b c : List ℕ) → take (length a) b ≡ a → take (length b) c ≡ b → take (length a) c ≡ a
 front_of_front a b c first second =
     let shorter : length a ≤ length b = omega (arith, length-take (length a) b, ap length first) in
     sym (take-take (length a) (length b) c shorter) ∙ ap (take (length a)) second ∙ first
 
--- what is appended leaves the front
+-- what is appended leaves the prefix
 pub front_of_append : (a b more : List ℕ) → b ≡ a ++ more → take (length a) b ≡ a
 front_of_append a b more is = rw is (take-append_seam a more)
 

@@ -36,7 +36,7 @@ call_name (PoolFree network set) = codes "PoolFree"
 call_name (NsChange name add) = codes "NsChange"
 call_name (Outside change) = codes "Outside"
 
--- a reply: of owners their number, of an entry whether there is one
+-- a reply: of owners their number, of a cached result whether there is one
 abbrev pub reply_text : Reply → List ℕ
 reply_text Done = codes "Done"
 reply_text NoNs = codes "NoNs"

@@ -44,7 +44,7 @@ pub fn call_name(call: &Call) -> &'static str
     }
 }
 
-/// The reply in words: of owners their number, of an entry whether there is one.
+/// The reply as a text: of owners their number, of a cached result whether there is one.
 pub fn reply_text(alloc: Global, reply: &Reply) -> Result<Text, NoMemory>
     ensures { IfOk result (λ text. text ≡ reply_text reply.now) }
 {

@@ -180,7 +180,7 @@ KeepsUnowned-Touches (PoolFree network set) old new inside own touches = KeepsWh
 KeepsUnowned-Touches (NsChange name add) old new inside own touches = cc
 KeepsUnowned-Touches (Outside change) old new inside own touches = cc
 
--- ---- what the world outside leaves
+-- ---- what a change from outside leaves
 
 -- what is shared, as by a test that no other tag passes
 pub KeepsWhere-RemovesUnshared : (test : Tag → Bool) (old new : Host) → ((t : Tag) → is_unshared t ≡ true → test t ≡ false) → RemovesUnshared old new → KeepsWhere test old new

@@ -1,4 +1,4 @@
--- Laws of the words on lists. Nearly each is an induction that one call of `grind` closes.
+-- Laws of the definitions on lists. Nearly each is an induction that one call of `grind` closes.
 use Rattle.std.proofs.Common.{◌≡◌, ℕ, suc, ◌+◌, Bool, true, false, not, cond, ap, List, [], ◌∷◌, Option, Some, None, refl, sym, ◌∙◌, length, get_or, arith}
 use Rattle.std.specs.Prelude.{filter, find, map, remove, ◌&&◌, ◌||◌, if◌then◌else◌, nat_lt, position}
 use Rattle.std.specs.List.{list_any, list_all, position_or_len}

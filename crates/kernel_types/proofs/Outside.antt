@@ -1,4 +1,4 @@
--- What the world outside does leaves a host sound, and removes nothing that is shared.
+-- What is done from outside leaves a host sound, and removes nothing that is shared.
 use Rattle.std.proofs.Common.{◌≡◌, ℕ, Bool, true, false, not, List, Option, Some, None, refl, arith}
 use Rattle.std.specs.Prelude.{is_some, ◌&&◌, ◌||◌}
 use Rattle.std.specs.List.{list_any, list_all}

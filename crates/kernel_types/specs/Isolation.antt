@@ -48,7 +48,7 @@ names_att att (CacheDel a) = att_eq a att
 names_att att (CacheGet a) = att_eq a att
 names_att att call = false
 
--- the world outside makes the call
+-- the call comes from outside
 abbrev pub is_from_outside : Call → Bool
 is_from_outside (NsChange name add) = true
 is_from_outside (Outside change) = true

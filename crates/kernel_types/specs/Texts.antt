@@ -19,6 +19,6 @@ abbrev pub table_text : Table → List ℕ
 table_text tables.Nat = codes "nat"
 table_text tables.Filter = codes "filter"
 
--- the table whose word the text is
+-- the table that the text names
 abbrev pub table_named : List ℕ → Option Table
 table_named text = find (λ table. bytes_eq text (table_text table)) ALL

@@ -64,7 +64,7 @@ pub enum Probe {
     Master { name: Text },
 }
 
-/// What the world outside does.
+/// What is done from outside.
 #[derive(PartialEq, Eq, Drop)]
 pub enum Change {
     /// A link of a namespace other than the host's goes, with its peer.
@@ -182,12 +182,12 @@ pub enum Call {
         network: Text,
         set: RangeSet,
     },
-    /// The world outside makes a namespace, or takes one away with all that is in it.
+    /// Makes a namespace from outside, or takes one away with all that is in it.
     NsChange {
         name: Text,
         add: bool,
     },
-    /// The world outside takes something away.
+    /// Takes something away from outside.
     Outside {
         change: Change,
     },

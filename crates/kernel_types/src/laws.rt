@@ -37,7 +37,7 @@ pub fn every_call_keeps_a_host_sound(host: &Host, call: &Call)
 
 /// A call that names an attachment changes, removes and appends only that attachment's objects, and of the addresses
 /// that were leased last only LeaseNext moves one, that of its pool. The calls that ensure something shared append at
-/// most that. What the world outside does removes nothing that is shared.
+/// most that. What is done from outside removes nothing that is shared.
 pub fn every_call_touches_its_own_alone(host: &Host, call: &Call)
     requires sound { IsSound host.now }
     requires allowed { IsAllowed host.now call.now }

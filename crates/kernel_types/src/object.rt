@@ -11,7 +11,7 @@ use cni_result::Cached;
 /// Whose an object is.
 #[derive(PartialEq, Eq, Hash, Drop)]
 pub enum Tag {
-    /// It was there before, or the world outside made it: nobody here takes it away.
+    /// It was there before, or was made from outside: nobody here takes it away.
     Outside,
     /// The attachments of a host share it (a bridge, a gateway on it, forwarding of a family); it stays.
     Base,

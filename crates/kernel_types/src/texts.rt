@@ -1,4 +1,4 @@
-//! Kinds of links and tables of packet rules by their words.
+//! Kinds of links and tables of packet rules by their names.
 
 ghost use Rattle.std.specs.Prelude.{◌≡◌, Some};
 ghost use Rattle.kernel_types.specs.Texts.{link_kind_text, table_text, table_named};
@@ -34,7 +34,7 @@ pub fn table_text(table: Table) -> &'static str
     }
 }
 
-/// The table whose word the text is. Takes no memory.
+/// The table that the text names. Takes no memory.
 pub fn table_named(text: &str) -> Option<Table>
     ensures { result ≡ table_named text.now }
 {

@@ -1,4 +1,4 @@
--- `macvlan` keeps the laws of a plugin that makes the interface.
+-- `macvlan` keeps the laws of a first plugin.
 use Rattle.std.proofs.Common.{◌≡◌, ℕ, ◌+◌, ◌≤◌, true, false, ap, List, [], ◌∷◌, ◌++◌, map, length, None, refl, sym, ◌∙◌, arith}
 use Rattle.std.proofs.lemmas.List.{append-nil, length-append}
 use Rattle.net_conf.specs.declared.first.MacvlanConf.{MacvlanConf}
@@ -7,17 +7,17 @@ use Rattle.kernel_types.specs.declared.object.Att.{Att}
 use Rattle.kernel_types.specs.declared.object.Tag.TheVariants.{Own}
 use Rattle.kernel_types.specs.declared.call.Call.TheVariants.{AddrAdd, RouteAdd}
 use Rattle.kernel_types.specs.declared.call.Given.{Given}
-use Rattle.plan_words.specs.PluginCalls.{has_inner}
-use Rattle.plan_words.specs.PluginLaws.{AreCallsAfter, AreCallsBefore, FirstLaws}
-use Rattle.plan_words.specs.Plugins.{added_after}
-use Rattle.plan_words.specs.Shapes.{addresses_on, macvlan_link, routes_on}
-use Rattle.plan_words.specs.Share.{Share, share_after_calls, share_plus}
-use Rattle.plan_words.proofs.Appends.{share-laid_on}
-use Rattle.plan_words.proofs.CallLists.{share_plus-laid_on, share_plus-links}
-use Rattle.plan_words.proofs.Counts.{length-addresses, length-routes}
-use Rattle.plan_words.proofs.KeyLists.{list_all-append}
-use Rattle.plan_words.proofs.PluginCalls.{calls-after, fit-addresses, fit-routes, fits, link-there}
-use Rattle.plan_words.proofs.ResultLemmas.{addresses-at}
+use Rattle.plugin_base.specs.PluginCalls.{has_inner}
+use Rattle.plugin_base.specs.PluginLaws.{AreCallsAfter, AreCallsBefore, FirstLaws}
+use Rattle.plugin_base.specs.Plugins.{added_after}
+use Rattle.plugin_base.specs.Shapes.{addresses_on, macvlan_link, routes_on}
+use Rattle.plugin_base.specs.Share.{Share, share_after_calls, share_plus}
+use Rattle.plugin_base.proofs.Appends.{share-laid_on}
+use Rattle.plugin_base.proofs.CallLists.{share_plus-laid_on, share_plus-links}
+use Rattle.plugin_base.proofs.Counts.{length-addresses, length-routes}
+use Rattle.plugin_base.proofs.KeyLists.{list_all-append}
+use Rattle.plugin_base.proofs.PluginCalls.{calls-after, fit-addresses, fit-routes, fits, link-there}
+use Rattle.plugin_base.proofs.ResultLemmas.{addresses-at}
 use Rattle.host_local.specs.Conf.{routes_of}
 use Rattle.host_local.proofs.KindLemmas.{interface_kinds-leases}
 use Rattle.macvlan.specs.Macvlan.{macvlan_calls_after, macvlan_kinds_of, macvlan_plugin}

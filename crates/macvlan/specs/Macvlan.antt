@@ -7,9 +7,9 @@ use Rattle.kernel_types.specs.declared.call.Given.{Given}
 use Rattle.kernel_types.specs.declared.call.Kind.{Kind}
 use Rattle.kernel_types.specs.declared.call.Call.{Call}
 use Rattle.kernel_types.specs.declared.call.Call.TheVariants.{MacvlanAdd, AddrAdd, RouteAdd}
-use Rattle.plan_words.specs.Plugins.{FirstPlugin}
-use Rattle.plan_words.specs.Results.{inner_interface, completed}
-use Rattle.plan_words.specs.Shapes.{macvlan_link, addresses_on, routes_on}
+use Rattle.plugin_base.specs.Plugins.{FirstPlugin}
+use Rattle.plugin_base.specs.Results.{inner_interface, completed}
+use Rattle.plugin_base.specs.Shapes.{macvlan_link, addresses_on, routes_on}
 use Rattle.host_local.specs.Conf.{routes_of}
 use Rattle.host_local.specs.Kinds.{interface_kinds}
 

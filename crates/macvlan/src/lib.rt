@@ -2,7 +2,7 @@
 //!
 //! To the verbs it promises the calls before an address is leased, the calls after it, the result, and the kinds of
 //! objects that DEL takes back. They are those of its record, `macvlan_plugin` (`specs/Macvlan.antt`), which keeps the
-//! laws of a plugin that makes the interface ([`laws`]).
+//! laws of a first plugin ([`laws`]).
 //!
 //! ```text
 //! macvlan::before(alloc, &conf, &att, &netns)?        // MacvlanAdd
@@ -20,7 +20,7 @@ use cni_result::AddResult;
 use host_local::{interface_kinds, routes_of};
 use kernel_types::{Att, Call, Given, Kind, NamedAtt};
 use net_conf::MacvlanConf;
-use plan_words::{addresses_on, ask_all, completed, inner_interface, macvlan_link, routes_on};
+use plugin_base::{addresses_on, ask_all, completed, inner_interface, macvlan_link, routes_on};
 use std::alloc::Global;
 
 /// The calls before an address is leased: the link.

@@ -1,4 +1,4 @@
--- The types of plugins, by their words (the `type` of the reference plugins) and by number, and the type of a later
+-- The types of plugins, by their names (the `type` of the reference plugins) and by number, and the type of a later
 -- plugin.
 use Rattle.std.specs.Prelude.{ℕ, Bool, ◌==◌, List, codes, Option, find, map}
 use Rattle.std.specs.List.{IsDistinct}
@@ -18,7 +18,7 @@ type_text plugin.Portmap = codes "portmap"
 type_text plugin.Firewall = codes "firewall"
 type_text plugin.Tuning = codes "tuning"
 
--- the type whose word the text is
+-- the type that the text names
 abbrev pub type_named : List ℕ → Option PluginType
 type_named text = find (λ type. bytes_eq text (type_text type)) ALL
 

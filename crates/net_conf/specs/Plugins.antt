@@ -97,7 +97,7 @@ plugins_of f = needed wrong_plugins Ok f
 unfoldable pub plugins_at : Data → Result Items ConfError
 plugins_at d = plugins_of (list_field (codes "plugins") d)
 
--- the plugin that makes the interface, and those after it
+-- the first plugin, and those after it
 unfoldable pub chain_at : Data → Result PluginChain ConfError
 chain_at d = do
   plugins ← plugins_at d

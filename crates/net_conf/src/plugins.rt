@@ -63,7 +63,7 @@ pub fn type_text(plugin_type: PluginType) -> &'static str
     }
 }
 
-/// The type whose word the text is. Takes no memory.
+/// The type that the text names. Takes no memory.
 pub fn type_named(text: &str) -> Option<PluginType>
     ensures { result ≡ plugin_types.type_named text.now }
 {
@@ -138,7 +138,7 @@ fn plugins<'a>(alloc: Global, top: &'a Value) -> Result<&'a [Value], ConfError>
     }
 }
 
-/// The plugin that makes the interface, of which there must be one.
+/// The first plugin, of which there must be one.
 #[tactic(auto, using(cni_json::proofs::Steps::steps, cni_json::proofs::WholeNumbers::parts_are_whole))]
 fn first_plugin(alloc: Global, plugins: &[Value]) -> Result<First, ConfError>
     requires { items_have_float (items_view plugins.now) ≡ false }

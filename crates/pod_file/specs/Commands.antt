@@ -36,7 +36,7 @@ verb_text verbs.NsDel = codes "NSDEL"
 verb_text verbs.Drop = codes "DROP"
 verb_text verbs.Flush = codes "FLUSH"
 
--- the verb whose word the text is
+-- the verb that the text names
 abbrev pub verb_named : List ℕ → Option Verb
 verb_named text = find (λ verb. bytes_eq text (verb_text verb)) ALL
 

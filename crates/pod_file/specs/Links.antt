@@ -29,7 +29,7 @@ unfoldable pub listed_at : {A : Type 0} → List ℕ → List ℕ → (List A �
     → Result (List A) PodError
 listed_at path key read d = listed_of path read (list_field key d)
 
--- a fault in a link has the link's place, and no deeper one
+-- what is wrong in a link has the link's place, and no deeper one
 abbrev pub wrong_link : {A : Type 0} → ℕ → Result A PodError
 wrong_link index = wrong (member_path (codes "opening.links") index)
 
@@ -44,7 +44,7 @@ name_at index d = needed (wrong_link index) (interface_name index) (text_field (
 abbrev pub opening_kinds : List LinkKind
 opening_kinds = Device ∷ Bridge ∷ []
 
--- the kind whose word the text is, of those that an opening may have
+-- the kind that the text names, of those that an opening may have
 abbrev pub kind_named : List ℕ → Option LinkKind
 kind_named text = find (λ kind. bytes_eq text (link_kind_text kind)) opening_kinds
 

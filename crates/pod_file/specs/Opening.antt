@@ -13,7 +13,7 @@ use Rattle.pod_file.specs.Links.{links_at, listed_at}
 use Rattle.pod_file.specs.Refusals.{wrong, member_path}
 use Rattle.pod_file.specs.declared.error.PodError.{PodError}
 
--- a namespace's fault has its place
+-- what is wrong in a namespace has its place
 abbrev pub wrong_namespace : {A : Type 0} → ℕ → Result A PodError
 wrong_namespace index = wrong (member_path (codes "opening.namespaces") index)
 

@@ -1,4 +1,4 @@
--- Why a pod file is refused, and how the place of a fault is written.
+-- Why a pod file is refused, and how the place of what is wrong is written.
 use Rattle.std.specs.Prelude.{ℕ, List, ◌++◌, codes, decimal, Bool, true, false, Result, Err}
 use Rattle.pod_file.specs.declared.error.PodError.{PodError}
 use Rattle.pod_file.specs.declared.error.PodError.TheVariants as refusal
@@ -9,7 +9,7 @@ abbrev pub is_out_of_memory : PodError → Bool
 is_out_of_memory refusal.NoMemory = true
 is_out_of_memory refused = false
 
--- the first fault is at this place
+-- the first wrong value is at this place
 abbrev pub wrong : {A : Type 0} → List ℕ → Result A PodError
 wrong path = Err (refusal.Shape path)
 

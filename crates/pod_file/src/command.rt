@@ -83,7 +83,7 @@ pub fn verb_text(verb: Verb) -> &'static str
     }
 }
 
-/// The verb whose word the text is. Takes no memory.
+/// The verb that the text names. Takes no memory.
 pub fn verb_named(text: &str) -> Option<Verb>
     ensures { result ≡ verb_named text.now }
 {

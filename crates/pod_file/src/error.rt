@@ -21,7 +21,7 @@ pub enum PodError {
     /// A number is no whole number of 64 bits.
     Number,
     /// The value at this place has a wrong kind or value, or must be there and isn't, as `rounds[1][0].verb`. The top
-    /// has the empty path. Too many rounds or commands are a fault of `rounds`.
+    /// has the empty path. Too many rounds or commands make `rounds` wrong.
     Shape { path: Text },
     /// This round, from 0, has a command that must stand alone, and others.
     Alone { round: u32 },

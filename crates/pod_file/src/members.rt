@@ -1,5 +1,5 @@
-//! Members of a command that several keys have, and the lists of objects. A fault inside such a list has the place of
-//! the command's key.
+//! Members of a command that several keys have, and the lists of objects. What is wrong inside such a list has the
+//! place of the command's key.
 
 ghost use Rattle.std.specs.Prelude.{Result};
 ghost use Rattle.serde_json.specs.Data.{Data};

@@ -1,3 +1,3 @@
--- How a VERSION and a change of the world outside are answered.
+-- How a VERSION and a change from outside are answered.
 pub mod Changes
 pub mod Versions

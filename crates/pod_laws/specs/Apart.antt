@@ -1,6 +1,6 @@
 -- An entry of one attachment leaves all others alone, and what none owns.
 use Rattle.std.specs.Prelude.{◌≡◌, Bool, true, false, ◌&&◌, not, List, filter, ⊤}
-use Rattle.cni_verbs.specs.CommandWords.{att_of}
+use Rattle.cni_verbs.specs.CommandFields.{att_of}
 use Rattle.cni_verbs.specs.Progress.{is_gc}
 use Rattle.kernel_types.specs.Equal.{att_eq, tag_eq}
 use Rattle.kernel_types.specs.Isolation.{KeepsWhere}
@@ -9,7 +9,7 @@ use Rattle.kernel_types.specs.declared.object.Att.{Att}
 use Rattle.kernel_types.specs.declared.object.Host.{Host}
 use Rattle.kernel_types.specs.declared.object.Tag.{Tag}
 use Rattle.kernel_types.specs.declared.object.Tag.TheVariants.{Outside}
-use Rattle.plan_words.specs.Share.{share_of}
+use Rattle.plugin_base.specs.Share.{share_of}
 use Rattle.pod_file.specs.declared.command.Command.{Command}
 use Rattle.pod_file.specs.declared.command.Verb.{Verb}
 use Rattle.pod_file.specs.declared.command.Verb.TheVariants as verbs
@@ -20,7 +20,7 @@ use Rattle.pod_workers.specs.declared.plan.Entry.{Entry}
 use Rattle.pod_workers.specs.declared.plan.Plan.{Plan}
 use Rattle.pod_laws.specs.Single.{EachEntry, ByVerb}
 
--- a garbage collection and the world outside may take from any attachment; each other verb changes its own at most
+-- a garbage collection and a change from outside may take from any attachment; each other verb changes its own at most
 abbrev pub leaves_others : Verb → Bool
 leaves_others verb = is_of_network verb && not (is_gc verb)
 

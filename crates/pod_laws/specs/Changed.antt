@@ -1,4 +1,4 @@
--- What a VERSION is answered (CNI specification, section 3, "Version"), and what a change of the world outside is.
+-- What a VERSION is answered (CNI specification, section 3, "Version"), and what a change from outside is.
 use Rattle.std.specs.Prelude.{◌≡◌, false, List, [], ◌∷◌}
 use Rattle.cni_verbs.specs.Answers.{outside_by}
 use Rattle.cni_verbs.specs.Script.{State, Over, Changing, changed, outside_start}
@@ -18,7 +18,7 @@ use Rattle.pod_laws.specs.Answers.{EachAnswer, EachEnding, is_cut_off}
 abbrev pub VersionsAreTheLists : Type 0
 VersionsAreTheLists = EachEnding verbs.Version (λ list c entries host ending. (entries ≡ []) × (ending ≡ Versions))
 
--- ---- the world outside
+-- ---- changes from outside
 
 -- a run that starts so makes no call, or the one change that it asks for, whose reply decides
 abbrev pub IsChangedBy : Command → State → List Entry → Answer → Type 0

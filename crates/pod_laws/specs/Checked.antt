@@ -4,7 +4,7 @@ use Rattle.std.specs.List.{list_any, list_all}
 use Rattle.cni_addr.specs.declared.mac.Mac.{Mac}
 use Rattle.cni_result.specs.declared.cached.Cached.{Cached}
 use Rattle.cni_result.specs.declared.result.Interface.{Interface}
-use Rattle.cni_verbs.specs.CommandWords.{att_of, del_refusal}
+use Rattle.cni_verbs.specs.CommandFields.{att_of, del_refusal}
 use Rattle.cni_verbs.specs.Questions.{cached_share, check_questions}
 use Rattle.cni_verbs.specs.Wanted.{bridge_of}
 use Rattle.cni_verbs.specs.declared.answer.Cause.{Cause}
@@ -19,7 +19,7 @@ use Rattle.kernel_types.specs.Words.{cached_in}
 use Rattle.kernel_types.specs.declared.object.Host.{Host}
 use Rattle.kernel_types.specs.declared.call.Probe.TheVariants.{BridgeAt}
 use Rattle.net_conf.specs.declared.list.NetList.{NetList}
-use Rattle.plan_words.specs.Share.{Share}
+use Rattle.plugin_base.specs.Share.{Share}
 use Rattle.pod_file.specs.declared.command.Command.{Command}
 use Rattle.pod_file.specs.declared.command.Verb.TheVariants as verbs
 use Rattle.pod_workers.specs.Legal.{Legal}
@@ -49,7 +49,7 @@ abbrev pub has_bridge_for : Host → Option (List ℕ) → List Interface → Bo
 has_bridge_for host None interfaces = true
 has_bridge_for host (Some bridge) interfaces = has_first_bridge host interfaces
 
--- each object is in the host as it is here; the cached entry is not asked for
+-- each object is in the host as it is here; the cached result is not asked for
 abbrev pub has_objects_of : Host → Share → Bool
 has_objects_of host s =
     are_in link_eq s.links host.links
@@ -73,7 +73,7 @@ IsMissing cause = (what : Missed) × (cause ≡ causes.Missing what)
 abbrev pub LacksObject : NetList → Command → Cached → Host → Ending → Type 0
 LacksObject list c cached host ending = EndsByDenied host (check_questions list c cached) IsMissing ending
 
--- with no cached entry the attachment is unknown (code 3)
+-- with no cached result the attachment is unknown (code 3)
 abbrev pub EndsByEntry : NetList → Command → Host → Option Cached → Ending → Type 0
 EndsByEntry list c host None ending = ending ≡ Refused causes.Unknown
 EndsByEntry list c host (Some cached) ending = EndsByTest (holds_cached list c cached host) ending
@@ -96,7 +96,7 @@ WasChecked = EachEnding verbs.Check (λ list c entries host. EndsCheck list c en
 
 -- ---- at its start
 
--- the attachment has one cached entry in both hosts, and both hold all that it says, or neither does
+-- the attachment has one cached result in both hosts, and both hold all that it says, or neither does
 pub record HoldAlike (list : NetList) (c : Command) (start last : Host) : Type 0 where
   pub entry : cached_in start (att_of c) ≡ cached_in last (att_of c)
   pub objects : (cached : Cached) → cached_in start (att_of c) ≡ Some cached

@@ -1,6 +1,6 @@
 -- What a DEL leaves (CNI specification, section 3, "Deleting an attachment").
 use Rattle.std.specs.Prelude.{◌≡◌, ◌+◌, ◌⊎◌, false, List, [], ◌∷◌, ◌++◌, length, None}
-use Rattle.cni_verbs.specs.CommandWords.{att_of, del_refusal}
+use Rattle.cni_verbs.specs.CommandFields.{att_of, del_refusal}
 use Rattle.cni_verbs.specs.declared.answer.Answer.{Answer}
 use Rattle.cni_verbs.specs.declared.answer.Answer.TheVariants as answers
 use Rattle.cni_verbs.specs.declared.answer.Cause.{Cause}
@@ -9,7 +9,7 @@ use Rattle.kernel_types.specs.Isolation.{RemovesOwn}
 use Rattle.kernel_types.specs.declared.object.Att.{Att}
 use Rattle.kernel_types.specs.declared.object.Host.{Host}
 use Rattle.kernel_types.specs.declared.call.Reply.TheVariants.{Fault}
-use Rattle.plan_words.specs.Share.{Share, share_of, no_objects}
+use Rattle.plugin_base.specs.Share.{Share, share_of, no_objects}
 use Rattle.pod_file.specs.declared.command.Command.{Command}
 use Rattle.pod_file.specs.declared.command.Verb.TheVariants as verbs
 use Rattle.pod_workers.specs.declared.plan.Entry.{Entry}

@@ -2,7 +2,7 @@
 -- refused memory: at every moment, and of every answer.
 use Rattle.std.specs.Prelude.{◌≡◌, ℕ, true, List, [], ◌++◌}
 use Rattle.cni_verbs.specs.Answers.{answer_of_ending}
-use Rattle.cni_verbs.specs.CommandWords.{del_refusal}
+use Rattle.cni_verbs.specs.CommandFields.{del_refusal}
 use Rattle.cni_verbs.specs.declared.answer.Answer.{Answer}
 use Rattle.cni_verbs.specs.declared.answer.Answer.TheVariants as answers
 use Rattle.cni_verbs.specs.declared.answer.Ending.{Ending}

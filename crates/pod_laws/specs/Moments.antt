@@ -3,11 +3,11 @@
 use Rattle.std.specs.Prelude.{◌≡◌, ◌≢◌, ℕ, Bool, false, List, [], ◌∷◌, nat_lt, Option, Some, slice_get, if◌then◌else◌}
 use Rattle.std.specs.List.{list_any}
 use Rattle.std.specs.Option.{option_map_or}
-use Rattle.cni_verbs.specs.CommandWords.{att_of}
+use Rattle.cni_verbs.specs.CommandFields.{att_of}
 use Rattle.kernel_types.specs.Replies.{is_fault}
 use Rattle.kernel_types.specs.declared.object.Att.{Att}
 use Rattle.kernel_types.specs.declared.object.Host.{Host}
-use Rattle.plan_words.specs.Share.{Share, share_of, no_objects}
+use Rattle.plugin_base.specs.Share.{Share, share_of, no_objects}
 use Rattle.pod_file.specs.declared.command.Command.{Command}
 use Rattle.pod_file.specs.declared.command.Verb.{Verb}
 use Rattle.pod_workers.specs.Plans.{Placed, commands_of}

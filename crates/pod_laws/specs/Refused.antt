@@ -4,7 +4,7 @@ use Rattle.std.specs.Prelude.{◌≡◌, ◌≢◌, ℕ, ◌+◌, ◌⊎◌, Boo
 use Rattle.std.specs.List.{list_all}
 use Rattle.cni_addr.specs.declared.range.RangeSet.{RangeSet}
 use Rattle.cni_result.specs.declared.result.AddResult.{AddResult}
-use Rattle.cni_verbs.specs.CommandWords.{add_refusal, att_of}
+use Rattle.cni_verbs.specs.CommandFields.{add_refusal, att_of}
 use Rattle.cni_verbs.specs.declared.answer.Answer.{Answer}
 use Rattle.cni_verbs.specs.declared.answer.Answer.TheVariants as answers
 use Rattle.cni_verbs.specs.declared.answer.Cause.{Cause}
@@ -17,7 +17,7 @@ use Rattle.kernel_types.specs.declared.call.Call.{Call}
 use Rattle.kernel_types.specs.declared.call.Call.TheVariants.{Begin, LeaseNext, MacvlanAdd}
 use Rattle.kernel_types.specs.declared.call.Reply.{Reply}
 use Rattle.kernel_types.specs.declared.call.Reply.TheVariants.{Done, NoNs, NoLink, Taken, Empty, Leased, Fault}
-use Rattle.plan_words.specs.Share.{Share, no_objects}
+use Rattle.plugin_base.specs.Share.{Share, no_objects}
 use Rattle.pod_file.specs.declared.command.Command.{Command}
 use Rattle.pod_file.specs.declared.command.Verb.TheVariants as verbs
 use Rattle.pod_workers.specs.World.{after_entry}

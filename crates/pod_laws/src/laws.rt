@@ -1,7 +1,7 @@
 //! Laws of answers, each carried by a function that does nothing.
 //!
-//! A command's moment is its last entry; what is said of a host there holds of it whatever other commands did since.
-//! `ok` is the answer `Yes`, as it is printed; a command that its list disables is skipped, which is another answer.
+//! What is said of a host at a command's last entry holds of it whatever other commands did since. `ok` is the answer
+//! `Yes`, as it is printed; a command that its list disables is skipped, which is another answer.
 
 ghost use Rattle.pod_laws.specs.Added.{WasAdded};
 ghost use Rattle.pod_laws.specs.Apart.{EachCollectionTakesTheStaleAlone, EachEntryKeepsTheRest, EachEntryLeavesOthers};
@@ -100,7 +100,7 @@ pub fn every_collection_is_bounded()
 {}
 
 /// A GC makes at most six calls; for each stale attachment that owned an object at its start six more than the kinds of
-/// a DEL, counted plugin by plugin and the cached entry last; and one for each object that is not kept.
+/// a DEL, counted plugin by plugin and the cached result last; and one for each object that is not kept.
 pub fn a_collection_makes_few_calls()
     ensures { CollectionsAreShort }
 {}
@@ -126,7 +126,7 @@ pub fn nothing_is_unasked()
 {}
 
 /// An attachment that has nothing at some moment has nothing until a call of an ADD of that attachment is granted after
-/// its Begin, whatever other commands and the world outside do.
+/// its Begin, whatever other commands and changes from outside do.
 pub fn a_gone_attachment_stays_gone()
     ensures { GoneStaysGone }
 {}
@@ -156,8 +156,8 @@ pub fn each_collection_takes_the_stale_alone()
 {}
 
 /// No entry removes what attachments share, and each entry of a verb of the CNI specification leaves what was made
-/// outside as it is, list by list. What was made outside goes only by the world outside: a namespace that goes, or a
-/// link of one.
+/// outside as it is, list by list. What was made outside goes only by a change from outside: a namespace that goes, or
+/// a link of one.
 pub fn each_entry_keeps_the_rest()
     ensures { EachEntryKeepsTheRest }
 {}
@@ -190,7 +190,7 @@ pub fn each_change_is_one_call()
     ensures { EachChangeIsOneCall }
 {}
 
-// ---- VERSION and the world outside
+// ---- VERSION and changes from outside
 
 /// A VERSION makes no call and is answered the version of its list, unless memory was refused or it was stopped.
 pub fn each_version_is_the_lists()
@@ -223,16 +223,16 @@ pub fn a_status_tells_what_is_available()
 
 /// Bad fields refuse a CHECK (code 4), and with good ones a list that disables it skips it, both with no call made.
 /// Where its list doesn't disable it, it ends at a fault (code 103). Without one it is answered `ok` where its
-/// attachment has a cached entry, and the host at its last entry holds all that the cached result says that there is.
-/// With no cached entry the attachment is unknown (code 3); else the first object that isn't there is named (code 110):
-/// the bridge, links, addresses, routes, rules, settings and leases. So it is unless memory was refused or it was
+/// attachment has a cached result, and the host at its last entry holds all that the cached result says that there is.
+/// With no cached result the attachment is unknown (code 3); else the first object that isn't there is named (code
+/// 110): the bridge, links, addresses, routes, rules, settings and leases. So it is unless memory was refused or it was
 /// stopped, whatever other commands did between its entries.
 pub fn a_check_tells_what_the_host_holds()
     ensures { WasChecked }
 {}
 
 /// What a CHECK that made a call asks for is in the host right before its first entry as it is right after its last,
-/// whatever other commands did between and also where it was stopped: its attachment has one cached entry in both, and
+/// whatever other commands did between and also where it was stopped: its attachment has one cached result in both, and
 /// both hold all that the cached result says that there is, or neither does. So it is also with the bridge, which isn't
 /// the attachment's own: an ADD ensures it before it caches its result, and nothing takes a bridge of the host.
 pub fn a_check_holds_from_its_start()

@@ -4,7 +4,7 @@
 //! of answers the crate promises, each at the command's last entry, what an ADD that was answered with a result has
 //! made (`specs/Added.antt`), why an ADD is refused and what it leaves (`specs/Refused.antt`), what a DEL leaves
 //! (`specs/Deleted.antt`), what a CHECK found (`specs/Checked.antt`), and what a GC leaves (`specs/Collected.antt`);
-//! what a STATUS found (`specs/Available.antt`), and how a VERSION and a change of the world outside are answered
+//! what a STATUS found (`specs/Available.antt`), and how a VERSION and a change from outside are answered
 //! (`specs/Changed.antt`). Of every moment it promises that an attachment has only what its last ADD that began asks
 //! for (`specs/AskedFor.antt`), that one that is gone stays gone and a repeated DEL of it changes nothing
 //! (`specs/Repeated.antt`), which entries leave the other attachments and what none owns (`specs/Apart.antt`), that

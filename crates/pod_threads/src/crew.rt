@@ -14,7 +14,8 @@ use std::sync::{Mutex, Wait};
 use std::thread;
 use std::thread::Threads;
 
-/// The workers, which of them steps which command, the share that none of them has, and room for their counts.
+/// The workers, which of them steps which command, the part of the ledger that none of them has, and room for their
+/// counts.
 #[derive(Drop)]
 pub(crate) struct Crew<L: Ledger> {
     owned: Vec<Owned>,
@@ -28,7 +29,7 @@ pub(crate) struct Crew<L: Ledger> {
 }
 
 impl<L: Ledger> Crew<L> {
-    /// So many workers for the current round. All of the share is theirs.
+    /// So many workers for the current round. All of the ledger is theirs.
     pub(crate) fn new<K: Kernel + Drop>(
         alloc: Global,
         book: &Book<K>,
@@ -54,7 +55,7 @@ impl<L: Ledger> Crew<L> {
 }
 
 impl<L: Ledger + Send + Sync> Crew<L> {
-    /// Lets each worker step its commands, in a thread of its own where there is one to be had. The share is whole
+    /// Lets each worker step its commands, in a thread of its own where there is one to be had. The ledger is whole
     /// again at the end, and its amount is what the counts sum up to.
     pub(crate) fn work<
         J: Origin + Send + Sync,

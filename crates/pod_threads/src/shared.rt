@@ -63,7 +63,7 @@ impl<J: Origin, L: Ledger, K: Kernel + Drop> Shared<J, L, K> {
         }
     }
 
-    /// Steps a command if it is ready, and says whether a call was made, which counts for the share.
+    /// Steps a command if it is ready, and says whether a call was made, which counts for the part of the ledger.
     pub(crate) fn step(&mut self, command: u32, mine: &mut Share<L>) -> StepEnd
         requires { 0 < mine.old.parts }
         ensures ready { IsReadyNumber self.old.world command → MakesStep self.old.world self.new.world command result }
@@ -83,7 +83,7 @@ impl<J: Origin, L: Ledger, K: Kernel + Drop> Shared<J, L, K> {
         end
     }
 
-    /// Changes nothing, and tells that a share's amount fits.
+    /// Changes nothing, and tells that the amount of a part of the ledger fits.
     fn tell(&mut self, mine: &mut Share<L>)
         ensures same { self.new ≡ self.old }
         ensures parts { mine.new.parts ≡ mine.old.parts }
@@ -113,7 +113,7 @@ impl<J: Origin, L: Ledger, K: Kernel + Drop> Shared<J, L, K> {
         }
     }
 
-    /// The book, once all shares are in one.
+    /// The book, once all parts of the ledger are in one.
     pub(crate) fn into_book(self, all: &mut Share<L>) -> Book<K>
         requires { all.old.parts ≡ L.parts }
         ensures parts { all.new.parts ≡ all.old.parts }

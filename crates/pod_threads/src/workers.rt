@@ -91,7 +91,7 @@ fn lock<'a, T, R: Wait>(rt: &R, shared: &'a Mutex<T>) -> MutexGuard<'a, T> {
     shared.lock(rt)
 }
 
-/// So many workers, with one part of the ledger each, and the share that is left.
+/// So many workers, with one part of the ledger each, and the part that is left.
 pub(crate) fn make_workers<L: Ledger>(
     alloc: Global,
     n: u8,
@@ -117,7 +117,7 @@ fn new_worker<L: Ledger>(share: Share<L>) -> Worker<L>
     Worker { share, count: 0 }
 }
 
-/// Puts the workers' shares together, and their counts into a list that has the room.
+/// Puts the workers' parts together, and their counts into a list that has the room.
 pub(crate) fn gather<L: Ledger>(
     workers: Vec<Worker<L>>,
     mut all: Share<L>,

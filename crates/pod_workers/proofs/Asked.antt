@@ -10,7 +10,7 @@ use Rattle.kernel_types.specs.declared.call.Call.{Call}
 use Rattle.kernel_types.specs.declared.call.Call.TheVariants.{HasObj, PoolFree}
 use Rattle.net_conf.specs.declared.list.NetList.{NetList}
 use Rattle.pod_file.specs.declared.command.Command.{Command}
-use Rattle.plan_words.specs.Share.{Share}
+use Rattle.plugin_base.specs.Share.{Share}
 use Rattle.cni_verbs.specs.Questions.{address_question, bridge_by_mac, bridge_questions, cached_share, check_questions, first_interface, lease_question, link_question, master_questions, pool_questions, route_question, rule_questions, setting_question, share_questions, status_questions}
 use Rattle.cni_verbs.specs.Wanted.{bridge_of, master_of, sets_of}
 use Rattle.cni_verbs.specs.declared.answer.Question.{Question}

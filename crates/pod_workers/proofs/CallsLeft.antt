@@ -4,7 +4,7 @@ use Rattle.kernel_types.specs.declared.object.CachedObj.{CachedObj}
 use Rattle.kernel_types.specs.declared.object.Host.{Host}
 use Rattle.net_conf.specs.declared.list.NetList.{NetList}
 use Rattle.pod_file.specs.declared.command.Command.{Command}
-use Rattle.plan_words.specs.Share.{Share}
+use Rattle.plugin_base.specs.Share.{Share}
 use Rattle.cni_verbs.specs.Questions.{check_questions}
 use Rattle.cni_verbs.specs.Script.{State, AtBegin, BeforeLeases, Leasing, AfterLeases, ReadingCache, Deleting, FindingEntry, Asking, Changing, Collecting, Over, before_of}
 use Rattle.cni_verbs.specs.Sweep.{Work}
@@ -22,7 +22,7 @@ most_after most list c = most - (1 + length (before_of list c) + length (sets_of
 abbrev pub making : ℕ → NetList → Share → ℕ
 making calls list s = 2 * calls + deletions_of s + length (kinds_of list) + 1
 
--- the questions of a check, by the attachment's cached entry
+-- the questions of a check, by the attachment's cached result
 abbrev pub questions_by : NetList → Command → List CachedObj → ℕ
 questions_by list c [] = 0
 questions_by list c (x ∷ xs) = length (check_questions list c x.cached)

@@ -25,7 +25,7 @@ use Rattle.kernel_types.specs.declared.call.Kind.{Kind}
 use Rattle.kernel_types.specs.declared.call.Kind.TheVariants as kinds
 use Rattle.kernel_types.specs.declared.call.Reply.{Reply}
 use Rattle.kernel_types.specs.declared.call.Reply.TheVariants.{Fault, Gone}
-use Rattle.plan_words.proofs.KeyLists.{length-each_key_once}
+use Rattle.plugin_base.proofs.KeyLists.{length-each_key_once}
 use Rattle.cni_verbs.specs.Script.{call_of_work}
 use Rattle.cni_verbs.specs.Sweep.{Gc, Job, AskCached, Delete, Step, Sweep, after_step, is_valid, job_of, step_call, work_after}
 use Rattle.cni_verbs.specs.Wanted.{deletion}

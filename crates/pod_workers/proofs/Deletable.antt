@@ -33,11 +33,11 @@ use Rattle.kernel_types.specs.declared.call.Kind.{Kind}
 use Rattle.kernel_types.specs.declared.call.Kind.TheVariants as kinds
 use Rattle.kernel_types.specs.declared.call.Reply.{Reply}
 use Rattle.kernel_types.specs.declared.call.Reply.TheVariants.{Done, Leased, Gone}
-use Rattle.plan_words.specs.PlanCalls.{is_plan_call_of}
-use Rattle.plan_words.specs.Share.{Share, share_of, share_after_call}
-use Rattle.plan_words.proofs.KeyLists.{filter-map_kept}
-use Rattle.plan_words.proofs.OwnCalls.{share-own, share-lease, share-begin}
-use Rattle.plan_words.proofs.Refusals.{refused-same, refused-lease}
+use Rattle.plugin_base.specs.Calls.{is_plugin_call_of}
+use Rattle.plugin_base.specs.Share.{Share, share_of, share_after_call}
+use Rattle.plugin_base.proofs.KeyLists.{filter-map_kept}
+use Rattle.plugin_base.proofs.OwnCalls.{share-own, share-lease, share-begin}
+use Rattle.plugin_base.proofs.Refusals.{refused-same, refused-lease}
 use Rattle.cni_verbs.specs.Wanted.{deletion}
 use Rattle.gc_sweep.proofs.Lists.{any-found, count_append, count_without_first, fewer_filter}
 use Rattle.pod_workers.specs.CallCounts.{deletions_of}
@@ -85,7 +85,7 @@ set-inner att key mac mtu tx_qlen promisc allmulti l =
     by_test (λ (m : Link). not (is_host_ns m.ns) ≡ not (is_host_ns l.ns)) (is_own_at att key l) (with_values mac mtu tx_qlen promisc allmulti l) l (λ _. refl) (λ _. refl)
 
 -- at most one object more, a pair of links as one
-after_call-more : (att : Att) (host : Host) (call : Call) (s : Share) → is_plan_call_of att call ≡ true → IsAllowed host call → deletions_of (share_after_call s call) ≤ deletions_of s + 1
+after_call-more : (att : Att) (host : Host) (call : Call) (s : Share) → is_plugin_call_of att call ≡ true → IsAllowed host call → deletions_of (share_after_call s call) ≤ deletions_of s + 1
 after_call-more att host (VethAdd h i) s is allowed = let c = count-pair (λ l. not (is_host_ns l.ns)) s.links h i (not_from_true (is_host_ns h.ns) allowed.outer) in omega arith
 after_call-more att host (MacvlanAdd link) s is allowed = let c = count-push (λ l. not (is_host_ns l.ns)) s.links link in omega arith
 after_call-more att host (LinkSet own key mac mtu tx_qlen promisc allmulti) s is allowed =
@@ -106,7 +106,7 @@ AtMostOneMore att old new = deletions_of (share_of att new) ≤ deletions_of (sh
 same-more : (att : Att) (old new : Host) → new ≡ old → AtMostOneMore att old new
 same-more att old new is = subst (λ k. AtMostOneMore att old k) (sym is) (omega arith)
 
-pub call-more : (att : Att) (host : Host) (call : Call) → is_plan_call_of att call ≡ true → IsAllowed host call → AtMostOneMore att host (apply host call).0
+pub call-more : (att : Att) (host : Host) (call : Call) → is_plugin_call_of att call ≡ true → IsAllowed host call → AtMostOneMore att host (apply host call).0
 call-more att host call is allowed = elim (done_or_not (apply host call).1) [
   | inl done ↦ subst (λ s. deletions_of s ≤ deletions_of (share_of att host) + 1) (sym (share-own att host call is done)) (after_call-more att host call (share_of att host) is allowed)
   | inr refused ↦ same-more att host (apply host call).0 (refused-same att host call is refused)

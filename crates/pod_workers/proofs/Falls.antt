@@ -20,9 +20,9 @@ use Rattle.kernel_types.specs.declared.call.Reply.TheVariants.{Done, Leased, Gon
 use Rattle.net_conf.specs.declared.list.NetList.{NetList}
 use Rattle.net_conf.specs.Sets.{one_if}
 use Rattle.pod_file.specs.declared.command.Command.{Command}
-use Rattle.plan_words.specs.PlanCalls.{is_plan_call_of}
-use Rattle.plan_words.specs.Share.{Share, share_of}
-use Rattle.cni_verbs.specs.CommandWords.{att_of}
+use Rattle.plugin_base.specs.Calls.{is_plugin_call_of}
+use Rattle.plugin_base.specs.Share.{Share, share_of}
+use Rattle.cni_verbs.specs.CommandFields.{att_of}
 use Rattle.cni_verbs.specs.Questions.{check_questions}
 use Rattle.cni_verbs.specs.Script.{State, AtBegin, BeforeLeases, Leasing, AfterLeases, ReadingCache, Deleting, FindingEntry, Asking, Changing, Collecting, Over, Calls, turn, advance, at_begin, at_cache, at_call_after, at_call_before, at_deletion, at_entry, at_lease, at_question, after_leases, leasing, before_leases, deleting, asking, checking, back_of, before_of}
 use Rattle.cni_verbs.specs.Wanted.{deletion, kinds_of, sets_of}
@@ -69,7 +69,7 @@ OneMore old new = deletions_of new ≤ deletions_of old + 1
 abbrev IsDeletion : Reply → Share → Share → Type 0
 IsDeletion r old new = ((r ≡ Fault) × (deletions_of new ≤ deletions_of old)) ⊎ ((gone : Bool) × (r ≡ Gone gone) × (deletions_of new + one_if gone ≤ deletions_of old))
 
--- the cached entry was a fault, or is the share's
+-- the cached result was a fault, or is the share's
 abbrev IsEntry : NetList → Command → Reply → Share → Type 0
 IsEntry list c r old = (r ≡ Fault) ⊎ ((o : Option Cached) × (r ≡ Entry o) × ((cached : Cached) → o ≡ Some cached → length (check_questions list c cached) ≤ questions_by list c old.cached))
 
@@ -167,12 +167,12 @@ falls-advance most list c number (Over ending given) r old new in_most is = absu
 
 -- ---- the kernel's reply
 
--- the call of a state that makes objects is one of the attachment's plan
+-- the call of a state that makes objects is one of the plugins'
 abbrev pub IsOwnNext : Command → State → Type 0
 IsOwnNext c AtBegin = Unit {0}
-IsOwnNext c (BeforeLeases next left) = is_plan_call_of (att_of c) next ≡ true
+IsOwnNext c (BeforeLeases next left) = is_plugin_call_of (att_of c) next ≡ true
 IsOwnNext c (Leasing next left given) = Unit {0}
-IsOwnNext c (AfterLeases next left given) = is_plan_call_of (att_of c) next ≡ true
+IsOwnNext c (AfterLeases next left given) = is_plugin_call_of (att_of c) next ≡ true
 IsOwnNext c (ReadingCache ending) = Unit {0}
 IsOwnNext c (Deleting next left ending) = Unit {0}
 IsOwnNext c FindingEntry = Unit {0}
@@ -201,12 +201,12 @@ unfolding turn
 replies-as list c AtBegin host call sound allowed own is = subst (Replies list c AtBegin host) (let e : Begin (att_of c) c.netns ≡ call = cc in e) (reply-begin list c host)
 replies-as list c (BeforeLeases next left) host call sound allowed own is =
     let e : next ≡ call = cc in
-    call-more (att_of c) host call (subst (λ x. is_plan_call_of (att_of c) x ≡ true) e own) allowed
+    call-more (att_of c) host call (subst (λ x. is_plugin_call_of (att_of c) x ≡ true) e own) allowed
 replies-as list c (Leasing next left given) host call sound allowed own is =
     subst (Replies list c (Leasing next left given) host) (let e : LeaseNext (att_of c) (length given) next ≡ call = cc in e) (lease-more (att_of c) host (length given) next)
 replies-as list c (AfterLeases next left given) host call sound allowed own is =
     let e : next ≡ call = cc in
-    call-more (att_of c) host call (subst (λ x. is_plan_call_of (att_of c) x ≡ true) e own) allowed
+    call-more (att_of c) host call (subst (λ x. is_plugin_call_of (att_of c) x ≡ true) e own) allowed
 replies-as list c (ReadingCache ending) host call sound allowed own is = subst (Replies list c (ReadingCache ending) host) (let e : CacheGet (att_of c) ≡ call = cc in e) (omega arith)
 replies-as list c (Deleting next left ending) host call sound allowed own is =
     subst (Replies list c (Deleting next left ending) host) (let e : deletion (att_of c) next ≡ call = cc in e)

@@ -1,10 +1,10 @@
 -- the lemmas of the laws, for the crates above
+pub mod AddCalls
 pub mod AnswersDue
 pub mod Facts
-pub mod Prefixes
 pub mod Listed
 pub mod OneOutcome
-pub mod PlanCalls
+pub mod Prefixes
 pub mod Reached
 pub mod Sound
 pub mod Stopped
@@ -27,9 +27,9 @@ pub mod Joined
 pub mod Kept
 pub mod KeptAtBegin
 pub mod MostCalls
+pub mod OfPlugins
 pub mod Order
-pub mod Planned
-pub mod PlannedCalls
+pub mod PluginCalls
 pub mod Positions
 pub mod ReadyByIndex
 pub mod Replies

@@ -13,7 +13,7 @@ use Rattle.kernel_types.specs.declared.call.Kind.{Kind}
 use Rattle.kernel_types.specs.declared.call.Call.{Call}
 use Rattle.kernel_types.specs.declared.call.Reply.{Reply}
 use Rattle.kernel_types.specs.declared.call.Reply.TheVariants.{Done, Leased, Gone, Has, Entry, Fault}
-use Rattle.cni_verbs.specs.CommandWords.{add_refusal, del_refusal}
+use Rattle.cni_verbs.specs.CommandFields.{add_refusal, del_refusal}
 use Rattle.cni_verbs.specs.Questions.{check_questions, status_questions}
 use Rattle.cni_verbs.proofs.AfterReplies.{after_replies-keeps}
 use Rattle.cni_verbs.proofs.EarlyEndings.{early_ending-cases, old_ending-cases}

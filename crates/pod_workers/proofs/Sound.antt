@@ -36,8 +36,8 @@ use Rattle.kernel_types.specs.declared.call.Kind.{Kind}
 use Rattle.kernel_types.specs.declared.call.Kind.TheVariants as kinds
 use Rattle.kernel_types.specs.declared.call.Reply.{Reply}
 use Rattle.kernel_types.specs.declared.call.Reply.TheVariants.{Leased}
-use Rattle.plan_words.specs.PlanCalls.{IsWellFormedCall, is_plan_call_of}
-use Rattle.cni_verbs.specs.CommandWords.{att_of}
+use Rattle.plugin_base.specs.Calls.{IsWellFormedCall, is_plugin_call_of}
+use Rattle.cni_verbs.specs.CommandFields.{att_of}
 use Rattle.cni_verbs.specs.declared.answer.Answer.{Answer}
 use Rattle.cni_verbs.specs.declared.answer.Answer.TheVariants.{Stopped}
 use Rattle.cni_verbs.specs.Script.{State, AtBegin, BeforeLeases, Leasing, AfterLeases, ReadingCache, Deleting, FindingEntry, Asking, Changing, Collecting, Over, Turn, Calls, Finishes, turn, turn_of_work, state_after, outside_after}
@@ -55,8 +55,8 @@ use Rattle.pod_workers.specs.declared.plan.Plan.{Plan}
 use Rattle.pod_workers.proofs.Asked.{IsQuestionOf}
 use Rattle.pod_workers.proofs.Each.{each-append}
 use Rattle.pod_workers.proofs.Elements.{slice_get-middle}
-use Rattle.pod_workers.proofs.Planned.{IsOutside, IsRest, LeftArePlanned, LeftIsOutside, left-are-planned, left-is-outside}
-use Rattle.pod_workers.proofs.PlannedCalls.{IsPlanned}
+use Rattle.pod_workers.proofs.OfPlugins.{IsOutside, IsRest, LeftAreOfPlugins, LeftIsOutside, left-are-of_plugins, left-is-outside}
+use Rattle.pod_workers.proofs.PluginCalls.{IsOfPlugins}
 use Rattle.pod_workers.proofs.WellFormedPlans.{has_pools_apart, pools_apart}
 use Rattle.pod_workers.proofs.Histories.{after-append}
 
@@ -151,7 +151,7 @@ lasts-touches (NsChange a true) old new n h = elim h [ inl e ↦ ap (λ (k : Hos
 lasts-touches (NsChange a false) old new n h = h.lasts
 lasts-touches (Outside a) old new n h = h.lasts
 
--- ---- planned calls may be made
+-- ---- calls of plugins may be made
 
 -- the call may be made in this host, and after it each last is a candidate still
 abbrev pub GoesWell : Plan → Host → Call → Type 0
@@ -166,13 +166,13 @@ allowed-well_formed : (host : Host) (call : Call) → moves_last call ≡ false 
 allowed-well_formed host (LeaseNext a b d) n h = absurd cc
 allowed-well_formed host _ n h = h
 
-plan-moves_none : (att : Att) (call : Call) → is_plan_call_of att call ≡ true → moves_last call ≡ false
-plan-moves_none att (LeaseNext a b d) own = cc
-plan-moves_none att _ own = refl
+plugin-moves_none : (att : Att) (call : Call) → is_plugin_call_of att call ≡ true → moves_last call ≡ false
+plugin-moves_none att (LeaseNext a b d) own = cc
+plugin-moves_none att _ own = refl
 
-planned-well : (p : Plan) (att : Att) (host : Host) (call : Call) → IsSound host → AreLastsOfSets p host.lasts → IsPlanned att call → GoesWell p host call
-planned-well p att host call sound lasts h =
-    let none = plan-moves_none att call h.0 in
+of_plugins-well : (p : Plan) (att : Att) (host : Host) (call : Call) → IsSound host → AreLastsOfSets p host.lasts → IsOfPlugins att call → GoesWell p host call
+of_plugins-well p att host call sound lasts h =
+    let none = plugin-moves_none att call h.0 in
     stays-well p host call sound lasts none (allowed-well_formed host call none h.1)
 
 deletion-well : (p : Plan) (att : Att) (host : Host) (kind : Kind) → IsSound host → AreLastsOfSets p host.lasts → GoesWell p host (deletion att kind)
@@ -212,8 +212,8 @@ lease-well p host att number set list well lasts found at =
 
 -- ---- the next call of a run
 
-head-well : (p : Plan) (att : Att) (host : Host) (x call : Call) → IsSound host → AreLastsOfSets p host.lasts → IsPlanned att x → x ≡ call → GoesWell p host call
-head-well p att host x call sound lasts h is = subst (GoesWell p host) is (planned-well p att host x sound lasts h)
+head-well : (p : Plan) (att : Att) (host : Host) (x call : Call) → IsSound host → AreLastsOfSets p host.lasts → IsOfPlugins att x → x ≡ call → GoesWell p host call
+head-well p att host x call sound lasts h is = subst (GoesWell p host) is (of_plugins-well p att host x sound lasts h)
 
 rest-at : (list : NetList) (next : RangeSet) (left : List RangeSet) (given : List Addr) → IsRest list (next ∷ left) given → slice_get (sets_of list) (length given) ≡ Some next
 rest-at list next left given rest = ap (λ s. slice_get s (length given)) rest.1 ∙ ap (slice_get (rest.0 ++ next ∷ left)) (sym rest.2) ∙ slice_get-middle rest.0 left next
@@ -237,7 +237,7 @@ question-well p host list network (PoolFree pool set) well sound lasts found ask
 question-well p host list network _ well sound lasts found asks = absurd asks
 
 turn-well : (p : Plan) (host : Host) (list : NetList) (c : Command) (s : State) (call : Call) → IsWellFormed p → IsSound host → AreLastsOfSets p host.lasts
-    → list_named p.lists c.network ≡ Some list → LeftArePlanned list c s → turn c s ≡ Calls call → GoesWell p host call
+    → list_named p.lists c.network ≡ Some list → LeftAreOfPlugins list c s → turn c s ≡ Calls call → GoesWell p host call
 unfolding turn
 turn-well p host list c AtBegin call well sound lasts found left is = subst (GoesWell p host) (let e : Begin (att_of c) c.netns ≡ call = cc in e) (stays-well p host (Begin (att_of c) c.netns) sound lasts refl tt)
 turn-well p host list c (BeforeLeases x xs) call well sound lasts found left is = head-well p (att_of c) host x call sound lasts left.0.0 cc
@@ -276,7 +276,7 @@ by-list : (p : Plan) (host : Host) (c : Command) (rs : List Reply) (o : Option N
     → list_in p.lists c ≡ o → turn_by o c rs ≡ Calls call → GoesWell p host call
 by-list p host c rs None call well sound lasts found is = outside-well p host c (outside_after c rs) call sound lasts (left-is-outside c rs) is
 by-list p host c rs (Some list) call well sound lasts found is =
-    turn-well p host list c (state_after list c rs) call well sound lasts (if-listed (is_of_network c.verb) (list_named p.lists c.network) list found) (left-are-planned list c rs) is
+    turn-well p host list c (state_after list c rs) call well sound lasts (if-listed (is_of_network c.verb) (list_named p.lists c.network) list found) (left-are-of_plugins list c rs) is
 
 going_by : (a : Answer) (c : Command) (made : ℕ) (k call : Call) (faulty b : Bool) → (if b then next.Answer a else next.Call k (is_faulty c made)) ≡ next.Call call faulty
     → (Calls k ≡ Calls call) × (is_faulty c made ≡ faulty) × (b ≡ false)

@@ -5,7 +5,7 @@ use Rattle.std.proofs.lemmas.Option.{slice_get_within}
 use Rattle.cni_addr.specs.declared.address.Addr.{Addr}
 use Rattle.cni_addr.specs.declared.memory.NoMemory.{NoMemory}
 use Rattle.cni_addr.specs.declared.range.RangeSet.{RangeSet}
-use Rattle.cni_verbs.specs.CommandWords.{att_of}
+use Rattle.cni_verbs.specs.CommandFields.{att_of}
 use Rattle.cni_verbs.specs.Progress.{turn_by}
 use Rattle.cni_verbs.specs.Questions.{check_questions}
 use Rattle.cni_verbs.specs.Script.{State, AtBegin, BeforeLeases, Leasing, AfterLeases, ReadingCache, Deleting, FindingEntry, Asking, Changing, Collecting, Over, Calls, turn, turn_of_work, call_of_work, gc_of, advance, start_state, state_after, outside_advance, outside_start, outside_after, after_leases, leasing, before_leases, asking, back_of, before_of}
@@ -24,7 +24,7 @@ use Rattle.kernel_types.specs.declared.call.Reply.{Reply}
 use Rattle.kernel_types.specs.declared.call.Reply.TheVariants.{Fault}
 use Rattle.net_conf.specs.declared.list.NetList.{NetList}
 use Rattle.pod_file.specs.declared.command.Command.{Command}
-use Rattle.plan_words.specs.Share.{share_of}
+use Rattle.plugin_base.specs.Share.{share_of}
 use Rattle.pod_workers.specs.CallCounts.{AddsInAtMost, most_calls}
 use Rattle.pod_workers.proofs.CallsLeft.{calls_left, collection_left}
 use Rattle.pod_workers.specs.Legal.{Legal}
@@ -37,7 +37,7 @@ use Rattle.pod_workers.proofs.Collected.{fault-falls, work-falls}
 use Rattle.pod_workers.proofs.Falls.{IsOwnNext, fault-as, falls-advance, replies-as}
 use Rattle.pod_workers.proofs.Histories.{after-append, replies_of-own, slice_get-set_same}
 use Rattle.pod_workers.proofs.MostCalls.{adds_in_most_calls}
-use Rattle.pod_workers.proofs.Planned.{LeftArePlanned, LeftIsOutside, left-are-planned, left-is-outside}
+use Rattle.pod_workers.proofs.OfPlugins.{LeftAreOfPlugins, LeftIsOutside, left-are-of_plugins, left-is-outside}
 use Rattle.pod_workers.proofs.RoundDone.{IsStepped}
 use Rattle.pod_workers.proofs.Sound.{allowed_next, goes_in, sound_host}
 use Rattle.pod_workers.proofs.Kept.{outside_from-append, state_from-append}
@@ -103,18 +103,18 @@ left_of (Some list) c rs host = calls_left (most_calls list c) list c (state_aft
 
 -- ---- one entry
 
-own-next : (list : NetList) (c : Command) (s : State) → LeftArePlanned list c s → IsNoCollection s → IsOwnNext c s
-own-next list c AtBegin planned none = tt
-own-next list c (BeforeLeases next left) planned none = planned.0.0.0
-own-next list c (Leasing next left given) planned none = tt
-own-next list c (AfterLeases next left given) planned none = planned.0.0
-own-next list c (ReadingCache ending) planned none = tt
-own-next list c (Deleting next left ending) planned none = tt
-own-next list c FindingEntry planned none = tt
-own-next list c (Asking next left) planned none = tt
-own-next list c (Changing change) planned none = tt
-own-next list c (Collecting work faults) planned none = absurd none
-own-next list c (Over ending given) planned none = tt
+own-next : (list : NetList) (c : Command) (s : State) → LeftAreOfPlugins list c s → IsNoCollection s → IsOwnNext c s
+own-next list c AtBegin of_plugins none = tt
+own-next list c (BeforeLeases next left) of_plugins none = of_plugins.0.0.0
+own-next list c (Leasing next left given) of_plugins none = tt
+own-next list c (AfterLeases next left given) of_plugins none = of_plugins.0.0
+own-next list c (ReadingCache ending) of_plugins none = tt
+own-next list c (Deleting next left ending) of_plugins none = tt
+own-next list c FindingEntry of_plugins none = tt
+own-next list c (Asking next left) of_plugins none = tt
+own-next list c (Changing change) of_plugins none = tt
+own-next list c (Collecting work faults) of_plugins none = absurd none
+own-next list c (Over ending given) of_plugins none = tt
 
 -- a call and what it is replied, in a sound host in which it may be made unless it is a fault
 pub record MayGo (host : Host) (call : Call) (faulty : Bool) : Type 0 where
@@ -125,14 +125,14 @@ pub host-made : (host : Host) (n : ℕ) (call : Call) → after_entry host (entr
 host-made host n call = ap (λ b. if b then host else (apply host call).0) (IsReplyOf-apply host call).no_fault
 
 -- each entry of a run that is no collection lowers the calls that are left
-pub entry-falls : (most : ℕ) (list : NetList) (c : Command) (number n : ℕ) (s : State) (host : Host) (call : Call) (faulty : Bool) → AddsInAtMost list c most → MayGo host call faulty → LeftArePlanned list c s → IsNoCollection s → turn c s ≡ Calls call
+pub entry-falls : (most : ℕ) (list : NetList) (c : Command) (number n : ℕ) (s : State) (host : Host) (call : Call) (faulty : Bool) → AddsInAtMost list c most → MayGo host call faulty → LeftAreOfPlugins list c s → IsNoCollection s → turn c s ≡ Calls call
     → calls_left most list c (advance list c number s (reply_to host call faulty)) (share_of (att_of c) (after_entry host (entry_of host n call faulty))) < calls_left most list c s (share_of (att_of c) host)
-entry-falls most list c number n s host call true in_most may planned none is =
-    falls-advance most list c number s Fault (share_of (att_of c) host) (share_of (att_of c) host) in_most (fault-as list c s host call (own-next list c s planned none) is)
-entry-falls most list c number n s host call false in_most may planned none is =
+entry-falls most list c number n s host call true in_most may of_plugins none is =
+    falls-advance most list c number s Fault (share_of (att_of c) host) (share_of (att_of c) host) in_most (fault-as list c s host call (own-next list c s of_plugins none) is)
+entry-falls most list c number n s host call false in_most may of_plugins none is =
     subst (λ h. calls_left most list c (advance list c number s (apply host call).1) (share_of (att_of c) h) < calls_left most list c s (share_of (att_of c) host)) (sym (host-made host n call))
     (falls-advance most list c number s (apply host call).1 (share_of (att_of c) host) (share_of (att_of c) (apply host call).0) in_most
-    (replies-as list c s host call may.sound (may.allowed refl) (own-next list c s planned none) is))
+    (replies-as list c s host call may.sound (may.allowed refl) (own-next list c s of_plugins none) is))
 
 -- the calls that are left in a state, a collection's too
 abbrev in_state : NetList → Command → State → Host → ℕ
@@ -149,15 +149,15 @@ collecting-falls gc work n host call true is = fault-falls gc work.jobs work.swe
 collecting-falls gc work n host call false is =
     subst (λ k. collection_left (work_after gc work.jobs work.sweeps (apply host call).1) k < collection_left work host) (sym (host-made host n call)) (work-falls gc work.jobs work.sweeps host call is)
 
-state-falls : (list : NetList) (c : Command) (number n : ℕ) (s : State) (host : Host) (call : Call) (faulty : Bool) → MayGo host call faulty → LeftArePlanned list c s → turn c s ≡ Calls call
+state-falls : (list : NetList) (c : Command) (number n : ℕ) (s : State) (host : Host) (call : Call) (faulty : Bool) → MayGo host call faulty → LeftAreOfPlugins list c s → turn c s ≡ Calls call
     → in_state list c (advance list c number s (reply_to host call faulty)) (after_entry host (entry_of host n call faulty)) < in_state list c s host
 unfolding advance turn
-state-falls list c number n (Collecting work faults) host call faulty may planned is =
+state-falls list c number n (Collecting work faults) host call faulty may of_plugins is =
     let fall = collecting-falls (gc_of list c) work n host call faulty (work-calls c.network faults work.jobs work.sweeps call is) in
     omega arith
-state-falls list c number n s host call faulty may planned is =
+state-falls list c number n s host call faulty may of_plugins is =
     let r = reply_to host call faulty in
-    let fall = entry-falls (most_calls list c) list c number n s host call faulty (adds_in_most_calls list c) may planned tt is in
+    let fall = entry-falls (most_calls list c) list c number n s host call faulty (adds_in_most_calls list c) may of_plugins tt is in
     let none = no-work (advance list c number s r) (after_entry host (entry_of host n call faulty)) (true-advance IsNoCollection list c number s r (none-stays list c) tt) in
     omega arith
 
@@ -177,7 +177,7 @@ left-falls (Some list) c rs n host call faulty may is =
     let r = reply_to host call faulty in
     let k = after_entry host (entry_of host n call faulty) in
     subst (λ s. in_state list c s k < in_state list c (state_after list c rs) host) (sym (state_from-append list c 0 (start_state list c) rs r))
-    (state-falls list c (0 + length rs + 1) n (state_after list c rs) host call faulty may (left-are-planned list c rs) is)
+    (state-falls list c (0 + length rs + 1) n (state_after list c rs) host call faulty may (left-are-of_plugins list c rs) is)
 
 -- ---- a command's steps
 

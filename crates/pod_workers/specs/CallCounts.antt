@@ -7,9 +7,9 @@ use Rattle.kernel_types.specs.declared.object.Link.{Link}
 use Rattle.net_conf.specs.declared.chained.Chained.{Chained}
 use Rattle.net_conf.specs.declared.list.NetList.{NetList}
 use Rattle.pod_file.specs.declared.command.Command.{Command}
-use Rattle.plan_words.specs.Share.{Share}
+use Rattle.plugin_base.specs.Share.{Share}
 use Rattle.cni_verbs.specs.AddCalls.{calls_of_add}
-use Rattle.cni_verbs.specs.CommandWords.{mappings_of}
+use Rattle.cni_verbs.specs.CommandFields.{mappings_of}
 use Rattle.cni_verbs.specs.Plugins.{chained_plugin_of, plugin_of}
 use Rattle.cni_verbs.specs.Script.{before_of}
 use Rattle.cni_verbs.specs.Wanted.{sets_of}
@@ -34,7 +34,7 @@ AddsInAtMost list c most = (given : List Addr) → length (calls_of_add list c g
 abbrev pub most_of_chained : List PortMapping → ℕ → Chained → ℕ
 most_of_chained mappings addresses c = (chained_plugin_of c).most (length mappings) addresses
 
--- Begin, those before the leases, a lease a set, those of the plugins, and the cached entry
+-- Begin, those before the leases, a lease a set, those of the plugins, and the cached result
 abbrev pub most_calls : NetList → Command → ℕ
 most_calls list c =
     1 + length (before_of list c) + length (sets_of list)

@@ -1,3 +1,4 @@
+pub mod AddCalls
 pub mod CallCounts
 pub mod Extends
 pub mod Facts
@@ -7,7 +8,6 @@ pub mod Lasts
 pub mod Laws
 pub mod Legal
 pub mod Order
-pub mod PlanCalls
 pub mod Plans
 pub mod Slots
 pub mod Tasks

@@ -3,7 +3,7 @@
 ghost use Rattle.pod_workers.specs.Facts.{EachAnswerIsGiven, EachCommandIsOpenAfterItsEntry, EachEntryIsMade, EachPrefix, EachStopIsCounted, EachWorldOfTheClausesIsLegal, EveryAnswerIsDue, EveryEntryFollows, LegalWorldsMeetEachClause};
 ghost use Rattle.pod_workers.specs.Laws.{EachNetworkCommandHasItsList, EveryCallMayBeMade, EveryHostIsSound, NoAddressIsLeasedTwice};
 ghost use Rattle.pod_workers.specs.Order.{FileOrderIsKept, OneOutcome};
-ghost use Rattle.pod_workers.specs.PlanCalls.{AddCallsArePlanned};
+ghost use Rattle.pod_workers.specs.AddCalls.{AddCallsMakeTheWanted};
 
 /// Every host that a well-formed plan comes to is sound, whichever commands stepped in which order, were stopped, met
 /// faults or were refused memory.
@@ -32,9 +32,9 @@ pub fn each_network_command_has_its_list()
 
 /// Whichever addresses an ADD is leased, its calls are its attachment's own or ensure what all attachments share, are
 /// well formed, make objects of the kinds alone that a DEL of its list takes back, and make just the wanted objects.
-#[tactic(auto, using(crate::proofs::PlanCalls::are_planned))]
-pub fn the_calls_of_an_add_are_planned()
-    ensures { AddCallsArePlanned }
+#[tactic(auto, using(crate::proofs::AddCalls::make_the_wanted))]
+pub fn the_calls_of_an_add_make_the_wanted()
+    ensures { AddCallsMakeTheWanted }
 {}
 
 /// Each entry has the call of its command's script and the kernel's reply in the host there, or a fault that the

@@ -34,6 +34,6 @@ pub use laws::{
     each_network_command_has_its_list, each_prefix_is_legal, each_stop_is_counted,
     each_world_of_the_clauses_is_legal, every_answer_is_due, every_call_may_be_made,
     every_entry_follows, every_host_is_sound, file_order_is_kept, legal_worlds_meet_each_clause,
-    no_address_is_leased_twice, one_outcome, the_calls_of_an_add_are_planned,
+    no_address_is_leased_twice, one_outcome, the_calls_of_an_add_make_the_wanted,
 };
 pub use plan::{Entry, Plan, PlanError, StepEnd};

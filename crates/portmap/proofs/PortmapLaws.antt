@@ -15,12 +15,12 @@ use Rattle.kernel_types.proofs.Cases.{att_eq-refl}
 use Rattle.kernel_types.specs.declared.object.Att.{Att}
 use Rattle.kernel_types.specs.declared.rule.Rule.{Rule}
 use Rattle.kernel_types.specs.declared.call.Call.TheVariants.{RuleAppend}
-use Rattle.plan_words.specs.Families.{first_of_family}
-use Rattle.plan_words.specs.PluginLaws.{ChainedLaws}
-use Rattle.plan_words.proofs.CallLists.{share_after_calls-rules}
-use Rattle.plan_words.proofs.Counts.{length-each, length-if}
-use Rattle.plan_words.proofs.KeyLists.{length-each_key_once, list_all-append, list_all-flat, list_all-if, list_all-each_key_once}
-use Rattle.plan_words.proofs.PluginCalls.{rule-calls}
+use Rattle.plugin_base.specs.Families.{first_of_family}
+use Rattle.plugin_base.specs.PluginLaws.{ChainedLaws}
+use Rattle.plugin_base.proofs.CallLists.{share_after_calls-rules}
+use Rattle.plugin_base.proofs.Counts.{length-each, length-if}
+use Rattle.plugin_base.proofs.KeyLists.{length-each_key_once, list_all-append, list_all-flat, list_all-if, list_all-each_key_once}
+use Rattle.plugin_base.proofs.PluginCalls.{rule-calls}
 use Rattle.portmap.specs.Portmap.{host_ip_allows, dnat_of, from_host, masquerades_of, rules_for, mapping_rules, portmap_calls_of, portmap_plugin, portmap_rules}
 
 -- ---- each rule is its attachment's

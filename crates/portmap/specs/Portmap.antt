@@ -21,9 +21,9 @@ use Rattle.kernel_types.specs.declared.call.Call.TheVariants.{RuleAppend}
 use Rattle.kernel_types.specs.declared.call.Kind.{Kind}
 use Rattle.kernel_types.specs.declared.call.Kind.TheVariants.{Rules}
 use Rattle.cni_addr.specs.Lists.{each_key_once}
-use Rattle.plan_words.specs.Families.{first_of_family}
-use Rattle.plan_words.specs.Plugins.{ChainedPlugin}
-use Rattle.plan_words.specs.Shapes.{rule_for_all}
+use Rattle.plugin_base.specs.Families.{first_of_family}
+use Rattle.plugin_base.specs.Plugins.{ChainedPlugin}
+use Rattle.plugin_base.specs.Shapes.{rule_for_all}
 
 -- `127.0.0.1/32`
 abbrev pub loopback : Cidr

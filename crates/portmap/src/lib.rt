@@ -22,7 +22,7 @@ use cni_addr::{Addr, Cidr, Family, Items, NoMemory, network_of, whole};
 use cni_result::{AddResult, IpEntry, PortMapping};
 use kernel_types::{Att, Call, Chain, Kind, Rule, Table, Target};
 use net_conf::PortmapConf;
-use plan_words::{EachKeyOnce, ask_all, first_of_family, rule_for_all};
+use plugin_base::{EachKeyOnce, ask_all, first_of_family, rule_for_all};
 use std::alloc::Global;
 
 /// `127.0.0.1/32`

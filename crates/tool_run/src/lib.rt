@@ -5,8 +5,8 @@
 //! ways of `Ends` (`specs/Statuses.antt`): what was to be reported was written, with its status; or the sink gave up
 //! after a prefix of it; or memory ran out outside the commands, and nothing was written. What is reported is the text
 //! of a book, or one line: that the words aren't taken, what is refused, or which read failed. Where the files are
-//! told, the book is of the plan that the definition `verdict_of` (`specs/Verdict.antt`) makes of words and files; where
-//! pods are generated, no file is read, and it is of the generator's plan whatever the files. The book has the
+//! told, the book is of the plan that the definition `verdict_of` (`specs/Verdict.antt`) makes of words and files;
+//! where pods are generated, no file is read, and it is of the generator's plan whatever the files. The book has the
 //! guarantee `IsGuaranteed` of `pod_laws`, whatever the threads. Where one thread makes the rounds, the commands go in
 //! the order of the file, and words and files determine what is written and the status, faults and running out of
 //! memory aside (`IsDetermined`).

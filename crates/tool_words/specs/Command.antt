@@ -83,7 +83,7 @@ the_app = with_rule (with_rule (with_rule (with_rule (with_rule (with_rule bare_
 abbrev pub IsArg : Arg → Rule → Type 0
 IsArg a rule = (rule_of a ≡ rule) × (a.global ≡ false)
 
--- the command takes the words: clap finds no fault in them
+-- the command takes the words: clap refuses none of them
 unfoldable pub clap_takes : List Text → Bool
 clap_takes words = is_empty (fault_of the_app words)
 

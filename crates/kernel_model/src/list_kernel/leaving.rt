@@ -94,7 +94,7 @@ fn drop_objects_on<T: OnLink + Drop>(objects: &mut Vec<T>, link: &Link)
     objects.retain(|x| !x.is_on(link));
 }
 
-/// Drops the objects on links that leave: a test of each link, and a pass over the objects for each that leaves.
+/// Drops the objects on links that leave: a test of each link, and a scan of the objects for each that leaves.
 fn drop_objects_on_leaving<T: OnLink + Drop, L: Leaving>(
     objects: &mut Vec<T>,
     links: &[Link],

@@ -1,4 +1,4 @@
-//! What the world outside does.
+//! What is done from outside.
 
 ghost use Rattle.std.specs.Prelude.{◌≡◌, true, not, filter, IfOk, OnErr, IsOk};
 ghost use Rattle.std.specs.Str.{bytes_eq};

@@ -87,8 +87,8 @@ impl Tables {
         }
     }
 
-    /// What is on an attachment's link, or on its peer, is the attachment's. A link that none owns takes a pass over
-    /// the addresses and routes that ever were.
+    /// What is on an attachment's link, or on its peer, is the attachment's. A link that none owns takes a scan of the
+    /// addresses and routes that ever were.
     pub(super) fn drop_link(&mut self, key: &LinkKey) -> Reply
         requires { IsSound self.old }
         ensures { (self.new, result) ≡ drop_link_of self.old key.now }

@@ -1,4 +1,4 @@
-//! What the world outside takes away.
+//! What is taken away from outside.
 
 ghost use Rattle.std.specs.Prelude.{◌≡◌};
 ghost use Rattle.kernel_types.specs.Apply.{apply};

@@ -284,7 +284,7 @@ tags_of host kinds.Cached = map (λ c. c.tag) host.cached
 abbrev pub owners_of : Host → List ℕ → Kind → Host × Reply
 owners_of host network kind = (host, Owners (each_key_once att_eq (filter_map (owner_in network) (tags_of host kind))))
 
--- ---- what the world outside does
+-- ---- what is done from outside
 
 abbrev pub ns_add_of : Host → List ℕ → Host × Reply
 ns_add_of host name =

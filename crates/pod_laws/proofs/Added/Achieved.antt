@@ -19,19 +19,19 @@ use Rattle.kernel_types.specs.declared.call.Call.{Call}
 use Rattle.kernel_types.specs.declared.call.Call.TheVariants.{Begin, LeaseNext}
 use Rattle.kernel_types.specs.declared.call.Reply.{Reply}
 use Rattle.kernel_types.specs.declared.call.Reply.TheVariants.{Done, Leased, Fault}
-use Rattle.plan_words.specs.PlanCalls.{is_plan_call_of}
+use Rattle.plugin_base.specs.Calls.{is_plugin_call_of}
 use Rattle.kernel_types.specs.Words.{lease_of}
-use Rattle.plan_words.specs.Share.{Share, share_of, no_objects, share_after_call, share_after_calls}
-use Rattle.plan_words.proofs.CallLists.{share_after_calls-append}
-use Rattle.plan_words.proofs.OwnCalls.{share-own, share-begin, share-lease}
-use Rattle.cni_verbs.specs.CommandWords.{att_of, mappings_of}
+use Rattle.plugin_base.specs.Share.{Share, share_of, no_objects, share_after_call, share_after_calls}
+use Rattle.plugin_base.proofs.CallLists.{share_after_calls-append}
+use Rattle.plugin_base.proofs.OwnCalls.{share-own, share-begin, share-lease}
+use Rattle.cni_verbs.specs.CommandFields.{att_of, mappings_of}
 use Rattle.cni_verbs.specs.Script.{State, AtBegin, BeforeLeases, Leasing, AfterLeases, ReadingCache, Deleting, FindingEntry, Asking, Changing, Collecting, Over, Calls, before_of, back_of, after_leases, leasing, before_leases, deleting, faulted, at_begin, at_call_before, at_lease, at_call_after, at_cache, at_deletion, advance, turn, leased_by, leases_in}
 use Rattle.cni_verbs.specs.Wanted.{sets_of, calls_before, kinds_of, wanted}
 use Rattle.cni_verbs.specs.declared.answer.Ending.{Ending}
 use Rattle.cni_verbs.specs.declared.answer.Ending.TheVariants.{Added, Yes, Skipped, Versions, Refused}
 use Rattle.pod_workers.specs.World.{entry_of, host_of, after_entry, reply_to}
 use Rattle.pod_workers.specs.declared.plan.Entry.{Entry}
-use Rattle.pod_workers.proofs.Planned.{LeftArePlanned}
+use Rattle.pod_workers.proofs.OfPlugins.{LeftAreOfPlugins}
 use Rattle.pod_workers.proofs.Replies.{by-cache, by-deletion}
 use Rattle.pod_workers.proofs.StepsLeft.{host-made}
 use Rattle.pod_laws.specs.Moments.{own_entries}
@@ -183,7 +183,7 @@ made_host : (k : Host) (n : ℕ) (call : Call) (faulty : Bool) (r : Reply) → (
 made_host k n call true r not h = absurd (not (sym h))
 made_host k n call false r not h = (host-made k n call, h)
 
-pub own-made : (att : Att) (k : Host) (n : ℕ) (call : Call) (faulty : Bool) → is_plan_call_of att call ≡ true → reply_to k call faulty ≡ Done → share_of att (after_entry k (entry_of k n call faulty)) ≡ share_after_call (share_of att k) call
+pub own-made : (att : Att) (k : Host) (n : ℕ) (call : Call) (faulty : Bool) → is_plugin_call_of att call ≡ true → reply_to k call faulty ≡ Done → share_of att (after_entry k (entry_of k n call faulty)) ≡ share_after_call (share_of att k) call
 own-made att k n call faulty own h = let d = made_host k n call faulty Done (λ e. cc) h in ap (share_of att) d.0 ∙ share-own att k call own d.1
 
 pub begun-none : (att : Att) (netns : List ℕ) (k : Host) (n : ℕ) (faulty : Bool) → reply_to k (Begin att netns) faulty ≡ Done → share_of att (after_entry k (entry_of k n (Begin att netns) faulty)) ≡ no_objects
@@ -199,7 +199,7 @@ lease-fits k att place set false a h = leased-candidate k att place set a h
 
 -- ---- every run
 
-achieved-own : (list : NetList) (c : Command) (es : List Entry) (st : State) (k : Host) (n : ℕ) (faulty : Bool) (call : Call) → LeftArePlanned list c st → turn c st ≡ Calls call → Achieved list c es st (share_of (att_of c) k) → AfterEntry Achieved list c es st k n faulty call
+achieved-own : (list : NetList) (c : Command) (es : List Entry) (st : State) (k : Host) (n : ℕ) (faulty : Bool) (call : Call) → LeftAreOfPlugins list c st → turn c st ≡ Calls call → Achieved list c es st (share_of (att_of c) k) → AfterEntry Achieved list c es st k n faulty call
 unfolding turn advance
 achieved-own list c es AtBegin k n faulty call left is was =
     subst (AfterEntry Achieved list c es AtBegin k n faulty) (let e : Begin (att_of c) c.netns ≡ call = cc in e)
@@ -227,4 +227,4 @@ achieved-start list c s = by-start (λ st. Achieved list c [] st s) list c c.ver
 pub achieved-step : IsRunFact Achieved
 achieved-step w n c list call faulty on was =
     let own = own-state w n c list call faulty on in
-    achieved-own list c.command (own_entries n w.history) _ (host_of w) n faulty call own.planned own.turn_is was
+    achieved-own list c.command (own_entries n w.history) _ (host_of w) n faulty call own.of_plugins own.turn_is was

@@ -35,9 +35,9 @@ use Rattle.kernel_types.specs.declared.call.Call.TheVariants.{BridgeEnsure, Gate
 use Rattle.kernel_types.specs.declared.call.Reply.{Reply}
 use Rattle.kernel_types.specs.declared.call.Reply.TheVariants.{Done, Taken}
 use Rattle.gc_sweep.proofs.Lists.{any-found}
-use Rattle.plan_words.specs.PlanCalls.{is_call_of}
-use Rattle.plan_words.specs.PluginCalls.{ensures_bridge, is_ensured}
-use Rattle.cni_verbs.specs.CommandWords.{att_of}
+use Rattle.plugin_base.specs.Calls.{is_call_of}
+use Rattle.plugin_base.specs.PluginCalls.{ensures_bridge, is_ensured}
+use Rattle.cni_verbs.specs.CommandFields.{att_of}
 use Rattle.cni_verbs.specs.Script.{State, AtBegin, BeforeLeases, Leasing, AfterLeases, ReadingCache, Deleting, FindingEntry, Asking, Changing, Collecting, Over, Calls, before_of, back_of, after_leases, leasing, before_leases, deleting, at_call_before, advance, turn}
 use Rattle.cni_verbs.specs.Wanted.{bridge_of, calls_before, deletion, kinds_of, sets_of}
 use Rattle.cni_verbs.proofs.PluginLaws.{first_laws}
@@ -59,7 +59,7 @@ use Rattle.pod_laws.proofs.Histories.RunFacts.{state_by, state_by-append}
 use Rattle.pod_laws.proofs.Histories.Runs.{own-state}
 use Rattle.pod_laws.proofs.Histories.Steps.{AllOpen, Changes, GoesOn, IsOpenKept, OpenFact, at_its_place, by-open, no_list_there, on-entry}
 use Rattle.pod_laws.proofs.Histories.Turns.{IsTurnOf, alone-outside, turn-of}
-use Rattle.plan_words.proofs.KeyLists.{none-by}
+use Rattle.plugin_base.proofs.KeyLists.{none-by}
 use Rattle.pod_laws.proofs.Tests.{any-filtered}
 
 -- ---- a bridge of the host stays
@@ -106,7 +106,7 @@ bridge-stays p bridges host (ForwardEnsure family) sound allowed inside there =
     ]
 bridge-stays p bridges host call sound allowed inside there = stays-unshared p bridges host call sound allowed inside refl there
 
--- a call of one attachment isn't the world's outside
+-- a call of one attachment doesn't come from outside
 pub call-inside : (att : Att) (call : Call) → is_call_of att call ≡ true → is_from_outside call ≡ false
 call-inside att (NsChange name add) is = cc
 call-inside att (Outside change) is = cc
@@ -306,7 +306,7 @@ bridge-other w n m c d list call faulty on differs was = λ other listed.
     (subst (HasBridge other (state_by other d.command (own_entries m h))) (sym (after-append w.plan.pods.opening h e))
     (bridge-stands other (state_by other d.command (own_entries m h)) k (after_entry k e) (bridge-entered other.first w n c list call faulty on) (was other listed)))
 
--- the world outside makes no entry of a command with a list
+-- a command with a list has no entry from outside
 bridge-unlisted : (w : World) (n m : ℕ) (c d : Placed) (call : Call) (faulty : Bool) → Changes w n c call faulty → m ≡ n → slice_get (commands_of w.plan) m ≡ Some d → (h : List Entry) → RunBridge w.plan h m d
 bridge-unlisted w n m c d call faulty on here at h = λ list listed. absurd (no_list_there w n c call faulty on m d list here at listed)
 

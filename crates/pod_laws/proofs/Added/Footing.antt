@@ -1,4 +1,4 @@
--- A plan's call finds what it stands on, unless it is `macvlan`'s: its links are there, and so is the list's bridge.
+-- A plugin's call finds what it stands on, unless it is `macvlan`'s: its links are there, and so is the list's bridge.
 use Rattle.std.proofs.Common.{◌≡◌, ℕ, Bool, true, false, List, [], ◌∷◌, Option, Some, None, refl, ◌∙◌}
 use Rattle.std.specs.Prelude.{find, if◌then◌else◌}
 use Rattle.std.specs.List.{list_any, list_all}
@@ -25,10 +25,10 @@ use Rattle.kernel_types.specs.declared.call.Call.{Call}
 use Rattle.kernel_types.specs.declared.call.Call.TheVariants.{BridgeEnsure, GatewayEnsure, ForwardEnsure, VethAdd, MacvlanAdd, LinkSet, AddrAdd, RouteAdd, RuleAppend, SettingSet, CachePut}
 use Rattle.kernel_types.specs.declared.call.Reply.{Reply}
 use Rattle.kernel_types.specs.declared.call.Reply.TheVariants.{Done, NoLink, Taken}
-use Rattle.plan_words.specs.PlanCalls.{is_plan_call_of}
-use Rattle.plan_words.specs.PluginCalls.{bridge_for, is_none_or, lies_on, makes_interface, stands_on}
-use Rattle.plan_words.proofs.PluginCalls.{interface-lies}
-use Rattle.plan_words.specs.Share.{Share, share_of, share_after_call, share_after_calls}
+use Rattle.plugin_base.specs.Calls.{is_plugin_call_of}
+use Rattle.plugin_base.specs.PluginCalls.{bridge_for, is_none_or, lies_on, makes_interface, stands_on}
+use Rattle.plugin_base.proofs.PluginCalls.{interface-lies}
+use Rattle.plugin_base.specs.Share.{Share, share_of, share_after_call, share_after_calls}
 use Rattle.cni_verbs.specs.Wanted.{back_calls, bridge_of, calls_after, calls_before, chained_calls, links_made}
 use Rattle.cni_verbs.proofs.BackCalls.{PassesChained, passes-back}
 use Rattle.cni_verbs.proofs.PluginLaws.{chained_laws, first_laws}
@@ -50,8 +50,8 @@ bridge-found host None bridge = λ e. cc
 abbrev pub IsMacvlan : Call → Type 0
 IsMacvlan call = (link : Link) × (call ≡ MacvlanAdd link)
 
--- a plan's call whose links and bridge are there gets NoLink only where it is `macvlan`'s
-pub no_link-macvlan : (att : Att) (host : Host) (call : Call) → is_plan_call_of att call ≡ true → lies_on host.links call ≡ true → master_is_bridge_or_none host (bridge_for call) ≡ true → (apply host call).1 ≡ NoLink → IsMacvlan call
+-- a plugin's call whose links and bridge are there gets NoLink only where it is `macvlan`'s
+pub no_link-macvlan : (att : Att) (host : Host) (call : Call) → is_plugin_call_of att call ≡ true → lies_on host.links call ≡ true → master_is_bridge_or_none host (bridge_for call) ≡ true → (apply host call).1 ≡ NoLink → IsMacvlan call
 no_link-macvlan att host (MacvlanAdd link) is lies bridge got = (link, refl)
 no_link-macvlan att host (BridgeEnsure name mtu promisc) is lies bridge got = absurd (bridge-found host (find (is_host_link name) host.links) (new_bridge name mtu promisc) got)
 no_link-macvlan att host (GatewayEnsure name cidr) is lies bridge got =

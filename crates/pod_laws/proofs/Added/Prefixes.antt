@@ -1,4 +1,4 @@
--- What the calls so far have made is a front of what all of them make.
+-- What the calls so far have made is a prefix of what all of them make.
 use Rattle.std.proofs.Common.{◌≡◌, ℕ, Bool, true, false, List, [], ◌∷◌, ◌++◌, map, Option, refl, sym, ◌∙◌, ap, subst, inl, inr, append_assoc}
 use Rattle.std.proofs.lemmas.List.{append-nil}
 use Rattle.std.proofs.lemmas.List.Folds.{list_all-append}
@@ -20,10 +20,10 @@ use Rattle.kernel_types.specs.declared.object.Tag.TheVariants.{Own}
 use Rattle.kernel_types.specs.declared.call.Call.{Call}
 use Rattle.kernel_types.specs.declared.call.Call.TheVariants.{VethAdd, MacvlanAdd, LinkSet, AddrAdd, RouteAdd, RuleAppend, SettingSet, CachePut}
 use Rattle.kernel_types.proofs.ListLemmas.{list_all-weaker}
-use Rattle.plan_words.specs.PluginCalls.{makes_interface}
-use Rattle.plan_words.specs.Share.{Share, share_of, no_objects, share_after_call, share_after_calls}
-use Rattle.plan_words.proofs.CallLists.{share_after_calls-append}
-use Rattle.cni_verbs.specs.CommandWords.{att_of, mappings_of}
+use Rattle.plugin_base.specs.PluginCalls.{makes_interface}
+use Rattle.plugin_base.specs.Share.{Share, share_of, no_objects, share_after_call, share_after_calls}
+use Rattle.plugin_base.proofs.CallLists.{share_after_calls-append}
+use Rattle.cni_verbs.specs.CommandFields.{att_of, mappings_of}
 use Rattle.cni_verbs.specs.Script.{before_of, back_of}
 use Rattle.cni_verbs.specs.Wanted.{bridge_of, calls_before, links_made}
 use Rattle.pod_laws.specs.Apart.{GrowsAtEnd}
@@ -78,7 +78,7 @@ among-drops p gone all (x ∷ old) (y ∷ new) d h =
       | inr drop ↦ among-drops p gone all old (y ∷ new) drop.1 parts.1
     ]
 
--- ---- fronts of shares
+-- ---- prefixes of shares
 
 -- list by list, but for the links, which a later call may set
 pub record IsFront (s t : Share) : Type 0 where

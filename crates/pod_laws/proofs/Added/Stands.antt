@@ -22,10 +22,10 @@ use Rattle.kernel_types.specs.declared.call.Call.TheVariants.{Begin, LeaseNext, 
 use Rattle.kernel_types.specs.declared.call.Kind.{Kind}
 use Rattle.kernel_types.specs.declared.call.Kind.TheVariants as kinds
 use Rattle.kernel_types.specs.declared.call.Reply.TheVariants.{NoLink}
-use Rattle.plan_words.specs.PlanCalls.{is_plan_call_of}
-use Rattle.plan_words.specs.PluginCalls.{bridge_for, ensures_bridge, is_ensured_first, is_none_or, lies_on, stands_on}
-use Rattle.plan_words.specs.Share.{Share, share_of}
-use Rattle.cni_verbs.specs.CommandWords.{att_of, mappings_of}
+use Rattle.plugin_base.specs.Calls.{is_plugin_call_of}
+use Rattle.plugin_base.specs.PluginCalls.{bridge_for, ensures_bridge, is_ensured_first, is_none_or, lies_on, stands_on}
+use Rattle.plugin_base.specs.Share.{Share, share_of}
+use Rattle.cni_verbs.specs.CommandFields.{att_of, mappings_of}
 use Rattle.cni_verbs.specs.Script.{State, AtBegin, BeforeLeases, Leasing, AfterLeases, ReadingCache, Deleting, FindingEntry, Asking, Changing, Collecting, Over, Calls, turn}
 use Rattle.cni_verbs.specs.Wanted.{back_calls, bridge_of, calls_after, calls_before, chained_calls, deletion, links_made}
 use Rattle.cni_verbs.proofs.BackCalls.{PassesChained, passes-back}
@@ -120,44 +120,44 @@ footed-after list c es x xs given host ach there =
           (middle-passes (is_bridged list.first) made x xs (ap (list_all (is_bridged list.first)) (sym ach.1) ∙ bridged-back list att c.netns (mappings_of list c) given)) there;
     }
 
-abbrev FootedIfPlan : Att → Host → Call → Type 0
-FootedIfPlan att host call = is_plan_call_of att call ≡ true → IsFooted host call
+abbrev FootedIfPlugin : Att → Host → Call → Type 0
+FootedIfPlugin att host call = is_plugin_call_of att call ≡ true → IsFooted host call
 
-footed-deletion : (att owner : Att) (host : Host) (kind : Kind) → FootedIfPlan att host (deletion owner kind)
+footed-deletion : (att owner : Att) (host : Host) (kind : Kind) → FootedIfPlugin att host (deletion owner kind)
 footed-deletion att owner host kinds.Links = λ own. cc
 footed-deletion att owner host kinds.Rules = λ own. cc
 footed-deletion att owner host kinds.Settings = λ own. cc
 footed-deletion att owner host kinds.Leases = λ own. cc
 footed-deletion att owner host kinds.Cached = λ own. cc
 
-footed-question : (att : Att) (host : Host) (call : Call) → is_question call ≡ true → FootedIfPlan att host call
+footed-question : (att : Att) (host : Host) (call : Call) → is_question call ≡ true → FootedIfPlugin att host call
 footed-question att host (HasObj probe) asked = λ own. cc
 footed-question att host (CacheGet a) asked = λ own. cc
 footed-question att host (OwnersOf network kind) asked = λ own. cc
 footed-question att host (PoolFree network set) asked = λ own. cc
 footed-question att host _ asked = cc
 
--- what only asks or deletes is no call of a plan
-footed-aside : (att : Att) (host : Host) (c : Command) (call : Call) → AsksOrCollects c call → FootedIfPlan att host call
+-- what only asks or deletes is no plugin's call
+footed-aside : (att : Att) (host : Host) (c : Command) (call : Call) → AsksOrCollects c call → FootedIfPlugin att host call
 footed-aside att host c call (inl asked) = footed-question att host call asked
-footed-aside att host c call (inr collected) = subst (FootedIfPlan att host) collected.deletes (footed-deletion att collected.att host collected.kind)
+footed-aside att host c call (inr collected) = subst (FootedIfPlugin att host) collected.deletes (footed-deletion att collected.att host collected.kind)
 
-footed-turn : (list : NetList) (c : Command) (es : List Entry) (st : State) (host : Host) (call : Call) → LeftFit list c st → turn c st ≡ Calls call → Achieved list c es st (share_of (att_of c) host) → HasBridge list st host → FootedIfPlan (att_of c) host call
+footed-turn : (list : NetList) (c : Command) (es : List Entry) (st : State) (host : Host) (call : Call) → LeftFit list c st → turn c st ≡ Calls call → Achieved list c es st (share_of (att_of c) host) → HasBridge list st host → FootedIfPlugin (att_of c) host call
 unfolding turn
-footed-turn list c es AtBegin host call fit is ach bridge = subst (FootedIfPlan (att_of c) host) (let e : Begin (att_of c) c.netns ≡ call = cc in e) (λ own. cc)
-footed-turn list c es (BeforeLeases x xs) host call fit is ach bridge = subst (FootedIfPlan (att_of c) host) (let e : x ≡ call = cc in e) (λ own. footed-before list c es x xs host ach bridge)
-footed-turn list c es (Leasing set sets given) host call fit is ach bridge = subst (FootedIfPlan (att_of c) host) (let e : LeaseNext (att_of c) (length given) set ≡ call = cc in e) (λ own. cc)
-footed-turn list c es (AfterLeases x xs given) host call fit is ach bridge = subst (FootedIfPlan (att_of c) host) (let e : x ≡ call = cc in e) (λ own. footed-after list c es x xs given host ach bridge)
-footed-turn list c es (ReadingCache ending) host call fit is ach bridge = subst (FootedIfPlan (att_of c) host) (let e : CacheGet (att_of c) ≡ call = cc in e) (λ own. cc)
-footed-turn list c es (Deleting kind ks ending) host call fit is ach bridge = subst (FootedIfPlan (att_of c) host) (let e : deletion (att_of c) kind ≡ call = cc in e) (footed-deletion (att_of c) (att_of c) host kind)
-footed-turn list c es FindingEntry host call fit is ach bridge = subst (FootedIfPlan (att_of c) host) (let e : CacheGet (att_of c) ≡ call = cc in e) (λ own. cc)
+footed-turn list c es AtBegin host call fit is ach bridge = subst (FootedIfPlugin (att_of c) host) (let e : Begin (att_of c) c.netns ≡ call = cc in e) (λ own. cc)
+footed-turn list c es (BeforeLeases x xs) host call fit is ach bridge = subst (FootedIfPlugin (att_of c) host) (let e : x ≡ call = cc in e) (λ own. footed-before list c es x xs host ach bridge)
+footed-turn list c es (Leasing set sets given) host call fit is ach bridge = subst (FootedIfPlugin (att_of c) host) (let e : LeaseNext (att_of c) (length given) set ≡ call = cc in e) (λ own. cc)
+footed-turn list c es (AfterLeases x xs given) host call fit is ach bridge = subst (FootedIfPlugin (att_of c) host) (let e : x ≡ call = cc in e) (λ own. footed-after list c es x xs given host ach bridge)
+footed-turn list c es (ReadingCache ending) host call fit is ach bridge = subst (FootedIfPlugin (att_of c) host) (let e : CacheGet (att_of c) ≡ call = cc in e) (λ own. cc)
+footed-turn list c es (Deleting kind ks ending) host call fit is ach bridge = subst (FootedIfPlugin (att_of c) host) (let e : deletion (att_of c) kind ≡ call = cc in e) (footed-deletion (att_of c) (att_of c) host kind)
+footed-turn list c es FindingEntry host call fit is ach bridge = subst (FootedIfPlugin (att_of c) host) (let e : CacheGet (att_of c) ≡ call = cc in e) (λ own. cc)
 footed-turn list c es (Asking q qs) host call fit is ach bridge = footed-aside (att_of c) host c call (inl (subst (λ j. is_question j ≡ true) (let e : q.call ≡ call = cc in e) (asked-is_question list q.call fit.0)))
 footed-turn list c es (Changing change) host call fit is ach bridge = absurd fit
 footed-turn list c es (Collecting work faults) host call fit is ach bridge = footed-aside (att_of c) host c call (work-turn c work.jobs work.sweeps faults call fit is)
 footed-turn list c es (Over ending given) host call fit is ach bridge = cc
 
 -- so a run's call gets NoLink only where it is `macvlan`'s
-pub no_link-now : (w : World) (n : ℕ) (c : Placed) (list : NetList) (call : Call) (faulty : Bool) → GoesOn w n c list call faulty → is_plan_call_of (att_of c.command) call ≡ true → (apply (host_of w) call).1 ≡ NoLink → IsMacvlan call
+pub no_link-now : (w : World) (n : ℕ) (c : Placed) (list : NetList) (call : Call) (faulty : Bool) → GoesOn w n c list call faulty → is_plugin_call_of (att_of c.command) call ≡ true → (apply (host_of w) call).1 ≡ NoLink → IsMacvlan call
 no_link-now w n c list call faulty on own got =
     let st = state_by list c.command (own_entries n w.history) in
     let footed = footed-turn list c.command (own_entries n w.history) st (host_of w) call (own-state w n c list call faulty on).fits (own-state w n c list call faulty on).turn_is

@@ -20,7 +20,7 @@ use Rattle.kernel_types.specs.declared.call.Call.{Call}
 use Rattle.kernel_types.specs.declared.call.Call.TheVariants.{OwnersOf}
 use Rattle.kernel_types.specs.declared.call.Reply.{Reply}
 use Rattle.kernel_types.specs.declared.call.Reply.TheVariants.{Gone, Entry as Kept, Fault}
-use Rattle.plan_words.specs.Share.{Share}
+use Rattle.plugin_base.specs.Share.{Share}
 use Rattle.cni_verbs.specs.Script.{State, Collecting, Over, Calls, gc_of, advance, start_of, turn, turn_of_work}
 use Rattle.cni_verbs.specs.Sweep.{Job, Step, AskCached, Delete, Sweep, after_job, job_of, start_work, step_call, work_after}
 use Rattle.cni_verbs.specs.Wanted.{deletion}

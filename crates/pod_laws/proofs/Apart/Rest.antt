@@ -18,7 +18,7 @@ use Rattle.kernel_types.specs.declared.object.Setting.{Setting}
 use Rattle.kernel_types.specs.declared.object.NsObj.{NsObj}
 use Rattle.kernel_types.specs.declared.call.Call.{Call}
 use Rattle.kernel_types.specs.declared.call.Call.TheVariants.{BridgeEnsure, GatewayEnsure, ForwardEnsure, NsChange, Outside}
-use Rattle.plan_words.proofs.KeyLists.{filter-push_dropped, filter-push_kept, filter-within}
+use Rattle.plugin_base.proofs.KeyLists.{filter-push_dropped, filter-push_kept, filter-within}
 use Rattle.pod_file.specs.Commands.{is_of_network}
 use Rattle.pod_workers.specs.World.{entry_of, host_of, after_entry}
 use Rattle.pod_workers.proofs.Sound.{sound_host}
@@ -126,7 +126,7 @@ rest-call host (ForwardEnsure family) sound allowed inside =
     record { outside = KeepsWhere-AddsSetting is_outside host (apply host (ForwardEnsure family)).0 refl adds; shared = shared-setting host (apply host (ForwardEnsure family)).0 adds }
 rest-call host call sound allowed inside = rest-unshared host call sound allowed inside refl
 
--- ---- the world outside
+-- ---- changes from outside
 
 unshared-base : (t : Tag) → not (is_base t) ≡ true → is_base t ≡ false
 unshared-base tags.Outside h = refl

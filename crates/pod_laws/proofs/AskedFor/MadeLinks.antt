@@ -20,11 +20,11 @@ use Rattle.kernel_types.proofs.ListLemmas.{list_any-append_none, passes-list_all
 use Rattle.kernel_types.specs.declared.object.Att.{Att}
 use Rattle.kernel_types.specs.declared.call.Call.{Call}
 use Rattle.kernel_types.specs.declared.call.Call.TheVariants.{VethAdd, MacvlanAdd, LinkSet, CachePut}
-use Rattle.plan_words.specs.PluginCalls.{at_most_one, changes_links, set_links_once}
-use Rattle.plan_words.specs.Share.{Share, no_objects, share_after_call, share_after_calls}
-use Rattle.plan_words.proofs.CallLists.{share_after_calls-append}
-use Rattle.plan_words.proofs.PluginCalls.{at_most-none}
-use Rattle.cni_verbs.specs.CommandWords.{att_of, mappings_of}
+use Rattle.plugin_base.specs.PluginCalls.{at_most_one, changes_links, set_links_once}
+use Rattle.plugin_base.specs.Share.{Share, no_objects, share_after_call, share_after_calls}
+use Rattle.plugin_base.proofs.CallLists.{share_after_calls-append}
+use Rattle.plugin_base.proofs.PluginCalls.{at_most-none}
+use Rattle.cni_verbs.specs.CommandFields.{att_of, mappings_of}
 use Rattle.cni_verbs.specs.Wanted.{calls_after, chained_calls, all_chained_calls, chained_result, back_calls, given_by_list, first_plugin_result, cached_of, sets_links, links_made, wanted}
 use Rattle.cni_verbs.proofs.PluginLaws.{chained_laws, first_laws, one_setter}
 use Rattle.pod_workers.specs.Plans.{IsWellFormed, list_for, list_named}

@@ -18,14 +18,14 @@ use Rattle.kernel_types.specs.declared.call.Call.{Call}
 use Rattle.kernel_types.specs.declared.call.Call.TheVariants.{Begin, LeaseNext, CacheGet}
 use Rattle.kernel_types.specs.declared.call.Reply.{Reply}
 use Rattle.kernel_types.specs.declared.call.Reply.TheVariants.{Done, Leased}
-use Rattle.plan_words.specs.PlanCalls.{is_plan_call_of, is_call_of}
-use Rattle.plan_words.specs.Share.{Share, share_of, no_objects, share_after_call, share_after_calls}
-use Rattle.plan_words.proofs.CallLists.{share_after_calls-append}
-use Rattle.plan_words.proofs.OtherCalls.{share-other}
-use Rattle.plan_words.proofs.Refusals.{refused-same, refused-lease}
+use Rattle.plugin_base.specs.Calls.{is_plugin_call_of, is_call_of}
+use Rattle.plugin_base.specs.Share.{Share, share_of, no_objects, share_after_call, share_after_calls}
+use Rattle.plugin_base.proofs.CallLists.{share_after_calls-append}
+use Rattle.plugin_base.proofs.OtherCalls.{share-other}
+use Rattle.plugin_base.proofs.Refusals.{refused-same, refused-lease}
 use Rattle.pod_file.specs.declared.command.Command.{Command}
 use Rattle.cni_verbs.specs.AddCalls.{is_done}
-use Rattle.cni_verbs.specs.CommandWords.{att_of}
+use Rattle.cni_verbs.specs.CommandFields.{att_of}
 use Rattle.cni_verbs.specs.Script.{State, AtBegin, BeforeLeases, Leasing, AfterLeases, ReadingCache, Deleting, FindingEntry, Asking, Changing, Collecting, Over, Calls, before_of, back_of, turn, leases_in}
 use Rattle.cni_verbs.specs.Wanted.{deletion}
 use Rattle.pod_workers.specs.Plans.{Placed}
@@ -34,18 +34,18 @@ use Rattle.pod_workers.specs.declared.plan.Entry.{Entry}
 use Rattle.pod_workers.specs.declared.plan.Plan.{Plan}
 use Rattle.pod_workers.proofs.Histories.{after-append, replies_of-own, replies_of-other}
 use Rattle.pod_workers.proofs.Order.{other_number, ready_is}
-use Rattle.pod_workers.proofs.Planned.{LeftArePlanned}
+use Rattle.pod_workers.proofs.OfPlugins.{LeftAreOfPlugins}
 use Rattle.pod_workers.proofs.Sound.{sound_host}
 use Rattle.pod_workers.proofs.Deletable.{done_or_not, leased_or_not}
 use Rattle.pod_laws.specs.AskedFor.{begins, is_begin_of, AreAskedFor, HasNothingUnasked, IsAskedFor, NothingIsUnasked}
 use Rattle.pod_laws.specs.Moments.{objects_after, own_entries}
 use Rattle.pod_laws.proofs.Added.Achieved.{Achieved, achieved-start, achieved-step, begun-none, leased-done, leased-push, leased-same, leased_in, leases-one, leases-push, own-made, with_leases}
-use Rattle.pod_laws.proofs.Histories.Begins.{all-last, begin-apart, deletion-no_begin, last_begun-same, not-begins, outside-no_begin, plan-no_begin, question-no_begin}
-use Rattle.pod_laws.proofs.Refused.Causes.{begin-may, plan-may}
+use Rattle.pod_laws.proofs.Histories.Begins.{all-last, begin-apart, deletion-no_begin, last_begun-same, not-begins, outside-no_begin, plugin-no_begin, question-no_begin}
+use Rattle.pod_laws.proofs.Refused.Causes.{begin-may, plugin-may}
 use Rattle.pod_laws.proofs.Histories.Entries.{is_of-own, own_entries-own}
 use Rattle.pod_laws.proofs.Added.Prefixes.{asked-after_leases, asked-before_leases, asked-leasing, asked-removes}
 use Rattle.pod_laws.proofs.Shares.OfKinds.{share-removes_none}
-use Rattle.pod_laws.proofs.AskedFor.Quiet.{plan-no_lease, lease-no_lease, deletion-no_lease, question-no_lease, outside-no_lease}
+use Rattle.pod_laws.proofs.AskedFor.Quiet.{plugin-no_lease, lease-no_lease, deletion-no_lease, question-no_lease, outside-no_lease}
 use Rattle.pod_laws.proofs.Shares.Removes.{OnlyRemoves, removes-deletion, removes-nothing}
 use Rattle.pod_laws.proofs.Histories.States.{LeftFit, is_question, question-leaves, asked-is_question}
 use Rattle.pod_laws.proofs.Histories.Runs.{every-run-now, own-state}
@@ -109,7 +109,7 @@ begin-now w n att netns faulty was =
     elim (done_or_not (reply_to k call faulty)) [
       | inl done ↦ inl (ap (share_of att) (after-append w.plan.pods.opening w.history e) ∙ begun-none att netns k n faulty done)
       | inr not ↦
-          quiet-now w n att faulty call (not-begins_done att e (not-done (reply_to k call faulty) not)) (plan-no_lease (reply_to k call faulty) (begin-may att netns k faulty))
+          quiet-now w n att faulty call (not-begins_done att e (not-done (reply_to k call faulty) not)) (plugin-no_lease (reply_to k call faulty) (begin-may att netns k faulty))
           (on-entry (λ j. OnlyRemoves k j) k n call faulty (removes-nothing k) (λ f. removes-nothing k)) was
     ]
 
@@ -154,8 +154,8 @@ making-now w n c list call faulty on un not given leased asked =
           (subst (λ k. AreAskedFor list c.command given (share_of att k)) (sym (after-append w.plan.pods.opening h e)) asked);
     })
 
--- a plan's call that was not done, and a lease that found nothing, leave the share
-refused-entered : (att : Att) (k : Host) (n : ℕ) (call : Call) (faulty : Bool) → is_plan_call_of att call ≡ true → (reply_to k call faulty ≡ Done → ⊥) → share_of att (after_entry k (entry_of k n call faulty)) ≡ share_of att k
+-- a plugin's call that was not done, and a lease that found nothing, leave the share
+refused-entered : (att : Att) (k : Host) (n : ℕ) (call : Call) (faulty : Bool) → is_plugin_call_of att call ≡ true → (reply_to k call faulty ≡ Done → ⊥) → share_of att (after_entry k (entry_of k n call faulty)) ≡ share_of att k
 refused-entered att k n call faulty own not =
     on-entry (λ j. share_of att j ≡ share_of att k) k n call faulty refl (λ f. ap (share_of att) (refused-same att k call own (λ d. not (ap (reply_to k call) f ∙ d))))
 
@@ -164,11 +164,11 @@ unleased-entered : (att : Att) (k : Host) (n : ℕ) (place : ℕ) (set : RangeSe
 unleased-entered att k n place set faulty not =
     on-entry (λ j. share_of att j ≡ share_of att k) k n (LeaseNext att place set) faulty refl (λ f. ap (share_of att) (refused-lease k att place set (λ a d. not a (ap (reply_to k (LeaseNext att place set)) f ∙ d))))
 
--- a call of a part of the plan, after these, where each front of that part leaves what is asked for
-planned-now : (w : World) (n : ℕ) (c : Placed) (list : NetList) (x : Call) (xs : List Call) (given : List Addr) (start : Share) (all made : List Call) (faulty : Bool) → GoesOn w n c list x faulty → is_plan_call_of (att_of c.command) x ≡ true
+-- a call of a part of the plugins' calls, after these, where each prefix of that part leaves what is asked for
+of_plugins-now : (w : World) (n : ℕ) (c : Placed) (list : NetList) (x : Call) (xs : List Call) (given : List Addr) (start : Share) (all made : List Call) (faulty : Bool) → GoesOn w n c list x faulty → is_plugin_call_of (att_of c.command) x ≡ true
     → IsUnrefused c.command (own_entries n w.history) → all ≡ made ++ x ∷ xs → share_of (att_of c.command) (host_of w) ≡ share_after_calls start made → leased_in (own_entries n w.history) ≡ given
     → ((front left : List Call) → all ≡ front ++ left → AreAskedFor list c.command given (share_after_calls start front)) → NextAsked w n (att_of c.command) faulty x
-planned-now w n c list x xs given start all made faulty on own un part was leased asked =
+of_plugins-now w n c list x xs given start all made faulty on own un part was leased asked =
     let k = host_of w in
     let att = att_of c.command in
     let e = entry_of k n x faulty in
@@ -176,11 +176,11 @@ planned-now w n c list x xs given start all made faulty on own un part was lease
     elim (done_or_not (reply_to k x faulty)) [
       | inl done ↦
           let share = own-made att k n x faulty own done ∙ ap (λ u. share_after_call u x) was ∙ sym (share_after_calls-append start made (x ∷ [])) in
-          making-now w n c list x faulty on un (plan-no_begin att att x own) given (leased-done es e given done leased)
+          making-now w n c list x faulty on un (plugin-no_begin att att x own) given (leased-done es e given done leased)
           (subst (AreAskedFor list c.command given) (sym share) (asked (made ++ x ∷ []) xs (part ∙ sym (append_assoc made (x ∷ []) xs))))
       | inr not ↦
           let share = refused-entered att k n x faulty own not ∙ was in
-          making-now w n c list x faulty on un (plan-no_begin att att x own) given (leased-same es e given (plan-no_lease (reply_to k x faulty) (plan-may att k x faulty own)) leased)
+          making-now w n c list x faulty on un (plugin-no_begin att att x own) given (leased-same es e given (plugin-no_lease (reply_to k x faulty) (plugin-may att k x faulty own)) leased)
           (subst (AreAskedFor list c.command given) (sym share) (asked made (x ∷ xs) part))
     ]
 
@@ -211,7 +211,7 @@ lease-now w n c list set sets given faulty on un ach =
 abbrev OwnAsked : World → ℕ → Placed → NetList → Bool → Call → Type 0
 OwnAsked w n c list faulty call = GoesOn w n c list call faulty → NextAsked w n (att_of c.command) faulty call
 
-own-asked : (w : World) (n : ℕ) (c : Placed) (list : NetList) (call : Call) (faulty : Bool) (st : State) → IsSound (host_of w) → LeftArePlanned list c.command st → LeftFit list c.command st → turn c.command st ≡ Calls call
+own-asked : (w : World) (n : ℕ) (c : Placed) (list : NetList) (call : Call) (faulty : Bool) (st : State) → IsSound (host_of w) → LeftAreOfPlugins list c.command st → LeftFit list c.command st → turn c.command st ≡ Calls call
     → Undoing list c.command (own_entries n w.history) st (share_of (att_of c.command) (host_of w)) → Achieved list c.command (own_entries n w.history) st (share_of (att_of c.command) (host_of w)) → HasNothingUnasked w.plan w.history (att_of c.command)
     → OwnAsked w n c list faulty call
 unfolding turn
@@ -219,12 +219,12 @@ own-asked w n c list call faulty AtBegin sound left fit is un ach was =
     subst (OwnAsked w n c list faulty) (let e : Begin (att_of c.command) c.command.netns ≡ call = cc in e) (λ on. begin-now w n (att_of c.command) c.command.netns faulty was)
 own-asked w n c list call faulty (BeforeLeases x xs) sound left fit is un ach was =
     subst (OwnAsked w n c list faulty) (let e : x ≡ call = cc in e)
-    (λ on. planned-now w n c list x xs [] no_objects (before_of list c.command) ach.0 faulty on left.0.0.0 un ach.1 ach.2 ach.3 (asked-before_leases list c.command))
+    (λ on. of_plugins-now w n c list x xs [] no_objects (before_of list c.command) ach.0 faulty on left.0.0.0 un ach.1 ach.2 ach.3 (asked-before_leases list c.command))
 own-asked w n c list call faulty (Leasing set sets given) sound left fit is un ach was =
     subst (OwnAsked w n c list faulty) (let e : LeaseNext (att_of c.command) (length given) set ≡ call = cc in e) (λ on. lease-now w n c list set sets given faulty on un ach)
 own-asked w n c list call faulty (AfterLeases x xs given) sound left fit is un ach was =
     subst (OwnAsked w n c list faulty) (let e : x ≡ call = cc in e)
-    (λ on. planned-now w n c list x xs given (with_leases list c.command given) (back_of list c.command given) ach.0 faulty on left.0.0 un ach.1 ach.3 ach.4 (asked-after_leases list c.command given))
+    (λ on. of_plugins-now w n c list x xs given (with_leases list c.command given) (back_of list c.command given) ach.0 faulty on left.0.0 un ach.1 ach.3 ach.4 (asked-after_leases list c.command given))
 own-asked w n c list call faulty (ReadingCache ending) sound left fit is un ach was =
     subst (OwnAsked w n c list faulty) (let e : CacheGet (att_of c.command) ≡ call = cc in e) (λ on. question-now w n (att_of c.command) (CacheGet (att_of c.command)) faulty refl was)
 own-asked w n c list call faulty (Deleting kind ks ending) sound left fit is un ach was =
@@ -268,7 +268,7 @@ asked-kept w n c list call faulty on was = λ att.
           let atts : att_of c.command ≡ att = att_eq-same (att_of c.command) att same in
           let own = own-state w n c list call faulty on in
           subst (λ a. NextAsked w n a faulty call) atts
-          (own-asked w n c list call faulty _ (sound_host w on.legal) own.planned own.fits own.turn_is (every-run-now Undoing undone-start undone-step w n c list call faulty on)
+          (own-asked w n c list call faulty _ (sound_host w on.legal) own.of_plugins own.fits own.turn_is (every-run-now Undoing undone-start undone-step w n c list call faulty on)
           (every-run-now Achieved achieved-start achieved-step w n c list call faulty on) (was (att_of c.command)) on)
       | inr differ ↦ elim (turn-of w n c list call faulty on) [
         | inl own ↦ other-asked w n c list call faulty att on differ own (was att)

@@ -21,23 +21,23 @@ use Rattle.kernel_types.specs.declared.call.Reply.TheVariants.{Done, NoNs, NoLin
 use Rattle.cni_verbs.specs.Script.{leases_in}
 use Rattle.cni_verbs.specs.Wanted.{deletion}
 use Rattle.pod_workers.specs.World.{reply_to}
-use Rattle.pod_laws.proofs.Refused.Causes.{IsPlanReply}
+use Rattle.pod_laws.proofs.Refused.Causes.{IsPluginReply}
 use Rattle.pod_laws.proofs.Histories.States.{is_question}
 
 -- ---- calls of a run
 
-pub plan-no_lease : (r : Reply) → IsPlanReply r → leases_in (r ∷ []) ≡ []
-plan-no_lease Done may = refl
-plan-no_lease NoNs may = refl
-plan-no_lease NoLink may = refl
-plan-no_lease (Taken tag) may = refl
-plan-no_lease Fault may = refl
-plan-no_lease Empty may = refl
-plan-no_lease (Leased addr) may = absurd may
-plan-no_lease (Gone gone) may = refl
-plan-no_lease (Has has) may = refl
-plan-no_lease (Owners owners) may = refl
-plan-no_lease (Kept cached) may = refl
+pub plugin-no_lease : (r : Reply) → IsPluginReply r → leases_in (r ∷ []) ≡ []
+plugin-no_lease Done may = refl
+plugin-no_lease NoNs may = refl
+plugin-no_lease NoLink may = refl
+plugin-no_lease (Taken tag) may = refl
+plugin-no_lease Fault may = refl
+plugin-no_lease Empty may = refl
+plugin-no_lease (Leased addr) may = absurd may
+plugin-no_lease (Gone gone) may = refl
+plugin-no_lease (Has has) may = refl
+plugin-no_lease (Owners owners) may = refl
+plugin-no_lease (Kept cached) may = refl
 
 pub lease-no_lease : (r : Reply) → ((a : Addr) → r ≡ Leased a → ⊥) → leases_in (r ∷ []) ≡ []
 lease-no_lease (Leased addr) not = absurd (not addr refl)
@@ -69,19 +69,19 @@ pub deletion-no_lease : (k : Host) (att : Att) (kind : Kind) (faulty : Bool) →
 deletion-no_lease k att kind true = refl
 deletion-no_lease k att kind false = gone-no_lease k att kind
 
--- ---- the world outside
+-- ---- changes from outside
 
 namespace-quiet : (k : Host) (name : List ℕ) (add : Bool) → leases_in ((apply k (NsChange name add)).1 ∷ []) ≡ []
 namespace-quiet k name true = by_test (λ (step : Host × Reply). leases_in (step.1 ∷ []) ≡ []) (has_named_ns k name) _ _ (λ _. refl) (λ _. refl)
 namespace-quiet k name false = by_test (λ (step : Host × Reply). leases_in (step.1 ∷ []) ≡ []) (has_named_ns k name) _ _ (λ _. refl) (λ _. refl)
 
-world-quiet : (k : Host) (change : Change) → leases_in ((apply k (Outside change)).1 ∷ []) ≡ []
-world-quiet k (DropLink key) = by_test (λ (step : Host × Reply). leases_in (step.1 ∷ []) ≡ []) (has_named_ns k key.ns) _ _ (λ _. link-no_lease k (link_at k key.ns key.name)) (λ _. refl)
-world-quiet k (Flush table) = refl
+change-quiet : (k : Host) (change : Change) → leases_in ((apply k (Outside change)).1 ∷ []) ≡ []
+change-quiet k (DropLink key) = by_test (λ (step : Host × Reply). leases_in (step.1 ∷ []) ≡ []) (has_named_ns k key.ns) _ _ (λ _. link-no_lease k (link_at k key.ns key.name)) (λ _. refl)
+change-quiet k (Flush table) = refl
 
 outside-quiet : (k : Host) (call : Call) → is_from_outside call ≡ true → leases_in ((apply k call).1 ∷ []) ≡ []
 outside-quiet k (NsChange name add) is = namespace-quiet k name add
-outside-quiet k (Outside change) is = world-quiet k change
+outside-quiet k (Outside change) is = change-quiet k change
 outside-quiet k _ is = cc
 
 pub outside-no_lease : (k : Host) (call : Call) (faulty : Bool) → is_from_outside call ≡ true → leases_in (reply_to k call faulty ∷ []) ≡ []

@@ -4,8 +4,8 @@ use Rattle.std.proofs.lemmas.List.{length-append, length-map}
 use Rattle.std.proofs.lemmas.Bool.{both_ways}
 use Rattle.net_conf.specs.declared.list.NetList.{NetList}
 use Rattle.pod_file.specs.declared.command.Command.{Command}
-use Rattle.plan_words.specs.Share.{Share, share_of}
-use Rattle.cni_verbs.specs.CommandWords.{att_of}
+use Rattle.plugin_base.specs.Share.{Share, share_of}
+use Rattle.cni_verbs.specs.CommandFields.{att_of}
 use Rattle.cni_verbs.specs.Script.{advance, start_state}
 use Rattle.pod_workers.specs.CallCounts.{AddsInAtMost}
 use Rattle.pod_workers.proofs.CallsLeft.{calls_left}
@@ -71,7 +71,7 @@ from-own w n c list call faulty on was = λ most before rest e in_most none spli
     let next = advance list c.command (length es + 1) state x.reply in
     let st = own-state w n c list call faulty on in
     let fall = entry-falls most list c.command (length es + 1) n state (host_of w) call faulty in_most
-    (record { sound = sound_host w on.legal; allowed = on.allowed }) st.planned (true-from IsNoCollection list c.command 0 (start_state list c.command) (replies_in es) (none-stays list c.command) none) st.turn_is in
+    (record { sound = sound_host w on.legal; allowed = on.allowed }) st.of_plugins (true-from IsNoCollection list c.command 0 (start_state list c.command) (replies_in es) (none-stays list c.command) none) st.turn_is in
     let longer = length-append es (x ∷ []) in
     let entered : made_and_left w.plan (h ++ x ∷ []) n c.command list most ≡ length (es ++ x ∷ []) + calls_left most list c.command next (objects_after w.plan att (h ++ x ∷ [])) =
     ap (λ l. length l + calls_left most list c.command (state_by list c.command l) (objects_after w.plan att (until_last n (h ++ x ∷ [])))) (own_entries-own n h x mine)

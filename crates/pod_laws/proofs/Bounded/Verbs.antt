@@ -14,8 +14,8 @@ use Rattle.pod_file.specs.declared.command.Verb.TheVariants as verbs
 use Rattle.cni_verbs.proofs.QuestionCounts.{length-pools, length-share}
 use Rattle.kernel_types.specs.declared.call.Reply.{Reply}
 use Rattle.kernel_types.specs.declared.call.Reply.TheVariants.{Entry as Found}
-use Rattle.plan_words.specs.Share.{Share}
-use Rattle.cni_verbs.specs.CommandWords.{add_refusal, att_of, del_refusal}
+use Rattle.plugin_base.specs.Share.{Share}
+use Rattle.cni_verbs.specs.CommandFields.{add_refusal, att_of, del_refusal}
 use Rattle.cni_verbs.specs.Questions.{bridge_by_mac, bridge_questions, cached_share, check_questions, first_interface, master_questions, pool_questions, share_questions, status_questions}
 use Rattle.cni_verbs.specs.Script.{State, AtBegin, ReadingCache, FindingEntry, Over, advance, asking, at_entry, checking, start_of, start_state}
 use Rattle.cni_verbs.specs.Wanted.{bridge_of, kinds_of, master_of, sets_of}

@@ -1,4 +1,4 @@
--- At every moment an attachment with a cached entry has the bridge that the cached result names first.
+-- At every moment an attachment with a cached result has the bridge that it names first.
 use Rattle.std.proofs.Common.{◌≡◌, ℕ, Bool, true, false, not, List, [], ◌∷◌, ◌++◌, map, Option, Some, None, refl, sym, ◌∙◌, ap, subst, inl, inr, ◌⊎◌, arith}
 use Rattle.std.proofs.lemmas.Bool.{and_parts, both_ways, cases_Bool, false_from_ne_true}
 use Rattle.std.proofs.lemmas.Option.{same_Some, none-some}
@@ -12,7 +12,7 @@ use Rattle.cni_addr.specs.declared.address.Addr.{Addr}
 use Rattle.cni_result.specs.declared.cached.Cached.{Cached}
 use Rattle.cni_result.specs.declared.result.AddResult.{AddResult}
 use Rattle.cni_result.specs.declared.result.Interface.{Interface}
-use Rattle.cni_verbs.specs.CommandWords.{att_of, mappings_of}
+use Rattle.cni_verbs.specs.CommandFields.{att_of, mappings_of}
 use Rattle.cni_verbs.specs.Script.{State, AtBegin, BeforeLeases, Leasing, AfterLeases, ReadingCache, Deleting, FindingEntry, Asking, Changing, Collecting, Over, Calls, leases_in, turn}
 use Rattle.cni_verbs.specs.Wanted.{all_chained_results, bridge_of, cached_of, calls_before, chained_result, deletion, result_of_add}
 use Rattle.cni_verbs.proofs.PluginLaws.{chained_laws, first_laws}
@@ -40,13 +40,13 @@ use Rattle.kernel_types.specs.declared.call.Reply.{Reply}
 use Rattle.net_conf.specs.declared.chained.Chained.{Chained}
 use Rattle.net_conf.specs.declared.first.First.{First}
 use Rattle.net_conf.specs.declared.list.NetList.{NetList}
-use Rattle.plan_words.specs.PlanCalls.{is_plan_call_of}
-use Rattle.plan_words.specs.PluginCalls.{makes_interface}
-use Rattle.plan_words.specs.Results.{names_first, names_of}
-use Rattle.plan_words.specs.Share.{Share, share_after_call, share_of}
-use Rattle.plan_words.proofs.OtherCalls.{share-other}
-use Rattle.plan_words.proofs.OwnCalls.{share-own}
-use Rattle.plan_words.proofs.Refusals.{refused-same}
+use Rattle.plugin_base.specs.Calls.{is_plugin_call_of}
+use Rattle.plugin_base.specs.PluginCalls.{makes_interface}
+use Rattle.plugin_base.specs.Results.{names_first, names_of}
+use Rattle.plugin_base.specs.Share.{Share, share_after_call, share_of}
+use Rattle.plugin_base.proofs.OtherCalls.{share-other}
+use Rattle.plugin_base.proofs.OwnCalls.{share-own}
+use Rattle.plugin_base.proofs.Refusals.{refused-same}
 use Rattle.pod_file.specs.declared.command.Command.{Command}
 use Rattle.pod_workers.specs.Legal.{Legal}
 use Rattle.pod_workers.specs.Plans.{Placed, IsWellFormed, list_named}
@@ -57,7 +57,7 @@ use Rattle.pod_workers.proofs.Deletable.{done_or_not}
 use Rattle.pod_workers.proofs.Elements.{find-first, first_of}
 use Rattle.pod_workers.proofs.Prefixes.{each_prefix}
 use Rattle.pod_workers.proofs.Histories.{after-append}
-use Rattle.pod_workers.proofs.Planned.{LeftArePlanned}
+use Rattle.pod_workers.proofs.OfPlugins.{LeftAreOfPlugins}
 use Rattle.pod_workers.proofs.Sound.{sound_host}
 use Rattle.pod_laws.specs.AskedFor.{AreAmong, HasNothingUnasked}
 use Rattle.pod_laws.specs.Moments.{own_entries}
@@ -69,12 +69,12 @@ use Rattle.pod_laws.proofs.Shares.Removes.{OnlyRemoves, removes-deletion}
 use Rattle.pod_laws.proofs.Histories.Runs.{every-run-now, own-state}
 use Rattle.pod_laws.proofs.Histories.States.{LeftFit, asked-is_question, is_question, question-leaves}
 use Rattle.pod_laws.proofs.Histories.Steps.{Changes, ChangesKeep, EntriesKeep, GoesOn, by-entries, on-entry}
-use Rattle.plan_words.proofs.KeyLists.{none-by}
+use Rattle.plugin_base.proofs.KeyLists.{none-by}
 use Rattle.pod_laws.proofs.Tests.{middle-passes}
 use Rattle.pod_laws.proofs.Histories.Turns.{AsksOrCollects, change-of, removes-changed, turn-of, work-turn}
 use Rattle.pod_laws.proofs.Shares.Within.{list_named-listed, opening-share}
 
--- ---- the world outside takes no bridge of the host
+-- ---- nothing from outside takes a bridge of the host
 
 bridge-no_veth : (k : LinkKind) → is_bridge k ≡ true → is_veth k ≡ false
 bridge-no_veth link_kinds.Device h = refl
@@ -146,17 +146,17 @@ bridge-changed first w n c call faulty on there =
 
 -- ---- calls that cache nothing
 
-abbrev HasNoEntry : Att → Host → Type 0
-HasNoEntry att host = (share_of att host).cached ≡ []
+abbrev HasNoCached : Att → Host → Type 0
+HasNoCached att host = (share_of att host).cached ≡ []
 
 abbrev HasNoneAfter : Att → Host → Call → Type 0
-HasNoneAfter att k call = HasNoEntry att (apply k call).0
+HasNoneAfter att k call = HasNoCached att (apply k call).0
 
-none-removes : (att : Att) (old new : Host) → OnlyRemoves old new → HasNoEntry att old → HasNoEntry att new
+none-removes : (att : Att) (old new : Host) → OnlyRemoves old new → HasNoCached att old → HasNoCached att new
 none-removes att old new removes none = still_none (λ c. is_own att c.tag) (λ c. true) old.cached new.cached removes.cached none
 
-none-aside : (att : Att) (c : Command) (k : Host) (call : Call) → IsSound k → AsksOrCollects c call → HasNoEntry att k → HasNoneAfter att k call
-none-aside att c k call sound (inl asked) none = subst (HasNoEntry att) (sym (question-leaves k call asked)) none
+none-aside : (att : Att) (c : Command) (k : Host) (call : Call) → IsSound k → AsksOrCollects c call → HasNoCached att k → HasNoneAfter att k call
+none-aside att c k call sound (inl asked) none = subst (HasNoCached att) (sym (question-leaves k call asked)) none
 none-aside att c k call sound (inr collected) none =
     subst (HasNoneAfter att k) collected.deletes (none-removes att k (apply k (deletion collected.att collected.kind)).0 (removes-deletion collected.att k collected.kind sound) none)
 
@@ -168,10 +168,10 @@ entries-same : (s : Share) (call : Call) → not (caches call) ≡ true → (sha
 entries-same s (CachePut att cached) h = cc
 entries-same s _ h = refl
 
-none-planned : (att : Att) (k : Host) (call : Call) → is_plan_call_of att call ≡ true → not (caches call) ≡ true → HasNoEntry att k → HasNoneAfter att k call
-none-planned att k call own h none = elim (done_or_not (apply k call).1) [
+none-of_plugins : (att : Att) (k : Host) (call : Call) → is_plugin_call_of att call ≡ true → not (caches call) ≡ true → HasNoCached att k → HasNoneAfter att k call
+none-of_plugins att k call own h none = elim (done_or_not (apply k call).1) [
   | inl done ↦ ap (λ (s : Share). s.cached) (share-own att k call own done) ∙ entries-same (share_of att k) call h ∙ none
-  | inr refused ↦ subst (HasNoEntry att) (sym (refused-same att k call own refused)) none
+  | inr refused ↦ subst (HasNoCached att) (sym (refused-same att k call own refused)) none
 ]
 
 interface-caches_none : (bridge : Option (List ℕ)) (call : Call) → makes_interface bridge call ≡ true → not (caches call) ≡ true
@@ -184,13 +184,13 @@ before-caches_none first att netns = list_all-weaker (makes_interface (bridge_of
 -- ---- one call
 
 -- a run's own call caches nothing, or the bridge of its list is there
-own-call : (list : NetList) (c : Command) (es : List Entry) (st : State) (k : Host) (call : Call) → LeftArePlanned list c st → LeftFit list c st → IsSound k → turn c st ≡ Calls call → Achieved list c es st (share_of (att_of c) k) → HasBridge list st k
-    → HasNoEntry (att_of c) k → HasNoneAfter (att_of c) k call ⊎ BridgeIn list.first k
+own-call : (list : NetList) (c : Command) (es : List Entry) (st : State) (k : Host) (call : Call) → LeftAreOfPlugins list c st → LeftFit list c st → IsSound k → turn c st ≡ Calls call → Achieved list c es st (share_of (att_of c) k) → HasBridge list st k
+    → HasNoCached (att_of c) k → HasNoneAfter (att_of c) k call ⊎ BridgeIn list.first k
 unfolding turn
 own-call list c es AtBegin k call left fit sound is ach bridge none = inl (subst (HasNoneAfter (att_of c) k) (let e : Begin (att_of c) c.netns ≡ call = cc in e) none)
 own-call list c es (BeforeLeases x xs) k call left fit sound is ach bridge none =
     let caches_none = middle-passes (λ y. not (caches y)) ach.0 x xs (ap (list_all (λ y. not (caches y))) (sym ach.1) ∙ before-caches_none list.first (att_of c) c.netns) in
-    inl (subst (HasNoneAfter (att_of c) k) (let e : x ≡ call = cc in e) (none-planned (att_of c) k x left.0.0.0 caches_none none))
+    inl (subst (HasNoneAfter (att_of c) k) (let e : x ≡ call = cc in e) (none-of_plugins (att_of c) k x left.0.0.0 caches_none none))
 own-call list c es (Leasing set sets given) k call left fit sound is ach bridge none = inr bridge
 own-call list c es (AfterLeases x xs given) k call left fit sound is ach bridge none = inr bridge
 own-call list c es (ReadingCache ending) k call left fit sound is ach bridge none = inl (subst (HasNoneAfter (att_of c) k) (let e : CacheGet (att_of c) ≡ call = cc in e) none)
@@ -205,28 +205,28 @@ own-call list c es (Over ending given) k call left fit sound is ach bridge none 
 
 -- ---- one entry
 
--- the attachment has no cached entry, or the bridge, if the list has one, is there
+-- the attachment has no cached result, or the bridge, if the list has one, is there
 abbrev NoneOrBridge : Att → NetList → Host → Type 0
-NoneOrBridge att list host = HasNoEntry att host ⊎ BridgeIn list.first host
+NoneOrBridge att list host = HasNoCached att host ⊎ BridgeIn list.first host
 
-own-entered : (w : World) (n : ℕ) (c : Placed) (list : NetList) (call : Call) (faulty : Bool) → GoesOn w n c list call faulty → HasNoEntry (att_of c.command) (host_of w)
+own-entered : (w : World) (n : ℕ) (c : Placed) (list : NetList) (call : Call) (faulty : Bool) → GoesOn w n c list call faulty → HasNoCached (att_of c.command) (host_of w)
     → NoneOrBridge (att_of c.command) list (after_entry (host_of w) (entry_of (host_of w) n call faulty))
 own-entered w n c list call faulty on none =
     let k = host_of w in
     let own = own-state w n c list call faulty on in
     let bridge = all-bridges w on.legal n c on.ready.there on.ready.unanswered list on.listed in
     let ach = every-run-now Achieved achieved-start achieved-step w n c list call faulty on in
-    elim (on-entry (λ j. HasNoEntry (att_of c.command) j ⊎ BridgeIn list.first k) k n call faulty (inl none)
-    (λ f. own-call list c.command (own_entries n w.history) _ k call own.planned own.fits (sound_host w on.legal) own.turn_is ach bridge none)) [
+    elim (on-entry (λ j. HasNoCached (att_of c.command) j ⊎ BridgeIn list.first k) k n call faulty (inl none)
+    (λ f. own-call list c.command (own_entries n w.history) _ k call own.of_plugins own.fits (sound_host w on.legal) own.turn_is ach bridge none)) [
       | inl still ↦ inl still
       | inr there ↦ inr (bridge-entered list.first w n c list call faulty on there)
     ]
 
-other-entered : (w : World) (n : ℕ) (c : Placed) (list : NetList) (call : Call) (faulty : Bool) (att : Att) → GoesOn w n c list call faulty → att_eq (att_of c.command) att ≡ false → HasNoEntry att (host_of w)
-    → HasNoEntry att (after_entry (host_of w) (entry_of (host_of w) n call faulty))
+other-entered : (w : World) (n : ℕ) (c : Placed) (list : NetList) (call : Call) (faulty : Bool) (att : Att) → GoesOn w n c list call faulty → att_eq (att_of c.command) att ≡ false → HasNoCached att (host_of w)
+    → HasNoCached att (after_entry (host_of w) (entry_of (host_of w) n call faulty))
 other-entered w n c list call faulty att on apart none =
     let sound = sound_host w on.legal in
-    on-entry (HasNoEntry att) (host_of w) n call faulty none
+    on-entry (HasNoCached att) (host_of w) n call faulty none
     (λ f. elim (turn-of w n c list call faulty on) [
       | inl own ↦ ap (λ (s : Share). s.cached) (share-other (att_of c.command) att (host_of w) call apart sound (on.allowed f) own) ∙ none
       | inr aside ↦ none-aside att c.command (host_of w) call sound aside none
@@ -234,14 +234,14 @@ other-entered w n c list call faulty att on apart none =
 
 -- ---- every history
 
--- each attachment of a list's network that has a cached entry has the list's bridge
-abbrev EntriesHaveBridges : Plan → List Entry → Type 0
-EntriesHaveBridges p h = (att : Att) (list : NetList) → list_named p.lists att.network ≡ Some list → NoneOrBridge att list (after p.pods.opening h)
+-- each attachment of a list's network that has a cached result has the list's bridge
+abbrev CachedHaveBridges : Plan → List Entry → Type 0
+CachedHaveBridges p h = (att : Att) (list : NetList) → list_named p.lists att.network ≡ Some list → NoneOrBridge att list (after p.pods.opening h)
 
-bridges-start : (p : Plan) → IsWellFormed p → EntriesHaveBridges p []
+bridges-start : (p : Plan) → IsWellFormed p → CachedHaveBridges p []
 bridges-start p well = λ att list listed. inl (ap (λ (s : Share). s.cached) (opening-share att p.pods.opening well.pods.opening))
 
-bridges-kept : EntriesKeep EntriesHaveBridges
+bridges-kept : EntriesKeep CachedHaveBridges
 bridges-kept w n c list call faulty on was = λ att other listed.
     let e = entry_of (host_of w) n call faulty in
     let k = after_entry (host_of w) e in
@@ -252,14 +252,14 @@ bridges-kept w n c list call faulty on was = λ att other listed.
             let atts : att_of c.command ≡ att = att_eq-same (att_of c.command) att same in
             let found : list_named w.plan.lists (att_of c.command).network ≡ Some list = list_named-listed w.plan c.command list on.listed in
             let lists : list ≡ other = same_Some list other (sym found ∙ ap (λ (a : Att). list_named w.plan.lists a.network) atts ∙ listed) in
-            let mine = own-entered w n c list call faulty on (subst (λ a. HasNoEntry a (host_of w)) (sym atts) none) in
+            let mine = own-entered w n c list call faulty on (subst (λ a. HasNoCached a (host_of w)) (sym atts) none) in
             subst (λ a. NoneOrBridge a other k) atts (subst (λ l. NoneOrBridge (att_of c.command) l k) lists mine)
         | inr apart ↦ inl (other-entered w n c list call faulty att on apart none)
       ]
       | inr there ↦ inr (bridge-entered other.first w n c list call faulty on there)
     ])
 
-bridges-changed : ChangesKeep EntriesHaveBridges
+bridges-changed : ChangesKeep CachedHaveBridges
 bridges-changed w n c call faulty on was = λ att other listed.
     let e = entry_of (host_of w) n call faulty in
     subst (NoneOrBridge att other) (sym (after-append w.plan.pods.opening w.history e))
@@ -268,8 +268,8 @@ bridges-changed w n c call faulty on was = λ att other listed.
       | inr there ↦ inr (bridge-changed other.first w n c call faulty on there)
     ])
 
-entries-have_bridges : (w : World) → Legal w → EntriesHaveBridges w.plan w.history
-entries-have_bridges = by-entries EntriesHaveBridges bridges-start bridges-kept bridges-changed
+cached-have_bridges : (w : World) → Legal w → CachedHaveBridges w.plan w.history
+cached-have_bridges = by-entries CachedHaveBridges bridges-start bridges-kept bridges-changed
 
 -- ---- the bridge is the first interface of the list's result
 
@@ -293,7 +293,7 @@ is-named host None interfaces names there = refl
 is-named host (Some bridge) [] names there = refl
 is-named host (Some bridge) (i ∷ is) names there = ap (has_host_bridge host) ((bytes_eq-Decides i.name bridge).0 names) ∙ there
 
-no-entry : (att : Att) (host : Host) → HasNoEntry att host → cached_in host att ≡ None
+no-entry : (att : Att) (host : Host) → HasNoCached att host → cached_in host att ≡ None
 no-entry att host none = ap (option_map (λ (c : CachedObj). c.cached)) (find-first (λ c. is_own att c.tag) host.cached ∙ ap first_of none)
 
 one-entry : (objects : List CachedObj) (o : CachedObj) (cached : Cached) → AreAmong objects (o ∷ []) → option_map (λ (c : CachedObj). c.cached) (first_of objects) ≡ Some cached → cached ≡ o.cached
@@ -315,7 +315,7 @@ entry-names p h att list cached (inr a) listed is =
     ap (λ (l : NetList). names_first (bridge_of l.first) (names_of cached.result)) (sym lists) ∙ ap (λ (x : Cached). names_first (bridge_of a.list.first) (names_of x.result)) cached_is
     ∙ result-names a.list (att_of c) c.netns given
 
--- where the attachment has a cached entry, the bridge that the cached result names is there
+-- where the attachment has a cached result, the bridge that the cached result names is there
 abbrev NamedAreThere : Plan → List Entry → Type 0
 NamedAreThere p h = (att : Att) (list : NetList) (cached : Cached) → list_named p.lists att.network ≡ Some list → cached_in (after p.pods.opening h) att ≡ Some cached
     → has_bridge_named (after p.pods.opening h) (bridge_of list.first) cached.result.interfaces ≡ true
@@ -324,7 +324,7 @@ named-there : (w : World) → Legal w → NamedAreThere w.plan w.history
 named-there w legal att list cached listed is =
     let host = host_of w in
     is-named host (bridge_of list.first) cached.result.interfaces (entry-names w.plan w.history att list cached (nothing_is_unasked w legal att) listed is)
-    (elim (entries-have_bridges w legal att list listed) [
+    (elim (cached-have_bridges w legal att list listed) [
       | inl none ↦ absurd (none-some cached (sym (no-entry att host none) ∙ is))
       | inr there ↦ there
     ])

@@ -11,13 +11,13 @@ use Rattle.kernel_types.proofs.Cases.{att_eq-refl}
 use Rattle.kernel_types.specs.declared.object.Att.{Att}
 use Rattle.kernel_types.specs.declared.call.Call.{Call}
 use Rattle.kernel_types.specs.declared.call.Call.TheVariants.{VethAdd, MacvlanAdd, LinkSet, AddrAdd, RouteAdd, RuleAppend, SettingSet, CachePut}
-use Rattle.plan_words.specs.PlanCalls.{is_call_of}
-use Rattle.plan_words.specs.Share.{Share, share_after_call, share_after_calls}
-use Rattle.plan_words.proofs.KeyLists.{list_all-append, list_all-every, list_all-mapped}
-use Rattle.plan_words.proofs.OwnCalls.{set_link-tag}
+use Rattle.plugin_base.specs.Calls.{is_call_of}
+use Rattle.plugin_base.specs.Share.{Share, share_after_call, share_after_calls}
+use Rattle.plugin_base.proofs.KeyLists.{list_all-append, list_all-every, list_all-mapped}
+use Rattle.plugin_base.proofs.OwnCalls.{set_link-tag}
 use Rattle.cni_verbs.specs.Wanted.{add_calls, wanted}
-use Rattle.pod_workers.specs.PlanCalls.{only_leases}
-use Rattle.pod_workers.proofs.PlanCalls.{are_planned}
+use Rattle.pod_workers.specs.AddCalls.{only_leases}
+use Rattle.pod_workers.proofs.AddCalls.{make_the_wanted}
 
 -- each object that a check asks for
 pub record AreOwn (att : Att) (s : Share) : Type 0 where
@@ -63,5 +63,5 @@ own-leases att given =
 
 pub own-wanted : (list : NetList) (att : Att) (netns : List ℕ) (mappings : List PortMapping) (addrs : List Addr) → AreOwn att (wanted list att netns mappings addrs)
 own-wanted list att netns mappings addrs =
-    let planned = are_planned list att netns mappings addrs in
-    subst (AreOwn att) planned.adds (own-calls att (only_leases att addrs) (add_calls list att netns mappings addrs) planned.own (own-leases att addrs))
+    let of_plugins = make_the_wanted list att netns mappings addrs in
+    subst (AreOwn att) of_plugins.adds (own-calls att (only_leases att addrs) (add_calls list att netns mappings addrs) of_plugins.own (own-leases att addrs))

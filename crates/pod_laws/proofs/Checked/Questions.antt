@@ -26,8 +26,8 @@ use Rattle.kernel_types.specs.declared.object.Setting.{Setting}
 use Rattle.kernel_types.specs.declared.object.Lease.{Lease}
 use Rattle.kernel_types.specs.declared.object.CachedObj.{CachedObj}
 use Rattle.kernel_types.specs.declared.object.Tag.{Tag}
-use Rattle.plan_words.specs.Share.{Share}
-use Rattle.cni_verbs.specs.CommandWords.{att_of}
+use Rattle.plugin_base.specs.Share.{Share}
+use Rattle.cni_verbs.specs.CommandFields.{att_of}
 use Rattle.cni_verbs.specs.Questions.{addresses_of_result, link_question, address_question, route_question, rule_questions, setting_question, lease_question, share_questions, bridge_by_mac, first_interface, bridge_questions, cached_share, check_questions}
 use Rattle.cni_verbs.specs.Wanted.{bridge_of}
 use Rattle.cni_verbs.specs.declared.answer.Cause.TheVariants.{Missing}
@@ -209,7 +209,7 @@ granted-stay c old new (q ∷ qs) keeps each h =
     let rest : list_all (grants new) qs ≡ true = granted-stay c old new qs keeps each.1 (grind (arith, h)) in
     grind (arith, now, rest)
 
--- the cached entry is of the share
+-- the cached result is of the share
 pub cached-stays : (c : Command) (old new : Host) → KeepsAsked c old new → cached_in new (att_of c) ≡ cached_in old (att_of c)
 cached-stays c old new keeps =
     let own : CachedObj → Bool = λ x. is_own (att_of c) x.tag in

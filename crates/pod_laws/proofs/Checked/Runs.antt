@@ -1,4 +1,4 @@
--- A CHECK asks for its cached entry and then for each object, and its answer is what the host at its last entry holds.
+-- A CHECK asks for its cached result and then for each object, and its answer is what the host at its last entry holds.
 use Rattle.std.proofs.Common.{◌≡◌, ℕ, ◌+◌, Bool, true, false, List, [], ◌∷◌, ◌++◌, length, Option, Some, None, refl, sym, ◌∙◌, ap, subst}
 use Rattle.std.specs.Prelude.{if◌then◌else◌}
 use Rattle.std.specs.List.{AllByRecursion}
@@ -15,7 +15,7 @@ use Rattle.kernel_types.proofs.Replies.{IsReplyOf-apply}
 use Rattle.kernel_types.specs.declared.object.Host.{Host}
 use Rattle.kernel_types.specs.declared.call.Call.TheVariants.{CacheGet}
 use Rattle.kernel_types.specs.declared.call.Reply.TheVariants.{Fault}
-use Rattle.cni_verbs.specs.CommandWords.{att_of, del_refusal}
+use Rattle.cni_verbs.specs.CommandFields.{att_of, del_refusal}
 use Rattle.cni_verbs.specs.Questions.{check_questions}
 use Rattle.cni_verbs.specs.Script.{State, FindingEntry, Asking, Over, Calls, advance, asking, at_entry, at_question, checking, start_of, turn, unless_refused}
 use Rattle.cni_verbs.specs.declared.answer.Cause.{Cause}
@@ -67,12 +67,12 @@ by-asking list c cached host ending ends =
 
 -- ---- every run
 
--- before its cached entry is read
+-- before its cached result is read
 pub record HasBegun (list : NetList) (c : Command) (es : List Entry) : Type 0 where
   pub may : MayCheck list c
   pub no_entry : es ≡ []
 
--- while it asks, the attachment has its cached entry, and all that was asked is granted
+-- while it asks, the attachment has its cached result, and all that was asked is granted
 pub record HasFound (list : NetList) (c : Command) (es : List Entry) (host : Host) (left : List Question) : Type 0 where
   pub may : MayCheck list c
   pub no_fault : has_fault es ≡ false
@@ -115,7 +115,7 @@ check-start list c host = λ verb. check-start_of list c host c.verb verb
 check-fault : (list : NetList) (c : Command) (es : List Entry) (e : Entry) (host : Host) → MayCheck list c → e.reply ≡ Fault → EndsCheck list c (es ++ e ∷ []) host (del_refusal c) (Refused (causes.Fault (length es + 1)))
 check-fault list c es e host may is = by-fault list c (es ++ e ∷ []) host (length es + 1) may (fault-last es e (ap is_fault is)) (sym (length_push es e))
 
--- the cached entry is there, or isn't
+-- the cached result is there, or isn't
 check-found : (list : NetList) (c : Command) (es : List Entry) (host : Host) (o : Option Cached) → MayCheck list c → has_fault es ≡ false → cached_in host (att_of c) ≡ o → CheckAt list c es (checking list c o) host
 check-found list c es host None may no_fault is = (refl, by-entry list c es host (Refused causes.Unknown) None may no_fault is refl)
 check-found list c es host (Some cached) may no_fault is =

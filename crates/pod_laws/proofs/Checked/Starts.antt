@@ -14,7 +14,7 @@ use Rattle.cni_addr.specs.Lists.{distinct}
 use Rattle.cni_addr.specs.declared.mac.Mac.{Mac}
 use Rattle.cni_result.specs.declared.cached.Cached.{Cached}
 use Rattle.cni_result.specs.declared.result.Interface.{Interface}
-use Rattle.cni_verbs.specs.CommandWords.{att_of}
+use Rattle.cni_verbs.specs.CommandFields.{att_of}
 use Rattle.cni_verbs.specs.Questions.{addresses_of_result, cached_share}
 use Rattle.cni_verbs.specs.Wanted.{bridge_of}
 use Rattle.kernel_types.specs.Apply.Calls.{has_object}
@@ -29,7 +29,7 @@ use Rattle.kernel_types.specs.declared.object.Link.{Link}
 use Rattle.kernel_types.specs.declared.object.Tag.{Tag}
 use Rattle.kernel_types.specs.declared.call.Probe.TheVariants.{BridgeAt}
 use Rattle.net_conf.specs.declared.list.NetList.{NetList}
-use Rattle.plan_words.specs.Share.{Share, share_of}
+use Rattle.plugin_base.specs.Share.{Share, share_of}
 use Rattle.pod_file.specs.Commands.{is_of_network}
 use Rattle.pod_file.specs.declared.command.Command.{Command}
 use Rattle.pod_workers.specs.Legal.{Legal}
@@ -221,7 +221,7 @@ alike-bridge (Some bridge) (i ∷ is) old new sound keeps there = alike-mac i.na
 
 -- ---- all that it asks for
 
--- what comes before the first entry is a front of the history
+-- what comes before the first entry is a prefix of the history
 front-first : (n : ℕ) (h : List Entry) → (rest : List Entry) × (h ≡ until_first n h ++ rest)
 front-first n [] = ([], refl)
 front-first n (x ∷ xs) = elim (cases_Bool (is_of n x)) [
@@ -231,7 +231,7 @@ front-first n (x ∷ xs) = elim (cases_Bool (is_of n x)) [
       (later.0, ap (λ l. x ∷ l) later.1 ∙ sym (ap (λ b. (if b then [] else x ∷ until_first n xs) ++ later.0) other))
 ]
 
--- the bridge that the cached entry names is there at the start
+-- the bridge that the cached result names is there at the start
 named-at_start : (w : World) → Legal w → (n : ℕ) (c : Placed) (list : NetList) (cached : Cached) → list_for w.plan c.command ≡ Some list → cached_in (host_at_start w n) (att_of c.command) ≡ Some cached
     → has_bridge_named (host_at_start w n) (bridge_of list.first) cached.result.interfaces ≡ true
 named-at_start w legal n c list cached listed is =

@@ -7,7 +7,7 @@ use Rattle.std.proofs.lemmas.List.Elements.{filter-append}
 use Rattle.std.proofs.lemmas.Option.{same_Some}
 use Rattle.pod_file.specs.Commands.{is_exclusive_verb}
 use Rattle.kernel_types.proofs.ListLemmas.{list_any-append_right}
-use Rattle.plan_words.proofs.Deletions.{empty_none}
+use Rattle.plugin_base.proofs.Deletions.{empty_none}
 use Rattle.pod_workers.specs.Facts.{EachOne, IsEntryOf}
 use Rattle.pod_workers.specs.Legal.{Legal}
 use Rattle.pod_workers.specs.Plans.{Placed, commands_of}

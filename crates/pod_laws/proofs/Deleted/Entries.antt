@@ -18,9 +18,9 @@ use Rattle.kernel_types.specs.declared.call.Kind.{Kind}
 use Rattle.kernel_types.specs.declared.call.Kind.TheVariants as kinds
 use Rattle.kernel_types.specs.declared.call.Call.{Call}
 use Rattle.kernel_types.specs.declared.call.Call.TheVariants.{CacheGet}
-use Rattle.plan_words.specs.Share.{Share, share_of, no_objects}
-use Rattle.plan_words.proofs.Deletions.{empty_none}
-use Rattle.cni_verbs.specs.CommandWords.{att_of}
+use Rattle.plugin_base.specs.Share.{Share, share_of, no_objects}
+use Rattle.plugin_base.proofs.Deletions.{empty_none}
+use Rattle.cni_verbs.specs.CommandFields.{att_of}
 use Rattle.cni_verbs.specs.Script.{State, AtBegin, BeforeLeases, Leasing, AfterLeases, ReadingCache, Deleting, Over, Calls, turn}
 use Rattle.cni_verbs.specs.Wanted.{deletion}
 use Rattle.gc_sweep.proofs.Lists.{any-found}

@@ -7,9 +7,9 @@ use Rattle.pod_file.specs.declared.command.Command.{Command}
 use Rattle.pod_file.specs.declared.command.Verb.TheVariants as verbs
 use Rattle.kernel_types.specs.declared.call.Call.{Call}
 use Rattle.kernel_types.specs.declared.call.Call.TheVariants.{Begin}
-use Rattle.plan_words.specs.Share.{Share, share_of}
+use Rattle.plugin_base.specs.Share.{Share, share_of}
 use Rattle.cni_verbs.specs.AddCalls.{is_done}
-use Rattle.cni_verbs.specs.CommandWords.{att_of}
+use Rattle.cni_verbs.specs.CommandFields.{att_of}
 use Rattle.cni_verbs.specs.Script.{State, AtBegin, BeforeLeases, Leasing, AfterLeases, ReadingCache, Deleting, Over, Calls, turn}
 use Rattle.cni_verbs.specs.declared.answer.Ending.{Ending}
 use Rattle.cni_verbs.specs.declared.answer.Ending.TheVariants.{Added, Yes, Skipped, Versions, Refused}
@@ -23,7 +23,7 @@ use Rattle.pod_workers.proofs.Splits.{cons_parts}
 use Rattle.pod_laws.specs.Moments.{own_entries}
 use Rattle.pod_laws.specs.Refused.{lets_go_on}
 use Rattle.pod_laws.proofs.Histories.Begins.{first-call, granted-done}
-use Rattle.pod_laws.proofs.Refused.Causes.{IsPlanReply, begin-may}
+use Rattle.pod_laws.proofs.Refused.Causes.{IsPluginReply, begin-may}
 use Rattle.pod_laws.proofs.Histories.Runs.{IsRunFact, StartsWith, every-run, every-run-now, own-state}
 use Rattle.pod_laws.proofs.Histories.States.{IsOtherVerb, not-both}
 use Rattle.pod_laws.proofs.Refused.Undoing.{Leads, Undoing, undone-start, undone-step}
@@ -57,7 +57,7 @@ first-granted list c y ys _ s call verb is was = absurd (subst IsOtherVerb verb 
 -- the first is a Begin, and the only one where it was not done
 abbrev pub BeginsFirst : Command → List Entry → Type 0
 BeginsFirst c [] = Unit {0}
-BeginsFirst c (e ∷ es) = (e.call ≡ Begin (att_of c) c.netns) × IsPlanReply e.reply × ((is_done e.reply ≡ true) ⊎ (es ≡ []))
+BeginsFirst c (e ∷ es) = (e.call ≡ Begin (att_of c) c.netns) × IsPluginReply e.reply × ((is_done e.reply ≡ true) ⊎ (es ≡ []))
 
 abbrev AddBegins : NetList → Command → List Entry → State → Share → Type 0
 AddBegins list c es st s = c.verb ≡ verbs.Add → BeginsFirst c es
@@ -66,7 +66,7 @@ begins-more : (list : NetList) (c : Command) (n : ℕ) (w : World) (es : List En
     → BeginsFirst c (es ++ entry_of (host_of w) n call faulty ∷ [])
 begins-more list c n w [] st s call faulty verb is un was =
     let first : call ≡ Begin (att_of c) c.netns = first-call list c [] st s call verb refl is un in
-    (first, subst (λ j. IsPlanReply (reply_to (host_of w) j faulty)) (sym first) (begin-may (att_of c) c.netns (host_of w) faulty), inr refl)
+    (first, subst (λ j. IsPluginReply (reply_to (host_of w) j faulty)) (sym first) (begin-may (att_of c) c.netns (host_of w) faulty), inr refl)
 begins-more list c n w (y ∷ ys) st s call faulty verb is un was = (was.0, was.1, inl (granted-done y.reply was.1 (first-granted list c y ys st s call verb is un)))
 
 begins-step : IsRunFact AddBegins

@@ -22,11 +22,11 @@ use Rattle.kernel_types.specs.declared.object.Host.{Host}
 use Rattle.kernel_types.specs.declared.call.Call.{Call}
 use Rattle.kernel_types.specs.declared.call.Call.TheVariants.{Begin, LeaseNext, LinkDel, RuleDel, SettingDel, LeaseDel, CacheDel, HasObj, CacheGet, OwnersOf, PoolFree, NsChange, Outside}
 use Rattle.kernel_types.specs.declared.call.Kind.TheVariants as kinds
-use Rattle.plan_words.specs.PlanCalls.{is_call_of}
-use Rattle.plan_words.specs.Share.{Share, share_of, no_objects}
-use Rattle.plan_words.proofs.Refusals.{refused-same, refused-lease}
+use Rattle.plugin_base.specs.Calls.{is_call_of}
+use Rattle.plugin_base.specs.Share.{Share, share_of, no_objects}
+use Rattle.plugin_base.proofs.Refusals.{refused-same, refused-lease}
 use Rattle.cni_verbs.specs.AddCalls.{is_done}
-use Rattle.cni_verbs.specs.CommandWords.{att_of}
+use Rattle.cni_verbs.specs.CommandFields.{att_of}
 use Rattle.cni_verbs.specs.Script.{State, AtBegin, BeforeLeases, Leasing, AfterLeases, ReadingCache, Deleting, FindingEntry, Asking, Changing, Collecting, Over, Calls, turn}
 use Rattle.cni_verbs.specs.Wanted.{deletion}
 use Rattle.cni_verbs.specs.declared.answer.Answer.TheVariants as answers

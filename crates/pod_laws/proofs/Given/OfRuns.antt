@@ -19,9 +19,9 @@ use Rattle.cni_addr.proofs.Cases.{by_test}
 use Rattle.kernel_types.specs.declared.call.Call.{Call}
 use Rattle.kernel_types.specs.declared.call.Reply.{Reply}
 use Rattle.kernel_types.specs.declared.object.Host.{Host}
-use Rattle.plan_words.specs.Share.{Share, share_of}
+use Rattle.plugin_base.specs.Share.{Share, share_of}
 use Rattle.cni_verbs.specs.Answers.{answer_of, error_of}
-use Rattle.cni_verbs.specs.CommandWords.{att_of, mappings_of}
+use Rattle.cni_verbs.specs.CommandFields.{att_of, mappings_of}
 use Rattle.cni_verbs.specs.Script.{State, Collecting, Over, leases_in}
 use Rattle.cni_verbs.specs.Sweep.{Work}
 use Rattle.cni_verbs.specs.Wanted.{result_of_add, sets_of, wanted}

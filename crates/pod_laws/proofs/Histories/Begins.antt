@@ -20,11 +20,11 @@ use Rattle.kernel_types.specs.declared.call.Call.{Call}
 use Rattle.kernel_types.specs.declared.call.Call.TheVariants.{Begin, LeaseNext, CacheGet}
 use Rattle.kernel_types.specs.declared.call.Reply.{Reply}
 use Rattle.kernel_types.specs.declared.call.Reply.TheVariants.{Done, Leased}
-use Rattle.plan_words.specs.PlanCalls.{is_plan_call_of, is_call_of}
-use Rattle.plan_words.specs.Share.{Share}
-use Rattle.plan_words.proofs.OtherCalls.{call-apart}
+use Rattle.plugin_base.specs.Calls.{is_plugin_call_of, is_call_of}
+use Rattle.plugin_base.specs.Share.{Share}
+use Rattle.plugin_base.proofs.OtherCalls.{call-apart}
 use Rattle.cni_verbs.specs.AddCalls.{is_done}
-use Rattle.cni_verbs.specs.CommandWords.{att_of}
+use Rattle.cni_verbs.specs.CommandFields.{att_of}
 use Rattle.cni_verbs.specs.Script.{State, AtBegin, BeforeLeases, Leasing, AfterLeases, ReadingCache, Deleting, Over, Calls, turn}
 use Rattle.cni_verbs.specs.Wanted.{deletion}
 use Rattle.cni_verbs.specs.declared.answer.Ending.{Ending}
@@ -35,12 +35,12 @@ use Rattle.pod_workers.specs.Plans.{Placed, commands_of}
 use Rattle.pod_workers.specs.World.{World, entry_of, host_of, reply_to}
 use Rattle.pod_workers.specs.declared.plan.Entry.{Entry}
 use Rattle.pod_workers.proofs.Order.{apart, ready_is}
-use Rattle.pod_workers.proofs.Planned.{LeftArePlanned}
+use Rattle.pod_workers.proofs.OfPlugins.{LeftAreOfPlugins}
 use Rattle.pod_workers.proofs.Splits.{none-or-some, split_nil}
 use Rattle.pod_laws.specs.AskedFor.{begins, is_begin_of, last_begun}
 use Rattle.pod_laws.specs.Moments.{own_entries}
 use Rattle.pod_laws.specs.Refused.{is_granted, lets_go_on}
-use Rattle.pod_laws.proofs.Refused.Causes.{IsPlanReply, begin-may}
+use Rattle.pod_laws.proofs.Refused.Causes.{IsPluginReply, begin-may}
 use Rattle.pod_laws.proofs.Histories.Entries.{apart-entry, is_of-own, own_entries-own, own_entries-other, no-entries}
 use Rattle.pod_laws.proofs.Histories.States.{IsOtherVerb, is_question, not-both}
 use Rattle.pod_laws.proofs.Histories.Runs.{every-run-now, own-state}
@@ -75,9 +75,9 @@ pub begin-apart : (att other : Att) (call : Call) → att_eq att other ≡ false
 begin-apart att other (Begin a netns) differ is = (call-apart att other (Begin a netns) differ is).unnamed
 begin-apart att other _ differ is = refl
 
-pub plan-no_begin : (att other : Att) (call : Call) → is_plan_call_of att call ≡ true → is_begin_of other call ≡ false
-plan-no_begin att other (Begin a netns) is = cc
-plan-no_begin att other _ is = refl
+pub plugin-no_begin : (att other : Att) (call : Call) → is_plugin_call_of att call ≡ true → is_begin_of other call ≡ false
+plugin-no_begin att other (Begin a netns) is = cc
+plugin-no_begin att other _ is = refl
 
 pub deletion-no_begin : (att other : Att) (kind : Kind) → is_begin_of other (deletion att kind) ≡ false
 deletion-no_begin att other kinds.Links = refl
@@ -129,12 +129,12 @@ first-call list c es _ s call verb none is was = absurd (subst IsOtherVerb verb 
 abbrev BeginsNone : Att → Call → Type 0
 BeginsNone att call = is_begin_of att call ≡ false
 
-later-call : (list : NetList) (c : Command) (es : List Entry) (st : State) (s : Share) (att : Att) (call : Call) → c.verb ≡ verbs.Add → es ≢ [] → LeftArePlanned list c st → turn c st ≡ Calls call → Undoing list c es st s → BeginsNone att call
+later-call : (list : NetList) (c : Command) (es : List Entry) (st : State) (s : Share) (att : Att) (call : Call) → c.verb ≡ verbs.Add → es ≢ [] → LeftAreOfPlugins list c st → turn c st ≡ Calls call → Undoing list c es st s → BeginsNone att call
 unfolding turn
 later-call list c es AtBegin s att call verb some left is was = absurd (some was.none)
-later-call list c es (BeforeLeases x xs) s att call verb some left is was = subst (BeginsNone att) (let e : x ≡ call = cc in e) (plan-no_begin (att_of c) att x left.0.0.0)
+later-call list c es (BeforeLeases x xs) s att call verb some left is was = subst (BeginsNone att) (let e : x ≡ call = cc in e) (plugin-no_begin (att_of c) att x left.0.0.0)
 later-call list c es (Leasing set sets given) s att call verb some left is was = subst (BeginsNone att) (let e : LeaseNext (att_of c) (length given) set ≡ call = cc in e) refl
-later-call list c es (AfterLeases x xs given) s att call verb some left is was = subst (BeginsNone att) (let e : x ≡ call = cc in e) (plan-no_begin (att_of c) att x left.0.0)
+later-call list c es (AfterLeases x xs given) s att call verb some left is was = subst (BeginsNone att) (let e : x ≡ call = cc in e) (plugin-no_begin (att_of c) att x left.0.0)
 later-call list c es (ReadingCache ending) s att call verb some left is was = subst (BeginsNone att) (let e : CacheGet (att_of c) ≡ call = cc in e) refl
 later-call list c es (Deleting kind ks ending) s att call verb some left is was = subst (BeginsNone att) (let e : deletion (att_of c) kind ≡ call = cc in e) (deletion-no_begin (att_of c) att kind)
 later-call list c es (Over ending given) s att call verb some left is was = cc
@@ -142,7 +142,7 @@ later-call list c es _ s att call verb some left is was = absurd (subst IsOtherV
 
 -- ---- while an ADD goes on, the last Begin is its own
 
-pub granted-done : (r : Reply) → IsPlanReply r → is_granted r ≡ true → is_done r ≡ true
+pub granted-done : (r : Reply) → IsPluginReply r → is_granted r ≡ true → is_done r ≡ true
 granted-done Done may h = refl
 granted-done (Leased addr) may h = absurd may
 granted-done _ may h = cc
@@ -164,11 +164,11 @@ last-own w n c list call faulty on last = λ verb some go_on.
     elim (none-or-some es) [
       | inl none ↦
           let first : call ≡ Begin att c.command.netns = first-call list c.command es _ _ call verb none own.turn_is was in
-          let done : is_done e.reply ≡ true = granted-done e.reply (subst (λ j. IsPlanReply (reply_to (host_of w) j faulty)) (sym first) (begin-may att c.command.netns (host_of w) faulty)) (and_parts (lets_go_on e) true both.1).0 in
+          let done : is_done e.reply ≡ true = granted-done e.reply (subst (λ j. IsPluginReply (reply_to (host_of w) j faulty)) (sym first) (begin-may att c.command.netns (host_of w) faulty)) (and_parts (lets_go_on e) true both.1).0 in
           let mine : is_begin_of att call ≡ true = ap (is_begin_of att) first ∙ att_eq-refl att in
           last_begun-new att w.history e (grind (arith, done, mine))
       | inr more ↦
-          last_begun-same att w.history e (not-begins att e (later-call list c.command es _ _ att call verb more own.planned own.turn_is was)) ∙ last n c on.ready.there on.ready.unanswered verb more both.0
+          last_begun-same att w.history e (not-begins att e (later-call list c.command es _ _ att call verb more own.of_plugins own.turn_is was)) ∙ last n c on.ready.there on.ready.unanswered verb more both.0
     ]
 
 -- an entry of another command
@@ -186,7 +186,7 @@ last-other w n m c d list call faulty on differs at is_open last = λ verb some 
           ∙ last verb there (ap (list_all lets_go_on) (sym mine) ∙ go_on)
     ]
 
--- an entry of the world outside
+-- an entry from outside
 not-add : (v : Verb) → v ≡ verbs.Add → is_of_network v ≡ false → ⊥
 not-add v is outside = let e : true ≡ false = sym (ap is_of_network is) ∙ outside in cc
 

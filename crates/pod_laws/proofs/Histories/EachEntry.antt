@@ -35,7 +35,7 @@ abbrev pub DoesNow : (Plan → Entry → Host → Host → Type 0) → Type 0
 DoesNow Does = (w : World) (n : ℕ) (c : Placed) (list : NetList) (call : Call) (faulty : Bool) → GoesOn w n c list call faulty
     → Does w.plan (entry_of (host_of w) n call faulty) (host_of w) (after_entry (host_of w) (entry_of (host_of w) n call faulty))
 
--- so does a change of the world outside
+-- so does a change from outside
 abbrev pub DoesOutside : (Plan → Entry → Host → Host → Type 0) → Type 0
 DoesOutside Does = (w : World) (n : ℕ) (c : Placed) (call : Call) (faulty : Bool) → Changes w n c call faulty
     → Does w.plan (entry_of (host_of w) n call faulty) (host_of w) (after_entry (host_of w) (entry_of (host_of w) n call faulty))
@@ -61,7 +61,7 @@ by-now IsOfVerb Does now w n c list call faulty on = λ m d at number verb.
     let same : d ≡ c = ready_is w n m c d on.ready place at in
     subst (λ (z : Placed). Does z.command (host_of w) (after_entry (host_of w) x)) (sym same) (now w n c list call faulty on (subst (λ (z : Placed). IsOfVerb z.command.verb) same verb))
 
--- the world outside makes no entry of a command with a list
+-- a command with a list has no entry from outside
 pub by-outside : (IsOfVerb : Verb → Type 0) (Does : Command → Host → Host → Type 0) → ((v : Verb) → IsOfVerb v → is_of_network v ≡ true) → DoesOutside (ByVerb IsOfVerb Does)
 by-outside IsOfVerb Does listed w n c call faulty on = λ m d at number verb.
     let place : m ≡ n = let a : n + 1 ≡ m + 1 = number in omega (arith, a) in

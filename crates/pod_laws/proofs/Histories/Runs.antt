@@ -6,8 +6,8 @@ use Rattle.net_conf.specs.declared.list.NetList.{NetList}
 use Rattle.pod_file.specs.declared.command.Command.{Command}
 use Rattle.kernel_types.specs.declared.object.Host.{Host}
 use Rattle.kernel_types.specs.declared.call.Call.{Call}
-use Rattle.plan_words.specs.Share.{Share, share_of}
-use Rattle.cni_verbs.specs.CommandWords.{att_of}
+use Rattle.plugin_base.specs.Share.{Share, share_of}
+use Rattle.cni_verbs.specs.CommandFields.{att_of}
 use Rattle.cni_verbs.specs.Script.{State, Calls, turn, advance, start_state}
 use Rattle.pod_workers.specs.Legal.{Legal}
 use Rattle.pod_file.specs.Commands.{is_exclusive_verb}
@@ -16,7 +16,7 @@ use Rattle.pod_workers.specs.World.{World, after, after_entry, host_of, replies_
 use Rattle.pod_workers.specs.declared.plan.Entry.{Entry}
 use Rattle.pod_workers.proofs.Histories.{replies_of-other, after-append}
 use Rattle.pod_workers.proofs.Order.{apart, alone_apart, other_number}
-use Rattle.pod_workers.proofs.Planned.{LeftArePlanned, left-are-planned}
+use Rattle.pod_workers.proofs.OfPlugins.{LeftAreOfPlugins, left-are-of_plugins}
 use Rattle.pod_laws.specs.Moments.{own_entries, until_last, host_at_end}
 use Rattle.pod_laws.proofs.Histories.Entries.{is_of-own, is_of-other, replies_in, until_last-own, until_last-other}
 use Rattle.pod_laws.proofs.Histories.RunFacts.{HostFact, IsHostFact, IsKeptBetween, Keeping, each-run, each-run-now, state_by}
@@ -107,13 +107,13 @@ StartsWith F = (list : NetList) (c : Command) (s : Share) → F list c [] (start
 
 -- the state of a run that goes on, by its entries
 pub record IsOwnState (w : World) (n : ℕ) (c : Placed) (list : NetList) (call : Call) : Type 0 where
-  pub planned : LeftArePlanned list c.command (state_by list c.command (own_entries n w.history))
+  pub of_plugins : LeftAreOfPlugins list c.command (state_by list c.command (own_entries n w.history))
   pub fits : LeftFit list c.command (state_by list c.command (own_entries n w.history))
   pub turn_is : turn c.command (state_by list c.command (own_entries n w.history)) ≡ Calls call
 
 pub own-state : (w : World) (n : ℕ) (c : Placed) (list : NetList) (call : Call) (faulty : Bool) → GoesOn w n c list call faulty → IsOwnState w n c list call
 own-state w n c list call faulty on = record {
-  planned = left-are-planned list c.command (replies_in (own_entries n w.history));
+  of_plugins = left-are-of_plugins list c.command (replies_in (own_entries n w.history));
   fits = left-fit list c.command (replies_in (own_entries n w.history));
   turn_is = on.turn_is;
 }

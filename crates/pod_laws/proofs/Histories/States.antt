@@ -3,7 +3,7 @@ use Rattle.std.proofs.Common.{◌≡◌, ℕ, Bool, true, false, List, [], ◌�
 use Rattle.std.specs.Prelude.{if◌then◌else◌}
 use Rattle.std.specs.List.{list_all}
 use Rattle.std.proofs.lemmas.Bool.{and_parts}
-use Rattle.plan_words.specs.PlanCalls.{is_of_kinds}
+use Rattle.plugin_base.specs.Calls.{is_of_kinds}
 use Rattle.pod_workers.proofs.Asked.{AreQuestionsOf, IsQuestionOf, check-asks, status-asks}
 use Rattle.pod_workers.proofs.Replies.{StaysTrue, by-either, by-entry, by-question, by-unless, by-unless_early, by-unless_old, true-after}
 use Rattle.cni_addr.specs.declared.address.Addr.{Addr}
@@ -18,7 +18,7 @@ use Rattle.kernel_types.specs.declared.call.Call.{Call}
 use Rattle.kernel_types.specs.declared.call.Call.TheVariants.{HasObj, CacheGet, OwnersOf, PoolFree}
 use Rattle.kernel_types.specs.declared.call.Reply.{Reply}
 use Rattle.kernel_types.specs.declared.call.Reply.TheVariants.{Gone}
-use Rattle.cni_verbs.specs.CommandWords.{att_of, del_refusal, add_refusal}
+use Rattle.cni_verbs.specs.CommandFields.{att_of, del_refusal, add_refusal}
 use Rattle.cni_verbs.specs.Questions.{check_questions, status_questions}
 use Rattle.cni_verbs.specs.Script.{State, AtBegin, BeforeLeases, Leasing, AfterLeases, ReadingCache, Deleting, FindingEntry, Asking, Changing, Collecting, Over, before_of, back_of, after_leases, leasing, before_leases, asking, gc_of, changed, faulted, swept, advance, start_of, state_after}
 use Rattle.cni_verbs.specs.Sweep.{Work, start_work}
@@ -27,7 +27,7 @@ use Rattle.cni_verbs.specs.declared.answer.Ending.{Ending}
 use Rattle.cni_verbs.specs.declared.answer.Ending.TheVariants.{Added, Yes, Skipped, Versions, Refused}
 use Rattle.cni_verbs.specs.declared.answer.Question.{Question}
 use Rattle.cni_verbs.specs.declared.answer.Skip.TheVariants as skips
-use Rattle.pod_workers.proofs.PlanCalls.{of_kinds-before, of_kinds-back}
+use Rattle.pod_workers.proofs.AddCalls.{of_kinds-before, of_kinds-back}
 
 -- ---- questions
 
@@ -127,7 +127,7 @@ IsAside (Changing change) = Unit {0}
 IsAside (Collecting work faults) = Unit {0}
 IsAside (Over ending given) = IsNoResult ending
 
--- what holds of each of them, told by what it is of each kind
+-- what holds of each of them, said by what it is of each kind
 pub by-aside : (P : State → Type 0) → P FindingEntry → ((next : Question) (left : List Question) → P (Asking next left)) → ((change : Call) → P (Changing change)) → ((work : Work) (faults : List ℕ) → P (Collecting work faults))
     → ((ending : Ending) (given : List Addr) → IsNoResult ending → P (Over ending given)) → (st : State) → IsAside st → P st
 by-aside P entry asking change work over AtBegin h = absurd h

@@ -40,7 +40,7 @@ pub record GoesOn (w : World) (n : ℕ) (c : Placed) (list : NetList) (call : Ca
   pub turn_is : turn c.command (state_after list c.command (own_replies w n)) ≡ Calls call
   pub allowed : faulty ≡ false → IsAllowed (host_of w) call
 
--- the same for a command that has no list, which makes a change of the world outside
+-- the same for a command that has no list, which makes a change from outside
 pub record Changes (w : World) (n : ℕ) (c : Placed) (call : Call) (faulty : Bool) : Type 0 where
   pub legal : Legal w
   pub ready : IsReady w n c
@@ -56,7 +56,7 @@ at_its_place w n c list call faulty on P m d other place at listed mine =
     let same_list : other ≡ list = same_Some other list (sym listed ∙ ap (λ (x : Placed). list_for w.plan x.command) same ∙ on.listed) in
     subst (λ j. P j d other) (sym place) (subst (λ x. P n x other) (sym same) (subst (P n c) (sym same_list) mine))
 
--- no command with a list is at the place of a change of the world outside
+-- no command with a list is at the place of a change from outside
 pub no_list_there : (w : World) (n : ℕ) (c : Placed) (call : Call) (faulty : Bool) → Changes w n c call faulty → (m : ℕ) (d : Placed) (list : NetList)
     → m ≡ n → slice_get (commands_of w.plan) m ≡ Some d → list_for w.plan d.command ≡ Some list → ⊥
 no_list_there w n c call faulty on m d list place at listed =
@@ -88,7 +88,7 @@ goes-on w n c call faulty legal ready is =
 abbrev pub EntriesKeep : (Plan → List Entry → Type 0) → Type 0
 EntriesKeep P = (w : World) (n : ℕ) (c : Placed) (list : NetList) (call : Call) (faulty : Bool) → GoesOn w n c list call faulty → P w.plan w.history → P w.plan (w.history ++ entry_of (host_of w) n call faulty ∷ [])
 
--- so does a change of the world outside
+-- so does a change from outside
 abbrev pub ChangesKeep : (Plan → List Entry → Type 0) → Type 0
 ChangesKeep P = (w : World) (n : ℕ) (c : Placed) (call : Call) (faulty : Bool) → Changes w n c call faulty → P w.plan w.history → P w.plan (w.history ++ entry_of (host_of w) n call faulty ∷ [])
 

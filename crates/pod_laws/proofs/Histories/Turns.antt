@@ -1,4 +1,4 @@
--- What a run calls: its attachment, a question, or for a garbage collection; and what the world outside calls.
+-- What a run calls: its attachment, a question, or for a garbage collection; and what is called from outside.
 use Rattle.std.proofs.Common.{◌≡◌, ◌≢◌, ℕ, Bool, true, false, List, [], ◌∷◌, length, Some, None, slice_get, refl, ap, subst, inl, inr, ◌⊎◌, arith}
 use Rattle.std.proofs.lemmas.Bool.{cases_Bool}
 use Rattle.std.proofs.lemmas.Slice.Eq.{bytes_eq-Decides}
@@ -15,10 +15,10 @@ use Rattle.kernel_types.specs.declared.call.Call.{Call}
 use Rattle.kernel_types.specs.declared.call.Call.TheVariants.{Begin, LeaseNext, CacheGet, OwnersOf, NsChange, Outside}
 use Rattle.kernel_types.specs.declared.call.Kind.{Kind}
 use Rattle.kernel_types.specs.declared.call.Kind.TheVariants as kinds
-use Rattle.plan_words.specs.PlanCalls.{is_call_of}
-use Rattle.plan_words.specs.Share.{share_of}
-use Rattle.plan_words.proofs.OtherCalls.{share-other, call-plan}
-use Rattle.cni_verbs.specs.CommandWords.{att_of}
+use Rattle.plugin_base.specs.Calls.{is_call_of}
+use Rattle.plugin_base.specs.Share.{share_of}
+use Rattle.plugin_base.proofs.OtherCalls.{share-other, call-plugin}
+use Rattle.cni_verbs.specs.CommandFields.{att_of}
 use Rattle.cni_verbs.specs.Script.{State, AtBegin, BeforeLeases, Leasing, AfterLeases, ReadingCache, Deleting, FindingEntry, Asking, Changing, Collecting, Over, Calls, turn, turn_of_work}
 use Rattle.cni_verbs.specs.Sweep.{Job, Step, AskCached, Delete, Sweep, step_call}
 use Rattle.cni_verbs.specs.Wanted.{deletion}
@@ -26,7 +26,7 @@ use Rattle.pod_file.specs.Commands.{is_of_network, is_exclusive_verb}
 use Rattle.pod_workers.specs.Plans.{Placed, commands_of}
 use Rattle.pod_workers.specs.World.{World, after_entry, host_of, own_replies, entry_of}
 use Rattle.pod_workers.proofs.Order.{alone_apart}
-use Rattle.pod_workers.proofs.Planned.{IsOutside, LeftArePlanned, LeftIsOutside, left-are-planned, left-is-outside}
+use Rattle.pod_workers.proofs.OfPlugins.{IsOutside, LeftAreOfPlugins, LeftIsOutside, left-are-of_plugins, left-is-outside}
 use Rattle.pod_workers.proofs.Sound.{sound_host}
 use Rattle.pod_laws.proofs.Shares.Removes.{OnlyRemoves, removes-nothing, removes-outside}
 use Rattle.pod_laws.proofs.Histories.States.{LeftFit, is_question, left-fit, question-leaves, asked-is_question}
@@ -65,12 +65,12 @@ work-turn c [] [] faults call gc is = cc
 work-turn c [] (s ∷ sweeps) faults call gc is = subst (AsksOrCollects c) (let e : OwnersOf c.network s.kind ≡ call = cc in e) (inl refl)
 work-turn c (j ∷ jobs) sweeps faults call gc is = subst (AsksOrCollects c) (let e : step_call j.att j.step ≡ call = cc in e) (step-turn c j.att j.step gc)
 
-own-turn : (list : NetList) (c : Command) (st : State) (call : Call) → LeftArePlanned list c st → LeftFit list c st → turn c st ≡ Calls call → IsTurnOf c call
+own-turn : (list : NetList) (c : Command) (st : State) (call : Call) → LeftAreOfPlugins list c st → LeftFit list c st → turn c st ≡ Calls call → IsTurnOf c call
 unfolding turn
 own-turn list c AtBegin call left fit is = subst (IsTurnOf c) (let e : Begin (att_of c) c.netns ≡ call = cc in e) (inl (att_eq-refl (att_of c)))
-own-turn list c (BeforeLeases x xs) call left fit is = subst (IsTurnOf c) (let e : x ≡ call = cc in e) (inl (call-plan (att_of c) x left.0.0.0))
+own-turn list c (BeforeLeases x xs) call left fit is = subst (IsTurnOf c) (let e : x ≡ call = cc in e) (inl (call-plugin (att_of c) x left.0.0.0))
 own-turn list c (Leasing set sets given) call left fit is = subst (IsTurnOf c) (let e : LeaseNext (att_of c) (length given) set ≡ call = cc in e) (inl (att_eq-refl (att_of c)))
-own-turn list c (AfterLeases x xs given) call left fit is = subst (IsTurnOf c) (let e : x ≡ call = cc in e) (inl (call-plan (att_of c) x left.0.0))
+own-turn list c (AfterLeases x xs given) call left fit is = subst (IsTurnOf c) (let e : x ≡ call = cc in e) (inl (call-plugin (att_of c) x left.0.0))
 own-turn list c (ReadingCache ending) call left fit is = subst (IsTurnOf c) (let e : CacheGet (att_of c) ≡ call = cc in e) (inl (att_eq-refl (att_of c)))
 own-turn list c (Deleting kind ks ending) call left fit is = subst (IsTurnOf c) (let e : deletion (att_of c) kind ≡ call = cc in e) (inl (own-deletion (att_of c) kind))
 own-turn list c FindingEntry call left fit is = subst (IsTurnOf c) (let e : CacheGet (att_of c) ≡ call = cc in e) (inl (att_eq-refl (att_of c)))
@@ -80,9 +80,9 @@ own-turn list c (Collecting work faults) call left fit is = inr (work-turn c wor
 own-turn list c (Over ending given) call left fit is = cc
 
 pub turn-of : (w : World) (n : ℕ) (c : Placed) (list : NetList) (call : Call) (faulty : Bool) → GoesOn w n c list call faulty → IsTurnOf c.command call
-turn-of w n c list call faulty on = own-turn list c.command _ call (left-are-planned list c.command (own_replies w n)) (left-fit list c.command (own_replies w n)) on.turn_is
+turn-of w n c list call faulty on = own-turn list c.command _ call (left-are-of_plugins list c.command (own_replies w n)) (left-fit list c.command (own_replies w n)) on.turn_is
 
--- ---- what the world outside calls
+-- ---- what is called from outside
 
 pub record IsFromOutside (c : Command) (call : Call) : Type 0 where
   pub call_is : is_from_outside call ≡ true
@@ -119,7 +119,7 @@ exclusive-outside verbs.NsDel is = refl
 exclusive-outside verbs.Drop is = refl
 exclusive-outside verbs.Flush is = refl
 
--- beside the world outside no open command has made a call
+-- beside a change from outside no open command has made a call
 pub alone-outside : (w : World) (n m : ℕ) (c d : Placed) (call : Call) (faulty : Bool) → Changes w n c call faulty → m ≢ n → slice_get (commands_of w.plan) m ≡ Some d → slice_get w.answers m ≡ Some None → own_replies w m ≡ []
 alone-outside w n m c d call faulty on far at is_open =
     alone_apart w on.legal m n d c on.ready far at is_open (inl (exclusive-outside c.command.verb (change-of w n c call faulty on).verb_is))

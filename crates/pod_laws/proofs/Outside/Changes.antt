@@ -1,4 +1,4 @@
--- A change of the world outside is one call at most.
+-- A change from outside is one call at most.
 use Rattle.std.proofs.Common.{◌≡◌, ◌≢◌, ℕ, ◌+◌, ◌≤◌, false, List, [], ◌∷◌, ◌++◌, length, Some, None, slice_get, refl, sym, ◌∙◌, ap, subst, inl, inr, arith}
 use Rattle.std.specs.Prelude.{if◌then◌else◌}
 use Rattle.std.proofs.lemmas.Bool.Decides.{eqb_tells}
@@ -22,7 +22,7 @@ use Rattle.pod_workers.specs.declared.plan.Entry.{Entry}
 use Rattle.pod_workers.specs.declared.plan.Plan.{Plan}
 use Rattle.pod_workers.proofs.AnswersDue.{answer_is_due}
 use Rattle.pod_workers.proofs.Order.{other_number, ready_is}
-use Rattle.pod_workers.proofs.Planned.{LeftIsOutside, left-is-outside}
+use Rattle.pod_workers.proofs.OfPlugins.{LeftIsOutside, left-is-outside}
 use Rattle.pod_laws.specs.Changed.{ChangesAreAnswered, IsChangedBy}
 use Rattle.pod_laws.specs.Moments.{own_entries}
 use Rattle.pod_laws.specs.Answers.{is_cut_off}

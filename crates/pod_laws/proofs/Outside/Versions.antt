@@ -4,7 +4,7 @@ use Rattle.net_conf.specs.declared.list.NetList.{NetList}
 use Rattle.pod_file.specs.declared.command.Command.{Command}
 use Rattle.pod_file.specs.declared.command.Verb.{Verb}
 use Rattle.pod_file.specs.declared.command.Verb.TheVariants as verbs
-use Rattle.plan_words.specs.Share.{Share}
+use Rattle.plugin_base.specs.Share.{Share}
 use Rattle.cni_addr.specs.declared.address.Addr.{Addr}
 use Rattle.cni_verbs.specs.Script.{State, Over, start_of, turn}
 use Rattle.cni_verbs.specs.declared.answer.Ending.{Ending}

@@ -23,10 +23,10 @@ use Rattle.kernel_types.specs.declared.call.Call.{Call}
 use Rattle.kernel_types.specs.declared.call.Call.TheVariants.{Begin, LeaseNext}
 use Rattle.kernel_types.specs.declared.call.Reply.{Reply}
 use Rattle.kernel_types.specs.declared.call.Reply.TheVariants.{Done, NoLink, Leased, Gone, Fault}
-use Rattle.plan_words.specs.PlanCalls.{is_plan_call_of}
-use Rattle.plan_words.specs.Share.{Share, share_of, no_objects}
-use Rattle.plan_words.proofs.Deletions.{gone-none, gone-links, no-links}
-use Rattle.cni_verbs.specs.CommandWords.{att_of, add_refusal, del_refusal}
+use Rattle.plugin_base.specs.Calls.{is_plugin_call_of}
+use Rattle.plugin_base.specs.Share.{Share, share_of, no_objects}
+use Rattle.plugin_base.proofs.Deletions.{gone-none, gone-links, no-links}
+use Rattle.cni_verbs.specs.CommandFields.{att_of, add_refusal, del_refusal}
 use Rattle.cni_verbs.specs.Script.{State, AtBegin, BeforeLeases, Leasing, AfterLeases, ReadingCache, Deleting, FindingEntry, Asking, Changing, Collecting, Over, Calls, before_of, back_of, after_leases, leasing, before_leases, deleting, faulted, cause_of, at_begin, at_call_before, at_lease, at_call_after, at_cache, at_deletion, advance, unless_refused, start_of, turn}
 use Rattle.cni_verbs.specs.Wanted.{sets_of, kinds_of, deletion}
 use Rattle.cni_verbs.specs.declared.answer.Cause.{Cause}
@@ -34,13 +34,13 @@ use Rattle.cni_verbs.specs.declared.answer.Ending.{Ending}
 use Rattle.cni_verbs.specs.declared.answer.Ending.TheVariants.{Added, Yes, Skipped, Versions, Refused}
 use Rattle.pod_workers.specs.World.{entry_of, host_of, after_entry, reply_to}
 use Rattle.pod_workers.specs.declared.plan.Entry.{Entry}
-use Rattle.pod_workers.proofs.Planned.{LeftArePlanned}
+use Rattle.pod_workers.proofs.OfPlugins.{LeftAreOfPlugins}
 use Rattle.pod_workers.proofs.Sound.{sound_host}
 use Rattle.pod_workers.proofs.StepsLeft.{host-made}
 use Rattle.pod_laws.specs.Deleted.{HasDeleted, IsUndeletedFor}
 use Rattle.pod_laws.specs.Moments.{has_fault, own_entries}
 use Rattle.pod_laws.specs.Refused.{is_granted, lets_go_on, FirstRefusal, IsRefusedFor}
-use Rattle.pod_laws.proofs.Refused.Causes.{Refuses, begin-refused, plan-refused, lease-refused}
+use Rattle.pod_laws.proofs.Refused.Causes.{Refuses, begin-refused, plugin-refused, lease-refused}
 use Rattle.pod_laws.proofs.Histories.Entries.{pushed}
 use Rattle.pod_laws.proofs.Added.Footing.{IsMacvlan}
 use Rattle.pod_laws.proofs.Shares.OfKinds.{HasKindsAlone, HasKindsAlone-removes}
@@ -288,7 +288,7 @@ undone-next list c es number st r s other h = undone-aside list c es (advance li
 pub record IsEntered (list : NetList) (c : Command) (k : Host) (n : ℕ) (faulty : Bool) (call : Call) : Type 0 where
   pub within : HasKindsAlone (kinds_of list) (share_of (att_of c) (after_entry k (entry_of k n call faulty)))
   pub sound : IsSound (after_entry k (entry_of k n call faulty))
-  pub over : is_plan_call_of (att_of c) call ≡ true → (apply k call).1 ≡ NoLink → IsMacvlan call
+  pub over : is_plugin_call_of (att_of c) call ≡ true → (apply k call).1 ≡ NoLink → IsMacvlan call
 
 begin-first : (list : NetList) (c : Command) (es : List Entry) (k : Host) (n : ℕ) (faulty : Bool) → IsAtBegin c es → AfterEntry Undoing list c es AtBegin k n faulty (Begin (att_of c) c.netns)
 unfolding advance
@@ -298,7 +298,7 @@ begin-first list c es k n faulty h =
     subst P (sym h.none)
     (undo-at_begin list c e _ _ refl refl (record { verb = h.verb; fields = h.fields; none = refl }) (λ not. begin-refused (att_of c) c.netns k faulty 1 not))
 
-undone-own : (list : NetList) (c : Command) (es : List Entry) (st : State) (k : Host) (n : ℕ) (faulty : Bool) (call : Call) → LeftArePlanned list c st → turn c st ≡ Calls call → IsSound k → IsEntered list c k n faulty call
+undone-own : (list : NetList) (c : Command) (es : List Entry) (st : State) (k : Host) (n : ℕ) (faulty : Bool) (call : Call) → LeftAreOfPlugins list c st → turn c st ≡ Calls call → IsSound k → IsEntered list c k n faulty call
     → Undoing list c es st (share_of (att_of c) k) → AfterEntry Undoing list c es st k n faulty call
 unfolding turn advance
 undone-own list c es AtBegin k n faulty call left is sound on was =
@@ -306,14 +306,14 @@ undone-own list c es AtBegin k n faulty call left is sound on was =
 undone-own list c es (BeforeLeases x xs) k n faulty call left is sound on was =
     let P : Call → Type 0 = λ j. IsEntered list c k n faulty j → AfterEntry Undoing list c es (BeforeLeases x xs) k n faulty j in
     subst P (let e : x ≡ call = cc in e)
-    (λ here. undo-before list c es (entry_of k n x faulty) xs _ _ refl was (λ not. plan-refused (att_of c) k x faulty (length es + 1) left.0.0.0 (here.over left.0.0.0) not)) on
+    (λ here. undo-before list c es (entry_of k n x faulty) xs _ _ refl was (λ not. plugin-refused (att_of c) k x faulty (length es + 1) left.0.0.0 (here.over left.0.0.0) not)) on
 undone-own list c es (Leasing set sets given) k n faulty call left is sound on was =
     subst (AfterEntry Undoing list c es (Leasing set sets given) k n faulty) (let e : LeaseNext (att_of c) (length given) set ≡ call = cc in e)
     (undo-lease list c es (entry_of k n (LeaseNext (att_of c) (length given) set) faulty) sets given _ _ refl was (λ not. lease-refused (att_of c) (length given) set k faulty (length es + 1) not))
 undone-own list c es (AfterLeases x xs given) k n faulty call left is sound on was =
     let P : Call → Type 0 = λ j. IsEntered list c k n faulty j → AfterEntry Undoing list c es (AfterLeases x xs given) k n faulty j in
     subst P (let e : x ≡ call = cc in e)
-    (λ here. undo-after list c es (entry_of k n x faulty) xs given _ _ refl was (λ not. plan-refused (att_of c) k x faulty (length es + 1) left.0.0 (here.over left.0.0) not)) on
+    (λ here. undo-after list c es (entry_of k n x faulty) xs given _ _ refl was (λ not. plugin-refused (att_of c) k x faulty (length es + 1) left.0.0 (here.over left.0.0) not)) on
 undone-own list c es (ReadingCache ending) k n faulty call left is sound on was =
     undo-cache list c es (entry_of k n call faulty) ending _ _ refl was on.within (none-left (att_of c) (after_entry k (entry_of k n call faulty)) on.sound)
 undone-own list c es (Deleting kind ks ending) k n faulty call left is sound on was =
@@ -329,7 +329,7 @@ undone-own list c es st k n faulty call left is sound on was =
 pub undone-step : IsRunFact Undoing
 undone-step w n c list call faulty on was =
     let own = own-state w n c list call faulty on in
-    undone-own list c.command (own_entries n w.history) _ (host_of w) n faulty call own.planned own.turn_is (sound_host w on.legal)
+    undone-own list c.command (own_entries n w.history) _ (host_of w) n faulty call own.of_plugins own.turn_is (sound_host w on.legal)
     (record { within = within-entered w n c list call faulty on; sound = sound-entered w n call faulty on.legal on.allowed; over = no_link-now w n c list call faulty on }) was
 
 -- ---- the start

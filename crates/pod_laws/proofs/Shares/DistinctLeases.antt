@@ -14,7 +14,7 @@ use Rattle.kernel_types.proofs.ListLemmas.{distinct-filter, list_any-map, list_a
 use Rattle.kernel_types.specs.declared.object.Att.{Att}
 use Rattle.kernel_types.specs.declared.object.Host.{Host}
 use Rattle.kernel_types.specs.declared.object.Lease.{Lease}
-use Rattle.plan_words.specs.Share.{share_of}
+use Rattle.plugin_base.specs.Share.{share_of}
 use Rattle.pod_workers.specs.Legal.{Legal}
 use Rattle.pod_workers.specs.World.{World, after, entry_of, host_of, after_entry}
 use Rattle.pod_workers.specs.declared.plan.Entry.{Entry}

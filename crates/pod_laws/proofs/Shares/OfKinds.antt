@@ -12,10 +12,10 @@ use Rattle.kernel_types.specs.declared.call.Kind.{Kind}
 use Rattle.kernel_types.specs.declared.call.Kind.TheVariants as kinds
 use Rattle.kernel_types.specs.declared.call.Call.{Call}
 use Rattle.kernel_types.specs.declared.call.Call.TheVariants.{VethAdd, MacvlanAdd, LinkSet, AddrAdd, RouteAdd, RuleAppend, SettingSet, CachePut}
-use Rattle.plan_words.specs.Share.{Share, share_of, no_objects, share_after_call}
-use Rattle.plan_words.proofs.Deletions.{empty_none}
+use Rattle.plugin_base.specs.Share.{Share, share_of, no_objects, share_after_call}
+use Rattle.plugin_base.proofs.Deletions.{empty_none}
 use Rattle.gc_sweep.proofs.Lists.{list_all-drops}
-use Rattle.plan_words.specs.PlanCalls.{has_kind, is_of_kinds}
+use Rattle.plugin_base.specs.Calls.{has_kind, is_of_kinds}
 use Rattle.pod_laws.proofs.Shares.Removes.{OnlyRemoves}
 
 -- ---- a share within kinds

@@ -1,4 +1,4 @@
--- What only removes objects: deletions, and the world outside.
+-- What only removes objects: deletions, and changes from outside.
 use Rattle.std.proofs.Common.{◌≡◌, true, false, not, Some, refl, sym, subst, inl, inr}
 use Rattle.kernel_types.specs.Allowed.{IsAllowed}
 use Rattle.kernel_types.specs.Apply.{apply}

@@ -21,12 +21,12 @@ use Rattle.kernel_types.specs.declared.call.Kind.{Kind}
 use Rattle.kernel_types.specs.declared.call.Kind.TheVariants as kinds
 use Rattle.kernel_types.specs.declared.call.Call.{Call}
 use Rattle.kernel_types.specs.declared.call.Call.TheVariants.{Begin, LeaseNext, CacheGet}
-use Rattle.plan_words.specs.PlanCalls.{has_kind, is_of_kinds, is_plan_call_of}
-use Rattle.plan_words.specs.Share.{share_of, no_objects}
-use Rattle.plan_words.proofs.OtherCalls.{share-other}
-use Rattle.plan_words.proofs.OwnCalls.{share-own, share-lease}
-use Rattle.plan_words.proofs.Refusals.{refused-same, refused-lease}
-use Rattle.cni_verbs.specs.CommandWords.{att_of}
+use Rattle.plugin_base.specs.Calls.{has_kind, is_of_kinds, is_plugin_call_of}
+use Rattle.plugin_base.specs.Share.{share_of, no_objects}
+use Rattle.plugin_base.proofs.OtherCalls.{share-other}
+use Rattle.plugin_base.proofs.OwnCalls.{share-own, share-lease}
+use Rattle.plugin_base.proofs.Refusals.{refused-same, refused-lease}
+use Rattle.cni_verbs.specs.CommandFields.{att_of}
 use Rattle.cni_verbs.specs.Script.{State, AtBegin, BeforeLeases, Leasing, AfterLeases, ReadingCache, Deleting, FindingEntry, Asking, Changing, Collecting, Over, Calls, turn, state_after}
 use Rattle.cni_verbs.specs.Wanted.{kinds_of, deletion}
 use Rattle.pod_file.specs.WellFormed.{IsOpening}
@@ -37,8 +37,8 @@ use Rattle.pod_workers.specs.World.{World, entry_of, host_of, after_entry, own_r
 use Rattle.pod_workers.specs.declared.plan.Entry.{Entry}
 use Rattle.pod_workers.specs.declared.plan.Plan.{Plan}
 use Rattle.pod_workers.proofs.Histories.{after-append}
-use Rattle.pod_workers.proofs.PlanCalls.{leases-kinds_of}
-use Rattle.pod_workers.proofs.Planned.{LeftArePlanned, left-are-planned}
+use Rattle.pod_workers.proofs.AddCalls.{leases-kinds_of}
+use Rattle.pod_workers.proofs.OfPlugins.{LeftAreOfPlugins, left-are-of_plugins}
 use Rattle.pod_workers.proofs.Sound.{sound_host, if-listed}
 use Rattle.pod_workers.proofs.Deletable.{done_or_not, leased_or_not}
 use Rattle.pod_laws.specs.Moments.{objects_after}
@@ -53,8 +53,8 @@ use Rattle.pod_laws.proofs.Histories.Turns.{AsksOrCollects, removes-changed, tur
 abbrev AfterCall : Att → Host → List Kind → Call → Type 0
 AfterCall att k ks call = HasKindsAlone ks (share_of att (apply k call).0)
 
-within-plan : (att : Att) (k : Host) (ks : List Kind) (call : Call) → is_plan_call_of att call ≡ true → is_of_kinds ks call ≡ true → HasKindsAlone ks (share_of att k) → AfterCall att k ks call
-within-plan att k ks call own fits w =
+within-plugin : (att : Att) (k : Host) (ks : List Kind) (call : Call) → is_plugin_call_of att call ≡ true → is_of_kinds ks call ≡ true → HasKindsAlone ks (share_of att k) → AfterCall att k ks call
+within-plugin att k ks call own fits w =
     elim (done_or_not (apply k call).1) [
       | inl done ↦ subst (HasKindsAlone ks) (sym (share-own att k call own done)) (HasKindsAlone-call ks (share_of att k) call fits w)
       | inr not ↦ subst (λ h. HasKindsAlone ks (share_of att h)) (sym (refused-same att k call own not)) w
@@ -75,19 +75,19 @@ within-aside att c k ks call sound (inl asked) w = subst (λ h. HasKindsAlone ks
 within-aside att c k ks call sound (inr collected) w =
     subst (AfterCall att k ks) collected.deletes (HasKindsAlone-removes att ks k (apply k (deletion collected.att collected.kind)).0 (removes-deletion collected.att k collected.kind sound) w)
 
-within-turn : (list : NetList) (c : Command) (st : State) (k : Host) (call : Call) → LeftArePlanned list c st → LeftFit list c st → IsSound k → turn c st ≡ Calls call → HasKindsAlone (kinds_of list) (share_of (att_of c) k)
+within-turn : (list : NetList) (c : Command) (st : State) (k : Host) (call : Call) → LeftAreOfPlugins list c st → LeftFit list c st → IsSound k → turn c st ≡ Calls call → HasKindsAlone (kinds_of list) (share_of (att_of c) k)
     → AfterCall (att_of c) k (kinds_of list) call
 unfolding turn
 within-turn list c AtBegin k call left fit sound is w = subst (AfterCall (att_of c) k (kinds_of list)) (let e : Begin (att_of c) c.netns ≡ call = cc in e) w
 within-turn list c (BeforeLeases x xs) k call left fit sound is w =
     subst (AfterCall (att_of c) k (kinds_of list)) (let e : x ≡ call = cc in e)
-    (within-plan (att_of c) k (kinds_of list) x left.0.0.0 (and_parts (is_of_kinds (kinds_of list) x) (list_all (is_of_kinds (kinds_of list)) xs) fit).0 w)
+    (within-plugin (att_of c) k (kinds_of list) x left.0.0.0 (and_parts (is_of_kinds (kinds_of list) x) (list_all (is_of_kinds (kinds_of list)) xs) fit).0 w)
 within-turn list c (Leasing set sets given) k call left fit sound is w =
     subst (AfterCall (att_of c) k (kinds_of list)) (let e : LeaseNext (att_of c) (length given) set ≡ call = cc in e)
     (within-lease (att_of c) k (kinds_of list) (length given) set (leases-kinds_of list left.0.0 sets set left.0.1) w)
 within-turn list c (AfterLeases x xs given) k call left fit sound is w =
     subst (AfterCall (att_of c) k (kinds_of list)) (let e : x ≡ call = cc in e)
-    (within-plan (att_of c) k (kinds_of list) x left.0.0 (and_parts (is_of_kinds (kinds_of list) x) (list_all (is_of_kinds (kinds_of list)) xs) fit).0 w)
+    (within-plugin (att_of c) k (kinds_of list) x left.0.0 (and_parts (is_of_kinds (kinds_of list) x) (list_all (is_of_kinds (kinds_of list)) xs) fit).0 w)
 within-turn list c (ReadingCache ending) k call left fit sound is w = subst (AfterCall (att_of c) k (kinds_of list)) (let e : CacheGet (att_of c) ≡ call = cc in e) w
 within-turn list c (Deleting kind ks ending) k call left fit sound is w =
     subst (AfterCall (att_of c) k (kinds_of list)) (let e : deletion (att_of c) kind ≡ call = cc in e)
@@ -133,7 +133,7 @@ within-mine : (w : World) (n : ℕ) (c : Placed) (list : NetList) (call : Call) 
 within-mine w n c list call faulty on was =
     let rs = own_replies w n in
     on-entry (λ k. HasKindsAlone (kinds_of list) (share_of (att_of c.command) k)) (host_of w) n call faulty was
-    (λ f. within-turn list c.command (state_after list c.command rs) (host_of w) call (left-are-planned list c.command rs) (left-fit list c.command rs) (sound_host w on.legal) on.turn_is was)
+    (λ f. within-turn list c.command (state_after list c.command rs) (host_of w) call (left-are-of_plugins list c.command rs) (left-fit list c.command rs) (sound_host w on.legal) on.turn_is was)
 
 -- another attachment's share is the same, or a collection takes from it
 within-other : (w : World) (n : ℕ) (c : Placed) (list : NetList) (call : Call) (faulty : Bool) (att : Att) (ks : List Kind) → GoesOn w n c list call faulty → att_eq (att_of c.command) att ≡ false → HasKindsAlone ks (share_of att (host_of w))

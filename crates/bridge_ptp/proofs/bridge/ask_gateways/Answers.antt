@@ -1,6 +1,6 @@
 use Rattle.std.proofs.Common.{◌≡◌, [], ◌++◌, map, sym, ◌∙◌, ap, append_assoc}
 use Rattle.std.specs.Prelude.{if◌then◌else◌}
-use Rattle.plan_words.specs.Shapes.{forward_calls}
+use Rattle.plugin_base.specs.Shapes.{forward_calls}
 use Rattle.bridge_ptp.specs.Gateways.{gateway_call, gateways_on}
 use Rattle.bridge_ptp.proofs.bridge.ask_gateways.Goals as goal
 

@@ -1,7 +1,7 @@
 use Rattle.std.proofs.Common.{◌≡◌, map, take}
 use Rattle.std.specs.Prelude.{fold}
 use Rattle.cni_addr.specs.Lists.{push_unless_there}
-use Rattle.plan_words.specs.Shapes.{route_on}
+use Rattle.plugin_base.specs.Shapes.{route_on}
 use Rattle.bridge_ptp.specs.Ptp as plan
 use Rattle.bridge_ptp.proofs.ptp.push_routes.Given as goal
 

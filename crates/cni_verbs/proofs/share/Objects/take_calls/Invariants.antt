@@ -1,5 +1,5 @@
 use Rattle.std.proofs.Common.{◌≡◌}
-use Rattle.plan_words.specs.Share.{share_after_calls}
+use Rattle.plugin_base.specs.Share.{share_after_calls}
 use Rattle.cni_verbs.proofs.share.Objects.take_calls.Given as goal
 
 -- what the calls so far make

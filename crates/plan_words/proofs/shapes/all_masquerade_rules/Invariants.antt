@@ -1,9 +1,0 @@
-use Rattle.std.proofs.Common.{◌≡◌, take}
-use Rattle.std.specs.Prelude.{flat_map}
-use Rattle.kernel_types.specs.Equal.{rule_eq}
-use Rattle.cni_addr.specs.Lists.{each_key_once}
-use Rattle.plan_words.specs.Shapes.{masquerade_of}
-use Rattle.plan_words.proofs.shapes.all_masquerade_rules.Given as goal
-
-abbrev pub invariant-loop-g : goal.invariant-loop-g
-invariant-loop-g l = l.rules ≡ each_key_once rule_eq (flat_map (masquerade_of l.att) (take l.g-index l.given))

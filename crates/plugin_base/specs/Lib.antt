@@ -1,0 +1,10 @@
+pub mod Calls
+pub mod Families
+pub mod KeyLaws
+pub mod KeyWrites
+pub mod PluginCalls
+pub mod PluginLaws
+pub mod Plugins
+pub mod Results
+pub mod Shapes
+pub mod Share
