@@ -33,11 +33,11 @@ pub fn bridge_before(
 {
     let mut calls = Items::new(alloc);
     calls.push(Call::BridgeEnsure {
-        name: conf.bridge.copy()?,
+        name: conf.bridge.name().copy()?,
         mtu: conf.mtu,
         promisc: conf.mode.promisc(),
     })?;
-    let master = Some(conf.bridge.copy()?);
+    let master = Some(conf.bridge.name().copy()?);
     calls.push(veth_pair(alloc, att, netns, master, conf.mtu, conf.mode.hairpin())?)?;
     Ok(calls)
 }
@@ -219,7 +219,7 @@ fn ask_gateways(
     ensures { OnOk result (calls.new.items ≡ calls.old.items ++ plan.gateway_calls conf.now given.now) }
 {
     if conf.gateway.is_gateway() {
-        let all = gateways_on(alloc, &conf.bridge, given)?;
+        let all = gateways_on(alloc, conf.bridge.name(), given)?;
         ask_all(calls, all)?;
         ask_forward(calls, given)?;
     }

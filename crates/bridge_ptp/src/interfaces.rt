@@ -5,16 +5,16 @@ ghost use Rattle.bridge_ptp.specs.Results as results;
 
 use cni_addr::{Duplicate, Items, NoMemory, Text};
 use cni_result::{Interface, Version, mtu_since_1_1};
-use kernel_types::{NamedAtt, link_mac};
+use kernel_types::{BridgeName, NamedAtt};
 use plugin_base::inner_interface;
 
 /// A bridge of the host.
-pub(crate) fn bridge_interface(name: &Text) -> Result<Interface, NoMemory>
-    ensures { IfOk result (λ i. i ≡ results.bridge_interface name.now) }
+pub(crate) fn bridge_interface(bridge: &BridgeName) -> Result<Interface, NoMemory>
+    ensures { IfOk result (λ i. i ≡ results.bridge_interface bridge.now) }
 {
     Ok(Interface {
-        name: name.copy()?,
-        mac: Some(link_mac(name.as_str())),
+        name: bridge.name().copy()?,
+        mac: Some(bridge.mac()),
         mtu: None,
         sandbox: None,
     })

@@ -100,7 +100,7 @@ pub(crate) fn bridge_of(first: &First) -> Option<&Text>
     ensures { option_copied result ≡ (plugin_of first.now).bridge }
 {
     match first {
-        First::Bridge(conf) => Some(&conf.bridge),
+        First::Bridge(conf) => Some(conf.bridge.name()),
         First::Ptp(_) | First::Macvlan(_) => None,
     }
 }

@@ -191,3 +191,65 @@ pub fn link_mac(name: &str) -> Mac
     let digest = Sha256::digest(name);
     local_mac([digest[0], digest[1], digest[2], digest[3], digest[4]])
 }
+
+/// A bridge's name with its hardware address, which is made once. Contracts see it as the name.
+#[derive(Drop)]
+pub struct BridgeName {
+    name: Text,
+    mac: Mac,
+}
+
+impl Model for BridgeName {
+    ghost use Rattle.std.specs.Prelude.{ℕ, List, ◌≡◌};
+    ghost use Rattle.kernel_types.specs.Names.{link_mac_of};
+
+    ghost Value = { List ℕ };
+
+    ghost view = { λ b. b.name };
+
+    ghost invariant = { λ b. b.mac ≡ link_mac_of b.name };
+}
+
+impl BridgeName {
+    /// The name with its hardware address. Takes no memory.
+    pub fn of(name: Text) -> BridgeName
+        ensures { result ≡ name }
+    {
+        let mac = link_mac(name.as_str());
+        BridgeName { name, mac }
+    }
+
+    /// The name alone.
+    pub fn name(&self) -> &Text
+        ensures { result.now ≡ self.now }
+    {
+        &self.name
+    }
+
+    /// As [`link_mac`] of the name.
+    pub fn mac(&self) -> Mac
+        ensures { result ≡ link_mac_of self.now }
+    {
+        self.mac
+    }
+}
+
+impl PartialEq for BridgeName {
+    ghost use Rattle.std.specs.Str.{bytes_eq};
+    ghost use Rattle.std.specs.Cmp.{partial_equiv_from_equiv};
+    ghost use Rattle.std.specs.Cmp.Lexicographic.{nat_list_eq_equiv};
+
+    ghost eq = { bytes_eq };
+
+    ghost laws = { partial_equiv_from_equiv nat_list_eq_equiv };
+
+    fn eq(&self, other: &BridgeName) -> bool {
+        self.name == other.name
+    }
+}
+
+impl Eq for BridgeName {
+    ghost use Rattle.std.specs.Cmp.Lexicographic.{nat_list_eq_equiv};
+
+    ghost laws = { nat_list_eq_equiv };
+}

@@ -17,6 +17,7 @@ use crate::members::{flag, mtu};
 use crate::names::is_interface_name;
 use cni_addr::Text;
 use cni_json::{Field, Value, field_str};
+use kernel_types::BridgeName;
 use std::alloc::Global;
 
 /// The configuration of the `bridge` plugin, from its object in a list.
@@ -26,7 +27,7 @@ pub fn bridge(alloc: Global, object: &Value) -> Result<BridgeConf, ConfError>
     ensures { Gives is_out_of_memory result (wanted.bridge_at (view object.now)) }
 {
     bridge_supported(alloc, object)?;
-    let bridge = bridge_name(alloc, object)?;
+    let bridge = BridgeName::of(bridge_name(alloc, object)?);
     let gateway = gateway_role(alloc, object)?;
     let ip_masq = flag(alloc, object, "ipMasq", false)?;
     let mtu = mtu(alloc, object)?;

@@ -4,6 +4,7 @@ use crate::bridge_modes::{BridgeMode, GatewayRole};
 use crate::range_sets::RangeSets;
 use cni_addr::{Items, MacvlanMode, Text};
 use cni_result::{Dns, RouteEntry};
+use kernel_types::BridgeName;
 
 /// The configuration of `host-local`: an attachment gets one address of each set.
 #[derive(PartialEq, Eq, Drop)]
@@ -15,7 +16,7 @@ pub struct HostLocalConf {
 /// The configuration of `bridge`. In a list that is read, the MTU passes [`is_mtu`](crate::is_mtu).
 #[derive(PartialEq, Eq, Drop)]
 pub struct BridgeConf {
-    pub bridge: Text,
+    pub bridge: BridgeName,
     pub gateway: GatewayRole,
     pub ip_masq: bool,
     pub mtu: u32,

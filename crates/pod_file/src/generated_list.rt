@@ -6,6 +6,7 @@ ghost use Rattle.pod_file.specs.Generator as wanted;
 
 use cni_addr::{Addr, Cidr, Family, Items, NoMemory, Range, RangeSet, Text};
 use cni_result::{Version, no_dns};
+use kernel_types::BridgeName;
 use net_conf::{
     BridgeConf, BridgeMode, Chained, ChainedPlugins, DEFAULT_MTU, FirewallConf, First, GatewayRole,
     HostLocalConf, NetList, PortmapConf, RangeSets,
@@ -31,7 +32,7 @@ fn gateway_bridge(alloc: Global) -> Result<BridgeConf, NoMemory>
     ensures { IfOk result (λ conf. conf ≡ wanted.gateway_bridge) }
 {
     Ok(BridgeConf {
-        bridge: Text::of(alloc, "cni0")?,
+        bridge: BridgeName::of(Text::of(alloc, "cni0")?),
         gateway: GatewayRole::Gateway,
         ip_masq: true,
         mtu: DEFAULT_MTU,
