@@ -176,11 +176,11 @@ impl Asked for Gateway {
         self.cidr.addr.bits.hash(state);
     }
 
-    fn ask(self) -> Call {
-        Call::GatewayEnsure {
+    fn ask(self, _alloc: Global) -> Result<Call, NoMemory> {
+        Ok(Call::GatewayEnsure {
             bridge: self.bridge,
             cidr: self.cidr,
-        }
+        })
     }
 }
 

@@ -56,10 +56,10 @@ impl Asked for AddressOrRoute {
         }
     }
 
-    fn ask(self) -> Call {
+    fn ask(self, alloc: Global) -> Result<Call, NoMemory> {
         match self {
-            AddressOrRoute::Address(obj) => obj.ask(),
-            AddressOrRoute::Route(obj) => obj.ask(),
+            AddressOrRoute::Address(obj) => obj.ask(alloc),
+            AddressOrRoute::Route(obj) => obj.ask(alloc),
         }
     }
 }

@@ -4,7 +4,7 @@ ghost use Rattle.std.specs.Prelude.{◌≡◌, IfOk};
 ghost use Rattle.bridge_ptp.specs.Veth as veth;
 
 use cni_addr::{NoMemory, Text};
-use kernel_types::{Call, NamedAtt};
+use kernel_types::{Call, NamedAtt, RefCounted};
 use plugin_base::{host_end, inner_end};
 use std::alloc::Global;
 
@@ -19,8 +19,10 @@ pub(crate) fn veth_pair(
 ) -> Result<Call, NoMemory>
     ensures { IfOk result (λ call. call ≡ veth.veth_pair att.now netns.now master mtu hairpin) }
 {
+    let host_end = host_end(alloc, att, netns, master, mtu, hairpin)?;
+    let inner_end = inner_end(alloc, att, netns, mtu)?;
     Ok(Call::VethAdd {
-        host_end: host_end(alloc, att, netns, master, mtu, hairpin)?,
-        inner_end: inner_end(alloc, att, netns, mtu)?,
+        host_end: RefCounted::of(alloc, host_end)?,
+        inner_end: RefCounted::of(alloc, inner_end)?,
     })
 }

@@ -54,61 +54,64 @@ impl Checked for Link {
             ns: self.ns.copy()?,
             name: self.name.copy()?,
         };
-        asks_for(alloc, Object::Link(self), missed)
+        asks_for(alloc, Object::Link(RefCounted::of(alloc, self)?), missed)
     }
 }
 
-impl Checked for AddrObj {
+impl Checked for RefCounted<AddrObj> {
     ghost use Rattle.cni_verbs.specs.Questions.{address_question};
 
     ghost question = { address_question };
 
     fn ask(self, alloc: Global) -> Result<Question, NoMemory> {
+        let address = self.get();
         let missed = Missed::Address {
-            ns: self.ns.copy()?,
-            link: self.link.copy()?,
-            cidr: self.cidr,
+            ns: address.ns.copy()?,
+            link: address.link.copy()?,
+            cidr: address.cidr,
         };
         asks_for(alloc, Object::Address(self), missed)
     }
 }
 
-impl Checked for RouteObj {
+impl Checked for RefCounted<RouteObj> {
     ghost use Rattle.cni_verbs.specs.Questions.{route_question};
 
     ghost question = { route_question };
 
     fn ask(self, alloc: Global) -> Result<Question, NoMemory> {
+        let route = self.get();
         let missed = Missed::Route {
-            ns: self.ns.copy()?,
-            link: self.link.copy()?,
-            dst: self.dst,
+            ns: route.ns.copy()?,
+            link: route.link.copy()?,
+            dst: route.dst,
         };
         asks_for(alloc, Object::Route(self), missed)
     }
 }
 
-impl Checked for Setting {
+impl Checked for RefCounted<Setting> {
     ghost use Rattle.cni_verbs.specs.Questions.{setting_question};
 
     ghost question = { setting_question };
 
     fn ask(self, alloc: Global) -> Result<Question, NoMemory> {
+        let setting = self.get();
         let missed = Missed::Setting {
-            ns: self.ns.copy()?,
-            key: self.key.copy()?,
+            ns: setting.ns.copy()?,
+            key: setting.key.copy()?,
         };
         asks_for(alloc, Object::Setting(self), missed)
     }
 }
 
-impl Checked for Lease {
+impl Checked for RefCounted<Lease> {
     ghost use Rattle.cni_verbs.specs.Questions.{lease_question};
 
     ghost question = { lease_question };
 
     fn ask(self, alloc: Global) -> Result<Question, NoMemory> {
-        let missed = Missed::Lease(self.addr);
+        let missed = Missed::Lease(self.get().addr);
         asks_for(alloc, Object::Lease(self), missed)
     }
 }
@@ -124,18 +127,18 @@ fn ask_each<T: Checked>(questions: &mut Vec<Question>, objects: Vec<T>) -> Resul
     Ok(())
 }
 
-fn rule_question(alloc: Global, rule: &Rule, number: u64) -> Result<Question, NoMemory>
+fn rule_question(alloc: Global, rule: &RefCounted<Rule>, number: u64) -> Result<Question, NoMemory>
     ensures { IfOk result (λ q. q ≡ asked.rule_question number rule.now) }
 {
     let missed = Missed::Rule {
-        table: rule.table,
-        chain: rule.chain,
+        table: rule.get().table,
+        chain: rule.get().chain,
         number,
     };
     asks_for(alloc, Object::Rule(rule.copy()?), missed)
 }
 
-fn ask_rules(questions: &mut Vec<Question>, rules: &[Rule]) -> Result<(), NoMemory>
+fn ask_rules(questions: &mut Vec<Question>, rules: &[RefCounted<Rule>]) -> Result<(), NoMemory>
     ensures { OnOk result (questions.new.items ≡ questions.old.items ++ asked.rule_questions 1 rules.now) }
 {
     let alloc = *questions.allocator();

@@ -4,7 +4,7 @@ ghost use Rattle.std.specs.Prelude.{◌≡◌, ◌++◌, ◌∷◌, [], map, OnO
 ghost use Rattle.plugin_base.specs.Share.{no_objects, share_after_call, share_after_calls};
 ghost use Rattle.kernel_types.specs.Words.{lease_of};
 
-use cni_addr::{Addr, Items, NoMemory};
+use cni_addr::{Addr, Duplicate, Items, NoMemory};
 use cni_result::Cached;
 use kernel_types::{
     AddrObj, Att, CachedObj, Call, Lease, Link, LinkValues, RefCounted, RouteObj, Rule, Setting,
@@ -13,15 +13,16 @@ use kernel_types::{
 use std::alloc::Global;
 use std::marker::Model;
 
-/// Objects of one attachment, list by list.
+/// Objects of one attachment, list by list. They are shared with the calls that make them, but for the links, which
+/// later calls change in place.
 #[derive(Drop)]
 pub(crate) struct Objects {
     pub(crate) links: Vec<Link>,
-    pub(crate) addresses: Vec<AddrObj>,
-    pub(crate) routes: Vec<RouteObj>,
-    pub(crate) rules: Vec<Rule>,
-    pub(crate) settings: Vec<Setting>,
-    pub(crate) leases: Vec<Lease>,
+    pub(crate) addresses: Vec<RefCounted<AddrObj>>,
+    pub(crate) routes: Vec<RefCounted<RouteObj>>,
+    pub(crate) rules: Vec<RefCounted<Rule>>,
+    pub(crate) settings: Vec<RefCounted<Setting>>,
+    pub(crate) leases: Vec<RefCounted<Lease>>,
     pub(crate) cached: Vec<CachedObj>,
 }
 
@@ -65,11 +66,11 @@ fn push<T: Drop>(list: &mut Vec<T>, item: T) -> Result<(), NoMemory>
     Ok(())
 }
 
-fn push_both(links: &mut Vec<Link>, first: Link, second: Link) -> Result<(), NoMemory>
-    ensures { OnOk result (links.new.items ≡ links.old.items ++ first ∷ second ∷ []) }
+fn push_both(links: &mut Vec<Link>, first: &Link, second: &Link) -> Result<(), NoMemory>
+    ensures { OnOk result (links.new.items ≡ links.old.items ++ first.now ∷ second.now ∷ []) }
 {
-    push(links, first)?;
-    push(links, second)
+    push(links, first.copy()?)?;
+    push(links, second.copy()?)
 }
 
 fn push_cached(
@@ -93,8 +94,8 @@ impl Objects {
             Call::VethAdd {
                 host_end,
                 inner_end,
-            } => push_both(&mut self.links, host_end, inner_end),
-            Call::MacvlanAdd { link } => push(&mut self.links, link),
+            } => push_both(&mut self.links, host_end.get(), inner_end.get()),
+            Call::MacvlanAdd { link } => push(&mut self.links, link.get().copy()?),
             Call::LinkSet {
                 att,
                 key,
@@ -147,7 +148,8 @@ impl Objects {
     {
         let mut leases = Vec::with_capacity(alloc, addrs.len())?;
         for addr in addrs {
-            leases.push(Lease::of(att, *addr)?)?;
+            let lease = Lease::of(att, *addr)?;
+            leases.push(RefCounted::of(alloc, lease)?)?;
         }
         self.leases = leases;
         Ok(())

@@ -3,7 +3,7 @@
 ghost use Rattle.std.specs.Prelude.{◌≡◌};
 ghost use Rattle.std.specs.List.{list_any};
 
-use kernel_types::{AddrObj, Lease, Link, RouteObj, Rule, Setting};
+use kernel_types::{AddrObj, Lease, Link, RefCounted, RouteObj, Rule, Setting};
 
 /// An object that is compared as a whole. Its test is the one that the calls are defined by.
 pub(crate) trait Compared {
@@ -45,12 +45,12 @@ impl Compared for RouteObj {
     }
 }
 
-impl Compared for Rule {
+impl Compared for RefCounted<Rule> {
     ghost use Rattle.kernel_types.specs.Equal.{rule_eq};
 
     ghost same = { rule_eq };
 
-    fn is_same(&self, other: &Rule) -> bool {
+    fn is_same(&self, other: &RefCounted<Rule>) -> bool {
         self == other
     }
 }

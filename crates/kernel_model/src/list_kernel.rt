@@ -20,7 +20,8 @@ mod shared;
 use crate::kernel::Kernel;
 use cni_addr::{NoMemory, copies};
 use kernel_types::{
-    AddrObj, CachedObj, Call, Host, Last, Lease, Link, NsObj, Reply, RouteObj, Rule, Setting,
+    AddrObj, CachedObj, Call, Host, Last, Lease, Link, NsObj, RefCounted, Reply, RouteObj, Rule,
+    Setting,
 };
 use std::alloc::Global;
 use std::marker::Model;
@@ -33,7 +34,7 @@ struct HostLists {
     links: Vec<Link>,
     addresses: Vec<AddrObj>,
     routes: Vec<RouteObj>,
-    rules: Vec<Rule>,
+    rules: Vec<RefCounted<Rule>>,
     settings: Vec<Setting>,
     leases: Vec<Lease>,
     cached: Vec<CachedObj>,
@@ -108,8 +109,8 @@ impl HostLists {
             Call::VethAdd {
                 host_end,
                 inner_end,
-            } => self.veth_add(host_end, inner_end),
-            Call::MacvlanAdd { link } => self.macvlan_add(link),
+            } => self.veth_add(host_end.get(), inner_end.get()),
+            Call::MacvlanAdd { link } => self.macvlan_add(link.get()),
             Call::LinkSet {
                 att,
                 key,
@@ -119,10 +120,10 @@ impl HostLists {
                 promisc,
                 allmulti,
             } => Ok(self.link_set(att, key, *mac, *mtu, *tx_qlen, *promisc, *allmulti)),
-            Call::AddrAdd { obj } => self.addr_add(obj),
-            Call::RouteAdd { obj } => self.route_add(obj),
+            Call::AddrAdd { obj } => self.addr_add(obj.get()),
+            Call::RouteAdd { obj } => self.route_add(obj.get()),
             Call::RuleAppend { rule } => self.rule_append(rule),
-            Call::SettingSet { setting } => self.setting_set(setting),
+            Call::SettingSet { setting } => self.setting_set(setting.get()),
             Call::LeaseNext { att, number, set } => self.lease_next(att, *number, set),
             Call::CachePut { att, cached } => self.cache_put(att, cached),
             Call::LinkDel { att } => Ok(self.link_del(att)),

@@ -14,7 +14,8 @@ use crate::row::Row;
 use cni_addr::{Duplicate, NoMemory, Text};
 use kernel_types::words::is_host_ns;
 use kernel_types::{
-    AddrObj, Att, CachedObj, Last, Lease, Link, LinkKey, NsObj, RouteObj, Rule, Setting, Tag,
+    AddrObj, Att, CachedObj, Last, Lease, Link, LinkKey, NsObj, RefCounted, RouteObj, Rule,
+    Setting, Tag,
 };
 
 /// The attachment that a tag names.
@@ -190,7 +191,7 @@ impl Row<RouteKey, RouteObj, Att> for RouteObj {
     }
 }
 
-impl Row<Rule, Text, Att> for Rule {
+impl Row<RefCounted<Rule>, Text, Att> for RefCounted<Rule> {
     ghost use Rattle.std.specs.Prelude.{Some, None};
     ghost use Rattle.kernel_tables.specs.Rows.{owner_named};
 
@@ -200,7 +201,7 @@ impl Row<Rule, Text, Att> for Rule {
 
     ghost owner_of = { λ r. owner_named r.tag };
 
-    fn key(&self) -> Result<Option<Rule>, NoMemory> {
+    fn key(&self) -> Result<Option<RefCounted<Rule>>, NoMemory> {
         Ok(Some(self.copy()?))
     }
 
@@ -209,10 +210,10 @@ impl Row<Rule, Text, Att> for Rule {
     }
 
     fn owner(&self) -> Result<Option<Att>, NoMemory> {
-        copy_owner(&self.tag)
+        copy_owner(&self.get().tag)
     }
 
-    fn has_key(&self, key: &Rule) -> bool {
+    fn has_key(&self, key: &RefCounted<Rule>) -> bool {
         self == key
     }
 
@@ -221,7 +222,7 @@ impl Row<Rule, Text, Att> for Rule {
     }
 
     fn is_owned_by(&self, att: &Att) -> bool {
-        is_owned_by(&self.tag, att)
+        is_owned_by(&self.get().tag, att)
     }
 }
 

@@ -22,7 +22,8 @@ use cni_addr::{NoMemory, Text};
 use indexmap::IndexMap;
 use ip_pool::AddrRuns;
 use kernel_types::{
-    AddrObj, Att, CachedObj, Host, Last, Lease, Link, LinkKey, NsObj, RouteObj, Rule, Setting,
+    AddrObj, Att, CachedObj, Host, Last, Lease, Link, LinkKey, NsObj, RefCounted, RouteObj, Rule,
+    Setting,
 };
 use std::alloc::Global;
 use std::marker::Model;
@@ -34,7 +35,7 @@ pub(crate) struct Tables {
     links: Table<LinkKey, Text, Att, Link>,
     addresses: Table<AddrKey, AddrObj, Att, AddrObj>,
     routes: Table<RouteKey, RouteObj, Att, RouteObj>,
-    rules: Table<Rule, Text, Att, Rule>,
+    rules: Table<RefCounted<Rule>, Text, Att, RefCounted<Rule>>,
     settings: Table<SettingKey, Setting, Att, Setting>,
     leases: Table<Lease, Text, Att, Lease>,
     cached: Table<Att, Text, Att, CachedObj>,

@@ -9,7 +9,7 @@ use crate::tags::put_tag;
 use crate::words::{chain_text, target_text};
 use cni_addr::NoMemory;
 use cni_json::JsonObject;
-use kernel_types::{Rule, Setting, table_text};
+use kernel_types::{RefCounted, Rule, Setting, table_text};
 use serde_json::Value;
 use std::alloc::Global;
 
@@ -38,14 +38,14 @@ fn put_chain(object: &mut JsonObject, alloc: Global, rule: &Rule) -> Result<(), 
     object.put("target", &target_text(alloc, &rule.target)?)
 }
 
-impl Dumped for Rule {
+impl Dumped for RefCounted<Rule> {
     ghost shown = { rule_data };
 
     #[tactic(auto, unfolding(crate::specs::Dump::rule_data))]
     fn dump_value(&self, alloc: Global) -> Result<Value, NoMemory> {
         let mut object = JsonObject::new(alloc);
-        put_chain(&mut object, alloc, self)?;
-        put_match(&mut object, self)?;
+        put_chain(&mut object, alloc, self.get())?;
+        put_match(&mut object, self.get())?;
         Ok(object.into_value())
     }
 }

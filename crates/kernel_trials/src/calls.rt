@@ -39,8 +39,8 @@ fn forward_ensure(words: &str) -> Result<Call, RowError> {
 
 /// `VethAdd CONTAINER NAMESPACE NAME OUTER MASTER`.
 fn veth_add(alloc: Global, words: &str) -> Result<Call, RowError> {
-    let host_end = host_end(alloc, words)?;
-    let inner_end = inner_end(alloc, words)?;
+    let host_end = RefCounted::of(alloc, host_end(alloc, words)?)?;
+    let inner_end = RefCounted::of(alloc, inner_end(alloc, words)?)?;
     Ok(Call::VethAdd {
         host_end,
         inner_end,
@@ -48,7 +48,7 @@ fn veth_add(alloc: Global, words: &str) -> Result<Call, RowError> {
 }
 
 fn macvlan_add(alloc: Global, words: &str) -> Result<Call, RowError> {
-    let link = macvlan(alloc, words)?;
+    let link = RefCounted::of(alloc, macvlan(alloc, words)?)?;
     Ok(Call::MacvlanAdd { link })
 }
 
@@ -69,22 +69,22 @@ fn link_set(alloc: Global, words: &str) -> Result<Call, RowError> {
 }
 
 fn addr_add(alloc: Global, words: &str) -> Result<Call, RowError> {
-    let obj = address(alloc, words)?;
+    let obj = RefCounted::of(alloc, address(alloc, words)?)?;
     Ok(Call::AddrAdd { obj })
 }
 
 fn route_add(alloc: Global, words: &str) -> Result<Call, RowError> {
-    let obj = route(alloc, words)?;
+    let obj = RefCounted::of(alloc, route(alloc, words)?)?;
     Ok(Call::RouteAdd { obj })
 }
 
 fn rule_append(alloc: Global, words: &str) -> Result<Call, RowError> {
-    let rule = rule(alloc, words)?;
+    let rule = RefCounted::of(alloc, rule(alloc, words)?)?;
     Ok(Call::RuleAppend { rule })
 }
 
 fn setting_set(alloc: Global, words: &str) -> Result<Call, RowError> {
-    let setting = setting(alloc, words)?;
+    let setting = RefCounted::of(alloc, setting(alloc, words)?)?;
     Ok(Call::SettingSet { setting })
 }
 
@@ -179,12 +179,12 @@ fn outside(alloc: Global, verb: &str, words: &str) -> Result<Call, RowError> {
 
 fn object_question(alloc: Global, verb: &str, words: &str) -> Result<Call, RowError> {
     let object = match verb {
-        "HasLink" => Object::Link(macvlan(alloc, words)?),
-        "HasAddress" => Object::Address(address(alloc, words)?),
-        "HasRoute" => Object::Route(route(alloc, words)?),
-        "HasRule" => Object::Rule(rule(alloc, words)?),
-        "HasSetting" => Object::Setting(setting(alloc, words)?),
-        "HasLease" => Object::Lease(lease(alloc, words)?),
+        "HasLink" => Object::Link(RefCounted::of(alloc, macvlan(alloc, words)?)?),
+        "HasAddress" => Object::Address(RefCounted::of(alloc, address(alloc, words)?)?),
+        "HasRoute" => Object::Route(RefCounted::of(alloc, route(alloc, words)?)?),
+        "HasRule" => Object::Rule(RefCounted::of(alloc, rule(alloc, words)?)?),
+        "HasSetting" => Object::Setting(RefCounted::of(alloc, setting(alloc, words)?)?),
+        "HasLease" => Object::Lease(RefCounted::of(alloc, lease(alloc, words)?)?),
         _ => return outside(alloc, verb, words),
     };
     Ok(Call::HasObj {

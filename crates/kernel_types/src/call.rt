@@ -45,12 +45,12 @@ impl Eq for Kind {
 /// An object that a check looks for.
 #[derive(PartialEq, Eq, Drop)]
 pub enum Object {
-    Link(Link),
-    Address(AddrObj),
-    Route(RouteObj),
-    Rule(Rule),
-    Setting(Setting),
-    Lease(Lease),
+    Link(RefCounted<Link>),
+    Address(RefCounted<AddrObj>),
+    Route(RefCounted<RouteObj>),
+    Rule(RefCounted<Rule>),
+    Setting(RefCounted<Setting>),
+    Lease(RefCounted<Lease>),
 }
 
 /// What a check asks whether the host has.
@@ -74,7 +74,8 @@ pub enum Change {
 }
 
 /// A call of the kernel. Each is named with what it does where nothing refuses it; `specs/Apply/Calls.antt` has its
-/// equation, with each refusal.
+/// equation, with each refusal. Its objects are shared: by the call's copies, the probes of a check and, for a rule, the
+/// host.
 #[derive(PartialEq, Eq, Drop)]
 pub enum Call {
     /// Asks whether an attachment may begin: its namespace is there, and nothing is its own yet. Changes nothing.
@@ -99,12 +100,12 @@ pub enum Call {
     },
     /// Both ends of a veth pair.
     VethAdd {
-        host_end: Link,
-        inner_end: Link,
+        host_end: RefCounted<Link>,
+        inner_end: RefCounted<Link>,
     },
     /// A macvlan link on its master.
     MacvlanAdd {
-        link: Link,
+        link: RefCounted<Link>,
     },
     /// The given values of the attachment's link at the place; a mode is turned on where its flag is set, and never
     /// off.
@@ -119,19 +120,19 @@ pub enum Call {
     },
     /// An address on a link of its owner.
     AddrAdd {
-        obj: AddrObj,
+        obj: RefCounted<AddrObj>,
     },
     /// A route over a link of its owner.
     RouteAdd {
-        obj: RouteObj,
+        obj: RefCounted<RouteObj>,
     },
     /// A rule at the end of its chain.
     RuleAppend {
-        rule: Rule,
+        rule: RefCounted<Rule>,
     },
     /// A setting of a namespace.
     SettingSet {
-        setting: Setting,
+        setting: RefCounted<Setting>,
     },
     /// A lease of the next free address of the set of this number.
     LeaseNext {

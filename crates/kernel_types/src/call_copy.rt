@@ -128,7 +128,10 @@ fn copy_gateway_ensure(bridge: &Text, cidr: Cidr) -> Result<Call, NoMemory>
 }
 
 #[inline(never)]
-fn copy_veth_add(host_end: &Link, inner_end: &Link) -> Result<Call, NoMemory>
+fn copy_veth_add(
+    host_end: &RefCounted<Link>,
+    inner_end: &RefCounted<Link>,
+) -> Result<Call, NoMemory>
     ensures { IfOk result (λ twin. twin ≡ calls.VethAdd host_end.now inner_end.now) }
 {
     let host_end = host_end.copy()?;
@@ -208,35 +211,35 @@ fn copy_ns_change(name: &Text, add: bool) -> Result<Call, NoMemory>
 }
 
 #[inline(never)]
-fn copy_macvlan_add(link: &Link) -> Result<Call, NoMemory>
+fn copy_macvlan_add(link: &RefCounted<Link>) -> Result<Call, NoMemory>
     ensures { IfOk result (λ twin. twin ≡ calls.MacvlanAdd link.now) }
 {
     Ok(Call::MacvlanAdd { link: link.copy()? })
 }
 
 #[inline(never)]
-fn copy_addr_add(obj: &AddrObj) -> Result<Call, NoMemory>
+fn copy_addr_add(obj: &RefCounted<AddrObj>) -> Result<Call, NoMemory>
     ensures { IfOk result (λ twin. twin ≡ calls.AddrAdd obj.now) }
 {
     Ok(Call::AddrAdd { obj: obj.copy()? })
 }
 
 #[inline(never)]
-fn copy_route_add(obj: &RouteObj) -> Result<Call, NoMemory>
+fn copy_route_add(obj: &RefCounted<RouteObj>) -> Result<Call, NoMemory>
     ensures { IfOk result (λ twin. twin ≡ calls.RouteAdd obj.now) }
 {
     Ok(Call::RouteAdd { obj: obj.copy()? })
 }
 
 #[inline(never)]
-fn copy_rule_append(rule: &Rule) -> Result<Call, NoMemory>
+fn copy_rule_append(rule: &RefCounted<Rule>) -> Result<Call, NoMemory>
     ensures { IfOk result (λ twin. twin ≡ calls.RuleAppend rule.now) }
 {
     Ok(Call::RuleAppend { rule: rule.copy()? })
 }
 
 #[inline(never)]
-fn copy_setting_set(setting: &Setting) -> Result<Call, NoMemory>
+fn copy_setting_set(setting: &RefCounted<Setting>) -> Result<Call, NoMemory>
     ensures { IfOk result (λ twin. twin ≡ calls.SettingSet setting.now) }
 {
     Ok(Call::SettingSet {

@@ -303,7 +303,7 @@ pub struct Host {
     pub links: Items<Link>,
     pub addresses: Items<AddrObj>,
     pub routes: Items<RouteObj>,
-    pub rules: Items<Rule>,
+    pub rules: Items<RefCounted<Rule>>,
     pub settings: Items<Setting>,
     pub leases: Items<Lease>,
     pub cached: Items<CachedObj>,

@@ -4,6 +4,7 @@ ghost use Rattle.std.specs.Prelude.{◌≡◌, IfOk};
 
 use cni_addr::{Duplicate, NoMemory};
 use std::alloc::Global;
+use std::hash::{Hash, Hasher};
 use std::marker::Model;
 use std::sync::Arc;
 
@@ -63,4 +64,14 @@ impl<T: PartialEq> PartialEq for RefCounted<T> {
 
 impl<T: Eq> Eq for RefCounted<T> {
     ghost laws = { T.Eq.laws };
+}
+
+impl<T: Hash> Hash for RefCounted<T> {
+    ghost hash_input = { T.hash_input };
+
+    ghost respects_eq = { T.respects_eq };
+
+    fn hash<H: Hasher>(&self, state: &mut H) {
+        self.get().hash(state);
+    }
 }

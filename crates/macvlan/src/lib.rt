@@ -18,7 +18,7 @@ ghost use Rattle.macvlan.specs.Macvlan as plan;
 use cni_addr::{Duplicate, Items, NoMemory, Text};
 use cni_result::AddResult;
 use host_local::{interface_kinds, routes_of};
-use kernel_types::{Att, Call, Given, Kind, NamedAtt};
+use kernel_types::{Att, Call, Given, Kind, NamedAtt, RefCounted};
 use net_conf::MacvlanConf;
 use plugin_base::{addresses_on, ask_all, completed, inner_interface, macvlan_link, routes_on};
 use std::alloc::Global;
@@ -34,7 +34,9 @@ pub fn before(
 {
     let link = macvlan_link(att, netns, &conf.master, conf.mode, conf.mtu)?;
     let mut calls = Items::new(alloc);
-    calls.push(Call::MacvlanAdd { link })?;
+    calls.push(Call::MacvlanAdd {
+        link: RefCounted::of(alloc, link)?,
+    })?;
     Ok(calls)
 }
 

@@ -1,13 +1,15 @@
 //! Objects that calls ask for, told apart by their keys.
 
 use crate::key_writes::{hash_addr, hash_cidr, hash_rule};
+use cni_addr::NoMemory;
 use kernel_types::words::{is_same_addr, is_same_route, is_same_setting};
-use kernel_types::{AddrObj, Call, RouteObj, Rule, Setting};
+use kernel_types::{AddrObj, Call, RefCounted, RouteObj, Rule, Setting};
+use std::alloc::Global;
 use std::hash::{Hash, Hasher};
 
 /// An object that a call asks for, with the test whether another has its key, and what its key feeds a hasher.
 pub trait Asked: Drop {
-    ghost use Rattle.std.specs.Prelude.{◌≡◌, Bool, IsTrue, fold};
+    ghost use Rattle.std.specs.Prelude.{◌≡◌, Bool, IfOk, IsTrue, fold};
     ghost use Rattle.std.specs.Cmp.{IsEquivalence};
     ghost use Rattle.std.specs.Hash.{HashWrites};
     ghost use Rattle.kernel_types.specs.declared.call.Call.{Call};
@@ -28,8 +30,8 @@ pub trait Asked: Drop {
         ensures { state.new ≡ fold H.write state.old (key_writes self.now) };
 
     /// The call that asks for it.
-    fn ask(self) -> Call
-        ensures { result ≡ call_for self };
+    fn ask(self, alloc: Global) -> Result<Call, NoMemory>
+        ensures { IfOk result (λ call. call ≡ call_for self) };
 
     ghost key_laws: { IsEquivalence same_key };
 
@@ -60,8 +62,10 @@ impl Asked for AddrObj {
         hash_addr(&self.cidr.addr, state);
     }
 
-    fn ask(self) -> Call {
-        Call::AddrAdd { obj: self }
+    fn ask(self, alloc: Global) -> Result<Call, NoMemory> {
+        Ok(Call::AddrAdd {
+            obj: RefCounted::of(alloc, self)?,
+        })
     }
 }
 
@@ -89,8 +93,10 @@ impl Asked for RouteObj {
         hash_cidr(&self.dst, state);
     }
 
-    fn ask(self) -> Call {
-        Call::RouteAdd { obj: self }
+    fn ask(self, alloc: Global) -> Result<Call, NoMemory> {
+        Ok(Call::RouteAdd {
+            obj: RefCounted::of(alloc, self)?,
+        })
     }
 }
 
@@ -118,8 +124,10 @@ impl Asked for Rule {
         hash_rule(self, state);
     }
 
-    fn ask(self) -> Call {
-        Call::RuleAppend { rule: self }
+    fn ask(self, alloc: Global) -> Result<Call, NoMemory> {
+        Ok(Call::RuleAppend {
+            rule: RefCounted::of(alloc, self)?,
+        })
     }
 }
 
@@ -147,7 +155,9 @@ impl Asked for Setting {
         self.key.hash(state);
     }
 
-    fn ask(self) -> Call {
-        Call::SettingSet { setting: self }
+    fn ask(self, alloc: Global) -> Result<Call, NoMemory> {
+        Ok(Call::SettingSet {
+            setting: RefCounted::of(alloc, self)?,
+        })
     }
 }

@@ -90,11 +90,10 @@ pub fn ask_all<T: Asked>(calls: &mut Vec<Call>, objects: EachKeyOnce<T>) -> Resu
     ensures err { OnErr result (calls.new.items ≡ calls.old.items) }
 {
     let alloc = *calls.allocator();
-    let mut asked: Vec<Call> = objects
-        .objects
-        .into_iter()
-        .map(|keyed| keyed.object.ask())
-        .collect(alloc)?;
+    let mut asked = Vec::with_capacity(alloc, objects.objects.len())?;
+    for keyed in objects.objects {
+        asked.push(keyed.object.ask(alloc)?)?;
+    }
     calls.append(&mut asked)?;
     Ok(())
 }

@@ -161,7 +161,11 @@ fn is_unowned(host: &Host) -> bool {
     !(host.links.as_slice().iter().any(|it| it.tag.is_owned())
         || host.addresses.as_slice().iter().any(|it| it.tag.is_owned())
         || host.routes.as_slice().iter().any(|it| it.tag.is_owned())
-        || host.rules.as_slice().iter().any(|it| it.tag.is_owned())
+        || host
+            .rules
+            .as_slice()
+            .iter()
+            .any(|it| it.get().tag.is_owned())
         || host.settings.as_slice().iter().any(|it| it.tag.is_owned())
         || host.leases.as_slice().iter().any(|it| it.tag.is_owned())
         || host.cached.as_slice().iter().any(|it| it.tag.is_owned()))

@@ -12,7 +12,7 @@ use crate::lists::push_both;
 use crate::words::{copy_tag, has_bridge_in, has_free_master, has_link_in, has_ns_in, link_in};
 use cni_addr::{Duplicate, NoMemory, Text};
 use kernel_types::words::{is_same_addr, is_same_route, is_same_setting};
-use kernel_types::{AddrObj, Link, Reply, RouteObj, Rule, Setting, Tag};
+use kernel_types::{AddrObj, Link, RefCounted, Reply, RouteObj, Rule, Setting, Tag};
 
 /// The same address on the same link.
 fn same_addr<'a>(addresses: &'a [AddrObj], obj: &AddrObj) -> Option<&'a AddrObj>
@@ -130,12 +130,12 @@ impl HostLists {
         append_unless_taken(&mut self.routes, taken, obj)
     }
 
-    pub(crate) fn rule_append(&mut self, rule: &Rule) -> Result<Reply, NoMemory>
+    pub(crate) fn rule_append(&mut self, rule: &RefCounted<Rule>) -> Result<Reply, NoMemory>
         ensures ok { IfOk result (λ reply. (self.new, reply) ≡ rule_append_of self.old rule.now) }
         ensures err { OnErr result (self.new ≡ self.old) }
     {
         if contains(&self.rules, rule) {
-            return Ok(Reply::Taken(rule.tag.copy()?));
+            return Ok(Reply::Taken(rule.get().tag.copy()?));
         }
         self.rules.push(rule.copy()?)?;
         Ok(Reply::Done)

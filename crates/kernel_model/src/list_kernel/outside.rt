@@ -12,7 +12,7 @@ use super::HostLists;
 use super::leaving::{AtPlace, InNamespace};
 use crate::words::{has_ns_in, link_in};
 use cni_addr::{NoMemory, Text};
-use kernel_types::{Change, LinkKey, NsObj, Reply, Rule, Setting, Table, Tag};
+use kernel_types::{Change, LinkKey, NsObj, RefCounted, Reply, Rule, Setting, Table, Tag};
 
 fn drop_namespace(namespaces: &mut Vec<NsObj>, name: &Text)
     ensures { namespaces.new.items ≡ filter (λ n. not (bytes_eq n.name name.now)) namespaces.old.items }
@@ -26,10 +26,10 @@ fn drop_settings_in(settings: &mut Vec<Setting>, ns: &Text)
     settings.retain(|s| s.ns != *ns);
 }
 
-fn drop_rules_of(rules: &mut Vec<Rule>, table: Table)
+fn drop_rules_of(rules: &mut Vec<RefCounted<Rule>>, table: Table)
     ensures { rules.new.items ≡ filter (λ r. not (table_eq r.table table)) rules.old.items }
 {
-    rules.retain(|r| r.table != table);
+    rules.retain(|r| r.get().table != table);
 }
 
 impl HostLists {

@@ -29,12 +29,12 @@ impl HostLists {
         ensures { result ≡ has_object self.now (Whole object.now) }
     {
         match object {
-            Object::Link(link) => contains(&self.links, link),
-            Object::Address(address) => contains(&self.addresses, address),
-            Object::Route(route) => contains(&self.routes, route),
+            Object::Link(link) => contains(&self.links, link.get()),
+            Object::Address(address) => contains(&self.addresses, address.get()),
+            Object::Route(route) => contains(&self.routes, route.get()),
             Object::Rule(rule) => contains(&self.rules, rule),
-            Object::Setting(setting) => contains(&self.settings, setting),
-            Object::Lease(lease) => contains(&self.leases, lease),
+            Object::Setting(setting) => contains(&self.settings, setting.get()),
+            Object::Lease(lease) => contains(&self.leases, lease.get()),
         }
     }
 

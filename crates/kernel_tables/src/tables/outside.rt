@@ -8,7 +8,7 @@ ghost use Rattle.kernel_types.specs.declared.call.Call.TheVariants.{Outside};
 
 use super::Tables;
 use crate::row::Test;
-use kernel_types::{Change, Reply, Rule, Table};
+use kernel_types::{Change, RefCounted, Reply, Rule, Table};
 
 /// The rules of a table.
 #[derive(Clone, Copy)]
@@ -16,13 +16,13 @@ struct InTable {
     table: Table,
 }
 
-impl Test<Rule> for InTable {
+impl Test<RefCounted<Rule>> for InTable {
     ghost use Rattle.kernel_types.specs.Equal.{table_eq};
 
     ghost passes = { λ within rule. table_eq rule.table within.table };
 
-    fn passes(&self, rule: &Rule) -> bool {
-        rule.table == self.table
+    fn passes(&self, rule: &RefCounted<Rule>) -> bool {
+        rule.get().table == self.table
     }
 }
 

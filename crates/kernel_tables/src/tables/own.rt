@@ -8,7 +8,7 @@ ghost use Rattle.kernel_types.specs.Words.{has_named_ns};
 use super::Tables;
 use crate::keys::{AddrKey, RouteKey, SettingKey};
 use cni_addr::{Duplicate, NoMemory, Text};
-use kernel_types::{AddrObj, LinkKey, Reply, RouteObj, Rule, Setting, Tag};
+use kernel_types::{AddrObj, LinkKey, RefCounted, Reply, RouteObj, Rule, Setting, Tag};
 use std::alloc::Global;
 
 impl Tables {
@@ -60,12 +60,16 @@ impl Tables {
     }
 
     #[inline(never)]
-    pub(crate) fn rule_append(&mut self, alloc: Global, rule: &Rule) -> Result<Reply, NoMemory>
+    pub(crate) fn rule_append(
+        &mut self,
+        alloc: Global,
+        rule: &RefCounted<Rule>,
+    ) -> Result<Reply, NoMemory>
         ensures ok { IfOk result (λ reply. (self.new, reply) ≡ rule_append_of self.old rule.now) }
         ensures err { OnErr result (self.new ≡ self.old) }
     {
         if self.rules.find(rule).is_some() {
-            return Ok(Reply::Taken(rule.tag.copy()?));
+            return Ok(Reply::Taken(rule.get().tag.copy()?));
         }
         self.rules.push(alloc, rule.copy()?)?;
         Ok(Reply::Done)

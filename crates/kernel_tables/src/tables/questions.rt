@@ -80,12 +80,12 @@ impl Tables {
         ensures { result ≡ has_object self.now (Whole object.now) }
     {
         match object {
-            Object::Link(link) => self.has_link(link),
-            Object::Address(address) => self.addresses.find_alias(address).is_some(),
-            Object::Route(route) => self.routes.find_alias(route).is_some(),
+            Object::Link(link) => self.has_link(link.get()),
+            Object::Address(address) => self.addresses.find_alias(address.get()).is_some(),
+            Object::Route(route) => self.routes.find_alias(route.get()).is_some(),
             Object::Rule(rule) => self.rules.find(rule).is_some(),
-            Object::Setting(setting) => self.settings.find_alias(setting).is_some(),
-            Object::Lease(lease) => self.leases.find(lease).is_some(),
+            Object::Setting(setting) => self.settings.find_alias(setting.get()).is_some(),
+            Object::Lease(lease) => self.leases.find(lease.get()).is_some(),
         }
     }
 

@@ -13,7 +13,7 @@ returns-then-is_some-clause-ok c =
     let any : c.is_some.result ≡ list_any (is_same_rule c.args.rule.now) c.self.inside.rules =
     c.is_some.ensures ∙ some-copied c.find.result ∙ ap is_some c.find.ensures ∙ some-find _ c.self.inside.rules ∙ any-same_rule c.args.rule.now c.self.inside.rules in
     let there : list_any (is_same_rule c.args.rule.now) c.args.self.now.rules ≡ true = rw (← c.self.view_is) (sym any ∙ c.if-is_some.true) in
-    rw (there, c.in_ok-copy.ensures) refl
+    rw (there, c.in_ok-copy.ensures, c.get.ensures) refl
 
 pub push-requires-clause-key : goal.push-requires-clause-key
 push-requires-clause-key c =
