@@ -137,7 +137,7 @@ fn given_by_first(conf: &HostLocalConf, addr: &Addr) -> Option<Given> {
 }
 
 #[test]
-fn a_candidate_is_given_and_told(rt: HostRuntime) -> Result<(), Fail> {
+fn a_candidate_is_given(rt: HostRuntime) -> Result<(), Fail> {
     let list = two_sets(rt.alloc())?;
     let Some(conf) = ipam_of(&list) else {
         return Err("addresses".into());
@@ -145,15 +145,28 @@ fn a_candidate_is_given_and_told(rt: HostRuntime) -> Result<(), Fail> {
     let one = given_by_first(conf, &address(TEN_88, 9));
     assert!(rt; one == Some(means(TEN_88, 9)));
     assert!(rt; given_by_first(conf, &address(TEN_88, 1)).is_none());
-    let found = ipam_result(rt.alloc(), conf, &[means(TEN_88, 9)], Version::V1_0)?;
-    assert!(rt; found.interfaces.as_slice().is_empty());
-    let gateways: Vec<Option<Addr>> = found
-        .ips
-        .as_slice()
-        .iter()
-        .map(|ip| ip.gateway)
-        .collect(rt.alloc())?;
-    let told = [Some(address(TEN_88, 1))];
-    assert!(rt; gateways.as_slice() == told.as_slice());
+    Ok(())
+}
+
+/// The gateways that the result has for this address.
+fn gateways_for(
+    alloc: Global,
+    conf: &HostLocalConf,
+    given: Given,
+) -> Result<Vec<Option<Addr>>, Fail> {
+    let found = ipam_result(alloc, conf, &[given], Version::V1_0)?;
+    let ips = found.ips.as_slice().iter();
+    Ok(ips.map(|ip| ip.gateway).collect(alloc)?)
+}
+
+#[test]
+fn a_given_address_has_the_gateway_of_its_range(rt: HostRuntime) -> Result<(), Fail> {
+    let list = two_sets(rt.alloc())?;
+    let Some(conf) = ipam_of(&list) else {
+        return Err("addresses".into());
+    };
+    let gateways = gateways_for(rt.alloc(), conf, means(TEN_88, 9))?;
+    let meant = [Some(address(TEN_88, 1))];
+    assert!(rt; gateways.as_slice() == meant.as_slice());
     Ok(())
 }
