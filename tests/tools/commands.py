@@ -107,10 +107,11 @@ def words():
         ended, calls = run(top, "bin/link", "a")
         if (ended.stdout, ended.returncode, calls) != ("ran a\n", 3, []):
             yield f"by a link: {ended}"
-        ended, _ = run(top, "./cnitool")
         usage = (top / "README.md").read_text(encoding="utf-8").split("## Words and statuses\n")[1].split("## ")[0]
-        if (ended.stdout, ended.stderr, ended.returncode) != ("ran \n", usage, 3):
-            yield f"without words: {ended}"
+        for word in "", "-h", "--help":
+            ended, _ = run(top, "./cnitool", *word.split())
+            if (ended.stdout, ended.stderr, ended.returncode) != (f"ran {word}\n", usage, 3):
+                yield f"usage with {word!r}: {ended}"
 
 
 def tries():
