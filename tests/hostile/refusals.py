@@ -53,9 +53,18 @@ LIMITS = 41
 MOST_PAGES = 1 << 16
 MARGIN = 4
 PODS = 400
-DELETES = 1200
+ADDS = 4
+PORTS = 500
 # the user `nobody`, to whom permissions apply where the script runs as root
 NOBODY = 65_534
+
+
+def publishing(number):
+    """An ADD that publishes many ports."""
+    ports = range(1 + number * PORTS, 1 + (number + 1) * PORTS)
+    mappings = [{"hostPort": port, "containerPort": port} for port in ports]
+    return {**command("ADD", "pods", f"c{number}", f"/ns/{number}"), "portMappings": mappings}
+
 
 FILES = {
     "net.json": network_list("pods", bridge(subnet="10.0.0.0/8")),
@@ -63,12 +72,18 @@ FILES = {
         "opening": {"namespaces": [f"/ns/{i}" for i in range(PODS)]},
         "rounds": [[command("ADD", "pods", f"c{i}", f"/ns/{i}") for i in range(PODS)]],
     },
-    "deletes.json": {"rounds": [[command("DEL", "pods", f"c{i}", "")] for i in range(DELETES)]},
+    "ports.json": network_list(
+        "pods", bridge(subnet="10.0.0.0/8"), {"type": "portmap", "capabilities": {"portMappings": True}}
+    ),
+    "published.json": {
+        "opening": {"namespaces": [f"/ns/{i}" for i in range(ADDS)]},
+        "rounds": [[publishing(i)] for i in range(ADDS)],
+    },
     "folder": DIRECTORY,
 }
 WORDS = ["--dump", "pods.json", "net.json"]
 # what answers little: long answers or a dump take more memory than the commands do, so that none would be refused any
-SHORT_WORDS = ["deletes.json", "net.json"]
+SHORT_WORDS = ["published.json", "ports.json"]
 
 
 def limited(program, folder, size):
@@ -116,7 +131,7 @@ def wrong_of_memory(ended, text):
         return None
     if ended.returncode == COMMAND_MEMORY:
         answers = [it for it in lines_of(ended.stdout) if "verb" in json.loads(it)]
-        if len(answers) == DELETES and any(error_code(it) == OUT_OF_MEMORY for it in answers):
+        if len(answers) == ADDS and any(error_code(it) == OUT_OF_MEMORY for it in answers):
             return None
     return f"status {ended.returncode}, {len(ended.stdout)} bytes"
 
